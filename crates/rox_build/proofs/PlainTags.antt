@@ -1,7 +1,7 @@
 -- Start tags that are read at one look.
 use Rattle.std.proofs.Common.{◌≡◌, ℕ, suc, ◌+◌, ◌-◌, ◌<◌, ◌≤◌, ◌||◌, ◌==◌, Bool, true, false, List, [], ◌∷◌, ◌++◌, Option, length, map, drop, slice_index, slice_range, refl, sym, ap, subst, ◌∙◌, arith, Ok, append_assoc, bytes_eq}
 use Rattle.std.specs.List.{AllByRecursion}
-use Rattle.std.proofs.lemmas.Bool.{lt-leb, eq-eqb, ne_eqb}
+use Rattle.std.proofs.lemmas.Bool.{lt-leb, eq-eqb, eqb-true, ne_eqb}
 use Rattle.std.proofs.lemmas.List.{append-nil, map-append, length-map}
 use Rattle.std.proofs.Common.{Some, None}
 use Rattle.std.specs.Option.{IfSome}
@@ -46,11 +46,15 @@ use Rattle.rox_tables.specs.ResolvedNames.{AddsResolved, row_of_unresolved}
 use Rattle.rox_tables.specs.declared.namespaces.bindings.PrefixBindings.{PrefixBindings}
 use Rattle.rox_tables.specs.declared.namespaces.unresolved_attribute.UnresolvedAttribute.{UnresolvedAttribute}
 use Rattle.rox_tables.proofs.Stable.{all_append}
-use Rattle.rox_build.specs.PlainTag.{HasScope, few_in, IsValueStart, IsPlainAttribute, AddsPlain, PlainSoFar, ArePlainAttributes, holding}
+use Rattle.rox_build.specs.PlainTag.{HasPlainValue, HasScope, few_in, IsValueStart, IsPlainAttribute, AddsPlain, PlainSoFar, ArePlainAttributes, holding}
 use Rattle.std.specs.Str.{IsUtf8, IsCharBoundary}
 use Rattle.std.proofs.lemmas.Bool.Decides.{nat_tests}
 use Rattle.std.proofs.lemmas.Str.{IsCharBoundary-after_ascii}
-use Rattle.rox_grammar.specs.Chars.{is_space, is_name_start}
+use Rattle.rox_grammar.specs.Chars.{is_space, is_name_start, is_name_char, is_part_char}
+use Rattle.rox_scan.specs.ByteSets.{AllPass, is_part_byte, is_value_byte}
+use Rattle.rox_scan.proofs.NearLemmas.{near_plain, short_value, value_cut}
+use Rattle.rox_scan.proofs.TableLemmas.{agree_below, agree_at}
+use Rattle.std.proofs.Common.{not, ◌&&◌, nat_lt}
 use Rattle.rox_grammar.specs.Runs.{begins}
 use Rattle.rox_scan.proofs.RunLemmas.{begins_ascii, run_stops_ascii, space_on, space_stops, space_cut}
 use Rattle.rox_build.proofs.Items.{stands_within}
@@ -102,6 +106,27 @@ one_space src i utf8 within here behind =
 
 quote_is_no_space : (b : ℕ) → (b == 39 || b == 34) ≡ true → is_space b ≡ false
 quote_is_no_space b h = grind (arith, nat_tests)
+
+-- behind a quote
+pub behind_quote : (src : List ℕ) (n q : ℕ) → IsUtf8 src → n + 1 < length src → slice_index src (n + 1) ≡ q → (q == 39 || q == 34) ≡ true → IsCharBoundary src (n + 2)
+behind_quote src n q utf8 within here quote =
+    let ascii = quote_ascii q quote in
+    let place : n + 1 + 1 ≡ n + 2 = omega arith in
+    subst (IsCharBoundary src) place (IsCharBoundary-after_ascii src (n + 1) utf8 within (omega (arith, here, ascii)))
+
+-- a value up to a quote each byte of which stands for itself
+pub value_closed : (src : List ℕ) (i e q : ℕ) → IsUtf8 src → IsCharBoundary src i → (q == 39 || q == 34) ≡ true → i ≤ e → e ≤ length src → AllPass is_value_byte src i e
+    → (e < length src → is_value_byte (slice_index src e) ≡ false) → (slice_index src e == q) ≡ true → HasPlainValue src i q e (slice_range src i e)
+value_closed src i e q utf8 cut quote onward within passes stops here =
+    let end = value_cut src e within stops in
+    record {
+      read = short_value src i e q utf8 cut quote onward end passes here;
+      verbatim = near_plain src i e onward within passes;
+      here = eqb-true _ _ here;
+      onward = onward;
+      cut = end;
+      is = refl;
+    }
 
 -- right behind the name
 pub value_starts : (src : List ℕ) (i : ℕ) → IsUtf8 src → i + 1 < length src → slice_index src i ≡ 61 → (slice_index src (i + 1) == 39 || slice_index src (i + 1) == 34) ≡ true
@@ -312,6 +337,28 @@ begins_apart src j b utf8 begins some ascii other =
 pub begins_no_end : (src : List ℕ) (j : ℕ) → IsUtf8 src → begins is_name_start src j ≡ true → ((slice_index src j == 47) ≡ false) × ((slice_index src j == 62) ≡ false)
 unfolding is_name_start
 begins_no_end src j utf8 begins = (begins_apart src j 47 utf8 begins (omega arith) (omega arith) refl, begins_apart src j 62 utf8 begins (omega arith) (omega arith) refl)
+
+-- nor where a byte above both stands
+pub above_no_end : (b : ℕ) → 62 < b → ((b == 47) ≡ false) × ((b == 62) ≡ false)
+above_no_end b above = (ne_eqb b 47 (λ is. omega (arith, is, above)), ne_eqb b 62 (λ is. omega (arith, is, above)))
+
+-- a name begins with each byte of a part above `>`, which is held against the definitions by computing
+part_starts : (b : ℕ) → b < 128 → (not (is_part_byte b && nat_lt 62 b) || is_name_start b) ≡ true
+unfolding agree_below is_part_byte is_part_char is_name_char is_name_start
+part_starts b lt = agree_at (λ b. not (is_part_byte b && nat_lt 62 b) || is_name_start b) (λ b. true) 128 refl b lt
+
+part_is_ascii : (b : ℕ) → is_part_byte b ≡ true → b < 128
+unfolding is_part_byte
+part_is_ascii b h = grind (arith, nat_tests)
+
+starts_by : (b : ℕ) → (not (is_part_byte b && nat_lt 62 b) || is_name_start b) ≡ true → is_part_byte b ≡ true → 62 < b → is_name_start b ≡ true
+starts_by b agreed h above = grind (arith, nat_tests)
+
+pub part_begins : (src : List ℕ) (i : ℕ) → IsUtf8 src → i < length src → is_part_byte (slice_index src i) ≡ true → 62 < slice_index src i → begins is_name_start src i ≡ true
+part_begins src i utf8 within part above =
+    let b = slice_index src i in
+    let ascii = part_is_ascii b part in
+    begins_ascii is_name_start src i utf8 within ascii ∙ starts_by b (part_starts b ascii) part above
 
 -- the attributes of the tag so far are in their namespaces
 pub done_within : (ns : List Namespace) (few : Option (List ℕ)) (present : PrefixBindings) (src : List ℕ) (start from : ℕ) (old : List AttributeRow) (i : ℕ) (now : List AttributeRow)

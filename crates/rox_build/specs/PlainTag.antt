@@ -1,5 +1,5 @@
 -- Start tags that are read at one look: without declarations, and with attributes whose values have no reference.
-use Rattle.std.specs.Prelude.{◌≡◌, ℕ, ◌+◌, ◌<◌, ◌≤◌, ◌==◌, ◌||◌, Bool, true, false, List, [], ◌++◌, Option, Some, Ok, drop, length, map, slice_index}
+use Rattle.std.specs.Prelude.{◌≡◌, ℕ, ◌+◌, ◌<◌, ◌≤◌, ◌==◌, ◌||◌, Bool, true, false, List, [], ◌++◌, Option, Some, Ok, drop, length, map, slice_index, slice_range}
 use Rattle.std.specs.List.{AllByRecursion}
 use Rattle.std.specs.Str.{IsCharBoundary}
 use Rattle.rox_grammar.specs.declared.fault.Fault.{Fault}
@@ -8,7 +8,8 @@ use Rattle.rox_grammar.specs.Written.{Attribute, NamespaceDecl, Tag, is_namespac
 use Rattle.rox_grammar.specs.Tree.{attribute_in}
 use Rattle.rox_grammar.specs.Entities.{Entity}
 use Rattle.rox_grammar.specs.Failures.{name_view}
-use Rattle.rox_reading.specs.Markup.{RawAttribute, more, attribute_at, tag_item_at}
+use Rattle.rox_grammar.specs.Content.{is_verbatim_value}
+use Rattle.rox_reading.specs.Markup.{RawAttribute, more, attribute_at, raw_value_at, tag_item_at}
 use Rattle.rox_reading.specs.Values.{ValueInclusion, value_at}
 use Rattle.rox_reading.specs.Tags.{TagSoFar, Values, attribute_with, attributes_at, names_tested, tag_at}
 use Rattle.rox_tables.specs.Bindings.{FindsBinding}
@@ -47,6 +48,15 @@ pub record IsValueStart (src : List ℕ) (i j : ℕ) : Type 0 where
   pub within : before < length src
   pub onward : i + 1 ≤ before
   pub cut : IsCharBoundary src j
+
+-- a value that stands for itself, from i, behind this quote, up to j
+pub record HasPlainValue (src : List ℕ) (i quote j : ℕ) (value : List ℕ) : Type 0 where
+  pub read : raw_value_at quote src i ≡ Ok (slice_range src i j, j)
+  pub verbatim : is_verbatim_value (slice_range src i j) ≡ true
+  pub here : slice_index src j ≡ quote
+  pub onward : i ≤ j
+  pub cut : IsCharBoundary src j
+  pub is : value ≡ slice_range src i j
 
 -- an attribute that is read at this place, whose value is the same whatever reads it
 pub record IsPlainAttribute (src : List ℕ) (i : ℕ) (a : UnresolvedAttribute) : Type 0 where

@@ -9,7 +9,8 @@ ghost use Rattle.rox_grammar.specs.Runs.{run_end, begins};
 ghost use Rattle.rox_grammar.specs.Failures.{name_view};
 ghost use Rattle.rox_grammar.specs.Content.{is_verbatim_value};
 ghost use Rattle.rox_reading.specs.Lexical.{qname_at};
-ghost use Rattle.rox_scan.specs.ByteSets.{AllPass, EndsSet, is_part_byte, is_value_byte};
+ghost use Rattle.rox_scan.specs.ByteSets.{EndsSet, is_part_byte, is_value_byte};
+ghost use Rattle.rox_scan.specs.Windows.{Sees};
 ghost use Rattle.rox_reading.specs.Markup.{raw_value_at};
 ghost use Rattle.rox_reading.specs.Values.{is_special};
 ghost use Rattle.rox_tables.specs.Storage.{storage_bytes};
@@ -26,7 +27,7 @@ ghost use Rattle.rox_tables.specs.SeenNames.{AreSeen};
 ghost use Rattle.rox_tables.specs.TagScopes.{HasBindings};
 ghost use Rattle.rox_build.specs.ElementRow.{scope_in_tables};
 ghost use Rattle.rox_build.specs.BuilderState.{IsNamespaceOf, IsOpenWithin};
-ghost use Rattle.rox_build.specs.PlainTag.{HasScope, few_in, IsValueStart, IsPlainAttribute, IsNearAttribute, HoldsTag, PutsPlain, ArePlainAttributes, IsPlainTag, HoldSame};
+ghost use Rattle.rox_build.specs.PlainTag.{HasPlainValue, HasScope, few_in, IsValueStart, IsPlainAttribute, IsNearAttribute, HoldsTag, PutsPlain, ArePlainAttributes, IsPlainTag, HoldSame};
 
 use crate::builder::OpenElement;
 use crate::spaced_value::{spaced_value, spaced_value_end};
@@ -35,7 +36,7 @@ use rox_grammar::name::QName;
 use rox_scan::byte_set::{PartByte, ValueByte, far_space_end, part_end, skip_set};
 use rox_scan::lookahead::{changes, scan_value};
 use rox_scan::runs::{NameStart, after_byte, begins, is_at, space_end};
-use rox_scan::window::Window;
+use rox_scan::window::{WIDTH, Window};
 use rox_tables::compare::same_text;
 use rox_tables::namespaces::bindings::PrefixBindings;
 use rox_tables::namespaces::namespace_decl::is_namespace_decl;
@@ -50,6 +51,9 @@ use rox_tables::rows::storage::StringStorage;
 use rox_tables::rows::stored_attribute::UNUSUAL;
 use rox_tables::rows::tables::{AttributeNamespace, ElementData, ElementTables};
 use std::alloc::Global;
+
+/// So long is a name at most behind which `=` and a quote are seen with it.
+const MOST_NAME: usize = 13;
 
 /// A name, and where it ends.
 #[derive(Clone, Copy)]
@@ -141,13 +145,8 @@ fn plain_value_end(text: &str, start: usize, quote: u8, near: usize) -> Option<u
     requires cut { IsCharBoundary text.now start }
     requires near { EndsSet is_value_byte text.now start near }
     requires quote { (quote == 39 || quote == 34) ≡ true }
-    ensures read { IfSome result (λ j. raw_value_at quote text.now start
-        ≡ Ok (slice_range text.now start j, j)) }
-    ensures verbatim { IfSome result (λ j. is_verbatim_value (slice_range text.now start j)
-        ≡ true) }
-    ensures here { IfSome result (λ j. slice_index text.now j ≡ quote) }
-    ensures onward { IfSome result (λ j. start ≤ j) }
-    ensures cut { IfSome result (λ j. IsCharBoundary text.now j) }
+    ensures { IfSome result (λ j. HasPlainValue text.now start quote j
+        (slice_range text.now start j)) }
 {
     if is_at(text, near, quote) {
         return Some(near);
@@ -160,6 +159,20 @@ fn plain_value_end(text: &str, start: usize, quote: u8, near: usize) -> Option<u
         return None;
     }
     Some(end)
+}
+
+/// Whether the value that begins at `start`, behind this quote, ends at `near`, up to which each byte stands for itself.
+#[inline(always)]
+#[tactic(auto, using(rox_scan::proofs::NearLemmas::near_plain, rox_scan::proofs::NearLemmas::value_cut))]
+fn closes_value(text: &str, start: usize, quote: u8, near: usize) -> bool
+    requires cut { IsCharBoundary text.now start }
+    requires near { EndsSet is_value_byte text.now start near }
+    requires within { near < length text.now }
+    requires quote { (quote == 39 || quote == 34) ≡ true }
+    ensures { result ≡ true → HasPlainValue text.now start quote near
+        (slice_range text.now start near) }
+{
+    text.as_bytes()[near] == quote
 }
 
 /// The quote that stands at `at`, or 0.
@@ -407,6 +420,22 @@ fn quote_behind_equals(text: &str, at: usize) -> u8
     quote_here(text, at + 1)
 }
 
+/// The same where both bytes are seen.
+#[inline(always)]
+fn seen_quote(text: &str, at: usize) -> u8
+    requires { at + 1 < length text.now }
+    ensures equals { 0 < result → slice_index text.now at ≡ 61 }
+    ensures some { 0 < result → (slice_index text.now (at + 1) ≡ result)
+        × ((result == 39 || result == 34) ≡ true) }
+{
+    let bytes = text.as_bytes();
+    let quote = bytes[at + 1];
+    if bytes[at] == b'=' && (quote == b'"' || quote == b'\'') {
+        return quote;
+    }
+    0
+}
+
 /// The attribute or declaration behind the white space at `at`, if it is written as most are: `=` and a quote stand right behind its
 /// name, and its value stands for itself.
 #[inline(always)]
@@ -442,15 +471,73 @@ pub fn near_attribute<'input>(text: &'input str, at: usize) -> Option<Unresolved
     })
 }
 
-/// An attribute whose name was read, behind which `=` and a quote stand: up to `near` each byte of its value stands for itself.
+/// A value that stands for itself, and where it ends.
+#[derive(Clone, Copy)]
+struct PlainValue<'input> {
+    text: &'input str,
+    end: usize,
+}
+
+/// The value that begins at `start`, behind this quote, if it stands for itself: up to `near` each byte does.
+#[inline(always)]
+fn plain_value<'input>(
+    text: &'input str,
+    start: usize,
+    quote: u8,
+    near: usize,
+) -> Option<PlainValue<'input>>
+    requires cut { IsCharBoundary text.now start }
+    requires near { EndsSet is_value_byte text.now start near }
+    requires quote { (quote == 39 || quote == 34) ≡ true }
+    ensures { IfSome result (λ v. HasPlainValue text.entry.now start quote v.end v.text.now) }
+{
+    let end = plain_value_end(text, start, quote, near)?;
+    Some(PlainValue {
+        text: &text[start..end],
+        end,
+    })
+}
+
+/// The same of one that begins so many bytes behind those that are seen.
+#[inline(always)]
+fn seen_value<'input>(
+    text: &'input str,
+    window: Window,
+    before: usize,
+    quote: u8,
+) -> Option<PlainValue<'input>>
+    requires sees { Sees text.now window }
+    requires few { before ≤ 16 }
+    requires cut { IsCharBoundary text.now (window.at + before) }
+    requires quote { (quote == 39 || quote == 34) ≡ true }
+    ensures { IfSome result
+        (λ v. HasPlainValue text.entry.now (window.at + before) quote v.end v.text.now) }
+{
+    let start = window.at + before;
+    let Some(count) = window.value_count(before) else {
+        let near = skip_set::<ValueByte>(text, window.at + WIDTH);
+        return plain_value(text, start, quote, near);
+    };
+    let near = start + count;
+    if !closes_value(text, start, quote, near) {
+        return plain_value(text, start, quote, near);
+    }
+    Some(PlainValue {
+        text: &text[start..near],
+        end: near,
+    })
+}
+
+/// An attribute whose name was read, behind which `=` and a quote stand, with its value.
 #[derive(Clone, Copy)]
 struct NamedAttribute<'input> {
     start: usize,
     name: PlainName<'input>,
-    near: usize,
+    value: PlainValue<'input>,
 }
 
-/// The same of an attribute whose name was read. Most are usual, and take no call.
+/// Puts an attribute whose name and value were read behind those of its tag, which were `seen`, if it is no declaration. Answers
+/// the place behind it, or nothing where the table is as before. Most are usual, and take no call.
 #[inline(always)]
 fn put_named_attribute<'input>(
     text: &'input str,
@@ -458,7 +545,7 @@ fn put_named_attribute<'input>(
     elements: &mut ElementTables<'input>,
     scope: u32,
     seen: &mut SeenNames,
-) -> usize
+) -> Option<usize>
     requires cut { IsCharBoundary text.now read.start }
     requires short { length text.now < 2 ^ 32 }
     requires name { qname_at text.now read.start
@@ -468,35 +555,34 @@ fn put_named_attribute<'input>(
     requires quote { (slice_index text.now (read.name.end + 1) == 39
         || slice_index text.now (read.name.end + 1) == 34) ≡ true }
     requires inside { read.name.end + 1 < length text.now }
-    requires near { EndsSet is_value_byte text.now (read.name.end + 2) read.near }
+    requires value { HasPlainValue text.now (read.name.end + 2)
+        (slice_index text.now (read.name.end + 1)) read.value.end read.value.text.now }
     requires holds { HoldsTag elements.old scope seen.old }
-    ensures { PutsPlain elements.old elements.new scope seen.old seen.new text.entry.now
-        read.entry.start result }
+    ensures put { IfSome result
+        (λ j. PutsPlain elements.old elements.new scope seen.old seen.new text.entry.now
+        read.entry.start j) }
+    ensures place { IfSome result (λ j. 0 < j) }
+    ensures none { IfNone result
+        (PutsPlain elements.old elements.new scope seen.old seen.new text.entry.now
+        read.entry.start 0) }
 {
     let start = read.start;
     let name = read.name.name;
     let name_end = read.name.end;
     let quote = quote_before(text, name_end + 2);
-    let behind = after_byte(text, name_end, b'=');
-    let value_start = after_byte(text, behind, quote);
-    let Some(value_end) = plain_value_end(text, value_start, quote, read.near) else {
-        return put_spaced_attribute(text, start, elements, scope, seen);
-    };
     if is_namespace_decl(read.name.name) {
-        return 0;
+        return None;
     }
     let before = name_end - start - name.local.len();
     if before >= UNUSUAL as usize {
-        return put_other_attribute(text, start, elements, scope, seen);
+        return some_place(put_other_attribute(text, start, elements, scope, seen));
     }
-    let Some(namespace) = namespace_in(elements, scope, name) else {
-        return 0;
-    };
+    let namespace = namespace_in(elements, scope, name)?;
     let one = UsualAttribute {
         start: start as u32,
         before: before as u8,
         local: name.local,
-        value: &text[value_start..value_end],
+        value: read.value.text,
     };
     if !put_usual_attribute(
         &elements.namespaces,
@@ -505,9 +591,21 @@ fn put_named_attribute<'input>(
         namespace,
         one,
     ) {
-        return 0;
+        return None;
     }
-    after_byte(text, value_end, quote)
+    Some(after_byte(text, read.value.end, quote))
+}
+
+/// The place that was answered by itself, which is 0 where nothing was put.
+#[inline(always)]
+fn some_place(place: usize) -> Option<usize>
+    ensures some { IfSome result (λ j. (j ≡ place) × (0 < j)) }
+    ensures none { IfNone result (place ≡ 0) }
+{
+    if place == 0 {
+        return None;
+    }
+    Some(place)
 }
 
 /// The same of an attribute behind whose first bytes, up to `part`, no `=` and quote stand: most often they are its prefix.
@@ -522,16 +620,12 @@ fn put_prefixed_attribute<'input>(
 ) -> usize
     requires cut { IsCharBoundary text.now start }
     requires short { length text.now < 2 ^ 32 }
-    requires begins { begins is_name_start text.now start ≡ true }
-    requires onward { start ≤ part }
-    requires inside { part ≤ length text.now }
-    requires passes { AllPass is_part_byte text.now start part }
-    requires stops { part < length text.now → is_part_byte (slice_index text.now part) ≡ false }
+    requires part { EndsSet is_part_byte text.now start part }
     requires holds { HoldsTag elements.old scope seen.old }
     ensures { PutsPlain elements.old elements.new scope seen.old seen.new text.entry.now
         start result }
 {
-    if !is_at(text, part, b':') {
+    if !is_at(text, part, b':') || !begins::<NameStart>(text, start) {
         return put_other_attribute(text, start, elements, scope, seen);
     }
     let Some(name) = second_part(text, start, part) else {
@@ -542,8 +636,40 @@ fn put_prefixed_attribute<'input>(
         return put_other_attribute(text, start, elements, scope, seen);
     }
     let near = skip_set::<ValueByte>(text, name.end + 2);
-    let read = NamedAttribute { start, name, near };
-    put_named_attribute(text, read, elements, scope, seen)
+    let Some(value) = plain_value(text, name.end + 2, quote, near) else {
+        return put_spaced_attribute(text, start, elements, scope, seen);
+    };
+    let read = NamedAttribute { start, name, value };
+    put_named_attribute(text, read, elements, scope, seen).unwrap_or(0)
+}
+
+/// The same of one whose name is not seen at one look, as it is long, or the text ends.
+#[inline(never)]
+fn put_far_attribute<'input>(
+    text: &'input str,
+    start: usize,
+    elements: &mut ElementTables<'input>,
+    scope: u32,
+    seen: &mut SeenNames,
+) -> usize
+    requires cut { IsCharBoundary text.now start }
+    requires short { length text.now < 2 ^ 32 }
+    requires holds { HoldsTag elements.old scope seen.old }
+    ensures { PutsPlain elements.old elements.new scope seen.old seen.new text.entry.now
+        start result }
+{
+    let part = skip_set::<PartByte>(text, start);
+    let quote = quote_behind_equals(text, part);
+    if quote == 0 || !begins::<NameStart>(text, start) {
+        return put_prefixed_attribute(text, start, part, elements, scope, seen);
+    }
+    let name = whole_name(text, start, part);
+    let near = skip_set::<ValueByte>(text, part + 2);
+    let Some(value) = plain_value(text, part + 2, quote, near) else {
+        return put_spaced_attribute(text, start, elements, scope, seen);
+    };
+    let read = NamedAttribute { start, name, value };
+    put_named_attribute(text, read, elements, scope, seen).unwrap_or(0)
 }
 
 /// The name from `start` up to `part`, where its first part ends and `=` stands.
@@ -567,34 +693,45 @@ fn whole_name<'input>(text: &'input str, start: usize, part: usize) -> PlainName
     PlainName { name, end: part }
 }
 
-/// The same of the attribute that begins at `start`, behind white space from `at` on, from where its bytes are seen. Most have no
-/// prefix.
+/// The same of the attribute that begins at `start` with a byte above `>`. Most have a short name without prefix.
 #[inline(always)]
 fn put_attribute<'input>(
     text: &'input str,
-    at: usize,
     start: usize,
     elements: &mut ElementTables<'input>,
     scope: u32,
     seen: &mut SeenNames,
-) -> usize
+) -> Option<usize>
     requires cut { IsCharBoundary text.now start }
     requires short { length text.now < 2 ^ 32 }
-    requires behind { at ≤ start }
-    requires begins { begins is_name_start text.now start ≡ true }
+    requires within { start ≤ length text.now }
+    requires begins { 62 < slice_index text.now start }
     requires holds { HoldsTag elements.old scope seen.old }
-    ensures { PutsPlain elements.old elements.new scope seen.old seen.new text.entry.now
-        start result }
+    ensures put { IfSome result
+        (λ j. PutsPlain elements.old elements.new scope seen.old seen.new text.entry.now
+        start j) }
+    ensures place { IfSome result (λ j. 0 < j) }
+    ensures none { IfNone result
+        (PutsPlain elements.old elements.new scope seen.old seen.new text.entry.now start 0) }
 {
-    let window = Window::new(text, at);
-    let part = window.part_end(text, start);
-    let quote = quote_behind_equals(text, part);
+    if text.len() - start < WIDTH {
+        return some_place(put_far_attribute(text, start, elements, scope, seen));
+    }
+    let window = Window::new(text, start);
+    let count = window.part_count();
+    if count > MOST_NAME {
+        return some_place(put_far_attribute(text, start, elements, scope, seen));
+    }
+    let part = start + count;
+    let quote = seen_quote(text, part);
     if quote == 0 {
-        return put_prefixed_attribute(text, start, part, elements, scope, seen);
+        return some_place(put_prefixed_attribute(text, start, part, elements, scope, seen));
     }
     let name = whole_name(text, start, part);
-    let near = window.value_end(text, part + 2);
-    let read = NamedAttribute { start, name, near };
+    let Some(value) = seen_value(text, window, count + 2, quote) else {
+        return some_place(put_spaced_attribute(text, start, elements, scope, seen));
+    };
+    let read = NamedAttribute { start, name, value };
     put_named_attribute(text, read, elements, scope, seen)
 }
 
@@ -640,6 +777,38 @@ fn near_space_end(text: &str, at: usize) -> usize
         return at;
     }
     far_space_end(text, at)
+}
+
+/// What stands behind white space: where, and whether it may be an attribute.
+#[derive(Clone, Copy)]
+struct NextItem {
+    at: usize,
+    may_begin: bool,
+}
+
+/// What stands behind the white space that begins at `at`, before the last byte. A name begins with no byte up to `>`.
+#[inline(always)]
+fn next_item(text: &str, at: usize) -> NextItem
+    requires cut { IsCharBoundary text.now at }
+    requires within { at + 1 < length text.now }
+    ensures end { result.at ≡ run_end is_space text.now at }
+    ensures onward { at ≤ result.at }
+    ensures cut { IsCharBoundary text.now result.at }
+    ensures begins { result.may_begin ≡ true
+        → (at < result.at) × (62 < slice_index text.now result.at) }
+{
+    let bytes = text.as_bytes();
+    if bytes[at] == b' ' && bytes[at + 1] > b'>' {
+        return NextItem {
+            at: after_byte(text, at, b' '),
+            may_begin: true,
+        };
+    }
+    let end = near_space_end(text, at);
+    NextItem {
+        at: end,
+        may_begin: end != at && end < text.len() && bytes[end] > b'>',
+    }
 }
 
 /// The end of a start tag, if it stands at `at`.
@@ -690,14 +859,11 @@ fn some_attributes<'input>(
     seen.begin(elements.attributes.len());
     let mut at = start;
     while at + 1 < text.len() {
-        let here = near_space_end(text, at);
-        if here == at || !begins::<NameStart>(text, here) {
-            return tag_end(text, here);
+        let next = next_item(text, at);
+        if !next.may_begin {
+            return tag_end(text, next.at);
         }
-        at = put_attribute(text, at, here, elements, scope, seen);
-        if at == 0 {
-            return None;
-        }
+        at = put_attribute(text, next.at, elements, scope, seen)?;
     }
     None
 }

@@ -1,17 +1,15 @@
 -- Bytes that were seen at once, through a mask that has a bit for each that is not in a set.
-use Rattle.std.specs.Prelude.{◌≡◌, ◌≤◌, ◌+◌, ◌-◌, ℕ, Bool, List, not, map, take, drop, length}
+use Rattle.std.specs.Prelude.{◌≡◌, ◌≤◌, ◌+◌, ℕ, Bool, List, not, map, take, drop, length}
 use Rattle.std.specs.Simd.Lanes.{mask_l}
 use Rattle.rox_scan.specs.ByteSets.{is_part_byte, is_value_byte}
 use Rattle.rox_scan.specs.declared.window.Window.{Window}
 
--- those from i up to j, at most sixteen
-pub record IsSeen (p : ℕ → Bool) (src : List ℕ) (i j others : ℕ) : Type 0 where
-  pub onward : i ≤ j
-  pub within : j ≤ length src
-  pub few : j ≤ i + 16
-  pub mask : others ≡ mask_l (map (λ b. not (p b)) (take (j - i) (drop i src)))
+-- the sixteen from i on
+pub record IsSeen (p : ℕ → Bool) (src : List ℕ) (i others : ℕ) : Type 0 where
+  pub within : i + 16 ≤ length src
+  pub mask : others ≡ mask_l (map (λ b. not (p b)) (take 16 (drop i src)))
 
 -- a window tells both sets
 pub record Sees (src : List ℕ) (w : Window) : Type 0 where
-  pub parts : IsSeen is_part_byte src w.at w.end w.parts
-  pub values : IsSeen is_value_byte src w.at w.end w.values
+  pub parts : IsSeen is_part_byte src w.at w.parts
+  pub values : IsSeen is_value_byte src w.at w.values

@@ -30,10 +30,12 @@ pub trait ByteSet {
 /// The bytes of an attribute's value that stand for themselves.
 pub struct ValueByte;
 
-// Classes that a byte of the set has none of, and any other has one.
-const VALUE_LOW: [u8; 16] = [1, 1, 3, 1, 1, 1, 3, 3, 1, 1, 1, 1, 5, 1, 1, 9];
+// Classes that each byte of the set has one of, and no other.
+const VALUE_LOW: [u8; 16] = [
+    15, 15, 14, 15, 15, 15, 14, 14, 15, 15, 15, 15, 13, 15, 15, 7,
+];
 
-const VALUE_HIGH: [u8; 16] = [1, 1, 2, 4, 0, 0, 0, 0, 0, 0, 0, 0, 0, 0, 8, 0];
+const VALUE_HIGH: [u8; 16] = [0, 0, 1, 2, 4, 4, 4, 4, 4, 4, 4, 4, 4, 4, 8, 4];
 
 impl ByteSet for ValueByte {
     ghost test = { near.is_value_byte };
@@ -46,7 +48,7 @@ impl ByteSet for ValueByte {
     #[inline(always)]
     fn others(block: u8x16) -> u64 {
         classes(VALUE_LOW, VALUE_HIGH, block)
-            .simd_ne(u8x16::splat(0))
+            .simd_eq(u8x16::splat(0))
             .to_bitmask()
     }
 }

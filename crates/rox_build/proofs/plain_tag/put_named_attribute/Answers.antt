@@ -12,27 +12,27 @@ use Rattle.rox_build.specs.PlainTag.{few_in, IsValueStart, IsPlainAttribute}
 use Rattle.rox_build.proofs.PlainTags.{attribute_reads, value_is, value_starts, usual_are, quote_is_some}
 use Rattle.rox_build.proofs.plain_tag.put_named_attribute.Goals as goal
 
-pub returns : goal.returns
-returns c =
+pub returns-clause-put : goal.returns-clause-put
+returns-clause-put c =
     let src = c.args.text.now in
     let i = c.args.read.start in
     let name = c.args.read.name.name in
     let n = c.args.read.name.end in
-    let s = c.after_byte-value_start.result in
+    let s = n + 2 in
     let q = c.quote_before-quote.result in
     let is_quote = c.quote_before-quote.ensures.quote in
-    let j = c.in-Some.value_end in
+    let j = c.args.read.value.end in
     let e = c.after_byte.result in
-    let w = c.in-Some.ensures in
-    let place : s ≡ n + 2 = omega (arith, c.after_byte-behind.ensures.place, c.after_byte-value_start.ensures.place) in
+    let w = c.requires.value in
+    let value = c.args.read.value.text in
     let there : slice_index src (n + 1) ≡ q = ap (slice_index src) (omega arith) ∙ c.quote_before-quote.ensures.here in
-    let v : IsValueStart src n s = subst (IsValueStart src n) (sym place) (value_starts src n c.utf8.text c.requires.inside c.requires.equals c.requires.quote) in
-    let here : slice_index src (s - 1) ≡ q = ap (slice_index src) (omega (arith, place)) ∙ there in
+    let v : IsValueStart src n s = value_starts src n c.utf8.text c.requires.inside c.requires.equals c.requires.quote in
+    let here : slice_index src (s - 1) ≡ q = ap (slice_index src) (omega arith) ∙ there in
     let done = c.after_byte.ensures.place in
     let onward = w.onward in
     let fits = w.cut.0 in
     let long = range_length src s j onward fits in
-    let size = ap length c.range.ensures.value in
+    let size = ap length w.is in
     let inside = c.requires.inside in
     let short = c.requires.short in
     let local = c.requires.local in
@@ -42,7 +42,7 @@ returns c =
       value_start = s;
       end = e;
       name = name;
-      value = Borrowed c.range.result;
+      value = Borrowed value;
       placed = omega arith;
     } in
     let few = c.if-before.false in
@@ -50,16 +50,16 @@ returns c =
       start = i;
       before = n - i - length name.local.now;
       local = name.local;
-      value = c.range.result;
+      value = value;
       usual = omega arith;
       ends = omega (arith, long, size);
     } in
     let plain : IsPlainAttribute src i one = record {
       value_end = j;
-      read = attribute_reads src i (name_view name) n s q j e c.requires.name v here is_quote (quote_is_some q is_quote) w.read w.here done;
+      read = attribute_reads src i (name_view name) n s q j e c.requires.name v here is_quote (quote_is_some q is_quote) (rw there at w.read) (w.here ∙ there) done;
       start = refl;
       end = done;
-      value = λ main es opener openings_left. rw c.range.ensures.value (value_is main es opener src s j openings_left w.verbatim);
+      value = λ main es opener openings_left. rw w.is (value_is main es opener src s j openings_left w.verbatim);
       cut = c.after_byte.ensures.cut;
       onward = omega arith;
       local = local;
@@ -67,18 +67,18 @@ returns c =
     } in
     let t = c.args.elements.now in
     let namespaces = map namespace_view t.namespaces.items.items in
-    let found = c.in-Some-namespace_in.ensures in
-    let space = c.in-Some-namespace_in.namespace in
+    let found = c.in_ok-namespace.ensures in
+    let space = c.in_ok-namespace.namespace in
     let put = c.put_usual_attribute.ensures in
     let true = c.if-not-put_usual_attribute.false in
-    let places = usual_are i (n - i - length name.local.now) (length name.local.now) (length c.range.result.now) n s e (omega arith) place (omega (arith, done, long, size)) in
+    let places = usual_are i (n - i - length name.local.now) (length name.local.now) (length value.now) n s e (omega arith) refl (omega (arith, done, long, size)) in
     record {
       added = λ _. record {
         one = one;
         plain = plain;
         other = sym c.is_namespace_decl.ensures ∙ c.if-is_namespace_decl.false;
         added = adds_usual namespaces (few_in t c.args.scope) t.present c.args.seen.now.from (attribute_rows t.attributes) _ one usual space
-            (ap (λ (p : AttributePlaces). (record { local = name.local; value = Borrowed c.range.result; namespace = space }, p)) (sym places))
+            (ap (λ (p : AttributePlaces). (record { local = name.local; value = Borrowed value; namespace = space }, p)) (sym places))
             (put.added true) (subst (λ m. NamespaceWithin m space) (sym (length-map t.namespaces.items.items namespace_view)) found.within)
             (λ scope h. found.there scope h) (λ scope h. found.known scope h) (put.first true);
         end = refl;

@@ -1,11 +1,11 @@
-use Rattle.std.proofs.Common.{◌<◌, ℕ, length, map, refl, sym, ap, subst, ◌∙◌, arith}
+use Rattle.std.proofs.Common.{◌≡◌, ℕ, Bool, true, false, not, length, map, slice_index, refl, ap, subst, ◌∙◌, arith}
 use Rattle.std.proofs.lemmas.List.{length-append}
 use Rattle.std.specs.Str.{IsCharBoundary}
 use Rattle.rox_build.specs.PlainTag.{PlainSoFar, few_in}
 use Rattle.rox_tables.specs.Rows.{namespace_view, attribute_rows}
 use Rattle.rox_tables.specs.ResolvedNames.{AddsResolved}
 use Rattle.rox_tables.proofs.SeenCodes.{few_seen}
-use Rattle.rox_build.proofs.PlainTags.{plain_starts, plain_more, ends_or_not, begins_no_end, done_within, scope_stays, adds_there, others_stay}
+use Rattle.rox_build.proofs.PlainTags.{plain_starts, plain_more, ends_or_not, above_no_end, done_within, scope_stays, adds_there, others_stay}
 use Rattle.rox_build.proofs.plain_tag.some_attributes.Goals as goal
 
 pub loop-at-init : goal.loop-at-init
@@ -19,16 +19,16 @@ loop-at-init c =
       so_far = plain_starts (map namespace_view t.namespaces.items.items) (few_in t c.args.scope) t.present c.args.text.now c.args.start (attribute_rows t.attributes);
     }
 
-pub returns-then-here-at-clause-read : goal.returns-then-here-at-clause-read
-returns-then-here-at-clause-read c =
+pub returns-then-not-next-clause-read : goal.returns-then-not-next-clause-read
+returns-then-not-next-clause-read c =
     let l = c.loop-at in
     let t = c.args.elements.now in
-    let near = c.near_space_end-here in
-    ends_or_not (map namespace_view t.namespaces.items.items) (few_in t c.args.scope) t.present c.args.text.now c.args.start (attribute_rows t.attributes) l.at near.result (attribute_rows l.elements.attributes) c.tag_end.result
+    let near = c.next_item-next in
+    ends_or_not (map namespace_view t.namespaces.items.items) (few_in t c.args.scope) t.present c.args.text.now c.args.start (attribute_rows t.attributes) l.at near.result.at (attribute_rows l.elements.attributes) c.tag_end.result
     l.invariant.so_far near.ensures.onward near.ensures.end c.tag_end.ensures.opens c.tag_end.ensures.closes
 
-pub put_attribute-at-requires-clause-holds : goal.put_attribute-at-requires-clause-holds
-put_attribute-at-requires-clause-holds c =
+pub put_attribute-requires-clause-holds : goal.put_attribute-requires-clause-holds
+put_attribute-requires-clause-holds c =
     let l = c.loop-at in
     let t = c.args.elements.now in
     record {
@@ -39,30 +39,36 @@ put_attribute-at-requires-clause-holds c =
           (done_within t.namespaces.items.items (few_in t c.args.scope) t.present c.args.text.now c.args.start l.seen.from (attribute_rows t.attributes) l.at (attribute_rows l.elements.attributes) l.invariant.so_far l.invariant.from);
     }
 
+not_false : (b : Bool) → not b ≡ false → b ≡ true
+not_false true h = refl
+not_false false h = cc
+
 pub loop-at-preserved : goal.loop-at-preserved
 loop-at-preserved c =
     let l = c.loop-at in
     let t = c.args.elements.now in
     let src = c.args.text.now in
-    let near = c.near_space_end-here in
-    let j = near.result in
+    let near = c.next_item-next in
+    let j = near.result.at in
     let namespaces = map namespace_view t.namespaces.items.items in
     let few = few_in t c.args.scope in
     let present = t.present in
     let old = attribute_rows t.attributes in
     let now = attribute_rows l.elements.attributes in
-    let put = c.put_attribute-at in
+    let put = c.put_attribute in
+    let behind = c.in_ok-at.at in
+    let puts = c.in_ok-at.ensures in
     let next = attribute_rows put.new.elements.attributes in
-    let begins = sym c.begins.ensures ∙ c.if-not-begins.false in
-    let on = begins_no_end src j c.utf8.text begins in
-    let some : 0 < put.result = omega (arith, c.if-at-eq0.false) in
-    let x = adds_there t l.elements c.args.scope l.seen.from src j put.result now next l.invariant.others (put.ensures.added some) in
+    let begins = near.ensures.begins (not_false near.result.may_begin c.if-not-next.false) in
+    let on = above_no_end (slice_index src j) begins.1 in
+    let some = puts.place in
+    let x = adds_there t l.elements c.args.scope l.seen.from src j behind now next l.invariant.others (puts.put.added some) in
     let resolved : AddsResolved namespaces few present (length old) now next x.one = subst (λ (m : ℕ). AddsResolved namespaces few present m now next x.one) l.invariant.from x.added in
     record {
-      others = others_stay t l.elements put.new.elements l.invariant.others put.ensures.others;
-      from = put.ensures.from ∙ l.invariant.from;
-      seen = put.ensures.seen some;
+      others = others_stay t l.elements put.new.elements l.invariant.others puts.put.others;
+      from = puts.put.from ∙ l.invariant.from;
+      seen = puts.put.seen some;
       cut = subst (IsCharBoundary src) x.end x.plain.cut;
       so_far = subst (λ (i : ℕ). PlainSoFar namespaces few present src c.args.start old i next) x.end
-          (plain_more namespaces few present src c.args.start old l.at j now next x.one l.invariant.so_far near.ensures.onward near.ensures.end c.if-here-at.false on.0 on.1 x.plain x.other resolved);
+          (plain_more namespaces few present src c.args.start old l.at j now next x.one l.invariant.so_far near.ensures.onward near.ensures.end (λ same. omega (arith, same, begins.0)) on.0 on.1 x.plain x.other resolved);
     }
