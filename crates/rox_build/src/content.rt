@@ -480,14 +480,14 @@ pub fn content<'input>(
 {
     let mut left = cursor.text.len();
     while left > 0 {
-        let pairs = builder.rows_left().min(left) / 2;
-        let read = plain_stretch(cursor, builder, context.open_around, pairs);
+        let rows = builder.rows_left().min(left);
+        let read = plain_stretch(cursor, builder, context.open_around, rows);
         left -= read;
         if builder.is_at_root() {
             return Ok(());
         }
         // So many may be read that there is room for more.
-        if pairs > 0 && read >= pairs {
+        if read > 0 && rows - read < 2 {
             continue;
         }
         if left == 0 {

@@ -389,51 +389,49 @@ fn plain_markup<'input>(
     true
 }
 
-/// The constructs from here on inside the root element, as long as they are plain, at most two for each of `pairs`, for which
-/// there is room. Answers how many were read.
+/// The constructs from here on inside the root element, as long as they are plain, at most so many as there are `rows` for. Answers
+/// how many were read.
 #[inline(always)]
 pub fn plain_stretch<'input>(
     cursor: &mut Cursor<'input>,
     builder: &mut Builder<'input>,
     open_around: usize,
-    pairs: usize,
+    rows: usize,
 ) -> usize
-    requires ready { 0 < pairs → IsReady (2 * pairs) builder.old }
+    requires ready { 0 < rows → IsReady rows builder.old }
     requires fine { IsConsistent builder.old.tables builder.old.opened.items }
     ensures value { (context : machine.Context) (end : ℕ) (s : State)
         → context.open_around ≡ open_around → IsInState context.limit end s cursor.old builder.old
         → Reads context end result cursor.new builder.new cursor.old.text.now s }
-    ensures count { result ≤ 2 * pairs }
+    ensures count { result ≤ rows }
     ensures goes { GoesOn cursor.old cursor.new builder.new }
 {
     let mut here = *cursor;
-    let mut read = 0;
     if cursor.text.len() > MOST_BYTES {
-        return read;
+        return 0;
     }
-    let mut left = pairs;
-    while left > 0 {
+    let mut left = rows;
+    while left > 1 {
         if builder.is_at_root() {
             break;
         }
         let bytes = here.text.as_bytes();
-        if here.pos + 1 >= bytes.len() {
+        if here.pos >= bytes.len() {
             break;
         }
         if bytes[here.pos] != b'<' {
             if !plain_character_data(&mut here, builder) {
                 break;
             }
-            read += 1;
+            left -= 1;
         }
         if !plain_markup(&mut here, builder, open_around) {
             break;
         }
-        read += 1;
         left -= 1;
     }
     *cursor = here;
-    read
+    rows - left
 }
 
 /// The construct that stands here, if it is plain and finds room; else nothing is read.

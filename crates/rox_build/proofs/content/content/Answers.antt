@@ -16,7 +16,7 @@ returns-then-is_at_root-clause-value c = λ limit end es s declared sees.
     let context = context_of limit es c.args.context in
     let s0 = ap (λ t. t.now) c.loop-left.invariant.source in
     let k = c.plain_stretch-read.result in
-    let few : k ≤ c.loop-left.left = (let n = c.plain_stretch-read.ensures.count in let m = c.min-pairs.ensures in omega arith) in
+    let few : k ≤ c.loop-left.left = (let n = c.plain_stretch-read.ensures.count in let m = c.min-rows.ensures in omega arith) in
     let g0 = c.loop-left.invariant.reads limit end es s declared sees in
     let g = drives_past context end src _ c.loop-left.left k _ _ _ _ g0 few (rw s0 at (c.plain_stretch-read.ensures.value context end g0.s refl g0.sees)) in
     drive_done context end src _ _ _ _ g (sym (c.is_at_root.ensures end g.s.stack g.s.done g.sees.shows) ∙ c.if-is_at_root.true)
@@ -27,7 +27,7 @@ returns-then-left-eq0-clause-value c = λ limit end es s declared sees.
     let context = context_of limit es c.args.context in
     let s0 = ap (λ t. t.now) c.loop-left.invariant.source in
     let k = c.plain_stretch-read.result in
-    let few : k ≤ c.loop-left.left = (let n = c.plain_stretch-read.ensures.count in let m = c.min-pairs.ensures in omega arith) in
+    let few : k ≤ c.loop-left.left = (let n = c.plain_stretch-read.ensures.count in let m = c.min-rows.ensures in omega arith) in
     let g0 = c.loop-left.invariant.reads limit end es s declared sees in
     let g = drives_past context end src _ c.loop-left.left k _ _ _ _ g0 few (rw s0 at (c.plain_stretch-read.ensures.value context end g0.s refl g0.sees)) in
     let inner : is_root g.s.stack ≡ false = sym (c.is_at_root.ensures end g.s.stack g.s.done g.sees.shows) ∙ c.if-is_at_root.false in
@@ -40,15 +40,15 @@ returns-then-is_at_end-clause-value c = λ limit end es s declared sees.
     let s0 = ap (λ t. t.now) c.loop-left.invariant.source in
     let s1 = ap (λ t. t.now) c.plain_stretch-read.ensures.goes.source ∙ s0 in
     let k = c.plain_stretch-read.result in
-    let few : k ≤ c.loop-left.left = (let n = c.plain_stretch-read.ensures.count in let m = c.min-pairs.ensures in omega arith) in
+    let few : k ≤ c.loop-left.left = (let n = c.plain_stretch-read.ensures.count in let m = c.min-rows.ensures in omega arith) in
     let g0 = c.loop-left.invariant.reads limit end es s declared sees in
     let g = drives_past context end src _ c.loop-left.left k _ _ _ _ g0 few (rw s0 at (c.plain_stretch-read.ensures.value context end g0.s refl g0.sees)) in
     let inner : is_root g.s.stack ≡ false = sym (c.is_at_root.ensures end g.s.stack g.s.done g.sees.shows) ∙ c.if-is_at_root.false in
     let past : length src ≤ g.s.at = rw (s1, g.sees.here) at (leb-true _ _ (sym c.is_at_end.ensures ∙ c.if-is_at_end.true)) in
     drive_cut context end src _ _ _ _ g inner past
 
-pub loop-left-preserved-then-read-pairs : goal.loop-left-preserved-then-read-pairs
-loop-left-preserved-then-read-pairs c = record {
+pub loop-left-preserved-then-rows-read-lt2 : goal.loop-left-preserved-then-rows-read-lt2
+loop-left-preserved-then-rows-read-lt2 c = record {
   source = c.plain_stretch-read.ensures.goes.source ∙ c.loop-left.invariant.source;
   fine = c.plain_stretch-read.ensures.goes.fine;
   reads = λ limit end es s declared sees.
@@ -56,7 +56,7 @@ loop-left-preserved-then-read-pairs c = record {
       let context = context_of limit es c.args.context in
       let s0 = ap (λ t. t.now) c.loop-left.invariant.source in
       let k = c.plain_stretch-read.result in
-      let few : k ≤ c.loop-left.left = (let n = c.plain_stretch-read.ensures.count in let m = c.min-pairs.ensures in omega arith) in
+      let few : k ≤ c.loop-left.left = (let n = c.plain_stretch-read.ensures.count in let m = c.min-rows.ensures in omega arith) in
       let g0 = c.loop-left.invariant.reads limit end es s declared sees in
       drives_past context end src _ c.loop-left.left k _ _ _ _ g0 few (rw s0 at (c.plain_stretch-read.ensures.value context end g0.s refl g0.sees));
 }
@@ -73,7 +73,7 @@ loop-left-preserved-then-plain_main_line c = record {
       let k = c.plain_stretch-read.result in
       let n = c.loop-left.left - k in
       let one : n ≡ suc (n - 1) = (let more = c.if-left-eq0.false in omega arith) in
-      let few : k ≤ c.loop-left.left = (let n = c.plain_stretch-read.ensures.count in let m = c.min-pairs.ensures in omega arith) in
+      let few : k ≤ c.loop-left.left = (let n = c.plain_stretch-read.ensures.count in let m = c.min-rows.ensures in omega arith) in
       let g0 = c.loop-left.invariant.reads limit end es s declared sees in
       let g = drives_past context end src _ c.loop-left.left k _ _ _ _ g0 few (rw s0 at (c.plain_stretch-read.ensures.value context end g0.s refl g0.sees)) in
       let inner : is_root g.s.stack ≡ false = sym (c.is_at_root.ensures end g.s.stack g.s.done g.sees.shows) ∙ c.if-is_at_root.false in
@@ -96,7 +96,7 @@ loop-left-preserved c = record {
       let k = c.plain_stretch-read.result in
       let n = c.loop-left.left - k in
       let one : n ≡ suc (n - 1) = (let more = c.if-left-eq0.false in omega arith) in
-      let few : k ≤ c.loop-left.left = (let n = c.plain_stretch-read.ensures.count in let m = c.min-pairs.ensures in omega arith) in
+      let few : k ≤ c.loop-left.left = (let n = c.plain_stretch-read.ensures.count in let m = c.min-rows.ensures in omega arith) in
       let g0 = c.loop-left.invariant.reads limit end es s declared sees in
       let g = drives_past context end src _ c.loop-left.left k _ _ _ _ g0 few (rw s0 at (c.plain_stretch-read.ensures.value context end g0.s refl g0.sees)) in
       let inner : is_root g.s.stack ≡ false = sym (c.is_at_root.ensures end g.s.stack g.s.done g.sees.shows) ∙ c.if-is_at_root.false in
@@ -116,7 +116,7 @@ returns-in_err-general_step-clause-value c = λ limit end es s declared sees.
     let k = c.plain_stretch-read.result in
     let n = c.loop-left.left - k in
     let one : n ≡ suc (n - 1) = (let more = c.if-left-eq0.false in omega arith) in
-    let few : k ≤ c.loop-left.left = (let n = c.plain_stretch-read.ensures.count in let m = c.min-pairs.ensures in omega arith) in
+    let few : k ≤ c.loop-left.left = (let n = c.plain_stretch-read.ensures.count in let m = c.min-rows.ensures in omega arith) in
     let g0 = c.loop-left.invariant.reads limit end es s declared sees in
     let g = drives_past context end src _ c.loop-left.left k _ _ _ _ g0 few (rw s0 at (c.plain_stretch-read.ensures.value context end g0.s refl g0.sees)) in
     let inner : is_root g.s.stack ≡ false = sym (c.is_at_root.ensures end g.s.stack g.s.done g.sees.shows) ∙ c.if-is_at_root.false in

@@ -1,11 +1,12 @@
-use Rattle.std.proofs.Common.{◌≡◌, ℕ, ◌+◌, ◌*◌, ◌-◌, ◌<◌, ◌≤◌, false, length, refl, ap, subst, sym, ◌∙◌, arith}
+use Rattle.std.proofs.Common.{◌≡◌, ℕ, ◌+◌, ◌-◌, ◌<◌, ◌≤◌, false, length, refl, ap, subst, sym, ◌∙◌, arith}
 use Rattle.rox_grammar.specs.State.{is_root}
 use Rattle.rox_scan.specs.declared.cursor.Cursor.{Cursor}
 use Rattle.rox_build.specs.BuilderState.{IsReady}
+use Rattle.rox_build.specs.PlainSteps.{Reads}
 use Rattle.rox_build.proofs.Stepping.{step_is_run}
 use Rattle.rox_build.proofs.Twice.{Between, ready_fewer, reads_none, reads_run, reads_markup, reads_kept}
 use Rattle.rox_build.proofs.plain_constructs.plain_stretch.Goals as goal
-use Rattle.rox_build.proofs.plain_constructs.plain_stretch.Goals.{then-bytes-here-ne60+else-not-plain_character_data, else-bytes-here-ne60}
+use Rattle.rox_build.proofs.plain_constructs.plain_stretch.Goals.{else-loop-left-test, then-loop-left-test+then-is_at_root, then-loop-left-test+else-is_at_root+then-here-bytes, then-loop-left-test+else-is_at_root+else-here-bytes+then-bytes-here-ne60+then-not-plain_character_data, then-loop-left-test+else-is_at_root+else-here-bytes+then-not-plain_markup, then-bytes-here-ne60+else-not-plain_character_data, else-bytes-here-ne60}
 
 pub returns-then-cursor-gt-MOST_BYTES-clause-value : goal.returns-then-cursor-gt-MOST_BYTES-clause-value
 returns-then-cursor-gt-MOST_BYTES-clause-value c = λ context end s around h. reads_none context end c.args.cursor.now.text.now s c.args.cursor.now c.args.builder.now h
@@ -16,21 +17,27 @@ loop-left-init c = record {
   fine = c.requires.fine;
   count = omega arith;
   ready = c.requires.ready;
-  reads = λ context end s around h. reads_none context end c.args.cursor.now.text.now s c.args.cursor.now c.args.builder.now h;
+  reads = λ context end s around h.
+      let none : 0 ≡ c.args.rows - c.args.rows = omega arith in
+      let src = c.args.cursor.now.text.now in
+      let here = c.args.cursor.now in
+      let b = c.args.builder.now in
+      subst (λ (n : ℕ). Reads context end n here b src s) none (reads_none context end src s here b h);
 }
 
 pub plain_markup-requires-clause-ready : goal.plain_markup-requires-clause-ready
 plain_markup-requires-clause-ready c =
     let some = c.loop-left-test.true in
-    let ready = c.loop-left.invariant.ready some in
+    let ready = c.loop-left.invariant.ready (omega (arith, some)) in
     elim c.if-bytes-here-ne60.branch [
-      | then-bytes-here-ne60+else-not-plain_character_data w ↦ rw w.builder-is (w.plain_character_data.ensures.ready w.if-not-plain_character_data.false 1 (ready_fewer (2 * c.loop-left.left) 2 c.loop-left.builder (omega (arith, some)) ready))
-      | else-bytes-here-ne60 w ↦ rw w.builder-is (ready_fewer (2 * c.loop-left.left) 1 c.loop-left.builder (omega (arith, some)) ready)
+      | then-bytes-here-ne60+else-not-plain_character_data w ↦ rw w.builder-is (w.plain_character_data.ensures.ready w.if-not-plain_character_data.false 1 (ready_fewer c.loop-left.left 2 c.loop-left.builder (omega (arith, some)) ready))
+      | else-bytes-here-ne60 w ↦ rw w.builder-is (ready_fewer c.loop-left.left 1 c.loop-left.builder (omega (arith, some)) ready)
     ]
 
 pub loop-left-preserved : goal.loop-left-preserved
 loop-left-preserved c =
     let src = c.args.cursor.now.text.now in
+    let rows = c.args.rows in
     let s0 = ap (λ t. t.now) c.loop-left.invariant.source in
     let source : c.if-bytes-here-ne60.here.text ≡ c.args.cursor.now.text = elim c.if-bytes-here-ne60.branch [
       | then-bytes-here-ne60+else-not-plain_character_data w ↦ ap (λ (x : Cursor). x.text) w.here-is ∙ w.plain_character_data.ensures.source ∙ c.loop-left.invariant.source
@@ -38,57 +45,79 @@ loop-left-preserved c =
     ] in
     let s1 = ap (λ t. t.now) source in
     let some = c.loop-left-test.true in
-    let most : c.if-bytes-here-ne60.read ≤ c.loop-left.read + 1 = elim c.if-bytes-here-ne60.branch [
-      | then-bytes-here-ne60+else-not-plain_character_data w ↦ omega (arith, w.read-is)
-      | else-bytes-here-ne60 w ↦ omega (arith, w.read-is)
+    let most = c.loop-left.invariant.count in
+    let m = c.if-bytes-here-ne60.left in
+    let more : 0 < m = elim c.if-bytes-here-ne60.branch [
+      | then-bytes-here-ne60+else-not-plain_character_data w ↦ omega (arith, some, w.left-is)
+      | else-bytes-here-ne60 w ↦ omega (arith, some, w.left-is)
+    ] in
+    let fewer : m ≤ rows = elim c.if-bytes-here-ne60.branch [
+      | then-bytes-here-ne60+else-not-plain_character_data w ↦ omega (arith, most, w.left-is)
+      | else-bytes-here-ne60 w ↦ omega (arith, most, w.left-is)
     ] in
     record {
       source = c.plain_markup.ensures.goes.source ∙ source;
       fine = c.plain_markup.ensures.goes.fine;
-      count = omega (arith, most, some, c.loop-left.invariant.count);
-      ready = λ more.
-          let n = 2 * (c.loop-left.left - 1) in
-          let two : 2 * c.loop-left.left ≡ n + 1 + 1 = omega (arith, some) in
-          let ready = c.loop-left.invariant.ready some in
-          let before : IsReady (n + 1) c.if-bytes-here-ne60.builder = elim c.if-bytes-here-ne60.branch [
-            | then-bytes-here-ne60+else-not-plain_character_data w ↦ rw w.builder-is (w.plain_character_data.ensures.ready w.if-not-plain_character_data.false (n + 1) (subst (λ (m : ℕ). IsReady m c.loop-left.builder) two ready))
-            | else-bytes-here-ne60 w ↦ rw w.builder-is (ready_fewer (2 * c.loop-left.left) (n + 1) c.loop-left.builder (omega (arith, some)) ready)
+      count = omega (arith, fewer);
+      ready = λ _.
+          let ready = c.loop-left.invariant.ready (omega (arith, some)) in
+          let before : IsReady (m - 1 + 1) c.if-bytes-here-ne60.builder = elim c.if-bytes-here-ne60.branch [
+            | then-bytes-here-ne60+else-not-plain_character_data w ↦ rw w.builder-is (w.plain_character_data.ensures.ready w.if-not-plain_character_data.false (m - 1 + 1) (ready_fewer c.loop-left.left (m - 1 + 1 + 1) c.loop-left.builder (omega (arith, some, w.left-is)) ready))
+            | else-bytes-here-ne60 w ↦ rw w.builder-is (ready_fewer c.loop-left.left (m - 1 + 1) c.loop-left.builder (omega (arith, some, w.left-is)) ready)
           ] in
-          c.plain_markup.ensures.ready c.if-not-plain_markup.false n before;
+          c.plain_markup.ensures.ready c.if-not-plain_markup.false (m - 1) before;
       reads = λ context end s around h.
           let g = c.loop-left.invariant.reads context end s around h in
           let inner : is_root g.behind.stack ≡ false = sym (c.is_at_root.ensures end g.behind.stack g.behind.done g.sees.shows) ∙ c.if-is_at_root.false in
           let len : length c.as_bytes-bytes.result.now ≡ length src = ap length (c.as_bytes-bytes.ensures.value ∙ s0) in
           let within : g.behind.at < length src = omega (arith, c.if-here-bytes.false, len, g.sees.here) in
-          let between : Between context end c.if-bytes-here-ne60.read c.if-bytes-here-ne60.here c.if-bytes-here-ne60.builder src s = elim c.if-bytes-here-ne60.branch [
+          let between : Between context end (rows - m) c.if-bytes-here-ne60.here c.if-bytes-here-ne60.builder src s = elim c.if-bytes-here-ne60.branch [
             | then-bytes-here-ne60+else-not-plain_character_data w ↦ (
                 let yes = w.if-not-plain_character_data.false in
-                rw (w.read-is, w.here-is, w.builder-is)
-                (reads_run context end c.loop-left.read src s c.loop-left.here w.plain_character_data.new.cursor c.loop-left.builder w.plain_character_data.new.builder (g, inner, within) w.plain_character_data.ensures.opened
+                let one : rows - c.loop-left.left + 1 ≡ rows - m = omega (arith, some, most, w.left-is) in
+                rw (← one, w.here-is, w.builder-is)
+                (reads_run context end (rows - c.loop-left.left) src s c.loop-left.here w.plain_character_data.new.cursor c.loop-left.builder w.plain_character_data.new.builder (g, inner, within) w.plain_character_data.ensures.opened
                 (rw (step_is_run context src _ g.behind c.loop-left.here.pos (c.as_bytes-bytes.ensures.value ∙ s0) g.sees.here w.if-bytes-here-ne60.true) (rw s0 at (w.plain_character_data.ensures.value yes context end g.behind g.sees)))
                 (rw s0 at (w.plain_character_data.ensures.behind yes))))
-            | else-bytes-here-ne60 w ↦ rw (w.read-is, w.here-is, w.builder-is) (g, inner, within)
+            | else-bytes-here-ne60 w ↦ rw (w.left-is, w.here-is, w.builder-is) (g, inner, within)
           ] in
-          reads_markup context end c.if-bytes-here-ne60.read src s c.if-bytes-here-ne60.here c.plain_markup.new.cursor c.if-bytes-here-ne60.builder c.plain_markup.new.builder between
-          (λ t sees. rw s1 at (c.plain_markup.ensures.value c.if-not-plain_markup.false context end t around sees));
+          let one : rows - m + 1 ≡ rows - (m - 1) = omega (arith, more, fewer) in
+          rw (← one)
+          (reads_markup context end (rows - m) src s c.if-bytes-here-ne60.here c.plain_markup.new.cursor c.if-bytes-here-ne60.builder c.plain_markup.new.builder between
+          (λ t sees. rw s1 at (c.plain_markup.ensures.value c.if-not-plain_markup.false context end t around sees)));
     }
 
-pub returns-then-not-plain_markup-clause-value : goal.returns-then-not-plain_markup-clause-value
-returns-then-not-plain_markup-clause-value c = λ context end s around h.
+pub returns-clause-value : goal.returns-clause-value
+returns-clause-value c = λ context end s around h.
     let src = c.args.cursor.now.text.now in
+    let rows = c.args.rows in
     let s0 = ap (λ t. t.now) c.loop-left.invariant.source in
     let g = c.loop-left.invariant.reads context end s around h in
-    let inner : is_root g.behind.stack ≡ false = sym (c.is_at_root.ensures end g.behind.stack g.behind.done g.sees.shows) ∙ c.if-is_at_root.false in
-    let len : length c.as_bytes-bytes.result.now ≡ length src = ap length (c.as_bytes-bytes.ensures.value ∙ s0) in
-    let within : g.behind.at < length src = omega (arith, c.if-here-bytes.false, len, g.sees.here) in
-    let between : Between context end c.if-bytes-here-ne60.read c.if-bytes-here-ne60.here c.if-bytes-here-ne60.builder src s = elim c.if-bytes-here-ne60.branch [
-      | then-bytes-here-ne60+else-not-plain_character_data w ↦ (
-          let yes = w.if-not-plain_character_data.false in
-          rw (w.read-is, w.here-is, w.builder-is)
-          (reads_run context end c.loop-left.read src s c.loop-left.here w.plain_character_data.new.cursor c.loop-left.builder w.plain_character_data.new.builder (g, inner, within) w.plain_character_data.ensures.opened
-          (rw (step_is_run context src _ g.behind c.loop-left.here.pos (c.as_bytes-bytes.ensures.value ∙ s0) g.sees.here w.if-bytes-here-ne60.true) (rw s0 at (w.plain_character_data.ensures.value yes context end g.behind g.sees)))
-          (rw s0 at (w.plain_character_data.ensures.behind yes))))
-      | else-bytes-here-ne60 w ↦ rw (w.read-is, w.here-is, w.builder-is) (g, inner, within)
-    ] in
-    reads_kept context end c.if-bytes-here-ne60.read src s c.if-bytes-here-ne60.here c.plain_markup.new.cursor c.if-bytes-here-ne60.builder c.plain_markup.new.builder between.0
-    (λ t sees. c.plain_markup.ensures.other c.if-not-plain_markup.true context end t sees)
+    let most = c.loop-left.invariant.count in
+    elim c.loop-left-test.branch [
+      | else-loop-left-test w ↦ rw (w.left-is, w.here-is, w.builder-is) g
+      | then-loop-left-test+then-is_at_root w ↦ rw (w.left-is, w.here-is, w.builder-is) g
+      | then-loop-left-test+else-is_at_root+then-here-bytes w ↦ rw (w.left-is, w.here-is, w.builder-is) g
+      | then-loop-left-test+else-is_at_root+else-here-bytes+then-bytes-here-ne60+then-not-plain_character_data w ↦ (
+          let o = w.plain_character_data.ensures.other w.if-not-plain_character_data.true in
+          rw (w.left-is, w.here-is, w.builder-is, o.0, o.1) g)
+      | then-loop-left-test+else-is_at_root+else-here-bytes+then-not-plain_markup w ↦ (
+          let inner : is_root g.behind.stack ≡ false = sym (w.is_at_root.ensures end g.behind.stack g.behind.done g.sees.shows) ∙ w.if-is_at_root.false in
+          let len : length w.as_bytes-bytes.result.now ≡ length src = ap length (w.as_bytes-bytes.ensures.value ∙ s0) in
+          let within : g.behind.at < length src = omega (arith, w.if-here-bytes.false, len, g.sees.here) in
+          let some = w.loop-left-test.true in
+          let m = w.if-bytes-here-ne60.left in
+          let between : Between context end (rows - m) w.if-bytes-here-ne60.here w.if-bytes-here-ne60.builder src s = elim w.if-bytes-here-ne60.branch [
+            | then-bytes-here-ne60+else-not-plain_character_data v ↦ (
+                let yes = v.if-not-plain_character_data.false in
+                let one : rows - c.loop-left.left + 1 ≡ rows - m = omega (arith, some, most, v.left-is) in
+                rw (← one, v.here-is, v.builder-is)
+                (reads_run context end (rows - c.loop-left.left) src s c.loop-left.here v.plain_character_data.new.cursor c.loop-left.builder v.plain_character_data.new.builder (g, inner, within) v.plain_character_data.ensures.opened
+                (rw (step_is_run context src _ g.behind c.loop-left.here.pos (w.as_bytes-bytes.ensures.value ∙ s0) g.sees.here v.if-bytes-here-ne60.true) (rw s0 at (v.plain_character_data.ensures.value yes context end g.behind g.sees)))
+                (rw s0 at (v.plain_character_data.ensures.behind yes))))
+            | else-bytes-here-ne60 v ↦ rw (v.left-is, v.here-is, v.builder-is) (g, inner, within)
+          ] in
+          rw (w.left-is, w.here-is, w.builder-is)
+          (reads_kept context end (rows - m) src s w.if-bytes-here-ne60.here w.plain_markup.new.cursor w.if-bytes-here-ne60.builder w.plain_markup.new.builder between.0
+          (λ t sees. w.plain_markup.ensures.other w.if-not-plain_markup.true context end t sees)))
+    ]
