@@ -15,13 +15,14 @@ ghost use Rattle.rox_reading.specs.State.{State};
 ghost use Rattle.rox_build.specs.BuilderState.{GoesOn, IsConsistent, IsInState, IsReady, KeepsState, ScansTo};
 ghost use Rattle.rox_build.specs.PlainSteps.{Reads};
 ghost use Rattle.rox_build.specs.PendingText.{waiting};
+ghost use Rattle.rox_scan.specs.ByteSets.{EndsSet, is_part_byte};
 ghost use Rattle.rox_scan.specs.declared.cursor.Cursor.{Cursor};
 
 use crate::builder::Builder;
 use crate::plain_tag::{TagPlace, bare_start_tag, plain_start_tag};
 use crate::same_front::same_front;
 use rox_grammar::fault::Word;
-use rox_scan::byte_set::{part_end, skip_set};
+use rox_scan::byte_set::{PartByte, near_part_end, skip_set};
 use rox_scan::character_data::{TextByte, line_run_end};
 use rox_scan::cursor::Cursor;
 use rox_scan::runs::{after_byte, is_at};
@@ -168,18 +169,17 @@ fn plain_end_tag(cursor: &mut Cursor<'_>, builder: &mut Builder<'_>, open_around
     true
 }
 
-/// A start tag of a name alone, from its `<`, if it is one below an element of a name without prefix. The first part of its name
-/// ends at `part`.
+/// A start tag of a name alone, from its `<`, if it is one below an element of a name without prefix. The first ASCII bytes of
+/// its name end at `near`.
 #[inline(always)]
 fn bare_element<'input>(
     cursor: &mut Cursor<'input>,
     builder: &mut Builder<'input>,
-    part: usize,
+    near: usize,
 ) -> bool
     requires here { slice_index cursor.old.text.now cursor.old.pos ≡ 60 }
-    requires part { part ≡ run_end is_part_char cursor.old.text.now (cursor.old.pos + 1) }
-    requires cut { IsCharBoundary cursor.old.text.now part }
-    requires onward { cursor.old.pos + 1 ≤ part }
+    requires near { EndsSet is_part_byte cursor.old.text.now (cursor.old.pos + 1) near }
+    requires letter { 63 < slice_index cursor.old.text.now (cursor.old.pos + 1) }
     requires short { length cursor.old.text.now < 2 ^ 32 }
     requires ready { IsReady 1 builder.old }
     requires fine { IsConsistent builder.old.tables builder.old.opened.items }
@@ -193,7 +193,7 @@ fn bare_element<'input>(
     ensures goes { GoesOn cursor.old cursor.new builder.new }
 {
     // Most tags have more than a name, which is seen first.
-    if !is_at(cursor.text, part, b'>') || !builder.has_room_to_open() {
+    if !is_at(cursor.text, near, b'>') || !builder.has_room_to_open() {
         return false;
     }
     let Some(parent) = builder.innermost() else {
@@ -207,7 +207,7 @@ fn bare_element<'input>(
         &builder.tables,
         &parent,
         openings_left,
-        part,
+        near,
     ) else {
         return false;
     };
@@ -361,15 +361,15 @@ fn plain_markup<'input>(
         return false;
     }
     let next = bytes[cursor.pos + 1];
-    if next == b'/' {
-        return plain_end_tag(cursor, builder, open_around);
-    }
-    if next == b'?' {
-        return false;
-    }
     let text = cursor.text;
     let start = cursor.pos;
-    if next == b'!' {
+    if next <= b'?' {
+        if next == b'/' {
+            return plain_end_tag(cursor, builder, open_around);
+        }
+        if next != b'!' {
+            return false;
+        }
         let behind = plain_section(text, start, builder);
         if behind > MOST_BYTES {
             return false;
@@ -377,10 +377,12 @@ fn plain_markup<'input>(
         cursor.pos = behind;
         return true;
     }
-    let part = part_end(text, after_byte(text, start, b'<'));
-    if bare_element(cursor, builder, part) {
+    let name = after_byte(text, start, b'<');
+    let near = skip_set::<PartByte>(text, name);
+    if bare_element(cursor, builder, near) {
         return true;
     }
+    let part = near_part_end(text, name, near);
     let end = plain_element(text, start, builder, part);
     if end > MOST_BYTES {
         return false;

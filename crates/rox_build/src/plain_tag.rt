@@ -905,27 +905,26 @@ pub struct PlainTag<'input> {
     pub end: usize,
 }
 
-/// The name from `start` up to `part`, where its first part ends, if it has no other and `>` stands right behind it.
+/// The name from `start` up to `near`, where the first ASCII bytes of a part end, if `>` stands right behind it. It begins with no
+/// digit or sign, as the byte there shows.
 #[inline(always)]
-#[tactic(auto, unfolding(rox_reading::specs::Lexical::qname_at))]
-fn bare_name<'input>(text: &'input str, start: usize, part: usize) -> Option<&'input str>
+fn bare_name<'input>(text: &'input str, start: usize, near: usize) -> Option<&'input str>
     requires start { IsCharBoundary text.now start }
-    requires part { IsCharBoundary text.now part }
-    requires onward { start ≤ part }
-    requires first { part ≡ run_end is_part_char text.now start }
+    requires near { EndsSet is_part_byte text.now start near }
+    requires letter { 63 < slice_index text.now start }
     ensures value { IfSome result (λ n. qname_at text.entry.now start
-        ≡ Ok (record { prefix = []; local = n.now }, part)) }
-    ensures closed { IfSome result (λ n. slice_index text.entry.now part ≡ 62) }
+        ≡ Ok (record { prefix = []; local = n.now }, near)) }
+    ensures closed { IfSome result (λ n. slice_index text.entry.now near ≡ 62) }
 {
-    if !is_at(text, part, b'>') || !begins::<NameStart>(text, start) {
+    if !is_at(text, near, b'>') {
         return None;
     }
-    Some(&text[start..part])
+    Some(&text[start..near])
 }
 
 /// A start tag of a name alone behind its `<` at `start`, if it is one below this element, whose name has no prefix: then it has
-/// the namespace and the scope of that. So many replacement texts may be opened behind it. The first part of its name ends at
-/// `part`.
+/// the namespace and the scope of that. So many replacement texts may be opened behind it. The first ASCII bytes of its name end at
+/// `near`.
 #[inline(always)]
 pub fn bare_start_tag<'input>(
     text: &'input str,
@@ -933,12 +932,11 @@ pub fn bare_start_tag<'input>(
     elements: &ElementTables<'input>,
     parent: &OpenElement<'input>,
     openings: u32,
-    part: usize,
+    near: usize,
 ) -> Option<PlainTag<'input>>
     requires here { slice_index text.now start ≡ 60 }
-    requires part { part ≡ run_end is_part_char text.now (start + 1) }
-    requires cut { IsCharBoundary text.now part }
-    requires onward { start + 1 ≤ part }
+    requires near { EndsSet is_part_byte text.now (start + 1) near }
+    requires letter { 63 < slice_index text.now (start + 1) }
     requires places { ArePlaces
         (length elements.now.namespaces.items.items) elements.now.listed.items }
     requires few { length elements.now.namespaces.items.items ≤ most_pairs }
@@ -956,7 +954,7 @@ pub fn bare_start_tag<'input>(
         return None;
     }
     let name_at = after_byte(text, start, b'<');
-    let local = bare_name(text, name_at, part)?;
+    let local = bare_name(text, name_at, near)?;
     let count = elements.attributes.len();
     if count > MOST_ATTRIBUTES {
         return None;
@@ -971,12 +969,12 @@ pub fn bare_start_tag<'input>(
     let tag = StartTag {
         name: QName { prefix: "", local },
         name_start: name_at,
-        name_end: part,
+        name_end: near,
         element,
         empty: false,
         openings_left: openings,
     };
-    let end = after_byte(text, part, b'>');
+    let end = after_byte(text, near, b'>');
     Some(PlainTag { tag, end })
 }
 

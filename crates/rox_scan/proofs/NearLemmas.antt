@@ -7,15 +7,15 @@ use Rattle.std.proofs.lemmas.Bool.Decides.{nat_tests}
 use Rattle.std.proofs.lemmas.List.{length-take, get_or-take, drop_more, drop_all, get_or_past}
 use Rattle.std.proofs.lemmas.List.Sums.{position_or_len_is}
 use Rattle.std.proofs.lemmas.Str.{IsUtf8-take, IsCharBoundary-after_ascii}
-use Rattle.rox_grammar.specs.Chars.{is_char, is_part_char, is_space}
+use Rattle.rox_grammar.specs.Chars.{is_char, is_name_start, is_name_char, is_part_char, is_space}
 use Rattle.rox_grammar.specs.Content.{is_verbatim_value}
-use Rattle.rox_grammar.specs.Runs.{run_end}
+use Rattle.rox_grammar.specs.Runs.{run_end, begins}
 use Rattle.rox_grammar.specs.Search.{byte_from}
 use Rattle.rox_reading.specs.Lexical.{chars_up_to}
 use Rattle.rox_reading.specs.Markup.{raw_value_at}
 use Rattle.rox_reading.specs.Values.{is_special}
 use Rattle.rox_scan.specs.ByteSets.{is_char_byte, AllPass, is_value_byte, is_text_byte, is_comment_byte, is_part_byte, is_run_byte, is_stretch_byte}
-use Rattle.rox_scan.proofs.RunLemmas.{run_on_ascii, run_stops_ascii, run_at_end, space_on, space_stops}
+use Rattle.rox_scan.proofs.RunLemmas.{begins_ascii, run_on_ascii, run_stops_ascii, run_at_end, space_on, space_stops}
 use Rattle.rox_scan.proofs.PlainLemmas.{plain_run}
 
 pub value_is_plain : (b : ℕ) → is_value_byte b ≡ true → is_char_byte b ≡ true
@@ -98,6 +98,16 @@ part_stops src i e utf8 le within all stops ascii =
       | inr past ↦ run_at_end is_part_char src e past
     ] in
     sym here ∙ part_goes_on src i e utf8 le within all
+
+part_starts : (b : ℕ) → is_part_byte b ≡ true → 63 < b → is_name_start b ≡ true
+unfolding is_part_byte is_part_char is_name_char is_name_start
+part_starts b h letter = grind (arith, nat_tests)
+
+-- a part that begins with a letter or `_` begins a name
+pub part_begins : (src : List ℕ) (i e : ℕ) → IsUtf8 src → i < e → e ≤ length src → AllPass is_part_byte src i e → 63 < get_or src i 0 → begins is_name_start src i ≡ true
+part_begins src i e utf8 more within all letter =
+    let here = all i (omega arith) more in
+    begins_ascii is_name_start src i utf8 (omega (arith, more, within)) (part_ascii _ here) ∙ part_starts _ here letter
 
 -- white space is ASCII, so a place behind it is one between characters
 space_below : (b : ℕ) → is_space b ≡ true → b < 128

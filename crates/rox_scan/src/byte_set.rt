@@ -7,7 +7,7 @@ ghost use Rattle.std.specs.Simd.Lanes.{mask_l};
 ghost use Rattle.rox_grammar.specs.Chars as spec;
 ghost use Rattle.rox_grammar.specs.Runs.{run_end};
 ghost use Rattle.rox_scan.specs.ByteSets as near;
-ghost use Rattle.rox_scan.specs.ByteSets.{AllPass, EndsSet};
+ghost use Rattle.rox_scan.specs.ByteSets.{AllPass, EndsSet, is_part_byte};
 ghost use Rattle.rox_scan.specs.ScanResults.{Finds};
 
 use crate::chars;
@@ -218,10 +218,20 @@ pub fn part_end(text: &str, at: usize) -> usize
     ensures { Finds text.now at result (run_end spec.is_part_char text.now at) }
 {
     let near = skip_set::<PartByte>(text, at);
+    near_part_end(text, at, near)
+}
+
+/// The same where its first ASCII bytes end at `near`.
+#[inline(always)]
+pub fn near_part_end(text: &str, at: usize, near: usize) -> usize
+    requires cut { IsCharBoundary text.now at }
+    requires near { EndsSet is_part_byte text.now at near }
+    ensures { Finds text.now at result (run_end spec.is_part_char text.now at) }
+{
     if is_ascii_at(text, near) {
         return near;
     }
-    run_end::<PartChar>(text, near)
+    run_end::<PartChar>(text, at)
 }
 
 /// Where the white space that begins at `at` ends.

@@ -8,12 +8,12 @@ returns-then-next-eq47-clause-value c = λ yes context end s around h.
     rw (step_is_markup context c.args.cursor.now.text.now _ s c.args.cursor.now.pos 47 c.as_bytes-bytes.ensures.value h.here (ap (λ (xs : List ℕ). slice_index xs c.args.cursor.now.pos) c.as_bytes-bytes.ensures.value ∙ c.requires.here) c.if-cursor-bytes.false c.if-next-eq47.true (λ e. cc e))
     (c.plain_end_tag.ensures.value yes context end s around h)
 
-pub returns-then-next-eq33-clause-value : goal.returns-then-next-eq33-clause-value
-returns-then-next-eq33-clause-value c = λ _ context end s around h.
+pub returns-then-next-le63-clause-value : goal.returns-then-next-le63-clause-value
+returns-then-next-le63-clause-value c = λ _ context end s around h.
     c.plain_section-behind.ensures.value (omega (arith, c.if-behind-gt-MOST_BYTES.false)) context end s c.args.cursor.now _ refl refl h
 
-pub returns-then-next-eq33-clause-ready : goal.returns-then-next-eq33-clause-ready
-returns-then-next-eq33-clause-ready c = λ _ n h. c.plain_section-behind.ensures.ready (omega (arith, c.if-behind-gt-MOST_BYTES.false)) n h
+pub returns-then-next-le63-clause-ready : goal.returns-then-next-le63-clause-ready
+returns-then-next-le63-clause-ready c = λ _ n h. c.plain_section-behind.ensures.ready (omega (arith, c.if-behind-gt-MOST_BYTES.false)) n h
 
 pub returns-then-behind-gt-MOST_BYTES-clause-other : goal.returns-then-behind-gt-MOST_BYTES-clause-other
 returns-then-behind-gt-MOST_BYTES-clause-other c = λ no context end s h.
@@ -23,17 +23,17 @@ pub returns-then-bare_element-clause-value : goal.returns-then-bare_element-clau
 returns-then-bare_element-clause-value c = λ _ context end s around h.
     let i = c.args.cursor.now.pos in
     let b = slice_index c.as_bytes-bytes.result.now (i + 1) in
-    let is = step_is_markup context c.args.cursor.now.text.now _ s i b c.as_bytes-bytes.ensures.value h.here (ap (λ (xs : List ℕ). slice_index xs c.args.cursor.now.pos) c.as_bytes-bytes.ensures.value ∙ c.requires.here) c.if-cursor-bytes.false refl c.if-next-eq33.false in
-    rw (is, ne_eqb b 63 c.if-next-eq63.false, ne_eqb b 47 c.if-next-eq47.false) (c.bare_element.ensures.value c.if-bare_element.true context end s h)
+    let is = step_is_markup context c.args.cursor.now.text.now _ s i b c.as_bytes-bytes.ensures.value h.here (ap (λ (xs : List ℕ). slice_index xs c.args.cursor.now.pos) c.as_bytes-bytes.ensures.value ∙ c.requires.here) c.if-cursor-bytes.false refl (λ e. absurd (omega (arith, c.if-next-le63.false, e))) in
+    rw (is, ne_eqb b 63 (λ e. absurd (omega (arith, c.if-next-le63.false, e))), ne_eqb b 47 (λ e. absurd (omega (arith, c.if-next-le63.false, e)))) (c.bare_element.ensures.value c.if-bare_element.true context end s h)
 
 pub returns-clause-value : goal.returns-clause-value
 returns-clause-value c = λ _ context end s around h.
     let i = c.args.cursor.now.pos in
     let b = slice_index c.as_bytes-bytes.result.now (i + 1) in
-    let is = step_is_markup context c.args.cursor.now.text.now _ s i b c.as_bytes-bytes.ensures.value h.here (ap (λ (xs : List ℕ). slice_index xs c.args.cursor.now.pos) c.as_bytes-bytes.ensures.value ∙ c.requires.here) c.if-cursor-bytes.false refl c.if-next-eq33.false in
+    let is = step_is_markup context c.args.cursor.now.text.now _ s i b c.as_bytes-bytes.ensures.value h.here (ap (λ (xs : List ℕ). slice_index xs c.args.cursor.now.pos) c.as_bytes-bytes.ensures.value ∙ c.requires.here) c.if-cursor-bytes.false refl (λ e. absurd (omega (arith, c.if-next-le63.false, e))) in
     let o = c.bare_element.ensures.other c.if-bare_element.false in
     let sees : IsInState context.limit end s c.args.cursor.now c.bare_element.new.builder = rw (o.1) h in
-    rw (is, ne_eqb b 63 c.if-next-eq63.false, ne_eqb b 47 c.if-next-eq47.false)
+    rw (is, ne_eqb b 63 (λ e. absurd (omega (arith, c.if-next-le63.false, e))), ne_eqb b 47 (λ e. absurd (omega (arith, c.if-next-le63.false, e))))
     (c.plain_element-end.ensures.value (omega (arith, c.if-end-gt-MOST_BYTES.false)) context end s c.args.cursor.now _ refl refl sees)
 
 pub returns-then-end-gt-MOST_BYTES-clause-other : goal.returns-then-end-gt-MOST_BYTES-clause-other

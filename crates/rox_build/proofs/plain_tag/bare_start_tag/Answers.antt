@@ -6,6 +6,7 @@ use Rattle.rox_grammar.specs.Document.{most_attributes}
 use Rattle.rox_grammar.specs.Tree.{listed, element_namespace}
 use Rattle.rox_grammar.specs.Written.{Name}
 use Rattle.rox_reading.specs.Tags.{tag_tested}
+use Rattle.rox_scan.proofs.NearLemmas.{part_cut}
 use Rattle.rox_tables.specs.Bindings.{FindsBinding}
 use Rattle.rox_tables.specs.Rows.{namespace_view, namespace_at, attribute_rows}
 use Rattle.rox_tables.specs.Scopes.{places_in}
@@ -28,7 +29,7 @@ returns-clause-read c =
     let o = c.args.parent.now in
     let src = c.args.text.now in
     let i = c.args.start in
-    let n = c.args.part in
+    let n = c.args.near in
     let above = scope_in_tables t o.scope in
     let namespaces = map namespace_view t.namespaces.items.items in
     let few = Some (places_in t.listed.items t.scopes.items o.scope) in
@@ -39,7 +40,8 @@ returns-clause-read c =
     let j = c.after_byte-end.result in
     let start = c.after_byte-name_at.ensures.place in
     let here : slice_index src n ≡ 62 = c.in_ok-local.ensures.closed in
-    let spaces = no_space src n c.utf8.text c.requires.cut (stands_within src n 62 here (omega arith)) (omega (arith, here)) in
+    let cut = part_cut src (i + 1) n c.utf8.text (rw (← start) c.after_byte-name_at.ensures.cut) c.requires.near.onward c.requires.near.within c.requires.near.passes in
+    let spaces = no_space src n c.utf8.text cut (stands_within src n 62 here (omega arith)) (omega (arith, here)) in
     let x : ArePlainAttributes namespaces few t.present src n rows j false rows =
     rw c.after_byte-end.ensures.place (opens_there namespaces few t.present src n rows n n rows (plain_starts namespaces few t.present src n rows) (omega arith) spaces here) in
     let finds : FindsBinding namespaces few t.present above = few_found t t.namespaces.items.items t.scopes.items t.listed.items (places_in t.listed.items t.scopes.items o.scope) o.scope refl refl refl refl in
