@@ -31,6 +31,7 @@ use Rattle.rox_build.specs.OpenRows.{top}
 use Rattle.rox_tables.specs.declared.rows.tables.ElementTables.{ElementTables}
 use Rattle.rox_build.specs.declared.builder.OpenElement.{OpenElement}
 use Rattle.rox_grammar.specs.Tree.{listed}
+use Rattle.rox_scan.proofs.MarkLemmas.{stands_fits, stands_reads}
 use Rattle.rox_scan.specs.declared.cursor.Cursor.{Cursor}
 use Rattle.rox_grammar.specs.declared.failure.Failure.{Failure}
 use Rattle.rox_build.proofs.Lifting.{refuses}
@@ -277,15 +278,16 @@ step_is_markup context src xs s i b same e here more next other =
     rw (x, k, y, l) refl
 
 -- `<!--`
-pub step_is_comment : (context : Context) (src : List ℕ) (s : State) (i : ℕ) → i ≡ s.at → slice_index src i ≡ 60 → i + 1 < length src → slice_index src (i + 1) ≡ 33 → stands (word_text word.CommentStart) src i ≡ true
-    → step context src s ≡ lifted (comment_step context.limit src s)
+pub step_is_comment : (context : Context) (src : List ℕ) (s : State) (i : ℕ) → i ≡ s.at → stands (word_text word.CommentStart) src i ≡ true → step context src s ≡ lifted (comment_step context.limit src s)
 unfolding step
-step_is_comment context src s i e here more next comment =
-    let x : slice_index src s.at ≡ 60 = ap (slice_index src) (sym e) ∙ here in
-    let y : slice_index src (s.at + 1) ≡ 33 = ap (λ (n : ℕ). slice_index src (n + 1)) (sym e) ∙ next in
-    let z : s.at + 1 < length src = subst (λ (n : ℕ). n + 1 < length src) e more in
+step_is_comment context src s i e comment =
+    let mark = word_text word.CommentStart in
+    let l : stands mark src s.at ≡ true = subst (λ (n : ℕ). stands mark src n ≡ true) e comment in
+    let none : s.at ≡ s.at + 0 = omega arith in
+    let x : slice_index src s.at ≡ 60 = ap (slice_index src) none ∙ stands_reads mark src s.at 0 l (omega arith) in
+    let y : slice_index src (s.at + 1) ≡ 33 = stands_reads mark src s.at 1 l (omega arith) in
+    let z : s.at + 1 < length src = omega (arith, stands_fits mark src s.at (omega arith) l) in
     let k : leb (length src) (s.at + 1) ≡ false = lt-leb (length src) (s.at + 1) z in
-    let l : stands (word_text word.CommentStart) src s.at ≡ true = subst (λ (n : ℕ). stands (word_text word.CommentStart) src n ≡ true) e comment in
     rw (x, k, y, l) refl
 
 -- two bytes that stand

@@ -299,15 +299,12 @@ fn plain_comment<'input>(cursor: &mut Cursor<'input>, builder: &mut Builder<'inp
     true
 }
 
-/// What `<!` begins at `start`, if it is a comment in order. Answers the place behind it, or `NOT_READ`: a cursor that is lent to a
+/// What stands at `start`, if it is a comment in order. Answers the place behind it, or `NOT_READ`: a cursor that is lent to a
 /// call would leave its registers.
 #[inline(never)]
 #[tactic(auto, unfolding(rox_reading::specs::Machine::step))]
 fn plain_section<'input>(text: &'input str, start: usize, builder: &mut Builder<'input>) -> usize
     requires cut { IsCharBoundary text.now start }
-    requires there { start + 1 < length text.now }
-    requires here { slice_index text.now start ≡ 60 }
-    requires next { slice_index text.now (start + 1) ≡ 33 }
     requires short { length text.now < 2 ^ 32 }
     requires ready { IsReady 1 builder.old }
     requires fine { IsConsistent builder.old.tables builder.old.opened.items }
@@ -366,9 +363,6 @@ fn plain_markup<'input>(
     if next <= b'?' {
         if next == b'/' {
             return plain_end_tag(cursor, builder, open_around);
-        }
-        if next != b'!' {
-            return false;
         }
         let behind = plain_section(text, start, builder);
         if behind > MOST_BYTES {
