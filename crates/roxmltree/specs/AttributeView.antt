@@ -6,4 +6,4 @@ use Rattle.rox_tables.specs.StoredAttributes.{row_in}
 use Rattle.roxmltree.specs.declared.attributes.Attribute.{Attribute}
 
 abbrev pub attribute_of : Attribute → tree.Attribute
-attribute_of a = attribute (map namespace_view a.namespaces.now) (row_in a.table.now.unusual.items a.row.now)
+attribute_of a = attribute (map namespace_view a.tables.now.namespaces.items) (row_in a.tables.now.attributes.unusual.items a.row.now)

@@ -6,7 +6,6 @@ use Rattle.rox_grammar.specs.Written.{NamespaceDecl}
 use Rattle.rox_grammar.specs.Tree as tree
 use Rattle.rox_tables.specs.Rows.{attribute, attribute_rows, namespace_view, namespace_at, AreScopes, NamespaceWithin}
 use Rattle.rox_tables.specs.Scopes.{places_in, ArePlaces}
-use Rattle.rox_tables.specs.declared.rows.tables.Scope.{Scope}
 use Rattle.roxmltree.specs.TreeCodes.{attribute_code, namespace_decl_code}
 pub use Rattle.roxmltree.specs.AttributeView.{attribute_of}
 use Rattle.roxmltree.specs.declared.attributes.Attributes.TheInside as attributes
@@ -20,13 +19,13 @@ namespace_decls_code = coded_list namespace_decl_code
 
 -- those that are left
 abbrev pub attributes_left : attributes.Inside → List tree.Attribute
-attributes_left a = map (attribute (map namespace_view a.namespaces.now)) (slice_range (attribute_rows a.table.now) a.from a.until)
+attributes_left a = map (attribute (map namespace_view a.tables.now.namespaces.items)) (slice_range (attribute_rows a.tables.now.attributes) a.from a.until)
 
--- they are a stretch of the table, and each of its rows has its namespace in the other
+-- they are a stretch of the table, and each of its rows has its namespace among the others
 pub record AttributesWithin (a : attributes.Inside) : Type 0 where
   pub ordered : a.from ≤ a.until
-  pub within : a.until ≤ length (attribute_rows a.table.now)
-  pub each : AllByRecursion (λ r. NamespaceWithin (length a.namespaces.now) r.0.namespace) (attribute_rows a.table.now)
+  pub within : a.until ≤ length (attribute_rows a.tables.now.attributes)
+  pub each : AllByRecursion (λ r. NamespaceWithin (length a.tables.now.namespaces.items) r.0.namespace) (attribute_rows a.tables.now.attributes)
 
 -- the places that are left of those that the scope lists
 abbrev pub places_left : namespaces.Inside → List ℕ

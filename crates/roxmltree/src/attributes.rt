@@ -7,10 +7,9 @@ ghost use Rattle.rox_tables.specs.StoredAttributes.{data_of, place_bound};
 ghost use Rattle.roxmltree.specs.NamespaceBound.{namespace_bound};
 
 use crate::names::{ExpandedName, NS_XML_URI, equal_names};
-use rox_tables::rows::attributes::AttributeTable;
 use rox_tables::rows::storage::StringStorage;
 use rox_tables::rows::stored_attribute::{NamespaceKind, StoredAttribute};
-use rox_tables::rows::tables::{AttributeNamespace, Namespace};
+use rox_tables::rows::tables::{AttributeNamespace, Tables};
 use std::fmt;
 use std::marker::Model;
 use std::ops::Range;
@@ -19,10 +18,9 @@ use std::ops::Range;
 #[derive(Clone, Copy)]
 pub struct Attribute<'a, 'input> {
     row: &'a StoredAttribute<'input>,
-    table: &'a AttributeTable<'input>,
-    namespaces: &'a [Namespace<'input>],
-    ghost within: { namespace_bound (data_of row.now).namespace ≤ length namespaces.now },
-    ghost placed: { place_bound row.now ≤ length table.now.unusual.items },
+    tables: &'a Tables<'input>,
+    ghost within: { namespace_bound (data_of row.now).namespace ≤ length tables.now.namespaces.items },
+    ghost placed: { place_bound row.now ≤ length tables.now.attributes.unusual.items },
 }
 
 impl<'a, 'input> Attribute<'a, 'input> {
@@ -40,8 +38,8 @@ impl<'a, 'input> Attribute<'a, 'input> {
             AttributeNamespace::None => None,
             AttributeNamespace::Xml => Some(NS_XML_URI),
             AttributeNamespace::Listed(place) => {
-                let namespaces = self.namespaces;
-                Some(namespaces[place as usize].uri())
+                let tables = self.tables;
+                Some(tables.namespaces[place as usize].uri())
             }
         }
     }
@@ -115,7 +113,7 @@ impl<'a, 'input> Attribute<'a, 'input> {
     pub fn position(&self) -> usize
         ensures { result ≡ (attribute_of self.now).start }
     {
-        self.table.places(self.row).start
+        self.tables.attributes.places(self.row).start
     }
 
     /// Where it stands in its source, in bytes: from its name to its closing quote, the quote included.
@@ -124,7 +122,7 @@ impl<'a, 'input> Attribute<'a, 'input> {
         ensures start { result.start ≡ (attribute_of self.now).start }
         ensures end { result.end ≡ (attribute_of self.now).end }
     {
-        let places = self.table.places(self.row);
+        let places = self.tables.attributes.places(self.row);
         places.start..places.end
     }
 
@@ -134,7 +132,7 @@ impl<'a, 'input> Attribute<'a, 'input> {
         ensures start { result.start ≡ (attribute_of self.now).start }
         ensures end { result.end ≡ (attribute_of self.now).name_end }
     {
-        let places = self.table.places(self.row);
+        let places = self.tables.attributes.places(self.row);
         places.start..places.name_end
     }
 
@@ -144,7 +142,7 @@ impl<'a, 'input> Attribute<'a, 'input> {
         ensures start { result.start ≡ (attribute_of self.now).value_start }
         ensures end { result.end ≡ (attribute_of self.now).end - 1 }
     {
-        let places = self.table.places(self.row);
+        let places = self.tables.attributes.places(self.row);
         places.value_start..places.end.saturating_sub(1)
     }
 }
@@ -177,8 +175,7 @@ impl fmt::Debug for Attribute<'_, '_> {
 /// Attributes of one element, from both ends: a stretch of the table of attributes.
 #[derive(Clone, Drop)]
 pub struct Attributes<'a, 'input> {
-    pub(crate) table: &'a AttributeTable<'input>,
-    pub(crate) namespaces: &'a [Namespace<'input>],
+    pub(crate) tables: &'a Tables<'input>,
     pub(crate) from: usize,
     pub(crate) until: usize,
 }
@@ -203,23 +200,20 @@ impl<'a, 'input> Attributes<'a, 'input> {
     ghost use Rattle.roxmltree.specs.ElementLists.{attribute_of, AttributesWithin};
     ghost use Rattle.roxmltree.specs.ExpandedNames.{expanded, named};
 
-    /// A stretch of the attributes of all elements, whose namespaces are in this table.
+    /// A stretch of the attributes of all elements.
     #[inline]
     pub(crate) fn part(
-        table: &'a AttributeTable<'input>,
+        tables: &'a Tables<'input>,
         from: usize,
         until: usize,
-        namespaces: &'a [Namespace<'input>],
     ) -> Attributes<'a, 'input>
-        requires { AttributesWithin (record
-            { table = table; namespaces = namespaces; from = from; until = until }) }
+        requires { AttributesWithin (record { tables = tables; from = from; until = until }) }
         ensures { result
-            ≡ map (attribute (map namespace_view namespaces.now))
-            (slice_range (attribute_rows table.now) from until) }
+            ≡ map (attribute (map namespace_view tables.now.namespaces.items))
+            (slice_range (attribute_rows tables.now.attributes) from until) }
     {
         Attributes {
-            table,
-            namespaces,
+            tables,
             from,
             until,
         }
@@ -286,10 +280,10 @@ impl<'a, 'input> Iterator for Attributes<'a, 'input> {
         }
         let place = self.from;
         self.from = place + 1;
+        let tables = self.tables;
         Some(Attribute {
-            row: &self.table.items[place],
-            table: self.table,
-            namespaces: self.namespaces,
+            row: &tables.attributes.items[place],
+            tables,
         })
     }
 
@@ -316,10 +310,10 @@ impl<'a, 'input> DoubleEndedIterator for Attributes<'a, 'input> {
         }
         let place = self.until - 1;
         self.until = place;
+        let tables = self.tables;
         Some(Attribute {
-            row: &self.table.items[place],
-            table: self.table,
-            namespaces: self.namespaces,
+            row: &tables.attributes.items[place],
+            tables,
         })
     }
 }

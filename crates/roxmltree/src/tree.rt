@@ -233,18 +233,17 @@ impl<'a, 'input> Node<'a, 'input> {
         ensures { result ≡ attributes_of (item_of self.now) }
     {
         let document = self.document;
-        let table = &document.tables.attributes;
-        let namespaces = document.tables.namespaces.as_slice();
+        let tables = &document.tables;
         if !self.is_element() {
-            return Attributes::part(table, 0, 0, namespaces);
+            return Attributes::part(tables, 0, 0);
         }
-        match document.tables.nodes.kind(self.id.0 as usize) {
+        match tables.nodes.kind(self.id.0 as usize) {
             KindRef::Element(element) => {
                 let from = element.attributes_from as usize;
                 let until = element.attributes_until as usize;
-                Attributes::part(table, from, until, namespaces)
+                Attributes::part(tables, from, until)
             }
-            _ => Attributes::part(table, 0, 0, namespaces),
+            _ => Attributes::part(tables, 0, 0),
         }
     }
 

@@ -7,4 +7,4 @@ pub returns-clause-value : goal.returns-clause-value
 returns-clause-value c =
     let d = c.self.inside in
     let v = c.self.invariant in
-    sym (length_left (map namespace_view d.namespaces.now) d.table.now d.from d.until v.ordered v.within) ∙ ap length c.self.view_is
+    sym (length_left (map namespace_view d.tables.now.namespaces.items) d.tables.now.attributes d.from d.until v.ordered v.within) ∙ ap length c.self.view_is

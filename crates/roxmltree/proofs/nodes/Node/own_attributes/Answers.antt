@@ -21,7 +21,7 @@ part-requires-in-Element c =
     record {
       ordered = (element_within c.document.inside.tables (tree_in c.document.inside.tables) _ _ _ c.document.invariant.holds l c.kind.ensures.1 (sym c.kind.ensures.2 ∙ ap kind_of c.in-Element.is)).0;
       within = (element_within c.document.inside.tables (tree_in c.document.inside.tables) _ _ _ c.document.invariant.holds l c.kind.ensures.1 (sym c.kind.ensures.2 ∙ ap kind_of c.in-Element.is)).1;
-      each = rw (c.as_slice-namespaces.ensures.value) c.document.invariant.holds.sound.attributes;
+      each = c.document.invariant.holds.sound.attributes;
     }
 
 pub part-requires : goal.part-requires
@@ -29,7 +29,7 @@ part-requires c =
     record {
       ordered = omega arith;
       within = omega arith;
-      each = rw (c.as_slice-namespaces.ensures.value) c.document.invariant.holds.sound.attributes;
+      each = c.document.invariant.holds.sound.attributes;
     }
 
 pub part-requires-in_default : goal.part-requires-in_default
@@ -37,14 +37,14 @@ part-requires-in_default c =
     record {
       ordered = omega arith;
       within = omega arith;
-      each = rw (c.as_slice-namespaces.ensures.value) c.document.invariant.holds.sound.attributes;
+      each = c.document.invariant.holds.sound.attributes;
     }
 
 pub returns-in-Element : goal.returns-in-Element
 returns-in-Element c =
     let v : tree_in c.document.inside.tables ≡ c.args.self.now.document.now.tree = ap (λ d. d.tree) c.document.view_is in
     let l : c.args.self.now.id.0 < size (tree_in c.document.inside.tables) = rw v c.args.self.now.in_tree in
-    rw (c.part-in-Element.ensures, c.as_slice-namespaces.ensures.value, ← v) (row_attributes c.document.inside.tables (tree_in c.document.inside.tables) _ _ _ c.document.invariant.holds l c.kind.ensures.1 (sym c.kind.ensures.2 ∙ ap kind_of c.in-Element.is))
+    rw (c.part-in-Element.ensures, ← v) (row_attributes c.document.inside.tables (tree_in c.document.inside.tables) _ _ _ c.document.invariant.holds l c.kind.ensures.1 (sym c.kind.ensures.2 ∙ ap kind_of c.in-Element.is))
 
 pub returns-in_default : goal.returns-in_default
 returns-in_default c =
