@@ -1,6 +1,7 @@
 pub mod Preorder
 pub mod Siblings
 pub mod Rows
+pub mod NodeRows
 pub mod Bare
 pub mod Tops
 pub mod Parsed

@@ -1,14 +1,17 @@
 -- What `Descendants` has left.
-use Rattle.std.specs.Prelude.{ℕ, ◌-◌, ◌≤◌, List}
+use Rattle.std.specs.Prelude.{◌≡◌, ℕ, ◌+◌, ◌≤◌, List, length, slice_range}
 use Rattle.std.specs.List.{range_with_len}
 use Rattle.rox_grammar.specs.Forest.{size}
+use Rattle.rox_tables.specs.Rows.{HoldsTree}
 use Rattle.roxmltree.specs.DocumentView.{DocumentView}
 use Rattle.roxmltree.specs.NodeRef.{node_refs}
 use Rattle.roxmltree.specs.declared.iterators.Descendants.TheInside.{Inside}
 
 abbrev pub in_range : Inside → List (DocumentView × ℕ)
-in_range d = node_refs d.document.now (range_with_len d.from.0 (d.until.0 - d.from.0))
+in_range d = node_refs d.document.now (range_with_len d.from.0 (length d.rest.now))
 
+-- the rows that are left are those of these nodes
 pub record IsRange (d : Inside) : Type 0 where
-  pub ordered : d.from.0 ≤ d.until.0
-  pub within : d.until.0 ≤ size d.document.now.tree
+  pub within : d.from.0 + length d.rest.now ≤ size d.document.now.tree
+  pub holds : HoldsTree d.tables.now d.document.now.tree
+  pub rows : d.rest.now ≡ slice_range d.tables.now.nodes.rows.items d.from.0 (d.from.0 + length d.rest.now)

@@ -4,6 +4,8 @@ ghost use Rattle.std.specs.Prelude.{◌≡◌, ◌∷◌, [], ◌++◌};
 
 use crate::nodes::{Node, NodeId};
 use crate::tree::Document;
+use rox_tables::rows::stored_node::StoredNode;
+use rox_tables::rows::tables::Tables;
 use std::alloc::AllocError;
 use std::fmt;
 use std::marker::Model;
@@ -123,12 +125,14 @@ impl<'a, 'input> Iterator for AxisIter<'a, 'input> {
     }
 }
 
-/// A node and those below it in document order, from both ends.
+/// A node and those below it in document order, from both ends. It holds the rows that are left, and the id of the first, so that
+/// going on is a step from row to row.
 #[derive(Drop)]
 pub struct Descendants<'a, 'input> {
     pub(crate) document: &'a Document<'input>,
+    pub(crate) tables: &'a Tables<'input>,
+    pub(crate) rest: &'a [StoredNode<'input>],
     pub(crate) from: NodeId,
-    pub(crate) until: NodeId,
 }
 
 impl<'a, 'input> Model for Descendants<'a, 'input> {
@@ -156,8 +160,9 @@ impl<'a, 'input> Descendants<'a, 'input> {
     {
         Descendants {
             document: self.document,
+            tables: self.tables,
+            rest: self.rest,
             from: self.from,
-            until: self.until,
         }
     }
 }
@@ -198,17 +203,21 @@ impl<'a, 'input> Iterator for Descendants<'a, 'input> {
 
     ghost remaining = { item_count (λ s. s) };
 
-    #[tactic(auto, using(crate::proofs::Ranges::spots_first))]
+    #[tactic(auto, using(crate::proofs::Ranges::spots_first, crate::proofs::Ranges::spots_length))]
     fn next(&mut self) -> Option<Node<'a, 'input>> {
-        if self.from == self.until {
+        let rest = self.rest;
+        if rest.is_empty() {
             return None;
         }
-        let node = Node {
+        let id = self.from;
+        self.from = NodeId(id.0 + 1);
+        self.rest = &rest[1..];
+        Some(Node {
             document: self.document,
-            id: self.from,
-        };
-        self.from = NodeId(self.from.0 + 1);
-        Some(node)
+            tables: self.tables,
+            row: &rest[0],
+            id,
+        })
     }
 
     fn size_hint(&self) -> (usize, Option<usize>)
@@ -229,13 +238,17 @@ impl<'a, 'input> DoubleEndedIterator for Descendants<'a, 'input> {
 
     #[tactic(auto, using(crate::proofs::Ranges::spots_last, crate::proofs::Ranges::spots_length))]
     fn next_back(&mut self) -> Option<Node<'a, 'input>> {
-        if self.from == self.until {
+        let rest = self.rest;
+        if rest.is_empty() {
             return None;
         }
-        self.until = NodeId(self.until.0 - 1);
+        let last = rest.len() - 1;
+        self.rest = &rest[..last];
         Some(Node {
             document: self.document,
-            id: self.until,
+            tables: self.tables,
+            row: &rest[last],
+            id: NodeId(self.from.0 + last as u32),
         })
     }
 }
@@ -352,10 +365,7 @@ impl<'a, 'input> Iterator for Children<'a, 'input> {
             return None;
         }
         let document = self.document;
-        let front = Node {
-            document,
-            id: self.from,
-        };
+        let front = Node::of(document, self.from);
         self.from = NodeId(front.row().subtree_end);
         Some(front)
     }
@@ -373,10 +383,7 @@ impl<'a, 'input> DoubleEndedIterator for Children<'a, 'input> {
             return None;
         }
         let document = self.document;
-        let below = Node {
-            document,
-            id: NodeId(self.until.0 - 1),
-        };
+        let below = Node::of(document, NodeId(self.until.0 - 1));
         let back = below.climb(self.parent);
         self.until = back.id;
         Some(back)
@@ -386,6 +393,6 @@ impl<'a, 'input> DoubleEndedIterator for Children<'a, 'input> {
 impl ExactSizeIterator for Descendants<'_, '_> {
     #[tactic(auto, using(crate::proofs::Ranges::spots_length))]
     fn len(&self) -> usize {
-        (self.until.0 - self.from.0) as usize
+        self.rest.len()
     }
 }

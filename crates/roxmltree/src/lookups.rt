@@ -74,13 +74,13 @@ impl<'a, 'input> Node<'a, 'input> {
         ensures value { result ≡ listed_of (item_of self.now) }
         ensures few { length result < 2 ^ 64 }
     {
-        let document = self.document;
-        let KindRef::Element(element) = document.tables.nodes.kind(self.id.0 as usize) else {
+        let tables = self.tables;
+        let KindRef::Element(element) = tables.nodes.kind(self.row) else {
             return NamespaceIter::empty();
         };
-        let scopes = document.tables.scopes.as_slice();
-        let listed = document.tables.listed.as_slice();
-        let namespaces = document.tables.namespaces.as_slice();
+        let scopes = tables.scopes.as_slice();
+        let listed = tables.listed.as_slice();
+        let namespaces = tables.namespaces.as_slice();
         NamespaceIter::of_scope(scopes, listed, namespaces, element.scope)
     }
 

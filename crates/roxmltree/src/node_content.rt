@@ -57,8 +57,7 @@ impl<'a, 'input> Node<'a, 'input> {
     pub fn is_element(&self) -> bool
         ensures { result ≡ is_element_node (item_of self.now) }
     {
-        let document = self.document;
-        document.tables.nodes.is_element(self.id.0 as usize)
+        self.row.is_element()
     }
 
     /// Whether it is a processing instruction.
@@ -90,8 +89,7 @@ impl<'a, 'input> Node<'a, 'input> {
     pub fn is_text(&self) -> bool
         ensures { result ≡ is_text_node (item_of self.now) }
     {
-        let document = self.document;
-        document.tables.nodes.is_text(self.id.0 as usize)
+        self.row.is_text()
     }
 
     /// Where it stands in its source, in bytes: an element from its `<` to the end of its end tag, and the root node the whole

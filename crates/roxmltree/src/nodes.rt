@@ -3,10 +3,14 @@
 ghost use Rattle.std.specs.Prelude.{◌≡◌, ℕ, ◌+◌, ◌^◌, ◌<◌, ◌≤◌, length, ◌∷◌, IsTrue, ◌↔◌, ◌≢◌, ◌⊎◌, reverse};
 ghost use Rattle.std.specs.Option.{option_map};
 ghost use Rattle.rox_grammar.specs.Forest.{size};
+ghost use Rattle.roxmltree.specs.NodeRows.{IsRowOf, views-prop, NamespaceWithin-prop, KindWithin-prop, EndsWithin-prop, IsRow-prop};
+ghost use Rattle.std.proofs.Props.{props};
 ghost use Rattle.roxmltree.specs.Places.{place, parent, children, first_child, last_child, next_sibling, prev_sibling, up_to};
 
 use crate::iterators::{Axis, AxisIter, Children, Descendants};
 use crate::tree::Document;
+use rox_tables::rows::stored_node::StoredNode;
+use rox_tables::rows::tables::Tables;
 use std::fmt;
 
 /// The place of a node in document order: the root node has 0.
@@ -88,8 +92,13 @@ impl std::error::Error for NodeIdTooLarge {}
 #[derive(Clone, Copy)]
 pub struct Node<'a, 'input> {
     pub(crate) document: &'a Document<'input>,
+    /// Those of the document.
+    pub(crate) tables: &'a Tables<'input>,
+    /// Its row there, whose place is found once, however often the node is asked.
+    pub(crate) row: &'a StoredNode<'input>,
     pub(crate) id: NodeId,
     ghost in_tree: { id.0 < size document.now.tree },
+    ghost placed: { IsRowOf tables.now document.now.tree id.0 row.now } by { Prim.hlevel (views-prop, NamespaceWithin-prop, KindWithin-prop, EndsWithin-prop, IsRow-prop, props) },
 }
 
 impl<'a, 'input> Node<'a, 'input> {
@@ -124,10 +133,7 @@ impl<'a, 'input> Node<'a, 'input> {
         if self.id.0 == 0 {
             None
         } else {
-            Some(Node {
-                document,
-                id: NodeId(row.parent),
-            })
+            Some(Node::of(document, NodeId(row.parent)))
         }
     }
 
@@ -140,10 +146,7 @@ impl<'a, 'input> Node<'a, 'input> {
         let document = self.document;
         let subtree_end = self.row().subtree_end;
         if subtree_end - self.id.0 > 1 {
-            Some(Node {
-                document,
-                id: NodeId(self.id.0 + 1),
-            })
+            Some(Node::of(document, NodeId(self.id.0 + 1)))
         } else {
             None
         }
@@ -160,7 +163,7 @@ impl<'a, 'input> Node<'a, 'input> {
         if (id.0 as usize) >= document.count() {
             return None;
         }
-        let next = Node { document, id };
+        let next = Node::of(document, id);
         if next.row().parent == row.parent {
             Some(next)
         } else {
@@ -192,10 +195,7 @@ impl<'a, 'input> Node<'a, 'input> {
         let document = self.document;
         let row = self.row();
         if row.subtree_end - self.id.0 > 1 {
-            let last = Node {
-                document,
-                id: NodeId(row.subtree_end - 1),
-            };
+            let last = Node::of(document, NodeId(row.subtree_end - 1));
             Some(last.climb(self.id))
         } else {
             None
@@ -216,7 +216,7 @@ impl<'a, 'input> Node<'a, 'input> {
         if parent == id.0 {
             None
         } else {
-            let before = Node { document, id };
+            let before = Node::of(document, id);
             Some(before.climb(NodeId(parent)))
         }
     }
@@ -250,10 +250,13 @@ impl<'a, 'input> Node<'a, 'input> {
     {
         let document = self.document;
         let until = self.row().subtree_end;
+        let tables = self.tables;
+        let rest = &tables.nodes.rows[self.id.0 as usize..until as usize];
         Descendants {
             document,
+            tables,
+            rest,
             from: self.id,
-            until: NodeId(until),
         }
     }
 

@@ -123,10 +123,7 @@ impl<'input> Document<'input> {
         ensures document { document_of result ≡ self.now }
     {
         let _ = &self.tables;
-        Node {
-            document: self,
-            id: NodeId(0),
-        }
+        Node::of(self, NodeId(0))
     }
 
     /// The outermost element (XML 1.0 section 2.1).
@@ -153,7 +150,7 @@ impl<'input> Document<'input> {
         ensures none { IfNone result (size self.now.tree ≤ number id) }
     {
         if (id.0 as usize) < self.count() {
-            Some(Node { document: self, id })
+            Some(Node::of(self, id))
         } else {
             None
         }
@@ -175,6 +172,22 @@ impl<'a, 'input> Node<'a, 'input> {
     ghost use Rattle.roxmltree.specs.NodeRef.{id_of, tree_of, item_of};
     ghost use Rattle.roxmltree.specs.Stripped.{stripped, stripped_row, content_in};
 
+    /// The node of this id.
+    #[inline(always)]
+    pub(crate) fn of(document: &'a Document<'input>, id: NodeId) -> Node<'a, 'input>
+        requires { id.0 < size document.now.tree }
+        ensures id { result.id ≡ id }
+        ensures document { result.document ≡ document.entry }
+    {
+        let tables = &document.tables;
+        Node {
+            document,
+            tables,
+            row: &tables.nodes.rows[id.0 as usize],
+            id,
+        }
+    }
+
     /// The row of a node, for its links.
     #[inline(always)]
     pub(crate) fn row(&self) -> &'a StoredNode<'input>
@@ -187,7 +200,8 @@ impl<'a, 'input> Node<'a, 'input> {
         ensures few { size (tree_of self.now) < 2 ^ 32 }
     {
         let document = self.document;
-        document.tables.nodes.links(self.id.0 as usize)
+        document.whole();
+        self.row
     }
 
     /// What a node is.
@@ -197,8 +211,8 @@ impl<'a, 'input> Node<'a, 'input> {
             (end_of node) (kind_of result) ≡ stripped node }
         ensures content { content_in (kind_of result) ≡ content_of (item_of self.now) }
     {
-        let document = self.document;
-        document.tables.nodes.kind(self.id.0 as usize)
+        let tables = self.tables;
+        tables.nodes.kind(self.row)
     }
 
     /// A node: where it stands, and what it is.
@@ -207,8 +221,8 @@ impl<'a, 'input> Node<'a, 'input> {
         ensures { stripped_row result.start result.end (kind_of result.kind)
             ≡ stripped (item_of self.now) }
     {
-        let document = self.document;
-        document.tables.nodes.row(self.id.0 as usize)
+        let tables = self.tables;
+        tables.nodes.row(self.id.0 as usize)
     }
 
     /// The namespace of an element's name.
@@ -216,10 +230,10 @@ impl<'a, 'input> Node<'a, 'input> {
     pub(crate) fn name_namespace(&self) -> Option<&'a str>
         ensures { option_map (λ u. u.now) result ≡ namespace_of (item_of self.now) }
     {
-        let document = self.document;
-        match document.tables.nodes.kind(self.id.0 as usize) {
+        let tables = self.tables;
+        match tables.nodes.kind(self.row) {
             KindRef::Element(element) => match element.namespace {
-                Some(place) => Some(document.tables.namespaces[place as usize].uri()),
+                Some(place) => Some(tables.namespaces[place as usize].uri()),
                 None => None,
             },
             _ => None,
@@ -232,12 +246,12 @@ impl<'a, 'input> Node<'a, 'input> {
     pub(crate) fn own_attributes(&self) -> Attributes<'a, 'input>
         ensures { result ≡ attributes_of (item_of self.now) }
     {
-        let document = self.document;
-        let tables = &document.tables;
+        let tables = self.tables;
+        // One comparison answers for what is no element: most nodes of many texts. So it is in the two functions below.
         if !self.is_element() {
             return Attributes::part(tables, 0, 0);
         }
-        match tables.nodes.kind(self.id.0 as usize) {
+        match tables.nodes.kind(self.row) {
             KindRef::Element(element) => {
                 let from = element.attributes_from as usize;
                 let until = element.attributes_until as usize;
@@ -254,20 +268,20 @@ impl<'a, 'input> Node<'a, 'input> {
             ≡ uri_of (listed_of (item_of self.now)) (option_map
             (λ s. s.now) prefix.entry) }
     {
-        let document = self.document;
+        let tables = self.tables;
         if !self.is_element() {
             return None;
         }
-        let node_kind = document.tables.nodes.kind(self.id.0 as usize);
-        let namespaces = document.tables.namespaces.as_slice();
+        let node_kind = tables.nodes.kind(self.row);
+        let namespaces = tables.namespaces.as_slice();
         if namespaces.is_empty() {
             return None;
         }
         let KindRef::Element(element) = node_kind else {
             return None;
         };
-        let scopes = document.tables.scopes.as_slice();
-        let listed = document.tables.listed.as_slice();
+        let scopes = tables.scopes.as_slice();
+        let listed = tables.listed.as_slice();
         first_in_scope(scopes, listed, namespaces, element.scope, prefix)
     }
 
@@ -277,20 +291,20 @@ impl<'a, 'input> Node<'a, 'input> {
         ensures { option_map (λ s. s.now) result
             ≡ first_prefix uri.now (listed_of (item_of self.now)) }
     {
-        let document = self.document;
+        let tables = self.tables;
         if !self.is_element() {
             return None;
         }
-        let node_kind = document.tables.nodes.kind(self.id.0 as usize);
-        let namespaces = document.tables.namespaces.as_slice();
+        let node_kind = tables.nodes.kind(self.row);
+        let namespaces = tables.namespaces.as_slice();
         if namespaces.is_empty() {
             return None;
         }
         let KindRef::Element(element) = node_kind else {
             return None;
         };
-        let scopes = document.tables.scopes.as_slice();
-        let listed = document.tables.listed.as_slice();
+        let scopes = tables.scopes.as_slice();
+        let listed = tables.listed.as_slice();
         prefix_in_scope(scopes, listed, namespaces, element.scope, uri)
     }
 }

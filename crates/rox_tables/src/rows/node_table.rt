@@ -170,46 +170,13 @@ impl<'input> NodeTable<'input> {
         }
     }
 
-    /// The row of a node: its links, for those that ask for no more.
+    /// What a node is, of whose row the table has the processing instructions.
     #[inline(always)]
-    pub fn links(&self, index: usize) -> &StoredNode<'input>
-        requires { index < vec_len self.now.rows }
-        ensures { (let row = stored.whole_row self.now.instructions.items
-            (stored.high_at self.now.high.items index) result.now in row
-            ≡ get_or (node_rows self.now) index row) }
+    pub fn kind<'a>(&'a self, row: &'a StoredNode<'input>) -> KindRef<'a, 'input>
+        ensures { stored.kind_of result
+            ≡ stored.whole_kind self.now.instructions.items row.now.kind }
     {
-        &self.rows[index]
-    }
-
-    /// What a node is.
-    #[inline(always)]
-    pub fn kind(&self, index: usize) -> KindRef<'_, 'input>
-        requires { index < vec_len self.now.rows }
-        ensures { (row : NodeData) × (row ≡ get_or (node_rows self.now) index row)
-            × (stored.kind_of result ≡ row.kind) }
-    {
-        let row = &self.rows[index];
         kind_ref(&row.kind, &self.instructions)
-    }
-
-    /// Whether a node is an element.
-    #[inline(always)]
-    pub fn is_element(&self, index: usize) -> bool
-        requires { index < vec_len self.now.rows }
-        ensures { (row : NodeData) × (row ≡ get_or (node_rows self.now) index row)
-            × (result ≡ stored.is_element row.kind) }
-    {
-        self.rows[index].is_element()
-    }
-
-    /// Whether a node is a text node.
-    #[inline(always)]
-    pub fn is_text(&self, index: usize) -> bool
-        requires { index < vec_len self.now.rows }
-        ensures { (row : NodeData) × (row ≡ get_or (node_rows self.now) index row)
-            × (result ≡ stored.is_text row.kind) }
-    {
-        self.rows[index].is_text()
     }
 
     /// Where the text ends: there the root node does, whose row is the first.

@@ -39,7 +39,7 @@ pub struct StoredNode<'input> {
 impl<'input> StoredNode<'input> {
     /// Whether it is an element. It looks at the kind alone, so that what goes over many nodes takes one test for each.
     #[inline(always)]
-    pub(crate) fn is_element(&self) -> bool
+    pub fn is_element(&self) -> bool
         ensures { (pis : List PI)
             → result ≡ stored.is_element (stored.whole_kind pis self.now.kind) }
     {
@@ -51,7 +51,7 @@ impl<'input> StoredNode<'input> {
 
     /// Whether it is a text node.
     #[inline(always)]
-    pub(crate) fn is_text(&self) -> bool
+    pub fn is_text(&self) -> bool
         ensures { (pis : List PI)
             → result ≡ stored.is_text (stored.whole_kind pis self.now.kind) }
     {

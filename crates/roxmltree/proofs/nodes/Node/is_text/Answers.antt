@@ -1,21 +1,8 @@
-use Rattle.std.proofs.Common.{◌≡◌, ◌<◌, ap, arith}
-use Rattle.rox_grammar.specs.Forest.{size}
-use Rattle.roxmltree.specs.DocumentTables.{tree_in}
-use Rattle.roxmltree.proofs.Rows.{row_count}
 use Rattle.roxmltree.proofs.Bare.{row_text}
-use Rattle.rox_tables.proofs.StoredNodes.{count_nodes}
+use Rattle.roxmltree.proofs.NodeRows.{row_data, row_here}
 use Rattle.roxmltree.proofs.nodes.Node.is_text.Goals as goal
-
-pub is_text-requires : goal.is_text-requires
-is_text-requires c =
-    let v : tree_in c.document.inside.tables ≡ c.args.self.now.document.now.tree = ap (λ d. d.tree) c.document.view_is in
-    let l : c.args.self.now.id.0 < size (tree_in c.document.inside.tables) = rw v c.args.self.now.in_tree in
-    omega (arith, l, count_nodes c.document.inside.tables.nodes, row_count c.document.inside.tables (tree_in c.document.inside.tables) c.document.invariant.holds)
 
 pub returns : goal.returns
 returns c =
-    let t = c.document.inside.tables in
-    let x = c.is_text.ensures.0 in
-    let v : tree_in t ≡ c.args.self.now.document.now.tree = ap (λ d. d.tree) c.document.view_is in
-    let l : c.args.self.now.id.0 < size (tree_in t) = rw v c.args.self.now.in_tree in
-    rw (← v, c.is_text.ensures.2) (row_text t (tree_in t) _ x c.document.invariant.holds l c.is_text.ensures.1)
+    let n = c.args.self.now in
+    rw (c.is_text.ensures n.tables.now.nodes.instructions.items) (row_text n.tables.now n.document.now.tree _ (row_data n) n.placed.holds n.in_tree (row_here n))

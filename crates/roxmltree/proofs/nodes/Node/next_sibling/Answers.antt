@@ -1,15 +1,16 @@
-use Rattle.std.proofs.Common.{Some, refl, ap, ◌∙◌, arith}
+use Rattle.std.proofs.Common.{Some, sym, ap, ◌∙◌, arith}
+use Rattle.roxmltree.specs.declared.nodes.NodeId.{NodeId}
 use Rattle.roxmltree.proofs.Preorder.{next_child, no_next_child, no_next_row}
 use Rattle.roxmltree.proofs.nodes.Node.next_sibling.Goals as goal
 
 pub returns-then-row : goal.returns-then-row
 returns-then-row c =
     let node = c.args.self.now in
-    let r = c.row-row in (
-      next_child node.document.now.tree node.id.0 r.result.now.subtree_end r.result.now.parent node.in_tree r.ensures.subtree_end (omega arith) r.ensures.whole r.ensures.parent
-          (λ low. c.row.ensures.parent low ∙ ap Some c.if-row.true),
-      refl,
-    )
+    let r = c.row-row in
+    let above = rw (c.of-next.ensures.id, c.of-next.ensures.document) at c.row.ensures.parent in
+    let there = next_child node.document.now.tree node.id.0 r.result.now.subtree_end r.result.now.parent node.in_tree r.ensures.subtree_end (omega arith) r.ensures.whole r.ensures.parent
+    (λ low. above low ∙ ap Some c.if-row.true) in
+    (there ∙ ap (λ (id : NodeId). Some id.0) (sym c.of-next.ensures.id), c.of-next.ensures.document)
 
 pub returns-then-id-count : goal.returns-then-id-count
 returns-then-id-count c =
@@ -21,4 +22,5 @@ pub returns-else-row : goal.returns-else-row
 returns-else-row c =
     let node = c.args.self.now in
     let r = c.row-row in
-    no_next_child node.document.now.tree node.id.0 r.result.now.subtree_end r.result.now.parent c.row.result.now.parent node.in_tree r.ensures.subtree_end (omega arith) r.ensures.whole r.ensures.parent c.row.ensures.parent c.if-row.false
+    let above = rw (c.of-next.ensures.id, c.of-next.ensures.document) at c.row.ensures.parent in
+    no_next_child node.document.now.tree node.id.0 r.result.now.subtree_end r.result.now.parent c.row.result.now.parent node.in_tree r.ensures.subtree_end (omega arith) r.ensures.whole r.ensures.parent above c.if-row.false
