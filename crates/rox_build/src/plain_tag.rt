@@ -344,17 +344,15 @@ fn put_spaced_attribute<'input>(
     if is_namespace_decl(one.name) {
         return 0;
     }
-    let Some(places) = few_places(&elements.scopes, &elements.listed, scope) else {
+    let Some(namespace) = namespace_in(elements, scope, one.name) else {
         return 0;
     };
-    let namespaces = elements.namespaces.as_slice();
     let end = one.end;
     if put_changed(
-        namespaces,
-        Some(places),
-        &elements.present,
+        &elements.namespaces,
         &mut elements.attributes,
         seen,
+        namespace,
         one,
     ) {
         end

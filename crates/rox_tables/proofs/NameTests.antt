@@ -106,15 +106,15 @@ any_column P [] = refl
 any_column P (r ∷ rs) = rw (any_column P rs) refl
 
 -- its row is behind those of its tag, none of which has its expanded name
-pub adds_usual : (namespaces : List NamespaceDecl) (few : Option (List ℕ)) (present : PrefixBindings) (from : ℕ) (old new : List AttributeRow) (one : UnresolvedAttribute) (usual : UsualAttribute) (s : AttributeNamespace)
-    → row_of_unresolved one s ≡ row_of_usual usual s → new ≡ old ++ row_of_usual usual s ∷ [] → NamespaceWithin (length namespaces) s
+pub adds_row : (namespaces : List NamespaceDecl) (few : Option (List ℕ)) (present : PrefixBindings) (from : ℕ) (old new : List AttributeRow) (one : UnresolvedAttribute) (s : AttributeNamespace)
+    → new ≡ old ++ row_of_unresolved one s ∷ [] → NamespaceWithin (length namespaces) s
     → ((scope : List NamespaceDecl) → FindsBinding namespaces few present scope → attribute_uri namespaces s ≡ attribute_namespace scope (name_view one.name))
     → ((scope : List NamespaceDecl) → FindsBinding namespaces few present scope → is_known scope (name_view one.name) ≡ true)
     → list_any (λ (r : AttributeRow). has_expanded namespaces s one.name.local.now r.0) (drop from old) ≡ false
     → AddsResolved namespaces few present from old new one
-adds_usual namespaces few present from old new one usual s row grown within there known first = record {
+adds_row namespaces few present from old new one s grown within there known first = record {
   namespace = s;
-  rows = grown ∙ ap (λ (r : AttributeRow). old ++ r ∷ []) (sym row);
+  rows = grown;
   within = within;
   there = there;
   tested = λ scope before rest h shown.
@@ -122,3 +122,13 @@ adds_usual namespaces few present from old new one usual s row grown within ther
       let none = sym (repeated_is namespaces scope s (name_view one.name) (drop from old) before (there scope h) shown) ∙ sym (any_column P (drop from old)) ∙ first in
       tested_on scope before (unresolved_view one) rest (known scope h) none;
 }
+
+-- the same of one that is usual
+pub adds_usual : (namespaces : List NamespaceDecl) (few : Option (List ℕ)) (present : PrefixBindings) (from : ℕ) (old new : List AttributeRow) (one : UnresolvedAttribute) (usual : UsualAttribute) (s : AttributeNamespace)
+    → row_of_unresolved one s ≡ row_of_usual usual s → new ≡ old ++ row_of_usual usual s ∷ [] → NamespaceWithin (length namespaces) s
+    → ((scope : List NamespaceDecl) → FindsBinding namespaces few present scope → attribute_uri namespaces s ≡ attribute_namespace scope (name_view one.name))
+    → ((scope : List NamespaceDecl) → FindsBinding namespaces few present scope → is_known scope (name_view one.name) ≡ true)
+    → list_any (λ (r : AttributeRow). has_expanded namespaces s one.name.local.now r.0) (drop from old) ≡ false
+    → AddsResolved namespaces few present from old new one
+adds_usual namespaces few present from old new one usual s row grown within there known first =
+    adds_row namespaces few present from old new one s (grown ∙ ap (λ (r : AttributeRow). old ++ r ∷ []) (sym row)) within there known first

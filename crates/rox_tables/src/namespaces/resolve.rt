@@ -413,34 +413,33 @@ pub fn put_usual_attribute<'input>(
 /// The same of an attribute whose value may be of any length: room is made for it.
 #[inline(always)]
 pub fn put_changed<'input>(
-    namespaces: &[Namespace<'input>],
-    few: Option<&[u16]>,
-    present: &PrefixBindings<'_>,
+    namespaces: &NamespaceTable<'input>,
     attributes: &mut AttributeTable<'input>,
     seen: &mut SeenNames,
+    namespace: AttributeNamespace,
     own: UnresolvedAttribute<'input>,
 ) -> bool
-    requires within { LooksWithin (length namespaces.now) (places_view few) present.now }
+    requires namespace { NamespaceWithin (length namespaces.now.items.items) namespace }
     requires from { seen.old.from ≤ length (attribute_rows attributes.old) }
-    requires done { AllByRecursion (λ a. NamespaceWithin (length namespaces.now) a.0.namespace)
+    requires done { AllByRecursion
+        (λ a. NamespaceWithin (length namespaces.now.items.items) a.0.namespace)
         (drop seen.old.from (attribute_rows attributes.old)) }
     requires seen { AreSeen seen.old (attribute_rows attributes.old) }
     ensures refused { result ≡ false
         → attribute_rows attributes.new ≡ attribute_rows attributes.old }
-    ensures added { result ≡ true
-        → AddsResolved (map namespace_view namespaces.now) (places_view few.entry) present.now
-        seen.old.from (attribute_rows attributes.old) (attribute_rows attributes.new) own.entry }
+    ensures added { result ≡ true → (attribute_rows attributes.new
+        ≡ attribute_rows attributes.old ++ row_of_unresolved own.entry namespace ∷ [])
+        × (list_any (λ r. has_expanded (map namespace_view namespaces.now.items.items) namespace
+        own.entry.name.local.now r.0)
+        (drop seen.old.from (attribute_rows attributes.old)) ≡ false) }
     ensures from { seen.new.from ≡ seen.old.from }
     ensures seen { result ≡ true → AreSeen seen.new (attribute_rows attributes.new) }
 {
-    if seen.are_many_again() {
+    let local = own.name.local;
+    let repeats = seen.may_have(attributes, local);
+    if repeats && is_refused(namespaces, attributes, seen, namespace, local) {
         return false;
     }
-    seen.put_few(attributes);
-    let earlier = &attributes.items[seen.from..];
-    let Ok(namespace) = tested_namespace(namespaces, few, present, earlier, seen, &own) else {
-        return false;
-    };
     let places = AttributePlaces {
         start: own.start,
         name_end: own.name_end,
@@ -448,7 +447,7 @@ pub fn put_changed<'input>(
         end: own.end,
     };
     let item = AttributeData {
-        local: own.name.local,
+        local,
         value: own.value,
         namespace,
     };

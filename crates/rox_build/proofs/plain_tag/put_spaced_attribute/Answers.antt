@@ -1,20 +1,25 @@
-use Rattle.std.proofs.Common.{refl, sym, ◌∙◌, arith}
-use Rattle.rox_build.proofs.PlainTags.{few_within, few_is}
+use Rattle.std.proofs.Common.{length, map, refl, sym, subst, ◌∙◌, arith}
+use Rattle.std.proofs.lemmas.List.{length-map}
+use Rattle.rox_tables.specs.Rows.{namespace_view, attribute_rows, NamespaceWithin}
+use Rattle.rox_tables.proofs.NameTests.{adds_row}
+use Rattle.rox_build.specs.PlainTag.{few_in}
 use Rattle.rox_build.proofs.plain_tag.put_spaced_attribute.Goals as goal
-
-pub put_changed-requires-clause-within : goal.put_changed-requires-clause-within
-put_changed-requires-clause-within c =
-    few_within c.args.elements.now c.as_slice-namespaces.result.now c.deref.result.now c.deref-2.result.now c.in-Some-few_places.places.now c.args.scope c.as_slice-namespaces.ensures.value c.deref.ensures.value c.deref-2.ensures.value c.requires.holds.scope.places c.in-Some-few_places.ensures.few
 
 pub returns-then-put_changed : goal.returns-then-put_changed
 returns-then-put_changed c =
-    let few = few_is c.args.elements.now c.deref.result.now c.deref-2.result.now c.in-Some-few_places.places.now c.args.scope c.deref.ensures.value c.deref-2.ensures.value c.in-Some-few_places.ensures.few in
+    let t = c.args.elements.now in
+    let namespaces = map namespace_view t.namespaces.items.items in
+    let found = c.in-Some-namespace_in.ensures in
+    let space = c.in-Some-namespace_in.namespace in
+    let put = c.put_changed.ensures.added c.if-put_changed.true in
     record {
       added = λ some. record {
         one = c.in-Some.one;
         plain = c.in-Some.ensures;
         other = sym c.is_namespace_decl.ensures ∙ c.if-is_namespace_decl.false;
-        added = rw (c.as_slice-namespaces.ensures.value, few) at (c.put_changed.ensures.added c.if-put_changed.true);
+        added = adds_row namespaces (few_in t c.args.scope) t.present c.args.seen.now.from (attribute_rows t.attributes) _ c.in-Some.one space put.0
+            (subst (λ m. NamespaceWithin m space) (sym (length-map t.namespaces.items.items namespace_view)) found.within)
+            (λ scope h. found.there scope h) (λ scope h. found.known scope h) put.1;
         end = refl;
       };
       others = search;
