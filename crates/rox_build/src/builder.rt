@@ -51,8 +51,9 @@ pub struct OpenElement<'input> {
 /// The tables of what is read so far. The root node has row 0.
 #[derive(Drop)]
 pub struct Builder<'input> {
-    pub nodes: NodeTable<'input>,
+    /// They stand first, as what a start tag has goes there: no place is added to their builder's.
     pub tables: ElementTables<'input>,
+    pub nodes: NodeTable<'input>,
     /// Outermost first.
     pub opened: Vec<OpenElement<'input>>,
     pub pending: Pending,
