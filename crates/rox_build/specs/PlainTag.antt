@@ -1,4 +1,4 @@
--- Start tags that are read at one look: without declarations, and with attributes whose values have no reference.
+-- Start tags that are read at one look: without declarations, and with attributes whose values refer to no declared entity.
 use Rattle.std.specs.Prelude.{◌≡◌, ℕ, ◌+◌, ◌<◌, ◌≤◌, ◌==◌, ◌||◌, Bool, true, false, List, [], ◌++◌, Option, Some, Ok, drop, length, map, slice_index, slice_range}
 use Rattle.std.specs.List.{AllByRecursion}
 use Rattle.std.specs.Str.{IsCharBoundary}
@@ -9,6 +9,7 @@ use Rattle.rox_grammar.specs.Tree.{attribute_in}
 use Rattle.rox_grammar.specs.Entities.{Entity}
 use Rattle.rox_grammar.specs.Failures.{name_view}
 use Rattle.rox_grammar.specs.Content.{is_verbatim_value}
+use Rattle.rox_reading.specs.Lexical.{qname_at}
 use Rattle.rox_reading.specs.Markup.{RawAttribute, more, attribute_at, raw_value_at, tag_item_at}
 use Rattle.rox_reading.specs.Values.{ValueInclusion, value_at}
 use Rattle.rox_reading.specs.Tags.{TagSoFar, Values, attribute_with, attributes_at, names_tested, tag_at}
@@ -23,6 +24,7 @@ use Rattle.rox_tables.specs.declared.namespaces.seen_names.SeenNames.{SeenNames}
 use Rattle.rox_tables.specs.Storage.{storage_bytes, is_borrowed}
 use Rattle.rox_tables.specs.declared.rows.tables.ElementTables.{ElementTables}
 use Rattle.rox_build.specs.ElementRow.{Tagged}
+use Rattle.rox_build.specs.declared.plain_tag.PlainName.{PlainName}
 use Rattle.rox_build.specs.declared.tag.StartTag.{StartTag}
 use Rattle.rox_tables.specs.declared.namespaces.unresolved_attribute.UnresolvedAttribute.{UnresolvedAttribute}
 
@@ -57,6 +59,14 @@ pub record HasPlainValue (src : List ℕ) (i quote j : ℕ) (value : List ℕ) :
   pub onward : i ≤ j
   pub cut : IsCharBoundary src j
   pub is : value ≡ slice_range src i j
+
+-- an attribute's name is read at this place, and `=` and a quote stand right behind it
+pub record IsNamed (src : List ℕ) (i : ℕ) (n : PlainName) : Type 0 where
+  pub value : qname_at src i ≡ Ok (name_view n.name, n.end)
+  pub local : i + length n.name.local.now ≤ n.end
+  pub equals : slice_index src n.end ≡ 61
+  pub quote : (slice_index src (n.end + 1) == 39 || slice_index src (n.end + 1) == 34) ≡ true
+  pub inside : n.end + 1 < length src
 
 -- an attribute that is read at this place, whose value is the same whatever reads it
 pub record IsPlainAttribute (src : List ℕ) (i : ℕ) (a : UnresolvedAttribute) : Type 0 where

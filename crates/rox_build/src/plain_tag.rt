@@ -27,7 +27,7 @@ ghost use Rattle.rox_tables.specs.SeenNames.{AreSeen};
 ghost use Rattle.rox_tables.specs.TagScopes.{HasBindings};
 ghost use Rattle.rox_build.specs.ElementRow.{scope_in_tables};
 ghost use Rattle.rox_build.specs.BuilderState.{IsNamespaceOf, IsOpenWithin};
-ghost use Rattle.rox_build.specs.PlainTag.{HasPlainValue, HasScope, few_in, IsValueStart, IsPlainAttribute, IsNearAttribute, HoldsTag, PutsPlain, ArePlainAttributes, IsPlainTag, HoldSame};
+ghost use Rattle.rox_build.specs.PlainTag.{HasPlainValue, HasScope, few_in, IsValueStart, IsPlainAttribute, IsNearAttribute, IsNamed, HoldsTag, PutsPlain, ArePlainAttributes, IsPlainTag, HoldSame};
 
 use crate::builder::OpenElement;
 use crate::spaced_value::{spaced_value, spaced_value_end};
@@ -41,9 +41,9 @@ use rox_tables::compare::same_text;
 use rox_tables::namespaces::bindings::PrefixBindings;
 use rox_tables::namespaces::namespace_decl::is_namespace_decl;
 use rox_tables::namespaces::resolve::{
-    attribute_namespace, element_namespace, put_changed, put_resolved, put_usual_attribute,
+    element_namespace, put_changed, put_resolved, put_usual_attribute,
 };
-use rox_tables::namespaces::scope::few_places;
+use rox_tables::namespaces::scope::{few_places, find_prefix};
 use rox_tables::namespaces::seen_names::SeenNames;
 use rox_tables::namespaces::unresolved_attribute::{UnresolvedAttribute, UsualAttribute};
 use rox_tables::rows::attributes::AttributeTable;
@@ -312,13 +312,15 @@ fn namespace_in(
     if name.prefix.is_empty() {
         return Some(AttributeNamespace::None);
     }
+    if same_text(name.prefix, "xml") {
+        return Some(AttributeNamespace::Xml);
+    }
     let places = few_places(&elements.scopes, &elements.listed, scope)?;
-    attribute_namespace(
-        elements.namespaces.as_slice(),
-        Some(places),
-        &elements.present,
-        name,
-    )
+    let namespaces = elements.namespaces.as_slice();
+    match find_prefix(namespaces, Some(places), &elements.present, name.prefix) {
+        Some(place) => Some(AttributeNamespace::Listed(place)),
+        None => None,
+    }
 }
 
 /// Puts the attribute that begins at `start`, if it is such a one and no declaration, behind those of its tag, which were `seen`.
@@ -546,13 +548,7 @@ fn put_named_attribute<'input>(
 ) -> Option<usize>
     requires cut { IsCharBoundary text.now read.start }
     requires short { length text.now < 2 ^ 32 }
-    requires name { qname_at text.now read.start
-        ≡ Ok (name_view read.name.name, read.name.end) }
-    requires local { read.start + length read.name.name.local.now ≤ read.name.end }
-    requires equals { slice_index text.now read.name.end ≡ 61 }
-    requires quote { (slice_index text.now (read.name.end + 1) == 39
-        || slice_index text.now (read.name.end + 1) == 34) ≡ true }
-    requires inside { read.name.end + 1 < length text.now }
+    requires named { IsNamed text.now read.start read.name }
     requires value { HasPlainValue text.now (read.name.end + 2)
         (slice_index text.now (read.name.end + 1)) read.value.end read.value.text.now }
     requires holds { HoldsTag elements.old scope seen.old }
@@ -606,6 +602,30 @@ fn some_place(place: usize) -> Option<usize>
     Some(place)
 }
 
+/// The name from `start`, whose first part ends before the colon at `part`, if its second is of ASCII bytes, and `=` and a quote stand
+/// right behind it. The second begins with no digit or sign, as its first byte shows.
+#[inline(always)]
+#[tactic(auto, unfolding(rox_reading::specs::Lexical::qname_at))]
+fn prefixed_name<'input>(text: &'input str, start: usize, part: usize) -> Option<PlainName<'input>>
+    requires start { IsCharBoundary text.now start }
+    requires onward { start ≤ part }
+    requires first { part ≡ run_end is_part_char text.now start }
+    requires begins { begins is_name_start text.now start ≡ true }
+    requires here { slice_index text.now part ≡ 58 }
+    ensures { IfSome result (λ n. IsNamed text.entry.now start n) }
+{
+    let local = after_byte(text, part, b':');
+    let end = skip_set::<PartByte>(text, local);
+    if quote_behind_equals(text, end) == 0 || local == end || text.as_bytes()[local] < b'A' {
+        return None;
+    }
+    let name = QName {
+        prefix: &text[start..part],
+        local: &text[local..end],
+    };
+    Some(PlainName { name, end })
+}
+
 /// The same of an attribute behind whose first bytes, up to `part`, no `=` and quote stand: most often they are its prefix.
 #[inline(never)]
 fn put_prefixed_attribute<'input>(
@@ -626,13 +646,10 @@ fn put_prefixed_attribute<'input>(
     if !is_at(text, part, b':') || !begins::<NameStart>(text, start) {
         return put_other_attribute(text, start, elements, scope, seen);
     }
-    let Some(name) = second_part(text, start, part) else {
-        return 0;
-    };
-    let quote = quote_behind_equals(text, name.end);
-    if quote == 0 {
+    let Some(name) = prefixed_name(text, start, part) else {
         return put_other_attribute(text, start, elements, scope, seen);
-    }
+    };
+    let quote = quote_before(text, name.end + 2);
     let near = skip_set::<ValueByte>(text, name.end + 2);
     let Some(value) = plain_value(text, name.end + 2, quote, near) else {
         return put_spaced_attribute(text, start, elements, scope, seen);
