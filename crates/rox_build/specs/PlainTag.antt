@@ -61,7 +61,7 @@ pub record HasPlainValue (src : List ℕ) (i quote j : ℕ) (value : List ℕ) :
   pub is : value ≡ slice_range src i j
 
 -- an attribute's name is read at this place, and `=` and a quote stand right behind it
-pub record IsNamed (src : List ℕ) (i : ℕ) (n : PlainName) : Type 0 where
+pub record IsAttributeName (src : List ℕ) (i : ℕ) (n : PlainName) : Type 0 where
   pub value : qname_at src i ≡ Ok (name_view n.name, n.end)
   pub local : i + length n.name.local.now ≤ n.end
   pub equals : slice_index src n.end ≡ 61

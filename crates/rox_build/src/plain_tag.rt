@@ -27,7 +27,7 @@ ghost use Rattle.rox_tables.specs.SeenNames.{AreSeen};
 ghost use Rattle.rox_tables.specs.TagScopes.{HasBindings};
 ghost use Rattle.rox_build.specs.ElementRow.{scope_in_tables};
 ghost use Rattle.rox_build.specs.BuilderState.{IsNamespaceOf, IsOpenWithin};
-ghost use Rattle.rox_build.specs.PlainTag.{HasPlainValue, HasScope, few_in, IsValueStart, IsPlainAttribute, IsNearAttribute, IsNamed, HoldsTag, PutsPlain, ArePlainAttributes, IsPlainTag, HoldSame};
+ghost use Rattle.rox_build.specs.PlainTag.{HasPlainValue, HasScope, few_in, IsValueStart, IsPlainAttribute, IsNearAttribute, IsAttributeName, HoldsTag, PutsPlain, ArePlainAttributes, IsPlainTag, HoldSame};
 
 use crate::builder::OpenElement;
 use crate::spaced_value::{spaced_value, spaced_value_end};
@@ -548,7 +548,7 @@ fn put_named_attribute<'input>(
 ) -> Option<usize>
     requires cut { IsCharBoundary text.now read.start }
     requires short { length text.now < 2 ^ 32 }
-    requires named { IsNamed text.now read.start read.name }
+    requires named { IsAttributeName text.now read.start read.name }
     requires value { HasPlainValue text.now (read.name.end + 2)
         (slice_index text.now (read.name.end + 1)) read.value.end read.value.text.now }
     requires holds { HoldsTag elements.old scope seen.old }
@@ -612,7 +612,7 @@ fn prefixed_name<'input>(text: &'input str, start: usize, part: usize) -> Option
     requires first { part ≡ run_end is_part_char text.now start }
     requires begins { begins is_name_start text.now start ≡ true }
     requires here { slice_index text.now part ≡ 58 }
-    ensures { IfSome result (λ n. IsNamed text.entry.now start n) }
+    ensures { IfSome result (λ n. IsAttributeName text.entry.now start n) }
 {
     let local = after_byte(text, part, b':');
     let end = skip_set::<PartByte>(text, local);
