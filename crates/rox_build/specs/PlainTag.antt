@@ -1,5 +1,5 @@
 -- Start tags that are read at one look: without declarations, and with attributes whose values refer to no declared entity.
-use Rattle.std.specs.Prelude.{◌≡◌, ℕ, ◌+◌, ◌<◌, ◌≤◌, ◌==◌, ◌||◌, Bool, true, false, List, [], ◌++◌, Option, Some, Ok, drop, length, map, slice_index, slice_range}
+use Rattle.std.specs.Prelude.{◌≡◌, ℕ, ◌+◌, ◌<◌, ◌≤◌, ◌^◌, ◌==◌, ◌||◌, Bool, true, false, List, [], ◌++◌, Option, Some, Ok, drop, length, map, slice_index, slice_range}
 use Rattle.std.specs.List.{AllByRecursion}
 use Rattle.std.specs.Str.{IsCharBoundary}
 use Rattle.rox_grammar.specs.declared.fault.Fault.{Fault}
@@ -105,6 +105,12 @@ pub record HoldsTag (t : ElementTables) (n : ℕ) (s : SeenNames) : Type 0 where
   pub from : s.from ≤ length (attribute_rows t.attributes)
   pub done : AllByRecursion (λ a. NamespaceWithin (length t.namespaces.items.items) a.0.namespace) (drop s.from (attribute_rows t.attributes))
   pub seen : AreSeen s (attribute_rows t.attributes)
+
+-- an attribute that begins at i may be put behind those that were seen
+pub record MayPut (src : List ℕ) (i : ℕ) (t : ElementTables) (n : ℕ) (s : SeenNames) : Type 0 where
+  pub cut : IsCharBoundary src i
+  pub short : length src < 2 ^ 32
+  pub holds : HoldsTag t n s
 
 -- the attribute from i to j was put behind those that were seen, or, where j is 0, none
 pub record PutsPlain (old new : ElementTables) (n : ℕ) (s after : SeenNames) (src : List ℕ) (i j : ℕ) : Type 0 where

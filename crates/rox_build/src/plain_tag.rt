@@ -27,7 +27,7 @@ ghost use Rattle.rox_tables.specs.SeenNames.{AreSeen};
 ghost use Rattle.rox_tables.specs.TagScopes.{HasBindings};
 ghost use Rattle.rox_build.specs.ElementRow.{scope_in_tables};
 ghost use Rattle.rox_build.specs.BuilderState.{IsNamespaceOf, IsOpenWithin};
-ghost use Rattle.rox_build.specs.PlainTag.{HasPlainValue, HasScope, few_in, IsValueStart, IsPlainAttribute, IsNearAttribute, IsAttributeName, HoldsTag, PutsPlain, ArePlainAttributes, IsPlainTag, HoldSame};
+ghost use Rattle.rox_build.specs.PlainTag.{HasPlainValue, HasScope, few_in, IsValueStart, IsPlainAttribute, IsNearAttribute, IsAttributeName, HoldsTag, MayPut, PutsPlain, ArePlainAttributes, IsPlainTag, HoldSame};
 
 use crate::builder::OpenElement;
 use crate::spaced_value::{spaced_value, spaced_value_end};
@@ -373,9 +373,7 @@ fn put_other_attribute<'input>(
     scope: u32,
     seen: &mut SeenNames,
 ) -> usize
-    requires cut { IsCharBoundary text.now start }
-    requires short { length text.now < 2 ^ 32 }
-    requires holds { HoldsTag elements.old scope seen.old }
+    requires { MayPut text.now start elements.old scope seen.old }
     ensures { PutsPlain elements.old elements.new scope seen.old seen.new text.entry.now
         start result }
 {
@@ -546,12 +544,10 @@ fn put_named_attribute<'input>(
     scope: u32,
     seen: &mut SeenNames,
 ) -> Option<usize>
-    requires cut { IsCharBoundary text.now read.start }
-    requires short { length text.now < 2 ^ 32 }
+    requires put { MayPut text.now read.start elements.old scope seen.old }
     requires named { IsAttributeName text.now read.start read.name }
     requires value { HasPlainValue text.now (read.name.end + 2)
         (slice_index text.now (read.name.end + 1)) read.value.end read.value.text.now }
-    requires holds { HoldsTag elements.old scope seen.old }
     ensures put { IfSome result
         (λ j. PutsPlain elements.old elements.new scope seen.old seen.new text.entry.now
         read.entry.start j) }
@@ -636,10 +632,8 @@ fn put_prefixed_attribute<'input>(
     scope: u32,
     seen: &mut SeenNames,
 ) -> usize
-    requires cut { IsCharBoundary text.now start }
-    requires short { length text.now < 2 ^ 32 }
+    requires put { MayPut text.now start elements.old scope seen.old }
     requires part { EndsSet is_part_byte text.now start part }
-    requires holds { HoldsTag elements.old scope seen.old }
     ensures { PutsPlain elements.old elements.new scope seen.old seen.new text.entry.now
         start result }
 {
@@ -667,9 +661,7 @@ fn put_far_attribute<'input>(
     scope: u32,
     seen: &mut SeenNames,
 ) -> usize
-    requires cut { IsCharBoundary text.now start }
-    requires short { length text.now < 2 ^ 32 }
-    requires holds { HoldsTag elements.old scope seen.old }
+    requires { MayPut text.now start elements.old scope seen.old }
     ensures { PutsPlain elements.old elements.new scope seen.old seen.new text.entry.now
         start result }
 {
@@ -717,11 +709,9 @@ fn put_attribute<'input>(
     scope: u32,
     seen: &mut SeenNames,
 ) -> Option<usize>
-    requires cut { IsCharBoundary text.now start }
-    requires short { length text.now < 2 ^ 32 }
+    requires put { MayPut text.now start elements.old scope seen.old }
     requires within { start ≤ length text.now }
     requires begins { 62 < slice_index text.now start }
-    requires holds { HoldsTag elements.old scope seen.old }
     ensures put { IfSome result
         (λ j. PutsPlain elements.old elements.new scope seen.old seen.new text.entry.now
         start j) }

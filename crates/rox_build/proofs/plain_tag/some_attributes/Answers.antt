@@ -27,16 +27,20 @@ returns-then-not-next-clause-read c =
     ends_or_not (map namespace_view t.namespaces.items.items) (few_in t c.args.scope) t.present c.args.text.now c.args.start (attribute_rows t.attributes) l.at near.result.at (attribute_rows l.elements.attributes) c.tag_end.result
     l.invariant.so_far near.ensures.onward near.ensures.end c.tag_end.ensures.opens c.tag_end.ensures.closes
 
-pub put_attribute-requires-clause-holds : goal.put_attribute-requires-clause-holds
-put_attribute-requires-clause-holds c =
+pub put_attribute-requires-clause-put : goal.put_attribute-requires-clause-put
+put_attribute-requires-clause-put c =
     let l = c.loop-at in
     let t = c.args.elements.now in
     record {
-      from = omega (arith, l.invariant.from, ap length l.invariant.so_far.rows, length-append (attribute_rows t.attributes) l.invariant.so_far.more);
-      seen = l.invariant.seen;
-      scope = scope_stays t l.elements c.args.scope l.invariant.others c.requires.scope;
-      done = rw l.invariant.others
-          (done_within t.namespaces.items.items (few_in t c.args.scope) t.present c.args.text.now c.args.start l.seen.from (attribute_rows t.attributes) l.at (attribute_rows l.elements.attributes) l.invariant.so_far l.invariant.from);
+      cut = c.next_item-next.ensures.cut;
+      short = c.requires.short;
+      holds = record {
+        from = omega (arith, l.invariant.from, ap length l.invariant.so_far.rows, length-append (attribute_rows t.attributes) l.invariant.so_far.more);
+        seen = l.invariant.seen;
+        scope = scope_stays t l.elements c.args.scope l.invariant.others c.requires.scope;
+        done = rw l.invariant.others
+            (done_within t.namespaces.items.items (few_in t c.args.scope) t.present c.args.text.now c.args.start l.seen.from (attribute_rows t.attributes) l.at (attribute_rows l.elements.attributes) l.invariant.so_far l.invariant.from);
+      };
     }
 
 not_false : (b : Bool) → not b ≡ false → b ≡ true
