@@ -123,16 +123,12 @@ pub(super) fn finds_uri(
 fn uris_of_prefixes(rt: HostRuntime) {
     let document = document_of(&rt, "<e xmlns='u' xmlns:n='u' xmlns:k='v'/>");
     let element = document.root_element();
-    for (prefix, uri) in &[
-        (None, Some("u")),
-        (Some("n"), Some("u")),
-        (Some("k"), Some("v")),
-        (Some("p"), None),
-        (Some(""), None),
-        (Some("xml"), None),
-    ] {
-        finds_uri(&rt, element, *prefix, *uri);
-    }
+    finds_uri(&rt, element, None, Some("u"));
+    finds_uri(&rt, element, Some("n"), Some("u"));
+    finds_uri(&rt, element, Some("k"), Some("v"));
+    finds_uri(&rt, element, Some("p"), None);
+    finds_uri(&rt, element, Some(""), None);
+    finds_uri(&rt, element, Some("xml"), None);
     finds_uri(&rt, document.root(), None, None);
     same(&rt, "element", element.default_namespace(), Some("u"));
     same(&rt, "root", document.root().default_namespace(), None);
