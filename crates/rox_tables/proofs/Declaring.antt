@@ -1,5 +1,5 @@
 -- A declaration of a start tag, step by step.
-use Rattle.std.proofs.Common.{◌≡◌, ℕ, subst, map, ◌+◌, ◌<◌, ◌≤◌, ◌||◌, not, Bool, true, false, List, [], ◌∷◌, ◌++◌, length, drop, refl, sym, ap, ◌∙◌, arith, Result, Ok, Err, length-append, append_assoc, le-ltb, lt-ltb}
+use Rattle.std.proofs.Common.{◌≡◌, ℕ, subst, map, ◌+◌, ◌<◌, ◌≤◌, ◌||◌, ◌&&◌, not, Option, Bool, true, false, List, [], ◌∷◌, ◌++◌, length, drop, refl, sym, ap, ◌∙◌, arith, Result, Ok, Err, length-append, append_assoc, le-ltb, lt-ltb}
 use Rattle.std.specs.List.{slice_range}
 use Rattle.std.proofs.lemmas.List.{append-nil, map-append, length-map, drop-append-le}
 use Rattle.std.proofs.lemmas.List.Elements.{filter-append}
@@ -25,7 +25,7 @@ use Rattle.rox_tables.specs.Bindings.{AreBindingsOf}
 use Rattle.rox_tables.specs.declared.namespaces.bindings.PrefixBindings.{PrefixBindings}
 use Rattle.rox_tables.proofs.Presenting.{keeps_grown}
 use Rattle.rox_tables.proofs.Remembering.{Key, remembers_same}
-use Rattle.rox_tables.proofs.Listing.{with_new-append, with_new-more, with_new-front, declares_nothing, listed-none, listed-others}
+use Rattle.rox_tables.proofs.Listing.{with_new-append, with_new-more, with_new-front, declares_nothing, listed-none, listed-others, is_declared-own}
 use Rattle.rox_tables.proofs.Hiding.{once_more}
 use Rattle.rox_reading.proofs.Stretches.{slice-rest}
 use Rattle.rox_tables.proofs.Stable.{all_append, all_drop, all_weaker, map_same, namespace_at-append}
@@ -146,6 +146,17 @@ pub own_listed : (known : List NamespaceDecl) (before : List ℕ) (namespaces se
 own_listed known before namespaces seen_names listed seen xml ds own o n s d =
     ap (λ ns. entries ns (slice_range seen own (length seen))) n
     ∙ ap (entries namespaces) (slice-rest seen own ∙ own_places before seen d.mine own o (s ∙ d.listed_are)) ∙ d.same
+
+-- whether it declares this prefix already
+pub own_declares : (namespaces : List NamespaceDecl) (own : List ℕ) (p : Option (List ℕ)) (xml : Bool) (ds : List NamespaceDecl) (found : Bool)
+    → found ≡ (is_declared p (entries namespaces own) || (xml && is_xml p)) → xml ≡ declares_xml ds → entries namespaces own ≡ listable_of ds → found ≡ is_declared p ds
+own_declares namespaces own p xml ds found is xml_is own_is =
+    is ∙ ap (λ xs. is_declared p xs || (xml && is_xml p)) own_is ∙ ap (λ b. is_declared p (listable_of ds) || (b && is_xml p)) xml_is ∙ sym (is_declared-own ds p)
+
+-- nothing that is listed is that prefix's
+pub none_own : (a b : Bool) → (a || b) ≡ false → a ≡ false
+none_own true b h = cc h
+none_own false b h = refl
 
 pub fails_by : {X Y : Type 0} (e : Failure) (r : Result X Failure) (read : Result Y Fault) → r ≡ Err e → ((f : Fault) → r ≡ Err (failure.Fault f) → read ≡ Err f) → Fails e read
 fails_by failure.Memory r read is go = tt

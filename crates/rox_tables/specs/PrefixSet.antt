@@ -1,5 +1,5 @@
 -- The prefixes that a tag declares, as a set, where it has many declarations.
-use Rattle.std.specs.Prelude.{◌≡◌, ℕ, ◌<◌, Bool, List, Option, length, map}
+use Rattle.std.specs.Prelude.{◌≡◌, ℕ, ◌<◌, ◌≤◌, Bool, List, Option, drop, length, map}
 use Rattle.std.specs.List.{list_any}
 use Rattle.std.specs.Borrow.{Bor}
 use Rattle.rox_grammar.specs.Written.{NamespaceDecl}
@@ -19,3 +19,9 @@ IsPrefixSet namespaces places keys = 16 < length places → (prefix : Option (Li
 pub record HasPrefixes (table : List Namespace) (own : List ℕ) (keys : List (Option (Bor (List ℕ)))) : Type 0 where
   pub places : ArePlaces (length table) own
   pub prefix_set : IsPrefixSet (map namespace_view table) own keys
+
+-- what a tag declares is listed from this place on, and the keys are its prefixes, if they are many
+pub record ListsOwn (table : List Namespace) (listed : List ℕ) (keys : List (Option (Bor (List ℕ)))) (from : ℕ) : Type 0 where
+  pub places : ArePlaces (length table) listed
+  pub within : from ≤ length listed
+  pub prefix_set : IsPrefixSet (map namespace_view table) (drop from listed) keys

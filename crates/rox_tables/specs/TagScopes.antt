@@ -3,8 +3,12 @@ use Rattle.std.specs.Prelude.{◌≡◌, ℕ, ◌<◌, ◌≤◌, Bool, false, L
 use Rattle.rox_grammar.specs.Written.{NamespaceDecl}
 use Rattle.rox_tables.specs.Rows.{namespace_view, lists_of, scope_at, AreScopes}
 use Rattle.rox_tables.specs.Bindings.{AreBindingsOf, IsBound, bound_place}
-use Rattle.rox_tables.specs.Scopes.{entries, ArePlaces, PrefixesOnce, others, is_few_at}
+use Rattle.rox_tables.specs.Scopes.{entries, places_in, ArePlaces, PrefixesOnce, others, is_few_at}
+use Rattle.rox_tables.specs.Ropes.{IsScopeOf}
+use Rattle.rox_tables.specs.declared.namespaces.bindings.PrefixBindings.{PrefixBindings}
 use Rattle.rox_tables.specs.declared.rows.tables.ElementTables.{ElementTables}
+use Rattle.rox_tables.specs.declared.rows.tables.Namespace.{Namespace}
+use Rattle.rox_tables.specs.declared.rows.tables.Scope.{Scope}
 
 -- what each scope lists
 abbrev pub lists_in : ElementTables → List (List NamespaceDecl)
@@ -27,6 +31,13 @@ pub record HasOpenTag (t : ElementTables) (above own : ℕ) : Type 0 where
   pub once : PrefixesOnce (scope_at (lists_in t) above)
   pub own_once : PrefixesOnce (entries (map namespace_view t.namespaces.items.items) (drop own t.listed.items))
   pub kept : HasBindings t
+
+-- A scope lists each prefix once, and the prefixes have their places; what a tag below it declares is listed from a place on.
+pub record IsAbove (table : List Namespace) (listed : List ℕ) (scopes : List Scope) (present : PrefixBindings) (above from : ℕ) : Type 0 where
+  pub scope : IsScopeOf (length table) listed scopes above
+  pub own : from ≤ length listed
+  pub once : PrefixesOnce (entries (map namespace_view table) (places_in listed scopes above))
+  pub bound : IsBound (map namespace_view table) (bound_place present) (entries (map namespace_view table) (places_in listed scopes above))
 
 -- The scope at this place is that of an element below one of the scope `above`, whose own declarations are those listed from `own`
 -- on, and `xml` if the flag says so.

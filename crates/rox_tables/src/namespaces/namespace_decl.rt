@@ -123,27 +123,6 @@ impl<'input> UnresolvedAttribute<'input> {
     }
 }
 
-/// Whether the tag, whose own declarations are these listed places and `xml` if the flag says so, declares this prefix, or
-/// the default, already. Where they are many the set has their prefixes.
-#[inline(always)]
-fn is_again<'a>(
-    namespaces: &[Namespace<'a>],
-    own: &[u16],
-    prefix_set: &BTreeSet<Option<&'a str>>,
-    xml: bool,
-    prefix: Option<&'a str>,
-) -> bool
-    requires { HasPrefixes namespaces.now own.now prefix_set.now.keys }
-    ensures value { (ds : List NamespaceDecl) → xml ≡ declares_xml ds
-        → entries (map namespace_view namespaces.now) own.now ≡ listable_of ds
-        → result ≡ is_declared (prefix_view prefix.entry) ds }
-    ensures absent { result ≡ false
-        → is_declared (prefix_view prefix.entry)
-        (entries (map namespace_view namespaces.now) own.now) ≡ false }
-{
-    is_own(namespaces, own, prefix_set, xml, prefix)
-}
-
 /// A declaration, which is listed unless it is that of `xml`; `own` is where the listed places of the tag begin, whose prefixes
 /// the set has where they are many. Answers whether the tag declares `xml` now.
 #[inline(always)]
@@ -173,7 +152,7 @@ pub fn declare_namespace<'input>(
 {
     taken.test_uri()?;
     let prefix = taken.declared_prefix();
-    if is_again(
+    if is_own(
         namespaces.as_slice(),
         &listed[own..],
         prefix_set,

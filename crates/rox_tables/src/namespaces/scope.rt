@@ -6,7 +6,7 @@ ghost use Rattle.std.specs.Option.{option_map};
 ghost use Rattle.rox_grammar.specs.Tree.{same_prefix, is_declared, uri_of, is_xml};
 ghost use Rattle.rox_tables.specs.Rows.{namespace_view, namespace_at, OptionWithin, AreScopes};
 ghost use Rattle.rox_tables.specs.Scopes.{prefix_view, entries, places_in, is_few_at, ArePlaces, others};
-ghost use Rattle.rox_tables.specs.PrefixSet.{HasPrefixes, IsPrefixSet};
+ghost use Rattle.rox_tables.specs.PrefixSet.{HasPrefixes, ListsOwn};
 ghost use Rattle.rox_tables.specs.Ropes.{IsScope};
 ghost use Rattle.rox_tables.specs.Bindings.{FindsPlace, LooksUp, LooksWithin, places_view};
 
@@ -54,19 +54,6 @@ fn is_short_prefix(name: Option<&str>, prefix: &str) -> bool
     }
 }
 
-/// The first of these places whose namespace has this prefix, or is the default.
-pub fn place_of(namespaces: &[Namespace<'_>], places: &[u16], prefix: Option<&str>) -> Option<u16>
-    requires { ArePlaces (length namespaces.now) places.now }
-    ensures { FindsPlace namespaces.now places.now (prefix_view prefix.entry) result }
-{
-    for place in places {
-        if same_prefix(namespaces[*place as usize].name, prefix) {
-            return Some(*place);
-        }
-    }
-    None
-}
-
 /// The first of these places whose namespace is the default.
 #[inline(always)]
 pub fn default_place(namespaces: &[Namespace<'_>], places: &[u16]) -> Option<u16>
@@ -101,7 +88,12 @@ fn place_of_long(namespaces: &[Namespace<'_>], places: &[u16], prefix: &str) -> 
     requires { ArePlaces (length namespaces.now) places.now }
     ensures { FindsPlace namespaces.now places.now (Some prefix.now) result }
 {
-    place_of(namespaces, places, Some(prefix))
+    for place in places {
+        if same_prefix(namespaces[*place as usize].name, Some(prefix)) {
+            return Some(*place);
+        }
+    }
+    None
 }
 
 /// The first of these places whose namespace has this prefix. It is in line, as it is short for short ones, which most are: so
@@ -187,24 +179,6 @@ pub fn is_xml(prefix: Option<&str>) -> bool
     }
 }
 
-/// Whether one of these has this prefix, or is the default. Where they are many the set has their prefixes.
-#[inline(always)]
-fn is_among<'a>(
-    namespaces: &[Namespace<'a>],
-    own: &[u16],
-    prefix_set: &BTreeSet<Option<&'a str>>,
-    prefix: Option<&'a str>,
-) -> bool
-    requires { HasPrefixes namespaces.now own.now prefix_set.now.keys }
-    ensures { result ≡ is_declared (prefix_view prefix.entry)
-        (entries (map namespace_view namespaces.now) own.now) }
-{
-    if own.len() > FEW {
-        return has_prefix(prefix_set, prefix);
-    }
-    is_declared(namespaces, own, prefix)
-}
-
 /// Whether an element that declares those at these places, and `xml` if the flag says so, declares this prefix. Where they are
 /// many the set has their prefixes.
 #[inline(always)]
@@ -220,7 +194,13 @@ pub fn is_own<'a>(
         (entries (map namespace_view namespaces.now) own.now)
         || (xml && is_xml (prefix_view prefix.entry))) }
 {
-    is_among(namespaces, own, prefix_set, prefix) || (xml && is_xml(prefix))
+    if xml && is_xml(prefix) {
+        return true;
+    }
+    if own.len() > FEW {
+        return has_prefix(prefix_set, prefix);
+    }
+    is_declared(namespaces, own, prefix)
 }
 
 /// What a tag declares itself: the listed places from `from` on, and `xml` if the flag says so.
@@ -239,10 +219,7 @@ pub fn inherit<'a>(
     from: usize,
     until: usize,
 ) -> Result<(), AllocError>
-    requires places { ArePlaces (length namespaces.now) listed.old.items }
-    requires own { own.from ≤ length listed.old.items }
-    requires prefix_set { IsPrefixSet (map namespace_view namespaces.now)
-        (drop own.from listed.old.items) prefix_set.now.keys }
+    requires own { ListsOwn namespaces.now listed.old.items prefix_set.now.keys own.from }
     requires parent { (from ≤ until) × (until ≤ own.from) }
     ensures { OnOk result ((more : List ℕ) × (listed.new.items ≡ listed.old.items ++ more)
         × ArePlaces (length namespaces.now) more

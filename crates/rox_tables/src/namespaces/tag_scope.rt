@@ -6,10 +6,10 @@ ghost use Rattle.rox_grammar.specs.Written.{NamespaceDecl};
 ghost use Rattle.rox_grammar.specs.Tree.{is_declared};
 ghost use Rattle.rox_tables.specs.Rows.{namespace_view, AreScopes};
 ghost use Rattle.rox_tables.specs.Scopes.{prefix_view, entries, places_in, ArePlaces, PrefixesOnce, others, unlisted};
-ghost use Rattle.rox_tables.specs.PrefixSet.{IsPrefixSet};
+ghost use Rattle.rox_tables.specs.PrefixSet.{IsPrefixSet, ListsOwn};
 ghost use Rattle.rox_tables.specs.Bindings.{IsBound, bound_place};
 ghost use Rattle.rox_tables.specs.Ropes.{IsListed, IsScopeOf};
-ghost use Rattle.rox_tables.specs.TagScopes.{HasOpenTag, HasScope};
+ghost use Rattle.rox_tables.specs.TagScopes.{HasOpenTag, HasScope, IsAbove};
 
 use crate::namespaces::bindings::PrefixBindings;
 use crate::namespaces::prefix_set::FEW;
@@ -39,29 +39,8 @@ fn add_back(listed: &mut Vec<u16>, scopes: &mut Vec<Scope>, from: usize) -> Resu
     Ok(place)
 }
 
-/// A row of what is listed from `from` on: few are a stretch.
-fn add_stretch(
-    listed: &mut Vec<u16>,
-    scopes: &mut Vec<Scope>,
-    from: usize,
-) -> Result<u32, AllocError>
-    requires from { from ≤ length listed.old.items }
-    requires scopes { AreScopes (length listed.old.items) scopes.old.items }
-    ensures { IfOk result (λ s. (namespaces : List NamespaceDecl)
-        → IsListed namespaces listed.old.items scopes.old.items listed.new.items scopes.new.items s
-        (entries namespaces (drop from listed.old.items))) }
-{
-    let until = listed.len();
-    if until - from > FEW {
-        return add_back(listed, scopes, from);
-    }
-    let few = stretch(from, until)?;
-    let place = add(scopes, Scope::Few(few))?;
-    Ok(place)
-}
-
 /// The scope of an element whose own declarations are those from `own` on, and `xml` if the flag says so, below one that lists
-/// few, those of the stretch. The set has the prefixes that it declares, where these are many.
+/// few, those of the stretch. The set has the prefixes that it declares, where these are many. Few are a stretch again.
 pub fn listed_below_few<'input>(
     namespaces: &[Namespace<'input>],
     listed: &mut Vec<u16>,
@@ -70,11 +49,8 @@ pub fn listed_below_few<'input>(
     above: Stretch,
     own: OwnDeclarations,
 ) -> Result<u32, AllocError>
-    requires places { ArePlaces (length namespaces.now) listed.old.items }
+    requires own { ListsOwn namespaces.now listed.old.items prefix_set.now.keys own.from }
     requires scopes { AreScopes (length listed.old.items) scopes.old.items }
-    requires own { own.from ≤ length listed.old.items }
-    requires prefix_set { IsPrefixSet (map namespace_view namespaces.now)
-        (drop own.from listed.old.items) prefix_set.now.keys }
     requires above { (above.from ≤ above.until) × (above.until ≤ own.from) }
     ensures { IfOk result
         (λ s. IsListed (map namespace_view namespaces.now) listed.old.items scopes.old.items
@@ -87,7 +63,13 @@ pub fn listed_below_few<'input>(
     let from = above.from as usize;
     let until = above.until as usize;
     inherit(namespaces, listed, own, prefix_set, from, until)?;
-    let place = add_stretch(listed, scopes, own.from)?;
+    let end = listed.len();
+    if end - own.from > FEW {
+        let many = add_back(listed, scopes, own.from)?;
+        return Ok(many);
+    }
+    let few = stretch(own.from, end)?;
+    let place = add(scopes, Scope::Few(few))?;
     Ok(place)
 }
 
@@ -132,13 +114,7 @@ fn hide_own<'input>(
     scope: u32,
     own: OwnDeclarations,
 ) -> Result<u32, AllocError>
-    requires scope { IsScopeOf (length namespaces.now) listed.now scopes.old.items scope }
-    requires own { own.from ≤ length listed.now }
-    requires once { PrefixesOnce (entries (map namespace_view namespaces.now)
-        (places_in listed.now scopes.old.items scope)) }
-    requires bound { IsBound (map namespace_view namespaces.now) (bound_place present.now)
-        (entries (map namespace_view namespaces.now)
-        (places_in listed.now scopes.old.items scope)) }
+    requires { IsAbove namespaces.now listed.now scopes.old.items present.now scope own.from }
     ensures { IfOk result
         (λ s. IsListed (map namespace_view namespaces.now) listed.now scopes.old.items listed.now
         scopes.new.items s
@@ -168,13 +144,7 @@ pub fn listed_below_many<'input>(
     above: u32,
     own: OwnDeclarations,
 ) -> Result<u32, AllocError>
-    requires scope { IsScopeOf (length namespaces.now) listed.old.items scopes.old.items above }
-    requires own { own.from ≤ length listed.old.items }
-    requires once { PrefixesOnce (entries (map namespace_view namespaces.now)
-        (places_in listed.old.items scopes.old.items above)) }
-    requires bound { IsBound (map namespace_view namespaces.now) (bound_place present.now)
-        (entries (map namespace_view namespaces.now)
-        (places_in listed.old.items scopes.old.items above)) }
+    requires { IsAbove namespaces.now listed.old.items scopes.old.items present.now above own.from }
     ensures value { IfOk result
         (λ s. IsListed (map namespace_view namespaces.now) listed.old.items scopes.old.items
         listed.new.items scopes.new.items s
@@ -263,25 +233,6 @@ fn scope_below_many<'input>(
     Ok(scope)
 }
 
-/// The same whatever that scope lists.
-#[inline(always)]
-fn scope_below<'input>(
-    elements: &mut ElementTables<'input>,
-    prefix_set: &BTreeSet<Option<&'input str>>,
-    above: u32,
-    own: OwnDeclarations,
-) -> Result<u32, AllocError>
-    requires tag { HasOpenTag elements.old above own.from }
-    requires prefix_set { IsPrefixSet (map namespace_view elements.old.namespaces.items.items)
-        (drop own.from elements.old.listed.items) prefix_set.now.keys }
-    ensures { IfOk result (λ s. HasScope elements.old elements.new above own.from own.xml s) }
-{
-    if let Scope::Few(stretch) = elements.scopes[above as usize] {
-        return scope_below_few(elements, prefix_set, above, stretch, own);
-    }
-    scope_below_many(elements, above, own)
-}
-
 /// The scope of an element whose own declarations are those behind `own`, and `xml` if the flag says so, below one of the scope
 /// `above`: one of its own, or its parent's where it declares nothing. The set has its prefixes where they are many. Where the
 /// scope lists many, it is the innermost of those whose prefixes have places.
@@ -297,10 +248,11 @@ pub fn scope_of_tag<'input>(
         (drop own.from elements.old.listed.items) prefix_set.now.keys }
     ensures { IfOk result (λ s. HasScope elements.old elements.new above own.from own.xml s) }
 {
-    if own.from >= elements.listed.len() && !own.xml {
-        if let Scope::Few(_) = elements.scopes[above as usize] {
+    if let Scope::Few(stretch) = elements.scopes[above as usize] {
+        if own.from >= elements.listed.len() && !own.xml {
             return Ok(above);
         }
+        return scope_below_few(elements, prefix_set, above, stretch, own);
     }
-    scope_below(elements, prefix_set, above, own)
+    scope_below_many(elements, above, own)
 }

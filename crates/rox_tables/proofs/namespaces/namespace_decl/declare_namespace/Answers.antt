@@ -17,11 +17,11 @@ use Rattle.rox_tables.specs.Storage.{storage_bytes}
 use Rattle.rox_tables.specs.PrefixSet.{IsPrefixSet}
 use Rattle.rox_reading.proofs.Stretches.{slice-rest}
 use Rattle.rox_tables.proofs.Stable.{all_slice}
-use Rattle.rox_tables.proofs.Declaring.{uri_refused, declared_again, declared_many, declares_prefix_xml, declares_other, own_listed, fails_by, many_pairs, kept_after, lists_after, places_after, remembers_after, once_after}
+use Rattle.rox_tables.proofs.Declaring.{uri_refused, declared_again, declared_many, declares_prefix_xml, declares_other, own_listed, own_declares, none_own, fails_by, many_pairs, kept_after, lists_after, places_after, remembers_after, once_after}
 use Rattle.rox_tables.proofs.namespaces.namespace_decl.declare_namespace.Goals as goal
 
-pub is_again-requires : goal.is_again-requires
-is_again-requires c =
+pub is_own-requires : goal.is_own-requires
+is_own-requires c =
     let listed = c.args.listed.now.items in
     let namespaces = map namespace_view c.args.namespaces.now.items.items in
     rw (c.as_slice.ensures.value, c.deref.ensures.value) (record {
@@ -36,14 +36,14 @@ returns-in_err-test_uri-clause-value c = λ known before h o d.
     let uri : uri_tested a ≡ Err c.in_err-test_uri.field-0.0 = sym c.test_uri.ensures ∙ c.in_err-test_uri.was in
     rw (p.1, p.2) (uri_refused known a h c.in_err-test_uri.field-0.0 uri)
 
-pub returns-then-is_again-clause-value : goal.returns-then-is_again-clause-value
-returns-then-is_again-clause-value c = λ known before h o d.
+pub returns-then-is_own-clause-value : goal.returns-then-is_own-clause-value
+returns-then-is_own-clause-value c = λ known before h o d.
     let a = unresolved_view c.args.taken in
     let uri = sym c.test_uri.ensures ∙ c.in_ok-test_uri.was in
     let mine = own_listed known before (map namespace_view c.args.namespaces.now.items.items) (map namespace_view c.as_slice.result.now) c.args.listed.now.items c.deref.result.now c.args.xml h.own c.args.own
     o (ap (map namespace_view) c.as_slice.ensures.value) c.deref.ensures.value d in
     let again : is_declared (namespace_decl_of a).prefix h.own ≡ true =
-    ap (λ p. is_declared p h.own) (sym c.declared_prefix-prefix.ensures) ∙ sym (c.is_again.ensures.value h.own d.xml_is mine) ∙ c.if-is_again.true in
+    ap (λ p. is_declared p h.own) (sym c.declared_prefix-prefix.ensures) ∙ sym (own_declares (map namespace_view c.as_slice.result.now) _ (prefix_view c.declared_prefix-prefix.result) c.args.xml h.own c.is_own.result c.is_own.ensures d.xml_is mine) ∙ c.if-is_own.true in
     declared_again known a h uri again ∙ ap (λ (s : Span). Err (fault.DuplicatedNamespace s c.args.taken.start)) (sym (c.local_span.ensures a.name refl))
 
 pub returns-then-is_xml-clause-value : goal.returns-then-is_xml-clause-value
@@ -53,7 +53,7 @@ returns-then-is_xml-clause-value c = λ known before h o d.
     let mine = own_listed known before (map namespace_view c.args.namespaces.now.items.items) (map namespace_view c.as_slice.result.now) c.args.listed.now.items c.deref.result.now c.args.xml h.own c.args.own
     o (ap (map namespace_view) c.as_slice.ensures.value) c.deref.ensures.value d in
     let new : is_declared (namespace_decl_of a).prefix h.own ≡ false =
-    ap (λ p. is_declared p h.own) (sym c.declared_prefix-prefix.ensures) ∙ sym (c.is_again.ensures.value h.own d.xml_is mine) ∙ c.if-is_again.false in
+    ap (λ p. is_declared p h.own) (sym c.declared_prefix-prefix.ensures) ∙ sym (own_declares (map namespace_view c.as_slice.result.now) _ (prefix_view c.declared_prefix-prefix.result) c.args.xml h.own c.is_own.result c.is_own.ensures d.xml_is mine) ∙ c.if-is_own.false in
     let is : is_xml (namespace_decl_of a).prefix ≡ true = ap is_xml (sym c.declared_prefix-prefix.ensures) ∙ sym c.is_xml.ensures ∙ c.if-is_xml.true in
     declares_prefix_xml known before (map namespace_view c.args.namespaces.now.items.items) c.args.listed.now.items c.args.xml a h d uri new is
 
@@ -66,7 +66,7 @@ returns-in_err-place-clause-value c = λ known before h o d.
     o (ap (map namespace_view) c.as_slice.ensures.value) c.deref.ensures.value d in
     let prefix_is = c.declared_prefix-prefix.ensures in
     let new : is_declared (namespace_decl_of a).prefix h.own ≡ false =
-    ap (λ p. is_declared p h.own) (sym prefix_is) ∙ sym (c.is_again.ensures.value h.own d.xml_is mine) ∙ c.if-is_again.false in
+    ap (λ p. is_declared p h.own) (sym prefix_is) ∙ sym (own_declares (map namespace_view c.as_slice.result.now) _ (prefix_view c.declared_prefix-prefix.result) c.args.xml h.own c.is_own.result c.is_own.ensures d.xml_is mine) ∙ c.if-is_own.false in
     let is : is_xml (namespace_decl_of a).prefix ≡ false = ap is_xml (sym prefix_is) ∙ sym c.is_xml.ensures ∙ c.if-is_xml.false in
     let one : pair (prefix_view c.declared_prefix-prefix.result) a.value ≡ namespace_decl_of a = ap (λ p. pair p a.value) prefix_is in
     rw (p.1, p.2) (fails_by c.in_err-place.field-0.0 c.place.result (declared known a h) c.in_err-place.was (λ f was.
@@ -83,7 +83,7 @@ returns-clause-value c = λ known before h o d.
     o (ap (map namespace_view) c.as_slice.ensures.value) c.deref.ensures.value d in
     let prefix_is = c.declared_prefix-prefix.ensures in
     let new : is_declared (namespace_decl_of a).prefix h.own ≡ false =
-    ap (λ p. is_declared p h.own) (sym prefix_is) ∙ sym (c.is_again.ensures.value h.own d.xml_is mine) ∙ c.if-is_again.false in
+    ap (λ p. is_declared p h.own) (sym prefix_is) ∙ sym (own_declares (map namespace_view c.as_slice.result.now) _ (prefix_view c.declared_prefix-prefix.result) c.args.xml h.own c.is_own.result c.is_own.ensures d.xml_is mine) ∙ c.if-is_own.false in
     let is : is_xml (namespace_decl_of a).prefix ≡ false = ap is_xml (sym prefix_is) ∙ sym c.is_xml.ensures ∙ c.if-is_xml.false in
     let one : pair (prefix_view c.declared_prefix-prefix.result) a.value ≡ namespace_decl_of a = ap (λ p. pair p a.value) prefix_is in
     let namespaces = map namespace_view c.args.namespaces.now.items.items in
@@ -145,7 +145,7 @@ returns-clause-own c = record {
       let absent : is_declared one.prefix (entries (map namespace_view old) (drop c.args.own listed)) ≡ false =
       ap (λ xs. is_declared one.prefix (entries (map namespace_view old) xs)) (sym own_is)
       ∙ ap (λ ns. is_declared one.prefix (entries ns (slice_range seen c.args.own (length seen)))) (sym (ap (map namespace_view) c.as_slice.ensures.value))
-      ∙ c.is_again.ensures.absent c.if-is_again.false in
+      ∙ none_own _ _ (sym c.is_own.ensures ∙ c.if-is_own.false) in
       once_after old c.place.new.self.items.items listed c.push.new.self.items one c.in_ok-place.place c.args.own c.in_ok-place.ensures.table c.in_ok-push.ensures.items c.requires.own c.requires.places
       c.in_ok-place.ensures.there.1 absent c.requires.once;
 }

@@ -22,31 +22,23 @@ returns-then-not-own c =
     has_scope o t c.args.above c.args.own.from c.args.above c.args.own.xml refl refl c.requires.tag.places c.requires.tag.scopes c.requires.tag.own_within c.requires.tag.once c.requires.tag.own_once stood.0 (present_by t c.args.above stood.1)
     (nothing_listed (map namespace_view o.namespaces.items.items) o.listed.items o.scopes.items c.args.above c.args.own.from c.args.own.xml c.requires.tag.scopes c.requires.tag.own_within c.requires.tag.above_within none (not-true c.args.own.xml c.if-not-own.true))
 
-pub listed_below_many-requires-clause-scope : goal.listed_below_many-requires-clause-scope
-listed_below_many-requires-clause-scope c =
-    let o = c.args.elements.now in
-    rw c.as_slice-2.ensures.value (record {
-      places = c.requires.tag.places;
-      scopes = scopes_more c.args.own.from (length o.listed.items) o.scopes.items c.requires.tag.own_within c.requires.tag.scopes;
-      within = c.requires.tag.above_within;
-    })
-
-pub listed_below_many-requires-clause-once : goal.listed_below_many-requires-clause-once
-listed_below_many-requires-clause-once c =
-    let o = c.args.elements.now in
-    let namespaces = map namespace_view o.namespaces.items.items in
-    subst (λ v. PrefixesOnce (entries (map namespace_view v) (places_in o.listed.items o.scopes.items c.args.above))) (sym c.as_slice-2.ensures.value)
-    (subst PrefixesOnce (scope_places namespaces o.listed.items o.scopes.items c.args.above) c.requires.tag.once)
-
-pub listed_below_many-requires-clause-bound : goal.listed_below_many-requires-clause-bound
-listed_below_many-requires-clause-bound c =
+pub listed_below_many-requires : goal.listed_below_many-requires
+listed_below_many-requires c =
     let o = c.args.elements.now in
     let namespaces = map namespace_view o.namespaces.items.items in
     let x = c.make_innermost.new.self in
     let stood = stood_in o.namespaces.items.items c.as_slice.result.now o.listed.items c.deref.result.now o.scopes.items c.deref-2.result.now o.present x c.args.above c.as_slice.ensures.value c.deref.ensures.value
     c.deref-2.ensures.value c.in_ok-make_innermost.ensures.value c.requires.tag.kept in
-    subst (λ v. IsBound (map namespace_view v) (bound_place x) (entries (map namespace_view v) (places_in o.listed.items o.scopes.items c.args.above))) (sym c.as_slice-2.ensures.value)
-    (subst (IsBound namespaces (bound_place x)) (scope_places namespaces o.listed.items o.scopes.items c.args.above) stood.1)
+    rw c.as_slice-2.ensures.value (record {
+      scope = record {
+        places = c.requires.tag.places;
+        scopes = scopes_more c.args.own.from (length o.listed.items) o.scopes.items c.requires.tag.own_within c.requires.tag.scopes;
+        within = c.requires.tag.above_within;
+      };
+      own = c.requires.tag.own_within;
+      once = subst PrefixesOnce (scope_places namespaces o.listed.items o.scopes.items c.args.above) c.requires.tag.once;
+      bound = subst (IsBound namespaces (bound_place x)) (scope_places namespaces o.listed.items o.scopes.items c.args.above) stood.1;
+    })
 
 pub returns : goal.returns
 returns c =

@@ -1,10 +1,9 @@
-use Rattle.std.proofs.Common.{◌≡◌, ◌<◌, length, get_or, true, false, map, sym, ap, ◌∙◌, arith}
+use Rattle.std.proofs.Common.{◌≡◌, ◌<◌, length, get_or, true, false, map, sym, ap, ◌∙◌, arith, Some}
 use Rattle.rox_grammar.specs.Tree.{same_prefix}
 use Rattle.rox_tables.specs.Rows.{namespace_view}
 use Rattle.rox_grammar.specs.Written.{NamespaceDecl}
-use Rattle.rox_tables.specs.Scopes.{prefix_view}
 use Rattle.rox_tables.proofs.Pairs.{namespace_at-get, place_at, uri_here, uri_none_more}
-use Rattle.rox_tables.proofs.namespaces.scope.place_of.Goals as goal
+use Rattle.rox_tables.proofs.namespaces.scope.place_of_long.Goals as goal
 
 pub returns-then-same_prefix : goal.returns-then-same_prefix
 returns-then-same_prefix c =
@@ -12,7 +11,7 @@ returns-then-same_prefix c =
     let places = c.args.places.now in
     let k = c.loop-place.place-index in
     let item = c.index-namespaces-place.result in
-    let p = prefix_view c.args.prefix in
+    let p = Some c.args.prefix.now in
     let place = get_or places k 0 in
     let lt : k < length places = omega arith in
     let here : place < length rows = place_at (length rows) places k 0 c.requires lt in
@@ -26,7 +25,7 @@ loop-place-preserved c =
     let places = c.args.places.now in
     let k = c.loop-place.place-index in
     let item = c.index-namespaces-place.result in
-    let p = prefix_view c.args.prefix in
+    let p = Some c.args.prefix.now in
     let place = get_or places k 0 in
     let lt : k < length places = omega arith in
     let here : place < length rows = place_at (length rows) places k 0 c.requires lt in
