@@ -1,12 +1,12 @@
 -- The place that each prefix, or the default, stands for in the innermost of some scopes, and what takes it back to those around it.
-use Rattle.std.specs.Prelude.{◌≡◌, ◌==◌, ◌&&◌, ℕ, ◌≤◌, ◌<◌, Bool, false, List, [], ◌∷◌, ◌++◌, Option, Some, None, length, map, drop, if◌then◌else◌}
+use Rattle.std.specs.Prelude.{◌≡◌, ◌==◌, ◌&&◌, ℕ, ◌≤◌, ◌<◌, Bool, true, false, List, [], ◌∷◌, ◌++◌, Option, Some, None, length, map, drop, slice_index, if◌then◌else◌}
 use Rattle.std.specs.Option.{option_map}
 use Rattle.std.specs.Borrow.{Bor}
 use Rattle.std.specs.BTreeMap.{BTreeMap, get_by}
 use Rattle.std.specs.Cmp.Lexicographic.{slice_cmp}
 use Rattle.std.specs.Ordering.{nat_cmp}
 use Rattle.rox_grammar.specs.Written.{NamespaceDecl}
-use Rattle.rox_grammar.specs.Tree.{same_prefix, uri_of}
+use Rattle.rox_grammar.specs.Tree.{same_prefix, is_declared, uri_of}
 use Rattle.rox_tables.specs.Rows.{namespace_view, namespace_at, scope_at, OptionWithin}
 use Rattle.rox_tables.specs.Scopes.{prefix_view, entries, others, ArePlaces}
 use Rattle.rox_tables.specs.declared.rows.tables.Namespace.{Namespace}
@@ -83,6 +83,11 @@ looked_up namespaces None x prefix = option_map (λ i. (namespace_at namespaces 
 abbrev pub FindsPlace : List Namespace → List ℕ → Option (List ℕ) → Option ℕ → Type 0
 FindsPlace table places prefix (Some i) = (i < length table) × (uri_of (entries (map namespace_view table) places) prefix ≡ Some (namespace_at (map namespace_view table) i).uri)
 FindsPlace table places prefix None = uri_of (entries (map namespace_view table) places) prefix ≡ None
+
+-- what is found among the places for a prefix, or for the default: the index of one whose namespace is listed for it, or none
+abbrev pub FindsIndex : List Namespace → List ℕ → Option (List ℕ) → Option ℕ → Type 0
+FindsIndex table places prefix (Some i) = (i < length places) × (same_prefix (namespace_at (map namespace_view table) (slice_index places i)).prefix prefix ≡ true)
+FindsIndex table places prefix None = is_declared prefix (entries (map namespace_view table) places) ≡ false
 
 -- what is found where that is looked up
 pub record LooksUp (table : List Namespace) (few : Option (List ℕ)) (x : PrefixBindings) (prefix : Option (List ℕ)) (found : Option ℕ) : Type 0 where

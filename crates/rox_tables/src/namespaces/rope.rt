@@ -6,6 +6,7 @@ ghost use Rattle.rox_grammar.specs.Tree.{same_prefix, is_declared};
 ghost use Rattle.std.specs.List.{AllByRecursion};
 ghost use Rattle.rox_tables.specs.Rows.{namespace_view, namespace_at, count_at, AreRows, AreScopes, EndsWithin};
 ghost use Rattle.rox_tables.specs.Scopes.{prefix_view, entries, places_in, ArePlaces};
+ghost use Rattle.rox_tables.specs.Bindings.{FindsIndex};
 ghost use Rattle.rox_tables.specs.Ropes.{AreJoinable, IsRope, IsRow, IsScope, IsScopeOf, IsStretch, Joins};
 
 use crate::namespaces::scope::same_prefix;
@@ -26,9 +27,7 @@ const MOST_OF_SCOPE: usize = 65535;
 #[inline]
 pub fn count(scopes: &[Scope], scope: u32) -> usize
     requires { IsRow scopes.now scope }
-    ensures value { result ≡ count_at scopes.now scope }
-    ensures length { (listed : List ℕ) → AreScopes (length listed) scopes.now
-        → result ≡ length (places_in listed scopes.now scope) }
+    ensures { result ≡ count_at scopes.now scope }
 {
     match scopes[scope as usize] {
         Scope::Few(stretch) => (stretch.until - stretch.from) as usize,
@@ -330,13 +329,8 @@ fn first_of(
     prefix: Option<&str>,
 ) -> Option<usize>
     requires { IsScopeOf (length namespaces.now) listed.now scopes.now scope }
-    ensures there { IfSome result (λ i. (i < length (places_in listed.now scopes.now scope))
-        × (same_prefix (namespace_at (map namespace_view namespaces.now)
-        (slice_index (places_in listed.now scopes.now scope) i)).prefix (prefix_view prefix.entry)
-        ≡ true)) }
-    ensures absent { IfNone result
-        (is_declared (prefix_view prefix.entry) (entries (map namespace_view namespaces.now)
-        (places_in listed.now scopes.now scope)) ≡ false) }
+    ensures { FindsIndex namespaces.now (places_in listed.now scopes.now scope)
+        (prefix_view prefix.entry) result }
 {
     for index in 0..count(scopes, scope) {
         let place = place_at(scopes, listed, scope, index);
@@ -358,13 +352,8 @@ pub fn index_of(
     guess: usize,
 ) -> Option<usize>
     requires { IsScopeOf (length namespaces.now) listed.now scopes.now scope }
-    ensures there { IfSome result (λ i. (i < length (places_in listed.now scopes.now scope))
-        × (same_prefix (namespace_at (map namespace_view namespaces.now)
-        (slice_index (places_in listed.now scopes.now scope) i)).prefix (prefix_view prefix.entry)
-        ≡ true)) }
-    ensures absent { IfNone result
-        (is_declared (prefix_view prefix.entry) (entries (map namespace_view namespaces.now)
-        (places_in listed.now scopes.now scope)) ≡ false) }
+    ensures { FindsIndex namespaces.now (places_in listed.now scopes.now scope)
+        (prefix_view prefix.entry) result }
 {
     if let Some(index) = find(scopes, scope, guess) {
         let place = place_at(scopes, listed, scope, index);

@@ -27,6 +27,6 @@ returns-in-Some t c =
     let r = row_found [] _ _ _ c.requires.rows c.requires.within c.in-Concat.is in
     let n : count_at c.args.scopes.now c.args.scope ≡ c.in-Concat.parts.count = r.count in
     let m : c.in-Concat.parts.count ≡ count_at c.args.scopes.now c.in-Concat.parts.first + count_at c.args.scopes.now c.in-Concat.parts.rest = r.row.2 in
-    let f : c.count-before.result ≡ count_at c.args.scopes.now c.in-Concat.parts.first = c.count-before.ensures.value in
+    let f : c.count-before.result ≡ count_at c.args.scopes.now c.in-Concat.parts.first = c.count-before.ensures in
     let g : c.in-Some.index < count_at c.args.scopes.now c.in-Concat.parts.rest = c.in-Some.ensures in
     omega arith

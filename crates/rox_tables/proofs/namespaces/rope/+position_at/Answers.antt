@@ -44,6 +44,18 @@ returns-in-Back-clause-within t c =
 pub returns-in-Back-clause-value : goal.returns-in-Back-clause-value
 returns-in-Back-clause-value t c = (back_at _ _ _ _ c.args.index c.requires.scope.scopes c.requires.scope.within c.in-Back.is c.requires.index).2
 
+pub position_at-requires : goal.position_at-requires
+position_at-requires t c =
+    let ls = c.args.listed.now in
+    let rows = c.args.scopes.now in
+    let f = both_at ls rows c.args.scope _ c.requires.scope.scopes c.requires.scope.within c.in-Concat.is in
+    let a : c.in-Concat.parts.first < c.args.scope = f.0 in
+    let lt = c.requires.scope.within in
+    let m : count_at rows c.in-Concat.parts.first ≡ length (places_in ls rows c.in-Concat.parts.first) = f.2 in
+    let n : c.count-before.result ≡ count_at rows c.in-Concat.parts.first = c.count-before.ensures in
+    let d = c.decreases in
+    (omega arith, (record { scopes = c.requires.scope.scopes; within = omega arith }, omega arith))
+
 pub position_at-requires-in-Concat : goal.position_at-requires-in-Concat
 position_at-requires-in-Concat t c =
     let ls = c.args.listed.now in
@@ -53,7 +65,7 @@ position_at-requires-in-Concat t c =
     let lt = c.requires.scope.within in
     let k = c.requires.index in
     let m : count_at rows c.in-Concat.parts.first ≡ length (places_in ls rows c.in-Concat.parts.first) = f.2 in
-    let n : c.count-before.result ≡ count_at rows c.in-Concat.parts.first = c.count-before.ensures.value in
+    let n : c.count-before.result ≡ count_at rows c.in-Concat.parts.first = c.count-before.ensures in
     let l : length (places_in ls rows c.args.scope) ≡ length (places_in ls rows c.in-Concat.parts.first) + length (places_in ls rows c.in-Concat.parts.rest) =
     ap length f.3 ∙ length-append (places_in ls rows c.in-Concat.parts.first) (places_in ls rows c.in-Concat.parts.rest) in
     let d = c.decreases in
@@ -65,7 +77,7 @@ returns-then-index-before-clause-value t c =
     let rows = c.args.scopes.now in
     let f = both_at ls rows c.args.scope _ c.requires.scope.scopes c.requires.scope.within c.in-Concat.is in
     let m : count_at rows c.in-Concat.parts.first ≡ length (places_in ls rows c.in-Concat.parts.first) = f.2 in
-    let n : c.count-before.result ≡ count_at rows c.in-Concat.parts.first = c.count-before.ensures.value in
+    let n : c.count-before.result ≡ count_at rows c.in-Concat.parts.first = c.count-before.ensures in
     let lt : c.args.index < length (places_in ls rows c.in-Concat.parts.first) = omega arith in
     c.position_at.ensures.value ∙ sym (ap (λ xs. get_or xs c.args.index 0) f.3 ∙ get_front (places_in ls rows c.in-Concat.parts.first) (places_in ls rows c.in-Concat.parts.rest) c.args.index 0 lt)
 
@@ -75,7 +87,7 @@ returns-else-index-before-clause-value t c =
     let rows = c.args.scopes.now in
     let f = both_at ls rows c.args.scope _ c.requires.scope.scopes c.requires.scope.within c.in-Concat.is in
     let m : count_at rows c.in-Concat.parts.first ≡ length (places_in ls rows c.in-Concat.parts.first) = f.2 in
-    let n : c.count-before.result ≡ count_at rows c.in-Concat.parts.first = c.count-before.ensures.value in
+    let n : c.count-before.result ≡ count_at rows c.in-Concat.parts.first = c.count-before.ensures in
     let le : length (places_in ls rows c.in-Concat.parts.first) ≤ c.args.index = omega arith in
     let e : c.args.index - c.count-before.result ≡ c.args.index - length (places_in ls rows c.in-Concat.parts.first) = omega arith in
     c.position_at-in-Concat.ensures.value ∙ ap (λ k. get_or (places_in ls rows c.in-Concat.parts.rest) k 0) e

@@ -5,7 +5,13 @@ use Rattle.rox_grammar.specs.Written.{NamespaceDecl}
 use Rattle.rox_tables.specs.Rows.{namespace_view, namespace_at}
 use Rattle.rox_tables.specs.Scopes.{prefix_view, entries, places_in}
 use Rattle.rox_tables.proofs.Pairs.{namespace_at-get, uri_none_more, declared_none}
+use Rattle.rox_tables.proofs.Ropes.{count_places}
 use Rattle.rox_tables.proofs.namespaces.rope.first_of.Goals as goal
+
+pub place_at-place-requires-clause-index : goal.place_at-place-requires-clause-index
+place_at-place-requires-clause-index c =
+    let n : c.count-index-end.result ≡ length (places_in c.args.listed.now c.args.scopes.now c.args.scope) = c.count-index-end.ensures ∙ count_places c.args.listed.now c.args.scopes.now c.args.scope c.requires.scopes c.requires.within in
+    omega arith
 
 pub bounds-namespaces-place : goal.bounds-namespaces-place
 bounds-namespaces-place c = c.place_at-place.ensures.place _ c.requires.places
@@ -13,15 +19,15 @@ bounds-namespaces-place c = c.place_at-place.ensures.place _ c.requires.places
 pub bounds-namespaces-place-in-loop-index : goal.bounds-namespaces-place-in-loop-index
 bounds-namespaces-place-in-loop-index c = c.place_at-place.ensures.place _ c.requires.places
 
-pub returns-then-same_prefix-clause-there : goal.returns-then-same_prefix-clause-there
-returns-then-same_prefix-clause-there c =
+pub returns-then-same_prefix : goal.returns-then-same_prefix
+returns-then-same_prefix c =
     let rows = c.args.namespaces.now in
     let places = places_in c.args.listed.now c.args.scopes.now c.args.scope in
     let k = c.loop-index.index in
     let place = c.place_at-place.result in
     let item = c.index-namespaces-place.result in
     let p = prefix_view c.args.prefix in
-    let n : c.count-index-end.result ≡ length places = c.count-index-end.ensures.length c.args.listed.now c.requires.scopes in
+    let n : c.count-index-end.result ≡ length places = c.count-index-end.ensures ∙ count_places c.args.listed.now c.args.scopes.now c.args.scope c.requires.scopes c.requires.within in
     let here : place < length rows = c.place_at-place.ensures.place _ c.requires.places in
     let e = namespace_at-get rows place item here in
     let same : same_prefix (namespace_view (get_or rows place item)).prefix p ≡ true = sym c.same_prefix.ensures ∙ c.if-same_prefix.true in
@@ -35,7 +41,7 @@ loop-index-preserved c =
     let place = c.place_at-place.result in
     let item = c.index-namespaces-place.result in
     let p = prefix_view c.args.prefix in
-    let n : c.count-index-end.result ≡ length places = c.count-index-end.ensures.length c.args.listed.now c.requires.scopes in
+    let n : c.count-index-end.result ≡ length places = c.count-index-end.ensures ∙ count_places c.args.listed.now c.args.scopes.now c.args.scope c.requires.scopes c.requires.within in
     let lt : k < length places = omega arith in
     let here : place < length rows = c.place_at-place.ensures.place _ c.requires.places in
     let e = namespace_at-get rows place item here in
@@ -43,12 +49,12 @@ loop-index-preserved c =
     uri_none_more (map namespace_view rows) places k 0 p lt c.loop-index.invariant
     (ap (λ i. same_prefix (namespace_at (map namespace_view rows) i).prefix p) (sym c.place_at-place.ensures.value) ∙ ap (λ (d : NamespaceDecl). same_prefix d.prefix p) e ∙ other)
 
-pub returns-clause-absent : goal.returns-clause-absent
-returns-clause-absent c =
+pub returns : goal.returns
+returns c =
     let rows = c.args.namespaces.now in
     let places = places_in c.args.listed.now c.args.scopes.now c.args.scope in
     let p = prefix_view c.args.prefix in
-    let n : c.count-index-end.result ≡ length places = c.count-index-end.ensures.length c.args.listed.now c.requires.scopes in
+    let n : c.count-index-end.result ≡ length places = c.count-index-end.ensures ∙ count_places c.args.listed.now c.args.scopes.now c.args.scope c.requires.scopes c.requires.within in
     let k : length places ≤ c.loop-index.index = omega arith in
     let all : take c.loop-index.index places ≡ places = take_all c.loop-index.index places k in
     declared_none (entries (map namespace_view rows) places) p (subst (λ xs. uri_of (entries (map namespace_view rows) xs) p ≡ None) all c.loop-index.invariant)

@@ -19,8 +19,8 @@ bounds-namespaces-place c = c.place_at-place.ensures.place _ c.requires.places
 pub bounds-namespaces-place-in-Some : goal.bounds-namespaces-place-in-Some
 bounds-namespaces-place-in-Some c = c.place_at-place.ensures.place _ c.requires.places
 
-pub returns-then-same_prefix-clause-there : goal.returns-then-same_prefix-clause-there
-returns-then-same_prefix-clause-there c =
+pub returns-then-same_prefix : goal.returns-then-same_prefix
+returns-then-same_prefix c =
     let rows = c.args.namespaces.now in
     let places = places_in c.args.listed.now c.args.scopes.now c.args.scope in
     let place = c.place_at-place.result in

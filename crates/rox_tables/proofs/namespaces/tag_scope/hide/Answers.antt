@@ -23,14 +23,14 @@ returns-in_default-index_of c =
     let ds = entries namespaces (places_in c.args.listed.now c.args.scopes.now.items c.args.scope) in
     let p = prefix_view c.args.prefix in
     let absent : is_declared p ds ≡ false =
-    subst (λ ss. is_declared p (entries namespaces (places_in c.args.listed.now ss c.args.scope)) ≡ false) c.deref.ensures.value c.in_default-index_of.ensures.absent in
+    subst (λ ss. is_declared p (entries namespaces (places_in c.args.listed.now ss c.args.scope)) ≡ false) c.deref.ensures.value c.in_default-index_of.ensures in
     same_listed namespaces c.args.listed.now c.args.scopes.now.items c.args.scope _ c.requires.scope.scopes c.requires.scope.within (sym (unlisted_none p ds absent))
 
 pub without-requires-clause-index : goal.without-requires-clause-index
 without-requires-clause-index c =
     let n = count_places c.args.listed.now c.args.scopes.now.items c.args.scope c.requires.scope.scopes c.requires.scope.within in
     let k : c.in-Some-index_of.index < length (places_in c.args.listed.now c.args.scopes.now.items c.args.scope) =
-    subst (λ ss. c.in-Some-index_of.index < length (places_in c.args.listed.now ss c.args.scope)) c.deref.ensures.value c.in-Some-index_of.ensures.there.0 in
+    subst (λ ss. c.in-Some-index_of.index < length (places_in c.args.listed.now ss c.args.scope)) c.deref.ensures.value c.in-Some-index_of.ensures.0 in
     omega arith
 
 pub returns : goal.returns
@@ -40,8 +40,8 @@ returns c =
     let index = c.in-Some-index_of.index in
     let p = prefix_view c.args.prefix in
     let places = places_in c.args.listed.now old c.args.scope in
-    let less : index < length places = subst (λ ss. index < length (places_in c.args.listed.now ss c.args.scope)) c.deref.ensures.value c.in-Some-index_of.ensures.there.0 in
+    let less : index < length places = subst (λ ss. index < length (places_in c.args.listed.now ss c.args.scope)) c.deref.ensures.value c.in-Some-index_of.ensures.0 in
     let same : same_prefix (namespace_at namespaces (get_or places index 0)).prefix p ≡ true =
-    subst (λ ss. same_prefix (namespace_at namespaces (get_or (places_in c.args.listed.now ss c.args.scope) index 0)).prefix p ≡ true) c.deref.ensures.value c.in-Some-index_of.ensures.there.1 in
+    subst (λ ss. same_prefix (namespace_at namespaces (get_or (places_in c.args.listed.now ss c.args.scope) index 0)).prefix p ≡ true) c.deref.ensures.value c.in-Some-index_of.ensures.1 in
     rope_listed namespaces c.args.listed.now old c.without.new.scopes.items c.in_ok-left.left (λ l. cut index (places_in l old c.args.scope)) _ c.requires.scope.scopes c.in_ok-left.ensures
     (unlisted_one namespaces places index p c.requires.once less same)

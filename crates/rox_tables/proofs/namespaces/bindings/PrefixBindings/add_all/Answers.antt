@@ -2,12 +2,13 @@ use Rattle.std.proofs.Common.{◌≡◌, ◌<◌, ◌-◌, map, length, get_or, 
 use Rattle.rox_tables.specs.Rows.{namespace_view}
 use Rattle.rox_tables.specs.Scopes.{places_in}
 use Rattle.rox_tables.specs.Bindings.{bound_place}
+use Rattle.rox_tables.proofs.Ropes.{count_places}
 use Rattle.rox_tables.proofs.Presenting.{bound_from, bound_all, bound_none}
 use Rattle.rox_tables.proofs.namespaces.bindings.PrefixBindings.add_all.Goals as goal
 
 pub position_at-position-requires : goal.position_at-position-requires
 position_at-position-requires c =
-    let n = c.count-count.ensures.length c.args.listed.now c.requires.scopes in
+    let n = c.count-count.ensures ∙ count_places c.args.listed.now c.args.scopes.now c.args.scope c.requires.scopes c.requires.within in
     record { scope = record { scopes = c.requires.scopes; within = c.requires.within }; index = omega arith }
 
 pub loop-turn-init : goal.loop-turn-init
@@ -20,7 +21,7 @@ pub loop-turn-preserved : goal.loop-turn-preserved
 loop-turn-preserved c =
     let l = c.loop-turn in
     let places = places_in c.args.listed.now c.args.scopes.now c.args.scope in
-    let n : c.count-count.result ≡ length places = c.count-count.ensures.length c.args.listed.now c.requires.scopes in
+    let n : c.count-count.result ≡ length places = c.count-count.ensures ∙ count_places c.args.listed.now c.args.scopes.now c.args.scope c.requires.scopes c.requires.within in
     let lt : l.turn < length places = omega arith in
     let i : c.count-count.result - 1 - l.turn ≡ length places - 1 - l.turn = ap (λ k. k - 1 - l.turn) n in
     record {
@@ -32,5 +33,5 @@ pub returns-clause-bound : goal.returns-clause-bound
 returns-clause-bound c = λ h.
     let l = c.loop-turn in
     let places = places_in c.args.listed.now c.args.scopes.now c.args.scope in
-    let n : c.count-count.result ≡ length places = c.count-count.ensures.length c.args.listed.now c.requires.scopes in
+    let n : c.count-count.result ≡ length places = c.count-count.ensures ∙ count_places c.args.listed.now c.args.scopes.now c.args.scope c.requires.scopes c.requires.within in
     bound_all (map namespace_view c.args.namespaces.now) places l.turn (bound_place l.self) (omega arith) (l.invariant.bound h)
