@@ -13,7 +13,7 @@ use Rattle.rox_tables.specs.Scopes.{prefix_view, entries, ArePlaces, others}
 use Rattle.std.specs.BTreeMap.{BTreeMap, get_by}
 use Rattle.std.specs.Cmp.Lexicographic.{slice_cmp}
 use Rattle.std.specs.Ordering.{nat_cmp}
-use Rattle.rox_tables.specs.Bindings.{option_joined, found_at, bound_place, place_in, bound_namespace, restored, IsBound, Stacked, AreBindingsOf, FindsBinding, is_innermost}
+use Rattle.rox_tables.specs.Bindings.{option_joined, found_at, bound_place, place_in, bound_namespace, restored, IsBound, Stacked, AreBindingsOf, KeepsBindings, FindsBinding, is_innermost}
 use Rattle.rox_tables.specs.declared.namespaces.bindings.Binding.{Binding}
 use Rattle.rox_tables.specs.declared.namespaces.bindings.ShadowedBinding.{ShadowedBinding}
 use Rattle.rox_tables.specs.declared.namespaces.bindings.ScopeFrame.{ScopeFrame}
@@ -169,6 +169,16 @@ pub keeps_by : (namespaces : List NamespaceDecl) (lists : List (List NamespaceDe
     → Stacked namespaces lists es (bound_place x) 0 ls → AreBindingsOf namespaces lists x
 keeps_by namespaces lists x es ls e l h =
     record { stacked = subst (λ xs. Stacked namespaces lists xs (bound_place x) 0 x.layers.items) (sym e) (subst (λ ys. Stacked namespaces lists es (bound_place x) 0 ys) (sym l) h) }
+
+-- the last one is taken back, where the innermost scope does not have it before it
+pub takes_back : (old new : PrefixBindings) (es : List ShadowedBinding) (last : ShadowedBinding) (ls : List ScopeFrame) (l : ScopeFrame)
+    → old.replaced.items ≡ es ++ last ∷ [] → l.count ≤ length es → old.layers.items ≡ ls ++ l ∷ [] → new.replaced.items ≡ es → new.layers.items ≡ old.layers.items
+    → ((p : Option (List ℕ)) → place_in new p ≡ cond (same_prefix (prefix_view last.prefix) p) last.before (place_in old p)) → KeepsBindings old new
+takes_back old new es last ls l all few is entries layers put = λ namespaces lists h.
+    let was : Stacked namespaces lists (es ++ last ∷ []) (bound_place old) 0 (ls ++ l ∷ []) =
+    subst (λ xs. Stacked namespaces lists xs (bound_place old) 0 (ls ++ l ∷ [])) all (subst (λ ys. Stacked namespaces lists old.replaced.items (bound_place old) 0 ys) is h.stacked) in
+    keeps_by namespaces lists new es (ls ++ l ∷ []) entries (layers ∙ is)
+    (stacked_back namespaces lists es last (bound_place old) (bound_place new) 0 (ls ++ l ∷ []) (found_put old new _ last.before put) (counts_below namespaces lists (es ++ last ∷ []) (bound_place old) 0 (length es) ls l few was) was)
 
 -- ---- what is found of a list
 

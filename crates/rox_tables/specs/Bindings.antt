@@ -54,6 +54,10 @@ Stacked namespaces lists replaced places least (l ∷ ls) =
 pub record AreBindingsOf (namespaces : List NamespaceDecl) (lists : List (List NamespaceDecl)) (x : PrefixBindings) : Type 0 where
   pub stacked : Stacked namespaces lists x.replaced.items (bound_place x) 0 x.layers.items
 
+-- of whatever scopes these were the places, they are now
+abbrev pub KeepsBindings : (old new : PrefixBindings) → Type 0
+KeepsBindings old new = (namespaces : List NamespaceDecl) (lists : List (List NamespaceDecl)) → AreBindingsOf namespaces lists old → AreBindingsOf namespaces lists new
+
 -- whether the innermost of these scopes is this one, and so many places were replaced up to it
 abbrev pub is_innermost : List ScopeFrame → (count scope : ℕ) → Bool
 is_innermost [] count scope = false

@@ -52,7 +52,7 @@ pub struct PrefixBindings<'input> {
 impl<'input> PrefixBindings<'input> {
     ghost use Rattle.std.specs.Prelude.{◌∷◌, [], ◌&&◌, not, filter};
     ghost use Rattle.rox_grammar.specs.Tree.{is_xml};
-    ghost use Rattle.rox_tables.specs.Bindings.{bound_place, place_in, AreBindingsOf, IsBound, IsEntered, is_innermost};
+    ghost use Rattle.rox_tables.specs.Bindings.{bound_place, place_in, AreBindingsOf, KeepsBindings, IsBound, IsEntered, is_innermost};
     ghost use Rattle.rox_tables.specs.declared.namespaces.bindings.ScopeFrame.{ScopeFrame};
 
     /// Of no scope.
@@ -118,34 +118,11 @@ impl<'input> PrefixBindings<'input> {
         ensures present { OnOk result ((p : Option (List ℕ))
             → place_in self.new p ≡ (if same_prefix (prefix_view prefix.entry) p then place
             else place_in self.old p)) }
-        ensures keeps { OnOk result
-            ((namespaces : List NamespaceDecl) (lists : List (List NamespaceDecl))
-            → AreBindingsOf namespaces lists self.old → AreBindingsOf namespaces lists self.new) }
+        ensures keeps { OnOk result (KeepsBindings self.old self.new) }
     {
         let before = self.get(prefix);
         push(&mut self.replaced, ShadowedBinding { prefix, before })?;
         self.set(prefix, place)?;
-        Ok(())
-    }
-
-    /// Takes back what was replaced last, if it was behind so many. The innermost scope has so many before it.
-    fn take_back(&mut self, count: usize) -> Result<(), AllocError>
-        ensures back { OnOk result (count < length self.old.replaced.items
-            → length self.new.replaced.items + 1 ≡ length self.old.replaced.items) }
-        ensures same { length self.old.replaced.items ≤ count → self.new ≡ self.old }
-        ensures keeps { OnOk result
-            ((namespaces : List NamespaceDecl) (lists : List (List NamespaceDecl))
-            (ls : List ScopeFrame) (l : ScopeFrame) → self.old.layers.items ≡ ls ++ l ∷ []
-            → l.count ≡ count
-            → AreBindingsOf namespaces lists self.old → AreBindingsOf namespaces lists self.new) }
-        ensures layers { self.new.layers ≡ self.old.layers }
-    {
-        if self.replaced.len() <= count {
-            return Ok(());
-        }
-        if let Some(last) = self.replaced.pop() {
-            self.set(last.prefix, last.before)?;
-        }
         Ok(())
     }
 
@@ -156,9 +133,7 @@ impl<'input> PrefixBindings<'input> {
         ensures back { OnOk result ((ls : List ScopeFrame) (l : ScopeFrame)
             → self.new.layers.items ≡ ls ++ l ∷ [] → l.count ≤ length self.old.replaced.items
             → length self.new.replaced.items ≡ l.count) }
-        ensures keeps { OnOk result
-            ((namespaces : List NamespaceDecl) (lists : List (List NamespaceDecl))
-            → AreBindingsOf namespaces lists self.old → AreBindingsOf namespaces lists self.new) }
+        ensures keeps { OnOk result (KeepsBindings self.old self.new) }
     {
         let _ = self.layers.pop();
         let Some(around) = self.layers.last() else {
@@ -166,7 +141,9 @@ impl<'input> PrefixBindings<'input> {
         };
         let count = around.count;
         for _turn in count..self.replaced.len() {
-            self.take_back(count)?;
+            if let Some(last) = self.replaced.pop() {
+                self.set(last.prefix, last.before)?;
+            }
         }
         Ok(())
     }
@@ -179,9 +156,7 @@ impl<'input> PrefixBindings<'input> {
             ≡ true)) }
         ensures same { is_innermost self.old.layers.items (length self.old.replaced.items) scope
             ≡ true → self.new ≡ self.old }
-        ensures keeps { OnOk result
-            ((namespaces : List NamespaceDecl) (lists : List (List NamespaceDecl))
-            → AreBindingsOf namespaces lists self.old → AreBindingsOf namespaces lists self.new) }
+        ensures keeps { OnOk result (KeepsBindings self.old self.new) }
     {
         for _turn in 0..self.layers.len() {
             if self.is_in(scope) {
@@ -213,9 +188,7 @@ impl<'input> PrefixBindings<'input> {
             → IsBound namespaces (bound_place self.old) ds
             → IsBound namespaces (bound_place self.new) (filter
             (λ d. not (xml && is_xml d.prefix)) ds)) }
-        ensures keeps { OnOk result
-            ((namespaces : List NamespaceDecl) (lists : List (List NamespaceDecl))
-            → AreBindingsOf namespaces lists self.old → AreBindingsOf namespaces lists self.new) }
+        ensures keeps { OnOk result (KeepsBindings self.old self.new) }
     {
         if !xml {
             return Ok(());
@@ -238,9 +211,7 @@ impl<'input> PrefixBindings<'input> {
             → IsBound (map namespace_view namespaces.now) (bound_place self.new)
             (namespace_at (map namespace_view namespaces.now) (slice_index listed.now position)
             ∷ ds)) }
-        ensures keeps { OnOk result
-            ((namespaces : List NamespaceDecl) (lists : List (List NamespaceDecl))
-            → AreBindingsOf namespaces lists self.old → AreBindingsOf namespaces lists self.new) }
+        ensures keeps { OnOk result (KeepsBindings self.old self.new) }
     {
         let namespace = listed[position];
         let place = Binding {
@@ -248,56 +219,6 @@ impl<'input> PrefixBindings<'input> {
             listed: position.min(u32::MAX as usize) as u32,
         };
         self.put(namespaces[namespace as usize].name, Some(place))?;
-        Ok(())
-    }
-
-    /// Gives the prefixes of what is listed from `from` up to `until` their places, the last one where there are more.
-    fn add(
-        &mut self,
-        namespaces: &[Namespace<'input>],
-        listed: &[u16],
-        from: usize,
-        until: usize,
-    ) -> Result<(), AllocError>
-        requires places { ArePlaces (length namespaces.now) listed.now }
-        requires stretch { (from ≤ until) × (until ≤ length listed.now) }
-        ensures bound { OnOk result ((ds : List NamespaceDecl)
-            → IsBound (map namespace_view namespaces.now) (bound_place self.old) ds
-            → IsBound (map namespace_view namespaces.now) (bound_place self.new)
-            (entries (map namespace_view namespaces.now)
-            (reverse (slice_range listed.now from until)) ++ ds)) }
-        ensures keeps { OnOk result
-            ((namespaces : List NamespaceDecl) (lists : List (List NamespaceDecl))
-            → AreBindingsOf namespaces lists self.old → AreBindingsOf namespaces lists self.new) }
-    {
-        for position in from..until {
-            self.bind(namespaces, listed, position)?;
-        }
-        Ok(())
-    }
-
-    /// Gives the prefixes of what a scope lists their places, the first one where there are more.
-    fn add_all(
-        &mut self,
-        namespaces: &[Namespace<'input>],
-        listed: &[u16],
-        scopes: &[Scope],
-        scope: u32,
-    ) -> Result<(), AllocError>
-        requires { IsScopeOf (length namespaces.now) listed.now scopes.now scope }
-        ensures bound { OnOk result (IsBound (map namespace_view namespaces.now)
-            (bound_place self.old) []
-            → IsBound (map namespace_view namespaces.now) (bound_place self.new)
-            (entries (map namespace_view namespaces.now) (places_in listed.now scopes.now scope))) }
-        ensures keeps { OnOk result
-            ((namespaces : List NamespaceDecl) (lists : List (List NamespaceDecl))
-            → AreBindingsOf namespaces lists self.old → AreBindingsOf namespaces lists self.new) }
-    {
-        let count = count(scopes, scope);
-        for turn in 0..count {
-            let position = position_at(scopes, listed, scope, count - 1 - turn);
-            self.bind(namespaces, listed, position)?;
-        }
         Ok(())
     }
 
@@ -314,8 +235,8 @@ impl<'input> PrefixBindings<'input> {
         self.layers.clear();
     }
 
-    /// Makes this the innermost scope: leaves those inside it, and where it was not entered, all others. The only error is want
-    /// of memory.
+    /// Makes this the innermost scope: leaves those inside it, and where it was not entered, all others. Of what a scope lists the
+    /// first one of a prefix has its place. The only error is want of memory.
     pub fn make_innermost(
         &mut self,
         namespaces: &[Namespace<'input>],
@@ -338,7 +259,11 @@ impl<'input> PrefixBindings<'input> {
             return Ok(());
         }
         self.clear();
-        self.add_all(namespaces, listed, scopes, scope)?;
+        let many = count(scopes, scope);
+        for turn in 0..many {
+            let position = position_at(scopes, listed, scope, many - 1 - turn);
+            self.bind(namespaces, listed, position)?;
+        }
         let count = self.replaced.len();
         push(&mut self.layers, ScopeFrame { scope, count })?;
         Ok(())
@@ -366,7 +291,9 @@ impl<'input> PrefixBindings<'input> {
             (scope_at lists scope)) }
     {
         self.hide_xml(xml)?;
-        self.add(namespaces, listed, from, listed.len())?;
+        for position in from..listed.len() {
+            self.bind(namespaces, listed, position)?;
+        }
         let count = self.replaced.len();
         push(&mut self.layers, ScopeFrame { scope, count })?;
         Ok(())

@@ -1,22 +1,48 @@
-use Rattle.std.proofs.Common.{◌≡◌, ◌≤◌, ◌++◌, ◌∷◌, [], map, length, subst, sym, refl, arith}
+use Rattle.std.proofs.Common.{◌≡◌, ◌<◌, ◌≤◌, ◌++◌, ◌∷◌, ◌&&◌, [], not, filter, map, length, reverse, slice_range, subst, sym, refl, arith}
+use Rattle.rox_grammar.specs.Tree.{is_xml}
 use Rattle.rox_tables.specs.Rows.{namespace_view, scope_at}
+use Rattle.rox_tables.specs.Scopes.{entries}
 use Rattle.rox_tables.specs.Bindings.{bound_place, IsBound}
 use Rattle.rox_tables.specs.declared.namespaces.bindings.ScopeFrame.{ScopeFrame}
-use Rattle.rox_tables.proofs.Presenting.{stacked_push, keeps_by, bound_others}
+use Rattle.rox_tables.proofs.Presenting.{stacked_push, keeps_by, bound_others, reverse_none, reverse_more}
 use Rattle.rox_tables.proofs.namespaces.bindings.PrefixBindings.enter.Goals as goal
+
+pub loop-position-init : goal.loop-position-init
+loop-position-init c =
+    let namespaces = map namespace_view c.args.namespaces.now in
+    record {
+      bound = λ ds h. subst (λ xs. IsBound namespaces (bound_place c.hide_xml.new.self) (entries namespaces xs ++ filter (λ d. not (c.args.xml && is_xml d.prefix)) ds)) (sym (reverse_none c.args.listed.now c.args.from)) (c.in_ok-hide_xml.ensures.bound namespaces ds h);
+      keeps = c.in_ok-hide_xml.ensures.keeps;
+    }
+
+pub loop-position-preserved : goal.loop-position-preserved
+loop-position-preserved c =
+    let l = c.loop-position in
+    let namespaces = map namespace_view c.args.namespaces.now in
+    let low : c.args.from ≤ l.position = omega arith in
+    let lt : l.position < length c.args.listed.now = omega arith in
+    record {
+      bound = λ ds h. subst (λ xs. IsBound namespaces (bound_place c.bind.new.self) (entries namespaces xs ++ filter (λ d. not (c.args.xml && is_xml d.prefix)) ds)) (sym (reverse_more c.args.listed.now c.args.from l.position low lt))
+          (c.in_ok-bind.ensures.bound _ (l.invariant.bound ds h));
+      keeps = λ namespaces lists h. c.in_ok-bind.ensures.keeps namespaces lists (l.invariant.keeps namespaces lists h);
+    }
 
 pub returns : goal.returns
 returns c = λ lists above h around s.
+    let l = c.loop-position in
     let namespaces = map namespace_view c.args.namespaces.now in
-    let x = c.add.new.self in
-    let bound = bound_others namespaces _ above c.args.xml (bound_place x) (c.in_ok-add.ensures.bound _ (c.in_ok-hide_xml.ensures.bound namespaces above around)) in
+    let listed = c.args.listed.now in
+    let x = l.self in
+    let all : l.position ≡ length listed = omega arith in
+    let own = subst (λ n. IsBound namespaces (bound_place x) (entries namespaces (reverse (slice_range listed c.args.from n)) ++ filter (λ d. not (c.args.xml && is_xml d.prefix)) above)) all (l.invariant.bound above around) in
+    let bound = bound_others namespaces _ above c.args.xml (bound_place x) own in
     let here : IsBound namespaces (bound_place x) (scope_at lists c.args.scope) = subst (IsBound namespaces (bound_place x)) (sym s.made) bound in
-    let kept = c.in_ok-add.ensures.keeps namespaces lists (c.in_ok-hide_xml.ensures.keeps namespaces lists h) in
-    let l : ScopeFrame = record { scope = c.args.scope; count = c.len-count.result } in
+    let kept = l.invariant.keeps namespaces lists h in
+    let frame : ScopeFrame = record { scope = c.args.scope; count = c.len-count.result } in
     let k = x.replaced.ok.0 in
     let count : c.len-count.result ≡ length x.replaced.items = omega arith in
     let low : 0 ≤ length x.replaced.items = omega arith in (
-      keeps_by namespaces lists _ x.replaced.items (x.layers.items ++ l ∷ []) refl c.in_ok-push.ensures.items
-          (stacked_push namespaces lists x.replaced.items (bound_place x) 0 x.layers.items l count low s.within here kept.stacked),
+      keeps_by namespaces lists _ x.replaced.items (x.layers.items ++ frame ∷ []) refl c.in_ok-push.ensures.items
+          (stacked_push namespaces lists x.replaced.items (bound_place x) 0 x.layers.items frame count low s.within here kept.stacked),
       here,
     )
