@@ -1,5 +1,5 @@
 -- Which codes of names were seen.
-use Rattle.std.proofs.Common.{◌≡◌, ℕ, ◌+◌, ◌<◌, ◌≤◌, ◌∷◌, ◌++◌, [], List, Bool, true, false, length, set, get_or, drop, bytes_eq, ◌&&◌, refl, sym, ap, ◌∙◌, subst, inl, inr, arith}
+use Rattle.std.proofs.Common.{◌≡◌, ℕ, ◌+◌, ◌<◌, ◌≤◌, ◌∷◌, ◌++◌, [], List, Bool, true, false, length, length-append, set, get_or, drop, bytes_eq, ◌&&◌, refl, sym, ap, ◌∙◌, subst, inl, inr, arith}
 use Rattle.std.specs.List.{AllByRecursion, list_any}
 use Rattle.std.proofs.lemmas.Bool.{cases_eq}
 use Rattle.std.proofs.lemmas.List.{get_or-set_same, get_or-set_other}
@@ -14,7 +14,7 @@ use Rattle.rox_tables.specs.ResolvedNames.{has_expanded}
 use Rattle.rox_tables.specs.declared.rows.tables.AttributeNamespace.{AttributeNamespace}
 use Rattle.rox_tables.specs.declared.rows.stored_attribute.StoredAttribute.{StoredAttribute}
 use Rattle.rox_tables.specs.declared.namespaces.seen_names.SeenNames.{SeenNames}
-use Rattle.rox_tables.specs.SeenNames.{name_code, HasCode, HasNameOf, HaveCodes, AreSeen}
+use Rattle.rox_tables.specs.SeenNames.{name_code, HasCode, HasNameOf, HaveCodes, AreSeen, SeesName}
 use Rattle.rox_tables.proofs.Stable.{all_append, all_weaker}
 
 -- a code that was not put is not there
@@ -60,14 +60,30 @@ none_has namespaces s local codes (a ∷ rest) h fresh =
     rw other (none_has namespaces s local codes rest h.1 fresh)
 
 -- one more of them is in the table
-pub seen_more : (old new : SeenNames) (rows more : List AttributeRow) (row : AttributeRow) → more ≡ rows ++ row ∷ [] → new.from ≡ old.from → old.from ≤ length rows
-    → ((code : ℕ) → HasCode old.codes code → HasCode new.codes code) → HasNameOf new.codes row.0 → HaveCodes old rows → HaveCodes new more
-seen_more old new rows more row grown from within kept put seen =
+pub seen_more : (old new : SeenNames) (rows more : List AttributeRow) (row : AttributeRow) → more ≡ rows ++ row ∷ [] → old.from ≤ length rows
+    → SeesName old new row.0.local.now → HaveCodes old rows → HaveCodes new more
+seen_more old new rows more row grown within sees seen =
     let P : AttributeRow → Type 0 = λ a. HasNameOf new.codes a.0 in
     let Q : AttributeRow → Type 0 = λ a. HasNameOf old.codes a.0 in
-    let behind : drop new.from more ≡ drop old.from rows ++ row ∷ [] = ap (λ n. drop n more) from ∙ ap (drop old.from) grown ∙ drop-append-le old.from rows (row ∷ []) within in
-    let weaker : AllByRecursion P (drop old.from rows) = all_weaker Q P (drop old.from rows) (λ a h. kept (name_code a.0.local.now) h) seen in
-    subst (AllByRecursion P) (sym behind) (all_append P (drop old.from rows) (row ∷ []) weaker (put, tt))
+    let behind : drop new.from more ≡ drop old.from rows ++ row ∷ [] = ap (λ n. drop n more) sees.from ∙ ap (drop old.from) grown ∙ drop-append-le old.from rows (row ∷ []) within in
+    let weaker : AllByRecursion P (drop old.from rows) = all_weaker Q P (drop old.from rows) (λ a h. sees.kept (name_code a.0.local.now) h) seen in
+    subst (AllByRecursion P) (sym behind) (all_append P (drop old.from rows) (row ∷ []) weaker (sees.put, tt))
+
+-- so it was seen
+pub are_more : (old new : SeenNames) (rows more : List AttributeRow) (row : AttributeRow) → more ≡ rows ++ row ∷ [] → old.from ≤ length rows
+    → SeesName old new row.0.local.now → HaveCodes old rows → AreSeen new more
+are_more old new rows more row grown within sees seen = record {
+  from = omega (arith, sees.from, within, ap length grown, length-append rows (row ∷ []));
+  codes = λ _. seen_more old new rows more row grown within sees seen;
+}
+
+-- the same, where the code came again
+pub sees_again : (old mid new : SeenNames) (local : List ℕ) → new.codes ≡ mid.codes → new.from ≡ mid.from → SeesName old mid local → SeesName old new local
+sees_again old mid new local codes from sees = record {
+  from = from ∙ sees.from;
+  kept = λ code h. subst (λ cs. HasCode cs code) (sym codes) (sees.kept code h);
+  put = subst (λ cs. HasCode cs (name_code local)) (sym codes) sees.put;
+}
 
 -- before the first
 pub seen_first : (seen : SeenNames) (rows : List AttributeRow) → seen.from ≡ length rows → HaveCodes seen rows
@@ -75,9 +91,13 @@ seen_first seen rows from =
     let none : drop seen.from rows ≡ [] = drop_of_length-le rows (omega arith) in
     subst (AllByRecursion (λ (a : AttributeRow). HasNameOf seen.codes a.0)) (sym none) tt
 
--- two at most
-pub few_seen : (seen : SeenNames) (rows : List AttributeRow) → length rows ≤ seen.from + 2 → AreSeen seen rows
-few_seen seen rows few = λ more. absurd (omega (arith, few, more))
+-- none yet
+pub few_seen : (seen : SeenNames) (rows : List AttributeRow) → seen.from ≡ length rows → AreSeen seen rows
+few_seen seen rows from = record { from = omega arith; codes = λ more. absurd (omega (arith, from, more)) }
+
+-- one at most
+pub one_seen : (seen : SeenNames) (rows : List AttributeRow) → seen.from ≤ length rows → length rows ≤ seen.from + 2 → AreSeen seen rows
+one_seen seen rows within few = record { from = within; codes = λ more. absurd (omega (arith, few, more)) }
 
 -- no row has a name whose code was not seen
 pub none_rows : (namespaces : List NamespaceDecl) (s : AttributeNamespace) (local : List ℕ) (codes : List Bool) (rows : List AttributeRow)
@@ -90,6 +110,9 @@ none_rows namespaces s local codes (a ∷ rest) h fresh =
 
 -- the same were seen
 pub same_seen : (old new : SeenNames) (rows : List AttributeRow) → new.codes ≡ old.codes → new.from ≡ old.from → AreSeen old rows → AreSeen new rows
-same_seen old new rows codes from seen = λ more.
-    subst (λ (n : ℕ). AllByRecursion (λ (a : AttributeRow). HasNameOf new.codes a.0) (drop n rows)) (sym from)
-    (subst (λ (cs : List Bool). AllByRecursion (λ (a : AttributeRow). HasNameOf cs a.0) (drop old.from rows)) (sym codes) (seen (omega (arith, more, from))))
+same_seen old new rows codes from seen = record {
+  from = omega (arith, from, seen.from);
+  codes = λ more.
+      subst (λ (n : ℕ). AllByRecursion (λ (a : AttributeRow). HasNameOf new.codes a.0) (drop n rows)) (sym from)
+      (subst (λ (cs : List Bool). AllByRecursion (λ (a : AttributeRow). HasNameOf cs a.0) (drop old.from rows)) (sym codes) (seen.codes (omega (arith, more, from))));
+}

@@ -1,14 +1,18 @@
 -- The names of a tag in a scope, one by one.
-use Rattle.std.specs.Prelude.{◌≡◌, ◌&&◌, ◌∷◌, ◌++◌, [], ℕ, Bool, List, Option, Result, Ok, Err, bytes_eq, drop, length, map}
+use Rattle.std.specs.Prelude.{◌≡◌, ◌&&◌, ◌∷◌, ◌++◌, [], ℕ, Bool, true, false, List, Option, Result, Ok, Err, bytes_eq, drop, length, map}
+use Rattle.std.specs.List.{AllByRecursion, list_any}
+use Rattle.rox_grammar.specs.declared.failure.Failure.{Failure}
 use Rattle.rox_grammar.specs.declared.fault.Fault.{Fault}
-use Rattle.rox_grammar.specs.Written.{Attribute, NamespaceDecl}
+use Rattle.rox_grammar.specs.Written.{Attribute, Name, NamespaceDecl}
+use Rattle.rox_grammar.specs.WellNamed.{is_known}
 use Rattle.rox_grammar.specs.Tree.{same_prefix, attribute_namespace, attribute_in}
-use Rattle.rox_grammar.specs.Failures.{name_view}
+use Rattle.rox_grammar.specs.Failures.{Fails, name_view}
 use Rattle.rox_tables.specs.Bindings.{FindsBinding}
 use Rattle.rox_tables.specs.TagDeclarations.{unresolved_view}
 use Rattle.rox_tables.specs.declared.namespaces.bindings.PrefixBindings.{PrefixBindings}
 use Rattle.rox_reading.specs.Tags.{names_tested}
-use Rattle.rox_tables.specs.Rows.{AttributeRow, NamespaceWithin, attribute, attribute_uri}
+use Rattle.rox_tables.specs.Rows.{AttributeRow, NamespaceWithin, attribute, attribute_uri, namespace_view}
+use Rattle.rox_tables.specs.declared.rows.tables.Namespace.{Namespace}
 use Rattle.rox_tables.specs.declared.namespaces.unresolved_attribute.UnresolvedAttribute.{UnresolvedAttribute}
 use Rattle.rox_tables.specs.declared.namespaces.unresolved_attribute.UsualAttribute.{UsualAttribute}
 use Rattle.rox_tables.specs.declared.rows.storage.StringStorage.TheVariants.{Borrowed}
@@ -38,6 +42,25 @@ has_expanded namespaces s local a = same_prefix (attribute_uri namespaces a.name
 abbrev pub Tested : List NamespaceDecl → List Attribute → Attribute → List Attribute → Result AttributeNamespace Fault → Type 0
 Tested scope before a rest (Ok s) = names_tested scope before (a ∷ rest) ≡ names_tested scope (before ++ a ∷ []) rest
 Tested scope before a rest (Err f) = names_tested scope before (a ∷ rest) ≡ Err f
+
+-- An attribute of this name has this namespace where that is looked up: its prefix is known there.
+pub record IsNamespaceOf (table : List Namespace) (few : Option (List ℕ)) (present : PrefixBindings) (name : Name) (s : AttributeNamespace) : Type 0 where
+  pub within : NamespaceWithin (length table) s
+  pub there : (scope : List NamespaceDecl) → FindsBinding (map namespace_view table) few present scope → attribute_uri (map namespace_view table) s ≡ attribute_namespace scope name
+  pub known : (scope : List NamespaceDecl) → FindsBinding (map namespace_view table) few present scope → is_known scope name ≡ true
+
+-- What is answered of the attributes of a tag in a scope: their names pass, and they are behind the rows, each with its namespace; or
+-- this is the fault, unless memory ran out.
+abbrev pub Resolves : (table : List Namespace) (scope : List NamespaceDecl) → List UnresolvedAttribute → (old new : List AttributeRow) → Result (Unit {0}) Failure → Type 0
+Resolves table scope taken old new (Ok done) = (names_tested scope [] (map unresolved_view taken) ≡ Ok tt)
+    × ((more : List AttributeRow) × (new ≡ old ++ more) × (map (attribute (map namespace_view table)) more ≡ map (attribute_in scope) (map unresolved_view taken))
+    × AllByRecursion (λ a. NamespaceWithin (length table) a.0.namespace) more)
+Resolves table scope taken old new (Err e) = Fails e (names_tested scope [] (map unresolved_view taken))
+
+-- this row is behind those of its tag, which begin at this place: its expanded name is none of theirs
+pub record AddsNew (namespaces : List NamespaceDecl) (from : ℕ) (old new : List AttributeRow) (row : AttributeRow) : Type 0 where
+  pub rows : new ≡ old ++ row ∷ []
+  pub first : list_any (λ r. has_expanded namespaces row.0.namespace row.0.local.now r.0) (drop from old) ≡ false
 
 -- one more attribute is in the table, behind those of its tag, which begin at this place
 pub record AddsResolved (namespaces : List NamespaceDecl) (few : Option (List ℕ)) (present : PrefixBindings) (from : ℕ) (old new : List AttributeRow) (one : UnresolvedAttribute) : Type 0 where

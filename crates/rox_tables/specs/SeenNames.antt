@@ -1,8 +1,8 @@
 -- The codes of local names, and which were seen.
-use Rattle.std.specs.Prelude.{◌≡◌, ◌<◌, ℕ, ◌+◌, ◌*◌, ◌-◌, ◌/◌, ◌%◌, ◌^◌, Bool, true, false, List, get_or, if◌then◌else◌, drop, leb, eqb, length, slice_index, slice_range}
+use Rattle.std.specs.Prelude.{◌≡◌, ◌<◌, ◌≤◌, ℕ, ◌+◌, ◌*◌, ◌-◌, ◌/◌, ◌%◌, ◌^◌, Bool, true, false, List, get_or, if◌then◌else◌, drop, leb, eqb, length, slice_index, slice_range}
 use Rattle.std.specs.List.{AllByRecursion}
 use Rattle.std.specs.Int.{w32, from_le_bytes}
-use Rattle.rox_tables.specs.Rows.{AttributeRow}
+use Rattle.rox_tables.specs.Rows.{AttributeRow, NamespaceWithin}
 use Rattle.rox_tables.specs.declared.namespaces.seen_names.SeenNames.{SeenNames}
 use Rattle.rox_tables.specs.declared.rows.tables.AttributeData.{AttributeData}
 
@@ -29,6 +29,24 @@ HasNameOf codes a = HasCode codes (name_code a.local.now)
 abbrev pub HaveCodes : SeenNames → List AttributeRow → Type 0
 HaveCodes seen rows = AllByRecursion (λ a. HasNameOf seen.codes a.0) (drop seen.from rows)
 
--- they were seen: two at most have no codes yet
-abbrev pub AreSeen : SeenNames → List AttributeRow → Type 0
-AreSeen seen rows = seen.from + 2 < length rows → HaveCodes seen rows
+-- the attributes of the tag are the last of these rows, and were seen: two at most have no codes yet
+pub record AreSeen (seen : SeenNames) (rows : List AttributeRow) : Type 0 where
+  pub from : seen.from ≤ length rows
+  pub codes : seen.from + 2 < length rows → HaveCodes seen rows
+
+-- one more name of the tag was seen
+pub record SeesName (old new : SeenNames) (local : List ℕ) : Type 0 where
+  pub from : new.from ≡ old.from
+  pub kept : (code : ℕ) → HasCode old.codes code → HasCode new.codes code
+  pub put : HasCode new.codes (name_code local)
+
+-- the attributes of the tag were seen, and the namespace of each is one of so many
+pub record HoldsSeen (namespaces : ℕ) (seen : SeenNames) (rows : List AttributeRow) : Type 0 where
+  pub are_seen : AreSeen seen rows
+  pub within : AllByRecursion (λ a. NamespaceWithin namespaces a.0.namespace) (drop seen.from rows)
+
+-- A row is put behind those of the tag, which were seen, and is seen itself; or it is refused, and the rows are as before.
+pub record PutsSeen (seen after : SeenNames) (rows new : List AttributeRow) (put : Bool) : Type 0 where
+  pub from : after.from ≡ seen.from
+  pub refused : put ≡ false → new ≡ rows
+  pub are_seen : put ≡ true → AreSeen after new

@@ -17,9 +17,9 @@ ghost use Rattle.rox_tables.specs.Storage.{storage_bytes};
 ghost use Rattle.rox_tables.specs.Scopes.{prefix_view};
 ghost use Rattle.rox_tables.specs.Bindings.{FindsBinding, LooksWithin, places_view};
 ghost use Rattle.rox_tables.specs.TagDeclarations.{unresolved_view};
-ghost use Rattle.rox_tables.specs.ResolvedNames.{row_of_unresolved, row_of_usual, has_expanded, Tested, AddsResolved};
+ghost use Rattle.rox_tables.specs.ResolvedNames.{row_of_unresolved, row_of_usual, has_expanded, Tested, AddsResolved, AddsNew, IsNamespaceOf, Resolves};
 ghost use Rattle.rox_tables.specs.ExpandedNames.{HasExpandedNames, TestedOr};
-ghost use Rattle.rox_tables.specs.SeenNames.{name_code, HasCode, HasNameOf, AreSeen};
+ghost use Rattle.rox_tables.specs.SeenNames.{HasNameOf, SeesName, HoldsSeen, PutsSeen};
 
 use crate::compare::same_text;
 use crate::namespaces::bindings::PrefixBindings;
@@ -55,14 +55,8 @@ pub fn attribute_namespace(
     name: QName<'_>,
 ) -> Option<AttributeNamespace>
     requires within { LooksWithin (length namespaces.now) (places_view few) present.now }
-    ensures within { IfSome result (λ s. NamespaceWithin (length namespaces.now) s) }
-    ensures there { (ds : List NamespaceDecl)
-        → FindsBinding (map namespace_view namespaces.now) (places_view few.entry) present.now ds
-        → IfSome result (λ s. attribute_uri (map namespace_view namespaces.now) s
-        ≡ tree.attribute_namespace ds (name_view name.entry)) }
-    ensures known { (ds : List NamespaceDecl)
-        → FindsBinding (map namespace_view namespaces.now) (places_view few.entry) present.now ds
-        → IfSome result (λ _. is_known ds (name_view name.entry) ≡ true) }
+    ensures found { IfSome result (IsNamespaceOf namespaces.now (places_view few.entry) present.now
+        (name_view name.entry)) }
     ensures unknown { (ds : List NamespaceDecl)
         → FindsBinding (map namespace_view namespaces.now) (places_view few.entry) present.now ds
         → IfNone result (is_known ds (name_view name.entry) ≡ false) }
@@ -138,36 +132,8 @@ fn is_among(
     false
 }
 
-/// Whether one of these attributes, which were seen, has this expanded name, which is seen behind it. Where no name had its
-/// code, this takes no call.
-#[inline(always)]
-fn is_repeated(
-    namespaces: &[Namespace<'_>],
-    done: &[StoredAttribute<'_>],
-    seen: &mut SeenNames,
-    namespace: AttributeNamespace,
-    local: &str,
-) -> bool
-    requires done { AllByRecursion
-        (λ a. NamespaceWithin (length namespaces.now) (data_of a).namespace) done.now }
-    requires other { NamespaceWithin (length namespaces.now) namespace }
-    requires seen { AllByRecursion (λ a. HasNameOf seen.old.codes (data_of a)) done.now }
-    ensures is { result ≡ list_any
-        (λ a. has_expanded (map namespace_view namespaces.now) namespace local.now
-        (data_of a)) done.now }
-    ensures put { HasCode seen.new.codes (name_code local.now) }
-    ensures from { seen.new.from ≡ seen.old.from }
-    ensures kept { (code : ℕ) → HasCode seen.old.codes code → HasCode seen.new.codes code }
-{
-    if !seen.put(local) {
-        return false;
-    }
-    seen.count_again();
-    is_among(namespaces, done, namespace, local)
-}
-
 /// The namespace of an attribute behind these of its tag, which were seen: its prefix must be known, and its expanded name be none
-/// of theirs.
+/// of theirs. It is compared with them where one of their names had its code, and seen behind them.
 #[inline(always)]
 fn tested_namespace(
     namespaces: &[Namespace<'_>],
@@ -181,27 +147,27 @@ fn tested_namespace(
     requires done { AllByRecursion
         (λ a. NamespaceWithin (length namespaces.now) (data_of a).namespace) done.now }
     requires seen { AllByRecursion (λ a. HasNameOf seen.old.codes (data_of a)) done.now }
-    ensures within { IfOk result (λ s. NamespaceWithin (length namespaces.now) s) }
-    ensures there { (ds : List NamespaceDecl)
-        → FindsBinding (map namespace_view namespaces.now) (places_view few.entry) present.now ds
-        → IfOk result (λ s. attribute_uri (map namespace_view namespaces.now) s
-        ≡ tree.attribute_namespace ds (name_view taken.now.name)) }
+    ensures found { IfOk result (IsNamespaceOf namespaces.now (places_view few.entry) present.now
+        (name_view taken.now.name)) }
     ensures tested { (ds : List NamespaceDecl) (rows : List AttributeRow)
         (before rest : List Attribute)
         → FindsBinding (map namespace_view namespaces.now) (places_view few.entry) present.now ds
         → map (λ r. r.0) rows ≡ map data_of done.now
         → map (attribute (map namespace_view namespaces.now)) rows ≡ map (attribute_in ds) before
         → Tested ds before (unresolved_view taken.now) rest result }
-    ensures put { IfOk result (λ _. HasCode seen.new.codes (name_code taken.now.name.local.now)) }
+    ensures sees { IfOk result (λ _. SeesName seen.old seen.new taken.now.name.local.now) }
     ensures from { seen.new.from ≡ seen.old.from }
-    ensures kept { (code : ℕ) → HasCode seen.old.codes code → HasCode seen.new.codes code }
 {
     let name = taken.name;
     let Some(namespace) = attribute_namespace(namespaces, few, present, name) else {
         return Err(Fault::UnknownNamespace(prefix_span(name.prefix, taken.start), taken.start));
     };
-    if is_repeated(namespaces, done, seen, namespace, name.local) {
-        return Err(Fault::DuplicatedAttribute(local_span(name.local, taken.name_end), taken.start));
+    if seen.put(name.local) {
+        seen.count_again();
+        if is_among(namespaces, done, namespace, name.local) {
+            let span = local_span(name.local, taken.name_end);
+            return Err(Fault::DuplicatedAttribute(span, taken.start));
+        }
     }
     Ok(namespace)
 }
@@ -215,11 +181,8 @@ fn seen_namespace<'a>(
     taken: &UnresolvedAttribute<'a>,
 ) -> Result<AttributeNamespace, Failure>
     requires within { LooksWithin (length namespaces.now) (places_view few) present.now }
-    ensures within { IfOk result (λ s. NamespaceWithin (length namespaces.now) s) }
-    ensures there { (ds : List NamespaceDecl)
-        → FindsBinding (map namespace_view namespaces.now) (places_view few.entry) present.now ds
-        → IfOk result (λ s. attribute_uri (map namespace_view namespaces.now) s
-        ≡ tree.attribute_namespace ds (name_view taken.now.name)) }
+    ensures found { IfOk result (IsNamespaceOf namespaces.now (places_view few.entry) present.now
+        (name_view taken.now.name)) }
     ensures tested { (ds : List NamespaceDecl) (rows : List AttributeRow)
         (before rest : List Attribute)
         → FindsBinding (map namespace_view namespaces.now) (places_view few.entry) present.now ds
@@ -287,17 +250,12 @@ pub fn put_resolved<'input>(
     requires local { one.start + length one.name.local.now ≤ one.name_end }
     requires value { one.end ≡ one.value_start + length (storage_bytes one.value) + 1 }
     requires onward { one.name_end + 2 ≤ one.value_start }
-    requires from { seen.old.from ≤ length (attribute_rows attributes.old) }
-    requires done { AllByRecursion (λ a. NamespaceWithin (length namespaces.now) a.0.namespace)
-        (drop seen.old.from (attribute_rows attributes.old)) }
-    requires seen { AreSeen seen.old (attribute_rows attributes.old) }
-    ensures refused { result ≡ false
-        → attribute_rows attributes.new ≡ attribute_rows attributes.old }
+    requires tag { HoldsSeen (length namespaces.now) seen.old (attribute_rows attributes.old) }
+    ensures puts { PutsSeen seen.old seen.new (attribute_rows attributes.old)
+        (attribute_rows attributes.new) result }
     ensures added { result ≡ true
         → AddsResolved (map namespace_view namespaces.now) (places_view few.entry) present.now
         seen.old.from (attribute_rows attributes.old) (attribute_rows attributes.new) one.entry }
-    ensures from { seen.new.from ≡ seen.old.from }
-    ensures seen { result ≡ true → AreSeen seen.new (attribute_rows attributes.new) }
 {
     if seen.are_many_again() {
         return false;
@@ -376,22 +334,14 @@ pub fn put_usual_attribute<'input>(
     one: UsualAttribute<'input>,
 ) -> bool
     requires namespace { NamespaceWithin (length namespaces.now.items.items) namespace }
-    requires from { seen.old.from ≤ length (attribute_rows attributes.old) }
-    requires done { AllByRecursion
-        (λ a. NamespaceWithin (length namespaces.now.items.items) a.0.namespace)
-        (drop seen.old.from (attribute_rows attributes.old)) }
-    requires seen { AreSeen seen.old (attribute_rows attributes.old) }
-    ensures refused { result ≡ false
-        → attribute_rows attributes.new ≡ attribute_rows attributes.old }
+    requires tag { HoldsSeen (length namespaces.now.items.items) seen.old
+        (attribute_rows attributes.old) }
+    ensures puts { PutsSeen seen.old seen.new (attribute_rows attributes.old)
+        (attribute_rows attributes.new) result }
     ensures added { result ≡ true
-        → attribute_rows attributes.new
-        ≡ attribute_rows attributes.old ++ row_of_usual one.entry namespace ∷ [] }
-    ensures first { result ≡ true → list_any
-        (λ r. has_expanded (map namespace_view namespaces.now.items.items) namespace
-        one.entry.local.now r.0)
-        (drop seen.old.from (attribute_rows attributes.old)) ≡ false }
-    ensures from { seen.new.from ≡ seen.old.from }
-    ensures seen { result ≡ true → AreSeen seen.new (attribute_rows attributes.new) }
+        → AddsNew (map namespace_view namespaces.now.items.items) seen.old.from
+        (attribute_rows attributes.old) (attribute_rows attributes.new)
+        (row_of_usual one.entry namespace) }
 {
     let repeats = seen.may_have(attributes, one.local);
     if repeats && is_refused(namespaces, attributes, seen, namespace, one.local) {
@@ -420,20 +370,14 @@ pub fn put_changed<'input>(
     own: UnresolvedAttribute<'input>,
 ) -> bool
     requires namespace { NamespaceWithin (length namespaces.now.items.items) namespace }
-    requires from { seen.old.from ≤ length (attribute_rows attributes.old) }
-    requires done { AllByRecursion
-        (λ a. NamespaceWithin (length namespaces.now.items.items) a.0.namespace)
-        (drop seen.old.from (attribute_rows attributes.old)) }
-    requires seen { AreSeen seen.old (attribute_rows attributes.old) }
-    ensures refused { result ≡ false
-        → attribute_rows attributes.new ≡ attribute_rows attributes.old }
-    ensures added { result ≡ true → (attribute_rows attributes.new
-        ≡ attribute_rows attributes.old ++ row_of_unresolved own.entry namespace ∷ [])
-        × (list_any (λ r. has_expanded (map namespace_view namespaces.now.items.items) namespace
-        own.entry.name.local.now r.0)
-        (drop seen.old.from (attribute_rows attributes.old)) ≡ false) }
-    ensures from { seen.new.from ≡ seen.old.from }
-    ensures seen { result ≡ true → AreSeen seen.new (attribute_rows attributes.new) }
+    requires tag { HoldsSeen (length namespaces.now.items.items) seen.old
+        (attribute_rows attributes.old) }
+    ensures puts { PutsSeen seen.old seen.new (attribute_rows attributes.old)
+        (attribute_rows attributes.new) result }
+    ensures added { result ≡ true
+        → AddsNew (map namespace_view namespaces.now.items.items) seen.old.from
+        (attribute_rows attributes.old) (attribute_rows attributes.new)
+        (row_of_unresolved own.entry namespace) }
 {
     let local = own.name.local;
     let repeats = seen.may_have(attributes, local);
@@ -466,17 +410,10 @@ fn resolve_many<'input>(
     attributes: &mut AttributeTable<'input>,
 ) -> Result<(), Failure>
     requires within { LooksWithin (length namespaces.now) (places_view few) present.now }
-    ensures ok { (ds : List NamespaceDecl)
+    ensures { (ds : List NamespaceDecl)
         → FindsBinding (map namespace_view namespaces.now) (places_view few.entry) present.now ds
-        → OnOk result ((names_tested ds [] (map unresolved_view taken.old.items) ≡ Ok tt)
-        × ((more : List AttributeRow)
-        × (attribute_rows attributes.new ≡ attribute_rows attributes.old ++ more)
-        × (map (attribute (map namespace_view namespaces.now)) more
-        ≡ map (attribute_in ds) (map unresolved_view taken.old.items))
-        × AllByRecursion (λ a. NamespaceWithin (length namespaces.now) a.0.namespace) more)) }
-    ensures err { (ds : List NamespaceDecl)
-        → FindsBinding (map namespace_view namespaces.now) (places_view few.entry) present.now ds
-        → IfErr result (λ e. Fails e (names_tested ds [] (map unresolved_view taken.old.items))) }
+        → Resolves namespaces.now ds taken.old.items (attribute_rows attributes.old)
+        (attribute_rows attributes.new) result }
 {
     let mut seen = BTreeSet::new(alloc);
     for turn in 0..taken.len() {
@@ -514,17 +451,10 @@ pub fn resolve<'input>(
     attributes: &mut AttributeTable<'input>,
 ) -> Result<(), Failure>
     requires within { LooksWithin (length namespaces.now) (places_view few) present.now }
-    ensures ok { (ds : List NamespaceDecl)
+    ensures { (ds : List NamespaceDecl)
         → FindsBinding (map namespace_view namespaces.now) (places_view few.entry) present.now ds
-        → OnOk result ((names_tested ds [] (map unresolved_view taken.old.items) ≡ Ok tt)
-        × ((more : List AttributeRow)
-        × (attribute_rows attributes.new ≡ attribute_rows attributes.old ++ more)
-        × (map (attribute (map namespace_view namespaces.now)) more
-        ≡ map (attribute_in ds) (map unresolved_view taken.old.items))
-        × AllByRecursion (λ a. NamespaceWithin (length namespaces.now) a.0.namespace) more)) }
-    ensures err { (ds : List NamespaceDecl)
-        → FindsBinding (map namespace_view namespaces.now) (places_view few.entry) present.now ds
-        → IfErr result (λ e. Fails e (names_tested ds [] (map unresolved_view taken.old.items))) }
+        → Resolves namespaces.now ds taken.old.items (attribute_rows attributes.old)
+        (attribute_rows attributes.new) result }
 {
     if taken.len() > MOST || taken.len() > FEW && are_alike(taken.as_slice()) {
         return resolve_many(alloc, namespaces, few, present, taken, attributes);

@@ -6,7 +6,7 @@ ghost use Rattle.rox_grammar.specs.Written.{NamespaceDecl};
 ghost use Rattle.rox_tables.specs.Rows.{AttributeRow, attribute_rows};
 ghost use Rattle.rox_tables.specs.ResolvedNames.{has_expanded};
 ghost use Rattle.rox_tables.specs.declared.rows.tables.AttributeNamespace.{AttributeNamespace};
-ghost use Rattle.rox_tables.specs.SeenNames.{name_sum, name_code, HasCode, HaveCodes, AreSeen};
+ghost use Rattle.rox_tables.specs.SeenNames.{name_sum, name_code, HasCode, HaveCodes, AreSeen, SeesName};
 
 use crate::compare::{WORD, same_text, word_at};
 use crate::rows::attributes::AttributeTable;
@@ -88,9 +88,7 @@ impl SeenNames {
     #[inline(always)]
     pub(crate) fn put(&mut self, local: &str) -> bool
         ensures fresh { result ≡ false → HasCode self.old.codes (name_code local.now) → ⊥ }
-        ensures put { HasCode self.new.codes (name_code local.now) }
-        ensures kept { (code : ℕ) → HasCode self.old.codes code → HasCode self.new.codes code }
-        ensures from { self.new.from ≡ self.old.from }
+        ensures sees { SeesName self.old self.new local.now }
     {
         let code = name_code(local);
         let came = self.codes[code];
@@ -101,8 +99,7 @@ impl SeenNames {
     /// Puts the names of the attributes of the tag there, and those alone, if they have no codes yet.
     #[inline(always)]
     pub(crate) fn put_few(&mut self, attributes: &AttributeTable<'_>)
-        requires from { self.old.from ≤ length (attribute_rows attributes.now) }
-        requires seen { AreSeen self.old (attribute_rows attributes.now) }
+        requires { AreSeen self.old (attribute_rows attributes.now) }
         ensures coded { HaveCodes self.new (attribute_rows attributes.now) }
         ensures from { self.new.from ≡ self.old.from }
     {
@@ -124,8 +121,7 @@ impl SeenNames {
     /// first; where no name had its code, none is.
     #[inline(always)]
     pub(crate) fn may_have(&mut self, attributes: &AttributeTable<'_>, local: &str) -> bool
-        requires from { self.old.from ≤ length (attribute_rows attributes.now) }
-        requires seen { AreSeen self.old (attribute_rows attributes.now) }
+        requires { AreSeen self.old (attribute_rows attributes.now) }
         ensures first { result ≡ false → (namespaces : List NamespaceDecl) (s : AttributeNamespace)
             → list_any (λ r. has_expanded namespaces s local.now r.0)
             (drop self.old.from (attribute_rows attributes.now)) ≡ false }

@@ -79,12 +79,12 @@ returns-clause-put c =
         other = sym c.is_namespace_decl.ensures ∙ c.if-is_namespace_decl.false;
         added = adds_usual namespaces (few_in t c.args.scope) t.present c.args.seen.now.from (attribute_rows t.attributes) _ one usual space
             (ap (λ (p : AttributePlaces). (record { local = name.local; value = Borrowed value; namespace = space }, p)) (sym places))
-            (put.added true) (subst (λ m. NamespaceWithin m space) (sym (length-map t.namespaces.items.items namespace_view)) found.within)
-            (λ scope h. found.there scope h) (λ scope h. found.known scope h) (put.first true);
+            (put.added true).rows (subst (λ m. NamespaceWithin m space) (sym (length-map t.namespaces.items.items namespace_view)) found.within)
+            (λ scope h. found.there scope h) (λ scope h. found.known scope h) (put.added true).first;
         end = refl;
       };
       others = search;
       from = search;
-      seen = λ _. put.seen true;
+      seen = λ _. put.puts.are_seen true;
       refused = λ none. absurd (omega (arith, none, done));
     }

@@ -19,6 +19,6 @@ returns c =
       };
       others = search;
       from = search;
-      seen = λ _. c.put_resolved.ensures.seen c.if-not-put_resolved.false;
+      seen = λ _. c.put_resolved.ensures.puts.are_seen c.if-not-put_resolved.false;
       refused = λ none. absurd (omega (arith, none, c.in-Some.ensures.read.onward));
     }

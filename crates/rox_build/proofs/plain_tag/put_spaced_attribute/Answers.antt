@@ -17,13 +17,13 @@ returns-then-put_changed c =
         one = c.in-Some.one;
         plain = c.in-Some.ensures;
         other = sym c.is_namespace_decl.ensures ∙ c.if-is_namespace_decl.false;
-        added = adds_row namespaces (few_in t c.args.scope) t.present c.args.seen.now.from (attribute_rows t.attributes) _ c.in-Some.one space put.0
+        added = adds_row namespaces (few_in t c.args.scope) t.present c.args.seen.now.from (attribute_rows t.attributes) _ c.in-Some.one space put.rows
             (subst (λ m. NamespaceWithin m space) (sym (length-map t.namespaces.items.items namespace_view)) found.within)
-            (λ scope h. found.there scope h) (λ scope h. found.known scope h) put.1;
+            (λ scope h. found.there scope h) (λ scope h. found.known scope h) put.first;
         end = refl;
       };
       others = search;
       from = search;
-      seen = λ _. c.put_changed.ensures.seen c.if-put_changed.true;
+      seen = λ _. c.put_changed.ensures.puts.are_seen c.if-put_changed.true;
       refused = λ none. absurd (omega (arith, none, c.in-Some.ensures.onward));
     }

@@ -45,7 +45,7 @@ returns-in_err-resolve-clause-err c =
     let here = seen_by t c.as_slice.result.now (places_view c.few_places-few.result) scope c.as_slice.ensures.value finds in
     let e = c.in_err-resolve.field-0.0 in
     let p = err_from_is_err_and c.from_residual.result c.from_residual.ensures.1 in
-    rw (p.1, p.2) (tested_amiss e scope count c.args.at name written few (c.in_err-resolve.ensures.err scope here))
+    rw (p.1, p.2) (tested_amiss e scope count c.args.at name written few (c.in_err-resolve.ensures scope here))
 
 pub returns-in_err-namespace-clause-err : goal.returns-in_err-namespace-clause-err
 returns-in_err-namespace-clause-err c =
@@ -60,7 +60,7 @@ returns-in_err-namespace-clause-err c =
     let finds = found_for t c.deref.result.now c.deref-2.result.now c.few_places-few.result c.args.scope c.deref.ensures.value c.deref-2.ensures.value c.few_places-few.ensures.few c.few_places-few.ensures.many c.requires.present in
     let here = seen_by t c.as_slice.result.now (places_view c.few_places-few.result) scope c.as_slice.ensures.value finds in
     let here2 = seen_by t c.as_slice-2.result.now (places_view c.few_places-few.result) scope c.as_slice-2.ensures.value finds in
-    let fine = (c.in_ok-resolve.ensures.ok scope here).0 in
+    let fine = (c.in_ok-resolve.ensures scope here).0 in
     let p = err_from_is_err_and c.from_residual-in_err-namespace.result c.from_residual-in_err-namespace.ensures.1 in
     let k = c.in_err-namespace.ensures.err scope here2 in
     rw (p.1, p.2) (tested_unknown scope count c.args.at name written c.in_err-namespace.field-0.0 few fine k.0 k.1)
@@ -78,7 +78,7 @@ returns-clause-tested c =
     let finds = found_for t c.deref.result.now c.deref-2.result.now c.few_places-few.result c.args.scope c.deref.ensures.value c.deref-2.ensures.value c.few_places-few.ensures.few c.few_places-few.ensures.many c.requires.present in
     let here = seen_by t c.as_slice.result.now (places_view c.few_places-few.result) scope c.as_slice.ensures.value finds in
     let here2 = seen_by t c.as_slice-2.result.now (places_view c.few_places-few.result) scope c.as_slice-2.ensures.value finds in
-    tested_known scope count c.args.at name written few (c.in_ok-resolve.ensures.ok scope here).0 (c.in_ok-namespace.ensures.ok scope here2).1
+    tested_known scope count c.args.at name written few (c.in_ok-resolve.ensures scope here).0 (c.in_ok-namespace.ensures.ok scope here2).1
 
 pub overflow_cast-result-2 : goal.overflow_cast-result-2
 overflow_cast-result-2 c =
@@ -91,7 +91,7 @@ overflow_cast-result-2 c =
     (let k = c.args.taken.now.ok.0 in let a = c.if-len-from.false in let b = c.len-from.ensures in let l = c.len.ensures in let most = c.requires.few in let m = length-map c.args.taken.now.items unresolved_view in omega arith) in
     let finds = found_for t c.deref.result.now c.deref-2.result.now c.few_places-few.result c.args.scope c.deref.ensures.value c.deref-2.ensures.value c.few_places-few.ensures.few c.few_places-few.ensures.many c.requires.present in
     let here = seen_by t c.as_slice.result.now (places_view c.few_places-few.result) scope c.as_slice.ensures.value finds in
-    let moved = (c.in_ok-resolve.ensures.ok scope here).1 in
+    let moved = (c.in_ok-resolve.ensures scope here).1 in
     let grown = ap length moved.1 ∙ length-append (attribute_rows t.attributes) moved.0 in
     let n = ap length moved.2 in
     let a = length-map moved.0 (attribute (map namespace_view c.as_slice.result.now)) in
@@ -114,7 +114,7 @@ returns-clause-element c =
     let here2 = seen_by t c.as_slice-2.result.now (places_view c.few_places-few.result) scope c.as_slice-2.ensures.value finds in
     let seen : map namespace_view c.as_slice.result.now ≡ namespaces = ap (map namespace_view) c.as_slice.ensures.value in
     let seen2 : map namespace_view c.as_slice-2.result.now ≡ namespaces = ap (map namespace_view) c.as_slice-2.ensures.value in
-    let moved = (c.in_ok-resolve.ensures.ok scope here).1 in
+    let moved = (c.in_ok-resolve.ensures scope here).1 in
     let named = c.in_ok-namespace.ensures.ok scope here2 in
     let o = c.in_ok-namespace.namespace in
     let same : map (attribute namespaces) moved.0 ≡ map (attribute_in scope) written =

@@ -3,7 +3,7 @@ use Rattle.std.proofs.lemmas.List.{length-map}
 use Rattle.rox_tables.specs.Rows.{AttributeRow, namespace_view, attribute_rows, NamespaceWithin}
 use Rattle.rox_tables.specs.ResolvedNames.{row_of_unresolved}
 use Rattle.rox_tables.specs.SeenNames.{HasNameOf}
-use Rattle.rox_tables.proofs.SeenCodes.{seen_more}
+use Rattle.rox_tables.proofs.SeenCodes.{are_more}
 use Rattle.rox_tables.proofs.AttributeRows.{length_rows, column_behind, all_column}
 use Rattle.rox_tables.proofs.namespaces.resolve.put_resolved.Goals as goal
 
@@ -12,7 +12,7 @@ slice_bounds-done-count c =
     let t = c.args.attributes.now in
     let n = length_rows t in
     let s = ap length c.deref.ensures.value in
-    let from = c.requires.from in
+    let from = c.requires.tag.are_seen.from in
     omega arith
 
 pub slice_bounds-done-start : goal.slice_bounds-done-start
@@ -20,7 +20,7 @@ slice_bounds-done-start c =
     let t = c.args.attributes.now in
     let n = length_rows t in
     let s = ap length c.deref.ensures.value in
-    let from = c.requires.from in
+    let from = c.requires.tag.are_seen.from in
     let within : c.put_few.new.self.from ≤ length c.deref.result.now = omega arith in
     within
 
@@ -29,14 +29,14 @@ offset_bounds-deref-seen c =
     let t = c.args.attributes.now in
     let n = length_rows t in
     let s = ap length c.deref.ensures.value in
-    let from = c.requires.from in
+    let from = c.requires.tag.are_seen.from in
     let within : c.put_few.new.self.from ≤ length c.deref.result.now = omega arith in
     let small = c.deref.type_inv.1 in
     omega (arith, within, small)
 
 pub tested_namespace-requires-clause-done : goal.tested_namespace-requires-clause-done
 tested_namespace-requires-clause-done c =
-    all_column (λ d. NamespaceWithin (length c.args.namespaces.now) d.namespace) c.args.attributes.now c.deref.result.now c.put_few.new.self.from c.deref.ensures.value (rw c.put_few.ensures.from c.requires.done)
+    all_column (λ d. NamespaceWithin (length c.args.namespaces.now) d.namespace) c.args.attributes.now c.deref.result.now c.put_few.new.self.from c.deref.ensures.value (rw c.put_few.ensures.from c.requires.tag.within)
 
 pub returns-clause-added : goal.returns-clause-added
 returns-clause-added c = λ _.
@@ -45,8 +45,8 @@ returns-clause-added c = λ _.
     record {
       namespace = c.in-Ok.namespace;
       rows = c.put_usual.ensures ∙ ap (λ (xs : List AttributeRow). xs ++ row_of_unresolved c.args.one c.in-Ok.namespace ∷ []) c.has_room.ensures.rows;
-      within = subst (λ n. NamespaceWithin n c.in-Ok.namespace) (sym (length-map c.args.namespaces.now namespace_view)) c.in-Ok.ensures.within;
-      there = λ ds h. c.in-Ok.ensures.there ds h;
+      within = subst (λ n. NamespaceWithin n c.in-Ok.namespace) (sym (length-map c.args.namespaces.now namespace_view)) c.in-Ok.ensures.found.within;
+      there = λ ds h. c.in-Ok.ensures.found.there ds h;
       tested = λ ds before rest h shown. c.in-Ok.ensures.tested ds (drop c.put_few.new.self.from old) before rest h column (rw c.put_few.ensures.from shown);
     }
 
@@ -57,8 +57,8 @@ returns-then-before-clause-added c = λ done.
     record {
       namespace = c.in-Ok.namespace;
       rows = c.put_unusual.ensures.put done;
-      within = subst (λ n. NamespaceWithin n c.in-Ok.namespace) (sym (length-map c.args.namespaces.now namespace_view)) c.in-Ok.ensures.within;
-      there = λ ds h. c.in-Ok.ensures.there ds h;
+      within = subst (λ n. NamespaceWithin n c.in-Ok.namespace) (sym (length-map c.args.namespaces.now namespace_view)) c.in-Ok.ensures.found.within;
+      there = λ ds h. c.in-Ok.ensures.found.there ds h;
       tested = λ ds before rest h shown. c.in-Ok.ensures.tested ds (drop c.put_few.new.self.from old) before rest h column (rw c.put_few.ensures.from shown);
     }
 
@@ -66,12 +66,19 @@ pub tested_namespace-requires-clause-seen : goal.tested_namespace-requires-claus
 tested_namespace-requires-clause-seen c =
     all_column (λ d. HasNameOf c.put_few.new.self.codes d) c.args.attributes.now c.deref.result.now c.put_few.new.self.from c.deref.ensures.value c.put_few.ensures.coded
 
-pub returns-clause-seen : goal.returns-clause-seen
-returns-clause-seen c = λ _ _.
-    seen_more c.put_few.new.self c.tested_namespace.new.seen (attribute_rows c.args.attributes.now) _ _
-    (c.put_usual.ensures ∙ ap (λ (xs : List AttributeRow). xs ++ row_of_unresolved c.args.one c.in-Ok.namespace ∷ []) c.has_room.ensures.rows)
-    c.in-Ok.ensures.from (rw c.put_few.ensures.from c.requires.from) c.in-Ok.ensures.kept c.in-Ok.ensures.put c.put_few.ensures.coded
+pub returns-clause-puts : goal.returns-clause-puts
+returns-clause-puts c = record {
+  from = search;
+  refused = λ no. cc no;
+  are_seen = λ _. are_more c.put_few.new.self c.tested_namespace.new.seen (attribute_rows c.args.attributes.now) _ _
+      (c.put_usual.ensures ∙ ap (λ (xs : List AttributeRow). xs ++ row_of_unresolved c.args.one c.in-Ok.namespace ∷ []) c.has_room.ensures.rows)
+      (rw c.put_few.ensures.from c.requires.tag.are_seen.from) c.in-Ok.ensures.sees c.put_few.ensures.coded;
+}
 
-pub returns-then-before-clause-seen : goal.returns-then-before-clause-seen
-returns-then-before-clause-seen c = λ done _.
-    seen_more c.put_few.new.self c.tested_namespace.new.seen (attribute_rows c.args.attributes.now) _ _ (c.put_unusual.ensures.put done) c.in-Ok.ensures.from (rw c.put_few.ensures.from c.requires.from) c.in-Ok.ensures.kept c.in-Ok.ensures.put c.put_few.ensures.coded
+pub returns-then-before-clause-puts : goal.returns-then-before-clause-puts
+returns-then-before-clause-puts c = record {
+  from = search;
+  refused = search;
+  are_seen = λ done. are_more c.put_few.new.self c.tested_namespace.new.seen (attribute_rows c.args.attributes.now) _ _ (c.put_unusual.ensures.put done)
+      (rw c.put_few.ensures.from c.requires.tag.are_seen.from) c.in-Ok.ensures.sees c.put_few.ensures.coded;
+}

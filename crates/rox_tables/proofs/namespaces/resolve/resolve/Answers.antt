@@ -2,7 +2,7 @@ use Rattle.std.proofs.Common.{◌≡◌, ◌<◌, ◌≤◌, length, length-appe
 use Rattle.std.proofs.lemmas.Result.{err_from_is_err_and}
 use Rattle.rox_tables.specs.Rows.{AttributeRow, namespace_view, attribute_rows, NamespaceWithin}
 use Rattle.rox_tables.specs.ResolvedNames.{row_of_unresolved}
-use Rattle.rox_tables.specs.SeenNames.{HasNameOf}
+use Rattle.rox_tables.specs.SeenNames.{HasNameOf, SeesName}
 use Rattle.rox_tables.proofs.SeenCodes.{seen_first, seen_more}
 use Rattle.rox_tables.proofs.AttributeRows.{data_behind, old_within, all_behind, all_column}
 use Rattle.rox_tables.proofs.Resolving.{ends, refuses, moves, resolves, starts, resolves_first, read_again}
@@ -48,8 +48,8 @@ loop-turn-init c = record {
   resolving = λ ds h. resolves_first (map namespace_view c.args.namespaces.now) ds c.args.taken.now.items (attribute_rows c.args.attributes.now);
 }
 
-pub returns-in_err-namespace-clause-err : goal.returns-in_err-namespace-clause-err
-returns-in_err-namespace-clause-err c = λ ds h.
+pub returns-in_err-namespace : goal.returns-in_err-namespace
+returns-in_err-namespace c = λ ds h.
     let l = c.loop-turn in
     let from = l.invariant.from in
     let behind = data_behind l.attributes c.deref.result.now (attribute_rows c.args.attributes.now) l.seen.from c.deref.ensures.value from in
@@ -71,21 +71,21 @@ loop-turn-preserved c =
     let long = ap length l.invariant.moving.table_is ∙ length-append old l.invariant.moving.done in
     let same = read_again l.taken.items l.turn c.index.result.now c.index_mut.result.now here c.index.ensures c.index_mut.ensures.value in
     let made : c.move_row-row.result ≡ row_of_unresolved c.index.result.now c.in_ok-namespace.namespace = c.move_row-row.ensures ∙ ap (λ v. row_of_unresolved v c.in_ok-namespace.namespace) same in
-    let named = subst (λ (r : AttributeRow). HasNameOf c.tested_namespace.new.seen.codes r.0) (sym made) c.in_ok-namespace.ensures.put in
+    let sees = subst (λ (r : AttributeRow). SeesName l.seen c.tested_namespace.new.seen r.0.local.now) (sym made) c.in_ok-namespace.ensures.sees in
     record {
       from = c.in_ok-namespace.ensures.from ∙ from;
-      seen = seen_more l.seen c.tested_namespace.new.seen (attribute_rows l.attributes) _ c.move_row-row.result (c.put.ensures.put c.if-not-put.false) c.in_ok-namespace.ensures.from (omega (arith, from, long)) c.in_ok-namespace.ensures.kept named l.invariant.seen;
+      seen = seen_more l.seen c.tested_namespace.new.seen (attribute_rows l.attributes) _ c.move_row-row.result (c.put.ensures.put c.if-not-put.false) (omega (arith, from, long)) sees l.invariant.seen;
       moving = moves n initial old l.turn l.taken.items (attribute_rows l.attributes) c.index.result.now c.index_mut.result.now c.move_row-row.new.taken c.in_ok-namespace.namespace c.move_row-row.result (attribute_rows c.put.new.self)
-          l.invariant.moving here c.index.ensures c.in_ok-namespace.ensures.within c.move_row-row.ensures (c.put.ensures.put c.if-not-put.false);
+          l.invariant.moving here c.index.ensures c.in_ok-namespace.ensures.found.within c.move_row-row.ensures (c.put.ensures.put c.if-not-put.false);
       resolving = λ ds h. resolves n (map namespace_view c.args.namespaces.now) ds initial old l.turn l.taken.items (attribute_rows l.attributes)
           c.index.result.now c.index_mut.result.now c.in_ok-namespace.namespace c.move_row-row.result (attribute_rows c.put.new.self)
           l.invariant.moving (l.invariant.resolving ds h) here c.index.ensures
           (λ before rest shown. c.in_ok-namespace.ensures.tested ds (drop (length old) (attribute_rows l.attributes)) before rest h behind shown)
-          (c.in_ok-namespace.ensures.there ds h) c.index_mut.ensures.value c.move_row-row.ensures (c.put.ensures.put c.if-not-put.false);
+          (c.in_ok-namespace.ensures.found.there ds h) c.index_mut.ensures.value c.move_row-row.ensures (c.put.ensures.put c.if-not-put.false);
     }
 
-pub returns-clause-ok : goal.returns-clause-ok
-returns-clause-ok c = λ ds h.
+pub returns : goal.returns
+returns c = λ ds h.
     let l = c.loop-turn in
     ends (length c.args.namespaces.now) (map namespace_view c.args.namespaces.now) ds c.args.taken.now.items (attribute_rows c.args.attributes.now) l.turn l.taken.items (attribute_rows l.attributes)
     l.invariant.moving (l.invariant.resolving ds h) (omega arith)

@@ -13,8 +13,8 @@ loop-turn-init c = record {
   sees = sees_start (map namespace_view c.args.namespaces.now) c.new-seen.result.keys (attribute_rows c.args.attributes.now) c.new-seen.ensures.empty;
 }
 
-pub returns-in_err-namespace-clause-err : goal.returns-in_err-namespace-clause-err
-returns-in_err-namespace-clause-err c = λ ds h.
+pub returns-in_err-namespace : goal.returns-in_err-namespace
+returns-in_err-namespace c = λ ds h.
     let l = c.loop-turn in
     let old = attribute_rows c.args.attributes.now in
     let here : l.turn < length l.taken.items = omega arith in
@@ -35,19 +35,19 @@ loop-turn-preserved c =
     let m = l.invariant.moving in
     record {
       moving = moves n initial old l.turn l.taken.items (attribute_rows l.attributes) c.index.result.now c.index_mut.result.now c.move_row-row.new.taken c.in_ok-namespace.namespace c.move_row-row.result (attribute_rows c.put.new.self)
-          m here c.index.ensures c.in_ok-namespace.ensures.within c.move_row-row.ensures (c.put.ensures.put c.if-not-put.false);
+          m here c.index.ensures c.in_ok-namespace.ensures.found.within c.move_row-row.ensures (c.put.ensures.put c.if-not-put.false);
       resolving = λ ds h. resolves n namespaces ds initial old l.turn l.taken.items (attribute_rows l.attributes)
           c.index.result.now c.index_mut.result.now c.in_ok-namespace.namespace c.move_row-row.result (attribute_rows c.put.new.self)
           m (l.invariant.resolving ds h) here c.index.ensures
           (λ before rest shown. c.in_ok-namespace.ensures.tested ds (drop (length old) (attribute_rows l.attributes)) before rest h l.invariant.sees shown)
-          (c.in_ok-namespace.ensures.there ds h) c.index_mut.ensures.value c.move_row-row.ensures (c.put.ensures.put c.if-not-put.false);
+          (c.in_ok-namespace.ensures.found.there ds h) c.index_mut.ensures.value c.move_row-row.ensures (c.put.ensures.put c.if-not-put.false);
       sees = sees_next namespaces l.seen.keys c.seen_namespace.new.seen.keys old m.done (attribute_rows l.attributes) (attribute_rows c.put.new.self) c.move_row-row.result m.table_is (c.put.ensures.put c.if-not-put.false) l.invariant.sees
           (λ h. c.in_ok-namespace.ensures.more _ c.move_row-row.result.0 h (ap (λ (r : AttributeRow). r.0.namespace) c.move_row-row.ensures)
           (ap (λ (r : AttributeRow). r.0.local) c.move_row-row.ensures ∙ ap (λ (t : UnresolvedAttribute). t.name.local) same));
     }
 
-pub returns-clause-ok : goal.returns-clause-ok
-returns-clause-ok c = λ ds h.
+pub returns : goal.returns
+returns c = λ ds h.
     let l = c.loop-turn in
     ends (length c.args.namespaces.now) (map namespace_view c.args.namespaces.now) ds c.args.taken.now.items (attribute_rows c.args.attributes.now) l.turn l.taken.items (attribute_rows l.attributes)
     l.invariant.moving (l.invariant.resolving ds h) (omega arith)

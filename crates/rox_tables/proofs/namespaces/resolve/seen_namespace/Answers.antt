@@ -17,18 +17,18 @@ pub returns-then-branch-clause-tested : goal.returns-then-branch-clause-tested
 returns-then-branch-clause-tested c = λ ds rows before rest h seen shown.
     let namespaces = map namespace_view c.args.namespaces.now in
     let a = unresolved_view c.args.taken.now in
-    let again = sym (repeated_is namespaces ds c.in-Some.namespace a.name rows before (c.in-Some.ensures.there ds h) shown)
+    let again = sym (repeated_is namespaces ds c.in-Some.namespace a.name rows before (c.in-Some.ensures.found.there ds h) shown)
     ∙ sym (sees_is namespaces c.args.seen.now.keys _ c.in-Some.namespace a.name.local _ seen c.namespace_uri.ensures) ∙ sym c.in_ok-is_repeated_name.ensures.value ∙ c.if-branch.true in
-    tested_again ds before a rest (c.in-Some.ensures.known ds h) again
+    tested_again ds before a rest (c.in-Some.ensures.found.known ds h) again
     ∙ ap (λ (s : Span). Err (fault.DuplicatedAttribute s a.start)) (sym (c.local_span.ensures a.name refl))
 
 pub returns-clause-tested : goal.returns-clause-tested
 returns-clause-tested c = λ ds rows before rest h seen shown.
     let namespaces = map namespace_view c.args.namespaces.now in
     let a = unresolved_view c.args.taken.now in
-    let first = sym (repeated_is namespaces ds c.in-Some.namespace a.name rows before (c.in-Some.ensures.there ds h) shown)
+    let first = sym (repeated_is namespaces ds c.in-Some.namespace a.name rows before (c.in-Some.ensures.found.there ds h) shown)
     ∙ sym (sees_is namespaces c.args.seen.now.keys _ c.in-Some.namespace a.name.local _ seen c.namespace_uri.ensures) ∙ sym c.in_ok-is_repeated_name.ensures.value ∙ c.if-branch.false in
-    tested_on ds before a rest (c.in-Some.ensures.known ds h) first
+    tested_on ds before a rest (c.in-Some.ensures.found.known ds h) first
 
 pub returns-clause-more : goal.returns-clause-more
 returns-clause-more c = λ done a seen space local.

@@ -6,10 +6,9 @@ pub returns-clause-fresh : goal.returns-clause-fresh
 returns-clause-fresh c = λ no has.
     not_there c.args.self.now.codes c.name_code-code.result no (rw c.name_code-code.ensures.is has)
 
-pub returns-clause-put : goal.returns-clause-put
-returns-clause-put c =
-    rw (← c.name_code-code.ensures.is) (put_there c.args.self.now.codes c.name_code-code.result (omega arith))
-
-pub returns-clause-kept : goal.returns-clause-kept
-returns-clause-kept c = λ code has.
-    stays_there c.args.self.now.codes c.name_code-code.result (omega arith) code has
+pub returns-clause-sees : goal.returns-clause-sees
+returns-clause-sees c = record {
+  from = search;
+  kept = λ code has. stays_there c.args.self.now.codes c.name_code-code.result (omega arith) code has;
+  put = rw (← c.name_code-code.ensures.is) (put_there c.args.self.now.codes c.name_code-code.result (omega arith));
+}
