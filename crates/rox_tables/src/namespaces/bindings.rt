@@ -182,21 +182,6 @@ impl<'input> PrefixBindings<'input> {
         }
     }
 
-    /// Hides `xml`, if the flag says so.
-    fn hide_xml(&mut self, xml: bool) -> Result<(), AllocError>
-        ensures bound { OnOk result ((namespaces ds : List NamespaceDecl)
-            → IsBound namespaces (bound_place self.old) ds
-            → IsBound namespaces (bound_place self.new) (filter
-            (λ d. not (xml && is_xml d.prefix)) ds)) }
-        ensures keeps { OnOk result (KeepsBindings self.old self.new) }
-    {
-        if !xml {
-            return Ok(());
-        }
-        self.put(Some("xml"), None)?;
-        Ok(())
-    }
-
     /// Gives the prefix of the namespace that is listed at this position its place.
     fn bind(
         &mut self,
@@ -290,7 +275,9 @@ impl<'input> PrefixBindings<'input> {
             × IsBound (map namespace_view namespaces.now) (bound_place self.new)
             (scope_at lists scope)) }
     {
-        self.hide_xml(xml)?;
+        if xml {
+            self.put(Some("xml"), None)?;
+        }
         for position in from..listed.len() {
             self.bind(namespaces, listed, position)?;
         }

@@ -36,24 +36,6 @@ fn add<'a>(
     }
 }
 
-/// Puts those of the namespaces at these places among these.
-fn add_all<'a>(
-    prefixes: &mut BTreeSet<Option<&'a str>>,
-    namespaces: &[Namespace<'a>],
-    places: &[u16],
-) -> Result<(), AllocError>
-    requires { ArePlaces (length namespaces.now) places.now }
-    ensures { OnOk result ((p : Option (List ℕ))
-        → has_prefix p prefixes.new.keys
-        ≡ (has_prefix p prefixes.old.keys
-        || is_declared p (entries (map namespace_view namespaces.now) places.now))) }
-{
-    for place in places {
-        add(prefixes, namespaces[*place as usize].name)?;
-    }
-    Ok(())
-}
-
 /// Keeps the prefix of the last of the places that a tag declares: in the set, where these are many.
 pub fn add_prefix<'a>(
     prefixes: &mut BTreeSet<Option<&'a str>>,
@@ -75,6 +57,8 @@ pub fn add_prefix<'a>(
         return Ok(());
     }
     prefixes.clear();
-    add_all(prefixes, namespaces, own)?;
+    for place in own {
+        add(prefixes, namespaces[*place as usize].name)?;
+    }
     Ok(())
 }

@@ -89,27 +89,7 @@ fn namespace_uri<'a>(
     }
 }
 
-/// Whether an attribute has this expanded name. Namespaces are equal where their URIs are.
-#[inline]
-fn has_expanded(
-    namespaces: &[Namespace<'_>],
-    attribute: &StoredAttribute<'_>,
-    namespace: AttributeNamespace,
-    local: &str,
-) -> bool
-    requires one { NamespaceWithin (length namespaces.now) (data_of attribute.now).namespace }
-    requires other { NamespaceWithin (length namespaces.now) namespace }
-    ensures { result ≡ has_expanded (map namespace_view namespaces.now) namespace local.now
-        (data_of attribute.now) }
-{
-    same_text(attribute.local, local)
-        && same_prefix(
-            namespace_uri(namespaces, attribute.namespace()),
-            namespace_uri(namespaces, namespace),
-        )
-}
-
-/// Whether one of these attributes, which are some, has this expanded name.
+/// Whether one of these attributes, which are some, has this expanded name. Namespaces are equal where their URIs are.
 #[inline(never)]
 fn is_among(
     namespaces: &[Namespace<'_>],
@@ -125,7 +105,12 @@ fn is_among(
         (data_of a)) done.now }
 {
     for attribute in done {
-        if has_expanded(namespaces, attribute, namespace, local) {
+        if same_text(attribute.local, local)
+            && same_prefix(
+                namespace_uri(namespaces, attribute.namespace()),
+                namespace_uri(namespaces, namespace),
+            )
+        {
             return true;
         }
     }

@@ -1,19 +1,32 @@
-use Rattle.std.proofs.Common.{◌≡◌, ◌<◌, ◌≤◌, ◌++◌, ◌∷◌, ◌&&◌, [], not, filter, map, length, reverse, slice_range, subst, sym, refl, arith}
+use Rattle.std.proofs.Common.{◌≡◌, ◌<◌, ◌≤◌, ◌++◌, ◌∷◌, ◌&&◌, [], Some, None, not, filter, map, length, reverse, slice_range, subst, sym, refl, arith}
+use Rattle.rox_grammar.specs.declared.fault.Word.TheVariants.{Xml}
+use Rattle.rox_grammar.specs.FixedTexts.{word_text}
 use Rattle.rox_grammar.specs.Tree.{is_xml}
 use Rattle.rox_tables.specs.Rows.{namespace_view, scope_at}
 use Rattle.rox_tables.specs.Scopes.{entries}
 use Rattle.rox_tables.specs.Bindings.{bound_place, IsBound}
 use Rattle.rox_tables.specs.declared.namespaces.bindings.ScopeFrame.{ScopeFrame}
-use Rattle.rox_tables.proofs.Presenting.{stacked_push, keeps_by, bound_others, reverse_none, reverse_more}
+use Rattle.rox_tables.proofs.Presenting.{stacked_push, keeps_by, bound_others, bound_hidden, bound_unhidden, found_put, reverse_none, reverse_more}
 use Rattle.rox_tables.proofs.namespaces.bindings.PrefixBindings.enter.Goals as goal
+use Rattle.rox_tables.proofs.namespaces.bindings.PrefixBindings.enter.Goals.{then-xml+in_ok-put, else-xml}
 
 pub loop-position-init : goal.loop-position-init
 loop-position-init c =
     let namespaces = map namespace_view c.args.namespaces.now in
-    record {
-      bound = λ ds h. subst (λ xs. IsBound namespaces (bound_place c.hide_xml.new.self) (entries namespaces xs ++ filter (λ d. not (c.args.xml && is_xml d.prefix)) ds)) (sym (reverse_none c.args.listed.now c.args.from)) (c.in_ok-hide_xml.ensures.bound namespaces ds h);
-      keeps = c.in_ok-hide_xml.ensures.keeps;
-    }
+    let old = c.args.self.now in
+    elim c.if-xml.branch [
+      | then-xml+in_ok-put w ↦
+          let g = bound_place w.put.new.self in
+          rw w.self-is (record {
+            bound = λ ds h. rw reverse_none (subst (λ b. IsBound namespaces g (filter (λ d. not (b && is_xml d.prefix)) ds)) (sym w.if-xml.true) (bound_hidden namespaces ds (bound_place old) g (found_put old w.put.new.self (Some (word_text Xml)) None w.in_ok-put.ensures.present) h));
+            keeps = w.in_ok-put.ensures.keeps;
+          })
+      | else-xml w ↦
+          rw w.self-is (record {
+            bound = λ ds h. rw reverse_none (subst (λ b. IsBound namespaces (bound_place old) (filter (λ d. not (b && is_xml d.prefix)) ds)) (sym w.if-xml.false) (bound_unhidden namespaces ds (bound_place old) h));
+            keeps = λ namespaces lists h. h;
+          })
+    ]
 
 pub loop-position-preserved : goal.loop-position-preserved
 loop-position-preserved c =
