@@ -41,7 +41,7 @@ impl<'a, 'input> NamespaceIter<'a, 'input> {
 
     /// All that a scope lists of these places, in this table of namespaces.
     #[inline]
-    #[tactic(auto, using(crate::proofs::Ends::whole))]
+    #[tactic(auto, using(crate::proofs::Ends::whole, rox_tables::proofs::Ropes::count_places))]
     pub(crate) fn of_scope(
         scopes: &'a [Scope],
         listed: &'a [u16],

@@ -140,26 +140,24 @@ fn prefix_among<'input>(
     None
 }
 
-/// The first that any scope lists of this URI. It is kept out of line, since few scopes list many.
+/// The prefix of the first that any scope lists of this URI. It is kept out of line, since few scopes list many.
 #[cold]
 #[inline(never)]
-fn first_of_uri<'a, 'input>(
-    scopes: &'a [Scope],
-    listed: &'a [u16],
-    namespaces: &'a [Namespace<'input>],
+fn first_of_uri<'input>(
+    scopes: &[Scope],
+    listed: &[u16],
+    namespaces: &[Namespace<'input>],
     scope: u32,
     uri: &str,
-) -> Option<&'a Namespace<'input>>
+) -> Option<&'input str>
     requires { IsScopeOf (length namespaces.now) listed.now scopes.now scope }
-    ensures some { IfSome result (λ n. (namespace_view n.now).prefix
+    ensures { option_map (λ s. s.now) result
         ≡ first_prefix uri.now (entries (map namespace_view namespaces.now)
-        (places_in listed.now scopes.now scope))) }
-    ensures none { IfNone result (first_prefix uri.now (entries (map namespace_view namespaces.now)
-        (places_in listed.now scopes.now scope)) ≡ None) }
+        (places_in listed.now scopes.now scope)) }
 {
     for namespace in NamespaceIter::of_scope(scopes, listed, namespaces, scope) {
         if namespace.uri() == uri {
-            return Some(namespace);
+            return namespace.name();
         }
     }
     None
@@ -183,8 +181,5 @@ pub(crate) fn prefix_in_scope<'input>(
         let places = &listed[stretch.from as usize..stretch.until as usize];
         return prefix_among(namespaces, places, uri);
     }
-    match first_of_uri(scopes, listed, namespaces, scope, uri) {
-        Some(namespace) => namespace.name(),
-        None => None,
-    }
+    first_of_uri(scopes, listed, namespaces, scope, uri)
 }
