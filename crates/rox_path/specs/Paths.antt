@@ -1,5 +1,6 @@
 -- Paths as they are written: places in the bytes of a text, from 0.
 use Rattle.std.specs.Prelude.{◌≡◌, ◌≢◌, ◌⊎◌, ℕ, ◌+◌, ◌<◌, ◌==◌, ◌||◌, List, [], ◌∷◌, Some, None, length}
+use Rattle.std.specs.Str.{IsCharBoundary}
 use Rattle.rox_grammar.specs.Search.{byte_from}
 use Rattle.rox_grammar.specs.Names.{byte, slice}
 use Rattle.rox_path.specs.Steps.{Expanded, PathStep, child, descendant}
@@ -22,6 +23,11 @@ pub data IsStepName (text : List ℕ) (i : ℕ) : ℕ → Expanded → Type 0 wh
 pub data IsStep (text : List ℕ) (i j : ℕ) : PathStep → Type 0 where
   one_slash : (name : Expanded) → byte text i ≡ 47 → IsStepName text (i + 1) j name → IsStep text i j (child name)
   two_slashes : (name : Expanded) → byte text i ≡ 47 → byte text (i + 1) ≡ 47 → IsStepName text (i + 2) j name → IsStep text i j (descendant name)
+
+-- what ends at j is not empty, and is cut off between two characters
+pub record EndsBehind (text : List ℕ) (i j : ℕ) : Type 0 where
+  pub onward : i < j
+  pub cut : IsCharBoundary text j
 
 -- one or more steps from i up to the end
 pub data IsPath (text : List ℕ) : ℕ → List PathStep → Type 0 where

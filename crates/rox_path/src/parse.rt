@@ -5,7 +5,7 @@ ghost use Rattle.std.specs.Str.{IsCharBoundary};
 ghost use Rattle.rox_grammar.specs.Names.{byte, slice};
 ghost use Rattle.roxmltree.specs.ExpandedNames.{expanded};
 ghost use Rattle.rox_path.specs.Steps.{PathStep, step_of};
-ghost use Rattle.rox_path.specs.Paths.{local_end, uri_end, IsStepName, IsStep, IsPath, IsBadName, IsBadStep, IsBadAt};
+ghost use Rattle.rox_path.specs.Paths.{local_end, uri_end, EndsBehind, IsStepName, IsStep, IsPath, IsBadName, IsBadStep, IsBadAt};
 ghost use Rattle.rox_path.specs.PathMessages.{ToldAt};
 ghost use Rattle.rox_path.specs.declared.parse.PathError.TheVariants.{OutOfMemory};
 
@@ -77,8 +77,7 @@ pub fn parse_path<'q>(alloc: Global, text: &'q str) -> Result<Vec<Step<'q>>, Pat
 fn step_at<'q>(text: &'q str, at: usize) -> Result<(Step<'q>, usize), PathError>
     requires { IsCharBoundary text.now at }
     ensures step { IfOk result (λ r. IsStep text.now at r.1 (step_of r.0)) }
-    ensures onward { IfOk result (λ r. at < r.1) }
-    ensures cut { IfOk result (λ r. IsCharBoundary text.now r.1) }
+    ensures ends { IfOk result (λ r. EndsBehind text.now at r.1) }
     ensures bad { IfErr result (ToldAt (IsBadStep text.now at)) }
 {
     if !is_at(text, at, b'/') {
@@ -97,8 +96,7 @@ fn step_at<'q>(text: &'q str, at: usize) -> Result<(Step<'q>, usize), PathError>
 fn name_at<'q>(text: &'q str, at: usize) -> Result<(ExpandedName<'q, 'q>, usize), PathError>
     requires { IsCharBoundary text.now at }
     ensures name { IfOk result (λ r. IsStepName text.now at r.1 (expanded r.0)) }
-    ensures onward { IfOk result (λ r. at < r.1) }
-    ensures cut { IfOk result (λ r. IsCharBoundary text.now r.1) }
+    ensures ends { IfOk result (λ r. EndsBehind text.now at r.1) }
     ensures bad { IfErr result (ToldAt (IsBadName text.now at)) }
 {
     if !is_at(text, at, b'{') {
@@ -113,32 +111,21 @@ fn name_at<'q>(text: &'q str, at: usize) -> Result<(ExpandedName<'q, 'q>, usize)
     Ok((ExpandedName::from((&text[at + 1..close], local)), end))
 }
 
-/// The local name that begins at this place, and where it ends.
+/// The local name that begins at this place, and where it ends: at the next `/`, `{` or `}`, or at the end.
+#[tactic(auto, unfolding(rox_grammar::specs::Search::byte_from))]
 fn local_at(text: &str, at: usize) -> Result<(&str, usize), PathError>
     requires { IsCharBoundary text.now at }
     ensures end { IfOk result (λ r. r.1 ≡ local_end text.now at) }
-    ensures onward { IfOk result (λ r. at < r.1) }
     ensures local { IfOk result (λ r. r.0.now ≡ slice text.now at r.1) }
-    ensures cut { IfOk result (λ r. IsCharBoundary text.now r.1) }
+    ensures ends { IfOk result (λ r. EndsBehind text.now at r.1) }
     ensures bad { IfErr result (ToldAt (λ k. (k ≡ at) × (local_end text.now at ≡ at))) }
 {
-    let end = local_end(text, at);
+    let rest = text.as_bytes().split_at(at).1;
+    let end = at + memchr3(b'/', b'{', b'}', rest).unwrap_or(rest.len());
     if end == at {
         return Err(PathError::BadPath(at));
     }
     Ok((&text[at..end], end))
-}
-
-/// Where a local name ends that begins at this place: at the next `/`, `{` or `}`, or at the end.
-#[tactic(auto, unfolding(rox_grammar::specs::Search::byte_from))]
-fn local_end(text: &str, at: usize) -> usize
-    requires { at ≤ length text.now }
-    ensures value { result ≡ local_end text.now at }
-    ensures onward { at ≤ result }
-    ensures cut { IsCharBoundary text.now result }
-{
-    let rest = text.as_bytes().split_at(at).1;
-    at + memchr3(b'/', b'{', b'}', rest).unwrap_or(rest.len())
 }
 
 /// Where a URI ends that begins at this place: at the next `}`, or at the end.

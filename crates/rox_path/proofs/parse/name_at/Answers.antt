@@ -13,7 +13,7 @@ returns-in_err-local-clause-bad c =
 
 pub returns-then-not-is_at-clause-name : goal.returns-then-not-is_at-clause-name
 returns-then-not-is_at-clause-name c =
-    name_alone _ _ _ _ c.in_ok-local.ensures.end c.in_ok-local.ensures.onward (c.from.ensures ∙ ap (λ local. (None, local)) c.in_ok-local.ensures.local)
+    name_alone _ _ _ _ c.in_ok-local.ensures.end c.in_ok-local.ensures.ends.onward (c.from.ensures ∙ ap (λ local. (None, local)) c.in_ok-local.ensures.local)
 
 pub returns-then-close-text-clause-bad : goal.returns-then-close-text-clause-bad
 returns-then-close-text-clause-bad c =
@@ -44,4 +44,4 @@ same_expanded_name x u v a b is e f = cc
 pub returns-clause-name : goal.returns-clause-name
 returns-clause-name c =
     let within : c.uri_end-close.result < length c.args.text.now = omega (arith, c.uri_end-close.ensures.within, c.if-close-text.false) in
-    name_with _ _ _ _ _ (c.if-not-is_at.ensures.yes refl).1 c.uri_end-close.ensures.value within c.in_ok-local-2.ensures.end c.in_ok-local-2.ensures.onward (same_expanded_name _ _ _ _ _ c.from-2.ensures c.range.ensures.value c.in_ok-local-2.ensures.local)
+    name_with _ _ _ _ _ (c.if-not-is_at.ensures.yes refl).1 c.uri_end-close.ensures.value within c.in_ok-local-2.ensures.end c.in_ok-local-2.ensures.ends.onward (same_expanded_name _ _ _ _ _ c.from-2.ensures c.range.ensures.value c.in_ok-local-2.ensures.local)
