@@ -8,7 +8,7 @@ ghost use Rattle.rox_path.specs.Paths.{IsPath};
 use crate::fault::Fault;
 use crate::listing;
 use crate::options::Command;
-use rox_path::{PathError, Step, parse_path, select};
+use rox_path::{Step, parse_path, select};
 use rox_programs::input;
 use rox_programs::program_error::ProgramError;
 use roxmltree::{Document, ParsingOptions};
@@ -58,7 +58,10 @@ fn print<I: Read + Drop, O: Write>(
     ensures bad_path { IfSome command.now.path (λ p. ((steps : List PathStep)
         → IsPath (string_bytes p) 0 steps → ⊥) → IsErr result) }
 {
-    let steps = steps_of(alloc, command)?;
+    let steps = match &command.path {
+        Some(path) => Some(parse_path(alloc, path.as_str())?),
+        None => None,
+    };
     let bytes = input::read_all(alloc, input)?;
     let text = input::decode(&bytes)?;
     print_text(alloc, text, command.allow_dtd, steps.as_ref(), out)
@@ -76,20 +79,6 @@ fn print_text<O: Write>(
     match Document::parse_with_options(alloc, text, options) {
         Ok(document) => Ok(write_buffered(alloc, &document, steps, out)?),
         Err(error) => Err(Fault::Refused(error)),
-    }
-}
-
-/// The steps of the path that is asked for, if one is.
-fn steps_of(alloc: Global, command: &Command) -> Result<Option<Vec<Step<'_>>>, PathError>
-    ensures none { command.now.path ≡ None → IsOk result }
-    ensures path { IfSome command.now.path
-        (λ p. IfOk result
-        (λ steps. IfSome steps (λ v. IsPath (string_bytes p) 0 (map step_of v.items)))) }
-    ensures read { IfSome command.now.path (λ p. IfOk result IsSome) }
-{
-    match &command.path {
-        Some(path) => Ok(Some(parse_path(alloc, path.as_str())?)),
-        None => Ok(None),
     }
 }
 
