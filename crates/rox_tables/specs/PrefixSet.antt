@@ -20,8 +20,11 @@ pub record HasPrefixes (table : List Namespace) (own : List ℕ) (keys : List (O
   pub places : ArePlaces (length table) own
   pub prefix_set : IsPrefixSet (map namespace_view table) own keys
 
--- what a tag declares is listed from this place on, and the keys are its prefixes, if they are many
-pub record ListsOwn (table : List Namespace) (listed : List ℕ) (keys : List (Option (Bor (List ℕ)))) (from : ℕ) : Type 0 where
+-- A tag is read below a scope of few, those of a stretch: behind it, from a place on, what the tag declares is listed, and the keys are
+-- its prefixes, if they are many.
+pub record IsBelowFew (table : List Namespace) (listed : List ℕ) (keys : List (Option (Bor (List ℕ)))) (first last from : ℕ) : Type 0 where
   pub places : ArePlaces (length table) listed
-  pub within : from ≤ length listed
+  pub own : from ≤ length listed
   pub prefix_set : IsPrefixSet (map namespace_view table) (drop from listed) keys
+  pub ordered : first ≤ last
+  pub behind : last ≤ from

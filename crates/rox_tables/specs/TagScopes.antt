@@ -32,8 +32,9 @@ pub record HasOpenTag (t : ElementTables) (above own : ℕ) : Type 0 where
   pub own_once : PrefixesOnce (entries (map namespace_view t.namespaces.items.items) (drop own t.listed.items))
   pub kept : HasBindings t
 
--- A scope lists each prefix once, and the prefixes have their places; what a tag below it declares is listed from a place on.
-pub record IsAbove (table : List Namespace) (listed : List ℕ) (scopes : List Scope) (present : PrefixBindings) (above from : ℕ) : Type 0 where
+-- A tag is read below a scope of many, which lists each prefix once, and whose prefixes have their places; from a place on what the tag
+-- declares is listed.
+pub record IsBelowMany (table : List Namespace) (listed : List ℕ) (scopes : List Scope) (present : PrefixBindings) (above from : ℕ) : Type 0 where
   pub scope : IsScopeOf (length table) listed scopes above
   pub own : from ≤ length listed
   pub once : PrefixesOnce (entries (map namespace_view table) (places_in listed scopes above))

@@ -6,7 +6,7 @@ ghost use Rattle.std.specs.Option.{option_map};
 ghost use Rattle.rox_grammar.specs.Tree.{same_prefix, is_declared, uri_of, is_xml};
 ghost use Rattle.rox_tables.specs.Rows.{namespace_view, namespace_at, OptionWithin, AreScopes};
 ghost use Rattle.rox_tables.specs.Scopes.{prefix_view, entries, places_in, is_few_at, ArePlaces, others};
-ghost use Rattle.rox_tables.specs.PrefixSet.{HasPrefixes, ListsOwn};
+ghost use Rattle.rox_tables.specs.PrefixSet.{HasPrefixes, IsBelowFew};
 ghost use Rattle.rox_tables.specs.Ropes.{IsScope};
 ghost use Rattle.rox_tables.specs.Bindings.{FindsPlace, LooksUp, LooksWithin, places_view};
 
@@ -219,8 +219,7 @@ pub fn inherit<'a>(
     from: usize,
     until: usize,
 ) -> Result<(), AllocError>
-    requires own { ListsOwn namespaces.now listed.old.items prefix_set.now.keys own.from }
-    requires parent { (from ≤ until) × (until ≤ own.from) }
+    requires { IsBelowFew namespaces.now listed.old.items prefix_set.now.keys from until own.from }
     ensures { OnOk result ((more : List ℕ) × (listed.new.items ≡ listed.old.items ++ more)
         × ArePlaces (length namespaces.now) more
         × (entries (map namespace_view namespaces.now) more

@@ -6,10 +6,10 @@ ghost use Rattle.rox_grammar.specs.Written.{NamespaceDecl};
 ghost use Rattle.rox_grammar.specs.Tree.{is_declared};
 ghost use Rattle.rox_tables.specs.Rows.{namespace_view, AreScopes};
 ghost use Rattle.rox_tables.specs.Scopes.{prefix_view, entries, places_in, ArePlaces, PrefixesOnce, others, unlisted};
-ghost use Rattle.rox_tables.specs.PrefixSet.{IsPrefixSet, ListsOwn};
+ghost use Rattle.rox_tables.specs.PrefixSet.{IsPrefixSet, IsBelowFew};
 ghost use Rattle.rox_tables.specs.Bindings.{IsBound, bound_place};
 ghost use Rattle.rox_tables.specs.Ropes.{IsListed, IsScopeOf};
-ghost use Rattle.rox_tables.specs.TagScopes.{HasOpenTag, HasScope, IsAbove};
+ghost use Rattle.rox_tables.specs.TagScopes.{HasOpenTag, HasScope, IsBelowMany};
 
 use crate::namespaces::bindings::PrefixBindings;
 use crate::namespaces::prefix_set::FEW;
@@ -49,9 +49,9 @@ pub fn listed_below_few<'input>(
     above: Stretch,
     own: OwnDeclarations,
 ) -> Result<u32, AllocError>
-    requires own { ListsOwn namespaces.now listed.old.items prefix_set.now.keys own.from }
+    requires below { IsBelowFew namespaces.now listed.old.items prefix_set.now.keys above.from
+        above.until own.from }
     requires scopes { AreScopes (length listed.old.items) scopes.old.items }
-    requires above { (above.from ≤ above.until) × (above.until ≤ own.from) }
     ensures { IfOk result
         (λ s. IsListed (map namespace_view namespaces.now) listed.old.items scopes.old.items
         listed.new.items scopes.new.items s
@@ -114,7 +114,8 @@ fn hide_own<'input>(
     scope: u32,
     own: OwnDeclarations,
 ) -> Result<u32, AllocError>
-    requires { IsAbove namespaces.now listed.now scopes.old.items present.now scope own.from }
+    requires { IsBelowMany namespaces.now listed.now scopes.old.items present.now
+        scope own.from }
     ensures { IfOk result
         (λ s. IsListed (map namespace_view namespaces.now) listed.now scopes.old.items listed.now
         scopes.new.items s
@@ -144,7 +145,8 @@ pub fn listed_below_many<'input>(
     above: u32,
     own: OwnDeclarations,
 ) -> Result<u32, AllocError>
-    requires { IsAbove namespaces.now listed.old.items scopes.old.items present.now above own.from }
+    requires { IsBelowMany namespaces.now listed.old.items scopes.old.items present.now
+        above own.from }
     ensures value { IfOk result
         (λ s. IsListed (map namespace_view namespaces.now) listed.old.items scopes.old.items
         listed.new.items scopes.new.items s

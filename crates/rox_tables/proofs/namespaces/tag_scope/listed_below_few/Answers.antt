@@ -8,7 +8,7 @@ use Rattle.rox_tables.proofs.Sharing.{inherits_listed, places_behind, scopes_beh
 use Rattle.rox_tables.proofs.namespaces.tag_scope.listed_below_few.Goals as goal
 
 pub add_back-requires-clause-from : goal.add_back-requires-clause-from
-add_back-requires-clause-from c = within_behind c.args.listed.now.items _ _ c.args.own.from c.in_ok-inherit.ensures.1 c.requires.own.within
+add_back-requires-clause-from c = within_behind c.args.listed.now.items _ _ c.args.own.from c.in_ok-inherit.ensures.1 c.requires.below.own
 
 pub add_back-requires-clause-scopes : goal.add_back-requires-clause-scopes
 add_back-requires-clause-scopes c = scopes_behind c.args.listed.now.items _ _ c.args.scopes.now.items c.in_ok-inherit.ensures.1 c.requires.scopes
@@ -20,7 +20,7 @@ returns-then-end-own-gt-FEW c =
     let mid = c.inherit.new.listed.items in
     let (more, grown, places, is) = c.in_ok-inherit.ensures in
     let n = length-map c.args.namespaces.now namespace_view in
-    inherits_listed namespaces old mid _ more c.args.scopes.now.items _ c.in_ok-many.many c.args.own.from _ c.requires.own.within grown
+    inherits_listed namespaces old mid _ more c.args.scopes.now.items _ c.in_ok-many.many c.args.own.from _ c.requires.below.own grown
     (λ h. places_behind (length namespaces) old mid more grown h (subst (λ n. ArePlaces n more) (sym n) places)) is (c.in_ok-many.ensures.value namespaces)
 
 pub returns : goal.returns
@@ -37,10 +37,10 @@ returns c =
     let ends : c.len-end.result ≡ length mid = omega arith in
     let s : Stretch = c.in_ok-few.few in
     let from_is : s.from ≡ c.args.own.from = ap (λ x. x.from) c.in_ok-few.ensures in
-    let within : c.args.own.from ≤ length mid = within_behind old _ _ c.args.own.from grown c.requires.own.within in
+    let within : c.args.own.from ≤ length mid = within_behind old _ _ c.args.own.from grown c.requires.below.own in
     let le : s.from ≤ length mid = rw from_is within in
     let few : IsListed namespaces mid scopes mid rows place (entries namespaces (drop c.args.own.from mid)) =
     subst (λ k. IsListed namespaces mid scopes mid rows place (entries namespaces (drop k mid))) from_is
     (few_listed namespaces mid scopes rows s place le (ap (λ x. x.until) c.in_ok-few.ensures ∙ ends) (scopes_behind old _ _ scopes grown c.requires.scopes) c.in_ok-place.ensures.items c.in_ok-place.ensures.value) in
-    inherits_listed namespaces old mid _ more scopes _ place c.args.own.from _ c.requires.own.within grown
+    inherits_listed namespaces old mid _ more scopes _ place c.args.own.from _ c.requires.below.own grown
     (λ h. places_behind (length namespaces) old mid more grown h (subst (λ n. ArePlaces n more) (sym n) places)) is few
