@@ -1,8 +1,8 @@
 //! What the program does, from its input to its status.
 
-ghost use Rattle.std.specs.Prelude.{◌≡◌, ◌<◌, ◌≤◌, List, None, map, string_bytes, IsNone, IsSome, IfSome, IfOk, IsOk, IsErrOf};
+ghost use Rattle.std.specs.Prelude.{◌≡◌, ◌<◌, ◌≤◌, List, None, string_bytes, IsNone, IfSome, IsErrOf};
 ghost use Rattle.std.specs.Result.{IsErr};
-ghost use Rattle.rox_path.specs.Steps.{PathStep, step_of};
+ghost use Rattle.rox_path.specs.Steps.{PathStep};
 ghost use Rattle.rox_path.specs.Paths.{IsPath};
 
 use crate::fault::Fault;

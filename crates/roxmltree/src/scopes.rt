@@ -1,7 +1,7 @@
 //! What a scope lists for a prefix, and for a URI. The stretches of a rope are gone over from leaf to leaf for a prefix: by its
 //! index each place would be sought from the top.
 
-ghost use Rattle.std.specs.Prelude.{◌≡◌, ◌++◌, None, length, map, reverse, IfSome, IfNone};
+ghost use Rattle.std.specs.Prelude.{◌≡◌, ◌++◌, None, length, map, reverse};
 ghost use Rattle.std.specs.Option.{option_map};
 ghost use Rattle.rox_grammar.specs.Tree.{same_prefix, uri_of};
 ghost use Rattle.rox_tables.specs.Rows.{namespace_view};

@@ -1,11 +1,11 @@
 //! The place that each prefix stands for, where an element lists many namespaces: a map of those of the innermost scope, and
 //! what they stood for around it, which is taken back when a scope around it is asked for.
 
-ghost use Rattle.std.specs.Prelude.{◌≡◌, ◌<◌, ◌≤◌, ◌+◌, ◌-◌, ◌++◌, ◌⊎◌, ℕ, List, Option, Some, None, Bool, true, length, map, take, reverse, slice_index, slice_range, OnOk, if◌then◌else◌};
+ghost use Rattle.std.specs.Prelude.{◌≡◌, ◌<◌, ◌≤◌, ◌+◌, ◌-◌, ◌++◌, ◌⊎◌, ℕ, List, Option, Some, None, true, length, map, take, reverse, slice_index, slice_range, OnOk, if◌then◌else◌};
 ghost use Rattle.rox_grammar.specs.Tree.{same_prefix};
 ghost use Rattle.rox_grammar.specs.Written.{NamespaceDecl};
-ghost use Rattle.rox_tables.specs.Rows.{namespace_view, namespace_at, lists_of, scope_at, AreScopes};
-ghost use Rattle.rox_tables.specs.Scopes.{prefix_view, entries, places_in, ArePlaces, others};
+ghost use Rattle.rox_tables.specs.Rows.{namespace_view, namespace_at, lists_of, scope_at};
+ghost use Rattle.rox_tables.specs.Scopes.{prefix_view, entries, ArePlaces};
 ghost use Rattle.rox_tables.specs.Ropes.{IsScopeOf};
 
 use crate::namespaces::rope::{count, position_at};
@@ -50,8 +50,7 @@ pub struct PrefixBindings<'input> {
 }
 
 impl<'input> PrefixBindings<'input> {
-    ghost use Rattle.std.specs.Prelude.{◌∷◌, [], ◌&&◌, not, filter};
-    ghost use Rattle.rox_grammar.specs.Tree.{is_xml};
+    ghost use Rattle.std.specs.Prelude.{◌∷◌, [], ◌&&◌};
     ghost use Rattle.rox_tables.specs.Bindings.{bound_place, place_in, AreBindingsOf, KeepsBindings, IsBound, IsEntered, is_innermost};
     ghost use Rattle.rox_tables.specs.declared.namespaces.bindings.ScopeFrame.{ScopeFrame};
 

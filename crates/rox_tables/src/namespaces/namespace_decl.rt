@@ -1,19 +1,15 @@
 //! The declarations of a start tag, one by one (XML 1.0 section 3.1, Namespaces in XML 1.0 section 3).
 
-ghost use Rattle.std.specs.Prelude.{◌≡◌, ◌<◌, ◌≤◌, ◌+◌, ◌-◌, ◌^◌, List, ℕ, false, length, map, drop, Ok, Err, OnOk};
-ghost use Rattle.rox_grammar.specs.declared.fault.Span.{Span as SpecSpan};
+ghost use Rattle.std.specs.Prelude.{◌≡◌, ◌<◌, ◌+◌, ◌-◌, ◌^◌, List, ℕ, length, map, Ok, Err, OnOk};
 ghost use Rattle.rox_grammar.specs.Written.{Attribute, NamespaceDecl, Name, is_namespace_decl, local_span, prefix_span};
-ghost use Rattle.rox_grammar.specs.Document.{most_pairs};
 ghost use Rattle.rox_reading.specs.Tags as spec;
 ghost use Rattle.rox_grammar.specs.Failures.{name_view};
 ghost use Rattle.rox_tables.specs.Rows.{namespace_view, lists_of, AreScopes};
-ghost use Rattle.rox_tables.specs.Scopes.{ArePlaces, entries, prefix_view};
-ghost use Rattle.rox_tables.specs.PrefixSet.{HasPrefixes};
+ghost use Rattle.rox_tables.specs.Scopes.{prefix_view};
 ghost use Rattle.rox_tables.specs.Bindings.{AreBindingsOf};
 ghost use Rattle.rox_tables.specs.declared.namespaces.bindings.PrefixBindings.{PrefixBindings};
 ghost use Rattle.rox_tables.specs.declared.rows.tables.Scope.{Scope};
-ghost use Rattle.rox_tables.specs.TagDeclarations.{unresolved_view, declares_xml, Declares, Declared, HasOwn};
-ghost use Rattle.rox_grammar.specs.Tree.{is_declared, listable_of};
+ghost use Rattle.rox_tables.specs.TagDeclarations.{unresolved_view, Declares, Declared, HasOwn};
 ghost use Rattle.rox_reading.specs.Tags.{TagSoFar};
 
 use crate::compare::same_text;

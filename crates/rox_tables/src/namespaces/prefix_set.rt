@@ -1,9 +1,9 @@
 //! The prefixes that a tag declares, where it has many declarations.
 
 ghost use Rattle.std.specs.Prelude.{◌≡◌, ◌<◌, ◌++◌, ◌∷◌, ◌||◌, [], ℕ, List, Option, length, map, OnOk};
-ghost use Rattle.rox_grammar.specs.Tree.{same_prefix, is_declared};
+ghost use Rattle.rox_grammar.specs.Tree.{same_prefix};
 ghost use Rattle.rox_tables.specs.Rows.{namespace_view, namespace_at};
-ghost use Rattle.rox_tables.specs.Scopes.{prefix_view, entries, ArePlaces};
+ghost use Rattle.rox_tables.specs.Scopes.{prefix_view, ArePlaces};
 ghost use Rattle.rox_tables.specs.PrefixSet.{has_prefix, IsPrefixSet};
 
 use crate::rows::tables::Namespace;

@@ -1,7 +1,7 @@
 //! The names of a start tag in their namespaces (Namespaces in XML 1.0, sections 5, 6.2 and 6.3). They are resolved at the
 //! end of the tag, since a declaration holds for the whole of it.
 
-ghost use Rattle.std.specs.Prelude.{◌≡◌, ℕ, ◌<◌, ◌≤◌, ◌+◌, ◌^◌, ◌++◌, ◌∷◌, [], drop, List, length, map, true, false, IfOk, OnOk, IfErr, IfSome, IfNone, Ok};
+ghost use Rattle.std.specs.Prelude.{◌≡◌, ◌<◌, ◌≤◌, ◌+◌, ◌^◌, ◌++◌, ◌∷◌, [], drop, List, length, map, true, false, IfOk, IfErr, IfSome, IfNone, Ok};
 ghost use Rattle.std.specs.List.{AllByRecursion, list_any};
 ghost use Rattle.std.specs.Option.{option_map};
 ghost use Rattle.rox_grammar.specs.declared.fault.Fault.TheVariants as fault;
@@ -9,8 +9,7 @@ ghost use Rattle.rox_grammar.specs.Written.{Attribute, NamespaceDecl, prefix_spa
 ghost use Rattle.rox_grammar.specs.Tree as tree;
 ghost use Rattle.rox_grammar.specs.Tree.{attribute_in};
 ghost use Rattle.rox_grammar.specs.WellNamed.{is_known, may_name};
-ghost use Rattle.rox_reading.specs.Tags.{names_tested};
-ghost use Rattle.rox_grammar.specs.Failures.{Fails, name_view};
+ghost use Rattle.rox_grammar.specs.Failures.{name_view};
 ghost use Rattle.rox_tables.specs.Rows.{AttributeRow, namespace_view, namespace_at, attribute, attribute_rows, attribute_uri, NamespaceWithin, OptionWithin};
 ghost use Rattle.rox_tables.specs.StoredAttributes.{data_of};
 ghost use Rattle.rox_tables.specs.Storage.{storage_bytes};

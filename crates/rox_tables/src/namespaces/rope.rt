@@ -1,11 +1,10 @@
 //! Scopes that list many namespaces: ropes of stretches of the listed places. A row is a leaf or joins two rows before it, so that
 //! a scope shares what it inherits with the scope above.
 
-ghost use Rattle.std.specs.Prelude.{◌≡◌, ◌<◌, ◌≤◌, ◌+◌, ◌-◌, ◌++◌, ◌∷◌, [], true, false, ℕ, List, length, map, take, drop, reverse, slice_index, slice_range, OnOk, IfOk, IfSome, IfNone};
-ghost use Rattle.rox_grammar.specs.Tree.{same_prefix, is_declared};
-ghost use Rattle.std.specs.List.{AllByRecursion};
-ghost use Rattle.rox_tables.specs.Rows.{namespace_view, namespace_at, count_at, AreRows, AreScopes, EndsWithin};
-ghost use Rattle.rox_tables.specs.Scopes.{prefix_view, entries, places_in, ArePlaces};
+ghost use Rattle.std.specs.Prelude.{◌≡◌, ◌<◌, ◌≤◌, ◌+◌, ◌-◌, ◌++◌, ◌∷◌, [], ℕ, length, take, drop, reverse, slice_index, slice_range, OnOk, IfOk, IfSome};
+ghost use Rattle.rox_grammar.specs.Tree.{same_prefix};
+ghost use Rattle.rox_tables.specs.Rows.{count_at};
+ghost use Rattle.rox_tables.specs.Scopes.{prefix_view, places_in, ArePlaces};
 ghost use Rattle.rox_tables.specs.Bindings.{FindsIndex};
 ghost use Rattle.rox_tables.specs.Ropes.{AreJoinable, IsRope, IsRow, IsScope, IsScopeOf, IsStretch, Joins};
 

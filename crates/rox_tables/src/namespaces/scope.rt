@@ -1,10 +1,9 @@
 //! Namespaces in scope (Namespaces in XML 1.0, section 6). A namespace is a place in the table of the distinct pairs of a
 //! prefix, or the default, and a URI; what an element lists is a row of such places.
 
-ghost use Rattle.std.specs.Prelude.{◌≡◌, ◌<◌, ◌≤◌, ◌++◌, ℕ, List, length, map, drop, slice_range, false, OnOk, IfSome, IfNone, Some, None, ◌&&◌, ◌||◌};
-ghost use Rattle.std.specs.Option.{option_map};
-ghost use Rattle.rox_grammar.specs.Tree.{same_prefix, is_declared, uri_of, is_xml};
-ghost use Rattle.rox_tables.specs.Rows.{namespace_view, namespace_at, OptionWithin, AreScopes};
+ghost use Rattle.std.specs.Prelude.{◌≡◌, ◌<◌, ◌++◌, ℕ, List, length, map, drop, slice_range, false, OnOk, IfSome, IfNone, Some, None, ◌&&◌, ◌||◌};
+ghost use Rattle.rox_grammar.specs.Tree.{same_prefix, is_declared, is_xml};
+ghost use Rattle.rox_tables.specs.Rows.{namespace_view};
 ghost use Rattle.rox_tables.specs.Scopes.{prefix_view, entries, places_in, is_few_at, ArePlaces, others};
 ghost use Rattle.rox_tables.specs.PrefixSet.{HasPrefixes, IsBelowFew};
 ghost use Rattle.rox_tables.specs.Ropes.{IsScope};

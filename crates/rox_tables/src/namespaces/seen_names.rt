@@ -1,6 +1,6 @@
 //! Which local names the attributes of a tag have had: a filter that spares most of them from being compared with those before.
 
-ghost use Rattle.std.specs.Prelude.{◌≡◌, ◌≤◌, ◌+◌, ◌<◌, ◌^◌, ◌++◌, ◌∷◌, [], ℕ, List, length, false, drop, slice_range};
+ghost use Rattle.std.specs.Prelude.{◌≡◌, ◌+◌, ◌<◌, ◌++◌, ◌∷◌, [], List, false, drop};
 ghost use Rattle.std.specs.List.{list_any};
 ghost use Rattle.rox_grammar.specs.Written.{NamespaceDecl};
 ghost use Rattle.rox_tables.specs.Rows.{AttributeRow, attribute_rows};

@@ -1,13 +1,13 @@
 //! The scope of a start tag: what its element declares, and what it inherits and does not declare (Namespaces in XML 1.0,
 //! section 6).
 
-ghost use Rattle.std.specs.Prelude.{◌≡◌, ◌<◌, ◌≤◌, ◌++◌, Bool, false, ℕ, List, None, length, map, drop, reverse, slice_range, slice_index_or, IfOk, OnOk};
+ghost use Rattle.std.specs.Prelude.{◌≡◌, ◌<◌, ◌≤◌, ◌++◌, false, List, None, length, map, drop, reverse, slice_range, slice_index_or, IfOk, OnOk};
 ghost use Rattle.rox_grammar.specs.Written.{NamespaceDecl};
 ghost use Rattle.rox_grammar.specs.Tree.{is_declared};
 ghost use Rattle.rox_tables.specs.Rows.{namespace_view, AreScopes};
-ghost use Rattle.rox_tables.specs.Scopes.{prefix_view, entries, places_in, ArePlaces, PrefixesOnce, others, unlisted};
+ghost use Rattle.rox_tables.specs.Scopes.{prefix_view, entries, places_in, PrefixesOnce, others, unlisted};
 ghost use Rattle.rox_tables.specs.PrefixSet.{IsPrefixSet, IsBelowFew};
-ghost use Rattle.rox_tables.specs.Bindings.{IsBound, bound_place};
+ghost use Rattle.rox_tables.specs.Bindings.{bound_place};
 ghost use Rattle.rox_tables.specs.Ropes.{IsListed, IsScopeOf};
 ghost use Rattle.rox_tables.specs.TagScopes.{HasOpenTag, HasScope, IsBelowMany};
 
