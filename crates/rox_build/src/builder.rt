@@ -138,7 +138,8 @@ fn join_last(
     joined: &mut String,
     text: &str,
 ) -> Result<TextRange, AllocError>
-    requires { 0 < vec_len nodes.old.rows }
+    requires some { 0 < vec_len nodes.old.rows }
+    requires few { vec_len nodes.old.rows < 2 ^ 32 }
     ensures taken { IfOk result (λ r. (last : NodeData)
         × (node_rows nodes.old ≡ node_rows nodes.new ++ last ∷ [])
         × (r ≡ record { start = last.start; end = last.end })

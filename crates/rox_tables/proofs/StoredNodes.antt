@@ -1,9 +1,10 @@
 -- The rows of nodes as their table stores them.
 use Rattle.std.specs.Borrow.{Bor}
+use Rattle.std.specs.declared.mem.ManuallyDrop.{ManuallyDrop}
 use Rattle.rox_tables.specs.declared.rows.storage.StringStorage.{StringStorage}
-use Rattle.std.proofs.Common.{◌≡◌, ℕ, zero, suc, ◌+◌, ◌*◌, ◌/◌, ◌^◌, ◌<◌, ◌≤◌, ◌&&◌, Bool, true, false, List, [], ◌∷◌, ◌++◌, length, take, set, get_or, vec_len, refl, sym, ap, ◌∙◌, arith}
+use Rattle.std.proofs.Common.{◌≡◌, ℕ, zero, suc, ◌+◌, ◌*◌, ◌/◌, ◌^◌, ◌<◌, ◌≤◌, ◌==◌, ◌&&◌, if◌then◌else◌, Bool, true, false, List, [], ◌∷◌, ◌++◌, length, take, set, get_or, vec_len, length-append, refl, sym, ap, ◌∙◌, arith}
 use Rattle.std.proofs.lemmas.List.Folds.{list_all-append}
-use Rattle.std.proofs.lemmas.Bool.{ltb-true, lt-ltb}
+use Rattle.std.proofs.lemmas.Bool.{ltb-true, lt-ltb, eqb-true, eq-eqb}
 use Rattle.std.proofs.lemmas.List.{take_all, take_more}
 use Rattle.rox_tables.specs.declared.rows.tables.PI.{PI}
 use Rattle.rox_tables.specs.declared.rows.tables.NodeKind.{NodeKind}
@@ -17,7 +18,7 @@ use Rattle.rox_tables.specs.declared.rows.node_table.NodeTable.{NodeTable}
 use Rattle.rox_tables.specs.declared.rows.stored_node.KindRef.{KindRef}
 use Rattle.rox_tables.specs.declared.rows.stored_node.KindRef.TheVariants as lent
 use Rattle.rox_tables.specs.declared.rows.tables.ElementData.{ElementData}
-use Rattle.rox_tables.specs.StoredNodes.{whole_place, instruction_at, whole_kind, whole_row, no_high, high_at, whole_rows, is_kind_within, are_within, kind_of, is_element, is_text}
+use Rattle.rox_tables.specs.StoredNodes.{whole_place, instruction_at, whole_kind, whole_row, no_high, high_at, whole_rows, is_kind_within, are_within, kind_of, is_element, is_text, owns, previous, owns_text, IsChainedTo, is_linked, last_with, is_chain}
 use Rattle.rox_tables.specs.Rows.{node_rows}
 
 -- there are as many
@@ -126,8 +127,8 @@ kind-more : (pis : List PI) (p : PI) (k : StoredKind) → is_kind_within (length
 kind-more pis p stored.Root w = refl
 kind-more pis p (stored.Element a b c d) w = refl
 kind-more pis p (stored.NamespacedElement a b c d e) w = refl
-kind-more pis p (stored.Text a) w = refl
-kind-more pis p (stored.Comment a) w = refl
+kind-more pis p (stored.Text n a) w = refl
+kind-more pis p (stored.Comment n a) w = refl
 kind-more pis p (stored.Instruction i) w = instruction-more pis p i (ltb-true i (length pis) w)
 
 and-first : (a b : Bool) → (a && b) ≡ true → a ≡ true
@@ -156,8 +157,8 @@ kind-within_more : (n m : ℕ) (k : StoredKind) → n ≤ m → is_kind_within n
 kind-within_more n m stored.Root l w = refl
 kind-within_more n m (stored.Element a b c d) l w = refl
 kind-within_more n m (stored.NamespacedElement a b c d e) l w = refl
-kind-within_more n m (stored.Text a) l w = refl
-kind-within_more n m (stored.Comment a) l w = refl
+kind-within_more n m (stored.Text q a) l w = refl
+kind-within_more n m (stored.Comment q a) l w = refl
 kind-within_more n m (stored.Instruction i) l w = let s = ltb-true i n w in lt-ltb i m (omega arith)
 
 pub within-more : (n m : ℕ) (rows : List StoredNode) → n ≤ m → are_within n rows ≡ true → are_within m rows ≡ true
@@ -185,7 +186,84 @@ pub within-root : (n : ℕ) (rows : List StoredNode) (m : ℕ) (r : StoredNode) 
 within-root n [] m r w = refl
 within-root n (x ∷ rows) m r w = w
 
+-- ---- the chain of rows that own a text
+
+one_chained : (count n last end : ℕ) (r : StoredNode) → n ≡ count → last == end ≡ true → is_linked end r.kind ≡ true
+    → (is_linked last r.kind && last_with count last r.kind == last_with n end r.kind) ≡ true
+one_chained count n last end r at e l = cases (owns r.kind) (eqb-true last end e) l
+  where
+    cases : (b : Bool) → last ≡ end → (if b then previous r.kind == end else true) ≡ true
+        → ((if b then previous r.kind == last else true) && (if b then count + 1 else last) == (if b then n + 1 else end)) ≡ true
+    cases true h l = rw (h, l) (eq-eqb (count + 1) (n + 1) (omega (arith, at)))
+    cases false h l = eq-eqb last end h
+
+pub chain_push : (count last end : ℕ) (rows : List StoredNode) (r : StoredNode) → is_chain count last end rows ≡ true → is_linked end r.kind ≡ true
+    → is_chain count last (last_with (length rows + count) end r.kind) (rows ++ r ∷ []) ≡ true
+chain_push count last end [] r h l = one_chained count (0 + count) last end r (omega arith) h l
+chain_push count last end (x ∷ rows) r h l =
+    let rest = and-second (is_linked last x.kind) (is_chain (count + 1) (last_with count last x.kind) end rows) h in
+    let n : length rows + (count + 1) ≡ suc (length rows) + count = omega arith in
+    rw (and-first (is_linked last x.kind) (is_chain (count + 1) (last_with count last x.kind) end rows) h)
+    (ap (λ (m : ℕ). is_chain (count + 1) (last_with count last x.kind) (last_with m end r.kind) (rows ++ r ∷ [])) (sym n) ∙ chain_push (count + 1) (last_with count last x.kind) end rows r rest l)
+
+one_unchained : (count last end : ℕ) (r : StoredNode) → (is_linked last r.kind && last_with count last r.kind == end) ≡ true
+    → last == (if owns r.kind then previous r.kind else end) ≡ true
+one_unchained count last end r h = cases (owns r.kind) h
+  where
+    cases : (b : Bool) → ((if b then previous r.kind == last else true) && (if b then count + 1 else last) == end) ≡ true
+        → last == (if b then previous r.kind else end) ≡ true
+    cases true h = eq-eqb last (previous r.kind) (sym (eqb-true (previous r.kind) last (and-first (previous r.kind == last) (count + 1 == end) h)))
+    cases false h = h
+
+-- without the last row
+pub chain_pop : (count last end : ℕ) (rows : List StoredNode) (r : StoredNode) → is_chain count last end (rows ++ r ∷ []) ≡ true
+    → is_chain count last (if owns r.kind then previous r.kind else end) rows ≡ true
+chain_pop count last end [] r h = one_unchained count last end r h
+chain_pop count last end (x ∷ rows) r h =
+    let all = is_chain (count + 1) (last_with count last x.kind) end (rows ++ r ∷ []) in
+    rw (and-first (is_linked last x.kind) all h) (chain_pop (count + 1) (last_with count last x.kind) end rows r (and-second (is_linked last x.kind) all h))
+
+-- a row changed, but for what it is
+pub chain_end : (count last end : ℕ) (rows : List StoredNode) (i low m : ℕ) (r : StoredNode) → is_chain count last end rows ≡ true
+    → is_chain count last end (set rows i (record (get_or rows i r) { end = low; subtree_end = m })) ≡ true
+chain_end count last end [] i low m r h = h
+chain_end count last end (x ∷ rows) zero low m r h = h
+chain_end count last end (x ∷ rows) (suc i) low m r h =
+    let rest = is_chain (count + 1) (last_with count last x.kind) end rows in
+    rw (and-first (is_linked last x.kind) rest h) (chain_end (count + 1) (last_with count last x.kind) end rows i low m r (and-second (is_linked last x.kind) rest h))
+
+pub chain_root : (count last end : ℕ) (rows : List StoredNode) (m : ℕ) (r : StoredNode) → is_chain count last end rows ≡ true
+    → is_chain count last end (set rows 0 (record (get_or rows 0 r) { subtree_end = m })) ≡ true
+chain_root count last end [] m r h = h
+chain_root count last end (x ∷ rows) m r h = h
+
+link_is : (last : ℕ) (k : NodeKind) (r : StoredNode) → IsChainedTo last k r.kind → is_linked last r.kind ≡ true
+link_is last k r is = cases (owns r.kind) is.behind
+  where
+    cases : (b : Bool) → (b ≡ true → previous r.kind ≡ last) → (if b then previous r.kind == last else true) ≡ true
+    cases true h = eq-eqb (previous r.kind) last (h refl)
+    cases false h = refl
+
 -- ---- the table
+
+-- one row more in the chain
+pub chain_grown : (t : NodeTable) (rows : List StoredNode) (x : StoredNode) (k : NodeKind) (own : Bool) (n number : ℕ) → rows ≡ t.rows.items ++ x ∷ []
+    → IsChainedTo t.last_owned k x.kind → own ≡ owns_text k → n ≡ length t.rows.items → (n + 1 < 2 ^ 32 → number ≡ (if own then n + 1 else t.last_owned))
+    → length rows < 2 ^ 32 → is_chain 0 0 number rows ≡ true
+chain_grown t rows x k own n number grown is same count so few =
+    let more = ap length grown ∙ length-append t.rows.items (x ∷ []) in
+    let less : length t.rows.items < 2 ^ 32 = omega (arith, more, few) in
+    let pushed = chain_push 0 0 t.last_owned t.rows.items x (t.chained less) (link_is t.last_owned k x is) in
+    let at : n ≡ length t.rows.items + 0 = omega (arith, count) in
+    let which : own ≡ owns x.kind = same ∙ sym is.owned in
+    let last : number ≡ last_with (length t.rows.items + 0) t.last_owned x.kind =
+    so (omega (arith, more, few, count)) ∙ ap (λ (b : Bool). if b then n + 1 else t.last_owned) which ∙ ap (λ (m : ℕ). last_with m t.last_owned x.kind) at in
+    rw (last, grown) pushed
+
+-- one fewer
+pub chain_cut : (last number : ℕ) (old rows : List StoredNode) (x : StoredNode) → old ≡ rows ++ x ∷ [] → number ≡ (if owns x.kind then previous x.kind else last)
+    → is_chain 0 0 last old ≡ true → is_chain 0 0 number rows ≡ true
+chain_cut last number old rows x parts so h = rw so (chain_pop 0 0 last rows x (ap (is_chain 0 0 last) (sym parts) ∙ h))
 
 pub length_nodes : (t : NodeTable) → length (node_rows t) ≡ length t.rows.items
 length_nodes t = length-whole t.instructions.items t.high.items t.rows.items
@@ -289,14 +367,14 @@ pub other_element : (pis : List PI) (k : StoredKind)
 other_element pis stored.Root n m = refl
 other_element pis (stored.Element a b c d) n m = absurd (n a b c d refl)
 other_element pis (stored.NamespacedElement a b c d e) n m = absurd (m a b c d e refl)
-other_element pis (stored.Text a) n m = refl
-other_element pis (stored.Comment a) n m = refl
+other_element pis (stored.Text p a) n m = refl
+other_element pis (stored.Comment p a) n m = refl
 other_element pis (stored.Instruction i) n m = no_element pis i
 
-pub other_text : (pis : List PI) (k : StoredKind) → ((a : StringStorage) → k ≡ stored.Text a → ⊥) → false ≡ is_text (whole_kind pis k)
+pub other_text : (pis : List PI) (k : StoredKind) → ((p : ℕ) (a : ManuallyDrop StringStorage) → k ≡ stored.Text p a → ⊥) → false ≡ is_text (whole_kind pis k)
 other_text pis stored.Root n = refl
 other_text pis (stored.Element a b c d) n = refl
 other_text pis (stored.NamespacedElement a b c d e) n = refl
-other_text pis (stored.Text a) n = absurd (n a refl)
-other_text pis (stored.Comment a) n = refl
+other_text pis (stored.Text p a) n = absurd (n p a refl)
+other_text pis (stored.Comment p a) n = refl
 other_text pis (stored.Instruction i) n = no_text pis i

@@ -1,6 +1,8 @@
 -- The rows of nodes as their table stores them.
-use Rattle.std.specs.Prelude.{ℕ, ◌+◌, ◌*◌, ◌^◌, Bool, true, false, List, [], ◌∷◌, Some, None, nat_lt}
+use Rattle.std.specs.Prelude.{ℕ, ◌+◌, ◌*◌, ◌^◌, ◌≡◌, ◌==◌, ◌&&◌, Bool, true, false, not, List, [], ◌∷◌, Some, None, nat_lt, if◌then◌else◌}
+use Rattle.std.specs.Mem.{manually_drop_value}
 use Rattle.std.specs.List.{list_all}
+use Rattle.rox_tables.specs.Storage.{is_borrowed}
 use Rattle.rox_tables.specs.declared.rows.tables.PI.{PI}
 use Rattle.rox_tables.specs.declared.rows.tables.NodeKind.{NodeKind}
 use Rattle.rox_tables.specs.declared.rows.tables.NodeKind.TheVariants as kind
@@ -30,8 +32,8 @@ whole_kind pis (stored.Element scope local from until) =
     kind.Element (record { local = local; attributes_from = from; attributes_until = until; scope = scope; namespace = None })
 whole_kind pis (stored.NamespacedElement namespace scope local from until) =
     kind.Element (record { local = local; attributes_from = from; attributes_until = until; scope = scope; namespace = Some namespace })
-whole_kind pis (stored.Text text) = kind.Text text
-whole_kind pis (stored.Comment text) = kind.Comment text
+whole_kind pis (stored.Text previous text) = kind.Text (manually_drop_value text)
+whole_kind pis (stored.Comment previous text) = kind.Comment (manually_drop_value text)
 whole_kind pis (stored.Instruction i) = instruction_at pis i
 
 -- a row, with the upper halves of its places
@@ -64,12 +66,54 @@ abbrev pub is_kind_within : ℕ → StoredKind → Bool
 is_kind_within n stored.Root = true
 is_kind_within n (stored.Element scope local from until) = true
 is_kind_within n (stored.NamespacedElement namespace scope local from until) = true
-is_kind_within n (stored.Text text) = true
-is_kind_within n (stored.Comment text) = true
+is_kind_within n (stored.Text previous text) = true
+is_kind_within n (stored.Comment previous text) = true
 is_kind_within n (stored.Instruction i) = nat_lt i n
 
 abbrev pub are_within : ℕ → List StoredNode → Bool
 are_within n rows = list_all (λ r. is_kind_within n r.kind) rows
+
+-- whether it owns a text, and the number that stands before its text
+abbrev pub owns : StoredKind → Bool
+owns stored.Root = false
+owns (stored.Element scope local from until) = false
+owns (stored.NamespacedElement namespace scope local from until) = false
+owns (stored.Text previous text) = not (is_borrowed (manually_drop_value text))
+owns (stored.Comment previous text) = not (is_borrowed (manually_drop_value text))
+owns (stored.Instruction i) = false
+
+abbrev pub previous : StoredKind → ℕ
+previous stored.Root = 0
+previous (stored.Element scope local from until) = 0
+previous (stored.NamespacedElement namespace scope local from until) = 0
+previous (stored.Text number text) = number
+previous (stored.Comment number text) = number
+previous (stored.Instruction i) = 0
+
+abbrev pub owns_text : NodeKind → Bool
+owns_text kind.Root = false
+owns_text (kind.Element e) = false
+owns_text (kind.Text text) = not (is_borrowed text)
+owns_text (kind.Comment text) = not (is_borrowed text)
+owns_text (kind.PI pi) = false
+
+-- a node is stored so, behind rows of which this is the last that owns a text
+pub record IsChainedTo (last : ℕ) (k : NodeKind) (row : StoredKind) : Type 0 where
+  pub owned : owns row ≡ owns_text k
+  pub behind : owns row ≡ true → previous row ≡ last
+
+-- where this is the last row before that owns a text, its number stands in a row that owns one too
+abbrev pub is_linked : ℕ → StoredKind → Bool
+is_linked last k = if owns k then previous k == last else true
+
+-- the number of the last row that owns a text, with one of this kind behind so many
+abbrev pub last_with : ℕ → ℕ → StoredKind → ℕ
+last_with count last k = if owns k then count + 1 else last
+
+-- each of these rows, behind so many, names the last one before it that owns a text: the first `last`, and one behind them `end`
+abbrev pub is_chain : (count last end : ℕ) → List StoredNode → Bool
+is_chain count last end [] = last == end
+is_chain count last end (r ∷ rs) = is_linked last r.kind && is_chain (count + 1) (last_with count last r.kind) end rs
 
 -- a node that its row holds alone: its places have no upper halves, and it is no processing instruction
 abbrev pub IsSmallKind : NodeKind → Type 0

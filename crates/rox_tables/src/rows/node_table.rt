@@ -1,6 +1,6 @@
 //! The table of nodes.
 
-ghost use Rattle.std.specs.Prelude.{◌≡◌, ◌<◌, ◌≤◌, ◌+◌, ◌++◌, ◌∷◌, [], ◌^◌, List, true, length, take, set, get_or, vec_len, vec_capacity, if◌then◌else◌, is_ok, IfOk, OnOk, IfErr};
+ghost use Rattle.std.specs.Prelude.{◌≡◌, ◌<◌, ◌≤◌, ◌+◌, ◌-◌, ◌++◌, ◌∷◌, [], ◌^◌, List, true, length, take, set, get_or, vec_len, vec_capacity, if◌then◌else◌, is_ok, IfOk, OnOk, IfErr};
 ghost use Rattle.std.proofs.Props.{props};
 ghost use Rattle.rox_tables.specs.StoredNodes as stored;
 ghost use Rattle.rox_tables.specs.StoredNodes.{are_within};
@@ -12,21 +12,23 @@ ghost use Rattle.rox_tables.specs.declared.rows.stored_node.HighPlaces.{HighPlac
 
 use crate::rows::growth::{self, first_room, trim};
 use crate::rows::stored_node::{
-    FIRST_HIGH, HighPlaces, KindRef, RowRef, StoredNode, high_half, kind_ref, low_half, small_kind,
-    store_kind, whole_place,
+    FIRST_HIGH, HighPlaces, KindRef, RowRef, StoredKind, StoredNode, high_half, kind_ref, low_half,
+    owns_text, small_kind, store_kind, whole_place,
 };
 use crate::rows::tables::{NodeData, NodeKind, PI};
 use std::alloc::{AllocError, Global};
 
 /// The nodes of a text, in document order. What few nodes have is kept beside the rows, so that these are small: processing
 /// instructions, and the upper halves of places, which only texts of 4 GiB and more have.
-#[derive(Drop)]
 pub struct NodeTable<'input> {
     pub rows: Vec<StoredNode<'input>>,
     pub instructions: Vec<PI<'input>>,
     /// Those of the first rows: the rows behind them have places of 32 bits.
     pub high: Vec<HighPlaces>,
+    /// The number, counted from 1, of the last row that owns a text, or 0.
+    pub last_owned: u32,
     pub ghost short: { length high.items ≤ length rows.items },
+    pub ghost chained: { length rows.items < 2 ^ 32 → stored.is_chain 0 0 last_owned rows.items ≡ true } by { Prim.hlevel props },
     pub ghost within: { are_within (length instructions.items) rows.items ≡ true } by { Prim.hlevel props },
 }
 
@@ -103,6 +105,57 @@ fn close_stored(rows: &mut Vec<StoredNode<'_>>, count: u32)
     }
 }
 
+/// The number of the last row that owns a text, where it was `last` and one more comes behind so many.
+#[inline(always)]
+fn last_with(last: u32, owns: bool, count: usize) -> u32
+    requires { count < 2 ^ 63 }
+    ensures { count + 1 < 2 ^ 32 → result ≡ (if owns then count + 1 else last) }
+{
+    if owns {
+        return low_half(count + 1);
+    }
+    last
+}
+
+/// Takes back the last row, and frees its text. Answers the number of the last row then that owns one.
+fn take_last(rows: &mut Vec<StoredNode<'_>>, last: u32) -> u32
+    ensures rows { rows.new.items ≡ take (vec_len rows.old - 1) rows.old.items }
+    ensures count { 0 < vec_len rows.old → vec_len rows.new + 1 ≡ vec_len rows.old }
+    ensures chain { stored.is_chain 0 0 last rows.old.items ≡ true
+        → stored.is_chain 0 0 result rows.new.items ≡ true }
+{
+    match rows.pop() {
+        Some(row) => row.kind.freed(last),
+        None => last,
+    }
+}
+
+/// Frees the texts that rows own, where this is the number of the last one that does.
+#[inline]
+fn free_texts(rows: &mut [StoredNode<'_>], last: u32) {
+    let mut number = last as usize;
+    while number > 0 && number <= rows.len() {
+        let kind = std::mem::replace(&mut rows[number - 1].kind, StoredKind::Root);
+        let before = kind.freed(0) as usize;
+        if before >= number {
+            return;
+        }
+        number = before;
+    }
+}
+
+impl Drop for NodeTable<'_> {
+    fn drop(self) {
+        let NodeTable {
+            mut rows,
+            instructions: _,
+            high: _,
+            last_owned,
+        } = self;
+        free_texts(&mut rows, last_owned);
+    }
+}
+
 impl<'input> NodeTable<'input> {
     ghost use Rattle.rox_tables.specs.Rows.{node_rows};
 
@@ -124,6 +177,7 @@ impl<'input> NodeTable<'input> {
             rows,
             instructions: Vec::new(alloc),
             high: Vec::new(alloc),
+            last_owned: 0,
         };
         table.push(NodeData {
             start: 0,
@@ -211,12 +265,15 @@ impl<'input> NodeTable<'input> {
         ensures len { vec_len self.new.rows ≡ vec_len self.old.rows + 1 }
         ensures capacity { vec_capacity self.new.rows ≡ vec_capacity self.old.rows }
     {
+        let owns = owns_text(&row.kind);
+        let kind = small_kind(row.kind, self.last_owned);
+        self.last_owned = last_with(self.last_owned, owns, self.rows.len());
         self.rows.push_reserved(StoredNode {
             start: row.start as u32,
             end: row.end as u32,
             parent: row.parent,
             subtree_end: row.subtree_end,
-            kind: small_kind(row.kind),
+            kind,
         });
     }
 
@@ -248,7 +305,9 @@ impl<'input> NodeTable<'input> {
         ensures len { vec_len self.new.rows ≡ (if is_ok result then vec_len self.old.rows + 1
             else vec_len self.old.rows) }
     {
-        let kind = store_kind(&mut self.instructions, row.kind)?;
+        let owns = owns_text(&row.kind);
+        let kind = store_kind(&mut self.instructions, row.kind, self.last_owned)?;
+        self.last_owned = last_with(self.last_owned, owns, self.rows.len());
         self.rows.push_reserved(StoredNode {
             start: row.start as u32,
             end: row.end as u32,
@@ -270,7 +329,9 @@ impl<'input> NodeTable<'input> {
             else vec_len self.old.rows) }
     {
         fill(&mut self.high, self.rows.len())?;
-        let kind = store_kind(&mut self.instructions, row.kind)?;
+        let owns = owns_text(&row.kind);
+        let kind = store_kind(&mut self.instructions, row.kind, self.last_owned)?;
+        self.last_owned = last_with(self.last_owned, owns, self.rows.len());
         self.high.push_reserved(HighPlaces {
             start: high_half(row.start),
             end: high_half(row.end),
@@ -340,12 +401,17 @@ impl<'input> NodeTable<'input> {
         close_stored(&mut self.rows, count);
     }
 
-    /// Takes back the nodes behind the first so many.
+    /// Takes back the last node, if there is one behind the first so many.
     pub fn truncate(&mut self, count: usize)
+        requires last { vec_len self.old.rows ≤ count + 1 }
+        requires few { vec_len self.old.rows < 2 ^ 32 }
         ensures rows { node_rows self.new ≡ take count (node_rows self.old) }
         ensures len { count ≤ vec_len self.old.rows → vec_len self.new.rows ≡ count }
     {
-        self.rows.truncate(count);
+        if self.rows.len() <= count {
+            return;
+        }
+        self.last_owned = take_last(&mut self.rows, self.last_owned);
         self.high.truncate(count);
     }
 

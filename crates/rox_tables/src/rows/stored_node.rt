@@ -1,6 +1,7 @@
 //! A node as its table holds it.
 
-ghost use Rattle.std.specs.Prelude.{◌≡◌, ◌≤◌, ◌+◌, ◌*◌, ◌/◌, ◌^◌, ℕ, List, true, length, IfOk, IfErr};
+ghost use Rattle.std.specs.Prelude.{◌≡◌, ◌≤◌, ◌+◌, ◌*◌, ◌/◌, ◌^◌, ℕ, List, true, false, length, if◌then◌else◌, IfOk, IfErr};
+ghost use Rattle.rox_tables.specs.Storage.{is_borrowed};
 ghost use Rattle.rox_tables.specs.StoredNodes as stored;
 ghost use Rattle.rox_tables.specs.declared.rows.tables.PI.{PI};
 ghost use Rattle.rox_tables.specs.declared.rows.tables.NodeKind.TheVariants as kind;
@@ -11,8 +12,11 @@ use crate::rows::growth::push;
 use crate::rows::storage::StringStorage;
 use crate::rows::tables::{ElementData, NodeKind, PI};
 use std::alloc::AllocError;
+use std::mem::ManuallyDrop;
 
-/// What a node is: 32 bytes. Elements are the first two, and what may own a text the last two, so that one comparison tells either.
+/// What a node is: 32 bytes. Elements are the first two, so that one comparison tells them. No text is dropped with its row, so that
+/// a table need not look at each row to find the few that own one: it frees these along a chain. Before a text stands the number,
+/// counted from 1, of the last row before that owns one, or 0.
 #[derive(Drop)]
 pub enum StoredKind<'input> {
     /// An element whose name has no namespace: its scope, its local name, and where its attributes stand.
@@ -22,8 +26,8 @@ pub enum StoredKind<'input> {
     /// A place in the table of processing instructions.
     Instruction(usize),
     Root,
-    Text(StringStorage<'input>),
-    Comment(StringStorage<'input>),
+    Text(u32, ManuallyDrop<StringStorage<'input>>),
+    Comment(u32, ManuallyDrop<StringStorage<'input>>),
 }
 
 /// A node: 48 bytes. Of the places where it stands these are the lower halves.
@@ -56,8 +60,25 @@ impl<'input> StoredNode<'input> {
             → result ≡ stored.is_text (stored.whole_kind pis self.now.kind) }
     {
         match &self.kind {
-            StoredKind::Text(_) => true,
+            StoredKind::Text(_, _) => true,
             _ => false,
+        }
+    }
+}
+
+impl<'input> StoredKind<'input> {
+    /// Frees its text. Answers the number of the row before that owns one where it owned this, and else `last`.
+    pub(crate) fn freed(self, last: u32) -> u32
+        ensures { result ≡ (if stored.owns self.entry then stored.previous self.entry else last) }
+    {
+        match self {
+            StoredKind::Text(previous, text) | StoredKind::Comment(previous, text) => {
+                match ManuallyDrop::into_inner(text) {
+                    StringStorage::Owned(_) => previous,
+                    StringStorage::Borrowed(_) => last,
+                }
+            }
+            _ => last,
         }
     }
 }
@@ -116,11 +137,35 @@ pub(crate) fn high_half(place: usize) -> u32
     (place / FIRST_HIGH) as u32
 }
 
+/// Whether a node owns a text.
+#[inline(always)]
+pub(crate) fn owns_text(kind: &NodeKind<'_>) -> bool
+    ensures { result ≡ stored.owns_text kind.now }
+{
+    match kind {
+        NodeKind::Text(StringStorage::Owned(_)) | NodeKind::Comment(StringStorage::Owned(_)) =>
+            true,
+        _ => false,
+    }
+}
+
+/// What stands before a text, where this is the last row that owns one.
+#[inline(always)]
+fn number_before(text: &StringStorage<'_>, last: u32) -> u32
+    ensures { is_borrowed text.now ≡ false → result ≡ last }
+{
+    match text {
+        StringStorage::Owned(_) => last,
+        StringStorage::Borrowed(_) => 0,
+    }
+}
+
 /// What an element is.
 #[inline(always)]
 fn stored_element<'input>(element: ElementData<'input>) -> StoredKind<'input>
     ensures value { (pis : List PI) → stored.whole_kind pis result ≡ kind.Element element.entry }
     ensures within { (n : ℕ) → stored.is_kind_within n result ≡ true }
+    ensures chained { (last : ℕ) → stored.IsChainedTo last (kind.Element element.entry) result }
 {
     let ElementData {
         local,
@@ -143,16 +188,23 @@ fn stored_element<'input>(element: ElementData<'input>) -> StoredKind<'input>
 
 /// What a node is that is no processing instruction.
 #[inline(always)]
-pub(crate) fn small_kind<'input>(kind: NodeKind<'input>) -> StoredKind<'input>
+pub(crate) fn small_kind<'input>(kind: NodeKind<'input>, last: u32) -> StoredKind<'input>
     requires { stored.IsSmallKind kind }
     ensures value { (pis : List PI) → stored.whole_kind pis result ≡ kind.entry }
     ensures within { (n : ℕ) → stored.is_kind_within n result ≡ true }
+    ensures chained { stored.IsChainedTo last kind.entry result }
 {
     match kind {
         NodeKind::Root | NodeKind::PI(_) => StoredKind::Root,
         NodeKind::Element(element) => stored_element(element),
-        NodeKind::Text(text) => StoredKind::Text(text),
-        NodeKind::Comment(text) => StoredKind::Comment(text),
+        NodeKind::Text(text) => {
+            let previous = number_before(&text, last);
+            StoredKind::Text(previous, ManuallyDrop::new(text))
+        }
+        NodeKind::Comment(text) => {
+            let previous = number_before(&text, last);
+            StoredKind::Comment(previous, ManuallyDrop::new(text))
+        }
     }
 }
 
@@ -161,10 +213,12 @@ pub(crate) fn small_kind<'input>(kind: NodeKind<'input>) -> StoredKind<'input>
 pub(crate) fn store_kind<'input>(
     instructions: &mut Vec<PI<'input>>,
     kind: NodeKind<'input>,
+    last: u32,
 ) -> Result<StoredKind<'input>, AllocError>
     ensures value { IfOk result (λ k. stored.whole_kind instructions.new.items k ≡ kind.entry) }
     ensures within { IfOk result (λ k. stored.is_kind_within (length instructions.new.items) k
         ≡ true) }
+    ensures chained { IfOk result (stored.IsChainedTo last kind.entry) }
     ensures same { (high : List HighPlaces) (rows : List StoredNode)
         → stored.are_within (length instructions.old.items) rows ≡ true
         → stored.whole_rows instructions.new.items high rows
@@ -180,8 +234,14 @@ pub(crate) fn store_kind<'input>(
         }
         NodeKind::Root => Ok(StoredKind::Root),
         NodeKind::Element(element) => Ok(stored_element(element)),
-        NodeKind::Text(text) => Ok(StoredKind::Text(text)),
-        NodeKind::Comment(text) => Ok(StoredKind::Comment(text)),
+        NodeKind::Text(text) => {
+            let previous = number_before(&text, last);
+            Ok(StoredKind::Text(previous, ManuallyDrop::new(text)))
+        }
+        NodeKind::Comment(text) => {
+            let previous = number_before(&text, last);
+            Ok(StoredKind::Comment(previous, ManuallyDrop::new(text)))
+        }
     }
 }
 
@@ -214,8 +274,8 @@ pub(crate) fn kind_ref<'a, 'input>(
                     namespace: Some(*namespace),
                 })
             }
-        StoredKind::Text(text) => KindRef::Text(text),
-        StoredKind::Comment(text) => KindRef::Comment(text),
+        StoredKind::Text(_, text) => KindRef::Text(text),
+        StoredKind::Comment(_, text) => KindRef::Comment(text),
         StoredKind::Instruction(place) => instruction_ref(instructions, *place),
     }
 }

@@ -9,7 +9,7 @@ pub returns-clause-taken : goal.returns-clause-taken
 returns-clause-taken c =
     let t = c.args.nodes.now in
     let last : NodeData = data_of c.row-row.result in
-    let some = c.requires in
+    let some = c.requires.some in
     let rows = c.len-last.ensures.rows in
     let count : length (node_rows t) ≡ (c.len-last.result - 1) + 1 = omega (arith, c.len-last.ensures.nodes) in (
       last,
@@ -20,4 +20,4 @@ returns-clause-taken c =
 
 pub returns-clause-count : goal.returns-clause-count
 returns-clause-count c =
-    let len = c.truncate.ensures.len (omega (arith, c.len-last.ensures.rows)) in omega (arith, len, c.len-last.ensures.rows, c.requires)
+    let len = c.truncate.ensures.len (omega (arith, c.len-last.ensures.rows)) in omega (arith, len, c.len-last.ensures.rows, c.requires.some)

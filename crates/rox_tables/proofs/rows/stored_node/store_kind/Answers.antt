@@ -10,3 +10,6 @@ returns-in_ok-push-in-PI-clause-value c =
 pub returns-in_ok-push-in-PI-clause-same : goal.returns-in_ok-push-in-PI-clause-same
 returns-in_ok-push-in-PI-clause-same c = λ high rows within.
     rw c.in_ok-push-in-PI.ensures.items (whole-more c.args.instructions.now.items c.in-PI.instruction high rows within)
+
+pub returns-in-Element-clause-chained : goal.returns-in-Element-clause-chained
+returns-in-Element-clause-chained c = rw c.in-Element.is (c.stored_element.ensures.chained c.args.last)

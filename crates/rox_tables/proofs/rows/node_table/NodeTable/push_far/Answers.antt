@@ -1,6 +1,6 @@
 use Rattle.std.proofs.Common.{◌≡◌, length, ◌∙◌, arith}
 use Rattle.rox_tables.specs.Rows.{node_rows}
-use Rattle.rox_tables.proofs.StoredNodes.{far_is, far_row, within-more, within-push}
+use Rattle.rox_tables.proofs.StoredNodes.{far_is, far_row, within-more, within-push, chain_grown}
 use Rattle.rox_tables.proofs.rows.node_table.NodeTable.push_far.Goals as goal
 
 pub invariant_of-self-in-Break-branch-2 : goal.invariant_of-self-in-Break-branch-2
@@ -8,6 +8,7 @@ invariant_of-self-in-Break-branch-2 c =
     let t = c.args.self.now in
     record {
       short = omega (arith, c.fill.ensures.most, c.len.ensures, c.fill.new.high.ok.0, t.rows.ok.0);
+      chained = t.chained;
       within = within-more _ _ t.rows.items c.store_kind.ensures.more t.within;
     }
 
@@ -25,6 +26,9 @@ invariant_of-self-2 c =
             c.push_reserved.new.self.ok.0,
             c.push_reserved-2.new.self.ok.0,
           );
+      chained =
+          chain_grown t _ _ c.args.row.kind c.owns_text-owns.result c.len-2.result _ c.push_reserved-2.ensures.items c.in_ok-kind.ensures.chained c.owns_text-owns.ensures
+          (omega (arith, c.len-2.ensures, t.rows.ok.0)) c.last_with-self.ensures;
       within = rw c.push_reserved-2.ensures.items (within-push _ t.rows.items _ (within-more _ _ t.rows.items c.store_kind.ensures.more t.within) c.in_ok-kind.ensures.within);
     }
 

@@ -1,5 +1,5 @@
 use Rattle.std.proofs.Common.{arith}
-use Rattle.rox_tables.proofs.StoredNodes.{push_is, near_row, within-more, within-push}
+use Rattle.rox_tables.proofs.StoredNodes.{push_is, near_row, within-more, within-push, chain_grown}
 use Rattle.rox_tables.proofs.rows.node_table.NodeTable.push_near.Goals as goal
 
 pub invariant_of-self-2 : goal.invariant_of-self-2
@@ -7,6 +7,9 @@ invariant_of-self-2 c =
     let t = c.args.self.now in
     record {
       short = omega (arith, t.short, c.push_reserved.ensures.len, c.push_reserved.new.self.ok.0, t.rows.ok.0);
+      chained =
+          chain_grown t _ _ c.args.row.kind c.owns_text-owns.result c.len.result _ c.push_reserved.ensures.items c.in_ok-kind.ensures.chained c.owns_text-owns.ensures
+          (omega (arith, c.len.ensures, t.rows.ok.0)) c.last_with-self.ensures;
       within = rw c.push_reserved.ensures.items (within-push _ t.rows.items _ (within-more _ _ t.rows.items c.store_kind.ensures.more t.within) c.in_ok-kind.ensures.within);
     }
 

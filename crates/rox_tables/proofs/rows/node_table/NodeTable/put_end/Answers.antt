@@ -1,6 +1,6 @@
 use Rattle.std.proofs.Common.{◌≡◌, ◌^◌, ◌<◌, length, sym, ap, ◌∙◌, arith}
 use Rattle.rox_tables.specs.StoredNodes.{no_high, whole_place}
-use Rattle.rox_tables.proofs.StoredNodes.{a_row, count_nodes, end_is, within-end}
+use Rattle.rox_tables.proofs.StoredNodes.{a_row, count_nodes, end_is, within-end, chain_end}
 use Rattle.rox_tables.proofs.rows.node_table.NodeTable.put_end.Goals as goal
 
 pub invariant_of-self : goal.invariant_of-self
@@ -8,6 +8,10 @@ invariant_of-self c =
     let t = c.args.self.now in
     record {
       short = omega (arith, t.short, c.end_stored.ensures.count, c.end_stored.new.rows.ok.0, t.rows.ok.0, c.end_high.ensures.count, c.end_high.new.high.ok.0, t.high.ok.0);
+      chained =
+          λ few.
+          rw (c.end_stored.ensures.rows a_row)
+          (chain_end 0 0 t.last_owned t.rows.items c.args.row c.low_half.result c.len-subtree_end.result a_row (t.chained (omega (arith, few, c.end_stored.ensures.count, c.end_stored.new.rows.ok.0, t.rows.ok.0))));
       within = rw (c.end_stored.ensures.rows a_row) (within-end _ t.rows.items c.args.row c.low_half.result c.len-subtree_end.result a_row t.within);
     }
 
