@@ -11,7 +11,8 @@ use Rattle.std.proofs.lemmas.Cmp.{nat_list_eq_equiv}
 use Rattle.rox_grammar.specs.Entities.{Replacement, Entity, text_of}
 use Rattle.rox_scan.specs.DoctypeViews.{replacement_view}
 use Rattle.rox_scan.specs.declared.cursor.Cursor.{Cursor}
-use Rattle.rox_values.specs.DeclaredEntities.{AreDeclared, code_of, named_cmp}
+use Rattle.rox_values.specs.DeclaredEntities.{AreDeclared}
+use Rattle.rox_values.specs.HeldEntities.{code_of, named_cmp}
 use Rattle.rox_values.proofs.Naming.{named_alike, named_otherwise}
 use Rattle.rox_values.specs.declared.entities.Entities.{Entities}
 

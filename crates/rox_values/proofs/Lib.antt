@@ -1,5 +1,6 @@
 pub mod DigitLemmas
 pub mod Naming
+pub mod ListedLemmas
 pub mod InnerBytes
 pub mod NameRuns
 pub mod Binding

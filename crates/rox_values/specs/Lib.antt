@@ -1,4 +1,5 @@
 pub mod Refusals
+pub mod HeldEntities
 pub mod DeclaredEntities
 pub mod Contexts
 pub mod Values

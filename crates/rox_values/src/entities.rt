@@ -1,24 +1,52 @@
 //! The entities that a document type declaration declares (XML 1.0 sections 4.2 and 4.5).
 
-ghost use Rattle.std.specs.Prelude.{◌≡◌, ◌++◌, ◌∷◌, [], None, List, OnOk, option_map};
+ghost use Rattle.std.specs.Prelude.{◌≡◌, ◌<◌, ◌++◌, ◌∷◌, [], ℕ, Some, List, OnOk, IfSome, length, get_or, option_map};
+ghost use Rattle.std.specs.BTreeMap.{get_by};
+ghost use Rattle.rox_values.specs.declared.entities.Declared.{Declared};
 ghost use Rattle.rox_grammar.specs.Entities.{Entity};
 ghost use Rattle.rox_scan.specs.DoctypeViews.{replacement_view};
-ghost use Rattle.rox_values.specs.DeclaredEntities.{AreDeclared, code_of, text_in};
+ghost use Rattle.rox_values.specs.HeldEntities.{IsHeld, code_of, named_cmp};
 
 use rox_scan::cursor::Cursor;
 use std::alloc::{AllocError, Global};
 use std::collections::BTreeMap;
 
-/// The entities of a document, by name, each behind its code. A replacement text is the place where it begins, in a source that ends where the text
-/// does: the main text, or what was answered for an external entity.
+/// So many rows of entities there are.
+const ROWS: usize = 61;
+
+/// So many entities of a row are looked at.
+const FEW: u32 = 8;
+
+/// So many entities have rows.
+const MOST_LISTED: usize = 65536;
+
+/// Stands for no entity.
+const NONE: u32 = u32::MAX;
+
+/// An entity, and the one before it in its row.
+#[derive(Clone, Copy)]
+struct Declared<'input> {
+    code: u64,
+    name: &'input str,
+    text: Cursor<'input>,
+    before: u32,
+}
+
+/// The entities of a document, by name, each behind its code. A replacement text is the place where it begins, in a source that
+/// ends where the text does: the main text, or what was answered for an external entity.
 #[derive(Drop)]
 pub struct Entities<'input> {
     texts: BTreeMap<(u64, &'input str), Cursor<'input>>,
+    /// The first ones, as they were declared: most references are found here, in rows by code, without a search of the map.
+    listed: Vec<Declared<'input>>,
+    /// The last of each row. Empty as long as none is declared.
+    rows: Vec<u32>,
+    pub ghost held: { (i : ℕ) (d : Declared) → i < length listed.items → IsHeld texts (get_or listed.items i d) },
 }
 
 /// A number that few names share, of their length and four of their bytes: it is compared more quickly than names are.
 #[inline(always)]
-#[tactic(auto, unfolding(crate::specs::DeclaredEntities::code_of))]
+#[tactic(auto, unfolding(crate::specs::HeldEntities::code_of))]
 fn code(name: &str) -> u64
     ensures { result ≡ code_of name.now }
 {
@@ -32,24 +60,100 @@ fn code(name: &str) -> u64
     (count.min(255) as u64 * 65536 + ends) * 65536 + inner
 }
 
+/// The row of a code.
+#[inline(always)]
+fn row_of(code: u64) -> usize {
+    (code % ROWS as u64) as usize
+}
+
+/// Puts an entity at the end of its row, and answers which stood there. The only error is want of memory.
+fn link(rows: &mut Vec<u32>, code: u64, index: u32) -> Result<u32, AllocError> {
+    if rows.is_empty() {
+        rows.resize(ROWS, NONE)?;
+    }
+    let Some(last) = rows.get_mut(row_of(code)) else {
+        return Ok(NONE);
+    };
+    let before = *last;
+    *last = index;
+    Ok(before)
+}
+
 impl<'input> Entities<'input> {
+    ghost use Rattle.rox_values.specs.DeclaredEntities.{AreDeclared, text_in};
+
     /// None.
     pub fn new(alloc: Global) -> Entities<'input>
         ensures { AreDeclared [] result }
     {
         Entities {
             texts: BTreeMap::new(alloc),
+            listed: Vec::new(alloc),
+            rows: Vec::new(alloc),
         }
     }
 
-    /// The replacement text of a name, if it is declared.
-    pub fn get(&self, name: &'input str) -> Option<Cursor<'input>>
-        ensures { option_map replacement_view result ≡ text_in self.entry.now name.entry.now }
+    /// The replacement text of a name of this code, if it is among the last of its row.
+    #[inline(always)]
+    fn near(&self, code: u64, name: &str) -> Option<Cursor<'input>>
+        ensures { IfSome result (λ text. get_by (named_cmp name.now) self.entry.now.texts
+            ≡ Some text) }
+    {
+        let mut at = match self.rows.get(row_of(code)) {
+            Some(last) => *last,
+            None => NONE,
+        };
+        for _turn in 0..FEW {
+            let Some(declared) = self.listed.get(at as usize) else {
+                return None;
+            };
+            if declared.code == code && declared.name == name {
+                return Some(declared.text);
+            }
+            at = declared.before;
+        }
+        None
+    }
+
+    /// The same of all.
+    #[inline(never)]
+    fn far(&self, name: &'input str) -> Option<Cursor<'input>>
+        ensures { result ≡ get_by (named_cmp name.now) self.entry.now.texts }
     {
         match self.texts.get(&(code(name), name)) {
             Some(text) => Some(*text),
             None => None,
         }
+    }
+
+    /// The replacement text of a name, if it is declared.
+    #[inline(always)]
+    pub fn get(&self, name: &'input str) -> Option<Cursor<'input>>
+        ensures { option_map replacement_view result ≡ text_in self.entry.now name.entry.now }
+    {
+        match self.near(code(name), name) {
+            Some(text) => Some(text),
+            None => self.far(name),
+        }
+    }
+
+    /// Puts an entity that the map has into its row. The only error is want of memory.
+    fn list(&mut self, name: &'input str, text: Cursor<'input>) -> Result<(), AllocError>
+        requires { get_by (named_cmp name.now) self.old.texts ≡ Some text }
+        ensures { self.new.texts ≡ self.old.texts }
+    {
+        let count = self.listed.len();
+        if count < MOST_LISTED {
+            let code = code(name);
+            let before = link(&mut self.rows, code, count as u32)?;
+            self.listed.push(Declared {
+                code,
+                name,
+                text,
+                before,
+            })?;
+        }
+        Ok(())
     }
 
     /// Declares a name. Of several declarations of one name the first is binding (XML 1.0 section 4.2). The only error is want
@@ -64,7 +168,7 @@ impl<'input> Entities<'input> {
             return Ok(());
         }
         match self.texts.insert((code(name), name), text) {
-            Ok(_) => Ok(()),
+            Ok(_) => self.list(name, text),
             Err(_) => Err(AllocError),
         }
     }
