@@ -1,5 +1,11 @@
 -- Pieces of the main text that join a text that waits for its row.
-use Rattle.std.proofs.Common.{◌≡◌, ℕ, zero, suc, ◌<◌, ◌≤◌, ◌-◌, Bool, true, false, List, [], ◌∷◌, ◌++◌, Option, Result, Ok, Err, length, slice_index, slice_range, refl, sym, ap, subst, ◌∙◌, arith, append-nil, cond, leb}
+use Rattle.std.proofs.Common.{◌≡◌, ℕ, zero, suc, ◌<◌, ◌≤◌, ◌+◌, ◌-◌, Bool, true, false, List, [], ◌∷◌, ◌++◌, Option, None, Result, Ok, Err, length, slice_index, slice_range, refl, sym, ap, subst, ◌∙◌, arith, append-nil, cond, leb}
+use Rattle.std.specs.Prelude.{vec_len}
+use Rattle.std.proofs.lemmas.List.{length-append}
+use Rattle.rox_grammar.specs.Failures.{Fails}
+use Rattle.rox_grammar.specs.declared.failure.Failure.TheVariants as failure
+use Rattle.rox_tables.specs.declared.rows.node_table.NodeTable.{NodeTable}
+use Rattle.rox_build.specs.declared.pending.Pending.{Pending}
 use Rattle.std.specs.String.{string_bytes}
 use Rattle.rox_grammar.specs.declared.fault.Fault.{Fault}
 use Rattle.rox_grammar.specs.Content.{is_verbatim}
@@ -17,13 +23,13 @@ use Rattle.rox_scan.specs.declared.cursor.Cursor.{Cursor}
 use Rattle.rox_grammar.specs.declared.failure.Failure.{Failure}
 use Rattle.rox_values.specs.Values.{AppendsPart, next_view, text_behind}
 use Rattle.rox_values.proofs.PartLemmas.{pair_ok}
-use Rattle.rox_build.specs.BuilderState.{Adds, HoldsState, ParsesToHeld}
-use Rattle.rox_build.specs.PendingText.{waiting}
+use Rattle.rox_build.specs.BuilderState.{Represents, IsPending, Adds, HoldsState, ParsesToHeld}
+use Rattle.rox_build.specs.PendingText.{waiting, written, text_before}
 use Rattle.rox_build.specs.declared.pending.Pending.TheVariants as pending
-use Rattle.rox_build.specs.DataParts.{GivesDataPart, next_part}
+use Rattle.rox_build.specs.DataParts.{GivesDataPart, HasPart, next_part}
 use Rattle.rox_build.specs.declared.builder.Builder.{Builder}
 use Rattle.rox_build.proofs.Parting.{part_refused, text_rests}
-use Rattle.rox_build.proofs.Showing.{piece_more, more_count, counted_ok}
+use Rattle.rox_build.proofs.Showing.{nothing_last, joined_is, waiting_first, first_count, piece_more, more_count, counted_ok, counted_err}
 use Rattle.rox_tables.proofs.StoredNodes.{count_nodes}
 use Rattle.rox_build.proofs.Stepping.{counted_is, step_is_run, plain_run}
 use Rattle.rox_build.proofs.TextLooping.{texted, ended, text_closed}
@@ -31,61 +37,145 @@ use Rattle.rox_build.proofs.TextOpening.{inner_context, inner_state, outer_state
 
 -- ---- what a part appends
 
+ok_same : {E : Type 0} (s t : State) → ◌≡◌ {A = Result State E} (Ok s) (Ok t) → s ≡ t
+ok_same s t h = cc h
+
 behind_ok : (front new : List ℕ) (r : Result (List ℕ × Next) Fault) (n : Next) → text_behind front r ≡ Ok (new, n) → (bs : List ℕ) × (r ≡ Ok (bs, n)) × (new ≡ front ++ bs)
 behind_ok front new (Ok (bs, m)) n h = let k = pair_ok (front ++ bs) new m n h in (bs, ap (λ (x : Next). Ok (bs, x)) k.1, sym k.0)
 behind_ok front new (Err f) n h = cc h
 
--- it goes on with these bytes, perhaps none
-pub joined_more : (limit end : ℕ) (s : State) (b u : Builder) (start stop : ℕ) (bs : List ℕ) → HoldsState limit end s b → b.pending ≡ pending.Joined → u.nodes ≡ b.nodes → u.tables ≡ b.tables → u.opened ≡ b.opened → u.pending ≡ pending.Joined
-    → u.joined.start ≡ b.joined.start → u.joined.end ≡ b.joined.end → u.nodes_limit ≡ b.nodes_limit → u.openings_left ≡ b.openings_left → string_bytes u.joined.text ≡ string_bytes b.joined.text ++ bs
-    → (t : State) × (with_piece limit s start stop bs ≡ Ok t) × HoldsState limit end t u
-joined_more limit end s b u start stop [] h was nodes tables opens waits from until limits openings_left joined =
-    let e : string_bytes u.joined.text ≡ string_bytes b.joined.text = joined ∙ append-nil (string_bytes b.joined.text) in (
-      s,
-      refl,
-      record {
-        limit_is = limits ∙ h.limit_is;
-        shows = record {
-          front = h.shows.front;
-          last = h.shows.last;
-          merged = h.shows.merged;
-          is_last = rw (waits, from, until, e) (rw was at h.shows.is_last);
-          clean = h.shows.clean;
-          rows = rw (waits, nodes, tables) (rw was at h.shows.rows);
-          open_rows = rw (tables, opens) h.shows.open_rows;
-          within = rw (nodes, tables) h.shows.within;
-        };
-        namespaces = rw tables h.namespaces;
-        attributes = rw tables h.attributes;
-        openings_left_is = openings_left ∙ h.openings_left_is;
-      },
-    )
-joined_more limit end s b u start stop (x ∷ xs) h was nodes tables opens waits from until limits openings_left joined =
+-- it has no byte
+kept_part : (total : ℕ) (s : State) (b m : Builder) (before : ℕ) → Represents total s.stack s.done b → HasPart before [] b m → Represents total s.stack s.done m
+kept_part total s b m before sh h = by_cases b.pending refl
+  where
+    with_last : IsPending m.pending m.joined sh.last → Represents total s.stack s.done m
+    with_last last = record {
+      front = sh.front;
+      last = sh.last;
+      merged = sh.merged;
+      is_last = last;
+      clean = sh.clean;
+      rows = rw (h.pending, h.nodes, h.tables) sh.rows;
+      open_rows = rw (h.tables, h.opened) sh.open_rows;
+      within = rw (h.nodes, h.tables) sh.within;
+    }
+
+    by_cases : (p : Pending) → p ≡ b.pending → Represents total s.stack s.done m
+    by_cases pending.None e =
+        let waits : m.pending ≡ pending.None = h.pending ∙ sym e in
+        with_last (rw waits (nothing_last b b.joined sh.last (sym e) sh.is_last))
+    by_cases pending.Written e = absurd (let w : written pending.Written ≡ 0 = ap written e ∙ h.unwritten in omega (arith, w))
+    by_cases pending.Joined e =
+        let waits : m.pending ≡ pending.Joined = h.pending ∙ sym e in
+        let same : string_bytes m.joined.text ≡ string_bytes b.joined.text =
+        h.bytes ∙ append-nil (text_before b.pending (string_bytes b.joined.text)) ∙ ap (λ (p : Pending). text_before p (string_bytes b.joined.text)) (sym e) in
+        with_last (rw (waits, h.start, h.end, same, h.slice) (joined_is total s.stack s.done b sh (sym e)))
+
+-- none was appended
+pub part_none : (total : ℕ) (s : State) (b m : Builder) (before start stop : ℕ) (bs : List ℕ) → Represents total s.stack s.done b → HasPart before bs b m → length (string_bytes m.joined.text) ≡ before
+    → Adds total (Ok tt) m (with_piece m.nodes_limit s start stop bs)
+part_none total s b m before start stop [] sh h same = (s, refl, kept_part total s b m before sh h)
+part_none total s b m before start stop (x ∷ xs) sh h same =
+    let front = text_before b.pending (string_bytes b.joined.text) in
+    let n = ap length h.bytes ∙ length-append front (x ∷ xs) in
+    absurd (omega (arith, n, h.count, same))
+
+some_there : (b m : Builder) (before : ℕ) → HasPart before [] b m → (length (string_bytes m.joined.text) ≡ before → ⊥) → ⊥
+some_there b m before h more = more (ap length (h.bytes ∙ append-nil (text_before b.pending (string_bytes b.joined.text))) ∙ sym h.count)
+
+-- a text that waits goes on
+pub part_joins : (total : ℕ) (s : State) (b m u : Builder) (before start stop : ℕ) (bs : List ℕ) → Represents total s.stack s.done b → HasPart before bs b m → (length (string_bytes m.joined.text) ≡ before → ⊥)
+    → m.pending ≡ pending.Joined → u.nodes ≡ m.nodes → u.tables ≡ m.tables → u.opened ≡ m.opened → u.pending ≡ m.pending → u.joined.start ≡ m.joined.start → u.joined.end ≡ m.joined.end
+    → string_bytes u.joined.text ≡ string_bytes m.joined.text → u.joined.slice ≡ None → Adds total (Ok tt) u (with_piece m.nodes_limit s start stop bs)
+part_joins total s b m u before start stop [] sh h more waits nodes tables opens still from until joined own = absurd (some_there b m before h more)
+part_joins total s b m u before start stop (x ∷ xs) sh h more waits nodes tables opens still from until joined own =
     let v : List ℕ = x ∷ xs in
+    let was : b.pending ≡ pending.Joined = sym h.pending ∙ waits in
     let t : State = record { at = stop; done = join s.done (leaf (Text start stop v false)); stack = s.stack; openings_left = s.openings_left } in
-    let n = more_count end s.stack s.done b start stop v false h.shows was in
+    let n = more_count total s.stack s.done b start stop v false sh was in
     let w = ap waiting was in
     let len = count_nodes b.nodes in
     let most = b.counted in
     let some = b.shallow in
-    text_rests limit end s b u tt start stop v false h tables limits openings_left
-    (t, counted_ok b.nodes_limit t (omega arith), piece_more end s.stack s.done b u start stop v false h.shows was nodes tables opens waits from until joined)
+    let bytes = joined ∙ h.bytes ∙ ap (λ (p : Pending). text_before p (string_bytes b.joined.text) ++ v) was in
+    (t, counted_ok m.nodes_limit t (omega (arith, h.limit)), piece_more total s.stack s.done b u start stop v false sh was (nodes ∙ h.nodes) (tables ∙ h.tables) (opens ∙ h.opened) (still ∙ waits) (from ∙ h.start) (until ∙ h.end) bytes own)
+
+-- a text begins
+pub part_begins : (total : ℕ) (s : State) (b m u : Builder) (before start stop : ℕ) (bs : List ℕ) → Represents total s.stack s.done b → HasPart before bs b m → (length (string_bytes m.joined.text) ≡ before → ⊥)
+    → m.pending ≡ pending.None → vec_len m.nodes.rows + waiting m.pending < m.nodes_limit → u.nodes ≡ m.nodes → u.tables ≡ m.tables → u.opened ≡ m.opened → u.pending ≡ pending.Joined → u.joined.start ≡ start → u.joined.end ≡ stop
+    → string_bytes u.joined.text ≡ string_bytes m.joined.text → u.joined.slice ≡ None → Adds total (Ok tt) u (with_piece m.nodes_limit s start stop bs)
+part_begins total s b m u before start stop [] sh h more none room nodes tables opens waits from until joined own = absurd (some_there b m before h more)
+part_begins total s b m u before start stop (x ∷ xs) sh h more none room nodes tables opens waits from until joined own =
+    let v : List ℕ = x ∷ xs in
+    let was : b.pending ≡ pending.None = sym h.pending ∙ none in
+    let t : State = record { at = stop; done = join s.done (leaf (Text start stop v false)); stack = s.stack; openings_left = s.openings_left } in
+    let n = first_count total s.stack s.done b start stop v false sh was in
+    let len = count_nodes b.nodes in
+    let rows = ap (λ (n : NodeTable). vec_len n.rows) h.nodes in
+    let bytes = joined ∙ h.bytes ∙ ap (λ (p : Pending). text_before p (string_bytes b.joined.text) ++ v) was in
+    (t, counted_ok m.nodes_limit t (omega (arith, room, rows)), waiting_first total s.stack s.done b u start stop v None sh was (nodes ∙ h.nodes) (tables ∙ h.tables) (opens ∙ h.opened) waits from until bytes own tt)
+
+-- it is one too many
+pub part_over : (total : ℕ) (s : State) (b m : Builder) (before start stop : ℕ) (bs : List ℕ) (e : Failure) → Represents total s.stack s.done b → HasPart before bs b m → (length (string_bytes m.joined.text) ≡ before → ⊥)
+    → m.pending ≡ pending.None → m.nodes_limit ≤ vec_len m.nodes.rows + waiting m.pending → e ≡ failure.Fault fault.NodesLimitReached → Fails e (with_piece m.nodes_limit s start stop bs)
+part_over total s b m before start stop [] e sh h more none over is = absurd (some_there b m before h more)
+part_over total s b m before start stop (x ∷ xs) e sh h more none over is =
+    let v : List ℕ = x ∷ xs in
+    let was : b.pending ≡ pending.None = sym h.pending ∙ none in
+    let t : State = record { at = stop; done = join s.done (leaf (Text start stop v false)); stack = s.stack; openings_left = s.openings_left } in
+    let n = first_count total s.stack s.done b start stop v false sh was in
+    let len = count_nodes b.nodes in
+    let rows = ap (λ (n : NodeTable). vec_len n.rows) h.nodes in
+    let w = ap waiting none in
+    rw is (counted_err m.nodes_limit t (omega (arith, over, rows, w)))
 
 -- a part of the main text, and its piece
 part_with : (context : Context) (src : List ℕ) (start stop : ℕ) (s t : State) (bs : List ℕ) (next : Next) → context.values.main ≡ true
     → data_part context.values.main context.values.entities (stop - s.at) src stop s.at ≡ Ok (bs, next) → with_piece context.limit s start stop bs ≡ Ok t → next_part context src start stop s ≡ Ok (t, next)
 part_with context src start stop s t bs next main read piece = rw (read, main, piece) refl
 
--- a part that was appended to the text that waits
-pub part_joined : (context : Context) (end : ℕ) (src : List ℕ) (start stop : ℕ) (s : State) (front new : List ℕ) (c : Cursor) (u : Builder) (r : Result (Option Cursor) Failure) → context.values.main ≡ true
-    → ((bs : List ℕ) → new ≡ front ++ bs → (t : State) × (with_piece context.limit s start stop bs ≡ Ok t) × HoldsState context.limit end t u)
-    → AppendsPart front new c r (data_part context.values.main context.values.entities (stop - s.at) src stop s.at)
-    → GivesDataPart context.limit end r c u (next_part context src start stop s)
-part_joined context end src start stop s front new c u (Ok next) main more h =
+-- its piece, as the builder holds it
+piece_rests : (limit end : ℕ) (s : State) (b u : Builder) (x : Unit {0}) (start stop : ℕ) (bs : List ℕ) → HoldsState limit end s b → u.tables ≡ b.tables → u.nodes_limit ≡ b.nodes_limit → u.openings_left ≡ b.openings_left
+    → Adds end (Ok x) u (with_piece b.nodes_limit s start stop bs) → (t : State) × (with_piece limit s start stop bs ≡ Ok t) × HoldsState limit end t u
+piece_rests limit end s b u x start stop [] h tables same openings_left (t, is, shows) =
+    let e : s ≡ t = ok_same s t is in (
+      s,
+      refl,
+      record {
+        limit_is = same ∙ h.limit_is;
+        shows = subst (λ (z : State). Represents end z.stack z.done u) (sym e) shows;
+        namespaces = rw tables h.namespaces;
+        attributes = rw tables h.attributes;
+        openings_left_is = openings_left ∙ h.openings_left_is;
+      },
+    )
+piece_rests limit end s b u x start stop (y ∷ ys) h tables same openings_left adds = text_rests limit end s b u x start stop (y ∷ ys) false h tables same openings_left adds
+
+-- a part that was appended to the text that waits, or begins one
+pub part_appended : (context : Context) (end : ℕ) (src : List ℕ) (start stop : ℕ) (s : State) (front new : List ℕ) (c : Cursor) (b u : Builder) (x : Unit {0}) (next : Option Cursor) → context.values.main ≡ true
+    → HoldsState context.limit end s b → u.tables ≡ b.tables → u.nodes_limit ≡ b.nodes_limit → u.openings_left ≡ b.openings_left
+    → ((bs : List ℕ) → new ≡ front ++ bs → Adds end (Ok x) u (with_piece b.nodes_limit s start stop bs))
+    → AppendsPart front new c (Ok next) (data_part context.values.main context.values.entities (stop - s.at) src stop s.at)
+    → GivesDataPart context.limit end (Ok next) c u (next_part context src start stop s)
+part_appended context end src start stop s front new c b u x next main rests tables same openings_left adds h =
     let e = behind_ok front new (data_part context.values.main context.values.entities (stop - s.at) src stop s.at) (next_view next c.pos) h in
-    let m = more e.0 e.2 in
+    let m = piece_rests context.limit end s b u x start stop e.0 rests tables same openings_left (adds e.0 e.2) in
     (m.0, part_with context src start stop s m.0 e.0 (next_view next c.pos) main e.1 m.1, m.2)
-part_joined context end src start stop s front new c u (Err e) main more h = part_refused context src start stop s e h
+
+part_without : (context : Context) (src : List ℕ) (start stop : ℕ) (s : State) (bs : List ℕ) (next : Next) (f : Fault) → context.values.main ≡ true
+    → data_part context.values.main context.values.entities (stop - s.at) src stop s.at ≡ Ok (bs, next) → with_piece context.limit s start stop bs ≡ Err f → next_part context src start stop s ≡ Err f
+part_without context src start stop s bs next f main read piece = rw (read, main, piece) refl
+
+-- its piece is refused
+pub part_piece_over : (context : Context) (end : ℕ) (src : List ℕ) (start stop : ℕ) (s : State) (front new : List ℕ) (c : Cursor) (b : Builder) (e : Failure) (next : Option Cursor) → context.values.main ≡ true
+    → HoldsState context.limit end s b → ((bs : List ℕ) → new ≡ front ++ bs → Fails e (with_piece b.nodes_limit s start stop bs))
+    → AppendsPart front new c (Ok next) (data_part context.values.main context.values.entities (stop - s.at) src stop s.at)
+    → Fails e (next_part context src start stop s)
+part_piece_over context end src start stop s front new c b failure.Memory next main rests adds h = tt
+part_piece_over context end src start stop s front new c b (failure.Fault f) next main rests adds h =
+    let e = behind_ok front new (data_part context.values.main context.values.entities (stop - s.at) src stop s.at) (next_view next c.pos) h in
+    let read : with_piece context.limit s start stop e.0 ≡ Err f = subst (λ (n : ℕ). with_piece n s start stop e.0 ≡ Err f) rests.limit_is (adds e.0 e.2) in
+    part_without context src start stop s e.0 (next_view next c.pos) f main e.1 read
 
 -- ---- a replacement text of the main text
 

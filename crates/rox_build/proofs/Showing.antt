@@ -25,6 +25,9 @@ use Rattle.rox_tables.specs.declared.rows.tables.NodeData.{NodeData}
 use Rattle.rox_tables.specs.declared.rows.tables.ElementTables.{ElementTables}
 use Rattle.rox_build.specs.declared.pending.Pending.{Pending}
 use Rattle.rox_build.specs.declared.pending.JoinedText.{JoinedText}
+use Rattle.rox_build.specs.PendingText.{IsItsSlice}
+use Rattle.std.specs.Borrow.{Bor}
+use Rattle.std.specs.Prelude.{Option, Some, None, is_some}
 use Rattle.rox_build.specs.declared.pending.Pending.TheVariants as pending
 use Rattle.rox_build.specs.declared.builder.OpenElement.{OpenElement}
 use Rattle.rox_build.specs.declared.builder.Builder.{Builder}
@@ -66,11 +69,13 @@ pub rows_joined : (end : ℕ) (o : Open) (done : Forest Item) (b : Builder) (h :
     → map (line_in b.tables) (node_rows b.nodes) ≡ so_far end o h.front
 rows_joined end o done b h was = h.rows ∙ ap (λ (p : Pending). so_far end o (with_rows p h.front h.last)) was
 
+pub joined_is : (end : ℕ) (o : Open) (done : Forest Item) (b : Builder) (h : Represents end o done b) → b.pending ≡ pending.Joined
+    → (h.last ≡ leaf (Text b.joined.start b.joined.end (string_bytes b.joined.text) (is_some b.joined.slice))) × IsItsSlice b.joined.slice (string_bytes b.joined.text)
+joined_is end o done b h was = subst (λ (p : Pending). IsPending p b.joined h.last) was h.is_last
+
 pub merged_joined : (end : ℕ) (o : Open) (done : Forest Item) (b : Builder) (h : Represents end o done b) → b.pending ≡ pending.Joined
-    → merge done ≡ join h.front (leaf (Text b.joined.start b.joined.end (string_bytes b.joined.text) false))
-merged_joined end o done b h was =
-    let is : h.last ≡ leaf (Text b.joined.start b.joined.end (string_bytes b.joined.text) false) = subst (λ (p : Pending). IsPending p b.joined h.last) was h.is_last in
-    h.merged ∙ ap (join h.front) is
+    → merge done ≡ join h.front (leaf (Text b.joined.start b.joined.end (string_bytes b.joined.text) (is_some b.joined.slice)))
+merged_joined end o done b h was = h.merged ∙ ap (join h.front) (joined_is end o done b h was).0
 
 -- where its row is written
 pub rows_written : (end : ℕ) (o : Open) (done : Forest Item) (b : Builder) (h : Represents end o done b) → b.pending ≡ pending.Written
@@ -140,13 +145,13 @@ settled_written end o done b u h was nodes tables opens empty =
 pub settled_joined : (end : ℕ) (o : Open) (done : Forest Item) (b u : Builder) (k : NodeKind) → Represents end o done b
     → b.pending ≡ pending.Joined
     → node (attribute_rows b.tables.attributes) (names_in b.tables) (lists_in b.tables) b.joined.start b.joined.end k
-    ≡ node_in (scope_of o) (Text b.joined.start b.joined.end (string_bytes b.joined.text) false)
+    ≡ node_in (scope_of o) (Text b.joined.start b.joined.end (string_bytes b.joined.text) (is_some b.joined.slice))
     → IsRowWithin b.tables k → (node_rows u.nodes) ≡ (node_rows b.nodes) ++ row_of b.tables (node_rows b.nodes) b.opened.items b.joined.start b.joined.end k ∷ [] → u.tables ≡ b.tables → u.opened ≡ b.opened
     → u.pending ≡ pending.None → RepresentsFlushed end o done u
 settled_joined end o done b u k h was is within nodes tables opens empty =
     let s = b.joined.start in
     let e = b.joined.end in
-    let i : Item = Text s e (string_bytes b.joined.text) false in
+    let i : Item = Text s e (string_bytes b.joined.text) (is_some b.joined.slice) in
     let m : join h.front (leaf i) ≡ merge done = sym (merged_joined end o done b h was) in
     let r = row_shows b.tables end o h.front i (node_rows b.nodes) b.opened.items s e k (rows_joined end o done b h was) h.open_rows is in
     let w = all_append (λ (r : NodeData). IsRowWithin b.tables r.kind) (node_rows b.nodes) (row_of b.tables (node_rows b.nodes) b.opened.items s e k ∷ []) h.within (within, tt) in
@@ -220,15 +225,17 @@ piece_first end o done b u s e v p k h was is within nodes tables opens waits =
     }
 
 -- the first piece of a text that waits
-pub waiting_first : (end : ℕ) (o : Open) (done : Forest Item) (b u : Builder) (s e : ℕ) (v : List ℕ) → Represents end o done b → b.pending ≡ pending.None → u.nodes ≡ b.nodes → u.tables ≡ b.tables → u.opened ≡ b.opened
-    → u.pending ≡ pending.Joined → u.joined.start ≡ s → u.joined.end ≡ e → string_bytes u.joined.text ≡ v → Represents end o (join done (leaf (Text s e v false))) u
-waiting_first end o done b u s e v h was nodes tables opens waits from until joined =
+pub waiting_first : (end : ℕ) (o : Open) (done : Forest Item) (b u : Builder) (s e : ℕ) (v : List ℕ) (slice : Option (Bor (List ℕ))) → Represents end o done b → b.pending ≡ pending.None
+    → u.nodes ≡ b.nodes → u.tables ≡ b.tables → u.opened ≡ b.opened → u.pending ≡ pending.Joined
+    → u.joined.start ≡ s → u.joined.end ≡ e → string_bytes u.joined.text ≡ v → u.joined.slice ≡ slice → IsItsSlice slice v → Represents end o (join done (leaf (Text s e v (is_some slice)))) u
+waiting_first end o done b u s e v slice h was nodes tables opens waits from until joined sliced its =
     let m = merged_none end o done b h was in
+    let p = is_some slice in
     record {
       front = h.front;
-      last = leaf (Text s e v false);
-      merged = merge-piece done s e v false ∙ ap (add s e v false) m ∙ add_clean h.front s e v false h.clean;
-      is_last = rw (waits, from, until, joined) refl;
+      last = leaf (Text s e v p);
+      merged = merge-piece done s e v p ∙ ap (add s e v p) m ∙ add_clean h.front s e v p h.clean;
+      is_last = rw (waits, from, until, joined, sliced) (refl, its);
       clean = h.clean;
       rows = rw (waits, nodes, tables) (rows_none end o done b h was);
       open_rows = rw (tables, opens) h.open_rows;
@@ -239,8 +246,8 @@ waiting_first end o done b u s e v h was nodes tables opens waits from until joi
 pub piece_more : (end : ℕ) (o : Open) (done : Forest Item) (b u : Builder) (s e : ℕ) (v : List ℕ) (p : Bool) → Represents end o done b
     → b.pending ≡ pending.Joined → u.nodes ≡ b.nodes → u.tables ≡ b.tables → u.opened ≡ b.opened
     → u.pending ≡ pending.Joined → u.joined.start ≡ b.joined.start → u.joined.end ≡ b.joined.end → string_bytes u.joined.text ≡ string_bytes b.joined.text ++ v
-    → Represents end o (join done (leaf (Text s e v p))) u
-piece_more end o done b u s e v p h was nodes tables opens waits from until joined =
+    → u.joined.slice ≡ None → Represents end o (join done (leaf (Text s e v p))) u
+piece_more end o done b u s e v p h was nodes tables opens waits from until joined own =
     let x = b.joined.start in
     let y = b.joined.end in
     let w = string_bytes b.joined.text in
@@ -248,8 +255,8 @@ piece_more end o done b u s e v p h was nodes tables opens waits from until join
     record {
       front = h.front;
       last = leaf (Text x y (w ++ v) false);
-      merged = merge-piece done s e v p ∙ ap (add s e v p) m ∙ add-text h.front x y w false s e v p;
-      is_last = rw (waits, from, until, joined) refl;
+      merged = merge-piece done s e v p ∙ ap (add s e v p) m ∙ add-text h.front x y w (is_some b.joined.slice) s e v p;
+      is_last = rw (waits, from, until, joined, own) (refl, tt);
       clean = h.clean;
       rows = rw (waits, nodes, tables) (rows_joined end o done b h was);
       open_rows = rw (tables, opens) h.open_rows;
@@ -287,8 +294,8 @@ all_front P (y ∷ ys) x (p, h) = (p, all_front P ys x h)
 pub slice_more : (end : ℕ) (o : Open) (done : Forest Item) (b u : Builder) (last : NodeData) (s e : ℕ) (v : List ℕ) (p : Bool) → Represents end o done b
     → b.pending ≡ pending.Written → (node_rows b.nodes) ≡ (node_rows u.nodes) ++ last ∷ [] → u.tables ≡ b.tables → u.opened ≡ b.opened
     → u.pending ≡ pending.Joined → u.joined.start ≡ last.start → u.joined.end ≡ last.end → string_bytes u.joined.text ≡ text_of last.kind ++ v
-    → Represents end o (join done (leaf (Text s e v p))) u
-slice_more end o done b u last s e v p h was nodes tables opens waits from until joined =
+    → u.joined.slice ≡ None → Represents end o (join done (leaf (Text s e v p))) u
+slice_more end o done b u last s e v p h was nodes tables opens waits from until joined own =
     let piece = written_is end o done b h was in
     let x = piece.0 in let y = piece.1 in let w = piece.2 in let q = piece.3 in
     let m : merge done ≡ join h.front (leaf (Text x y w q)) = h.merged ∙ ap (join h.front) piece.4 in
@@ -302,7 +309,7 @@ slice_more end o done b u last s e v p h was nodes tables opens waits from until
       front = h.front;
       last = leaf (Text x y (w ++ v) false);
       merged = merge-piece done s e v p ∙ ap (add s e v p) m ∙ add-text h.front x y w q s e v p;
-      is_last = rw (waits, from, until, text.1, text.2, bytes) refl;
+      is_last = rw (waits, from, until, text.1, text.2, bytes, own) (refl, tt);
       clean = h.clean;
       rows = rw (waits, tables) text.0;
       open_rows = rw (tables, opens) h.open_rows;
@@ -323,7 +330,7 @@ more_count end o done b s e v p h was =
     let y = b.joined.end in
     let w = string_bytes b.joined.text in
     let m = merged_joined end o done b h was in
-    let k = ap size (merge-piece done s e v p ∙ ap (add s e v p) m ∙ add-text h.front x y w false s e v p) ∙ size-join h.front (leaf (Text x y (w ++ v) false)) in
+    let k = ap size (merge-piece done s e v p ∙ ap (add s e v p) m ∙ add-text h.front x y w (is_some b.joined.slice) s e v p) ∙ size-join h.front (leaf (Text x y (w ++ v) false)) in
     omega (arith, k, nodes_are o (join done (leaf (Text s e v p))), rows_count b.tables end o h.front (node_rows b.nodes) (rows_joined end o done b h was))
 
 pub written_count : (end : ℕ) (o : Open) (done : Forest Item) (b : Builder) (s e : ℕ) (v : List ℕ) (p : Bool) → Represents end o done b

@@ -1,5 +1,5 @@
 -- What the builder holds, against where reading stands.
-use Rattle.std.specs.Prelude.{◌≡◌, vec_len, vec_capacity, ℕ, ◌+◌, ◌-◌, take, drop, slice_index, ◌^◌, ◌<◌, ◌≤◌, Bool, false, List, [], ◌∷◌, ◌++◌, Option, Result, Ok, Err, length, map}
+use Rattle.std.specs.Prelude.{◌≡◌, vec_len, vec_capacity, ℕ, ◌+◌, ◌-◌, take, drop, slice_index, ◌^◌, ◌<◌, ◌≤◌, Bool, false, List, [], ◌∷◌, ◌++◌, Option, is_some, Result, Ok, Err, length, map}
 use Rattle.std.specs.Str.{IsUtf8}
 use Rattle.std.specs.String.{string_bytes}
 use Rattle.std.specs.List.{AllByRecursion}
@@ -23,7 +23,7 @@ use Rattle.rox_values.specs.Refusals.{IsFailure, IsRefusal}
 use Rattle.rox_values.specs.Values.{next_view}
 use Rattle.rox_values.specs.declared.parse_error.ParseError.{ParseError}
 use Rattle.rox_build.specs.OpenRows.{top, so_far}
-use Rattle.rox_build.specs.PendingText.{waiting}
+use Rattle.rox_build.specs.PendingText.{waiting, IsItsSlice}
 use Rattle.rox_tables.specs.Scopes.{PrefixesOnce}
 use Rattle.rox_tables.specs.TagScopes.{HasBindings, lists_in}
 use Rattle.rox_tables.specs.declared.rows.tables.NodeKind.{NodeKind}
@@ -71,7 +71,7 @@ last_row (o ∷ p ∷ ps) = last_row (p ∷ ps)
 abbrev pub IsPending : Pending → JoinedText → Forest Item → Type 0
 IsPending pending.None joined last = last ≡ Nil
 IsPending pending.Written joined last = (start : ℕ) × (end : ℕ) × (text : List ℕ) × (borrowed : Bool) × (last ≡ leaf (Text start end text borrowed))
-IsPending pending.Joined joined last = last ≡ leaf (Text joined.start joined.end (string_bytes joined.text) false)
+IsPending pending.Joined joined last = (last ≡ leaf (Text joined.start joined.end (string_bytes joined.text) (is_some joined.slice))) × IsItsSlice joined.slice (string_bytes joined.text)
 
 -- the items that have rows, where these do, and behind them is the text that may go on
 abbrev pub with_rows : Pending → (front last : Forest Item) → Forest Item

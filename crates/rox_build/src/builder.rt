@@ -1,13 +1,14 @@
 //! The tables as they grow: the open elements, and the text that may go on.
 
-ghost use Rattle.std.specs.Prelude.{◌<◌, ◌≤◌, ◌+◌, ◌++◌, ◌^◌, ◌≡◌, ◌∷◌, [], ℕ, length, drop, vec_len, set, get_or, max, IfOk, IfErr, IfSome, OnOk};
+ghost use Rattle.std.specs.Prelude.{◌<◌, ◌≤◌, ◌+◌, ◌++◌, ◌^◌, ◌≡◌, ◌∷◌, [], ℕ, length, drop, vec_len, set, get_or, max, is_some, IfOk, IfErr, IfSome, OnOk};
 ghost use Rattle.rox_tables.specs.declared.rows.tables.NodeData.{NodeData};
 ghost use Rattle.rox_tables.specs.Rows.{node_rows, attribute_rows};
 ghost use Rattle.rox_tables.specs.declared.rows.tables.Scope.TheVariants as scope;
 ghost use Rattle.rox_tables.specs.StoredNodes.{kind_of};
 ghost use Rattle.rox_tables.specs.declared.rows.tables.NodeKind.TheVariants as kind;
 ghost use Rattle.rox_grammar.specs.declared.failure.Failure.TheVariants as failure;
-ghost use Rattle.rox_build.specs.PendingText.{waiting, written, text_of};
+ghost use Rattle.rox_build.specs.PendingText.{waiting, written, text_of, IsItsSlice};
+ghost use Rattle.rox_tables.specs.Storage.{storage_bytes, is_borrowed};
 ghost use Rattle.rox_build.specs.declared.pending.Pending.TheVariants as pending;
 ghost use Rattle.std.specs.String.{string_bytes};
 
@@ -57,7 +58,7 @@ pub struct Builder<'input> {
     /// Outermost first.
     pub opened: Vec<OpenElement<'input>>,
     pub pending: Pending,
-    pub joined: JoinedText,
+    pub joined: JoinedText<'input>,
     pub buffers: Buffers<'input>,
     /// The owned texts that come again.
     pub recent: Recent,
@@ -159,6 +160,23 @@ fn join_last(
     Ok(range)
 }
 
+/// The text that waits, for its row. The only error is want of memory.
+#[inline(always)]
+fn storage_of<'input>(
+    alloc: Global,
+    recent: &mut Recent,
+    joined: &JoinedText<'input>,
+) -> Result<StringStorage<'input>, AllocError>
+    ensures borrowed { IfOk result (λ t. is_borrowed t ≡ is_some joined.now.slice) }
+    ensures bytes { IsItsSlice joined.now.slice (string_bytes joined.now.text)
+        → IfOk result (λ t. storage_bytes t ≡ string_bytes joined.now.text) }
+{
+    match joined.slice {
+        Some(slice) => Ok(StringStorage::Borrowed(slice)),
+        None => recent.owned(alloc, joined.text.as_str()),
+    }
+}
+
 impl<'input> Builder<'input> {
     ghost use Rattle.std.specs.Prelude.{List, ◌-◌, false, true, take, Ok, Err, map, vec_capacity};
     ghost use Rattle.rox_grammar.specs.Forest.{Forest, Nil, Cons, join};
@@ -166,7 +184,8 @@ impl<'input> Builder<'input> {
     ghost use Rattle.rox_grammar.specs.declared.fault.Fault.TheVariants as fault;
     ghost use Rattle.rox_grammar.specs.State.{Open, root, inside, is_root, scope_of, nodes_so_far};
     ghost use Rattle.rox_reading.specs.State.{State};
-    ghost use Rattle.rox_reading.specs.Machine.{with_item, opened_by, counted};
+    ghost use Rattle.rox_reading.specs.Machine.{with_item, with_piece, opened_by, counted};
+    ghost use Rattle.rox_build.specs.DataParts.{HasPart};
     ghost use Rattle.rox_grammar.specs.Failures.{Fails};
     ghost use Rattle.rox_values.specs.Values.{piece_view};
     ghost use Rattle.rox_build.specs.BuilderState.{Represents, RepresentsFlushed, IsNode, IsOpening, AreSound, Adds, IsConsistent, IsOpened, IsReady, KeepsOpen, KeepsState, KeepsTables, names_in, opened_in, last_row, tables_of};
@@ -218,6 +237,7 @@ impl<'input> Builder<'input> {
             pending: Pending::None,
             joined: JoinedText {
                 text: String::new(alloc),
+                slice: None,
                 start: 0,
                 end: 0,
             },
@@ -388,7 +408,7 @@ impl<'input> Builder<'input> {
             + 1) }
         ensures kept { KeepsOpen self.old self.new }
     {
-        let text = self.recent.owned(alloc, self.joined.text.as_str())?;
+        let text = storage_of(alloc, &mut self.recent, &self.joined)?;
         let row = self.row(self.joined.start, self.joined.end, NodeKind::Text(text));
         self.pending = Pending::None;
         self.nodes.push(row)?;
@@ -461,24 +481,57 @@ impl<'input> Builder<'input> {
                 let range = join_last(&mut self.nodes, &mut self.joined.text, text)?;
                 self.joined.start = range.start;
                 self.joined.end = range.end;
+                self.joined.slice = None;
                 self.pending = Pending::Joined;
             }
-            Pending::Joined => self.joined.text.push_str(text)?,
+            Pending::Joined => {
+                self.joined.text.push_str(text)?;
+                self.joined.slice = None;
+            }
         }
         Ok(())
     }
 
     /// The same where a text waits for its row. The only error is want of memory.
     #[inline(always)]
-    pub fn join_piece(&mut self, start: usize, end: usize, text: &str) -> Result<(), AllocError>
+    pub fn join_piece(&mut self, start: usize, end: usize, piece: &str) -> Result<(), AllocError>
         requires { self.old.pending ≡ pending.Joined }
         ensures value { OnOk result ((total at : ℕ) (s : State)
             → Represents total s.stack s.done self.old → Adds total (Ok tt) self.new
-            (with_item self.old.nodes_limit s at (Text start end text.now true))) }
+            (with_item self.old.nodes_limit s at (Text start end piece.now true))) }
         ensures kept { KeepsOpen self.old self.new }
     {
-        self.joined.text.push_str(text)?;
+        self.joined.text.push_str(piece)?;
+        self.joined.slice = None;
         Ok(())
+    }
+
+    /// The same where no text may go on: it waits for its row. Answers false where there are too many nodes, and then all is as
+    /// before.
+    #[inline(always)]
+    pub fn wait_for_more(
+        &mut self,
+        start: usize,
+        end: usize,
+        slice: &'input str,
+    ) -> Result<bool, AllocError>
+        requires { self.old.pending ≡ pending.None }
+        ensures value { IfOk result (λ yes. yes ≡ true → (total at : ℕ) (s : State)
+            → Represents total s.stack s.done self.old → Adds total (Ok tt) self.new
+            (with_item self.old.nodes_limit s at (Text start end slice.now true))) }
+        ensures other { IfOk result (λ yes. yes ≡ false → self.new ≡ self.old) }
+        ensures kept { KeepsOpen self.old self.new }
+    {
+        if self.nodes.len() >= self.nodes_limit as usize {
+            return Ok(false);
+        }
+        self.joined.text.clear();
+        self.joined.text.push_str(slice)?;
+        self.joined.slice = Some(slice);
+        self.joined.start = start;
+        self.joined.end = end;
+        self.pending = Pending::Joined;
+        Ok(true)
     }
 
     /// A piece of text of these bytes that counts as owned: what the source has there is longer. The only fault is that there are
@@ -508,9 +561,13 @@ impl<'input> Builder<'input> {
                 let range = join_last(&mut self.nodes, &mut self.joined.text, changed)?;
                 self.joined.start = range.start;
                 self.joined.end = range.end;
+                self.joined.slice = None;
                 self.pending = Pending::Joined;
             }
-            Pending::Joined => self.joined.text.push_str(changed)?,
+            Pending::Joined => {
+                self.joined.text.push_str(changed)?;
+                self.joined.slice = None;
+            }
         }
         Ok(())
     }
@@ -536,51 +593,53 @@ impl<'input> Builder<'input> {
                 let range = join_last(&mut self.nodes, &mut self.joined.text, text)?;
                 self.joined.start = range.start;
                 self.joined.end = range.end;
+                self.joined.slice = None;
                 self.pending = Pending::Joined;
             }
-            Pending::Joined => self.joined.text.push_str(self.buffers.scratch.as_str())?,
+            Pending::Joined => {
+                self.joined.text.push_str(self.buffers.scratch.as_str())?;
+                self.joined.slice = None;
+            }
         }
         Ok(())
     }
 
-    /// The same of the first piece of a text, which waits for its row.
-    #[inline(never)]
-    fn waiting_piece(&mut self, start: usize, end: usize) -> Result<(), Failure>
-        requires { self.old.pending ≡ pending.None }
-        ensures value { (total at : ℕ) (s : State) → Represents total s.stack s.done self.old
-            → Adds total result self.new
-            (with_item self.old.nodes_limit s at
-            (Text start end (string_bytes self.old.buffers.scratch) false)) }
-        ensures kept { KeepsOpen self.old self.new }
-    {
-        self.room()?;
-        self.joined.text.clear();
-        self.joined.text.push_str(self.buffers.scratch.as_str())?;
-        self.joined.start = start;
-        self.joined.end = end;
-        self.pending = Pending::Joined;
-        Ok(())
-    }
-
-    /// The same of a part of a run, where more of the run follows or not.
+    /// Begins a part of a run, which goes into the buffer of the text that waits, if one does. Answers how much that holds.
     #[inline(always)]
-    pub fn buffered_piece(
-        &mut self,
-        alloc: Global,
-        start: usize,
-        end: usize,
-        more: bool,
-    ) -> Result<(), Failure>
-        ensures value { (total at : ℕ) (s : State) → Represents total s.stack s.done self.old
-            → Adds total result self.new
-            (with_item self.old.nodes_limit s at
-            (Text start end (string_bytes self.old.buffers.scratch) false)) }
+    pub fn begin_part(&mut self) -> usize
+        requires { written self.old.pending ≡ 0 }
+        ensures { HasPart result [] self.old self.new }
+    {
+        if let Pending::None = self.pending {
+            self.joined.text.clear();
+        }
+        self.joined.text.len()
+    }
+
+    /// What the part appended to these bytes of the buffer is a piece of a text, if it is not empty. The only fault is that there
+    /// are too many nodes.
+    #[inline(always)]
+    pub fn end_part(&mut self, before: usize, start: usize, end: usize) -> Result<(), Failure>
+        ensures value { (total : ℕ) (s : State) (bs : List ℕ) (b : Builder)
+            → Represents total s.stack s.done b → HasPart before bs b self.old
+            → Adds total result self.new (with_piece self.old.nodes_limit s start end bs) }
         ensures kept { KeepsOpen self.old self.new }
     {
-        if more && !self.is_text_open() {
-            return self.waiting_piece(start, end);
+        if self.joined.text.len() == before {
+            return Ok(());
         }
-        self.scratch_piece(alloc, start, end)
+        self.joined.slice = None;
+        match self.pending {
+            Pending::None => {
+                self.room()?;
+                self.joined.start = start;
+                self.joined.end = end;
+                self.pending = Pending::Joined;
+            }
+            Pending::Written => {}
+            Pending::Joined => {}
+        }
+        Ok(())
     }
 
     /// A piece of text: a slice of the source where it is one, else what the buffer for values holds. The only fault is that
@@ -690,6 +749,17 @@ impl<'input> Builder<'input> {
     {
         match self.pending {
             Pending::Joined => true,
+            _ => false,
+        }
+    }
+
+    /// Whether a text may go on that has its row.
+    #[inline(always)]
+    pub fn is_written(&self) -> bool
+        ensures { result ≡ false → written self.now.pending ≡ 0 }
+    {
+        match self.pending {
+            Pending::Written => true,
             _ => false,
         }
     }

@@ -161,12 +161,13 @@ fn part<'input>(
     ensures source { cursor.new.text ≡ cursor.old.text }
 {
     buffers.scratch.clear();
-    if context.main {
-        return data_part(cursor, stop, context, &mut buffers.scratch);
-    }
     buffers.raw.clear();
     let next = data_part(cursor, stop, context, &mut buffers.raw)?;
-    line_feeds(buffers.raw.as_str(), &mut buffers.scratch)?;
+    if context.main {
+        buffers.scratch.push_str(buffers.raw.as_str())?;
+    } else {
+        line_feeds(buffers.raw.as_str(), &mut buffers.scratch)?;
+    }
     Ok(next)
 }
 
@@ -193,11 +194,12 @@ fn other_part_piece<'input>(
     if builder.buffers.scratch.is_empty() {
         return Ok(next);
     }
-    builder.buffered_piece(alloc, start, stop, next.is_some())?;
+    builder.scratch_piece(alloc, start, stop)?;
     Ok(next)
 }
 
-/// The same: where a text of the main text waits for its row, the part is appended to it.
+/// The same. In the main text the part is appended to the text that waits for its row, or begins one, where none may go on that has
+/// its row.
 #[inline(always)]
 fn part_piece<'input>(
     alloc: Global,
@@ -215,14 +217,17 @@ fn part_piece<'input>(
         (next_part (context_of limit es context.entry) cursor.old.text.now start stop s) }
     ensures goes { OnOk result (GoesOn cursor.old cursor.new builder.new) }
 {
-    if context.main && builder.is_joining() {
-        return data_part(cursor, stop, context, &mut builder.joined.text);
+    if context.main && !builder.is_written() {
+        let before = builder.begin_part();
+        let next = data_part(cursor, stop, context, &mut builder.joined.text)?;
+        builder.end_part(before, start, stop)?;
+        return Ok(next);
     }
     other_part_piece(alloc, cursor, builder, context, start, stop)
 }
 
-/// A replacement text that is character data as it stands, named in the main text, where a text waits for its row: it joins that.
-/// Answers false where it is another, and then all is as before. The only error is want of memory.
+/// A replacement text that is character data as it stands, named in the main text: it joins the text that waits for its row, or waits
+/// for it itself, where none may go on. Answers false where it is another, and then all is as before. The only error is want of memory.
 #[inline(always)]
 fn joins<'input>(
     builder: &mut Builder<'input>,
@@ -246,14 +251,20 @@ fn joins<'input>(
     if start == end {
         return Ok(true);
     }
-    if !builder.is_joining() || source.as_bytes()[start] == b'<' {
+    if source.as_bytes()[start] == b'<' {
         return Ok(false);
     }
     if plain_run_end(source, start) != end {
         return Ok(false);
     }
-    builder.join_piece(start, end, &source[start..end])?;
-    Ok(true)
+    if builder.is_joining() {
+        builder.join_piece(start, end, &source[start..end])?;
+        return Ok(true);
+    }
+    if builder.is_text_open() {
+        return Ok(false);
+    }
+    builder.wait_for_more(start, end, &source[start..end])
 }
 
 /// A replacement text, in content. Its reference ends at `after`.

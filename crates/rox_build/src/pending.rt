@@ -12,8 +12,10 @@ pub enum Pending {
 
 /// The text of `Pending::Joined`, and where its first piece stands. It is beside `Pending`, so that this is a byte.
 #[derive(Drop)]
-pub struct JoinedText {
+pub struct JoinedText<'input> {
     pub text: String,
+    /// The same as a slice of its source, as long as it is one.
+    pub slice: Option<&'input str>,
     pub start: usize,
     pub end: usize,
 }

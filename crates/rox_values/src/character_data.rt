@@ -56,6 +56,7 @@ fn change_from(text: &str, at: usize) -> usize
 
 /// Appends all of a run up to the next `&` or CR.
 #[tactic(auto, unfolding(rox_reading::specs::Values::data_bit_at))]
+#[inline(always)]
 fn main_data(cursor: &mut Cursor<'_>, stop: usize, out: &mut String) -> Result<(), Failure>
     requires stop { StopsAt cursor.old.text.now cursor.old.pos stop }
     requires no_reference { slice_index cursor.old.text.now cursor.old.pos ≢ 38 }
@@ -90,6 +91,7 @@ fn inner_data(cursor: &mut Cursor<'_>, stop: usize, out: &mut String) -> Result<
 /// Appends a bit of a run: a reference, a line end, or all up to the next of these; or answers the replacement text that a
 /// reference names. Within a replacement text line ends stay as they are.
 #[tactic(auto, unfolding(rox_reading::specs::Values::data_bit_at))]
+#[inline(always)]
 fn data_bit<'input>(
     cursor: &mut Cursor<'input>,
     stop: usize,
@@ -119,6 +121,7 @@ fn data_bit<'input>(
 
 /// Appends what the run from here up to `stop` stands for, or up to the next reference to an entity, whose replacement text
 /// it answers. Within a replacement text line ends stay as they are.
+#[inline(always)]
 pub fn data_part<'input>(
     cursor: &mut Cursor<'input>,
     stop: usize,

@@ -1,28 +1,51 @@
-use Rattle.std.proofs.Common.{◌≡◌, ◌≤◌, ◌<◌, true, length, slice_index, slice_range, refl, sym, ap, ◌∙◌, arith, eq-eqb}
+use Rattle.std.specs.Prelude.{IfOk}
+use Rattle.rox_reading.specs.Values.{raw_character_data_at}
+use Rattle.rox_scan.specs.Lookahead.{IsLookahead, ends_run, changes_run}
+use Rattle.std.proofs.Common.{ℕ, List, Result, Ok, Err, ◌≡◌, ◌≤◌, ◌<◌, true, length, slice_index, slice_range, refl, sym, ap, ◌∙◌, arith, eq-eqb}
 use Rattle.rox_grammar.specs.Content.{is_verbatim}
 use Rattle.rox_scan.specs.DoctypeViews.{replacement_view}
 use Rattle.rox_scan.proofs.ShortLemmas.{longer_run}
 use Rattle.rox_build.proofs.Joining.{nothing_opened, run_opened}
 use Rattle.rox_build.proofs.content.joins.Goals as goal
 
+if_ok : {A E : Type 0} {P Q : A → Type 0} (r : Result A E) → IfOk r P → ((a : A) → P a → Q a) → IfOk r Q
+if_ok (Ok a) h f = f a h
+if_ok (Err e) h f = tt
+
 pub returns-then-start-end-clause-value : goal.returns-then-start-end-clause-value
 returns-then-start-end-clause-value c = λ yes limit end after es s h.
     let past : length c.args.text.text.now ≤ c.args.text.pos = omega arith in
     nothing_opened limit end es c.args.context.depth_left c.args.context.main (replacement_view c.args.text) after s c.args.builder.now c.if-not-context.false c.if-context-eq0.false h past
 
-pub returns-clause-value : goal.returns-clause-value
-returns-clause-value c = λ yes limit end after es s h.
+-- a run that stands for itself, up to the end of its source
+read_to_end : (src : List ℕ) (i at : ℕ) → at ≡ length src → IsLookahead (ends_run src) changes_run src i at true → i < length src
+    → (raw_character_data_at src i ≡ Ok (slice_range src i (length src), length src)) × (is_verbatim (slice_range src i (length src)) ≡ true)
+read_to_end src i at same h more =
+    let n = length src in
+    let look = rw same at h in
+    let k = eq-eqb n n refl in
+    (longer_run src i n true look (rw k refl), sym look.verbatim_is)
+
+pub returns-then-is_joining-clause-value : goal.returns-then-is_joining-clause-value
+returns-then-is_joining-clause-value c = λ yes limit end after es s h.
     let src = c.args.text.text.now in
     let i = c.args.text.pos in
     let n = length src in
-    let same : c.plain_run_end.result ≡ n = c.if-plain_run_end-end.false in
-    let look = rw same at c.plain_run_end.ensures in
-    let k = eq-eqb n n refl in
-    let read = longer_run src i n true look (rw k refl) in
-    let plain : is_verbatim (slice_range src i n) ≡ true = sym look.verbatim_is in
-    let onward = look.onward in
     let more : i < n = omega (arith, c.if-start-end.false) in
+    let read = read_to_end src i c.plain_run_end.result c.if-plain_run_end-end.false c.plain_run_end.ensures more in
     run_opened limit end es c.args.context.depth_left c.args.context.main (replacement_view c.args.text) after s c.args.builder.now _ c.if-not-context.false c.if-context-eq0.false h
     c.join_piece.ensures.kept.tables c.join_piece.ensures.kept.limit c.join_piece.ensures.kept.openings_left
     (rw c.range.ensures.value at (c.in_ok-join_piece.ensures.value end n s h.shows)) more
-    (λ is. c.if-as_bytes-start-eq60.false (ap (λ xs. slice_index xs i) c.as_bytes.ensures.value ∙ is)) read plain
+    (λ is. c.if-as_bytes-start-eq60.false (ap (λ xs. slice_index xs i) c.as_bytes.ensures.value ∙ is)) read.0 read.1
+
+pub returns-clause-value : goal.returns-clause-value
+returns-clause-value c = if_ok c.wait_for_more.result c.wait_for_more.ensures.value (λ yes adds is limit end after es s h.
+    let src = c.args.text.text.now in
+    let i = c.args.text.pos in
+    let n = length src in
+    let more : i < n = omega (arith, c.if-start-end.false) in
+    let read = read_to_end src i c.plain_run_end.result c.if-plain_run_end-end.false c.plain_run_end.ensures more in
+    run_opened limit end es c.args.context.depth_left c.args.context.main (replacement_view c.args.text) after s c.args.builder.now _ c.if-not-context.false c.if-context-eq0.false h
+    c.wait_for_more.ensures.kept.tables c.wait_for_more.ensures.kept.limit c.wait_for_more.ensures.kept.openings_left
+    (rw c.range-2.ensures.value at (adds is end n s h.shows)) more
+    (λ is. c.if-as_bytes-start-eq60.false (ap (λ xs. slice_index xs i) c.as_bytes.ensures.value ∙ is)) read.0 read.1)

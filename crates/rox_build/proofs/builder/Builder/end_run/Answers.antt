@@ -1,4 +1,6 @@
-use Rattle.std.proofs.Common.{false, refl, ap, ◌∙◌}
+use Rattle.std.proofs.Common.{refl, ap, ◌∙◌}
+use Rattle.std.specs.Prelude.{is_some}
+use Rattle.rox_build.proofs.Showing.{joined_is}
 use Rattle.std.specs.String.{string_bytes}
 use Rattle.rox_build.specs.OpenRows.{so_far}
 use Rattle.rox_build.proofs.builder.Builder.end_run.Goals as goal
@@ -12,7 +14,7 @@ returns-clause-ok c = λ end stack done h.
       front = h.front;
       last = h.last;
       merged = h.merged;
-      is_last = (b.joined.start, b.joined.end, string_bytes b.joined.text, false, rw was at h.is_last);
+      is_last = (b.joined.start, b.joined.end, string_bytes b.joined.text, is_some b.joined.slice, (joined_is end stack done b h was).0);
       clean = h.clean;
       rows = f.rows ∙ ap (so_far end stack) h.merged;
       open_rows = f.open_rows;

@@ -1,4 +1,4 @@
-use Rattle.std.proofs.Common.{◌≡◌, ◌++◌, ◌∷◌, [], false, refl, ap, ◌∙◌}
+use Rattle.std.proofs.Common.{◌≡◌, ◌++◌, ◌∷◌, [], refl, ap, ◌∙◌}
 use Rattle.rox_grammar.specs.Tree.{node_in}
 use Rattle.rox_grammar.specs.Written.{Text}
 use Rattle.rox_grammar.specs.State.{scope_of}
@@ -9,16 +9,17 @@ use Rattle.rox_tables.specs.declared.rows.tables.NodeKind.{NodeKind}
 use Rattle.rox_tables.specs.declared.rows.tables.NodeKind.TheVariants as kind
 use Rattle.rox_tables.specs.declared.rows.tables.NodeData.{NodeData}
 use Rattle.std.specs.String.{string_bytes}
-use Rattle.rox_build.proofs.Showing.{settled_joined}
+use Rattle.rox_build.proofs.Showing.{joined_is, settled_joined}
+use Rattle.std.specs.Prelude.{is_some}
 use Rattle.rox_tables.specs.Rows.{node_rows}
 use Rattle.rox_build.proofs.builder.Builder.flush_joined.Goals as goal
 
 pub returns-clause-ok : goal.returns-clause-ok
 returns-clause-ok c = λ end stack done sh.
     let b = c.args.self.now in
-    let v = c.in_ok-text.ensures.bytes ∙ c.as_str.ensures.value in
-    let o = c.in_ok-text.ensures.owned in
+    let v = c.in_ok-text.ensures.bytes (joined_is end stack done b sh c.requires).1 in
+    let o = c.in_ok-text.ensures.borrowed in
     let k : NodeKind = kind.Text c.in_ok-text.text in
-    let is : node (attribute_rows b.tables.attributes) (names_in b.tables) (lists_in b.tables) b.joined.start b.joined.end k ≡ node_in (scope_of stack) (Text b.joined.start b.joined.end (string_bytes b.joined.text) false) = rw (v, o) refl in
+    let is : node (attribute_rows b.tables.attributes) (names_in b.tables) (lists_in b.tables) b.joined.start b.joined.end k ≡ node_in (scope_of stack) (Text b.joined.start b.joined.end (string_bytes b.joined.text) (is_some b.joined.slice)) = rw (v, o) refl in
     settled_joined end stack done b _ k sh c.requires is tt
     (c.in_ok-push.ensures.rows ∙ ap (λ (r : NodeData). (node_rows b.nodes) ++ r ∷ []) c.row-row.ensures) refl refl refl

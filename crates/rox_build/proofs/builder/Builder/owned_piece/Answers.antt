@@ -56,7 +56,7 @@ returns-in_ok-range-in-Written-clause-value c = λ total at s sh.
     let some = b.shallow in
     let w = ap waiting c.in-Written.is in
     let x = c.in_ok-range-in-Written.ensures.taken in
-    (t, counted_ok b.nodes_limit t (omega arith), slice_more total s.stack s.done b _ x.0 c.args.start c.args.end v false sh c.in-Written.is x.1 refl refl refl (rw x.2 refl) (rw x.2 refl) x.3)
+    (t, counted_ok b.nodes_limit t (omega arith), slice_more total s.stack s.done b _ x.0 c.args.start c.args.end v false sh c.in-Written.is x.1 refl refl refl (rw x.2 refl) (rw x.2 refl) x.3 refl)
 
 pub returns-in_ok-push_str-in-Joined-clause-value : goal.returns-in_ok-push_str-in-Joined-clause-value
 returns-in_ok-push_str-in-Joined-clause-value c = λ total at s sh.
@@ -70,5 +70,5 @@ returns-in_ok-push_str-in-Joined-clause-value c = λ total at s sh.
     let some = b.shallow in (
       t,
       counted_ok b.nodes_limit t (omega arith),
-      piece_more total s.stack s.done b _ c.args.start c.args.end v false sh c.in-Joined.is refl refl refl c.in-Joined.is refl refl c.in_ok-push_str-in-Joined.ensures.bytes,
+      piece_more total s.stack s.done b _ c.args.start c.args.end v false sh c.in-Joined.is refl refl refl c.in-Joined.is refl refl c.in_ok-push_str-in-Joined.ensures.bytes refl,
     )

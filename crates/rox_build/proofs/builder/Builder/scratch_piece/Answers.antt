@@ -57,7 +57,7 @@ returns-in_ok-range-in-Written-clause-value c = λ total at s sh.
     let some = b.shallow in
     let w = ap waiting c.in-Written.is in
     let x = c.in_ok-range-in-Written.ensures.taken in
-    (t, counted_ok b.nodes_limit t (omega arith), slice_more total s.stack s.done b _ x.0 c.args.start c.args.end v false sh c.in-Written.is x.1 refl refl refl (rw x.2 refl) (rw x.2 refl) (rw c.as_str-text.ensures.value at x.3))
+    (t, counted_ok b.nodes_limit t (omega arith), slice_more total s.stack s.done b _ x.0 c.args.start c.args.end v false sh c.in-Written.is x.1 refl refl refl (rw x.2 refl) (rw x.2 refl) (rw c.as_str-text.ensures.value at x.3) refl)
 
 pub returns-in_ok-push_str-in-Joined-clause-value : goal.returns-in_ok-push_str-in-Joined-clause-value
 returns-in_ok-push_str-in-Joined-clause-value c = λ total at s sh.
@@ -70,4 +70,4 @@ returns-in_ok-push_str-in-Joined-clause-value c = λ total at s sh.
     let most = b.counted in
     let some = b.shallow in
     let j = c.in_ok-push_str-in-Joined.ensures.bytes ∙ ap (λ (x : List ℕ). string_bytes c.args.self.now.joined.text ++ x) c.as_str-in-Joined.ensures.value in
-    (t, counted_ok b.nodes_limit t (omega arith), piece_more total s.stack s.done b _ c.args.start c.args.end v false sh c.in-Joined.is refl refl refl c.in-Joined.is refl refl j)
+    (t, counted_ok b.nodes_limit t (omega arith), piece_more total s.stack s.done b _ c.args.start c.args.end v false sh c.in-Joined.is refl refl refl c.in-Joined.is refl refl j refl)
