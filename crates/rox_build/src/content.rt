@@ -25,6 +25,7 @@ use rox_scan::character_data::{
     ends_character_data, line_run_end, plain_run_end, raw_character_data,
 };
 use rox_scan::cursor::Cursor;
+use rox_scan::short_run::is_plain_to_end;
 use rox_values::character_data::data_part;
 use rox_values::context::Context;
 use rox_values::line_ends::line_feeds;
@@ -254,7 +255,7 @@ fn joins<'input>(
     if source.as_bytes()[start] == b'<' {
         return Ok(false);
     }
-    if plain_run_end(source, start) != end {
+    if !is_plain_to_end(source, start) {
         return Ok(false);
     }
     if builder.is_joining() {

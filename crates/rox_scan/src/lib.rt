@@ -12,6 +12,7 @@ pub mod markup;
 pub mod nibbles;
 pub mod runs;
 pub mod search;
+pub mod short_run;
 pub mod source;
 pub mod tag;
 pub mod window;

@@ -18,11 +18,10 @@ returns-then-start-end-clause-value c = λ yes limit end after es s h.
     nothing_opened limit end es c.args.context.depth_left c.args.context.main (replacement_view c.args.text) after s c.args.builder.now c.if-not-context.false c.if-context-eq0.false h past
 
 -- a run that stands for itself, up to the end of its source
-read_to_end : (src : List ℕ) (i at : ℕ) → at ≡ length src → IsLookahead (ends_run src) changes_run src i at true → i < length src
+read_to_end : (src : List ℕ) (i : ℕ) → IsLookahead (ends_run src) changes_run src i (length src) true
     → (raw_character_data_at src i ≡ Ok (slice_range src i (length src), length src)) × (is_verbatim (slice_range src i (length src)) ≡ true)
-read_to_end src i at same h more =
+read_to_end src i look =
     let n = length src in
-    let look = rw same at h in
     let k = eq-eqb n n refl in
     (longer_run src i n true look (rw k refl), sym look.verbatim_is)
 
@@ -32,7 +31,7 @@ returns-then-is_joining-clause-value c = λ yes limit end after es s h.
     let i = c.args.text.pos in
     let n = length src in
     let more : i < n = omega (arith, c.if-start-end.false) in
-    let read = read_to_end src i c.plain_run_end.result c.if-plain_run_end-end.false c.plain_run_end.ensures more in
+    let read = read_to_end src i (c.if-not-is_plain_to_end.ensures refl) in
     run_opened limit end es c.args.context.depth_left c.args.context.main (replacement_view c.args.text) after s c.args.builder.now _ c.if-not-context.false c.if-context-eq0.false h
     c.join_piece.ensures.kept.tables c.join_piece.ensures.kept.limit c.join_piece.ensures.kept.openings_left
     (rw c.range.ensures.value at (c.in_ok-join_piece.ensures.value end n s h.shows)) more
@@ -44,7 +43,7 @@ returns-clause-value c = if_ok c.wait_for_more.result c.wait_for_more.ensures.va
     let i = c.args.text.pos in
     let n = length src in
     let more : i < n = omega (arith, c.if-start-end.false) in
-    let read = read_to_end src i c.plain_run_end.result c.if-plain_run_end-end.false c.plain_run_end.ensures more in
+    let read = read_to_end src i (c.if-not-is_plain_to_end.ensures refl) in
     run_opened limit end es c.args.context.depth_left c.args.context.main (replacement_view c.args.text) after s c.args.builder.now _ c.if-not-context.false c.if-context-eq0.false h
     c.wait_for_more.ensures.kept.tables c.wait_for_more.ensures.kept.limit c.wait_for_more.ensures.kept.openings_left
     (rw c.range-2.ensures.value at (adds is end n s h.shows)) more

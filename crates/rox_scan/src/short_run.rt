@@ -1,0 +1,42 @@
+//! Character data up to the end of its source, as most replacement texts are: what has sixteen bytes at most is seen at one look.
+
+ghost use Rattle.std.specs.Prelude.{◌≡◌, ◌+◌, ◌≤◌, length, true};
+ghost use Rattle.std.specs.Str.{IsCharBoundary};
+ghost use Rattle.rox_scan.specs.ByteSets.{AllPass};
+ghost use Rattle.rox_scan.specs.Lookahead as longer;
+ghost use Rattle.rox_scan.specs.Lookahead.{IsLookahead};
+
+use crate::byte_set::ByteSet;
+use crate::character_data::{TextByte, plain_run_end};
+use std::simd::prelude::*;
+
+/// Whether the bytes from `at` up to the end, sixteen at most, are all in the set. They are seen among the last sixteen.
+#[inline(always)]
+fn passes_to_end<C: ByteSet>(bytes: &[u8], at: usize) -> bool
+    requires room { 16 ≤ length bytes.now }
+    requires short { length bytes.now ≤ at + 16 }
+    requires within { at ≤ length bytes.now }
+    ensures { result ≡ true → AllPass C.test bytes.now at (length bytes.now) }
+{
+    let first = bytes.len() - 16;
+    let others = C::others(u8x16::from_slice(&bytes[first..]));
+    let rest = others >> (at - first);
+    rest == 0
+}
+
+/// Whether character data from `at` up to the end of its source stands for itself.
+#[inline(always)]
+pub fn is_plain_to_end(text: &str, at: usize) -> bool
+    requires { IsCharBoundary text.now at }
+    ensures { result ≡ true
+        → IsLookahead (longer.ends_run text.now) longer.changes_run text.now at
+        (length text.now) true }
+{
+    let bytes = text.as_bytes();
+    let end = bytes.len();
+    if end < 16 || end - at > 16 {
+        let found = plain_run_end(text, at);
+        return found == end;
+    }
+    passes_to_end::<TextByte>(bytes, at)
+}
