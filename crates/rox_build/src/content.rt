@@ -199,8 +199,8 @@ fn other_part_piece<'input>(
     Ok(next)
 }
 
-/// The same. In the main text the part is appended to the text that waits for its row, or begins one, where none may go on that has
-/// its row.
+/// The same. In the main text the part is appended to the text that waits for its row, or begins one, but where a text may go on
+/// that has its row.
 #[inline(always)]
 fn part_piece<'input>(
     alloc: Global,
@@ -227,8 +227,9 @@ fn part_piece<'input>(
     other_part_piece(alloc, cursor, builder, context, start, stop)
 }
 
-/// A replacement text that is character data as it stands, named in the main text: it joins the text that waits for its row, or waits
-/// for it itself, where none may go on. Answers false where it is another, and then all is as before. The only error is want of memory.
+/// A replacement text that is character data as it stands, named in the main text: it joins the text that waits for its row, or
+/// waits for one itself, where none may go on. Answers false where it is another, and then all is as before. The only error is
+/// want of memory.
 #[inline(always)]
 fn joins<'input>(
     builder: &mut Builder<'input>,
