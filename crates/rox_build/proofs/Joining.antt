@@ -14,8 +14,6 @@ use Rattle.rox_grammar.specs.Written.{Item, Text, leaf}
 use Rattle.rox_grammar.specs.Forest.{join}
 use Rattle.rox_grammar.specs.State.{nodes_so_far}
 use Rattle.rox_grammar.specs.declared.fault.Fault.TheVariants as fault
-use Rattle.rox_reading.specs.Refusals.{Refusal, lifted}
-use Rattle.rox_reading.specs.Lexical.{◌>>=◌}
 use Rattle.rox_reading.specs.State.{State, depth_of}
 use Rattle.rox_reading.specs.Values.{Next, data_part, raw_character_data_at}
 use Rattle.rox_reading.specs.Machine.{Context, with_item, with_piece, opener, drive_text}
@@ -28,7 +26,7 @@ use Rattle.rox_build.specs.PendingText.{waiting, written, text_before}
 use Rattle.rox_build.specs.declared.pending.Pending.TheVariants as pending
 use Rattle.rox_build.specs.DataParts.{GivesDataPart, HasPart, next_part}
 use Rattle.rox_build.specs.declared.builder.Builder.{Builder}
-use Rattle.rox_build.proofs.Parting.{part_refused, text_rests}
+use Rattle.rox_build.proofs.Parting.{text_rests}
 use Rattle.rox_build.proofs.Showing.{nothing_last, joined_is, waiting_first, first_count, piece_more, more_count, counted_ok, counted_err}
 use Rattle.rox_tables.proofs.StoredNodes.{count_nodes}
 use Rattle.rox_build.proofs.Stepping.{counted_is, step_is_run, plain_run}

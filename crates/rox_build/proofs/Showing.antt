@@ -27,7 +27,7 @@ use Rattle.rox_build.specs.declared.pending.Pending.{Pending}
 use Rattle.rox_build.specs.declared.pending.JoinedText.{JoinedText}
 use Rattle.rox_build.specs.PendingText.{IsItsSlice}
 use Rattle.std.specs.Borrow.{Bor}
-use Rattle.std.specs.Prelude.{Option, Some, None, is_some}
+use Rattle.std.specs.Prelude.{Option, None, is_some}
 use Rattle.rox_build.specs.declared.pending.Pending.TheVariants as pending
 use Rattle.rox_build.specs.declared.builder.OpenElement.{OpenElement}
 use Rattle.rox_build.specs.declared.builder.Builder.{Builder}

@@ -1,6 +1,6 @@
 -- What a list has of a map stays so where the map gets another entity, and the list one that the map has.
-use Rattle.std.proofs.Common.{◌≡◌, ◌<◌, ℕ, zero, suc, Bool, true, false, cond, List, [], ◌∷◌, ◌++◌, Option, Some, None, Result, Ok, Err, length, get_or, refl, sym, ap, ◌∙◌, subst, bytes_eq, arith}
-use Rattle.std.specs.Prelude.{OnOk, OnErr, is_ok, is_some, if◌then◌else◌}
+use Rattle.std.proofs.Common.{◌≡◌, ◌<◌, ℕ, zero, suc, Bool, true, false, cond, List, [], ◌∷◌, ◌++◌, Option, Some, None, Result, Ok, Err, length, get_or, sym, subst, bytes_eq, arith}
+use Rattle.std.specs.Prelude.{OnOk, OnErr, is_some, if◌then◌else◌}
 use Rattle.std.specs.Borrow.{Bor}
 use Rattle.std.specs.BTreeMap.{BTreeMap, get_by}
 use Rattle.std.proofs.lemmas.Slice.Eq.{bytes_eq-Decides}

@@ -1,4 +1,4 @@
-use Rattle.std.proofs.Common.{◌++◌, true, refl, ap, List, ℕ, arith}
+use Rattle.std.proofs.Common.{true, refl, ap, List, ℕ, arith}
 use Rattle.rox_grammar.specs.Forest.{join}
 use Rattle.rox_grammar.specs.Written.{Text, leaf}
 use Rattle.rox_reading.specs.State.{State}

@@ -1,8 +1,7 @@
-use Rattle.std.proofs.Common.{◌++◌, true, Some, refl, sym, ap, ◌∙◌, List, ℕ, arith}
+use Rattle.std.proofs.Common.{◌++◌, true, Some, refl, ap, ◌∙◌, List, ℕ, arith}
 use Rattle.rox_grammar.specs.Forest.{join}
 use Rattle.rox_grammar.specs.Written.{Text, leaf}
 use Rattle.rox_reading.specs.State.{State}
-use Rattle.rox_build.specs.PendingText.{waiting}
 use Rattle.rox_build.proofs.Showing.{waiting_first, first_count, counted_ok}
 use Rattle.rox_tables.proofs.StoredNodes.{count_nodes}
 use Rattle.rox_build.proofs.builder.Builder.wait_for_more.Goals as goal
