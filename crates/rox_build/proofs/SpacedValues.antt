@@ -1,5 +1,5 @@
 -- Values with references to characters, and with white space that is no space.
-use Rattle.std.proofs.Common.{◌≡◌, ℕ, ◌+◌, ◌-◌, ◌<◌, ◌≤◌, ◌==◌, ◌||◌, ◌&&◌, Bool, true, false, not, List, [], ◌∷◌, ◌++◌, length, take, slice_index, slice_range, inl, inr, refl, sym, ap, subst, ◌∙◌, arith, Ok}
+use Rattle.std.proofs.Common.{◌≡◌, ℕ, ◌+◌, ◌-◌, ◌<◌, ◌≤◌, ◌==◌, ◌||◌, ◌&&◌, Bool, true, false, not, List, [], ◌∷◌, ◌++◌, length, take, drop, slice_index, slice_range, inl, inr, refl, sym, ap, subst, ◌∙◌, arith, Ok}
 use Rattle.std.specs.List.{list_all}
 use Rattle.std.specs.Char.{encode_utf8}
 use Rattle.std.specs.Str.{chars, IsUtf8, IsCharBoundary}
@@ -17,8 +17,9 @@ use Rattle.rox_grammar.specs.References.{IsCharacter, decimal, hexadecimal, name
 use Rattle.rox_reading.specs.Values.{ValueInclusion, character_of, is_special, bytes_of, reference_at, value_reference_at, value_bit_at, value_text, value_at}
 use Rattle.rox_scan.proofs.CharLemmas.{chars_all, all_chars}
 use Rattle.rox_scan.proofs.NearLemmas.{near_found}
-use Rattle.rox_scan.specs.ByteSets.{AllPass, is_stretch_byte}
-use Rattle.rox_values.specs.Values.{behind}
+use Rattle.rox_scan.specs.ByteSets.{AllPass, is_stretch_byte, is_value_byte}
+use Rattle.rox_values.specs.Values.{behind, text_behind}
+use Rattle.rox_values.proofs.PartLemmas.{nothing_front, value_more}
 use Rattle.rox_theory.proofs.Basics.{chars_complete}
 use Rattle.rox_theory.proofs.Onward.{reference_onward}
 use Rattle.rox_theory.proofs.ReferenceLemmas.{is_character, reference_sound}
@@ -69,6 +70,19 @@ stretch_plain b h = grind (arith, nat_tests)
 pub stretch_special : (b : ℕ) → is_stretch_byte b ≡ false → is_special b ≡ true
 unfolding is_stretch_byte
 stretch_special b h = grind (arith, nat_tests)
+
+-- what ends no value is no `<`
+pub no_tag : (quote b : ℕ) → (b == quote || b == 60) ≡ false → (b == 60) ≡ false
+no_tag quote b h = grind (arith, nat_tests)
+
+-- a byte that changes a value ends a stretch
+pub special_stops : (b : ℕ) → is_special b ≡ true → is_stretch_byte b ≡ false
+unfolding is_stretch_byte
+special_stops b h = grind (arith, nat_tests)
+
+pub value_goes_on : (b : ℕ) → is_value_byte b ≡ true → is_stretch_byte b ≡ true
+unfolding is_stretch_byte is_value_byte
+value_goes_on b h = grind (arith, nat_tests)
 
 special_ends : (b : ℕ) → is_stretch_byte b ≡ false → (is_special b || b == 60) ≡ true
 special_ends b h = rw (stretch_special b h) refl
@@ -181,3 +195,31 @@ pub reference_is : (main : Bool) (es : List Entity) (src : List ℕ) (stop i c j
 unfolding value_bit_at value_reference_at
 reference_is true es src stop i c j amp read tag white = rw (amp, read) refl
 reference_is false es src stop i c j amp read tag white = rw (amp, read, tag, white) refl
+
+-- where a byte stands that changes a value, a character begins
+pub special_cut : (src : List ℕ) (j : ℕ) → j < length src → is_stretch_byte (slice_index src j) ≡ false → IsCharBoundary src j
+special_cut src j within stops =
+    let ascii : slice_index src j < 128 = special_ascii (slice_index src j) (stretch_special _ stops) in
+    (omega arith, λ inside wide. absurd (omega arith))
+
+-- a first stretch, or nothing where the value begins with a byte that changes it, and what is behind it
+pub front_behind : (main : Bool) (es : List Entity) (opener : ValueInclusion) (openings_left : ℕ) (src front new : List ℕ) (stop i j n : ℕ) → IsUtf8 src → IsCharBoundary src i → IsCharBoundary src j → IsCharBoundary src stop
+    → i ≤ j → j < stop → AllPass is_stretch_byte src i j → (j < length src → is_stretch_byte (slice_index src j) ≡ false) → AreChars src i stop
+    → ((k : ℕ) → i ≤ k → k < stop → (slice_index src k == 60) ≡ false) → stop - i ≤ n → front ≡ slice_range src i j
+    → ((bits : ℕ) → stop - j ≤ bits → text_behind front (value_text main es opener bits src stop j openings_left) ≡ Ok (new, openings_left))
+    → value_text main es opener n src stop i openings_left ≡ Ok (new, openings_left)
+front_behind main es opener openings_left src front new stop i j n utf8 from mid to le less all stops chars apart enough is rest = elim (cases_lt i j) [
+  | inl more ↦
+      let short = cut_short is_stretch_byte src stop i j j to.0 all stops (omega arith) (omega arith) (λ h. refl) in
+      let read = stretch_is main es src stop i j utf8 from mid to more (omega arith) short.1.0 short.1.1 chars apart in
+      let one : (n - 1) + 1 ≡ n = omega arith in
+      sym (nothing_front (value_text main es opener n src stop i openings_left))
+      ∙ sym (value_more main es opener openings_left [] front n (n - 1) src stop i j one (omega arith) (bit_put main es src [] front (slice_range src i j) stop i j read is))
+      ∙ rest (n - 1) (omega arith)
+  | inr past ↦
+      let at : j ≡ i = omega arith in
+      let none : j - i ≡ 0 = omega arith in
+      let empty : front ≡ [] = is ∙ ap (λ (m : ℕ). take m (drop i src)) none in
+      sym (nothing_front (value_text main es opener n src stop i openings_left))
+      ∙ rw (empty, at) at (rest n (omega arith))
+]

@@ -1,6 +1,8 @@
 -- The bytes of a value that has a reference, or white space which is no space.
-use Rattle.std.specs.Prelude.{ℕ, Bool, false, ◌||◌}
-use Rattle.rox_scan.specs.ByteSets.{is_value_byte}
+use Rattle.std.specs.Prelude.{◌≡◌, ◌≤◌, ◌<◌, ◌==◌, ℕ, Bool, List, false, ◌||◌, slice_index}
+use Rattle.std.specs.Str.{IsCharBoundary}
+use Rattle.rox_grammar.specs.Constructs.{AreChars}
+use Rattle.rox_scan.specs.ByteSets.{EndsSet, is_stretch_byte, is_value_byte}
 use Rattle.rox_reading.specs.Values.{is_special}
 
 -- one that stands for itself, or changes a value
@@ -10,3 +12,12 @@ is_spaced_byte b = is_value_byte b || is_special b
 -- no byte changes, where none is looked for
 abbrev pub none_changes : ℕ → Bool
 none_changes b = false
+
+-- Chars without `<` from i up to j, of which the first that changes stands at this place
+pub record IsSpacedValue (src : List ℕ) (i first j : ℕ) : Type 0 where
+  pub start : IsCharBoundary src i
+  pub stop : IsCharBoundary src j
+  pub front : EndsSet is_stretch_byte src i first
+  pub before : first < j
+  pub chars : AreChars src i j
+  pub apart : (k : ℕ) → i ≤ k → k < j → (slice_index src k == 60) ≡ false

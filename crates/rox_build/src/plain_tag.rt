@@ -30,7 +30,7 @@ ghost use Rattle.rox_build.specs.BuilderState.{IsNamespaceOf, IsOpenWithin};
 ghost use Rattle.rox_build.specs.PlainTag.{HasPlainValue, HasScope, few_in, IsValueStart, IsPlainAttribute, IsNearAttribute, IsAttributeName, HoldsTag, MayPut, PutsPlain, ArePlainAttributes, IsPlainTag, HoldSame};
 
 use crate::builder::OpenElement;
-use crate::spaced_value::{spaced_value, spaced_value_end};
+use crate::spaced_value::{spaced_value, spaced_value_ends};
 use crate::tag::{MOST_ATTRIBUTES, StartTag, byte_count};
 use rox_grammar::name::QName;
 use rox_scan::byte_set::{PartByte, ValueByte, far_space_end, part_end, skip_set};
@@ -273,16 +273,13 @@ fn spaced_attribute<'input>(
         return None;
     }
     let quote = quote_before(text, from);
-    let stop = spaced_value_end(text, from, quote);
-    if stop == 0 {
-        return None;
-    }
-    let value = spaced_value(alloc, text, from, stop)?;
+    let ends = spaced_value_ends(text, from, quote)?;
+    let value = spaced_value(alloc, text, from, ends)?;
     Some(UnresolvedAttribute {
         start,
         name_end: name.end,
         value_start: from,
-        end: after_byte(text, stop, quote),
+        end: after_byte(text, ends.end, quote),
         name: name.name,
         value,
     })

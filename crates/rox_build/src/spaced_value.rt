@@ -7,11 +7,12 @@ ghost use Rattle.std.specs.String.{string_bytes};
 ghost use Rattle.rox_grammar.specs.Constructs.{AreChars};
 ghost use Rattle.rox_grammar.specs.Entities.{Entity};
 ghost use Rattle.rox_reading.specs.Values as reading;
+ghost use Rattle.rox_scan.specs.ByteSets.{EndsSet, is_stretch_byte};
 ghost use Rattle.rox_scan.specs.Lookahead as longer;
 ghost use Rattle.rox_scan.specs.Lookahead.{IsLookahead};
 ghost use Rattle.rox_tables.specs.Storage.{storage_bytes, is_borrowed};
 ghost use Rattle.rox_values.specs.Values.{behind, text_behind};
-ghost use Rattle.rox_build.specs.SpacedBytes.{is_spaced_byte, none_changes};
+ghost use Rattle.rox_build.specs.SpacedBytes.{IsSpacedValue, is_spaced_byte, none_changes};
 
 use rox_scan::byte_set::{ByteSet, ValueByte, skip_set};
 use rox_scan::cursor::Cursor;
@@ -77,9 +78,7 @@ fn changed_end(text: &str, start: usize, quote: u8) -> usize
 #[inline(always)]
 fn change_from(text: &str, at: usize) -> usize
     requires { at ≤ length text.now }
-    ensures onward { at ≤ result }
-    ensures special { result < length text.now → reading.is_special (slice_index text.now result)
-        ≡ true }
+    ensures { EndsSet is_stretch_byte text.now at result }
 {
     if changes(text, at) {
         return at;
@@ -87,25 +86,35 @@ fn change_from(text: &str, at: usize) -> usize
     skip_set::<StretchByte>(text, at)
 }
 
-/// Where the value ends that begins at `start`, behind this quote, if it is in order, and does not stand for itself, or 0.
+/// Where a value ends, and where the first byte that changes it stands.
+#[derive(Clone, Copy)]
+pub struct SpacedEnds {
+    pub first: usize,
+    pub end: usize,
+}
+
+/// Where the value ends that begins at `start`, behind this quote, if it is in order, and does not stand for itself.
 #[inline(always)]
-pub fn spaced_value_end(text: &str, start: usize, quote: u8) -> usize
+pub fn spaced_value_ends(text: &str, start: usize, quote: u8) -> Option<SpacedEnds>
     requires cut { IsCharBoundary text.now start }
     requires quote { (quote == 39 || quote == 34) ≡ true }
-    ensures looked { 0 < result → IsLookahead (longer.ends_value quote text.now) reading.is_special
-        text.now start result false }
-    ensures here { 0 < result → (slice_index text.now result == quote) ≡ true }
+    ensures looked { IfSome result (λ e. IsLookahead (longer.ends_value quote text.entry.now)
+        reading.is_special text.entry.now start e.end false) }
+    ensures here { IfSome result
+        (λ e. (slice_index text.entry.now e.end == quote) ≡ true) }
+    ensures value { IfSome result
+        (λ e. IsSpacedValue text.entry.now start e.first e.end) }
 {
     let near = skip_set::<ValueByte>(text, start);
     let end = changed_end(text, near, quote);
     if !is_at(text, end, quote) {
-        return 0;
+        return None;
     }
     let first = change_from(text, near);
     if first >= end {
-        return 0;
+        return None;
     }
-    end
+    Some(SpacedEnds { first, end })
 }
 
 /// Appends a space for the LF or TAB that stands at `at`. Answers the place behind it, or 0 where there is no memory.
@@ -236,6 +245,7 @@ fn put_bit(text: &str, at: usize, stop: usize, out: &mut String) -> usize
 }
 
 /// Appends what the value's text from `start` up to `stop` stands for, if all read it alike, and there is memory for it.
+#[inline(always)]
 fn put_spaced(text: &str, start: usize, stop: usize, out: &mut String) -> bool
     requires start { IsCharBoundary text.now start }
     requires stop { IsCharBoundary text.now stop }
@@ -244,15 +254,12 @@ fn put_spaced(text: &str, start: usize, stop: usize, out: &mut String) -> bool
     requires apart { (k : ℕ) → start ≤ k → k < stop → (slice_index text.now k == 60) ≡ false }
     ensures { result ≡ true
         → (main : Bool) (es : List Entity) (opener : reading.ValueInclusion) (openings_left : ℕ)
-        → text_behind (string_bytes out.old)
-        (reading.value_text main es opener (stop - start) text.now stop start openings_left)
+        (bits : ℕ) → stop - start ≤ bits → text_behind (string_bytes out.old)
+        (reading.value_text main es opener bits text.now stop start openings_left)
         ≡ Ok (string_bytes out.new, openings_left) }
 {
     let mut at = start;
-    'bits: for _turn in 0..stop - start {
-        if at >= stop {
-            return true;
-        }
+    'bits: while at < stop {
         let behind = put_bit(text, at, stop, out);
         if behind == 0 {
             return false;
@@ -262,34 +269,48 @@ fn put_spaced(text: &str, start: usize, stop: usize, out: &mut String) -> bool
     true
 }
 
-/// What the value from `start` up to `stop` stands for, if all read it alike, as a text of its own.
-pub fn spaced_value<'input>(
-    alloc: Global,
-    text: &str,
-    start: usize,
-    stop: usize,
-) -> Option<StringStorage<'input>>
-    requires start { IsCharBoundary text.now start }
-    requires stop { IsCharBoundary text.now stop }
-    requires onward { start ≤ stop }
-    requires chars { AreChars text.now start stop }
-    requires apart { (k : ℕ) → start ≤ k → k < stop → (slice_index text.now k == 60) ≡ false }
-    ensures value { IfSome result (λ s. (main : Bool) (es : List Entity)
+/// What the value from `start` up to `stop` stands for, if all read it alike. The first byte that changes it stands at `first`. It is
+/// out of line, so that what it makes stays in registers.
+#[inline(never)]
+fn spaced_text(alloc: Global, text: &str, start: usize, first: usize, stop: usize) -> Option<String>
+    requires { IsSpacedValue text.now start first stop }
+    ensures { IfSome result (λ s. (main : Bool) (es : List Entity)
         (opener : reading.ValueInclusion) (openings_left : ℕ)
         → reading.value_text main es opener (stop - start) text.now stop start openings_left
-        ≡ Ok (storage_bytes s, openings_left)) }
-    ensures owned { IfSome result (λ s. is_borrowed s ≡ false) }
+        ≡ Ok (string_bytes s, openings_left)) }
 {
     let Ok(mut out) = String::with_capacity(alloc, stop - start) else {
         return None;
     };
-    if !put_spaced(text, start, stop, &mut out) {
+    if out.push_str(&text[start..first]).is_err() {
+        return None;
+    }
+    if !put_spaced(text, first, stop, &mut out) {
         return None;
     }
     // References can be far longer than what they give.
     if out.len() < (stop - start) / 4 * 3 {
         out.shrink_to_fit();
     }
+    Some(out)
+}
+
+/// The same as a text of its own.
+#[inline(always)]
+pub fn spaced_value<'input>(
+    alloc: Global,
+    text: &str,
+    start: usize,
+    ends: SpacedEnds,
+) -> Option<StringStorage<'input>>
+    requires { IsSpacedValue text.now start ends.first ends.end }
+    ensures value { IfSome result (λ s. (main : Bool) (es : List Entity)
+        (opener : reading.ValueInclusion) (openings_left : ℕ)
+        → reading.value_text main es opener (ends.end - start) text.now ends.end start openings_left
+        ≡ Ok (storage_bytes s, openings_left)) }
+    ensures owned { IfSome result (λ s. is_borrowed s ≡ false) }
+{
+    let out = spaced_text(alloc, text, start, ends.first, ends.end)?;
     let Ok(value) = RcStr::from_string(out) else {
         return None;
     };

@@ -1,4 +1,4 @@
-use Rattle.std.proofs.Common.{length, map, refl, sym, subst, ◌∙◌, arith}
+use Rattle.std.proofs.Common.{map, refl, sym, subst, ◌∙◌, arith}
 use Rattle.std.proofs.lemmas.List.{length-map}
 use Rattle.rox_tables.specs.Rows.{namespace_view, attribute_rows, NamespaceWithin}
 use Rattle.rox_tables.proofs.NameTests.{adds_row}

@@ -30,16 +30,15 @@ returns c =
     let q = c.quote_before-quote.result in
     let quoted = c.quote_before-quote.ensures in
     let n = c.in_ok-name.ensures in
-    let j = c.spaced_value_end-stop.result in
-    let zero = c.if-stop-eq0.false in
-    let l = c.spaced_value_end-stop.ensures.looked (omega arith) in
+    let j = c.in_ok-ends.ends.end in
+    let l = c.in_ok-ends.ensures.looked in
     let w = c.in_ok-value.ensures in
     let start = v.start in
     let done = c.after_byte.ensures.place in
     let order1 = n.onward in
     let order2 = v.onward in
     let order3 = l.onward in
-    let at : (slice_index src j == q) ≡ true = c.spaced_value_end-stop.ensures.here (omega arith) in
+    let at : (slice_index src j == q) ≡ true = c.in_ok-ends.ensures.here in
     let changed : is_verbatim_value (slice_range src s j) ≡ false = sym l.verbatim_is in
     record {
       value_end = j;

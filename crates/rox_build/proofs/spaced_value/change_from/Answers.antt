@@ -1,5 +1,11 @@
-use Rattle.rox_build.proofs.SpacedValues.{stretch_special}
+use Rattle.std.proofs.Common.{arith}
+use Rattle.rox_build.proofs.SpacedValues.{special_stops}
 use Rattle.rox_build.proofs.spaced_value.change_from.Goals as goal
 
-pub returns-clause-special : goal.returns-clause-special
-returns-clause-special c = λ more. stretch_special _ (c.skip_set.ensures.stops more)
+pub returns-then-changes : goal.returns-then-changes
+returns-then-changes c = record {
+  onward = omega arith;
+  within = c.requires;
+  passes = λ k low high. absurd (omega arith);
+  stops = λ more. special_stops _ (c.changes.ensures c.if-changes.true);
+}

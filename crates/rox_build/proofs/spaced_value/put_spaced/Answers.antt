@@ -1,18 +1,23 @@
-use Rattle.std.proofs.Common.{◌-◌, ◌+◌, ◌<◌, ◌∙◌, sym, arith}
+use Rattle.std.proofs.Common.{◌≡◌, ◌-◌, ◌+◌, ◌<◌, ◌∙◌, refl, sym, arith}
 use Rattle.std.specs.String.{string_bytes}
-use Rattle.rox_values.proofs.PartLemmas.{value_more, value_done, value_out}
+use Rattle.rox_values.proofs.PartLemmas.{value_more, value_done}
 use Rattle.rox_build.proofs.SpacedValues.{chars_parted}
 use Rattle.rox_build.proofs.spaced_value.put_spaced.Goals as goal
 
-pub returns : goal.returns
-returns c = λ done main es opener openings_left.
-    let l = c.bits in
-    sym (l.invariant.reads main es opener openings_left) ∙ value_out main es opener openings_left (string_bytes l.out) _ _ _ _ (omega arith)
+pub bits-init : goal.bits-init
+bits-init c = record {
+  cut = c.requires.start;
+  onward = omega arith;
+  within = c.requires.onward;
+  chars = c.requires.chars;
+  reads = λ bits enough. (bits, (enough, λ main es opener openings_left. refl));
+}
 
-pub returns-then-at-stop : goal.returns-then-at-stop
-returns-then-at-stop c = λ done main es opener openings_left.
+pub returns : goal.returns
+returns c = λ done main es opener openings_left bits enough.
     let l = c.bits in
-    sym (l.invariant.reads main es opener openings_left) ∙ value_done main es opener openings_left (string_bytes l.out) _ _ _ _ (omega arith)
+    let r = l.invariant.reads bits enough in
+    sym (r.1.1 main es opener openings_left) ∙ value_done main es opener openings_left (string_bytes l.out) _ _ _ _ (omega arith)
 
 pub bits-preserved : goal.bits-preserved
 bits-preserved c =
@@ -28,13 +33,23 @@ bits-preserved c =
     let low = place.0 in
     let high = place.1 in
     let from = v.onward in
-    let turn = c.bits-test.true in
+    let more = c.bits-test.true in
     record {
       cut = b.cut some;
       onward = omega arith;
       within = high;
       chars = (chars_parted src l.at n stop c.utf8.text v.cut (b.cut some) c.requires.stop (omega arith) high v.chars).1;
-      reads = λ main es opener openings_left.
-          value_more main es opener openings_left (string_bytes l.out) _ ((stop - c.args.start) - l._turn) ((stop - c.args.start) - (l._turn + 1)) src stop l.at n (omega arith) (omega arith) (b.value some main es)
-          ∙ v.reads main es opener openings_left;
+      reads = λ bits enough.
+          let r = v.reads bits enough in
+          let left = r.0 in
+          let room = r.1.0 in
+          let one : (left - 1) + 1 ≡ left = omega arith in (
+            left - 1,
+            (
+              omega arith,
+              λ main es opener openings_left.
+                  value_more main es opener openings_left (string_bytes l.out) _ left (left - 1) src stop l.at n one more (b.value some main es)
+                  ∙ r.1.1 main es opener openings_left,
+            ),
+          );
     }

@@ -13,7 +13,12 @@ invariant-bits l = record {
   onward : l.start ≤ l.at;
   within : l.at ≤ l.stop;
   chars : AreChars l.text l.at l.stop;
-  reads : (main : Bool) (es : List Entity) (opener : ValueInclusion) (openings_left : ℕ)
-      → text_behind (string_bytes l.out) (value_text main es opener ((l.stop - l.start) - l._turn) l.text l.stop l.at openings_left)
-      ≡ text_behind (string_bytes l.fn.out) (value_text main es opener (l.stop - l.start) l.text l.stop l.start openings_left);
+  -- so many bits are left of these
+  reads : (bits : ℕ) → l.stop - l.start ≤ bits → (left : ℕ) × ((l.stop - l.at ≤ left)
+      × ((main : Bool) (es : List Entity) (opener : ValueInclusion) (openings_left : ℕ)
+      → text_behind (string_bytes l.out) (value_text main es opener left l.text l.stop l.at openings_left)
+      ≡ text_behind (string_bytes l.fn.out) (value_text main es opener bits l.text l.stop l.start openings_left)));
 }
+
+abbrev pub decreases-bits : goal.decreases-bits
+decreases-bits l = l.stop - l.at
