@@ -47,6 +47,7 @@ use rox_tables::namespaces::scope::{few_places, find_prefix};
 use rox_tables::namespaces::seen_names::SeenNames;
 use rox_tables::namespaces::unresolved_attribute::{UnresolvedAttribute, UsualAttribute};
 use rox_tables::rows::attributes::AttributeTable;
+use rox_tables::rows::recent_texts::Recent;
 use rox_tables::rows::storage::StringStorage;
 use rox_tables::rows::stored_attribute::UNUSUAL;
 use rox_tables::rows::tables::{AttributeNamespace, ElementData, ElementTables};
@@ -262,6 +263,7 @@ fn spaced_attribute<'input>(
     alloc: Global,
     text: &'input str,
     start: usize,
+    recent: &mut Option<Box<Recent>>,
 ) -> Option<UnresolvedAttribute<'input>>
     requires { IsCharBoundary text.now start }
     ensures { IfSome result (λ a. IsPlainAttribute text.entry.now start a) }
@@ -274,7 +276,7 @@ fn spaced_attribute<'input>(
     }
     let quote = quote_before(text, from);
     let ends = spaced_value_ends(text, from, quote)?;
-    let value = spaced_value(alloc, text, from, ends)?;
+    let value = spaced_value(alloc, text, from, ends, recent)?;
     Some(UnresolvedAttribute {
         start,
         name_end: name.end,
@@ -337,7 +339,7 @@ fn put_spaced_attribute<'input>(
         start result }
 {
     let alloc = *elements.attributes.items.allocator();
-    let Some(one) = spaced_attribute(alloc, text, start) else {
+    let Some(one) = spaced_attribute(alloc, text, start, &mut seen.values) else {
         return 0;
     };
     if is_namespace_decl(one.name) {

@@ -19,10 +19,10 @@ use rox_scan::cursor::Cursor;
 use rox_scan::lookahead::{StretchByte, after_char, changes, is_special};
 use rox_scan::nibbles::classes;
 use rox_scan::runs::is_at;
+use rox_tables::rows::recent_texts::{Recent, owned_value};
 use rox_tables::rows::storage::StringStorage;
 use rox_values::reference::{Reference, read_reference};
 use std::alloc::Global;
-use std::rc::RcStr;
 use std::simd::prelude::*;
 
 /// The bytes of a value that stand for themselves, white space, and `&`.
@@ -302,6 +302,7 @@ pub fn spaced_value<'input>(
     text: &str,
     start: usize,
     ends: SpacedEnds,
+    recent: &mut Option<Box<Recent>>,
 ) -> Option<StringStorage<'input>>
     requires { IsSpacedValue text.now start ends.first ends.end }
     ensures value { IfSome result (λ s. (main : Bool) (es : List Entity)
@@ -311,8 +312,5 @@ pub fn spaced_value<'input>(
     ensures owned { IfSome result (λ s. is_borrowed s ≡ false) }
 {
     let out = spaced_text(alloc, text, start, ends.first, ends.end)?;
-    let Ok(value) = RcStr::from_string(out) else {
-        return None;
-    };
-    Some(StringStorage::Owned(value))
+    owned_value(alloc, recent, out)
 }

@@ -10,6 +10,7 @@ ghost use Rattle.rox_tables.specs.SeenNames.{name_sum, name_code, HasCode, HaveC
 
 use crate::compare::{WORD, same_text, word_at};
 use crate::rows::attributes::AttributeTable;
+use crate::rows::recent_texts::Recent;
 
 /// The attributes of a tag that are in the table: where they begin, and which codes their names have. The first two have theirs
 /// put there with the third; until then the codes are those of a tag before.
@@ -19,6 +20,8 @@ pub struct SeenNames {
     pub codes: [bool; 256],
     /// How many of them came again.
     pub again: usize,
+    /// The owned values of all tags that come again, once there is one.
+    pub values: Option<Box<Recent>>,
 }
 
 /// A tag is left to the general step if more codes than these come again: its names were chosen for that.
@@ -72,6 +75,7 @@ impl SeenNames {
             from,
             codes: [false; CODES],
             again: 0,
+            values: None,
         }
     }
 

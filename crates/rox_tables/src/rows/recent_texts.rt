@@ -1,7 +1,8 @@
 //! Owned texts that come again, as the indentation of a text whose lines end with a carriage return and a line feed does: a text
-//! that equals the last one of its length shares its storage.
+//! that equals the last one of its length shares its storage, and so does a value.
 
-ghost use Rattle.std.specs.Prelude.{◌≡◌, ◌<◌, false, vec_len, OnOk, IfOk};
+ghost use Rattle.std.specs.Prelude.{◌≡◌, ◌<◌, false, vec_len, OnOk, IfOk, IfSome};
+ghost use Rattle.std.specs.String.{string_bytes};
 ghost use Rattle.rox_tables.specs.Storage.{storage_bytes, is_borrowed};
 
 use crate::rows::storage::StringStorage;
@@ -14,10 +15,62 @@ const LONG: usize = 64;
 /// So many texts are passed over before one is kept: most documents have few, for which it is not worth making places.
 const FEW: u32 = 8;
 
-/// The last owned text of each length that is not long.
+/// The place of a value that is not long, by its length and two of its bytes: most that differ have places of their own.
+fn place_of(text: &str) -> usize {
+    let bytes = text.as_bytes();
+    if bytes.is_empty() {
+        return 0;
+    }
+    let middle = bytes[bytes.len() / 2] as usize;
+    (bytes.len() + bytes[0] as usize * 3 + middle * 7) % LONG
+}
+
+/// A value that was made, as a text of its own, which shares its storage with an equal one that is kept. What keeps them is made with
+/// the first that is not long. Answers nothing where there is no memory.
+#[inline(always)]
+pub fn owned_value<'input>(
+    alloc: Global,
+    recent: &mut Option<Box<Recent>>,
+    text: String,
+) -> Option<StringStorage<'input>>
+    ensures bytes { IfSome result (λ s. storage_bytes s ≡ string_bytes text) }
+    ensures owned { IfSome result (λ s. is_borrowed s ≡ false) }
+{
+    if text.len() < LONG {
+        return short_value(alloc, recent, text);
+    }
+    let Ok(owned) = RcStr::from_string(text) else {
+        return None;
+    };
+    Some(StringStorage::Owned(owned))
+}
+
+/// The same of one that is not long.
+#[inline(never)]
+fn short_value<'input>(
+    alloc: Global,
+    recent: &mut Option<Box<Recent>>,
+    text: String,
+) -> Option<StringStorage<'input>>
+    ensures bytes { IfSome result (λ s. storage_bytes s ≡ string_bytes text) }
+    ensures owned { IfSome result (λ s. is_borrowed s ≡ false) }
+{
+    if recent.is_none() {
+        let Ok(first) = Box::new(alloc, Recent::new(alloc)) else {
+            return None;
+        };
+        *recent = Some(first);
+    }
+    let Some(kept) = recent else {
+        return None;
+    };
+    kept.share(text).ok()
+}
+
+/// The last owned text of each place.
 #[derive(Drop)]
 pub struct Recent {
-    /// At its length. Empty as long as none is kept.
+    /// A text stands at its length, a value at its place. Empty as long as none is kept.
     texts: Vec<Option<RcStr>>,
     /// How many texts were passed over.
     passed: u32,
@@ -54,16 +107,33 @@ impl Recent {
         Ok(StringStorage::Owned(owned))
     }
 
-    /// Keeps a text of this length, unless it is one of the first.
-    fn keep(&mut self, text: &RcStr, length: usize) -> Result<(), AllocError> {
+    /// The same of a value that is not long, which is made already: values differ more often than texts of one length do.
+    fn share<'input>(&mut self, text: String) -> Result<StringStorage<'input>, AllocError>
+        ensures bytes { IfOk result (λ s. storage_bytes s ≡ string_bytes text) }
+        ensures owned { IfOk result (λ s. is_borrowed s ≡ false) }
+    {
+        let place = place_of(text.as_str());
+        if let Some(Some(kept)) = self.texts.get(place) {
+            if kept.as_str() == text.as_str() {
+                let again = kept.clone()?;
+                return Ok(StringStorage::Owned(again));
+            }
+        }
+        let owned = RcStr::from_string(text)?;
+        self.keep(&owned, place)?;
+        Ok(StringStorage::Owned(owned))
+    }
+
+    /// Keeps a text at this place, unless it is one of the first.
+    fn keep(&mut self, text: &RcStr, place: usize) -> Result<(), AllocError> {
         if self.passed < FEW {
             self.passed += 1;
             return Ok(());
         }
         self.make_places()?;
         let copy = text.clone()?;
-        if let Some(place) = self.texts.get_mut(length) {
-            *place = Some(copy);
+        if let Some(last) = self.texts.get_mut(place) {
+            *last = Some(copy);
         }
         Ok(())
     }
