@@ -2,6 +2,8 @@
 use Rattle.std.proofs.Common.{◌≡◌, ℕ, ◌+◌, ◌<◌, List, [], ◌∷◌, ◌++◌, length, map, drop, refl, sym, ap, subst, ◌∙◌, arith, length-append, Option, Bool, true, false, Result, Ok, Err}
 use Rattle.std.specs.List.{AllByRecursion, slice_range}
 use Rattle.std.proofs.lemmas.List.{append-nil, length-map}
+use Rattle.std.proofs.Math.Seq.{take-append_seam}
+use Rattle.std.proofs.Common.{take}
 use Rattle.rox_grammar.specs.declared.fault.Fault.{Fault}
 use Rattle.rox_grammar.specs.Failures.{name_view}
 use Rattle.rox_grammar.specs.Forest.{Nil, join}
@@ -106,6 +108,14 @@ fine_by old new t above tag os h f =
       few_names = h.few;
       few_attributes = h.element.few;
     }
+
+-- attributes that were put are taken back
+pub cut_back : (old new after : ElementTables) (more : List AttributeRow) (n : ℕ) → new ≡ record old { attributes = new.attributes } → attribute_rows new.attributes ≡ attribute_rows old.attributes ++ more
+    → n ≡ length (attribute_rows old.attributes) → after ≡ record new { attributes = after.attributes } → attribute_rows after.attributes ≡ take n (attribute_rows new.attributes) → HoldSame old after
+cut_back old new after more n grown rows count others cut = record {
+  others = others ∙ ap (λ (t : ElementTables). record t { attributes = after.attributes }) grown;
+  attributes = cut ∙ rw (rows, count) (take-append_seam (attribute_rows old.attributes) more);
+}
 
 -- so it is where only the room for attributes is another
 pub fine_same : (old new : ElementTables) (os : List OpenElement) → HoldSame old new → IsConsistent old os → IsConsistent new os

@@ -1,7 +1,7 @@
 -- Start tags that are read at one look.
-use Rattle.std.proofs.Common.{◌≡◌, ℕ, suc, ◌+◌, ◌-◌, ◌<◌, ◌≤◌, ◌||◌, ◌==◌, Bool, true, false, List, [], ◌∷◌, ◌++◌, Option, length, map, drop, slice_index, slice_range, refl, sym, ap, subst, ◌∙◌, arith, Ok, append_assoc, bytes_eq}
+use Rattle.std.proofs.Common.{◌≡◌, ◌≢◌, inl, inr, ℕ, suc, ◌+◌, ◌-◌, ◌<◌, ◌≤◌, ◌||◌, ◌==◌, Bool, true, false, List, [], ◌∷◌, ◌++◌, Option, length, map, drop, slice_index, slice_range, refl, sym, ap, subst, ◌∙◌, arith, Ok, append_assoc, bytes_eq}
 use Rattle.std.specs.List.{AllByRecursion}
-use Rattle.std.proofs.lemmas.Bool.{lt-leb, eq-eqb, eqb-true, ne_eqb}
+use Rattle.std.proofs.lemmas.Bool.{lt-leb, eq-eqb, eqb-true, ne_eqb, cases_lt}
 use Rattle.std.proofs.lemmas.List.{append-nil, map-append, length-map}
 use Rattle.std.proofs.Common.{Some, None}
 use Rattle.std.specs.Option.{IfSome}
@@ -46,16 +46,18 @@ use Rattle.rox_tables.specs.ResolvedNames.{AddsResolved, row_of_unresolved}
 use Rattle.rox_tables.specs.declared.namespaces.bindings.PrefixBindings.{PrefixBindings}
 use Rattle.rox_tables.specs.declared.namespaces.unresolved_attribute.UnresolvedAttribute.{UnresolvedAttribute}
 use Rattle.rox_tables.proofs.Stable.{all_append}
-use Rattle.rox_build.specs.PlainTag.{HasPlainValue, HasScope, few_in, IsValueStart, IsPlainAttribute, AddsPlain, PlainSoFar, ArePlainAttributes, holding}
+use Rattle.rox_build.specs.PlainTag.{HasPlainValue, HasScope, few_in, IsValueStart, IsPlainAttribute, AddsPlain, PlainSoFar, ArePlainAttributes, EndsNear, holding}
 use Rattle.std.specs.Str.{IsUtf8, IsCharBoundary}
 use Rattle.std.proofs.lemmas.Bool.Decides.{nat_tests}
 use Rattle.std.proofs.lemmas.Str.{IsCharBoundary-after_ascii}
 use Rattle.rox_grammar.specs.Chars.{is_space, is_name_start, is_name_char, is_part_char}
-use Rattle.rox_scan.specs.ByteSets.{AllPass, is_part_byte, is_value_byte}
-use Rattle.rox_scan.proofs.NearLemmas.{near_plain, short_value, value_cut}
+use Rattle.rox_scan.specs.ByteSets.{AllPass, EndsSet, is_part_byte, is_value_byte}
+use Rattle.std.proofs.lemmas.Bool.{cases_eq}
+use Rattle.rox_scan.proofs.NearLemmas.{near_plain, short_value, value_cut, part_cut, part_stops}
+use Rattle.rox_scan.proofs.NearLemmas.{part_begins as letter_begins}
 use Rattle.rox_scan.proofs.TableLemmas.{agree_below, agree_at}
 use Rattle.std.proofs.Common.{not, ◌&&◌, nat_lt}
-use Rattle.rox_grammar.specs.Runs.{begins}
+use Rattle.rox_grammar.specs.Runs.{begins, run_end}
 use Rattle.rox_scan.proofs.RunLemmas.{begins_ascii, run_stops_ascii, space_on, space_stops, space_cut}
 use Rattle.rox_build.proofs.Items.{stands_within}
 
@@ -360,6 +362,13 @@ part_begins src i utf8 within part above =
     let ascii = part_is_ascii b part in
     begins_ascii is_name_start src i utf8 within ascii ∙ starts_by b (part_starts b ascii) part above
 
+-- a part of a name that ends at another byte, up to `>`
+pub ascii_begins : (src : List ℕ) (i e : ℕ) → IsUtf8 src → EndsSet is_part_byte src i e → 62 < slice_index src i → slice_index src e ≤ 62 → begins is_name_start src i ≡ true
+ascii_begins src i e utf8 near above end = elim (cases_eq e i) [
+  | inl none ↦ let at = ap (slice_index src) none in absurd (omega (arith, at, above, end))
+  | inr some ↦ part_begins src i utf8 (omega (arith, near.onward, near.within, some)) (near.passes i (omega arith) (omega (arith, near.onward, some))) above
+]
+
 -- the attributes of the tag so far are in their namespaces
 pub done_within : (ns : List Namespace) (few : Option (List ℕ)) (present : PrefixBindings) (src : List ℕ) (start from : ℕ) (old : List AttributeRow) (i : ℕ) (now : List AttributeRow)
     → PlainSoFar (map namespace_view ns) few present src start old i now → from ≡ length old → AllByRecursion (λ (a : AttributeRow). NamespaceWithin (length ns) a.0.namespace) (drop from now)
@@ -451,3 +460,26 @@ pub end_tag_is : (src : List ℕ) (i : ℕ) (name : Name) (n e : ℕ) → qname_
     → end_tag_at src i ≡ Ok (record { name = name; name_end = n }, e + 1)
 unfolding end_tag_at
 end_tag_is src i name n e named spaces here = rw (named, ← spaces, byte_is src e 62 here (omega arith)) refl
+
+-- ---- a name of ASCII bytes
+
+pub near_ends : (src : List ℕ) (i j : ℕ) → IsUtf8 src → EndsNear src i j → j ≡ run_end is_part_char src i
+near_ends src i j utf8 h = part_stops src i j utf8 h.ends.onward h.ends.within h.ends.passes h.ends.stops (λ _. omega (arith, h.stops))
+
+pub near_cut : (src : List ℕ) (i j : ℕ) → IsUtf8 src → IsCharBoundary src i → EndsNear src i j → IsCharBoundary src j
+near_cut src i j utf8 cut h = part_cut src i j utf8 cut h.ends.onward h.ends.within h.ends.passes
+
+-- a name without colon
+name_is : (src : List ℕ) (i k : ℕ) → begins is_name_start src i ≡ true → k ≡ run_end is_part_char src i → slice_index src k ≢ 58 → qname_at src i ≡ Ok (record { prefix = []; local = slice_range src i k }, k)
+unfolding qname_at
+name_is src i k some end is =
+    let no : (slice_index src k == 58) ≡ false = ne_eqb (slice_index src k) 58 is in
+    rw (← end, no, some) refl
+
+pub near_named : (src : List ℕ) (i j : ℕ) → IsUtf8 src → EndsNear src i j → qname_at src i ≡ Ok (record { prefix = []; local = slice_range src i j }, j)
+near_named src i j utf8 h =
+    let more : i < j = elim (cases_lt i j) [
+      | inl less ↦ less
+      | inr past ↦ let same : i ≡ j = omega (arith, past, h.ends.onward) in absurd (let letter = subst (λ (k : ℕ). 63 < slice_index src k) same h.letter in omega (arith, letter, h.stops))
+    ] in
+    name_is src i j (letter_begins src i j utf8 more h.ends.within h.ends.passes h.letter) (near_ends src i j utf8 h) h.no_colon

@@ -28,7 +28,9 @@ use Rattle.rox_theory.proofs.NameLemmas.{qname_sound, qname_complete, qname_le}
 use Rattle.rox_scan.proofs.RunLemmas.{run_stops_ascii}
 use Rattle.rox_build.proofs.Items.{stands_within}
 use Rattle.rox_build.proofs.PlainTags.{end_tag_is}
-use Rattle.rox_build.specs.BuilderState.{name_count, HasName, IsOpened}
+use Rattle.rox_build.specs.BuilderState.{name_count, HasName, IsConsistent, IsOpened, IsOpenWithin}
+use Rattle.rox_build.specs.PlainTag.{MayOpenBelow}
+use Rattle.rox_tables.specs.declared.rows.tables.ElementTables.{ElementTables}
 use Rattle.rox_build.specs.declared.builder.OpenElement.{OpenElement}
 use Rattle.rox_build.specs.declared.tag.StartTag.{StartTag}
 
@@ -262,6 +264,16 @@ opened_named context cut above count known src i openings_left r j t o utf8 here
 pub all_last : {X : Type 0} (P : X → Type 0) (xs : List X) (x : X) → AllByRecursion P (xs ++ x ∷ []) → P x
 all_last P [] x h = h.0
 all_last P (y ∷ ys) x h = all_last P ys x h.1
+
+-- below the innermost open element
+pub below_last : (t : ElementTables) (os outer : List OpenElement) (o : OpenElement) → IsConsistent t os → os ≡ outer ++ o ∷ [] → MayOpenBelow t o
+below_last t os outer o h split = record {
+  places = h.sound.listed;
+  few = h.few_names;
+  scopes = h.sound.scopes;
+  kept = h.kept;
+  parent = all_last (IsOpenWithin t) outer o (subst (AllByRecursion (IsOpenWithin t)) split h.elements);
+}
 
 pub same_itself : (name : Name) → same_qname name name ≡ true
 same_itself name =

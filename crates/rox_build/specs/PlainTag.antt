@@ -1,5 +1,5 @@
 -- Start tags that are read at one look: without declarations, and with attributes whose values refer to no declared entity.
-use Rattle.std.specs.Prelude.{◌≡◌, ℕ, ◌+◌, ◌<◌, ◌≤◌, ◌^◌, ◌==◌, ◌||◌, Bool, true, false, List, [], ◌++◌, Option, Some, Ok, drop, length, map, slice_index, slice_range}
+use Rattle.std.specs.Prelude.{◌≡◌, ◌≢◌, ℕ, ◌+◌, ◌<◌, ◌≤◌, ◌^◌, ◌==◌, ◌||◌, Bool, true, false, List, [], ◌++◌, Option, Some, Ok, drop, length, map, slice_index, slice_range}
 use Rattle.std.specs.List.{AllByRecursion}
 use Rattle.std.specs.Str.{IsCharBoundary}
 use Rattle.rox_grammar.specs.declared.fault.Fault.{Fault}
@@ -23,6 +23,11 @@ use Rattle.rox_tables.specs.SeenNames.{AreSeen}
 use Rattle.rox_tables.specs.declared.namespaces.seen_names.SeenNames.{SeenNames}
 use Rattle.rox_tables.specs.Storage.{storage_bytes, is_borrowed}
 use Rattle.rox_tables.specs.declared.rows.tables.ElementTables.{ElementTables}
+use Rattle.rox_grammar.specs.Document.{most_pairs}
+use Rattle.rox_scan.specs.ByteSets.{EndsSet, is_part_byte}
+use Rattle.rox_tables.specs.TagScopes.{HasBindings}
+use Rattle.rox_build.specs.BuilderState.{IsOpenWithin}
+use Rattle.rox_build.specs.declared.builder.OpenElement.{OpenElement}
 use Rattle.rox_build.specs.ElementRow.{Tagged}
 use Rattle.rox_build.specs.declared.plain_tag.PlainName.{PlainName}
 use Rattle.rox_build.specs.declared.tag.StartTag.{StartTag}
@@ -106,9 +111,10 @@ pub record HoldsTag (t : ElementTables) (n : ℕ) (s : SeenNames) : Type 0 where
   pub done : AllByRecursion (λ a. NamespaceWithin (length t.namespaces.items.items) a.0.namespace) (drop s.from (attribute_rows t.attributes))
   pub seen : AreSeen s (attribute_rows t.attributes)
 
--- an attribute that begins at i may be put behind those that were seen
+-- an attribute that begins at i, with a byte above `>`, may be put behind those that were seen
 pub record MayPut (src : List ℕ) (i : ℕ) (t : ElementTables) (n : ℕ) (s : SeenNames) : Type 0 where
   pub cut : IsCharBoundary src i
+  pub begins : 62 < slice_index src i
   pub short : length src < 2 ^ 32
   pub holds : HoldsTag t n s
 
@@ -161,3 +167,18 @@ pub record IsPlainTag (old new : ElementTables) (above : List NamespaceDecl) (sr
 pub record HoldSame (old new : ElementTables) : Type 0 where
   pub others : new ≡ record old { attributes = new.attributes }
   pub attributes : attribute_rows new.attributes ≡ attribute_rows old.attributes
+
+-- a part of a name begins here with a letter, `_` or more, and its ASCII bytes end there, before one that is no more of a name
+pub record EndsNear (src : List ℕ) (i j : ℕ) : Type 0 where
+  pub ends : EndsSet is_part_byte src i j
+  pub letter : 63 < slice_index src i
+  pub stops : slice_index src j < 63
+  pub no_colon : slice_index src j ≢ 58
+
+-- what stands in these tables may have an element below this open one
+pub record MayOpenBelow (t : ElementTables) (o : OpenElement) : Type 0 where
+  pub places : ArePlaces (length t.namespaces.items.items) t.listed.items
+  pub few : length t.namespaces.items.items ≤ most_pairs
+  pub scopes : AreScopes (length t.listed.items) t.scopes.items
+  pub kept : HasBindings t
+  pub parent : IsOpenWithin t o

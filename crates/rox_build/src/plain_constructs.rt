@@ -15,11 +15,12 @@ ghost use Rattle.rox_reading.specs.State.{State};
 ghost use Rattle.rox_build.specs.BuilderState.{GoesOn, IsConsistent, IsInState, IsReady, KeepsState, ScansTo};
 ghost use Rattle.rox_build.specs.PlainSteps.{Reads};
 ghost use Rattle.rox_build.specs.PendingText.{waiting};
+ghost use Rattle.rox_build.specs.PlainTag.{EndsNear};
 ghost use Rattle.rox_scan.specs.ByteSets.{EndsSet, is_part_byte};
 ghost use Rattle.rox_scan.specs.declared.cursor.Cursor.{Cursor};
 
 use crate::builder::Builder;
-use crate::plain_tag::{TagPlace, bare_start_tag, plain_start_tag};
+use crate::plain_tag::{TagPlace, bare_start_tag, near_start_tag, plain_start_tag};
 use crate::same_front::same_front;
 use rox_grammar::fault::Word;
 use rox_scan::byte_set::{PartByte, near_part_end, skip_set};
@@ -219,7 +220,7 @@ fn bare_element<'input>(
 /// A start tag, from its `<` at `start`, if it is plain. The first part of its name ends at `part`. Answers the place behind it, or
 /// `NOT_READ`: a place that is passed on and answered by itself stays in registers.
 #[inline(never)]
-fn plain_element<'input>(
+fn other_element<'input>(
     text: &'input str,
     start: usize,
     builder: &mut Builder<'input>,
@@ -251,19 +252,80 @@ fn plain_element<'input>(
     if depth == 0 {
         return NOT_READ;
     }
-    let parent = &builder.opened[depth - 1];
-    let row = parent.row;
+    let above = &builder.opened[depth - 1];
+    let row = above.row;
     let openings_left = builder.openings_left;
-    let Some(read) = plain_start_tag(
+    let held = builder.tables.attributes.len();
+    let Some(other) = plain_start_tag(
         text,
         TagPlace { start, part },
+        &mut builder.tables,
+        above,
+        openings_left,
+        &mut builder.buffers.seen,
+    ) else {
+        builder.tables.attributes.truncate(held);
+        return NOT_READ;
+    };
+    if other.tag.empty {
+        builder.put_leaf(row, start, other.end, NodeKind::Element(other.tag.element));
+        return other.end;
+    }
+    builder.put_open(row, text, start, &other.tag);
+    other.end
+}
+
+/// The same of one whose name ends at `near`, is of ASCII bytes and has no prefix. Below an element whose name has none it has the
+/// namespace of that, which is read behind the attributes.
+#[inline(never)]
+fn plain_element<'input>(
+    text: &'input str,
+    start: usize,
+    builder: &mut Builder<'input>,
+    near: usize,
+) -> usize
+    requires here { slice_index text.now start ≡ 60 }
+    requires start { IsCharBoundary text.now start }
+    requires near { EndsNear text.now (start + 1) near }
+    requires short { length text.now < 2 ^ 32 }
+    requires ready { IsReady 1 builder.old }
+    requires fine { IsConsistent builder.old.tables builder.old.opened.items }
+    ensures value { result < 2 ^ 32 → (context : machine.Context) (end : ℕ) (s : State)
+        (here behind : Cursor) → here.pos ≡ start → behind.pos ≡ result
+        → IsInState context.limit end s here builder.old
+        → ScansTo context.limit end (Ok tt) behind builder.new
+        (machine.tag_step context text.entry.now s) }
+    ensures other { 2 ^ 32 ≤ result → KeepsState builder.old builder.new }
+    ensures cut { result < 2 ^ 32 → IsCharBoundary text.entry.now result }
+    ensures ready { result < 2 ^ 32 → (n : ℕ) → IsReady (n + 1) builder.old
+        → IsReady n builder.new }
+    ensures fine { IsConsistent builder.new.tables builder.new.opened.items }
+{
+    if !builder.has_room_to_open() {
+        return NOT_READ;
+    }
+    let depth = builder.opened.len();
+    if depth == 0 {
+        return NOT_READ;
+    }
+    if !builder.opened[depth - 1].name.prefix.is_empty() {
+        return other_element(text, start, builder, near);
+    }
+    let parent = &builder.opened[depth - 1];
+    let openings_left = builder.openings_left;
+    let from = builder.tables.attributes.len();
+    let Some(read) = near_start_tag(
+        text,
+        TagPlace { start, part: near },
         &mut builder.tables,
         parent,
         openings_left,
         &mut builder.buffers.seen,
     ) else {
+        builder.tables.attributes.truncate(from);
         return NOT_READ;
     };
+    let row = parent.row;
     if read.tag.empty {
         builder.put_leaf(row, start, read.end, NodeKind::Element(read.tag.element));
         return read.end;
@@ -373,11 +435,18 @@ fn plain_markup<'input>(
     }
     let name = after_byte(text, start, b'<');
     let near = skip_set::<PartByte>(text, name);
+    if near >= bytes.len() {
+        return false;
+    }
     if bare_element(cursor, builder, near) {
         return true;
     }
-    let part = near_part_end(text, name, near);
-    let end = plain_element(text, start, builder, part);
+    // White space and `/` come before a colon.
+    let end = if bytes[near] < b':' {
+        plain_element(text, start, builder, near)
+    } else {
+        other_element(text, start, builder, near_part_end(text, name, near))
+    };
     if end > MOST_BYTES {
         return false;
     }

@@ -20,14 +20,10 @@ ghost use Rattle.rox_grammar.specs.Written.{NamespaceDecl};
 ghost use Rattle.rox_tables.specs.Bindings.{FindsBinding};
 ghost use Rattle.rox_tables.specs.Rows.{AttributeRow, NamespaceWithin, namespace_view, attribute_rows, attribute_uri};
 ghost use Rattle.std.specs.List.{AllByRecursion};
-ghost use Rattle.rox_grammar.specs.Document.{most_pairs};
-ghost use Rattle.rox_tables.specs.Rows.{AreScopes};
-ghost use Rattle.rox_tables.specs.Scopes.{ArePlaces, PrefixesOnce};
 ghost use Rattle.rox_tables.specs.SeenNames.{AreSeen};
-ghost use Rattle.rox_tables.specs.TagScopes.{HasBindings};
 ghost use Rattle.rox_build.specs.ElementRow.{scope_in_tables};
-ghost use Rattle.rox_build.specs.BuilderState.{IsNamespaceOf, IsOpenWithin};
-ghost use Rattle.rox_build.specs.PlainTag.{HasPlainValue, HasScope, few_in, IsValueStart, IsPlainAttribute, IsNearAttribute, IsAttributeName, HoldsTag, MayPut, PutsPlain, ArePlainAttributes, IsPlainTag, HoldSame};
+ghost use Rattle.rox_build.specs.BuilderState.{IsNamespaceOf};
+ghost use Rattle.rox_build.specs.PlainTag.{EndsNear, MayOpenBelow, HasPlainValue, HasScope, few_in, IsValueStart, IsPlainAttribute, IsNearAttribute, IsAttributeName, HoldsTag, MayPut, PutsPlain, ArePlainAttributes, IsPlainTag};
 
 use crate::builder::OpenElement;
 use crate::spaced_value::{spaced_value, spaced_value_ends};
@@ -636,7 +632,7 @@ fn put_prefixed_attribute<'input>(
     ensures { PutsPlain elements.old elements.new scope seen.old seen.new text.entry.now
         start result }
 {
-    if !is_at(text, part, b':') || !begins::<NameStart>(text, start) {
+    if !is_at(text, part, b':') {
         return put_other_attribute(text, start, elements, scope, seen);
     }
     let Some(name) = prefixed_name(text, start, part) else {
@@ -666,7 +662,7 @@ fn put_far_attribute<'input>(
 {
     let part = skip_set::<PartByte>(text, start);
     let quote = quote_behind_equals(text, part);
-    if quote == 0 || !begins::<NameStart>(text, start) {
+    if quote == 0 {
         return put_prefixed_attribute(text, start, part, elements, scope, seen);
     }
     let name = whole_name(text, start, part);
@@ -699,7 +695,7 @@ fn whole_name<'input>(text: &'input str, start: usize, part: usize) -> PlainName
     PlainName { name, end: part }
 }
 
-/// The same of the attribute that begins at `start` with a byte above `>`. Most have a short name without prefix.
+/// The same of the attribute that begins at `start`. Most have a short name without prefix.
 #[inline(always)]
 fn put_attribute<'input>(
     text: &'input str,
@@ -710,7 +706,6 @@ fn put_attribute<'input>(
 ) -> Option<usize>
     requires put { MayPut text.now start elements.old scope seen.old }
     requires within { start ≤ length text.now }
-    requires begins { 62 < slice_index text.now start }
     ensures put { IfSome result
         (λ j. PutsPlain elements.old elements.new scope seen.old seen.new text.entry.now
         start j) }
@@ -909,21 +904,16 @@ pub struct PlainTag<'input> {
     pub end: usize,
 }
 
-/// The name from `start` up to `near`, where the first ASCII bytes of a part end, if `>` stands right behind it. It begins with no
-/// digit or sign, as the byte there shows.
+/// The name from `start` up to `near`, where the first ASCII bytes of a part end, and neither a colon nor more of it follows. It
+/// begins with no digit or sign, as the byte there shows.
 #[inline(always)]
-fn bare_name<'input>(text: &'input str, start: usize, near: usize) -> Option<&'input str>
+fn near_name<'input>(text: &'input str, start: usize, near: usize) -> &'input str
     requires start { IsCharBoundary text.now start }
-    requires near { EndsSet is_part_byte text.now start near }
-    requires letter { 63 < slice_index text.now start }
-    ensures value { IfSome result (λ n. qname_at text.entry.now start
-        ≡ Ok (record { prefix = []; local = n.now }, near)) }
-    ensures closed { IfSome result (λ n. slice_index text.entry.now near ≡ 62) }
+    requires near { EndsNear text.now start near }
+    ensures { qname_at text.entry.now start
+        ≡ Ok (record { prefix = []; local = result.now }, near) }
 {
-    if !is_at(text, near, b'>') {
-        return None;
-    }
-    Some(&text[start..near])
+    &text[start..near]
 }
 
 /// A start tag of a name alone behind its `<` at `start`, if it is one below this element, whose name has no prefix: then it has
@@ -939,14 +929,9 @@ pub fn bare_start_tag<'input>(
     near: usize,
 ) -> Option<PlainTag<'input>>
     requires here { slice_index text.now start ≡ 60 }
-    requires near { EndsSet is_part_byte text.now (start + 1) near }
-    requires letter { 63 < slice_index text.now (start + 1) }
-    requires places { ArePlaces
-        (length elements.now.namespaces.items.items) elements.now.listed.items }
-    requires few { length elements.now.namespaces.items.items ≤ most_pairs }
-    requires scopes { AreScopes (length elements.now.listed.items) elements.now.scopes.items }
-    requires kept { HasBindings elements.now }
-    requires parent { IsOpenWithin elements.now parent.now }
+    requires near { EndsNear text.now (start + 1) near }
+    requires closed { slice_index text.now near ≡ 62 }
+    requires below { MayOpenBelow elements.now parent.now }
     ensures read { IfSome result
         (λ t. IsPlainTag elements.entry.now elements.entry.now
         (scope_in_tables elements.entry.now parent.entry.now.scope)
@@ -958,7 +943,7 @@ pub fn bare_start_tag<'input>(
         return None;
     }
     let name_at = after_byte(text, start, b'<');
-    let local = bare_name(text, name_at, near)?;
+    let local = near_name(text, name_at, near);
     let count = elements.attributes.len();
     if count > MOST_ATTRIBUTES {
         return None;
@@ -1042,8 +1027,8 @@ pub struct TagPlace {
 
 /// The start tag at this place, if it is plain and finds room, below this element: its attributes are in the table then. Else some
 /// may stand there too. So many replacement texts may be opened behind it.
-#[inline]
-fn read_tag<'input>(
+#[inline(always)]
+pub fn plain_start_tag<'input>(
     text: &'input str,
     place: TagPlace,
     elements: &mut ElementTables<'input>,
@@ -1056,12 +1041,7 @@ fn read_tag<'input>(
     requires cut { IsCharBoundary text.now place.part }
     requires onward { place.start + 1 ≤ place.part }
     requires short { length text.now < 2 ^ 32 }
-    requires places { ArePlaces
-        (length elements.old.namespaces.items.items) elements.old.listed.items }
-    requires few { length elements.old.namespaces.items.items ≤ most_pairs }
-    requires scopes { AreScopes (length elements.old.listed.items) elements.old.scopes.items }
-    requires kept { HasBindings elements.old }
-    requires parent { IsOpenWithin elements.old parent.now }
+    requires below { MayOpenBelow elements.old parent.now }
     ensures read { IfSome result
         (λ t. IsPlainTag elements.old elements.new
         (scope_in_tables elements.old parent.entry.now.scope) text.entry.now place.start
@@ -1103,38 +1083,54 @@ fn read_tag<'input>(
     Some(PlainTag { tag, end: end.at })
 }
 
-/// The same; where it answers nothing, the tables hold what they held.
-#[inline]
-pub fn plain_start_tag<'input>(
+/// The same of a tag whose name is of ASCII bytes and has no prefix, as that of this element has none.
+#[inline(always)]
+pub fn near_start_tag<'input>(
     text: &'input str,
     place: TagPlace,
     elements: &mut ElementTables<'input>,
-    parent: &OpenElement<'input>,
-    openings_left: u32,
+    above: &OpenElement<'input>,
+    openings: u32,
     seen: &mut SeenNames,
 ) -> Option<PlainTag<'input>>
     requires here { slice_index text.now place.start ≡ 60 }
-    requires part { place.part ≡ run_end is_part_char text.now (place.start + 1) }
-    requires cut { IsCharBoundary text.now place.part }
-    requires onward { place.start + 1 ≤ place.part }
+    requires near { EndsNear text.now (place.start + 1) place.part }
     requires short { length text.now < 2 ^ 32 }
-    requires places { ArePlaces
-        (length elements.old.namespaces.items.items) elements.old.listed.items }
-    requires few { length elements.old.namespaces.items.items ≤ most_pairs }
-    requires scopes { AreScopes (length elements.old.listed.items) elements.old.scopes.items }
-    requires kept { HasBindings elements.old }
-    requires parent { IsOpenWithin elements.old parent.now }
+    requires below { MayOpenBelow elements.old above.now }
+    requires bare { above.now.name.prefix.now ≡ [] }
     ensures read { IfSome result
         (λ t. IsPlainTag elements.old elements.new
-        (scope_in_tables elements.old parent.entry.now.scope) text.entry.now place.start
+        (scope_in_tables elements.old above.entry.now.scope) text.entry.now place.start
         t.end t.tag) }
-    ensures openings_left { IfSome result (λ t. t.tag.openings_left ≡ openings_left) }
-    ensures none { IfNone result (HoldSame elements.old elements.new) }
+    ensures openings_left { IfSome result (λ t. t.tag.openings_left ≡ openings) }
+    ensures grown { (more : List AttributeRow)
+        × (elements.new ≡ record elements.old { attributes = elements.new.attributes })
+        × (attribute_rows elements.new.attributes ≡ attribute_rows elements.old.attributes
+        ++ more) }
 {
-    let from = elements.attributes.len();
-    let tag = read_tag(text, place, elements, parent, openings_left, seen);
-    if tag.is_none() {
-        elements.attributes.truncate(from);
+    let name_at = after_byte(text, place.start, b'<');
+    let first = elements.attributes.len();
+    let close = some_attributes(text, place.part, elements, above.scope, seen)?;
+    let last = elements.attributes.len();
+    if last > MOST_ATTRIBUTES {
+        return None;
     }
-    tag
+    // What the attributes do not need is read behind them, so that nothing keeps it meanwhile.
+    let local = near_name(text, name_at, place.part);
+    let element = ElementData {
+        local,
+        attributes_from: first as u32,
+        attributes_until: last as u32,
+        scope: above.scope,
+        namespace: above.namespace,
+    };
+    let tag = StartTag {
+        name: QName { prefix: "", local },
+        name_start: name_at,
+        name_end: place.part,
+        element,
+        empty: close.empty,
+        openings_left: openings,
+    };
+    Some(PlainTag { tag, end: close.at })
 }

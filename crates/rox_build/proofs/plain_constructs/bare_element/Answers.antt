@@ -4,9 +4,8 @@ use Rattle.rox_grammar.specs.State.{scope_of}
 use Rattle.rox_reading.specs.Machine.{opened_by, cut_off_fault}
 use Rattle.rox_reading.specs.Refusals.{lifted}
 use Rattle.rox_build.specs.ElementRow.{Tagged}
-use Rattle.std.specs.List.{AllByRecursion}
-use Rattle.rox_build.specs.BuilderState.{IsOpenWithin, opened_in}
-use Rattle.rox_build.proofs.SameNames.{all_last}
+use Rattle.rox_build.specs.BuilderState.{opened_in}
+use Rattle.rox_build.proofs.SameNames.{below_last}
 use Rattle.rox_build.proofs.Showing.{innermost_row}
 use Rattle.rox_build.proofs.Stepping.{top_scope}
 use Rattle.rox_grammar.specs.declared.fault.Fault.TheVariants as fault
@@ -16,11 +15,11 @@ use Rattle.rox_build.proofs.SameNames.{opened_named}
 use Rattle.rox_build.proofs.Opening.{is_opening, fine_by, fine_more, namespace_by, tag_is, open_stepped}
 use Rattle.rox_build.proofs.plain_constructs.bare_element.Goals as goal
 
-pub bare_start_tag-requires-clause-parent : goal.bare_start_tag-requires-clause-parent
-bare_start_tag-requires-clause-parent c =
+pub bare_start_tag-requires-clause-below : goal.bare_start_tag-requires-clause-below
+bare_start_tag-requires-clause-below c =
     let b = c.args.builder.now in
     let split = c.in-Some.ensures in
-    all_last (IsOpenWithin b.tables) split.0 c.in-Some.parent (subst (AllByRecursion (IsOpenWithin b.tables)) split.1 c.requires.fine.elements)
+    below_last b.tables b.opened.items split.0 c.in-Some.parent c.requires.fine split.1
 
 pub returns-clause-value : goal.returns-clause-value
 returns-clause-value c = λ _ context end s h.

@@ -3,34 +3,52 @@ use Rattle.rox_grammar.specs.Written.{Element, NamespaceDecl}
 use Rattle.rox_grammar.specs.State.{scope_of}
 use Rattle.rox_reading.specs.Machine.{opened_by, cut_off_fault}
 use Rattle.rox_reading.specs.Refusals.{lifted}
+use Rattle.rox_tables.specs.declared.rows.tables.ElementTables.{ElementTables}
 use Rattle.rox_build.specs.ElementRow.{Tagged}
-use Rattle.std.specs.List.{AllByRecursion}
-use Rattle.rox_build.specs.BuilderState.{Adds, IsNode, IsOpenWithin, ScansTo, opened_in}
+use Rattle.rox_build.specs.BuilderState.{Adds, IsNode, ScansTo, opened_in}
 use Rattle.rox_build.proofs.Showing.{split_at, innermost_row}
 use Rattle.rox_build.proofs.Stepping.{top_scope}
 use Rattle.rox_tables.specs.declared.rows.tables.NodeKind.TheVariants as kind
 use Rattle.rox_grammar.specs.declared.fault.Fault.TheVariants as fault
 use Rattle.rox_reading.specs.Tags.{Values}
 use Rattle.rox_build.proofs.Items.{stands_within}
-use Rattle.rox_build.proofs.SameNames.{all_last, opened_named}
+use Rattle.rox_build.proofs.SameNames.{below_last, opened_named}
 use Rattle.rox_build.proofs.Growing.{grown_shows}
-use Rattle.rox_build.proofs.Opening.{grown_by, is_node, is_opening, fine_by, fine_kept, fine_more, fine_same, namespace_by, tag_is, empty_stepped, open_stepped}
+use Rattle.rox_build.proofs.Opening.{cut_back, grown_by, is_node, is_opening, fine_by, fine_kept, fine_more, fine_same, namespace_by, tag_is, empty_stepped, open_stepped}
+use Rattle.rox_build.proofs.PlainTags.{near_ends}
+use Rattle.std.proofs.Common.{◌+◌}
 use Rattle.rox_build.proofs.plain_constructs.plain_element.Goals as goal
 
-pub plain_start_tag-requires-clause-parent : goal.plain_start_tag-requires-clause-parent
-plain_start_tag-requires-clause-parent c =
+pub near_start_tag-requires-clause-below : goal.near_start_tag-requires-clause-below
+near_start_tag-requires-clause-below c =
     let b = c.args.builder.now in
     let os = b.opened.items in
     let o = c.index-parent.result.now in
-    let outer = take (c.len-depth.result - 1) os in
-    let split : os ≡ outer ++ o ∷ [] = split_at os c.len-depth.result o (omega arith) (omega arith) c.index-parent.ensures in
-    all_last (IsOpenWithin b.tables) outer o (subst (AllByRecursion (IsOpenWithin b.tables)) split c.requires.fine.elements)
+    below_last b.tables os (take (c.len-depth.result - 1) os) o c.requires.fine (split_at os c.len-depth.result o (omega arith) (omega arith) c.index-parent.ensures)
+
+pub other_element-requires-clause-part : goal.other_element-requires-clause-part
+other_element-requires-clause-part c = near_ends c.args.text.now (c.args.start + 1) c.args.near c.utf8.text c.requires.near
+
+pub returns-then-not-is_empty-clause-value : goal.returns-then-not-is_empty-clause-value
+returns-then-not-is_empty-clause-value c = λ less context end s here behind start stop h.
+    let shows = h.shows in
+    c.other_element.ensures.value less context end s here behind start stop (record {
+      here = h.here;
+      limit_is = h.limit_is;
+      shows = record { front = shows.front; last = shows.last; merged = shows.merged; is_last = shows.is_last; clean = shows.clean; rows = shows.rows; open_rows = shows.open_rows; within = shows.within };
+      namespaces = h.namespaces;
+      attributes = h.attributes;
+      openings_left_is = h.openings_left_is;
+    })
+
+pub returns-then-not-is_empty-clause-ready : goal.returns-then-not-is_empty-clause-ready
+returns-then-not-is_empty-clause-ready c = λ less n h. c.other_element.ensures.ready less n (record { room = h.room; few = h.few; small = h.small; settled = h.settled })
 
 pub returns-then-read-clause-value : goal.returns-then-read-clause-value
 returns-then-read-clause-value c = λ _ context end s here behind start stop h.
     let b = c.args.builder.now in
     let old = b.tables in
-    let new = c.plain_start_tag.new.elements in
+    let new = c.near_start_tag.new.elements in
     let x = c.in-Some.ensures.read in
     let t = c.in-Some.read.tag in
     let pos = c.args.start in
@@ -60,7 +78,7 @@ pub returns-clause-value : goal.returns-clause-value
 returns-clause-value c = λ _ context end s here behind start stop h.
     let b = c.args.builder.now in
     let old = b.tables in
-    let new = c.plain_start_tag.new.elements in
+    let new = c.near_start_tag.new.elements in
     let x = c.in-Some.ensures.read in
     let t = c.in-Some.read.tag in
     let pos = c.args.start in
@@ -85,13 +103,18 @@ returns-clause-value c = λ _ context end s here behind start stop h.
     (subst (λ (n : ℕ). Adds end (Ok tt) u (opened_by b.nodes_limit s x.tag false s.openings_left n)) (sym stop) adds)))
 
 pub returns-in_default-clause-fine : goal.returns-in_default-clause-fine
-returns-in_default-clause-fine c = fine_same c.args.builder.now.tables c.plain_start_tag.new.elements c.args.builder.now.opened.items c.in_default.ensures.none c.requires.fine
+returns-in_default-clause-fine c =
+    let old = c.args.builder.now.tables in
+    let put = c.near_start_tag.new.elements in
+    let left : ElementTables = record put { attributes = c.truncate.new.self } in
+    let grown = c.in_default.ensures.grown in
+    fine_same old left c.args.builder.now.opened.items (cut_back old put left grown.0 c.len-from.result grown.1 grown.2 c.len-from.ensures refl c.truncate.ensures) c.requires.fine
 
 pub returns-then-read-clause-fine : goal.returns-then-read-clause-fine
 returns-then-read-clause-fine c =
     let b = c.args.builder.now in
     let x = c.in-Some.ensures.read in
-    fine_kept (Ok tt) c.plain_start_tag.new.elements b.opened.items c.put_leaf.new.self (fine_by b.tables c.plain_start_tag.new.elements c.in-Some.read.tag _ x.tag b.opened.items x.tagged c.requires.fine) c.put_leaf.ensures.kept.tables
+    fine_kept (Ok tt) c.near_start_tag.new.elements b.opened.items c.put_leaf.new.self (fine_by b.tables c.near_start_tag.new.elements c.in-Some.read.tag _ x.tag b.opened.items x.tagged c.requires.fine) c.put_leaf.ensures.kept.tables
     (ap (λ x. x.items) c.put_leaf.ensures.kept.opened)
 
 pub returns-clause-fine : goal.returns-clause-fine
@@ -101,8 +124,8 @@ returns-clause-fine c =
     let x = c.in-Some.ensures.read in
     let t = c.in-Some.read.tag in
     let context : Values = record { main = true; entities = []; opener = λ text i openings_left. Ok ([], openings_left) } in
-    fine_more (Ok tt) c.plain_start_tag.new.elements b.opened.items c.put_open.new.self src t
-    (fine_by b.tables c.plain_start_tag.new.elements t _ x.tag b.opened.items x.tagged c.requires.fine) c.put_open.ensures.kept.tables c.put_open.ensures.opened x.tagged.element.scope_within x.tagged.once (namespace_by b.tables c.plain_start_tag.new.elements t _ x.tag x.tagged)
+    fine_more (Ok tt) c.near_start_tag.new.elements b.opened.items c.put_open.new.self src t
+    (fine_by b.tables c.near_start_tag.new.elements t _ x.tag b.opened.items x.tagged c.requires.fine) c.put_open.ensures.kept.tables c.put_open.ensures.opened x.tagged.element.scope_within x.tagged.once (namespace_by b.tables c.near_start_tag.new.elements t _ x.tag x.tagged)
     (λ o by. opened_named context fault.NoRootNode _ _ _ src c.args.start t.openings_left _ _ t o c.utf8.text c.requires.here (x.read context fault.NoRootNode) x.tagged.name x.tagged.name_end x.starts by)
 
 pub put_open-requires-clause-within : goal.put_open-requires-clause-within
@@ -134,7 +157,7 @@ put_leaf-requires-clause-parent c =
     let os = b.opened.items in
     let o = c.index-parent.result.now in
     let split : os ≡ take (c.len-depth.result - 1) os ++ o ∷ [] = split_at os c.len-depth.result o (omega arith) (omega arith) c.index-parent.ensures in
-    sym (innermost_row c.plain_start_tag.new.elements os _ o split)
+    sym (innermost_row c.near_start_tag.new.elements os _ o split)
 
 pub put_open-requires-clause-parent : goal.put_open-requires-clause-parent
 put_open-requires-clause-parent c =
@@ -142,4 +165,4 @@ put_open-requires-clause-parent c =
     let os = b.opened.items in
     let o = c.index-parent.result.now in
     let split : os ≡ take (c.len-depth.result - 1) os ++ o ∷ [] = split_at os c.len-depth.result o (omega arith) (omega arith) c.index-parent.ensures in
-    sym (innermost_row c.plain_start_tag.new.elements os _ o split)
+    sym (innermost_row c.near_start_tag.new.elements os _ o split)

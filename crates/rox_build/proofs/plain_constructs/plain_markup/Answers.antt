@@ -1,7 +1,8 @@
 use Rattle.std.proofs.Common.{ℕ, List, ◌+◌, slice_index, ne_eqb, refl, ap, ◌∙◌, arith}
-use Rattle.rox_build.specs.BuilderState.{IsInState}
+use Rattle.rox_build.specs.BuilderState.{IsInState, IsReady}
 use Rattle.rox_build.proofs.Stepping.{step_is_markup, state_kept}
 use Rattle.rox_build.proofs.plain_constructs.plain_markup.Goals as goal
+use Rattle.rox_build.proofs.plain_constructs.plain_markup.Goals.{then-bytes-near-lt58, else-bytes-near-lt58}
 
 pub returns-then-next-eq47-clause-value : goal.returns-then-next-eq47-clause-value
 returns-then-next-eq47-clause-value c = λ yes context end s around h.
@@ -34,14 +35,27 @@ returns-clause-value c = λ _ context end s around h.
     let o = c.bare_element.ensures.other c.if-bare_element.false in
     let sees : IsInState context.limit end s c.args.cursor.now c.bare_element.new.builder = rw (o.1) h in
     rw (is, ne_eqb b 63 (λ e. absurd (omega (arith, c.if-next-le63.false, e))), ne_eqb b 47 (λ e. absurd (omega (arith, c.if-next-le63.false, e))))
-    (c.plain_element-end.ensures.value (omega (arith, c.if-end-gt-MOST_BYTES.false)) context end s c.args.cursor.now _ refl refl sees)
+    (elim c.if-bytes-near-lt58.branch [
+      | then-bytes-near-lt58 w ↦ rw (w.builder-is) (w.plain_element-end.ensures.value (omega (arith, c.if-end-gt-MOST_BYTES.false, w.end-is)) context end s c.args.cursor.now _ refl w.end-is sees)
+      | else-bytes-near-lt58 w ↦ rw (w.builder-is) (w.other_element-end.ensures.value (omega (arith, c.if-end-gt-MOST_BYTES.false, w.end-is)) context end s c.args.cursor.now _ refl w.end-is sees)
+    ])
 
 pub returns-then-end-gt-MOST_BYTES-clause-other : goal.returns-then-end-gt-MOST_BYTES-clause-other
 returns-then-end-gt-MOST_BYTES-clause-other c = λ no context end s h.
+    let cursor = c.bare_element.new.cursor in
+    let b = c.bare_element.new.builder in
     let u = c.bare_element.ensures.other c.if-bare_element.false in
-    let sees : IsInState context.limit end s c.bare_element.new.cursor c.bare_element.new.builder = rw (u.0, u.1) h in
-    let o = c.plain_element-end.ensures.other (omega (arith, c.if-end-gt-MOST_BYTES.true)) in
-    state_kept context.limit end s c.bare_element.new.cursor c.bare_element.new.cursor c.bare_element.new.builder c.plain_element-end.new.builder sees refl o
+    let sees : IsInState context.limit end s cursor b = rw (u.0, u.1) h in
+    elim c.if-bytes-near-lt58.branch [
+      | then-bytes-near-lt58 w ↦ rw (w.builder-is) (state_kept context.limit end s cursor cursor b w.plain_element-end.new.builder sees refl (w.plain_element-end.ensures.other (omega (arith, c.if-end-gt-MOST_BYTES.true, w.end-is))))
+      | else-bytes-near-lt58 w ↦ rw (w.builder-is) (state_kept context.limit end s cursor cursor b w.other_element-end.new.builder sees refl (w.other_element-end.ensures.other (omega (arith, c.if-end-gt-MOST_BYTES.true, w.end-is))))
+    ]
 
 pub returns-clause-ready : goal.returns-clause-ready
-returns-clause-ready c = λ _ n h. let same = (c.bare_element.ensures.other c.if-bare_element.false).1 in c.plain_element-end.ensures.ready (omega (arith, c.if-end-gt-MOST_BYTES.false)) n (rw same h)
+returns-clause-ready c = λ _ n h.
+    let same = (c.bare_element.ensures.other c.if-bare_element.false).1 in
+    let ready : IsReady (n + 1) c.bare_element.new.builder = rw same h in
+    elim c.if-bytes-near-lt58.branch [
+      | then-bytes-near-lt58 w ↦ rw (w.builder-is) (w.plain_element-end.ensures.ready (omega (arith, c.if-end-gt-MOST_BYTES.false, w.end-is)) n ready)
+      | else-bytes-near-lt58 w ↦ rw (w.builder-is) (w.other_element-end.ensures.ready (omega (arith, c.if-end-gt-MOST_BYTES.false, w.end-is)) n ready)
+    ]

@@ -35,26 +35,26 @@ returns-clause-read c =
     let few = Some (places_in t.listed.items t.scopes.items o.scope) in
     let rows = attribute_rows t.attributes in
     let count = length rows in
-    let local = c.in_ok-local.local.now in
+    let local = c.near_name-local.result.now in
     let name : Name = record { prefix = []; local = local } in
     let j = c.after_byte-end.result in
     let start = c.after_byte-name_at.ensures.place in
-    let here : slice_index src n ≡ 62 = c.in_ok-local.ensures.closed in
-    let cut = part_cut src (i + 1) n c.utf8.text (rw (← start) c.after_byte-name_at.ensures.cut) c.requires.near.onward c.requires.near.within c.requires.near.passes in
+    let here : slice_index src n ≡ 62 = c.requires.closed in
+    let cut = part_cut src (i + 1) n c.utf8.text (rw (← start) c.after_byte-name_at.ensures.cut) c.requires.near.ends.onward c.requires.near.ends.within c.requires.near.ends.passes in
     let spaces = no_space src n c.utf8.text cut (stands_within src n 62 here (omega arith)) (omega (arith, here)) in
     let x : ArePlainAttributes namespaces few t.present src n rows j false rows =
     rw c.after_byte-end.ensures.place (opens_there namespaces few t.present src n rows n n rows (plain_starts namespaces few t.present src n rows) (omega arith) spaces here) in
     let finds : FindsBinding namespaces few t.present above = few_found t t.namespaces.items.items t.scopes.items t.listed.items (places_in t.listed.items t.scopes.items o.scope) o.scope refl refl refl refl in
     let from = c.len-count.ensures in
     let most : count ≤ most_attributes = (let k = c.if-count-gt-MOST_ATTRIBUTES.false in omega arith) in
-    let is = rw start at c.in_ok-local.ensures.value in
+    let is = rw start at c.near_name-local.ensures in
     let none = listed-none above in
     let counted = plain_count namespaces above few t.present src n rows j false rows x finds in
     let fits : count + length x.written ≤ most_attributes = omega arith in
     let fine : tag_tested (listed above []) count i name x.written ≡ Ok tt =
     tested_passes (listed above []) count i name x.written (rw none (tested_known above count (i + 1) name x.written fits (x.tested above finds) refl)) in
-    let element : ElementData = record { local = c.in_ok-local.local; attributes_from = c.len-count.result; attributes_until = c.len-count.result; scope = o.scope; namespace = o.namespace } in
-    let within = c.requires.parent in
+    let element : ElementData = record { local = c.near_name-local.result; attributes_from = c.len-count.result; attributes_until = c.len-count.result; scope = o.scope; namespace = o.namespace } in
+    let within = c.requires.below.parent in
     let bare : o.name.prefix.now ≡ [] = nothing o.name.prefix.now (sym c.is_empty.ensures ∙ c.if-not-is_empty.false) in
     let space : option_map (λ i. (namespace_at namespaces i).uri) o.namespace ≡ element_namespace above name = rw bare at within.3.is in
     record {
@@ -64,12 +64,12 @@ returns-clause-read c =
         name = refl;
         name_end = refl;
         namespaces = refl;
-        few = c.requires.few;
+        few = c.requires.below.few;
         more = [];
         lists_more = sym (append-nil _);
-        places = c.requires.places;
-        scopes = c.requires.scopes;
-        kept = c.requires.kept;
+        places = c.requires.below.places;
+        scopes = c.requires.below.scopes;
+        kept = c.requires.below.kept;
         once = within.1;
         element = plain_element t t element above few src n j false name x finds refl from from most refl space within.3.within within.0 refl;
       };

@@ -1,9 +1,8 @@
-use Rattle.std.proofs.Common.{◌≡◌, ◌+◌, slice_index, ap, subst, arith, inl, inr}
-use Rattle.std.proofs.lemmas.Bool.{cases_eq}
+use Rattle.std.proofs.Common.{◌+◌, subst, arith}
 use Rattle.std.specs.Str.{IsCharBoundary}
 use Rattle.rox_scan.specs.ByteSets.{EndsSet, is_part_byte}
 use Rattle.rox_scan.proofs.NearLemmas.{part_stops}
-use Rattle.rox_build.proofs.PlainTags.{behind_quote, part_begins}
+use Rattle.rox_build.proofs.PlainTags.{behind_quote, ascii_begins}
 use Rattle.rox_build.proofs.plain_tag.put_attribute.Goals as goal
 
 pub whole_name-name-requires-clause-first : goal.whole_name-name-requires-clause-first
@@ -25,12 +24,7 @@ whole_name-name-requires-clause-begins c =
     let seen = c.part_count-count.ensures src window.sees (omega (arith, c.if-count-gt-MOST_NAME.false)) in
     let near : EndsSet is_part_byte src i (i + n) = rw window.place at seen in
     let here = c.seen_quote-quote.ensures.equals (omega arith) in
-    let above = c.requires.begins in
-    let room = c.if-text-start-lt-WIDTH.false in
-    elim (cases_eq n 0) [
-      | inl none ↦ let at : i + n ≡ i = omega (arith, none) in absurd (omega (arith, here, above, ap (slice_index src) at))
-      | inr some ↦ part_begins src i c.utf8.text (omega (arith, room, c.requires.within)) (near.passes i (omega arith) (omega (arith, some))) above
-    ]
+    ascii_begins src i (i + n) c.utf8.text near c.requires.put.begins (omega (arith, here))
 
 pub seen_value-requires-clause-cut : goal.seen_value-requires-clause-cut
 seen_value-requires-clause-cut c =

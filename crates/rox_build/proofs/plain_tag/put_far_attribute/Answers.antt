@@ -1,6 +1,6 @@
 use Rattle.std.proofs.Common.{arith}
 use Rattle.rox_scan.proofs.NearLemmas.{part_stops}
-use Rattle.rox_build.proofs.PlainTags.{behind_quote}
+use Rattle.rox_build.proofs.PlainTags.{ascii_begins, behind_quote}
 use Rattle.rox_build.proofs.plain_tag.put_far_attribute.Goals as goal
 
 pub whole_name-name-requires-clause-first : goal.whole_name-name-requires-clause-first
@@ -8,6 +8,11 @@ whole_name-name-requires-clause-first c =
     let near = c.skip_set-part.ensures in
     let here = c.quote_behind_equals-quote.ensures.equals (omega arith) in
     part_stops c.args.text.now c.args.start _ c.utf8.text near.onward near.within near.passes near.stops (λ _. omega (arith, here))
+
+pub whole_name-name-requires-clause-begins : goal.whole_name-name-requires-clause-begins
+whole_name-name-requires-clause-begins c =
+    let here = c.quote_behind_equals-quote.ensures.equals (omega arith) in
+    ascii_begins c.args.text.now c.args.start c.skip_set-part.result c.utf8.text c.skip_set-part.ensures c.requires.begins (omega (arith, here))
 
 pub plain_value-requires-clause-cut : goal.plain_value-requires-clause-cut
 plain_value-requires-clause-cut c =

@@ -1,7 +1,7 @@
 use Rattle.std.proofs.Common.{◌≡◌, slice_index, sym, ◌∙◌, arith}
 use Rattle.std.proofs.lemmas.Bool.{eqb-true}
 use Rattle.rox_scan.proofs.NearLemmas.{part_stops}
-use Rattle.rox_build.proofs.PlainTags.{value_starts}
+use Rattle.rox_build.proofs.PlainTags.{ascii_begins, value_starts}
 use Rattle.rox_build.proofs.plain_tag.put_prefixed_attribute.Goals as goal
 
 pub prefixed_name-requires-clause-first : goal.prefixed_name-requires-clause-first
@@ -10,6 +10,11 @@ prefixed_name-requires-clause-first c =
     let near = c.requires.part in
     let here : slice_index src c.args.part ≡ 58 = eqb-true _ _ (sym c.is_at.ensures ∙ c.if-not-is_at.false) in
     part_stops src c.args.start c.args.part c.utf8.text near.onward near.within near.passes near.stops (λ _. omega (arith, here))
+
+pub prefixed_name-requires-clause-begins : goal.prefixed_name-requires-clause-begins
+prefixed_name-requires-clause-begins c =
+    let here : slice_index c.args.text.now c.args.part ≡ 58 = eqb-true _ _ (sym c.is_at.ensures ∙ c.if-not-is_at.false) in
+    ascii_begins c.args.text.now c.args.start c.args.part c.utf8.text c.requires.part c.requires.put.begins (omega (arith, here))
 
 pub plain_value-requires-clause-cut : goal.plain_value-requires-clause-cut
 plain_value-requires-clause-cut c =

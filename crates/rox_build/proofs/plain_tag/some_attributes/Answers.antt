@@ -27,12 +27,17 @@ returns-then-not-next-clause-read c =
     ends_or_not (map namespace_view t.namespaces.items.items) (few_in t c.args.scope) t.present c.args.text.now c.args.start (attribute_rows t.attributes) l.at near.result.at (attribute_rows l.elements.attributes) c.tag_end.result
     l.invariant.so_far near.ensures.onward near.ensures.end c.tag_end.ensures.opens c.tag_end.ensures.closes
 
+not_false : (b : Bool) → not b ≡ false → b ≡ true
+not_false true h = refl
+not_false false h = cc
+
 pub put_attribute-requires-clause-put : goal.put_attribute-requires-clause-put
 put_attribute-requires-clause-put c =
     let l = c.loop-at in
     let t = c.args.elements.now in
     record {
       cut = c.next_item-next.ensures.cut;
+      begins = (c.next_item-next.ensures.begins (not_false c.next_item-next.result.may_begin c.if-not-next.false)).1;
       short = c.requires.short;
       holds = record {
         from = omega (arith, l.invariant.from, ap length l.invariant.so_far.rows, length-append (attribute_rows t.attributes) l.invariant.so_far.more);
@@ -42,10 +47,6 @@ put_attribute-requires-clause-put c =
             (done_within t.namespaces.items.items (few_in t c.args.scope) t.present c.args.text.now c.args.start l.seen.from (attribute_rows t.attributes) l.at (attribute_rows l.elements.attributes) l.invariant.so_far l.invariant.from);
       };
     }
-
-not_false : (b : Bool) → not b ≡ false → b ≡ true
-not_false true h = refl
-not_false false h = cc
 
 pub loop-at-preserved : goal.loop-at-preserved
 loop-at-preserved c =

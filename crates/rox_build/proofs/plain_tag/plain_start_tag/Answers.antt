@@ -15,13 +15,13 @@ use Rattle.rox_build.specs.ElementRow.{scope_in_tables}
 use Rattle.rox_build.specs.PlainTag.{ArePlainAttributes, few_in, holding}
 use Rattle.rox_build.proofs.PlainTags.{scope_found, plain_element, plain_count}
 use Rattle.rox_build.proofs.Starting.{tag_made, tested_known, tested_passes}
-use Rattle.rox_build.proofs.plain_tag.read_tag.Goals as goal
+use Rattle.rox_build.proofs.plain_tag.plain_start_tag.Goals as goal
 
 pub tag_namespace-requires-clause-scope : goal.tag_namespace-requires-clause-scope
-tag_namespace-requires-clause-scope c = record { places = c.requires.places; scopes = c.requires.scopes; within = c.requires.parent.0 }
+tag_namespace-requires-clause-scope c = record { places = c.requires.below.places; scopes = c.requires.below.scopes; within = c.requires.below.parent.0 }
 
 pub plain_attributes-requires-clause-scope : goal.plain_attributes-requires-clause-scope
-plain_attributes-requires-clause-scope c = record { places = c.requires.places; scopes = c.requires.scopes; within = c.requires.parent.0 }
+plain_attributes-requires-clause-scope c = record { places = c.requires.below.places; scopes = c.requires.below.scopes; within = c.requires.below.parent.0 }
 
 pub returns-clause-read : goal.returns-clause-read
 returns-clause-read c =
@@ -53,7 +53,7 @@ returns-clause-read c =
     let fine : tag_tested (listed above []) count i name x.written ≡ Ok tt =
     tested_passes (listed above []) count i name x.written (rw none (tested_known above count (i + 1) name x.written fits (x.tested above finds) named.known)) in
     let element : ElementData = record { local = c.in_ok-name.name.name.local; attributes_from = c.len-from.result; attributes_until = c.len-until.result; scope = scope; namespace = c.in_ok-namespace.namespace } in
-    let within = c.requires.parent in
+    let within = c.requires.below.parent in
     record {
       tag = record { name = name; name_end = n; declarations = []; attributes = x.written };
       read = λ context cut. tag_made context cut above count namespaces src i c.args.openings_left name n j (holding x.written) empty c.args.openings_left is other (x.read context cut namespaces c.args.openings_left) fine;
@@ -61,12 +61,12 @@ returns-clause-read c =
         name = refl;
         name_end = refl;
         namespaces = ap (λ (t : ElementTables). map namespace_view t.namespaces.items.items) grown.1;
-        few = rw (ap (λ (t : ElementTables). t.namespaces) grown.1) c.requires.few;
+        few = rw (ap (λ (t : ElementTables). t.namespaces) grown.1) c.requires.below.few;
         more = [];
         lists_more = ap lists_in grown.1 ∙ sym (append-nil _);
-        places = rw grown.1 c.requires.places;
-        scopes = rw grown.1 c.requires.scopes;
-        kept = rw grown.1 c.requires.kept;
+        places = rw grown.1 c.requires.below.places;
+        scopes = rw grown.1 c.requires.below.scopes;
+        kept = rw grown.1 c.requires.below.kept;
         once = rw grown.1 within.1;
         element = plain_element old new element above few src n j empty name x finds grown.1 c.len-from.ensures until most refl named.is.is named.is.within within.0 refl;
       };

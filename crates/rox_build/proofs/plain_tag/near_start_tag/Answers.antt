@@ -1,0 +1,73 @@
+use Rattle.std.proofs.Common.{◌≡◌, ◌≤◌, ◌+◌, [], length, map, refl, sym, ap, ◌∙◌, arith, Ok}
+use Rattle.std.proofs.lemmas.List.{append-nil}
+use Rattle.std.specs.Option.{option_map}
+use Rattle.rox_grammar.specs.Tree.{listed, element_namespace}
+use Rattle.rox_grammar.specs.Written.{Name}
+use Rattle.rox_grammar.specs.Document.{most_attributes}
+use Rattle.rox_reading.specs.Tags.{tag_tested}
+use Rattle.rox_tables.specs.TagScopes.{lists_in}
+use Rattle.rox_tables.specs.Rows.{namespace_view, namespace_at, attribute_rows}
+use Rattle.rox_tables.specs.declared.rows.tables.ElementTables.{ElementTables}
+use Rattle.rox_tables.specs.declared.rows.tables.ElementData.{ElementData}
+use Rattle.rox_tables.proofs.Listing.{listed-none}
+use Rattle.rox_build.specs.ElementRow.{scope_in_tables}
+use Rattle.rox_build.specs.PlainTag.{ArePlainAttributes, few_in, holding}
+use Rattle.rox_build.proofs.PlainTags.{scope_found, plain_element, plain_count}
+use Rattle.rox_build.proofs.Starting.{tag_made, tested_known, tested_passes}
+use Rattle.rox_build.proofs.plain_tag.near_start_tag.Goals as goal
+
+pub some_attributes-requires-clause-scope : goal.some_attributes-requires-clause-scope
+some_attributes-requires-clause-scope c = record { places = c.requires.below.places; scopes = c.requires.below.scopes; within = c.requires.below.parent.0 }
+
+pub returns-clause-read : goal.returns-clause-read
+returns-clause-read c =
+    let old = c.args.elements.now in
+    let grown = c.in_ok-close.ensures.grown in
+    let new : ElementTables = c.some_attributes.new.elements in
+    let src = c.args.text.now in
+    let i = c.args.place.start in
+    let scope = c.args.above.now.scope in
+    let above = scope_in_tables old scope in
+    let namespaces = map namespace_view old.namespaces.items.items in
+    let few = few_in old scope in
+    let count = length (attribute_rows old.attributes) in
+    let o = c.args.above.now in
+    let local = c.near_name-local.result.now in
+    let name : Name = record { prefix = []; local = local } in
+    let n = c.args.place.part in
+    let j = c.in_ok-close.close.at in
+    let empty = c.in_ok-close.close.empty in
+    let start = c.after_byte-name_at.ensures.place in
+    let finds = scope_found old scope in
+    let x : ArePlainAttributes namespaces few old.present src n (attribute_rows old.attributes) j empty (attribute_rows new.attributes) = c.in_ok-close.ensures.read in
+    let counted = plain_count namespaces above few old.present src n (attribute_rows old.attributes) j empty (attribute_rows new.attributes) x finds in
+    let until = c.len-last.ensures in
+    let most : length (attribute_rows new.attributes) ≤ most_attributes = (let k = c.if-last-gt-MOST_ATTRIBUTES.false in omega arith) in
+    let fits : count + length x.written ≤ most_attributes = omega arith in
+    let bare : o.name.prefix.now ≡ [] = c.requires.bare in
+    let within = c.requires.below.parent in
+    let space : option_map (λ i. (namespace_at namespaces i).uri) o.namespace ≡ element_namespace above name = rw bare at within.3.is in
+    let is = rw start at c.near_name-local.ensures in
+    let none = listed-none above in
+    let fine : tag_tested (listed above []) count i name x.written ≡ Ok tt =
+    tested_passes (listed above []) count i name x.written (rw none (tested_known above count (i + 1) name x.written fits (x.tested above finds) refl)) in
+    let element : ElementData = record { local = c.near_name-local.result; attributes_from = c.len-first.result; attributes_until = c.len-last.result; scope = scope; namespace = o.namespace } in
+    record {
+      tag = record { name = name; name_end = n; declarations = []; attributes = x.written };
+      read = λ context cut. tag_made context cut above count namespaces src i c.args.openings name n j (holding x.written) empty c.args.openings is refl (x.read context cut namespaces c.args.openings) fine;
+      tagged = record {
+        name = refl;
+        name_end = refl;
+        namespaces = ap (λ (t : ElementTables). map namespace_view t.namespaces.items.items) grown.1;
+        few = rw (ap (λ (t : ElementTables). t.namespaces) grown.1) c.requires.below.few;
+        more = [];
+        lists_more = ap lists_in grown.1 ∙ sym (append-nil _);
+        places = rw grown.1 c.requires.below.places;
+        scopes = rw grown.1 c.requires.below.scopes;
+        kept = rw grown.1 c.requires.below.kept;
+        once = rw grown.1 within.1;
+        element = plain_element old new element above few src n j empty name x finds grown.1 c.len-first.ensures until most refl space within.3.within within.0 refl;
+      };
+      starts = start;
+      cut = c.in_ok-close.ensures.cut;
+    }
