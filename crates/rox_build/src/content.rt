@@ -477,6 +477,7 @@ fn inner_step<'input>(
 }
 
 /// Content up to the end tag of the root element.
+#[inline(always)]
 pub fn content<'input>(
     alloc: Global,
     cursor: &mut Cursor<'input>,

@@ -70,6 +70,7 @@ fn misc<'input>(
 }
 
 /// The root element, if `<` stands here, and what follows it. Answers whether it does.
+#[inline(always)]
 fn body<'input>(
     alloc: Global,
     cursor: &mut Cursor<'input>,
@@ -142,6 +143,7 @@ fn doctype<'input, R: EntityResolver<'input>>(
 }
 
 /// The root element and what follows it, up to the end of the text.
+#[inline(always)]
 fn rest<'input>(
     alloc: Global,
     cursor: &mut Cursor<'input>,
@@ -165,6 +167,7 @@ fn rest<'input>(
 }
 
 /// A whole text, from behind its byte order mark to its end. Answers whether it has a document type declaration.
+#[inline(always)]
 fn document<'input, R: EntityResolver<'input>>(
     alloc: Global,
     cursor: &mut Cursor<'input>,
@@ -190,6 +193,7 @@ fn document<'input, R: EntityResolver<'input>>(
 }
 
 /// The tables of the tree of a text, and whether it has a document type declaration.
+#[inline(always)]
 pub fn build<'input, R: EntityResolver<'input>>(
     alloc: Global,
     text: &'input str,
