@@ -1,13 +1,14 @@
 -- The table of attributes: rows, and the places of those that are unusual.
-use Rattle.std.proofs.Common.{◌≡◌, ℕ, zero, suc, ◌+◌, ◌-◌, ◌<◌, ◌≤◌, ◌==◌, Bool, true, false, List, [], ◌∷◌, ◌++◌, length, map, take, drop, get_or, if◌then◌else◌, length-append, refl, sym, ap, ◌∙◌, subst, arith}
+use Rattle.std.proofs.Common.{◌≡◌, ℕ, zero, suc, ◌+◌, ◌-◌, ◌<◌, ◌≤◌, ◌==◌, Bool, true, false, List, [], ◌∷◌, ◌++◌, length, map, take, drop, get_or, if◌then◌else◌, length-append, append-nil, append_assoc, refl, sym, ap, ◌∙◌, subst, arith}
 use Rattle.std.specs.List.{AllByRecursion, slice_range, list_any}
 use Rattle.std.proofs.Math.Seq.{drop-append_seam}
 use Rattle.std.proofs.lemmas.Bool.{ne_eqb, eq-eqb}
 use Rattle.std.proofs.Math.Seq.{get_or-append_seam}
-use Rattle.std.proofs.lemmas.List.{length-map, drop-map, take-map, map-append, take-append-drop, take_more, get_or-take, get_or_append_left}
-use Rattle.rox_tables.specs.Storage.{storage_bytes}
+use Rattle.std.proofs.lemmas.List.{take_all, take-append-le, length-map, drop-map, take-map, map-append, take-append-drop, take_more, get_or-take, get_or_append_left}
+use Rattle.std.specs.Mem.{manually_drop_value}
+use Rattle.rox_tables.specs.Storage.{storage_bytes, is_borrowed}
 use Rattle.rox_tables.specs.UsualPlaces.{usual_places}
-use Rattle.rox_tables.specs.StoredAttributes.{data_of, places_in, row_in, place_bound, unusual_count, AreNumbered}
+use Rattle.rox_tables.specs.StoredAttributes.{data_of, places_in, row_in, place_bound, unusual_count, AreNumbered, own_place, owned_places}
 use Rattle.rox_tables.specs.declared.rows.tables.AttributeData.{AttributeData}
 use Rattle.rox_tables.specs.declared.rows.tables.AttributePlaces.{AttributePlaces}
 use Rattle.rox_tables.specs.declared.rows.stored_attribute.StoredAttribute.{StoredAttribute}
@@ -56,6 +57,47 @@ count_few (x ∷ xs) = let h = count_few xs in few (x.before == 255) (unusual_co
     few true c n h = omega arith
     few false c n h = omega arith
 
+-- ---- those whose values are owned
+
+pub owned_more : (i : ℕ) (xs : List StoredAttribute) (r : StoredAttribute) → owned_places i (xs ++ r ∷ []) ≡ owned_places i xs ++ own_place (manually_drop_value r.value) (length xs + i)
+owned_more i [] r =
+    let n : i ≡ 0 + i = omega arith in
+    append-nil (own_place (manually_drop_value r.value) i) ∙ ap (own_place (manually_drop_value r.value)) n
+owned_more i (x ∷ xs) r =
+    let own = own_place (manually_drop_value x.value) i in
+    let n : length xs + (i + 1) ≡ suc (length xs) + i = omega arith in
+    ap (λ (ps : List ℕ). own ++ ps) (owned_more (i + 1) xs r ∙ ap (λ k. owned_places (i + 1) xs ++ own_place (manually_drop_value r.value) k) n)
+    ∙ sym (append_assoc own (owned_places (i + 1) xs) (own_place (manually_drop_value r.value) (suc (length xs) + i)))
+
+-- one more row
+pub owned_push : (xs ys : List StoredAttribute) (owned more : List ℕ) (r : StoredAttribute) (item : AttributeData) (n : ℕ) → ys ≡ xs ++ r ∷ [] → data_of r ≡ item → n ≡ length xs
+    → owned_places 0 xs ≡ owned → more ≡ owned ++ own_place item.value n → owned_places 0 ys ≡ more
+owned_push xs ys owned more r item n grown is count listed noted =
+    let at : length xs + 0 ≡ n = omega (arith, count) in
+    ap (owned_places 0) grown ∙ owned_more 0 xs r ∙ ap (λ k. owned_places 0 xs ++ own_place (manually_drop_value r.value) k) at
+    ∙ ap (λ (d : AttributeData). owned_places 0 xs ++ own_place d.value n) is ∙ ap (λ (ps : List ℕ). ps ++ own_place item.value n) listed ∙ sym noted
+
+-- without the last
+without : (zs old new : List ℕ) (k n : ℕ) → zs ++ k ∷ [] ≡ old → n ≡ length old → new ≡ take (n - 1) old → zs ≡ new
+without zs old new k n parts count cut =
+    let long = ap length (sym parts) ∙ length-append zs (k ∷ []) in
+    sym (cut ∙ ap (take (n - 1)) (sym parts) ∙ take-append-le (n - 1) zs (k ∷ []) (omega (arith, long, count)) ∙ take_all (n - 1) zs (omega (arith, long, count)))
+
+-- one row fewer, of a value that is owned, and of another
+pub owned_cut : (old xs : List StoredAttribute) (r : StoredAttribute) (owned fewer : List ℕ) (n : ℕ) → old ≡ xs ++ r ∷ []
+    → is_borrowed (manually_drop_value r.value) ≡ false → n ≡ length owned → fewer ≡ take (n - 1) owned → owned_places 0 old ≡ owned → owned_places 0 xs ≡ fewer
+owned_cut old xs r owned fewer n parts own count cut listed =
+    let at = length xs + 0 in
+    let last : own_place (manually_drop_value r.value) at ≡ at ∷ [] = ap (λ (b : Bool). if b then [] else at ∷ []) own in
+    without (owned_places 0 xs) owned fewer at n (ap (λ (ps : List ℕ). owned_places 0 xs ++ ps) (sym last) ∙ sym (owned_more 0 xs r) ∙ ap (owned_places 0) (sym parts) ∙ listed) count cut
+
+pub lent_cut : (old xs : List StoredAttribute) (r : StoredAttribute) (owned : List ℕ) → old ≡ xs ++ r ∷ []
+    → is_borrowed (manually_drop_value r.value) ≡ true → owned_places 0 old ≡ owned → owned_places 0 xs ≡ owned
+lent_cut old xs r owned parts lent listed =
+    let at = length xs + 0 in
+    let none : own_place (manually_drop_value r.value) at ≡ [] = ap (λ (b : Bool). if b then [] else at ∷ []) lent in
+    sym (append-nil (owned_places 0 xs)) ∙ ap (λ (ps : List ℕ). owned_places 0 xs ++ ps) (sym none) ∙ sym (owned_more 0 xs r) ∙ ap (owned_places 0) (sym parts) ∙ listed
+
 -- ---- their numbers
 
 pub numbered_more : (n : ℕ) (xs : List StoredAttribute) (r : StoredAttribute) → AreNumbered n xs → ((r.before == 255) ≡ true → r.place ≡ unusual_count xs + n)
@@ -97,7 +139,7 @@ rows_same : (us vs : List AttributePlaces) (k n : ℕ) (xs : List StoredAttribut
     → AreNumbered n xs → unusual_count xs + n ≤ k → map (row_in vs) xs ≡ map (row_in us) xs
 rows_same us vs k n [] same h l = refl
 rows_same us vs k n (x ∷ xs) same h l =
-    let usual = usual_places x.place x.before (length x.local.now) (length (storage_bytes x.value)) in
+    let usual = usual_places x.place x.before (length x.local.now) (length (storage_bytes (manually_drop_value x.value))) in
     let one : ℕ = if x.before == 255 then 1 else 0 in
     let first : places_in vs x ≡ places_in us x =
     same_place us vs k (x.before == 255) x.place usual (λ i. same i usual) (λ e. within (x.before == 255) x.place n (unusual_count xs) k e (h.0 e) l) in
@@ -167,7 +209,7 @@ any_data P (x ∷ xs) = rw (any_data P xs) refl
 pub usual_row : (us : List AttributePlaces) (r : StoredAttribute) (item : AttributeData) (places : AttributePlaces) → data_of r ≡ item → r.before < 255
     → r.place ≡ places.start → places ≡ usual_places places.start r.before (length item.local.now) (length (storage_bytes item.value)) → row_in us r ≡ (item, places)
 usual_row us r item places is few start follow =
-    let usual = usual_places r.place r.before (length r.local.now) (length (storage_bytes r.value)) in
+    let usual = usual_places r.place r.before (length r.local.now) (length (storage_bytes (manually_drop_value r.value))) in
     let first : places_in us r ≡ usual = ap (λ (b : Bool). if b then get_or us r.place usual else usual) (ne_eqb r.before 255 (λ e. omega (arith, e, few))) in
     let same : usual ≡ usual_places places.start r.before (length item.local.now) (length (storage_bytes item.value)) =
     ap (λ (d : AttributeData). usual_places r.place r.before (length d.local.now) (length (storage_bytes d.value))) is
@@ -178,7 +220,7 @@ usual_row us r item places is few start follow =
 pub unusual_row : (us : List AttributePlaces) (r : StoredAttribute) (item : AttributeData) (places : AttributePlaces) → data_of r ≡ item → r.before ≡ 255
     → r.place ≡ length us → row_in (us ++ places ∷ []) r ≡ (item, places)
 unusual_row us r item places is marked last =
-    let usual = usual_places r.place r.before (length r.local.now) (length (storage_bytes r.value)) in
+    let usual = usual_places r.place r.before (length r.local.now) (length (storage_bytes (manually_drop_value r.value))) in
     let all = us ++ places ∷ [] in
     let first : places_in all r ≡ get_or all r.place usual = ap (λ (b : Bool). if b then get_or all r.place usual else usual) (eq-eqb r.before 255 marked) in
     let own : get_or all r.place usual ≡ places = ap (λ n. get_or all n usual) last ∙ get_or-append_seam us places [] usual in

@@ -1,8 +1,10 @@
 -- Attributes as their table stores them: most tell where they stand by their start, others by a place in a table of places.
-use Rattle.std.specs.Prelude.{◌≡◌, ◌==◌, true, ℕ, ◌+◌, List, [], ◌∷◌, length, get_or, if◌then◌else◌}
+use Rattle.std.specs.Prelude.{◌≡◌, ◌==◌, true, ℕ, ◌+◌, List, [], ◌∷◌, ◌++◌, length, get_or, if◌then◌else◌}
+use Rattle.std.specs.Mem.{manually_drop_value}
 use Rattle.std.specs.Coded.{×_prop, →_prop, Unit-prop, Coded-set, coded_ℕ}
-use Rattle.rox_tables.specs.Storage.{storage_bytes}
+use Rattle.rox_tables.specs.Storage.{storage_bytes, is_borrowed}
 use Rattle.rox_tables.specs.UsualPlaces.{usual_places}
+use Rattle.rox_tables.specs.declared.rows.storage.StringStorage.{StringStorage}
 use Rattle.rox_tables.specs.declared.rows.tables.AttributeNamespace.{AttributeNamespace}
 use Rattle.rox_tables.specs.declared.rows.tables.AttributeNamespace.TheVariants as space
 use Rattle.rox_tables.specs.declared.rows.tables.AttributeData.{AttributeData}
@@ -18,12 +20,12 @@ namespace_of kind.Listed listed = space.Listed listed
 
 -- what an attribute is
 abbrev pub data_of : StoredAttribute → AttributeData
-data_of r = record { local = r.local; value = r.value; namespace = namespace_of r.kind r.listed }
+data_of r = record { local = r.local; value = manually_drop_value r.value; namespace = namespace_of r.kind r.listed }
 
 -- where it stands, beside the table of unusual places
 abbrev pub places_in : List AttributePlaces → StoredAttribute → AttributePlaces
 places_in unusual r =
-    let usual = usual_places r.place r.before (length r.local.now) (length (storage_bytes r.value)) in
+    let usual = usual_places r.place r.before (length r.local.now) (length (storage_bytes (manually_drop_value r.value))) in
     if r.before == 255 then get_or unusual r.place usual else usual
 
 abbrev pub row_in : List AttributePlaces → StoredAttribute → AttributeData × AttributePlaces
@@ -46,3 +48,12 @@ AreNumbered n (r ∷ rs) = ((r.before == 255) ≡ true → r.place ≡ n) × Are
 pub AreNumbered-prop : (n : ℕ) (rows : List StoredAttribute) → IsProp (AreNumbered n rows)
 AreNumbered-prop n [] = Unit-prop
 AreNumbered-prop n (r ∷ rs) = ×_prop (→_prop (Coded-set coded_ℕ r.place n)) (AreNumbered-prop ((if r.before == 255 then 1 else 0) + n) rs)
+
+-- this place, if the value there is owned
+abbrev pub own_place : StringStorage → ℕ → List ℕ
+own_place value i = if is_borrowed value then [] else i ∷ []
+
+-- the places of these rows whose values are owned, where the first is at this one
+abbrev pub owned_places : ℕ → List StoredAttribute → List ℕ
+owned_places i [] = []
+owned_places i (r ∷ rs) = own_place (manually_drop_value r.value) i ++ owned_places (i + 1) rs

@@ -273,8 +273,7 @@ pub fn put_resolved<'input>(
         value: one.value,
         namespace,
     };
-    attributes.put_usual(item, places, before as u8);
-    true
+    attributes.put_usual(item, places, before as u8)
 }
 
 /// Whether an attribute of this local name, which may come again behind those of its tag, is refused: one of them has its expanded
@@ -340,8 +339,7 @@ pub fn put_usual_attribute<'input>(
         value: StringStorage::Borrowed(one.value),
         namespace,
     };
-    attributes.put_usual(item, places, one.before);
-    true
+    attributes.put_usual(item, places, one.before)
 }
 
 /// The same of an attribute whose value may be of any length: room is made for it.

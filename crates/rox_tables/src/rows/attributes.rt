@@ -1,19 +1,23 @@
 //! The table of attributes.
 
-ghost use Rattle.std.specs.Prelude.{◌≡◌, ◌<◌, ◌≤◌, ◌+◌, ◌^◌, ◌/◌, ◌++◌, ◌∷◌, [], true, false, length, take, min, vec_len, vec_capacity, if◌then◌else◌, is_ok, IfOk, OnOk};
-ghost use Rattle.rox_tables.specs.StoredAttributes.{AreNumbered, AreNumbered-prop, unusual_count};
+ghost use Rattle.std.specs.Prelude.{◌≡◌, ◌<◌, ◌≤◌, ◌+◌, ◌-◌, ◌^◌, ◌/◌, ◌++◌, ◌∷◌, [], true, false, length, take, min, vec_len, vec_capacity, if◌then◌else◌, is_ok, IfOk, OnOk};
+ghost use Rattle.rox_tables.specs.StoredAttributes.{AreNumbered, AreNumbered-prop, unusual_count, own_place, owned_places};
+ghost use Rattle.std.proofs.Props.{props};
 
-use crate::rows::growth::{make_room, reserve, trim, with_room};
+use crate::rows::growth::{make_room, push, reserve, trim, with_room};
+use crate::rows::storage::StringStorage;
 use crate::rows::stored_attribute::{StoredAttribute, UNUSUAL, usual_before};
 use crate::rows::tables::{AttributeData, AttributePlaces};
 use std::alloc::{AllocError, Global};
+use std::mem::ManuallyDrop;
 
 /// The attributes of all elements, in document order.
-#[derive(Drop)]
 pub struct AttributeTable<'input> {
     pub items: Vec<StoredAttribute<'input>>,
     /// Where those stand whose places do not follow from their start, in order.
     pub unusual: Vec<AttributePlaces>,
+    /// The rows whose values are owned, in order: few, so that dropping the table need not look at each row.
+    pub owned: Vec<usize>,
     /// Where the text ends.
     pub text_end: usize,
     /// How many there is room for at first.
@@ -21,11 +25,18 @@ pub struct AttributeTable<'input> {
     /// Whether there was no memory for more: then no more is asked for, so that no refusal is passed over.
     pub refused: bool,
     pub ghost numbered: { AreNumbered 0 items.items } by { AreNumbered-prop 0 items.items },
+    pub ghost listed: { owned_places 0 items.items ≡ owned.items } by { Prim.hlevel props },
     pub ghost counted: { length unusual.items ≡ unusual_count items.items },
 }
 
 /// How many attributes a table begins with room for, where there is no memory for more.
 const FEWEST: usize = 4;
+
+/// Frees the value of a row.
+fn free_value(row: &mut StoredAttribute<'_>) {
+    let value = ManuallyDrop::new(StringStorage::Borrowed(""));
+    let _freed = ManuallyDrop::into_inner(std::mem::replace(&mut row.value, value));
+}
 
 /// How many of these are unusual.
 fn count_unusual(rows: &[StoredAttribute<'_>]) -> usize
@@ -38,6 +49,64 @@ fn count_unusual(rows: &[StoredAttribute<'_>]) -> usize
         }
     }
     count
+}
+
+/// Notes that the row behind so many is of this value, if that is owned. Answers false where memory is
+/// refused, and then nothing is noted.
+#[inline(always)]
+fn note(owned: &mut Vec<usize>, value: &StringStorage<'_>, count: usize) -> bool
+    ensures noted { result ≡ true → owned.new.items ≡ owned.old.items ++ own_place value.now count }
+    ensures none { result ≡ false → owned.new.items ≡ owned.old.items }
+{
+    if value.is_owned() {
+        return push(owned, count).is_ok();
+    }
+    true
+}
+
+/// Takes back the last row, and frees its value.
+fn take_last(items: &mut Vec<StoredAttribute<'_>>, owned: &mut Vec<usize>)
+    ensures rows { items.new.items ≡ take (vec_len items.old - 1) items.old.items }
+    ensures count { vec_len items.new ≡ vec_len items.old - 1 }
+    ensures listed { owned_places 0 items.old.items ≡ owned.old.items
+        → owned_places 0 items.new.items ≡ owned.new.items }
+{
+    if let Some(row) = items.pop() {
+        let value = ManuallyDrop::into_inner(row.value);
+        if value.is_owned() {
+            let _place = owned.pop();
+        }
+    }
+}
+
+/// Takes back the rows behind the first so many, and frees their values.
+fn take_back(items: &mut Vec<StoredAttribute<'_>>, owned: &mut Vec<usize>, count: usize)
+    requires { count ≤ vec_len items.old }
+    ensures rows { items.new.items ≡ take count items.old.items }
+    ensures listed { owned_places 0 items.old.items ≡ owned.old.items
+        → owned_places 0 items.new.items ≡ owned.new.items }
+{
+    while items.len() > count {
+        take_last(items, owned);
+    }
+}
+
+impl Drop for AttributeTable<'_> {
+    fn drop(self) {
+        let AttributeTable {
+            mut items,
+            unusual: _,
+            owned,
+            text_end: _,
+            first: _,
+            refused: _,
+        } = self;
+        for place in &owned {
+            if let Some(row) = items.get_mut(*place) {
+                free_value(row);
+            }
+        }
+    }
 }
 
 impl<'input> AttributeTable<'input> {
@@ -53,6 +122,7 @@ impl<'input> AttributeTable<'input> {
         AttributeTable {
             items: with_room(alloc, room),
             unusual: Vec::new(alloc),
+            owned: Vec::new(alloc),
             text_end: bytes,
             first: room,
             refused: false,
@@ -114,22 +184,29 @@ impl<'input> AttributeTable<'input> {
     }
 
     /// Puts an attribute at the end whose places follow from its start, so many bytes of its name standing before its local part.
+    /// Answers false where memory is refused, and then the table is as before.
     #[inline(always)]
     pub(crate) fn put_usual(
         &mut self,
         item: AttributeData<'input>,
         places: AttributePlaces,
         before: u8,
-    )
+    ) -> bool
         requires room { vec_len self.old.items < vec_capacity self.old.items }
         requires before { before < 255 }
         requires start { places.start < 2 ^ 32 }
         requires usual { places ≡ usual_places places.start before (length item.local.now)
             (length (storage_bytes item.value)) }
-        ensures { attribute_rows self.new ≡ attribute_rows self.old ++ (item.entry, places) ∷ [] }
+        ensures put { result ≡ true
+            → attribute_rows self.new ≡ attribute_rows self.old ++ (item.entry, places) ∷ [] }
+        ensures none { result ≡ false → attribute_rows self.new ≡ attribute_rows self.old }
     {
+        if !note(&mut self.owned, &item.value, self.items.len()) {
+            return false;
+        }
         let row = StoredAttribute::new(item, before, places.start as u32);
         self.items.push_reserved(row);
+        true
     }
 
     /// Puts any other attribute at the end, if there is room for it and its places. Else the table is as before.
@@ -146,6 +223,9 @@ impl<'input> AttributeTable<'input> {
     {
         let number = self.unusual.len();
         if self.is_full() || number >= self.unusual.capacity() || number > u32::MAX as usize {
+            return false;
+        }
+        if !note(&mut self.owned, &item.value, self.items.len()) {
             return false;
         }
         let row = StoredAttribute::new(item, UNUSUAL, number as u32);
@@ -197,8 +277,7 @@ impl<'input> AttributeTable<'input> {
             };
             return self.push_unusual(unusual, places).is_ok();
         };
-        self.put_usual(item, places, before);
-        true
+        self.put_usual(item, places, before)
     }
 
     /// Whether there is no room for one more.
@@ -220,7 +299,7 @@ impl<'input> AttributeTable<'input> {
         }
         let taken = count_unusual(&self.items[count..]);
         let places = self.unusual.len() - taken;
-        self.items.truncate(count);
+        take_back(&mut self.items, &mut self.owned, count);
         self.unusual.truncate(places);
     }
 

@@ -1,6 +1,6 @@
 //! Text that is a slice of the input, or owned.
 
-ghost use Rattle.std.specs.Prelude.{◌≡◌, IfOk, false};
+ghost use Rattle.std.specs.Prelude.{◌≡◌, IfOk, not, false};
 ghost use Rattle.std.specs.Rc.{rc_str_bytes};
 ghost use Rattle.rox_tables.specs.Storage.{storage_bytes, is_borrowed};
 
@@ -32,6 +32,17 @@ impl<'input> StringStorage<'input> {
     {
         let text = RcStr::from_str(alloc, s)?;
         Ok(StringStorage::Owned(text))
+    }
+
+    /// Whether it is no slice of the input.
+    #[inline(always)]
+    pub(crate) fn is_owned(&self) -> bool
+        ensures { is_borrowed self.now ≡ not result }
+    {
+        match self {
+            StringStorage::Borrowed(_) => false,
+            StringStorage::Owned(_) => true,
+        }
     }
 
     /// Its text.

@@ -1,11 +1,13 @@
 //! An attribute as its table stores it.
 
 ghost use Rattle.std.specs.Prelude.{◌≡◌, ◌==◌, false, ◌<◌, ◌≤◌, ◌+◌, ◌^◌, length, IfSome};
+ghost use Rattle.std.specs.Mem.{manually_drop_value};
 ghost use Rattle.rox_tables.specs.Storage.{storage_bytes};
 ghost use Rattle.rox_tables.specs.UsualPlaces.{usual_places};
 
 use crate::rows::storage::StringStorage;
 use crate::rows::tables::{AttributeData, AttributeNamespace, AttributePlaces};
+use std::mem::ManuallyDrop;
 
 /// Which namespace the name of an attribute has.
 #[derive(Clone, Copy)]
@@ -28,8 +30,9 @@ pub struct StoredAttribute<'input> {
     /// Where the attribute starts. Of an unusual one, which of the table of unusual places is its own.
     pub place: u32,
     pub local: &'input str,
-    pub value: StringStorage<'input>,
-    pub ghost ends: { before < 255 → place + before + length local.now + length (storage_bytes value) + 3 < 2 ^ 64 },
+    /// It is not dropped with the row: the table frees those that are owned.
+    pub value: ManuallyDrop<StringStorage<'input>>,
+    pub ghost ends: { before < 255 → place + before + length local.now + length (storage_bytes (manually_drop_value value)) + 3 < 2 ^ 64 },
 }
 
 /// Stands for how many bytes are before the local part, where the places do not follow from the start.
@@ -63,7 +66,7 @@ impl<'input> StoredAttribute<'input> {
             listed,
             place,
             local: item.local,
-            value: item.value,
+            value: ManuallyDrop::new(item.value),
         }
     }
 
@@ -93,7 +96,7 @@ impl<'input> StoredAttribute<'input> {
     pub(crate) fn usual_places(&self) -> AttributePlaces
         requires { self.now.before < 255 }
         ensures { result ≡ usual_places self.now.place self.now.before (length self.now.local.now)
-            (length (storage_bytes self.now.value)) }
+            (length (storage_bytes (manually_drop_value self.now.value))) }
     {
         let start = self.place as usize;
         let name_end = start + self.before as usize + self.local.len();

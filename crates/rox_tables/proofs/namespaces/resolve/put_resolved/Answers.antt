@@ -39,12 +39,12 @@ tested_namespace-requires-clause-done c =
     all_column (λ d. NamespaceWithin (length c.args.namespaces.now) d.namespace) c.args.attributes.now c.deref.result.now c.put_few.new.self.from c.deref.ensures.value (rw c.put_few.ensures.from c.requires.tag.within)
 
 pub returns-clause-added : goal.returns-clause-added
-returns-clause-added c = λ _.
+returns-clause-added c = λ done.
     let old = attribute_rows c.args.attributes.now in
     let column = column_behind c.args.attributes.now c.deref.result.now c.put_few.new.self.from c.deref.ensures.value in
     record {
       namespace = c.in-Ok.namespace;
-      rows = c.put_usual.ensures ∙ ap (λ (xs : List AttributeRow). xs ++ row_of_unresolved c.args.one c.in-Ok.namespace ∷ []) c.has_room.ensures.rows;
+      rows = c.put_usual.ensures.put done ∙ ap (λ (xs : List AttributeRow). xs ++ row_of_unresolved c.args.one c.in-Ok.namespace ∷ []) c.has_room.ensures.rows;
       within = subst (λ n. NamespaceWithin n c.in-Ok.namespace) (sym (length-map c.args.namespaces.now namespace_view)) c.in-Ok.ensures.found.within;
       there = λ ds h. c.in-Ok.ensures.found.there ds h;
       tested = λ ds before rest h shown. c.in-Ok.ensures.tested ds (drop c.put_few.new.self.from old) before rest h column (rw c.put_few.ensures.from shown);
@@ -69,9 +69,9 @@ tested_namespace-requires-clause-seen c =
 pub returns-clause-puts : goal.returns-clause-puts
 returns-clause-puts c = record {
   from = search;
-  refused = λ no. cc no;
-  are_seen = λ _. are_more c.put_few.new.self c.tested_namespace.new.seen (attribute_rows c.args.attributes.now) _ _
-      (c.put_usual.ensures ∙ ap (λ (xs : List AttributeRow). xs ++ row_of_unresolved c.args.one c.in-Ok.namespace ∷ []) c.has_room.ensures.rows)
+  refused = λ no. c.put_usual.ensures.none no ∙ c.has_room.ensures.rows;
+  are_seen = λ done. are_more c.put_few.new.self c.tested_namespace.new.seen (attribute_rows c.args.attributes.now) _ _
+      (c.put_usual.ensures.put done ∙ ap (λ (xs : List AttributeRow). xs ++ row_of_unresolved c.args.one c.in-Ok.namespace ∷ []) c.has_room.ensures.rows)
       (rw c.put_few.ensures.from c.requires.tag.are_seen.from) c.in-Ok.ensures.sees c.put_few.ensures.coded;
 }
 

@@ -12,8 +12,8 @@ pub is_refused-requires-clause-done : goal.is_refused-requires-clause-done
 is_refused-requires-clause-done c = rw c.may_have-repeats.ensures.from c.requires.tag.within
 
 pub returns-clause-added : goal.returns-clause-added
-returns-clause-added c = λ _. record {
-  rows = c.put_usual.ensures ∙ ap (λ (xs : List AttributeRow). xs ++ ((row_of_usual c.args.one c.args.namespace).0, c.places-places.result) ∷ []) c.has_room.ensures.rows
+returns-clause-added c = λ done. record {
+  rows = c.put_usual.ensures.put done ∙ ap (λ (xs : List AttributeRow). xs ++ ((row_of_usual c.args.one c.args.namespace).0, c.places-places.result) ∷ []) c.has_room.ensures.rows
       ∙ ap (λ (p : AttributePlaces). attribute_rows c.args.attributes.now ++ ((row_of_usual c.args.one c.args.namespace).0, p) ∷ []) c.places-places.ensures;
   first = elim c.else-repeats.branch [
     | else-repeats-via-then-repeats+else-is_refused w ↦ rw c.may_have-repeats.ensures.from at (w.is_refused.ensures.first w.if-is_refused.false)
@@ -27,12 +27,12 @@ returns-clause-puts c = record {
     | else-repeats-via-then-repeats+else-is_refused w ↦ rw w.seen-is (w.is_refused.ensures.from ∙ c.may_have-repeats.ensures.from)
     | else-repeats-via-else-repeats w ↦ rw w.seen-is c.may_have-repeats.ensures.from
   ];
-  refused = λ no. cc no;
-  are_seen = λ _.
+  refused = λ no. c.put_usual.ensures.none no ∙ c.has_room.ensures.rows;
+  are_seen = λ done.
       let old = attribute_rows c.args.attributes.now in
       let row = row_of_usual c.args.one c.args.namespace in
       let item : AttributeData = row.0 in
-      let grown = c.put_usual.ensures ∙ ap (λ (xs : List AttributeRow). xs ++ (item, c.places-places.result) ∷ []) c.has_room.ensures.rows
+      let grown = c.put_usual.ensures.put done ∙ ap (λ (xs : List AttributeRow). xs ++ (item, c.places-places.result) ∷ []) c.has_room.ensures.rows
       ∙ ap (λ (p : AttributePlaces). old ++ (item, p) ∷ []) c.places-places.ensures in
       let seen = c.may_have-repeats.ensures.seen row refl in
       elim c.else-repeats.branch [

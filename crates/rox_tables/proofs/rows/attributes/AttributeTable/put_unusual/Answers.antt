@@ -1,16 +1,19 @@
 use Rattle.std.proofs.Common.{◌≡◌, ◌++◌, ◌∷◌, [], length, map, length-append, ap, ◌∙◌, arith}
 use Rattle.rox_tables.specs.StoredAttributes.{row_in}
-use Rattle.rox_tables.proofs.AttributeRows.{unusual_row, rows_push, rows_grown, numbered_unusual, count_one_more}
+use Rattle.rox_tables.proofs.AttributeRows.{unusual_row, rows_push, rows_grown, numbered_unusual, count_one_more, owned_push}
 use Rattle.rox_tables.proofs.rows.attributes.AttributeTable.put_unusual.Goals as goal
 
-pub invariant_of-self : goal.invariant_of-self
-invariant_of-self c =
+pub invariant_of-self-2 : goal.invariant_of-self-2
+invariant_of-self-2 c =
     let old = c.args.self.now in
     let last : c.new-row.result.place ≡ length old.unusual.items = omega (arith, c.new-row.ensures.place, c.len-number.ensures, old.unusual.ok.0) in
     let more = c.push_reserved.new.self.items in
     let places = ap length c.push_reserved-2.ensures.items ∙ length-append old.unusual.items (c.args.places ∷ []) in
     let count = count_one_more old.items.items more c.new-row.result c.push_reserved.ensures.items c.new-row.ensures.before in
     record {
+      listed =
+          owned_push old.items.items more old.owned.items _ c.new-row.result c.args.item c.len.result c.push_reserved.ensures.items c.new-row.ensures.is
+          (omega (arith, c.len.ensures, old.items.ok.0)) old.listed (c.note.ensures.noted c.if-not-note.false);
       numbered = numbered_unusual old.items.items more c.new-row.result (length old.unusual.items) c.push_reserved.ensures.items old.numbered old.counted last;
       counted = omega (arith, places, count, old.counted);
     }

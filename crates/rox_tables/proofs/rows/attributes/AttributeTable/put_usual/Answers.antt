@@ -1,20 +1,23 @@
 use Rattle.std.proofs.Common.{◌<◌, length, ap, ◌∙◌, sym, arith}
 use Rattle.rox_tables.specs.Storage.{storage_bytes}
 use Rattle.rox_tables.specs.UsualPlaces.{usual_places}
-use Rattle.rox_tables.proofs.AttributeRows.{usual_row, rows_push, numbered_usual, count_usual}
+use Rattle.rox_tables.proofs.AttributeRows.{usual_row, rows_push, numbered_usual, count_usual, owned_push}
 use Rattle.rox_tables.proofs.rows.attributes.AttributeTable.put_usual.Goals as goal
 
-pub invariant_of-self : goal.invariant_of-self
-invariant_of-self c =
+pub invariant_of-self-2 : goal.invariant_of-self-2
+invariant_of-self-2 c =
     let old = c.args.self.now in
     let few : c.new-row.result.before < 255 = omega (arith, c.new-row.ensures.before, c.requires.before) in
     record {
+      listed =
+          owned_push old.items.items c.push_reserved.new.self.items old.owned.items _ c.new-row.result c.args.item c.len.result c.push_reserved.ensures.items c.new-row.ensures.is
+          (omega (arith, c.len.ensures, old.items.ok.0)) old.listed (c.note.ensures.noted c.if-not-note.false);
       numbered = numbered_usual old.items.items c.push_reserved.new.self.items c.new-row.result c.push_reserved.ensures.items old.numbered few;
       counted = old.counted ∙ sym (count_usual old.items.items c.push_reserved.new.self.items c.new-row.result c.push_reserved.ensures.items few);
     }
 
-pub returns : goal.returns
-returns c =
+pub returns-clause-put : goal.returns-clause-put
+returns-clause-put c = λ _.
     let old = c.args.self.now in
     let few : c.new-row.result.before < 255 = omega (arith, c.new-row.ensures.before, c.requires.before) in
     rows_push old.unusual.items old.items.items c.push_reserved.new.self.items c.new-row.result (c.args.item, c.args.places) c.push_reserved.ensures.items

@@ -15,10 +15,11 @@ pub invariant_of-self : goal.invariant_of-self
 invariant_of-self c =
     let t = c.args.self.now in
     let left = places_left t c.deref.result.now c.args.count c.count_unusual-taken.result c.deref.ensures.value c.count_unusual-taken.ensures in
-    let rows = ap unusual_count c.truncate.ensures.items in
-    let places = ap length c.truncate-2.ensures.items ∙ length-take _ t.unusual.items in
+    let rows = ap unusual_count c.take_back.ensures.rows in
+    let places = ap length c.truncate.ensures.items ∙ length-take _ t.unusual.items in
     record {
-      numbered = subst (AreNumbered 0) (sym c.truncate.ensures.items) (numbered_take 0 c.args.count t.items.items t.numbered);
+      listed = c.take_back.ensures.listed t.listed;
+      numbered = subst (AreNumbered 0) (sym c.take_back.ensures.rows) (numbered_take 0 c.args.count t.items.items t.numbered);
       counted = omega (arith, left.0, left.1, rows, places, c.len-2.ensures, t.unusual.ok.0);
     }
 
@@ -26,7 +27,7 @@ pub returns : goal.returns
 returns c =
     let t = c.args.self.now in
     let left = places_left t c.deref.result.now c.args.count c.count_unusual-taken.result c.deref.ensures.value c.count_unusual-taken.ensures in
-    rows_kept t c.truncate.new.self.items c.truncate-2.new.self.items c.args.count (c.len-2.result - c.count_unusual-taken.result) c.truncate.ensures.items c.truncate-2.ensures.items
+    rows_kept t c.take_back.new.items.items c.truncate.new.self.items c.args.count (c.len-2.result - c.count_unusual-taken.result) c.take_back.ensures.rows c.truncate.ensures.items
     (omega (arith, left.1, c.len-2.ensures, t.unusual.ok.0))
 
 pub returns-then-count-len : goal.returns-then-count-len
