@@ -12,7 +12,8 @@ use Rattle.std.proofs.Math.Seq.{drop-append_seam}
 use Rattle.rox_grammar.specs.Chars.{is_space, is_name_start, is_name_char, is_part_char}
 use Rattle.rox_grammar.specs.Names.{IsNCName, IsQName, unprefixed, prefixed, colon_first}
 use Rattle.rox_grammar.specs.Runs.{run_end, begins, passing, first_passes}
-use Rattle.rox_grammar.specs.Written.{Name, same_qname}
+use Rattle.rox_grammar.specs.Written.{Name}
+use Rattle.rox_grammar.specs.NameParts.{same_qname}
 use Rattle.rox_grammar.specs.Written.{NamespaceDecl}
 use Rattle.rox_grammar.specs.FixedTexts.{word_text}
 use Rattle.rox_grammar.specs.Tree.{listed}

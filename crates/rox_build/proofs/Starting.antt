@@ -5,7 +5,8 @@ use Rattle.rox_grammar.specs.declared.fault.Fault.{Fault}
 use Rattle.rox_grammar.specs.declared.fault.Word.TheVariants.{Xmlns}
 use Rattle.rox_grammar.specs.FixedTexts.{word_text}
 use Rattle.rox_grammar.specs.declared.fault.Fault.TheVariants as fault
-use Rattle.rox_grammar.specs.Written.{Attribute, Name, NamespaceDecl, prefix_span}
+use Rattle.rox_grammar.specs.Written.{Attribute, Name, NamespaceDecl}
+use Rattle.rox_grammar.specs.NameParts.{prefix_span}
 use Rattle.rox_grammar.specs.WellNamed.{may_name}
 use Rattle.rox_grammar.specs.Tree.{listed, attribute_in, element_namespace}
 use Rattle.rox_grammar.specs.Document.{most_pairs, most_attributes}

@@ -1,3 +1,4 @@
 pub mod Copies
 pub mod Messages
+pub mod ErrorPositions
 pub mod FaultErrors

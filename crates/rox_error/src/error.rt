@@ -144,7 +144,7 @@ impl Clone for Error<'_> {
 
 impl Error<'_> {
     ghost use Rattle.std.specs.Prelude.{◌≡◌};
-    ghost use Rattle.rox_error.specs.FaultErrors.{position_of};
+    ghost use Rattle.rox_error.specs.ErrorPositions.{position_of};
 
     /// The position that the error is named at, or 1:1 where it keeps none.
     pub fn pos(&self) -> TextPos

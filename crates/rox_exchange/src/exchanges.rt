@@ -4,7 +4,8 @@ ghost use Rattle.std.specs.Prelude.{◌≡◌, ℕ, List, true};
 ghost use Rattle.std.specs.Str.{IsUtf8};
 ghost use Rattle.rox_grammar.specs.Forest.{Forest};
 ghost use Rattle.rox_grammar.specs.Tree.{Node};
-ghost use Rattle.rox_grammar.specs.Exchange.{self_contained, HasTree, AreSeparate, StaysContained, GoesBack, Commutes};
+ghost use Rattle.rox_grammar.specs.Exchange.{self_contained, HasTree};
+ghost use Rattle.rox_exchange.specs.ExchangeLaws.{AreSeparate, StaysContained, GoesBack, Commutes};
 
 /// The element that was put in is self-contained, and each outside of it that was so is so.
 pub fn elements_stay_contained()

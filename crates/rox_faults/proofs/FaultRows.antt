@@ -14,7 +14,8 @@ use Rattle.rox_grammar.specs.FixedTexts.{word_text, at, first}
 use Rattle.rox_grammar.specs.Chars.{is_space, is_char, is_part_char, is_name_start, is_name_char}
 use Rattle.rox_grammar.specs.Runs.{run_end, begins, first_passes}
 use Rattle.rox_grammar.specs.Search.{stands, before_mark, mark_from, byte_from}
-use Rattle.rox_grammar.specs.Written.{Name, local_span}
+use Rattle.rox_grammar.specs.Written.{Name}
+use Rattle.rox_grammar.specs.NameParts.{local_span}
 use Rattle.rox_grammar.specs.Names.{byte, slice, spaces_end, IsName, IsQName, unprefixed, prefixed, colon_first}
 use Rattle.rox_grammar.specs.Constructs.{double_dash, has_mark, AreChars}
 use Rattle.rox_grammar.specs.References.{is_digit, is_hex_digit, number, bytes_end, character}

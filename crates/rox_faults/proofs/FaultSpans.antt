@@ -14,7 +14,8 @@ use Rattle.rox_grammar.specs.FixedTexts.{word_text, at}
 use Rattle.rox_grammar.specs.Runs.{begins}
 use Rattle.rox_grammar.specs.Search.{stands, mark_from, byte_from}
 use Rattle.rox_grammar.specs.Forest.{Forest, Nil, join}
-use Rattle.rox_grammar.specs.Written.{Name, Tag, Item, Element, Text, Comment, PI, leaf, local_span, same_qname}
+use Rattle.rox_grammar.specs.Written.{Name, Tag, Item, Element, Text, Comment, PI, leaf}
+use Rattle.rox_grammar.specs.NameParts.{local_span, same_qname}
 use Rattle.rox_grammar.specs.Names.{byte, spaces_end}
 use Rattle.rox_grammar.specs.Constructs.{double_dash, has_mark}
 use Rattle.rox_grammar.specs.Content.{is_verbatim, literals, line_ends}

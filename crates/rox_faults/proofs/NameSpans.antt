@@ -10,7 +10,8 @@ use Rattle.std.proofs.lemmas.Bool.{cases_Bool}
 use Rattle.rox_grammar.specs.Spans.{IsTextSpan}
 use Rattle.rox_grammar.specs.Chars.{is_part_char}
 use Rattle.rox_grammar.specs.Runs.{run_end, passing}
-use Rattle.rox_grammar.specs.Written.{Name, local_span, prefix_span}
+use Rattle.rox_grammar.specs.Written.{Name}
+use Rattle.rox_grammar.specs.NameParts.{local_span, prefix_span}
 use Rattle.rox_grammar.specs.Names.{byte, slice, IsQName, unprefixed, prefixed, colon_first}
 use Rattle.rox_reading.specs.Lexical.{qname_at}
 use Rattle.rox_reading.specs.Machine.{name_span}

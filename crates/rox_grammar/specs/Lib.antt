@@ -6,6 +6,7 @@ pub mod Spans
 pub mod FixedTexts
 pub mod Forest
 pub mod Written
+pub mod NameParts
 pub mod Tree
 pub mod NodeRanges
 pub mod Names

@@ -1,15 +1,11 @@
 -- The tree of a text with its names as they are written. Every place is a count of bytes from the start of the source.
-use Rattle.std.specs.Prelude.{ℕ, ◌+◌, ◌-◌, Bool, false, ◌||◌, ◌&&◌, not, List, ◌++◌, Option, Some, None, bytes_eq, filter, map, if◌then◌else◌, length, codes}
-use Rattle.rox_grammar.specs.declared.fault.Span.{Span}
+use Rattle.std.specs.Prelude.{ℕ, Bool, false, ◌||◌, not, List, ◌++◌, Option, Some, None, bytes_eq, filter, map, if◌then◌else◌, codes}
 use Rattle.rox_grammar.specs.Forest.{Forest, Nil, Cons, join}
 
 -- NS 4: a prefix, which is empty where none is written, and a local part
 pub record Name : Type 0 where
   pub prefix : List ℕ
   pub local : List ℕ
-
-abbrev pub same_qname : Name → Name → Bool
-same_qname m n = bytes_eq m.prefix n.prefix && bytes_eq m.local n.local
 
 -- an attribute: its name from start to name_end, its value between the quotes from value_start to end less one
 pub record Attribute : Type 0 where
@@ -73,11 +69,3 @@ merge (Cons other children rest) = Cons other children (merge rest)
 -- a text or another item with nothing below it
 abbrev pub leaf : Item → Forest Item
 leaf item = Cons item Nil Nil
-
--- Where the parts of a name stand, which ends at this place.
-abbrev pub local_span : Name → ℕ → Span
-local_span n end = record { start = end - length n.local; end = end }
-
--- from its first byte
-abbrev pub prefix_span : Name → ℕ → Span
-prefix_span n start = record { start = start; end = start + length n.prefix }

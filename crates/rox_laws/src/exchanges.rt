@@ -1,7 +1,7 @@
 //! Laws of elements that are put in the place of others, each a function whose contract is the law.
 
 ghost use Rattle.std.specs.Prelude.{◌≡◌, true, false};
-ghost use Rattle.rox_grammar.specs.Exchange.{AreSeparate, StaysContained, GoesBack, Commutes};
+ghost use Rattle.rox_exchange.specs.ExchangeLaws.{AreSeparate, StaysContained, GoesBack, Commutes};
 ghost use Rattle.roxmltree.specs.SelfContained.{stands_alone};
 ghost use Rattle.roxmltree.specs.NodeRef.{id_of, document_of, tree_of};
 ghost use Rattle.roxmltree.specs.Elements.{root_id};

@@ -5,7 +5,8 @@ use Rattle.rox_grammar.specs.declared.fault.Fault.{Fault}
 use Rattle.rox_grammar.specs.declared.fault.Fault.TheVariants as fault
 use Rattle.rox_grammar.specs.declared.fault.Word.TheVariants as word
 use Rattle.rox_grammar.specs.FixedTexts.{word_text}
-use Rattle.rox_grammar.specs.Written.{Name, Attribute, NamespaceDecl, Tag, is_namespace_decl, namespace_decl_of, local_span, prefix_span}
+use Rattle.rox_grammar.specs.Written.{Name, Attribute, NamespaceDecl, Tag, is_namespace_decl, namespace_decl_of}
+use Rattle.rox_grammar.specs.NameParts.{local_span, prefix_span}
 use Rattle.rox_grammar.specs.Tree.{xml_uri, xmlns_uri, is_declared, listed, listable_of}
 use Rattle.rox_grammar.specs.WellNamed.{is_known, same_expanded, may_name}
 use Rattle.rox_grammar.specs.Document.{with_new, most_pairs, most_attributes}

@@ -6,7 +6,8 @@ use Rattle.std.proofs.lemmas.List.Elements.{filter-append}
 use Rattle.std.proofs.lemmas.List.Folds.{list_any-append}
 use Rattle.rox_grammar.specs.declared.fault.Fault.{Fault}
 use Rattle.rox_grammar.specs.declared.fault.Fault.TheVariants as fault
-use Rattle.rox_grammar.specs.Written.{Attribute, NamespaceDecl, namespace_decl_of, local_span}
+use Rattle.rox_grammar.specs.Written.{Attribute, NamespaceDecl, namespace_decl_of}
+use Rattle.rox_grammar.specs.NameParts.{local_span}
 use Rattle.rox_grammar.specs.Tree.{is_declared, listed, is_xml, listable_of}
 use Rattle.rox_grammar.specs.Document.{with_new, most_pairs}
 use Rattle.rox_reading.specs.Tags.{TagSoFar, uri_tested, declared}

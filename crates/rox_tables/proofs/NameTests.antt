@@ -5,7 +5,8 @@ use Rattle.std.specs.List.{list_any}
 use Rattle.rox_grammar.specs.declared.fault.Fault.TheVariants as fault
 use Rattle.rox_grammar.specs.declared.fault.Word.TheVariants.{Xml}
 use Rattle.rox_grammar.specs.FixedTexts.{word_text}
-use Rattle.rox_grammar.specs.Written.{Attribute, NamespaceDecl, Name, local_span, prefix_span}
+use Rattle.rox_grammar.specs.Written.{Attribute, NamespaceDecl, Name}
+use Rattle.rox_grammar.specs.NameParts.{local_span, prefix_span}
 use Rattle.rox_grammar.specs.Tree as tree
 use Rattle.rox_grammar.specs.Tree.{same_prefix, is_declared, uri_of, none_if_empty, attribute_namespace, attribute_in, element_namespace}
 use Rattle.rox_grammar.specs.WellNamed.{is_known, same_expanded, may_name}

@@ -4,7 +4,8 @@ use Rattle.std.proofs.lemmas.List.{append-nil}
 use Rattle.std.proofs.lemmas.Bool.{and_parts, and_from}
 use Rattle.std.proofs.lemmas.Slice.Eq.{bytes_eq-Decides}
 use Rattle.rox_grammar.specs.Forest.{Forest, Nil, Cons, join}
-use Rattle.rox_grammar.specs.Written.{Name, Tag, Item, Element, NamespaceDecl, merge, leaf, same_qname}
+use Rattle.rox_grammar.specs.Written.{Name, Tag, Item, Element, NamespaceDecl, merge, leaf}
+use Rattle.rox_grammar.specs.NameParts.{same_qname}
 use Rattle.rox_grammar.specs.Tree.{listed}
 use Rattle.rox_grammar.specs.Document.{listable, own_pairs, distinct_pairs, most_pairs}
 use Rattle.rox_grammar.specs.State.{Open, inside, scope_of, nodes_so_far, pairs_so_far}

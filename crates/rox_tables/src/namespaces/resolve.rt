@@ -5,7 +5,8 @@ ghost use Rattle.std.specs.Prelude.{◌≡◌, ◌<◌, ◌≤◌, ◌+◌, ◌^
 ghost use Rattle.std.specs.List.{AllByRecursion, list_any};
 ghost use Rattle.std.specs.Option.{option_map};
 ghost use Rattle.rox_grammar.specs.declared.fault.Fault.TheVariants as fault;
-ghost use Rattle.rox_grammar.specs.Written.{Attribute, NamespaceDecl, prefix_span};
+ghost use Rattle.rox_grammar.specs.Written.{Attribute, NamespaceDecl};
+ghost use Rattle.rox_grammar.specs.NameParts.{prefix_span};
 ghost use Rattle.rox_grammar.specs.Tree as tree;
 ghost use Rattle.rox_grammar.specs.Tree.{attribute_in};
 ghost use Rattle.rox_grammar.specs.WellNamed.{is_known, may_name};
