@@ -11,7 +11,8 @@ use Rattle.rox_grammar.specs.Written.{Name, Item}
 use Rattle.rox_grammar.specs.Names.{byte, slice, spaces_end, IsName, IsQName}
 use Rattle.rox_grammar.specs.Constructs.{double_dash, has_mark, AreChars, IsComment, IsPI}
 use Rattle.rox_grammar.specs.Content.{IsMisc, comment, instruction}
-use Rattle.rox_grammar.specs.Due.{DueItem, a_name, a_qname, a_byte, a_word, a_space, chars_to, IsMissing, no_name, no_qname, other_byte, other_word, no_char, no_space, ends_before, DueInComment, DueInPI}
+use Rattle.rox_grammar.specs.Due.{DueItem, a_name, a_qname, a_byte, a_word, chars_to, IsMissing, no_name, no_qname, other_byte, other_word, no_char, ends_before, DueInText, DueInPI, none_of}
+use Rattle.rox_faults.proofs.DueForms.{a_space}
 use Rattle.rox_grammar.specs.Due as due
 use Rattle.rox_grammar.specs.Faults.{InMisc, comment_lacks, double_dashes, a_declaration, instruction_lacks}
 use Rattle.rox_theory.proofs.Basics.{within, run_end_le}
@@ -59,7 +60,7 @@ word_stands src w q f is (ends_before _ byte' past) = cc byte'
 module _ (src : List ℕ) (utf8 : IsUtf8 src) where
   -- white space
   pub space_stands : (p : ℕ) (f : Fault) → IsCharBoundary src p → p < spaces_end src p → IsMissing src p a_space f → ⊥
-  space_stands p f cut some (no_space inside none) =
+  space_stands p f cut some (none_of _ inside none) =
       true≢false (sym (begins_byte is_space (λ c h. space_ascii c h) src p utf8 cut (some_run is_space src p some)) ∙ none)
   space_stands p f cut some (ends_before _ byte' past) = let e = run_past is_space src p past in absurd (omega arith)
 
@@ -68,61 +69,43 @@ module _ (src : List ℕ) (utf8 : IsUtf8 src) where
   chars_stand i e f cut end are (no_char _ q c is below standing ill) = chars_refuse src i e q c utf8 cut end (let le = run_end_le is_char (take e src) i in omega arith) below are standing ill
   chars_stand i e f cut end are (ends_before _ byte' past) = cc byte'
 
+  -- a text up to a fixed one
+  pub text_stands : (w : Word) (s e q : ℕ) (t : DueItem) (f : Fault) → IsCharBoundary src s → IsCharBoundary src (first w src s) → e ≡ first w src s → AreChars src s e → at w src e ≡ true
+      → DueInText w src s q t → IsMissing src q t f → ⊥
+  text_stands w s e q t f cut end is chars closes due.DueInText.its_chars lack = chars_stand s (first w src s) f cut end (subst (λ (e : ℕ). AreChars src s e) is chars) lack
+  text_stands w s e q t f cut end is chars closes (due.DueInText.its_end _) lack = word_stands src w (first w src s) f (subst (λ (e : ℕ). at w src e ≡ true) is closes) lack
+
   -- ---- comments and processing instructions
 
   -- in a comment
-  comment_apart : (i e j q : ℕ) (t : DueItem) (f : Fault) → IsComment src i e j → DueInComment src i q t → IsMissing src q t f → ⊥
-  comment_apart i e j q t f is (due.DueInComment.its_text opens) lack =
+  comment_apart : (i e j q : ℕ) (t : DueItem) (f : Fault) → IsComment src i e j → DueInText word.CommentEnd src (i + 4) q t → IsMissing src q t f → ⊥
+  comment_apart i e j q t f is due' lack =
       let three : i + 3 + 1 ≡ i + 4 = omega arith in
-      let cut = subst (IsCharBoundary src) three (behind word.CommentStart src i 3 45 utf8 opens (omega arith) refl (omega arith) (omega arith)) in
-      chars_stand (i + 4) (first word.CommentEnd src (i + 4)) f cut (mark_cut (word_text word.CommentEnd) 45 (45 ∷ 62 ∷ []) src (i + 4) refl (omega arith) cut.0)
-      (subst (λ (e : ℕ). AreChars src (i + 4) e) is.end is.chars) lack
-  comment_apart i e j q t f is (due.DueInComment.its_end opens chars) lack =
-      word_stands src word.CommentEnd (first word.CommentEnd src (i + 4)) f (subst (λ (e : ℕ). at word.CommentEnd src e ≡ true) is.end is.closes) lack
+      let cut = subst (IsCharBoundary src) three (behind word.CommentStart src i 3 45 utf8 is.opens (omega arith) refl (omega arith) (omega arith)) in
+      text_stands word.CommentEnd (i + 4) e q t f cut (mark_cut (word_text word.CommentEnd) 45 (45 ∷ 62 ∷ []) src (i + 4) refl (omega arith) cut.0) is.end is.chars is.closes due' lack
 
-  -- a name ends in one place
-  one_name : (i m n : ℕ) → IsName src i m → IsName src i n → m ≡ n
-  one_name i m n a b = a.longest ∙ sym b.longest
-
-  -- in an instruction
+  -- in an instruction: its name ends in one place
   instruction_apart : (i n e j q : ℕ) (t : DueItem) (f : Fault) → IsPI src i n e j → DueInPI src i q t → IsMissing src q t f → ⊥
-  instruction_apart i n e j q t f is (due.DueInPI.its_target opens) lack = name_stands src (i + 2) n f is.target lack
-  instruction_apart i n e j q t f is (due.DueInPI.its_value m opens name) lack =
+  instruction_apart i n e j q t f is due.DueInPI.its_target lack = name_stands src (i + 2) n f is.target lack
+  instruction_apart i n e j q t f is (due.DueInPI.its_value m _ _ name value) lack =
       let one : i + 1 + 1 ≡ i + 2 = omega arith in
-      let cut = subst (IsCharBoundary src) one (behind word.PIStart src i 1 63 utf8 opens (omega arith) refl (omega arith) (omega arith)) in
+      let cut = subst (IsCharBoundary src) one (behind word.PIStart src i 1 63 utf8 is.opens (omega arith) refl (omega arith) (omega arith)) in
       let v = spaces_end src n in
       let at_value : IsCharBoundary src v = run_cut is_space src n utf8 (subst (IsCharBoundary src) (sym is.target.longest) (run_cut is_name_char src (i + 2) utf8 cut)) in
-      let same : m ≡ n = one_name (i + 2) m n name is.target in
-      chars_stand v (first word.PIEnd src v) f at_value (mark_cut (word_text word.PIEnd) 63 (62 ∷ []) src v refl (omega arith) at_value.0)
-      (subst (λ (e : ℕ). AreChars src v e) is.end is.chars)
-      (subst (λ (m : ℕ). IsMissing src (spaces_end src m) (chars_to (first word.PIEnd src (spaces_end src m))) f) same lack)
-  instruction_apart i n e j q t f is (due.DueInPI.its_end m opens name chars) lack =
-      let v = spaces_end src n in
-      let same : m ≡ n = one_name (i + 2) m n name is.target in
-      word_stands src word.PIEnd (first word.PIEnd src v) f (subst (λ (e : ℕ). at word.PIEnd src e ≡ true) is.end is.closes)
-      (subst (λ (m : ℕ). IsMissing src (first word.PIEnd src (spaces_end src m)) (a_word word.PIEnd) f) same lack)
-
-  -- where something is due in a comment, it begins
-  comment_begins : (i q : ℕ) (t : DueItem) → DueInComment src i q t → at word.CommentStart src i ≡ true
-  comment_begins i q t (due.DueInComment.its_text opens) = opens
-  comment_begins i q t (due.DueInComment.its_end opens chars) = opens
-
-  -- and in an instruction
-  instruction_begins : (i q : ℕ) (t : DueItem) → DueInPI src i q t → at word.PIStart src i ≡ true
-  instruction_begins i q t (due.DueInPI.its_target opens) = opens
-  instruction_begins i q t (due.DueInPI.its_value m opens name) = opens
-  instruction_begins i q t (due.DueInPI.its_end m opens name chars) = opens
+      let same : m ≡ n = name.longest ∙ sym is.target.longest in
+      text_stands word.PIEnd v e q t f at_value (mark_cut (word_text word.PIEnd) 63 (62 ∷ []) src v refl (omega arith) at_value.0) is.end is.chars is.closes
+      (subst (λ (m : ℕ). DueInText word.PIEnd src (spaces_end src m) q t) same value) lack
 
   -- one of both begins where a fault of them stands
   pub misc_begins : (i : ℕ) (f : Fault) → InMisc src i f → (at word.CommentStart src i ≡ true) ⊎ (at word.PIStart src i ≡ true)
-  misc_begins i f (comment_lacks q t _ due' lack) = inl (comment_begins i q t due')
+  misc_begins i f (comment_lacks q t _ opens due' lack) = inl opens
   misc_begins i f (double_dashes e opens end chars closes ill) = inl opens
   misc_begins i f (a_declaration opens) = inr (declaration_bytes src i opens)
-  misc_begins i f (instruction_lacks q t _ none due' lack) = inr (instruction_begins i q t due')
+  misc_begins i f (instruction_lacks q t _ opens none due' lack) = inr opens
 
   -- a fault of them stands in none that stands there
   pub misc_apart : (i j : ℕ) (item : Item) (f : Fault) → IsMisc src i j item → InMisc src i f → ⊥
-  misc_apart i j item f (comment _ e _ is) (comment_lacks q t _ due' lack) = comment_apart i e j q t f is due' lack
+  misc_apart i j item f (comment _ e _ is) (comment_lacks q t _ opens due' lack) = comment_apart i e j q t f is due' lack
   misc_apart i j item f (comment _ e _ is) (double_dashes k opens end chars closes (inl two)) =
       let same : k ≡ e = end ∙ sym is.end in
       true≢false (sym (subst (λ (k : ℕ). has_mark double_dash (slice src (i + 4) k) ≡ true) same two) ∙ is.no_dashes)
@@ -130,8 +113,8 @@ module _ (src : List ℕ) (utf8 : IsUtf8 src) where
       let same : k ≡ e = end ∙ sym is.end in
       is.no_last (subst (λ (k : ℕ). byte (slice src (i + 4) k) (length (slice src (i + 4) k) - 1) ≡ 45) same last)
   misc_apart i j item f (comment _ e _ is) (a_declaration opens) = not_both src i is.opens (declaration_bytes src i opens)
-  misc_apart i j item f (comment _ e _ is) (instruction_lacks q t _ none due' lack) = not_both src i is.opens (instruction_begins i q t due')
-  misc_apart i j item f (instruction _ n e _ is) (comment_lacks q t _ due' lack) = not_both src i (comment_begins i q t due') is.opens
+  misc_apart i j item f (comment _ e _ is) (instruction_lacks q t _ opens none due' lack) = not_both src i is.opens opens
+  misc_apart i j item f (instruction _ n e _ is) (comment_lacks q t _ opens due' lack) = not_both src i opens is.opens
   misc_apart i j item f (instruction _ n e _ is) (double_dashes k opens end chars closes ill) = not_both src i opens is.opens
   misc_apart i j item f (instruction _ n e _ is) (a_declaration opens) = true≢false (sym opens ∙ is.no_declaration)
-  misc_apart i j item f (instruction _ n e _ is) (instruction_lacks q t _ none due' lack) = instruction_apart i n e j q t f is due' lack
+  misc_apart i j item f (instruction _ n e _ is) (instruction_lacks q t _ opens none due' lack) = instruction_apart i n e j q t f is due' lack

@@ -6,7 +6,7 @@ use Rattle.std.proofs.lemmas.Str.{IsCharBoundary-before_ascii, IsCharBoundary-en
 use Rattle.std.proofs.lemmas.Bool.{true≢false, cases_Bool, lt-leb, le-leb, eq-eqb, eqb-true, ne_eqb}
 use Rattle.rox_grammar.specs.declared.fault.Fault.{Fault}
 use Rattle.rox_grammar.specs.declared.fault.Word.TheVariants as word
-use Rattle.rox_grammar.specs.FixedTexts.{word_text, at, first}
+use Rattle.rox_grammar.specs.FixedTexts.{word_text, at}
 use Rattle.rox_grammar.specs.Search.{byte_from}
 use Rattle.rox_grammar.specs.Forest.{Forest, Nil, join}
 use Rattle.rox_grammar.specs.Written.{Name, Attribute, Tag, Item, Element}
@@ -18,7 +18,7 @@ use Rattle.rox_grammar.specs.Entities.{Replacement, Entity, text_of, most_deep}
 use Rattle.rox_grammar.specs.State as grammar
 use Rattle.rox_grammar.specs.WellNamed.{IsWellNamed}
 use Rattle.rox_grammar.specs.State.{Open, root, inside, is_root, depth_of, scope_of}
-use Rattle.rox_grammar.specs.Due.{DueItem, IsMissing, no_qname, ends_before, DueInCData}
+use Rattle.rox_grammar.specs.Due.{DueItem, IsMissing, no_qname, ends_before, DueInText}
 use Rattle.rox_grammar.specs.Due as due
 use Rattle.rox_grammar.specs.ContentPoints.{is_main, is_content, TagBegins, of_root, in_content, IsSpent, MayOpen, ValuePart, itself, opened, TagTo}
 use Rattle.rox_grammar.specs.Faults.{InMisc, InRun, no_char, end_mark, in_reference, too_many, InValue, less, less_by_reference, InEnd, lacks, other_name, none_open, Stands, in_run, in_section, in_misc, in_tag, in_end, unknown, unclosed, unclosed_in_replacement, too_many_nodes, too_many_pieces}
@@ -43,7 +43,7 @@ use Rattle.rox_faults.proofs.FaultLimits.{IsOver, nodes_over}
 use Rattle.rox_faults.proofs.FaultRows.{mark_cut, behind, run_stops_cut}
 use Rattle.rox_faults.proofs.FaultPoints.{context_at}
 use Rattle.rox_faults.proofs.FaultPlaces.{Tagged}
-use Rattle.rox_faults.proofs.FaultApart.{byte_stands, word_stands, chars_stand, misc_begins, misc_apart}
+use Rattle.rox_faults.proofs.FaultApart.{byte_stands, chars_stand, misc_begins, misc_apart, text_stands}
 use Rattle.rox_faults.proofs.FaultPairs.{one_qname}
 use Rattle.rox_faults.proofs.FaultReferences.{run_reference_apart, value_reference_apart, value_gives_less, value_no_less}
 use Rattle.rox_faults.proofs.FaultInTags.{tag_apart, value_there}
@@ -123,18 +123,13 @@ module _ (opens : ℕ → Inclusion) (es : List Entity) (all : OpensAt opens es)
         spent_apart k c x.1 x.4 spent
 
     -- in a CDATA section
-    section_apart : (q : ℕ) (t : DueItem) (f : Fault) → DueInCData src s.at q t → IsMissing src q t f → ⊥
-    section_apart q t f (due.DueInCData.its_text opens') lack =
+    section_apart : (q : ℕ) (t : DueItem) (f : Fault) → at word.CDataStart src s.at ≡ true → DueInText word.CDataEnd src (s.at + 9) q t → IsMissing src q t f → ⊥
+    section_apart q t f opens' due' lack =
         let below : s.at < length src = let two = (cdata_bytes src s.at opens').0 in omega arith in
         let is = (there_by opens es all limit W k open_around src here r a_cdata below (cdata_kind src s.at opens')).2 in
         let eight : s.at + 8 + 1 ≡ s.at + 9 = omega arith in
         let cut = subst (IsCharBoundary src) eight (behind word.CDataStart src s.at 8 91 r.utf8 opens' (omega arith) refl (omega arith) (omega arith)) in
-        chars_stand src r.utf8 (s.at + 9) (first word.CDataEnd src (s.at + 9)) f cut (mark_cut (word_text word.CDataEnd) 93 (93 ∷ 62 ∷ []) src (s.at + 9) refl (omega arith) cut.0)
-        (subst (λ (e : ℕ). AreChars src (s.at + 9) e) is.end is.chars) lack
-    section_apart q t f (due.DueInCData.its_end opens' chars) lack =
-        let below : s.at < length src = let two = (cdata_bytes src s.at opens').0 in omega arith in
-        let is = (there_by opens es all limit W k open_around src here r a_cdata below (cdata_kind src s.at opens')).2 in
-        word_stands src word.CDataEnd (first word.CDataEnd src (s.at + 9)) f (subst (λ (e : ℕ). at word.CDataEnd src e ≡ true) is.end is.closes) lack
+        text_stands src r.utf8 word.CDataEnd (s.at + 9) _ q t f cut (mark_cut (word_text word.CDataEnd) 93 (93 ∷ 62 ∷ []) src (s.at + 9) refl (omega arith) cut.0) is.end is.chars is.closes due' lack
 
     -- in a comment or an instruction
     item_there : (at word.CommentStart src s.at ≡ true) ⊎ (at word.PIStart src s.at ≡ true) → (j : ℕ) × (item : Item) × IsMisc src s.at j item
@@ -206,7 +201,7 @@ module _ (opens : ℕ → Inclusion) (es : List Entity) (all : OpensAt opens es)
     -- so no fault stands at the place but those of the limits
     pub stands_apart : (f : Fault) → Stands limit es k open_around (opens k) src s b f → IsOver W f
     stands_apart f (in_run _ inner below other ill) = absurd (run_apart f below other ill)
-    stands_apart f (in_section q t _ inner due' lack) = absurd (section_apart q t f due' lack)
+    stands_apart f (in_section q t _ inner opens' due' lack) = absurd (section_apart q t f opens' due' lack)
     stands_apart f (in_misc _ inner ill) = absurd (item_apart f ill)
     stands_apart f (in_tag _ begins ill) = let there = tag_there begins in read_tag_apart there.0 f there.1 there.2 there.3 ill
     stands_apart f (in_end _ inner ill) = absurd (end_apart f ill)

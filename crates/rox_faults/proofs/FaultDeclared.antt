@@ -12,7 +12,8 @@ use Rattle.rox_grammar.specs.Search.{byte_from}
 use Rattle.rox_grammar.specs.FixedTexts.{word_text, at}
 use Rattle.rox_grammar.specs.Names.{byte, spaces_end}
 use Rattle.rox_grammar.specs.Doctype.{Request, IsExternalID, BeginsEntity}
-use Rattle.rox_grammar.specs.Due.{DueItem, a_name, a_space, a_byte, a_quote, a_definition, subset_or_end, doctype_end, IsMissing, no_name, no_space, no_subset, no_end, no_definition, no_external_id, ends_before, DueInLiteral, DueInExternalID, DueInEntity, DueInDoctype}
+use Rattle.rox_grammar.specs.Due.{DueItem, a_name, a_byte, IsMissing, no_name, no_external_id, ends_before, DueInLiteral, DueInExternalID, DueInEntity, DueInDoctype}
+use Rattle.rox_faults.proofs.DueForms.{a_space, a_quote, a_definition, no_space, no_definition}
 use Rattle.rox_grammar.specs.Due as dues
 use Rattle.rox_reading.specs.Lexical.{byte_at, space_at, quote_at, name_at}
 use Rattle.rox_reading.specs.Doctype.{quoted_at, system_at, public_at, external_id_at, name_or_end_at, notation_at, definition_at, kind_at, entity_head_at, external_id_if, doctype_head_at}

@@ -17,7 +17,8 @@ use Rattle.rox_grammar.specs.TextStart.{after_bom, MayHaveXmlDecl, declared, not
 use Rattle.rox_grammar.specs.Entities.{Replacement, Entity}
 use Rattle.rox_grammar.specs.Doctype.{Request, Asked, IsQuoted, IsSpace, IsExternalID, system, public, MayHaveNotation, notation, no_notation, CutsNotation, GivesReplacement, nothing, the_rest, IsDefinition, internal, external, BeginsEntity, IsEntityDeclaration, Subset, MayHaveExternalID, external_id, no_external_id, BeginsDoctype, IsDoctype, no_subset, with_subset, SubsetTo}
 use Rattle.rox_grammar.specs.Doctype as dtd
-use Rattle.rox_grammar.specs.Due.{DueItem, a_byte, a_space, a_quote, a_name, a_definition, subset_or_end, doctype_end, IsMissing, no_quote, no_definition, no_end, ends_before, DueInXmlDecl, DueInLiteral, its_quote, its_end, DueInExternalID, space_before, its_literal, space_between, second_literal, DueInEntity, DueInDoctype}
+use Rattle.rox_grammar.specs.Due.{DueItem, a_byte, a_name, IsMissing, ends_before, DueInXmlDecl, DueInLiteral, its_quote, its_end, DueInExternalID, space_before, its_literal, space_between, second_literal, DueInEntity, DueInDoctype, none_of}
+use Rattle.rox_faults.proofs.DueForms.{a_space, a_quote, a_definition, subset_or_end, doctype_end, quote_is, quote_defines, letter_defines, subset_or_end_is, end_is}
 use Rattle.rox_grammar.specs.Due as due
 use Rattle.rox_grammar.specs.Faults.{in_one, one_too_many}
 use Rattle.rox_grammar.specs.FaultsWithDoctype.{NoItem, InDoctype, head_lacks, no_name, not_passed, in_entity, entity_open, entity_cut, in_answer, end_lacks, unknown, no_root, in_subset, in_miscs}
@@ -37,7 +38,7 @@ use Rattle.rox_faults.proofs.FaultLimits.{IsOver, nodes_over}
 
 -- a quote that is due and stands there
 quote_stands : (src : List ℕ) (i : ℕ) (f : Fault) → (byte src i ≡ 39) ⊎ (byte src i ≡ 34) → IsMissing src i a_quote f → ⊥
-quote_stands src i f is (no_quote below no_single no_double) = elim is as (λ _. ⊥) [ inl s ↦ no_single s | inr d ↦ no_double d ]
+quote_stands src i f is (none_of _ below none) = true≢false (sym (quote_is (byte src i) is) ∙ none)
 quote_stands src i f is (ends_before _ byte' past) = let some = (quote_ascii (byte src i) is) in let l = within src i (λ z. omega arith) in absurd (omega arith)
 
 -- the text of an answer that gives one has no fault in its declaration
@@ -112,11 +113,10 @@ module _ (src : List ℕ) (utf8 : IsUtf8 src) where
 
   -- a definition that is due and stands there
   definition_stands : (i j : ℕ) (parameter : Bool) (asked : List Asked) (text : Option Replacement) (f : Fault) → IsDefinition src parameter i j asked text → IsMissing src i a_definition f → ⊥
-  definition_stands i j parameter asked text f (internal _ e _ q) (no_definition below no_double no_single no_s no_p) = elim (q.quote) as (λ _. ⊥) [ inl s ↦ no_single s | inr d ↦ no_double d ]
+  definition_stands i j parameter asked text f (internal _ e _ q) (none_of _ below none) = true≢false (sym (quote_defines (byte src i) q.quote) ∙ none)
   definition_stands i j parameter asked text f (internal _ e _ q) (due.IsMissing.no_external_id which no_system no_public) = letter_no_quote i which q.quote
   definition_stands i j parameter asked text f (internal _ e _ q) (ends_before _ byte' past) = let some = (quote_ascii (byte src i) q.quote) in let l = within src i (λ z. omega arith) in absurd (omega arith)
-  definition_stands i j parameter asked text f (external _ n _ request answer _ is may gives) (no_definition below no_double no_single no_s no_p) =
-      elim (external_byte src i request n is) as (λ _. ⊥) [ inl s ↦ no_s s | inr p ↦ no_p p ]
+  definition_stands i j parameter asked text f (external _ n _ request answer _ is may gives) (none_of _ below none) = true≢false (sym (letter_defines (byte src i) (external_byte src i request n is)) ∙ none)
   definition_stands i j parameter asked text f (external _ n _ request answer _ (system _ s e _ is sp q) may gives) (due.IsMissing.no_external_id which no_system no_public) = true≢false (sym is ∙ no_system)
   definition_stands i j parameter asked text f (external _ n _ request answer _ (public _ s d k v e _ is sp q sp' q') may gives) (due.IsMissing.no_external_id which no_system no_public) = true≢false (sym is ∙ no_public)
   definition_stands i j parameter asked text f (external _ n _ request answer _ is may gives) (ends_before _ byte' past) = let l = (external_cut src i request n utf8 is).2 in absurd (omega arith)
@@ -239,7 +239,7 @@ module _ (src : List ℕ) (utf8 : IsUtf8 src) where
   head_apart i s p t f b ends (due.DueInDoctype.its_end _ b') lack = lack_apart f (subst (λ (p : ℕ). IsMissing src p subset_or_end f) (doctype_once src utf8 i p s b' b).2 lack)
     where
       lack_apart : (f : Fault) → IsMissing src s subset_or_end f → ⊥
-      lack_apart f (due.IsMissing.no_subset below no_bracket no_close) = elim ends as (λ _. ⊥) [ inl c ↦ no_close c | inr o ↦ no_bracket o ]
+      lack_apart f (none_of _ below none) = true≢false (sym (subset_or_end_is (byte src s) ends) ∙ none)
       lack_apart f (ends_before _ byte' past) = elim ends as (λ _. ⊥) [ inl c ↦ (let l = within src s (λ z. omega arith) in omega arith) | inr o ↦ (let l = within src s (λ z. omega arith) in omega arith) ]
 
   -- how one begins
@@ -338,7 +338,7 @@ module _ (src : List ℕ) (utf8 : IsUtf8 src) where
           (false_from_ne_true _ (λ is. absurd (let l = entity_less src p is in omega arith)))
 
       lack_apart : (p : ℕ) (f : Fault) → IsMissing src p doctype_end f → byte src p ≡ 62 → ⊥
-      lack_apart p f (no_end below no_close) closes = no_close closes
+      lack_apart p f (none_of _ below none) closes = true≢false (sym (end_is (byte src p) closes) ∙ none)
       lack_apart p f (ends_before _ byte' past) closes = let l = within src p (λ z. omega arith) in absurd (omega arith)
   in_doctype_apart W limit i j before nodes after asked given es source f is few same (in_subset p items _ _ _ _ to fits (unknown none inside)) =
       let c = closed_there i j p items nodes asked given [] es is to (subst (λ (a : List Asked). SameAnswers a given) (sym (append-nil asked)) same) in

@@ -22,7 +22,8 @@ use Rattle.rox_grammar.specs.WellNamed.{may_declare, is_known, same_expanded, Is
 use Rattle.rox_grammar.proofs.NamesApart.{DeclarableBehind, DistinctBehind, declarable_behind, distinct_behind}
 use Rattle.rox_grammar.specs.Document.{with_new, distinct_pairs, most_attributes, most_pairs}
 use Rattle.rox_grammar.specs.State.{State, scope_of, attributes_so_far, pairs_so_far}
-use Rattle.rox_grammar.specs.Due.{DueItem, a_byte, a_space, IsMissing, ends_before, DueInPair}
+use Rattle.rox_grammar.specs.Due.{DueItem, a_byte, IsMissing, ends_before, DueInPair}
+use Rattle.rox_faults.proofs.DueForms.{a_space}
 use Rattle.rox_grammar.specs.ContentPoints.{TagTo}
 use Rattle.rox_grammar.specs.Faults.{IllDeclared, other_uri, uri_of_xml, uri_of_xmlns, again, IllNamed, unknown_attribute, twice, unknown_element, InTag, no_name, xmlns_prefix, cut, cut_in_replacement, no_rest, not_closed, in_pair, ill_declared, too_many_pairs, too_many_attributes, ill_named, in_rest}
 use Rattle.rox_grammar.specs.Faults as faults

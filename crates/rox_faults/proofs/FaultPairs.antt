@@ -11,7 +11,8 @@ use Rattle.rox_grammar.specs.Names.{byte, spaces_end, IsQName}
 use Rattle.rox_grammar.specs.FixedTexts.{word_text, at}
 use Rattle.rox_grammar.specs.Constructs.{AreChars, IsEq, IsLiteral, IsPair, IsGap, some_space, MayBePair, is_pair, no_pair, MayEndPair, is_last, no_last, IsXmlDecl}
 use Rattle.rox_grammar.specs.Constructs as constructs
-use Rattle.rox_grammar.specs.Due.{DueItem, a_byte, a_quote, a_gap, a_word, chars_to, IsMissing, no_quote, no_gap, ends_before, DueInPair, its_name, equals, opening, its_value, closing, value_end, PairBegins, version, encoding, standalone, DueInXmlDecl, its_version, in_pair, behind_pair}
+use Rattle.rox_grammar.specs.Due.{DueItem, a_byte, a_gap, a_word, chars_to, IsMissing, no_gap, ends_before, DueInPair, its_name, equals, opening, its_value, closing, value_end, PairBegins, version, encoding, standalone, DueInXmlDecl, its_version, in_pair, behind_pair, none_of}
+use Rattle.rox_faults.proofs.DueForms.{a_quote, quote_is}
 use Rattle.rox_grammar.specs.Due as due
 use Rattle.rox_reading.specs.Lexical.{qname_at}
 use Rattle.rox_reading.specs.Markup.{pair_at, pair_if}
@@ -34,8 +35,7 @@ one_qname src i m n x y a b =
 
 -- a quote that is due and stands there
 quote_stands : (src : List ℕ) (q : ℕ) (f : Fault) → (byte src q ≡ 39) ⊎ (byte src q ≡ 34) → IsMissing src q a_quote f → ⊥
-quote_stands src q f (inl is) (no_quote inside no_one no_two) = no_one is
-quote_stands src q f (inr is) (no_quote inside no_one no_two) = no_two is
+quote_stands src q f is (none_of _ inside none) = true≢false (sym (quote_is (byte src q) is) ∙ none)
 quote_stands src q f (inl is) (ends_before _ byte' past) = let l = within src q (λ z. omega arith) in absurd (omega arith)
 quote_stands src q f (inr is) (ends_before _ byte' past) = let l = within src q (λ z. omega arith) in absurd (omega arith)
 

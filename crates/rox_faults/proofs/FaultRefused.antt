@@ -20,7 +20,7 @@ use Rattle.rox_grammar.specs.Document.{Misc, no_misc, MayHaveDoctype, PrologTo}
 use Rattle.rox_grammar.specs.Document as document
 use Rattle.rox_grammar.specs.State.{root, FitsLimits}
 use Rattle.rox_grammar.specs.ContentPoints.{is_main, PrologWithDoctype}
-use Rattle.rox_grammar.specs.Faults.{InMisc, FaultFrom, in_one, misc_ahead, one_too_many}
+use Rattle.rox_grammar.specs.Faults.{in_one, misc_ahead, one_too_many}
 use Rattle.rox_grammar.specs.FaultsWithDoctype.{opens_at, RefusalOf, FaultOf, in_declaration, without, not_allowed, in_doctype, behind}
 use Rattle.rox_grammar.specs.FaultsWithDoctype as rows
 use Rattle.rox_reading.specs.Refusals.{Refusal, here, there, refused, lifted}

@@ -20,7 +20,7 @@ use Rattle.rox_grammar.specs.Names.{byte, slice, spaces_end, IsName, IsQName, un
 use Rattle.rox_grammar.specs.Constructs.{double_dash, has_mark, AreChars}
 use Rattle.rox_grammar.specs.References.{is_digit, is_hex_digit, number, bytes_end, character}
 use Rattle.rox_grammar.specs.Entities.{Replacement, Entity, text_of}
-use Rattle.rox_grammar.specs.Due.{DueItem, a_byte, a_word, a_qname, a_name, chars_to, IsMissing, no_name, DueInComment, DueInPI, DueInCData, DueInEnd}
+use Rattle.rox_grammar.specs.Due.{DueItem, a_byte, a_word, a_qname, a_name, chars_to, IsMissing, no_name, DueInText, DueInPI, DueInEnd}
 use Rattle.rox_grammar.specs.Due as due
 use Rattle.rox_grammar.specs.Faults.{SpanIs, spelled, InMisc, comment_lacks, double_dashes, a_declaration, instruction_lacks, InReferences, malformed, undeclared}
 use Rattle.rox_reading.specs.Lexical.{byte_at, string_at, chars_up_to, text_to, qname_at, name_at}
@@ -116,8 +116,8 @@ module _ (src : List ℕ) (utf8 : IsUtf8 src) where
       let cut = subst (IsCharBoundary src) three (behind word.CommentStart src i 3 45 utf8 opens (omega arith) refl (omega arith) (omega arith)) in
       bind_err (text_to word.CommentEnd src (i + 4)) _ f h
       (λ bad. elim (text_fails word.CommentEnd 45 (45 ∷ 62 ∷ []) src (i + 4) f refl (omega arith) utf8 cut bad) as (λ s. InMisc src i f) [
-        | inl ill ↦ comment_lacks (i + 4) (chars_to (first word.CommentEnd src (i + 4))) f (due.DueInComment.its_text opens) ill
-        | inr none ↦ comment_lacks (first word.CommentEnd src (i + 4)) (a_word word.CommentEnd) f (due.DueInComment.its_end opens none.0) none.1
+        | inl ill ↦ comment_lacks (i + 4) (chars_to (first word.CommentEnd src (i + 4))) f opens due.DueInText.its_chars ill
+        | inr none ↦ comment_lacks (first word.CommentEnd src (i + 4)) (a_word word.CommentEnd) f opens (due.DueInText.its_end none.0) none.1
       ])
       (λ text read h.
       let s = text_sound word.CommentEnd src (i + 4) text utf8 read in
@@ -139,14 +139,14 @@ module _ (src : List ℕ) (utf8 : IsUtf8 src) where
       chosen (at word.XmlDeclStart src i) _ _ _ h
       (λ declares h. let is : fault.UnexpectedDeclaration i ≡ f = cc in subst (InMisc src i) is (a_declaration declares))
       (λ none h. bind_err (name_at src (i + 2)) _ f h
-      (λ bad. instruction_lacks (i + 2) a_name f none (due.DueInPI.its_target opens) (name_fails (i + 2) f bad))
+      (λ bad. instruction_lacks (i + 2) a_name f opens none due.DueInPI.its_target (name_fails (i + 2) f bad))
       (λ name read h.
       let target = (name_sound src (i + 2) name read).0 in
       let v = spaces_end src name.1 in
       bind_err (text_to word.PIEnd src v) _ f h
       (λ bad. elim (text_fails word.PIEnd 63 (62 ∷ []) src v f refl (omega arith) utf8 (value_cut i name.1 opens target) bad) as (λ s. InMisc src i f) [
-        | inl ill ↦ instruction_lacks v (chars_to (first word.PIEnd src v)) f none (due.DueInPI.its_value name.1 opens target) ill
-        | inr lacks ↦ instruction_lacks (first word.PIEnd src v) (a_word word.PIEnd) f none (due.DueInPI.its_end name.1 opens target lacks.0) lacks.1
+        | inl ill ↦ instruction_lacks v (chars_to (first word.PIEnd src v)) f opens none (due.DueInPI.its_value name.1 _ _ target due.DueInText.its_chars) ill
+        | inr lacks ↦ instruction_lacks (first word.PIEnd src v) (a_word word.PIEnd) f opens none (due.DueInPI.its_value name.1 _ _ target (due.DueInText.its_end lacks.0)) lacks.1
       ])
       (λ value read h. no_fault _ f h)))
     where
@@ -164,14 +164,14 @@ module _ (src : List ℕ) (utf8 : IsUtf8 src) where
           run_cut is_space src n utf8 (subst (IsCharBoundary src) (sym target.longest) (run_cut is_name_char src (i + 2) utf8 cut))
 
   -- a CDATA section
-  pub section_fails : (i : ℕ) (f : Fault) → at word.CDataStart src i ≡ true → cdata_at src i ≡ Err f → (p : ℕ) × (t : DueItem) × DueInCData src i p t × IsMissing src p t f
+  pub section_fails : (i : ℕ) (f : Fault) → at word.CDataStart src i ≡ true → cdata_at src i ≡ Err f → (p : ℕ) × (t : DueItem) × DueInText word.CDataEnd src (i + 9) p t × IsMissing src p t f
   unfolding cdata_at
   section_fails i f opens h =
       let eight : i + 8 + 1 ≡ i + 9 = omega arith in
       let cut = subst (IsCharBoundary src) eight (behind word.CDataStart src i 8 91 utf8 opens (omega arith) refl (omega arith) (omega arith)) in
-      elim (text_fails word.CDataEnd 93 (93 ∷ 62 ∷ []) src (i + 9) f refl (omega arith) utf8 cut h) as (λ s. (p : ℕ) × (t : DueItem) × DueInCData src i p t × IsMissing src p t f) [
-        | inl ill ↦ (i + 9, chars_to (first word.CDataEnd src (i + 9)), due.DueInCData.its_text opens, ill)
-        | inr none ↦ (first word.CDataEnd src (i + 9), a_word word.CDataEnd, due.DueInCData.its_end opens none.0, none.1)
+      elim (text_fails word.CDataEnd 93 (93 ∷ 62 ∷ []) src (i + 9) f refl (omega arith) utf8 cut h) as (λ s. (p : ℕ) × (t : DueItem) × DueInText word.CDataEnd src (i + 9) p t × IsMissing src p t f) [
+        | inl ill ↦ (i + 9, chars_to (first word.CDataEnd src (i + 9)), due.DueInText.its_chars, ill)
+        | inr none ↦ (first word.CDataEnd src (i + 9), a_word word.CDataEnd, due.DueInText.its_end none.0, none.1)
       ]
 
   -- an end tag

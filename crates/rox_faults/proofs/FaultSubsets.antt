@@ -19,7 +19,8 @@ use Rattle.rox_grammar.specs.TextStart.{after_bom}
 use Rattle.rox_grammar.specs.Entities.{Replacement, Entity}
 use Rattle.rox_grammar.specs.Doctype.{Request, Asked, IsDefinition, internal, external, IsPassedOver, Subset, no_more, space, an_item, skipped_declaration, an_entity, BeginsDoctype, IsDoctype, no_subset, with_subset, entry, SubsetTo}
 use Rattle.rox_grammar.specs.State.{root, nodes_so_far, FitsLimits}
-use Rattle.rox_grammar.specs.Due.{DueItem, a_byte, doctype_end, subset_or_end, IsMissing, no_end, ends_before, DueInXmlDecl}
+use Rattle.rox_grammar.specs.Due.{DueItem, a_byte, IsMissing, ends_before, DueInXmlDecl}
+use Rattle.rox_faults.proofs.DueForms.{doctype_end, subset_or_end, no_end, no_subset_or_end}
 use Rattle.rox_grammar.specs.Due as dues
 use Rattle.rox_grammar.specs.Faults.{in_one, one_too_many}
 use Rattle.rox_grammar.specs.FaultsWithDoctype.{IsPassed, NoItem, InDoctype, head_lacks, no_name, not_passed, in_entity, entity_open, entity_cut, in_answer, end_lacks, unknown, in_subset, in_miscs}
@@ -503,5 +504,5 @@ module _ (src : List ℕ) (utf8 : IsUtf8 src) (limit most : ℕ) (less : limit �
       (record { items = Nil; read = no_more (head.1 + 1); state_is = ap (λ (f : Forest Item). state (head.1 + 1) f root 255) (sym (join-nil before)); solid = solid_behind src (head.1 + 1) head.1 91 refl bracket refl })
       (cut_behind src head.1 91 utf8 bracket (omega arith) (omega arith)) (fine_there most (state i before root 255) (state (head.1 + 1) before root 255) refl refl fine) texts (omega arith))
       (λ neither. head_lacks head.1 subset_or_end (fault.InvalidChar2 due.SubsetOrEnd (byte src head.1) head.1) (dues.DueInDoctype.its_end head.1 begins)
-      (dues.IsMissing.no_subset below (eqb-false _ _ neither) (eqb-false _ _ other))))))
+      (no_subset_or_end below (eqb-false _ _ neither) (eqb-false _ _ other))))))
       (λ f ill. let w = doctype_head_fails src i f ill in head_lacks w.0 w.1 f w.2 w.3)

@@ -27,7 +27,8 @@ use Rattle.rox_grammar.specs.Entities.{Entity, most_deep}
 use Rattle.rox_grammar.specs.State as grammar
 use Rattle.rox_grammar.specs.State.{Open, root, State, scope_of, attributes_so_far, pairs_so_far}
 use Rattle.rox_grammar.specs.OpenElements.{tree_so_far}
-use Rattle.rox_grammar.specs.Due.{DueItem, a_byte, a_quote, a_qname, chars_to, tag_rest, IsMissing, no_space, no_quote, ends_before, DueInPair, its_name, equals, opening, its_value, closing, value_end}
+use Rattle.rox_grammar.specs.Due.{DueItem, a_byte, a_qname, chars_to, tag_rest, IsMissing, ends_before, DueInPair, its_name, equals, opening, its_value, closing, value_end}
+use Rattle.rox_faults.proofs.DueForms.{a_quote, no_space, no_quote}
 use Rattle.rox_grammar.specs.ContentPoints.{is_main, TagTo}
 use Rattle.rox_grammar.specs.Faults.{SpanIs, cut_off, IllDeclared, other_uri, uri_of_xml, uri_of_xmlns, again, IllNamed, unknown_attribute, twice, unknown_element, InTag, no_name, xmlns_prefix, cut, cut_in_replacement, no_rest, not_closed, in_pair, ill_declared, too_many_pairs, too_many_attributes, ill_named, in_rest}
 use Rattle.rox_grammar.specs.Faults as faults

@@ -27,7 +27,8 @@ use Rattle.rox_grammar.specs.Document.{Misc, no_misc, space, an_item, PrologTo}
 use Rattle.rox_grammar.specs.State.{root, nodes_so_far, FitsLimits}
 use Rattle.rox_reading.specs.Refusals.{Refusal, here, there, refused, lifted}
 use Rattle.rox_reading.specs.State.{State}
-use Rattle.rox_grammar.specs.Due.{DueItem, a_byte, a_quote, a_qname, a_gap, a_word, chars_to, IsMissing, no_gap, DueInPair, its_name, equals, opening, its_value, closing, value_end, PairBegins, version, encoding, standalone, DueInXmlDecl, its_version, in_pair, behind_pair}
+use Rattle.rox_grammar.specs.Due.{DueItem, a_byte, a_qname, a_gap, a_word, chars_to, IsMissing, no_gap, DueInPair, its_name, equals, opening, its_value, closing, value_end, PairBegins, version, encoding, standalone, DueInXmlDecl, its_version, in_pair, behind_pair}
+use Rattle.rox_faults.proofs.DueForms.{a_quote}
 use Rattle.rox_grammar.specs.Due as dues
 use Rattle.rox_grammar.specs.ContentPoints.{is_main, Behind, begins, of_root}
 use Rattle.rox_grammar.specs.Faults.{InMisc, no_root, unknown_ahead, unknown_behind, in_one, misc_ahead, misc_behind, one_too_many}

@@ -1,5 +1,6 @@
 pub mod NameSpans
 pub mod FaultLimits
+pub mod DueForms
 pub mod FaultRows
 pub mod StateCounts
 pub mod FaultPoints

@@ -6,7 +6,7 @@ use Rattle.rox_grammar.specs.Forest.{Forest, Nil, Cons, join}
 use Rattle.rox_grammar.specs.Written.{Name, Attribute, NamespaceDecl, Tag, Item, Element, namespace_decls_of, merge, leaf}
 use Rattle.rox_grammar.specs.Tree.{listed, listable_of}
 use Rattle.rox_grammar.specs.Names.{byte, slice, spaces_end, IsQName}
-use Rattle.rox_grammar.specs.Constructs.{text_at, IsCData, IsEnd, IsEq, IsLiteral}
+use Rattle.rox_grammar.specs.Constructs.{text_at, IsCData, IsEnd, IsPair}
 use Rattle.rox_grammar.specs.Content.{Inclusion, DataByte, piece, section, Part, Parts, IsCharacterData, Value, Attributes, IsTag, IsMisc, IsElement}
 use Rattle.rox_grammar.specs.WellNamed.{AreDeclarable, IsWellNamed, AreWellNamed}
 use Rattle.rox_grammar.specs.References.{IsReference, predefined}
@@ -137,17 +137,12 @@ pub record TagTo (main : Bool) (Includes : Inclusion) (src : List ℕ) (s : Stat
   pub declarable : AreDeclarable (namespace_decls_of written)
   pub few_pairs : pairs_with (distinct_pairs (pairs (tree_so_far s.stack s.done))) (namespace_decls_of written) ≤ most_pairs
 
--- the value of the next attribute or declaration of the start tag at a place stands behind the quote at v, up to the quote at e, where
--- c openings are left
-pub record BeginsValue (k : ℕ) (Includes : Inclusion) (src : List ℕ) (s : State) (b v e c : ℕ) : Type 0 where
+-- the next attribute or declaration of the start tag at a place stands there, but for what its value has, where c openings are left
+pub record BeginsValue (k : ℕ) (Includes : Inclusion) (src : List ℕ) (s : State) (b c : ℕ) : Type 0 where
   pub begins : TagBegins src s.at (is_content k s.stack)
   pub p : ℕ
   pub written : List Attribute
   pub to : TagTo (is_main k) Includes src s p b c written
   pub space : p < spaces_end src p
-  pub name : Name
-  pub n : ℕ
-  pub is_name : IsQName src (spaces_end src p) name n
-  pub eq : IsEq src n v
   pub j : ℕ
-  pub literal : IsLiteral src v e j
+  pub pair : IsPair src (spaces_end src p) j

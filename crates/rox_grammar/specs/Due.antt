@@ -3,17 +3,18 @@ use Prim.Native.Char.{code}
 use Rattle.std.specs.Prelude.{◌≡◌, ◌≢◌, ◌⊎◌, ℕ, ◌+◌, ◌<◌, ◌≤◌, ◌==◌, ◌||◌, Bool, true, false, List, length, take, codes}
 use Rattle.rox_grammar.specs.declared.fault.Word.{Word}
 use Rattle.rox_grammar.specs.declared.fault.Word.TheVariants as word
+use Rattle.rox_grammar.specs.declared.fault.Due.{Due}
 use Rattle.rox_grammar.specs.declared.fault.Due.TheVariants as due
 use Rattle.rox_grammar.specs.declared.fault.Fault.{Fault}
 use Rattle.rox_grammar.specs.declared.fault.Fault.TheVariants as fault
 use Rattle.rox_grammar.specs.Chars.{is_space, is_char}
-use Rattle.rox_grammar.specs.FixedTexts.{at}
+use Rattle.rox_grammar.specs.FixedTexts.{at, first}
 use Rattle.rox_grammar.specs.Runs.{run_end, StandsAt}
 use Rattle.rox_grammar.specs.Search.{byte_from}
 use Rattle.rox_grammar.specs.Written.{Name}
 use Rattle.rox_grammar.specs.Names.{byte, spaces_end, IsName, IsQName}
 use Rattle.rox_grammar.specs.Doctype.{Request, IsQuoted, IsSpace, IsExternalID, IsKind, BeginsEntity, BeginsDoctype}
-use Rattle.rox_grammar.specs.Constructs.{text_at, first_text, AreChars, IsEq, IsPair, MayBePair, MayEndPair}
+use Rattle.rox_grammar.specs.Constructs.{text_at, AreChars, IsEq, IsPair, MayBePair, MayEndPair}
 
 -- what a construct can go on with
 pub data DueItem : Type 0 where
@@ -21,31 +22,30 @@ pub data DueItem : Type 0 where
   a_qname : DueItem
   a_byte : ℕ → DueItem
   a_word : Word → DueItem
-  a_space : DueItem
-  a_quote : DueItem
+  -- a byte of this kind
+  one_of : Due → DueItem
   -- white space, `?>` or the end
   a_gap : DueItem
   -- Chars up to this place
   chars_to : ℕ → DueItem
   -- white space and more of a tag
   tag_rest : DueItem
-  -- `[` or `>` of a document type declaration
-  subset_or_end : DueItem
-  -- its `>` behind the subset
-  doctype_end : DueItem
-  -- a literal or an external id of an entity
-  a_definition : DueItem
 
 -- it is looked for byte by byte, so that at the end of the text there is none
 abbrev pub takes_byte : DueItem → Bool
 takes_byte (a_byte b) = true
-takes_byte a_space = true
-takes_byte a_quote = true
+takes_byte (one_of kind) = true
 takes_byte tag_rest = true
-takes_byte subset_or_end = true
-takes_byte doctype_end = true
-takes_byte a_definition = true
 takes_byte other = false
+
+-- the bytes that each kind stands for: of a document type declaration, whose subset may follow, and which ends behind it, and of
+-- an entity, which a literal or an external id defines
+abbrev pub is_of : Due → ℕ → Bool
+is_of due.Space b = is_space b
+is_of due.Quote b = b == code "'" || b == code "\""
+is_of due.SubsetOrEnd b = b == code "[" || b == code ">"
+is_of due.End b = b == code ">"
+is_of due.EntityDefinition b = (b == code "'" || b == code "\"") || (b == code "S" || b == code "P")
 
 -- the thing is due at p, does not stand there, and this is the fault
 pub data IsMissing (src : List ℕ) (p : ℕ) : DueItem → Fault → Type 0 where
@@ -53,34 +53,23 @@ pub data IsMissing (src : List ℕ) (p : ℕ) : DueItem → Fault → Type 0 whe
   no_qname : ((name : Name) (j : ℕ) → IsQName src p name j → ⊥) → IsMissing src p a_qname (fault.InvalidName p)
   other_byte : (b : ℕ) → p < length src → byte src p ≢ b → IsMissing src p (a_byte b) (fault.InvalidChar b (byte src p) p)
   other_word : (w : Word) → at w src p ≡ false → IsMissing src p (a_word w) (fault.InvalidString w p)
-  no_space : p < length src → is_space (byte src p) ≡ false → IsMissing src p a_space (fault.InvalidChar2 due.Space (byte src p) p)
-  no_quote : p < length src → byte src p ≢ code "'" → byte src p ≢ code "\"" → IsMissing src p a_quote (fault.InvalidChar2 due.Quote (byte src p) p)
+  none_of : (kind : Due) → p < length src → is_of kind (byte src p) ≡ false → IsMissing src p (one_of kind) (fault.InvalidChar2 kind (byte src p) p)
   no_gap : p < length src → is_space (byte src p) ≡ false → text_at "?>" src p ≡ false → IsMissing src p a_gap (fault.InvalidChar2 due.Space (byte src p) p)
   -- XML 2.2 [2]: the longest stretch of Chars ends at q, before e, with this character
   no_char : (e q c : ℕ) → q ≡ run_end is_char (take e src) p → q < e → StandsAt c src q → is_char c ≡ false → IsMissing src p (chars_to e) (fault.NonXmlChar c q)
-  no_subset : p < length src → byte src p ≢ code "[" → byte src p ≢ code ">" → IsMissing src p subset_or_end (fault.InvalidChar2 due.SubsetOrEnd (byte src p) p)
-  no_end : p < length src → byte src p ≢ code ">" → IsMissing src p doctype_end (fault.InvalidChar2 due.End (byte src p) p)
-  no_definition : p < length src → byte src p ≢ code "\"" → byte src p ≢ code "'" → byte src p ≢ code "S" → byte src p ≢ code "P" → IsMissing src p a_definition (fault.InvalidChar2 due.EntityDefinition (byte src p) p)
   -- `S` or `P`
-  no_external_id : (byte src p ≡ code "S") ⊎ (byte src p ≡ code "P") → text_at "SYSTEM" src p ≡ false → text_at "PUBLIC" src p ≡ false → IsMissing src p a_definition (fault.InvalidExternalID p)
+  no_external_id : (byte src p ≡ code "S") ⊎ (byte src p ≡ code "P") → text_at "SYSTEM" src p ≡ false → text_at "PUBLIC" src p ≡ false → IsMissing src p (one_of due.EntityDefinition) (fault.InvalidExternalID p)
   ends_before : (t : DueItem) → takes_byte t ≡ true → length src ≤ p → IsMissing src p t fault.UnexpectedEndOfStream
 
--- XML 2.5 [15]: in the comment that begins at i
-pub data DueInComment (src : List ℕ) (i : ℕ) : ℕ → DueItem → Type 0 where
-  its_text : text_at "<!--" src i ≡ true → DueInComment src i (i + 4) (chars_to (first_text "-->" src (i + 4)))
-  its_end : text_at "<!--" src i ≡ true → AreChars src (i + 4) (first_text "-->" src (i + 4)) → DueInComment src i (first_text "-->" src (i + 4)) (a_word word.CommentEnd)
+-- XML 2.5 [15], 2.6 [16], 2.7 [18]: in the text of a comment, processing instruction or CDATA section, from s up to where this stands
+pub data DueInText (end : Word) (src : List ℕ) (s : ℕ) : ℕ → DueItem → Type 0 where
+  its_chars : DueInText end src s s (chars_to (first end src s))
+  its_end : AreChars src s (first end src s) → DueInText end src s (first end src s) (a_word end)
 
 -- XML 2.6 [16]: in the processing instruction that begins at i
 pub data DueInPI (src : List ℕ) (i : ℕ) : ℕ → DueItem → Type 0 where
-  its_target : text_at "<?" src i ≡ true → DueInPI src i (i + 2) a_name
-  its_value : (n : ℕ) → text_at "<?" src i ≡ true → IsName src (i + 2) n → DueInPI src i (spaces_end src n) (chars_to (first_text "?>" src (spaces_end src n)))
-  its_end : (n : ℕ) → text_at "<?" src i ≡ true → IsName src (i + 2) n → AreChars src (spaces_end src n) (first_text "?>" src (spaces_end src n))
-      → DueInPI src i (first_text "?>" src (spaces_end src n)) (a_word word.PIEnd)
-
--- XML 2.7 [18]: in the CDATA section that begins at i
-pub data DueInCData (src : List ℕ) (i : ℕ) : ℕ → DueItem → Type 0 where
-  its_text : text_at "<![CDATA[" src i ≡ true → DueInCData src i (i + 9) (chars_to (first_text "]]>" src (i + 9)))
-  its_end : text_at "<![CDATA[" src i ≡ true → AreChars src (i + 9) (first_text "]]>" src (i + 9)) → DueInCData src i (first_text "]]>" src (i + 9)) (a_word word.CDataEnd)
+  its_target : DueInPI src i (i + 2) a_name
+  its_value : (n p : ℕ) (t : DueItem) → IsName src (i + 2) n → DueInText word.PIEnd src (spaces_end src n) p t → DueInPI src i p t
 
 -- XML 3.1 [42]: in the end tag that begins at i
 pub data DueInEnd (src : List ℕ) (i : ℕ) : ℕ → DueItem → Type 0 where
@@ -95,7 +84,7 @@ value_end src v = byte_from (λ c. c == byte src v || c == code "<") src (v + 1)
 pub data DueInPair (src : List ℕ) (i : ℕ) : ℕ → DueItem → Type 0 where
   its_name : DueInPair src i i a_qname
   equals : (name : Name) (n : ℕ) → IsQName src i name n → DueInPair src i (spaces_end src n) (a_byte (code "="))
-  opening : (name : Name) (n v : ℕ) → IsQName src i name n → IsEq src n v → DueInPair src i v a_quote
+  opening : (name : Name) (n v : ℕ) → IsQName src i name n → IsEq src n v → DueInPair src i v (one_of due.Quote)
   its_value : (name : Name) (n v : ℕ) → IsQName src i name n → IsEq src n v → (byte src v ≡ code "'") ⊎ (byte src v ≡ code "\"")
       → DueInPair src i (v + 1) (chars_to (value_end src v))
   -- of a value that no quote ends, its characters are not asked for
@@ -120,35 +109,35 @@ pub data DueInXmlDecl (src : List ℕ) (i : ℕ) : ℕ → DueItem → Type 0 wh
 
 -- XML 2.3 [9], [11], [12]: in a literal of any characters but the quote, which begins at i
 pub data DueInLiteral (src : List ℕ) (i : ℕ) : ℕ → DueItem → Type 0 where
-  its_quote : DueInLiteral src i i a_quote
+  its_quote : DueInLiteral src i i (one_of due.Quote)
   its_end : (byte src i ≡ code "'") ⊎ (byte src i ≡ code "\"") → DueInLiteral src i (byte_from (λ c. c == byte src i) src (i + 1)) (a_byte (byte src i))
 
 -- XML 4.2.2 [75]: in the external id that begins at i
 pub data DueInExternalID (src : List ℕ) (i : ℕ) : ℕ → DueItem → Type 0 where
-  space_before : (text_at "SYSTEM" src i ≡ true) ⊎ (text_at "PUBLIC" src i ≡ true) → DueInExternalID src i (i + 6) a_space
+  space_before : (text_at "SYSTEM" src i ≡ true) ⊎ (text_at "PUBLIC" src i ≡ true) → DueInExternalID src i (i + 6) (one_of due.Space)
   its_literal : (s p : ℕ) (t : DueItem) → (text_at "SYSTEM" src i ≡ true) ⊎ (text_at "PUBLIC" src i ≡ true) → IsSpace src (i + 6) s → DueInLiteral src s p t → DueInExternalID src i p t
-  space_between : (s e j : ℕ) → text_at "PUBLIC" src i ≡ true → IsSpace src (i + 6) s → IsQuoted src s e j → DueInExternalID src i j a_space
+  space_between : (s e j : ℕ) → text_at "PUBLIC" src i ≡ true → IsSpace src (i + 6) s → IsQuoted src s e j → DueInExternalID src i j (one_of due.Space)
   second_literal : (s e j v p : ℕ) (t : DueItem) → text_at "PUBLIC" src i ≡ true → IsSpace src (i + 6) s → IsQuoted src s e j → IsSpace src j v → DueInLiteral src v p t → DueInExternalID src i p t
 
 -- XML 4.2 [70]: in the entity declaration that begins at i, up to its definition
 pub data DueInEntity (src : List ℕ) (i : ℕ) : ℕ → DueItem → Type 0 where
-  space_before : DueInEntity src i (i + 8) a_space
-  space_of_kind : (k : ℕ) → IsSpace src (i + 8) k → byte src k ≡ code "%" → DueInEntity src i (k + 1) a_space
+  space_before : DueInEntity src i (i + 8) (one_of due.Space)
+  space_of_kind : (k : ℕ) → IsSpace src (i + 8) k → byte src k ≡ code "%" → DueInEntity src i (k + 1) (one_of due.Space)
   its_name : (k n : ℕ) (parameter : Bool) → IsSpace src (i + 8) k → IsKind src k parameter n → DueInEntity src i n a_name
-  space_behind : (k n m : ℕ) (parameter : Bool) → IsSpace src (i + 8) k → IsKind src k parameter n → IsName src n m → DueInEntity src i m a_space
-  its_definition : (parameter : Bool) (n m d : ℕ) → BeginsEntity src i parameter n m d → DueInEntity src i d a_definition
+  space_behind : (k n m : ℕ) (parameter : Bool) → IsSpace src (i + 8) k → IsKind src k parameter n → IsName src n m → DueInEntity src i m (one_of due.Space)
+  its_definition : (parameter : Bool) (n m d : ℕ) → BeginsEntity src i parameter n m d → DueInEntity src i d (one_of due.EntityDefinition)
   its_literal : (parameter : Bool) (n m d p : ℕ) (t : DueItem) → BeginsEntity src i parameter n m d → (byte src d ≡ code "'") ⊎ (byte src d ≡ code "\"") → DueInLiteral src d p t → DueInEntity src i p t
   its_external_id : (parameter : Bool) (n m d p : ℕ) (t : DueItem) → BeginsEntity src i parameter n m d → DueInExternalID src d p t → DueInEntity src i p t
   space_of_notation : (n m d e : ℕ) (request : Request) → BeginsEntity src i false n m d → IsExternalID src d request e → text_at "NDATA" src (spaces_end src e) ≡ true
-      → DueInEntity src i (spaces_end src e + 5) a_space
+      → DueInEntity src i (spaces_end src e + 5) (one_of due.Space)
   -- at the end of the text it is not asked for
   its_notation : (n m d e s : ℕ) (request : Request) → BeginsEntity src i false n m d → IsExternalID src d request e → text_at "NDATA" src (spaces_end src e) ≡ true
       → IsSpace src (spaces_end src e + 5) s → s < length src → DueInEntity src i s a_name
 
 -- XML 2.8 [28]: in the document type declaration that begins at i, up to its subset
 pub data DueInDoctype (src : List ℕ) (i : ℕ) : ℕ → DueItem → Type 0 where
-  space_before : DueInDoctype src i (i + 9) a_space
+  space_before : DueInDoctype src i (i + 9) (one_of due.Space)
   -- at the end of the text it is not asked for
   its_name : (n : ℕ) → IsSpace src (i + 9) n → n < length src → DueInDoctype src i n a_name
   its_external_id : (n m p : ℕ) (t : DueItem) → IsSpace src (i + 9) n → IsName src n m → DueInExternalID src (spaces_end src m) p t → DueInDoctype src i p t
-  its_end : (s : ℕ) → BeginsDoctype src i s → DueInDoctype src i s subset_or_end
+  its_end : (s : ℕ) → BeginsDoctype src i s → DueInDoctype src i s (one_of due.SubsetOrEnd)

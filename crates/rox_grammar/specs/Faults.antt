@@ -3,6 +3,8 @@ use Prim.Native.Char.{code}
 use Rattle.std.specs.Prelude.{◌≡◌, ◌≢◌, ◌⊎◌, ℕ, ◌+◌, ◌-◌, ◌<◌, ◌≤◌, ◌==◌, Bool, true, false, List, [], ◌∷◌, ◌++◌, None, length, bytes_eq, if◌then◌else◌, codes}
 use Rattle.std.specs.List.{list_any}
 use Rattle.rox_grammar.specs.declared.fault.Span.{Span}
+use Rattle.rox_grammar.specs.declared.fault.Word.TheVariants as word
+use Rattle.rox_grammar.specs.declared.fault.Due.TheVariants as due
 use Rattle.rox_grammar.specs.declared.fault.Fault.{Fault}
 use Rattle.rox_grammar.specs.declared.fault.Fault.TheVariants as fault
 use Rattle.rox_grammar.specs.Chars.{is_space, is_char}
@@ -19,7 +21,7 @@ use Rattle.rox_grammar.specs.WellNamed.{may_declare, is_known, same_expanded, Ar
 use Rattle.rox_grammar.specs.Entities.{Replacement, Entity, text_of}
 use Rattle.rox_grammar.specs.Document.{pairs, distinct_pairs, attribute_count, most_attributes, most_pairs}
 use Rattle.rox_grammar.specs.OpenElements.{Open, root, inside, State, depth_of, scope_of, tree_so_far, FitsLimits, HasTooManyNodes}
-use Rattle.rox_grammar.specs.Due.{DueItem, a_byte, a_space, a_qname, chars_to, tag_rest, IsMissing, DueInComment, DueInPI, DueInCData, DueInEnd, DueInPair}
+use Rattle.rox_grammar.specs.Due.{DueItem, a_byte, a_qname, one_of, chars_to, tag_rest, IsMissing, DueInText, DueInPI, DueInEnd, DueInPair}
 use Rattle.rox_grammar.specs.ContentPoints.{RootBegins, Behind, is_content, is_main, TagBegins, StepsOver, PartsTo, RefersTo, IsSpent, ContentPoint, ValuePart, TagTo, pairs_with, BeginsValue}
 
 -- the bytes of a name as it is written, without the colon if there is no prefix
@@ -32,12 +34,12 @@ SpanIs src span bytes = slice src span.start span.end ≡ bytes
 
 -- ---- in a comment or a processing instruction that begins at i
 pub data InMisc (src : List ℕ) (i : ℕ) : Fault → Type 0 where
-  comment_lacks : (p : ℕ) (t : DueItem) (f : Fault) → DueInComment src i p t → IsMissing src p t f → InMisc src i f
+  comment_lacks : (p : ℕ) (t : DueItem) (f : Fault) → text_at "<!--" src i ≡ true → DueInText word.CommentEnd src (i + 4) p t → IsMissing src p t f → InMisc src i f
   -- two dashes in the text, or one at its end
   double_dashes : (e : ℕ) → text_at "<!--" src i ≡ true → e ≡ first_text "-->" src (i + 4) → AreChars src (i + 4) e → text_at "-->" src e ≡ true
       → (has_mark double_dash (slice src (i + 4) e) ≡ true) ⊎ (byte (slice src (i + 4) e) (length (slice src (i + 4) e) - 1) ≡ code "-") → InMisc src i (fault.InvalidComment i)
   a_declaration : text_at "<?xml " src i ≡ true → InMisc src i (fault.UnexpectedDeclaration i)
-  instruction_lacks : (p : ℕ) (t : DueItem) (f : Fault) → text_at "<?xml " src i ≡ false → DueInPI src i p t → IsMissing src p t f → InMisc src i f
+  instruction_lacks : (p : ℕ) (t : DueItem) (f : Fault) → text_at "<?" src i ≡ true → text_at "<?xml " src i ≡ false → DueInPI src i p t → IsMissing src p t f → InMisc src i f
 
 -- ---- in comments and processing instructions outside the root element, which are read up to p, with these nodes before it
 pub data InMiscs (limit : ℕ) (src : List ℕ) (p : ℕ) (items : Forest Item) : Fault → Type 0 where
@@ -101,7 +103,7 @@ pub data InTagRest (main : Bool) (Includes : Inclusion) (src : List ℕ) (s : St
   cut_in_replacement : length src ≤ p → main ≡ false → InTagRest main Includes src s name as' p c fault.UnexpectedEndOfStream
   -- white space up to the end
   no_rest : (f : Fault) → p < length src → IsMissing src (spaces_end src p) tag_rest f → InTagRest main Includes src s name as' p c f
-  no_space : (f : Fault) → p < length src → byte src p ≢ code "/" → byte src p ≢ code ">" → IsMissing src p a_space f
+  no_space : (f : Fault) → p < length src → byte src p ≢ code "/" → byte src p ≢ code ">" → IsMissing src p (one_of due.Space) f
       → InTagRest main Includes src s name as' p c f
   -- `/` without `>`
   not_closed : (f : Fault) → byte src (spaces_end src p) ≡ code "/" → IsMissing src (spaces_end src p + 1) (a_byte (code ">")) f
@@ -147,7 +149,7 @@ pub data InEnd (open_around : ℕ) (src : List ℕ) (s : State) : Fault → Type
 -- ---- at a place
 pub data Stands (limit : ℕ) (es : List Entity) (k open_around : ℕ) (Includes : Inclusion) (src : List ℕ) (s : State) (b : ℕ) : Fault → Type 0 where
   in_run : (f : Fault) → is_content k s.stack ≡ true → s.at < length src → byte src s.at ≢ code "<" → InRun es k Includes src s.at b f → Stands limit es k open_around Includes src s b f
-  in_section : (p : ℕ) (t : DueItem) (f : Fault) → is_content k s.stack ≡ true → DueInCData src s.at p t → IsMissing src p t f → Stands limit es k open_around Includes src s b f
+  in_section : (p : ℕ) (t : DueItem) (f : Fault) → is_content k s.stack ≡ true → text_at "<![CDATA[" src s.at ≡ true → DueInText word.CDataEnd src (s.at + 9) p t → IsMissing src p t f → Stands limit es k open_around Includes src s b f
   in_misc : (f : Fault) → is_content k s.stack ≡ true → InMisc src s.at f → Stands limit es k open_around Includes src s b f
   in_tag : (f : Fault) → TagBegins src s.at (is_content k s.stack) → InTag (is_main k) Includes src s b f → Stands limit es k open_around Includes src s b f
   in_end : (f : Fault) → is_content k s.stack ≡ true → InEnd open_around src s f → Stands limit es k open_around Includes src s b f
@@ -167,8 +169,8 @@ pub data Stands (limit : ℕ) (es : List Entity) (k open_around : ℕ) (Includes
 pub data AtPoint (opens : ℕ → Inclusion) (es : List Entity) (limit k open_around : ℕ) (src : List ℕ) (s : State) (b : ℕ) : List ℕ → Fault → Type 0 where
   at_place : (f : Fault) → Stands limit es k open_around (opens k) src s b f → AtPoint opens es limit k open_around src s b src f
   -- in the value of an attribute or a declaration of the start tag here, or in a replacement text that is opened in it
-  in_value : (v e c l i stop d : ℕ) (part : List ℕ) (f : Fault) → BeginsValue k (opens k) src s b v e c
-      → ValuePart opens es k src (v + 1) e c l part i stop d → InValue es l (opens l) part i stop d f → AtPoint opens es limit k open_around src s b part f
+  in_value : (c l i stop d : ℕ) (part : List ℕ) (f : Fault) (value : BeginsValue k (opens k) src s b c)
+      → ValuePart opens es k src (value.pair.v + 1) value.pair.e c l part i stop d → InValue es l (opens l) part i stop d f → AtPoint opens es limit k open_around src s b part f
 
 -- Of this text, with at most `limit` nodes, the fault stands in this source, in the part that begins where `Front` says what
 -- stands before: before the root element, in it, or behind it. All before it is as the grammar wants and within the limits.

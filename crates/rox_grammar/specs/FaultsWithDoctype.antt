@@ -2,6 +2,7 @@
 -- text, or what a resolver answered. What was asked until then is a part of it.
 use Prim.Native.Char.{code}
 use Rattle.std.specs.Prelude.{◌≡◌, ◌≢◌, ◌⊎◌, ℕ, ◌+◌, ◌-◌, ◌<◌, ◌≤◌, ◌==◌, Bool, true, false, List, [], ◌∷◌, ◌++◌, Option, Some, length, IsUtf8}
+use Rattle.rox_grammar.specs.declared.fault.Due.TheVariants as due
 use Rattle.rox_grammar.specs.declared.fault.Fault.{Fault}
 use Rattle.rox_grammar.specs.declared.fault.Fault.TheVariants as fault
 use Rattle.rox_grammar.specs.Chars.{is_space}
@@ -15,7 +16,7 @@ use Rattle.rox_grammar.specs.TextStart.{after_bom}
 use Rattle.rox_grammar.specs.Entities.{Replacement, Entity, most_deep, no_entities, Includes}
 use Rattle.rox_grammar.specs.Doctype.{Request, Asked, IsSpace, IsExternalID, MayHaveNotation, CutsNotation, GivesReplacement, IsDefinition, BeginsEntity, SubsetTo}
 use Rattle.rox_grammar.specs.OpenElements.{root, FitsLimits}
-use Rattle.rox_grammar.specs.Due.{DueItem, a_byte, doctype_end, IsMissing, DueInXmlDecl, DueInEntity, DueInDoctype}
+use Rattle.rox_grammar.specs.Due.{DueItem, a_byte, one_of, IsMissing, DueInXmlDecl, DueInEntity, DueInDoctype}
 use Rattle.rox_grammar.specs.ContentPoints.{PrologWithDoctype, is_main}
 use Rattle.rox_grammar.specs.Document.{PrologTo}
 use Rattle.rox_grammar.specs.Faults.{InMiscs, FaultFrom}
@@ -54,7 +55,7 @@ pub data InSubset (limit : ℕ) (src : List ℕ) (i p : ℕ) (items : Forest Ite
       → IsExternalID src d request e → MayHaveNotation src parameter e j ⊎ CutsNotation src parameter e j → IsUtf8 answer
       → text_at "<?xml " answer (after_bom answer) ≡ true → DueInXmlDecl answer (after_bom answer) q t → IsMissing answer q t f
       → InSubset limit src i p items asked (asked ++ record { request = request; answer = Some answer } ∷ []) answer f
-  end_lacks : (f : Fault) → byte src p ≡ code "]" → IsMissing src (spaces_end src (p + 1)) doctype_end f → InSubset limit src i p items asked asked src f
+  end_lacks : (f : Fault) → byte src p ≡ code "]" → IsMissing src (spaces_end src (p + 1)) (one_of due.End) f → InSubset limit src i p items asked asked src f
   -- anything else, or the end behind white space
   unknown : NoItem src p → (p < length src) ⊎ (is_space (byte src (p - 1)) ≡ true) → InSubset limit src i p items asked asked src (fault.UnknownToken p)
 

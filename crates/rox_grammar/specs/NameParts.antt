@@ -1,5 +1,5 @@
 -- Names as they are written, compared, and where their parts stand.
-use Rattle.std.specs.Prelude.{ℕ, ◌+◌, ◌-◌, Bool, ◌&&◌, List, bytes_eq, length}
+use Rattle.std.specs.Prelude.{ℕ, ◌+◌, ◌-◌, Bool, ◌&&◌, bytes_eq, length}
 use Rattle.rox_grammar.specs.declared.fault.Span.{Span}
 use Rattle.rox_grammar.specs.Written.{Name}
 

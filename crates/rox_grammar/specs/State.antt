@@ -1,7 +1,7 @@
 -- How much is read so far, with what is open, as it is counted from left to right.
 use Rattle.std.specs.Prelude.{ℕ, ◌+◌, Bool, true, false, List, ◌++◌, length}
 use Rattle.rox_grammar.specs.Forest.{Forest, size}
-use Rattle.rox_grammar.specs.Written.{NamespaceDecl, Tag, Item, merge}
+use Rattle.rox_grammar.specs.Written.{NamespaceDecl, Item, merge}
 use Rattle.rox_grammar.specs.Document.{listable, pairs, attribute_count}
 pub use Rattle.rox_grammar.specs.OpenElements.{Open, root, inside, State, depth_of, scope_of, FitsLimits}
 

@@ -6,6 +6,7 @@ use Rattle.std.specs.Str.{IsUtf8, IsCharBoundary}
 use Rattle.std.proofs.lemmas.Bool.{cases_Bool}
 use Rattle.rox_grammar.specs.declared.fault.Word.{Word}
 use Rattle.rox_grammar.specs.declared.fault.Word.TheVariants as word
+use Rattle.rox_grammar.specs.declared.fault.Due.TheVariants as kinds
 use Rattle.rox_grammar.specs.declared.fault.Fault.{Fault}
 use Rattle.rox_grammar.specs.Chars.{is_space, is_name_start, is_name_char}
 use Rattle.rox_grammar.specs.Runs.{StandsAt}
@@ -20,7 +21,7 @@ use Rattle.rox_grammar.specs.Content.{Inclusion, Attributes}
 use Rattle.rox_grammar.specs.Content as content
 use Rattle.rox_grammar.specs.Entities.{Entity}
 use Rattle.rox_grammar.specs.State.{Open, root, inside, State}
-use Rattle.rox_grammar.specs.Due.{DueItem, a_name, a_qname, a_byte, a_word, a_space, a_quote, a_gap, chars_to, tag_rest, subset_or_end, doctype_end, a_definition, IsMissing, DueInComment, DueInPI, DueInCData, DueInEnd, DueInPair, PairBegins, DueInXmlDecl}
+use Rattle.rox_grammar.specs.Due.{DueItem, a_name, a_qname, a_byte, a_word, one_of, a_gap, chars_to, tag_rest, IsMissing, DueInText, DueInPI, DueInEnd, DueInPair, PairBegins, DueInXmlDecl}
 use Rattle.rox_grammar.specs.Due as due
 use Rattle.rox_grammar.specs.ContentPoints.{TagBegins, of_root, in_content}
 use Rattle.rox_grammar.specs.Faults.{InMisc, InReferences, InRun, InValue, IllDeclared, IllNamed, cut_off, InTag, InEnd, Stands, FaultFrom}
@@ -77,35 +78,28 @@ Fits src a_name p = p ≤ length src
 Fits src a_qname p = p ≤ length src
 Fits src (a_word w) p = p ≤ length src
 Fits src (a_byte b) p = Unit {0}
-Fits src a_space p = Unit {0}
-Fits src a_quote p = Unit {0}
+Fits src (one_of kind) p = Unit {0}
 Fits src a_gap p = Unit {0}
 Fits src (chars_to e) p = Unit {0}
 Fits src tag_rest p = Unit {0}
-Fits src subset_or_end p = Unit {0}
-Fits src doctype_end p = Unit {0}
-Fits src a_definition p = Unit {0}
 
 lacks_placed : (src : List ℕ) (p : ℕ) (t : DueItem) (f : Fault) → Fits src t p → IsMissing src p t f → IsPlaced src f
 lacks_placed src p t f fits (due.IsMissing.no_name none) = fits
 lacks_placed src p t f fits (due.IsMissing.no_qname none) = fits
 lacks_placed src p t f fits (due.IsMissing.other_byte b there other) = omega arith
 lacks_placed src p t f fits (due.IsMissing.other_word w none) = fits
-lacks_placed src p t f fits (due.IsMissing.no_space there none) = omega arith
-lacks_placed src p t f fits (due.IsMissing.no_quote there no_apos no_quot) = omega arith
+lacks_placed src p t f fits (due.IsMissing.none_of kind there none) = omega arith
 lacks_placed src p t f fits (due.IsMissing.no_gap there none no_end) = omega arith
 lacks_placed src p t f fits (due.IsMissing.no_char e q c ends before is bad) = let there = char_within c src q is in omega arith
-lacks_placed src p t f fits (due.IsMissing.no_subset there no_open no_close) = omega arith
-lacks_placed src p t f fits (due.IsMissing.no_end there none) = omega arith
-lacks_placed src p t f fits (due.IsMissing.no_definition there a b c d) = omega arith
 lacks_placed src p t f fits (due.IsMissing.no_external_id (inl is) no_system no_public) = let there = within src p (λ z. omega arith) in omega arith
 lacks_placed src p t f fits (due.IsMissing.no_external_id (inr is) no_system no_public) = let there = within src p (λ z. omega arith) in omega arith
 lacks_placed src p t f fits (due.IsMissing.ends_before _ by_byte end) = tt
 
 module _ (src : List ℕ) (utf8 : IsUtf8 src) where
-  comment_fits : (i p : ℕ) (t : DueItem) → DueInComment src i p t → Fits src t p
-  comment_fits i p t (due.DueInComment.its_text opens) = tt
-  comment_fits i p t (due.DueInComment.its_end opens chars) = first_le word.CommentEnd src (i + 4) (stands_fits (word_text word.CommentStart) src i (omega arith) opens)
+  -- in a text that begins within the source
+  text_fits : (w : Word) (s p : ℕ) (t : DueItem) → s ≤ length src → DueInText w src s p t → Fits src t p
+  text_fits w s p t inside due.DueInText.its_chars = tt
+  text_fits w s p t inside (due.DueInText.its_end chars) = first_le w src s inside
 
   -- behind the name of an instruction, and the white space there
   spaces_inside : (i n : ℕ) → at word.PIStart src i ≡ true → IsName src (i + 2) n → spaces_end src n ≤ length src
@@ -116,14 +110,9 @@ module _ (src : List ℕ) (utf8 : IsUtf8 src) where
       let ends = subst (IsCharBoundary src) (sym is.longest) (run_cut is_name_char src (i + 2) utf8 starts) in
       (run_cut is_space src n utf8 ends).0
 
-  instruction_fits : (i p : ℕ) (t : DueItem) → DueInPI src i p t → Fits src t p
-  instruction_fits i p t (due.DueInPI.its_target opens) = stands_fits (word_text word.PIStart) src i (omega arith) opens
-  instruction_fits i p t (due.DueInPI.its_value n opens is) = tt
-  instruction_fits i p t (due.DueInPI.its_end n opens is chars) = first_le word.PIEnd src (spaces_end src n) (spaces_inside i n opens is)
-
-  section_fits : (i p : ℕ) (t : DueItem) → DueInCData src i p t → Fits src t p
-  section_fits i p t (due.DueInCData.its_text opens) = tt
-  section_fits i p t (due.DueInCData.its_end opens chars) = first_le word.CDataEnd src (i + 9) (stands_fits (word_text word.CDataStart) src i (omega arith) opens)
+  instruction_fits : (i p : ℕ) (t : DueItem) → at word.PIStart src i ≡ true → DueInPI src i p t → Fits src t p
+  instruction_fits i p t opens due.DueInPI.its_target = stands_fits (word_text word.PIStart) src i (omega arith) opens
+  instruction_fits i p t opens (due.DueInPI.its_value n _ _ is value) = text_fits word.PIEnd (spaces_end src n) p t (spaces_inside i n opens is) value
 
   end_fits : (i p : ℕ) (t : DueItem) → DueInEnd src i p t → Fits src t p
   end_fits i p t (due.DueInEnd.its_name opens) = stands_fits (word_text word.EndTagStart) src i (omega arith) opens
@@ -181,10 +170,11 @@ module _ (src : List ℕ) (utf8 : IsUtf8 src) where
   -- ---- the rows of content
 
   misc_placed : (i : ℕ) (f : Fault) → InMisc src i f → IsPlaced src f
-  misc_placed i f (rows.InMisc.comment_lacks p t _ is lacks) = lacks_placed src p t f (comment_fits i p t is) lacks
+  misc_placed i f (rows.InMisc.comment_lacks p t _ opens is lacks) =
+      lacks_placed src p t f (text_fits word.CommentEnd (i + 4) p t (stands_fits (word_text word.CommentStart) src i (omega arith) opens) is) lacks
   misc_placed i f (rows.InMisc.double_dashes e opens ends chars closes dashes) = let two = (comment_bytes src i opens).0 in omega arith
   misc_placed i f (rows.InMisc.a_declaration opens) = let two = (instruction_bytes src i (declaration_bytes src i opens)).0 in omega arith
-  misc_placed i f (rows.InMisc.instruction_lacks p t _ none is lacks) = lacks_placed src p t f (instruction_fits i p t is) lacks
+  misc_placed i f (rows.InMisc.instruction_lacks p t _ opens none is lacks) = lacks_placed src p t f (instruction_fits i p t opens is) lacks
 
   references_placed : (es : List Entity) (p : ℕ) (f : Fault) → InReferences es src p f → IsPlaced src f
   references_placed es p f (rows.InReferences.malformed amp no_character no_reference) = let there = within src p (λ z. omega arith) in omega arith
@@ -250,7 +240,7 @@ module _ (src : List ℕ) (utf8 : IsUtf8 src) where
   tag_placed main O s b f le (rows.InTag.in_rest p c as' _ to (rows.InTagRest.cut past in_main)) = cut_placed s.stack
   tag_placed main O s b f le (rows.InTag.in_rest p c as' _ to (rows.InTagRest.cut_in_replacement past inner)) = tt
   tag_placed main O s b f le (rows.InTag.in_rest p c as' _ to (rows.InTagRest.no_rest _ before lacks)) = lacks_placed src (spaces_end src p) tag_rest f tt lacks
-  tag_placed main O s b f le (rows.InTag.in_rest p c as' _ to (rows.InTagRest.no_space _ before no_slash no_end lacks)) = lacks_placed src p a_space f tt lacks
+  tag_placed main O s b f le (rows.InTag.in_rest p c as' _ to (rows.InTagRest.no_space _ before no_slash no_end lacks)) = lacks_placed src p (one_of kinds.Space) f tt lacks
   tag_placed main O s b f le (rows.InTag.in_rest p c as' _ to (rows.InTagRest.not_closed _ slash lacks)) = lacks_placed src (spaces_end src p + 1) (a_byte 62) f tt lacks
   tag_placed main O s b f le (rows.InTag.in_rest p c as' _ to (rows.InTagRest.in_pair q t _ space before no_slash no_end is lacks)) = lacks_placed src q t f (pair_fits (spaces_end src p) q t (omega arith) is) lacks
   tag_placed main O s b f le (rows.InTag.in_rest p c as' _ to (rows.InTagRest.ill_declared d j a _ space is declares ill)) =
@@ -272,7 +262,8 @@ module _ (src : List ℕ) (utf8 : IsUtf8 src) where
 
   pub stands_placed : (limit : ℕ) (es : List Entity) (k open_around : ℕ) (O : Inclusion) (s : State) (b : ℕ) (f : Fault) → Stands limit es k open_around O src s b f → IsPlaced src f
   stands_placed limit es k open_around O s b f (rows.Stands.in_run _ inner before no_less ill) = run_placed es k O s.at b f before ill
-  stands_placed limit es k open_around O s b f (rows.Stands.in_section p t _ inner is lacks) = lacks_placed src p t f (section_fits s.at p t is) lacks
+  stands_placed limit es k open_around O s b f (rows.Stands.in_section p t _ inner opens is lacks) =
+      lacks_placed src p t f (text_fits word.CDataEnd (s.at + 9) p t (stands_fits (word_text word.CDataStart) src s.at (omega arith) opens) is) lacks
   stands_placed limit es k open_around O s b f (rows.Stands.in_misc _ inner ill) = misc_placed s.at f ill
   stands_placed limit es k open_around O s b f (rows.Stands.in_tag _ begins ill) = tag_placed _ O s b f (begins_less s.at _ begins) ill
   stands_placed limit es k open_around O s b f (rows.Stands.in_end _ inner ill) = end_placed open_around s f ill
