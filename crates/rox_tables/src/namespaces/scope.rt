@@ -95,9 +95,9 @@ fn place_of_long(namespaces: &[Namespace<'_>], places: &[u16], prefix: &str) -> 
     None
 }
 
-/// The first of these places whose namespace has this prefix. It is in line, as it is short for short ones, which most are: so
-/// nothing has to be kept while another function runs.
-#[inline(always)]
+/// The first of these places whose namespace has this prefix. It is out of line: in line it would make what reads an attribute so
+/// large that the compiler put that out of line, which most attributes would pay for.
+#[inline(never)]
 fn place_of_prefix(namespaces: &[Namespace<'_>], places: &[u16], prefix: &str) -> Option<u16>
     requires { ArePlaces (length namespaces.now) places.now }
     ensures { FindsPlace namespaces.now places.now (Some prefix.now) result }

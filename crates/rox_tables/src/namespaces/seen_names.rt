@@ -100,8 +100,9 @@ impl SeenNames {
         came
     }
 
-    /// Puts the names of the attributes of the tag there, and those alone, if they have no codes yet.
-    #[inline(always)]
+    /// Puts the names of the attributes of the tag there, and those alone, if they have no codes yet. It is out of line, so that what
+    /// reads an attribute stays small enough to be in line.
+    #[inline(never)]
     pub(crate) fn put_few(&mut self, attributes: &AttributeTable<'_>)
         requires { AreSeen self.old (attribute_rows attributes.now) }
         ensures coded { HaveCodes self.new (attribute_rows attributes.now) }
