@@ -14,7 +14,8 @@ use Rattle.rox_grammar.specs.Content.{Inclusion, IsElement}
 use Rattle.rox_grammar.specs.TextStart.{after_bom, MayHaveXmlDecl, declared, not_declared}
 use Rattle.rox_grammar.specs.Entities.{Entity, no_entities, most_deep}
 use Rattle.rox_grammar.specs.Doctype.{Asked}
-use Rattle.rox_grammar.specs.Document.{Misc, no_misc, an_item, no_doctype, ParseOf, IsWithinLimits, PrologTo}
+use Rattle.rox_grammar.specs.Document.{Misc, no_misc, an_item, ParseOf, IsWithinLimits, PrologTo}
+use Rattle.rox_theory.specs.ParseParts.{no_doctype}
 use Rattle.rox_grammar.specs.State as grammar
 use Rattle.rox_grammar.specs.State.{root, nodes_so_far, FitsLimits}
 use Rattle.rox_grammar.specs.ContentPoints.{is_main, RootBegins, Behind, ContentPoint}

@@ -11,18 +11,8 @@ use Rattle.rox_grammar.specs.Content.{Inclusion, DataByte, piece, section, Part,
 use Rattle.rox_grammar.specs.WellNamed.{AreDeclarable, IsWellNamed, AreWellNamed}
 use Rattle.rox_grammar.specs.References.{IsReference, predefined}
 use Rattle.rox_grammar.specs.Entities.{Replacement, Entity, text_of, most_within, most_deep}
-use Rattle.rox_grammar.specs.Doctype.{Asked}
-use Rattle.rox_grammar.specs.Document.{Misc, PrologTo, MayHaveDoctype, pairs, with_new, distinct_pairs, most_pairs}
+use Rattle.rox_grammar.specs.Document.{Misc, pairs, with_new, distinct_pairs, most_pairs}
 use Rattle.rox_grammar.specs.OpenElements.{Open, root, inside, State, depth_of, scope_of, tree_so_far}
-
--- the same with a document type declaration, up to the root element: with what is asked for its entities, and the entities
-pub record PrologWithDoctype (text : List ℕ) (asked : List Asked) (es : List Entity) (p : ℕ) (items : Forest Item) : Type 0 where
-  pub begun : ℕ
-  pub before : Forest Item
-  pub ahead : PrologTo text begun before
-  pub nodes : Forest Item
-  pub doctype : MayHaveDoctype text begun p true nodes asked es
-  pub all : items ≡ join before nodes
 
 -- the `<` of the root element: of no comment, processing instruction or document type declaration. Behind a document type
 -- declaration no other may stand, so there `<!DOCTYPE` is read as a start tag.
