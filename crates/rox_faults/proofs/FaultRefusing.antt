@@ -15,11 +15,11 @@ use Rattle.rox_grammar.specs.FixedTexts.{at}
 use Rattle.rox_grammar.specs.Content.{Inclusion, Value, Content}
 use Rattle.rox_grammar.specs.Entities.{Replacement, Entity, text_of, Spends, no_entities, Includes, most_deep, included_in_main}
 use Rattle.rox_grammar.specs.Doctype.{Asked, IsDoctype}
-use Rattle.rox_grammar.specs.Document.{Misc, no_misc, an_item, ParseOf, IsWithinLimits, Permits, PrologTo}
+use Rattle.rox_grammar.specs.Document.{Behind, Misc, no_misc, an_item, ParseOf, IsWithinLimits, Permits, PrologTo}
 use Rattle.rox_theory.specs.ParseParts.{MayHaveDoctype, doctype, no_doctype}
 use Rattle.rox_grammar.specs.State as grammar
 use Rattle.rox_grammar.specs.State.{root}
-use Rattle.rox_grammar.specs.ContentPoints.{is_main, Behind, MayOpen, RootBegins, ContentPoint, begins, goes, enters}
+use Rattle.rox_grammar.specs.ContentPoints.{is_main, MayOpen, RootBegins, ContentPoint, begins, goes, enters}
 use Rattle.rox_grammar.specs.Faults.{FaultFrom, no_root, unknown_ahead, at_place, in_value, unknown_behind, in_one, misc_ahead, misc_behind, one_too_many, at_point}
 use Rattle.rox_grammar.specs.FaultsWithDoctype.{InDoctype, opens_at, RefusalOf, in_declaration, without, not_allowed, in_doctype, behind}
 use Rattle.rox_reading.specs.WholeText.{prolog}
@@ -108,7 +108,7 @@ module _ (limit : ℕ) (src : List ℕ) (utf8 : IsUtf8 src) (given : List Asked)
   no_root_begins q items ahead root_begins =
       no_root_here q items ahead (record { no_space = no_spaces src q root_begins.opens; no_comment = root_begins.no_comment; no_instruction = root_begins.no_instruction }) (root_begins.no_doctype refl)
 
-  no_root_behind : (q : ℕ) (items : Forest Item) → Behind (λ k. no_entities) src (PrologTo src) q items → ⊥
+  no_root_behind : (q : ℕ) (items : Forest Item) → Behind no_entities src (PrologTo src) q items → ⊥
   no_root_behind q items back =
       let there = element_stops true no_entities src back.start back.end 255 back.openings_left back.one back.element in
       no_root_here back.start back.before back.ahead there.2 there.1

@@ -22,39 +22,42 @@ parts_prolog src p dtd items asked es a = subst (λ (f : Forest Item). Prolog sr
 
 abbrev pub parts : (src : List ℕ) (dtd : Bool) (asked : List Asked) (tree : Forest Item) → ParseOf src dtd asked tree → ParseParts src dtd asked tree
 parts src dtd asked tree p =
-    let a = prolog_parts src p.start dtd p.before asked p.entities p.prolog in
+    let b = p.whole in
+    let a = prolog_parts src b.start dtd b.before asked p.entities b.ahead in
     record {
       begun = a.begun;
       before = a.before;
       prolog = a.ahead;
-      start = p.start;
+      start = b.start;
       nodes = a.nodes;
       entities = p.entities;
       doctype = a.doctype;
-      end = p.end;
-      openings_left = p.openings_left;
-      one = p.one;
-      element = p.element;
-      after = p.after;
-      misc_after = p.misc_after;
-      is_tree = p.is_tree ∙ ap (λ (f : Forest Item). join f (join p.one p.after)) a.all ∙ join_assoc a.before a.nodes (join p.one p.after);
-      well_named = p.well_named;
+      end = b.end;
+      openings_left = b.openings_left;
+      one = b.one;
+      element = b.element;
+      after = b.after;
+      misc_after = b.misc;
+      is_tree = b.all ∙ join_assoc b.before b.one b.after ∙ ap (λ (f : Forest Item). join f (join b.one b.after)) a.all ∙ join_assoc a.before a.nodes (join b.one b.after);
+      well_named = b.well_named;
     }
 
 pub parsed : (src : List ℕ) (dtd : Bool) (asked : List Asked) (tree : Forest Item) → ParseParts src dtd asked tree → ParseOf src dtd asked tree
 parsed src dtd asked tree p =
     record {
-      start = p.start;
-      before = join p.before p.nodes;
       entities = p.entities;
-      prolog = parts_prolog src p.start dtd (join p.before p.nodes) asked p.entities
-          (record { begun = p.begun; before = p.before; ahead = p.prolog; nodes = p.nodes; doctype = p.doctype; all = refl });
-      end = p.end;
-      openings_left = p.openings_left;
-      one = p.one;
-      element = p.element;
-      after = p.after;
-      misc_after = p.misc_after;
-      is_tree = p.is_tree ∙ sym (join_assoc p.before p.nodes (join p.one p.after));
-      well_named = p.well_named;
+      whole = record {
+        start = p.start;
+        before = join p.before p.nodes;
+        ahead = parts_prolog src p.start dtd (join p.before p.nodes) asked p.entities
+            (record { begun = p.begun; before = p.before; ahead = p.prolog; nodes = p.nodes; doctype = p.doctype; all = refl });
+        end = p.end;
+        openings_left = p.openings_left;
+        one = p.one;
+        element = p.element;
+        after = p.after;
+        misc = p.misc_after;
+        all = p.is_tree ∙ sym (join_assoc p.before p.nodes (join p.one p.after)) ∙ sym (join_assoc (join p.before p.nodes) p.one p.after);
+        well_named = p.well_named;
+      };
     }
