@@ -14,10 +14,11 @@ use Rattle.rox_grammar.specs.Content.{Inclusion, IsElement}
 use Rattle.rox_grammar.specs.TextStart.{after_bom, MayHaveXmlDecl, declared, not_declared}
 use Rattle.rox_grammar.specs.Entities.{Entity, no_entities, most_deep}
 use Rattle.rox_grammar.specs.Doctype.{Asked}
-use Rattle.rox_grammar.specs.Document.{Misc, no_misc, an_item, no_doctype, ParseOf, IsWithinLimits, PrologTo}
+use Rattle.rox_grammar.specs.Document.{Behind, Misc, no_misc, an_item, ParseOf, IsWithinLimits, PrologTo}
+use Rattle.rox_theory.specs.ParseParts.{no_doctype}
 use Rattle.rox_grammar.specs.State as grammar
 use Rattle.rox_grammar.specs.State.{root, nodes_so_far, FitsLimits}
-use Rattle.rox_grammar.specs.ContentPoints.{is_main, RootBegins, Behind, ContentPoint}
+use Rattle.rox_grammar.specs.ContentPoints.{is_main, RootBegins, ContentPoint}
 use Rattle.rox_grammar.specs.Faults.{FaultFrom, no_root, unknown_ahead, at_place, in_value, unknown_behind, in_one, misc_ahead, misc_behind, one_too_many, at_point}
 use Rattle.rox_grammar.specs.FaultsWithDoctype.{RefusalOf, FaultOf, without, in_declaration, not_allowed, in_doctype}
 use Rattle.rox_grammar.specs.FaultsWithDoctype as rows
@@ -139,7 +140,7 @@ module _ (opens : ℕ → Inclusion) (es : List Entity) (all : OpensAt opens es)
       misc : Misc text q (length text) rest
       whole : join (join p.before p.one) p.after ≡ join items rest
 
-    behind_rest : (q : ℕ) (items : Forest Item) → Behind opens text Front q items → Rest q items
+    behind_rest : (q : ℕ) (items : Forest Item) → Behind (opens 0) text Front q items → Rest q items
     behind_rest q items behind =
         let there = element_stops true (opens 0) text behind.start behind.end 255 behind.openings_left behind.one behind.element in
         let same = start_there behind.start behind.before behind.ahead there.2 in

@@ -16,10 +16,11 @@ use Rattle.rox_grammar.specs.Content.{IsElement}
 use Rattle.rox_grammar.specs.TextStart.{after_bom}
 use Rattle.rox_grammar.specs.Entities.{Entity, no_entities, Includes, most_deep, included_in_main}
 use Rattle.rox_grammar.specs.Doctype.{Asked, IsDoctype}
-use Rattle.rox_grammar.specs.Document.{Misc, no_misc, MayHaveDoctype, PrologTo}
+use Rattle.rox_grammar.specs.Document.{Misc, no_misc, PrologTo}
+use Rattle.rox_theory.specs.ParseParts.{MayHaveDoctype}
 use Rattle.rox_grammar.specs.Document as document
 use Rattle.rox_grammar.specs.State.{root, FitsLimits}
-use Rattle.rox_grammar.specs.ContentPoints.{is_main, PrologWithDoctype}
+use Rattle.rox_grammar.specs.ContentPoints.{is_main}
 use Rattle.rox_grammar.specs.Faults.{in_one, misc_ahead, one_too_many}
 use Rattle.rox_grammar.specs.FaultsWithDoctype.{opens_at, RefusalOf, FaultOf, in_declaration, without, not_allowed, in_doctype, behind}
 use Rattle.rox_grammar.specs.FaultsWithDoctype as rows
@@ -43,6 +44,9 @@ use Rattle.rox_theory.proofs.FailedReadings.{bind_err, no_fault}
 use Rattle.rox_faults.proofs.FaultPoints.{Refuses, From, fine_fits}
 use Rattle.rox_faults.proofs.FaultWhole.{misc_append, misc_stops, declaration_fails, misc_fails, ahead_on, body_fails, finished_fails, no_texts, plain_values, plain_contents, plain_elements}
 use Rattle.rox_faults.proofs.FaultSubsets.{nothing_by, asks_by, Stands, Ended, closed, cut_off, Outcome, doctype_ends}
+use Rattle.rox_grammar.specs.Document.{Prolog}
+use Rattle.rox_theory.specs.ParseParts as parts_of
+use Rattle.rox_theory.proofs.ParseParts.{prolog_parts, parts_prolog}
 
 -- what asks nothing, and may fail in any source
 result_by : {A B : Type 0} (P : Asks B → Type 0) (r : Result A Refusal) (g : A → Asks B) → ((x : A) → r ≡ Ok x → P (g x)) → ((e : Refusal) → r ≡ Err e → P ([], Err e)) → P (asks_nothing r >>> g)
@@ -68,21 +72,27 @@ contents_at limit es texts d k deep =
 -- more of what stands behind a document type declaration
 doctype_on : (src : List ℕ) (utf8 : IsUtf8 src) (asked : List Asked) (es : List Entity) (i p q : ℕ) (dtd : Bool) (nodes items : Forest Item) → dtd ≡ true → MayHaveDoctype src i p dtd nodes asked es → Misc src p q items
     → MayHaveDoctype src i q true (join nodes items) asked es
-doctype_on src utf8 asked es i p q dtd nodes items is (document.MayHaveDoctype.doctype _ j _ front others _ _ one rest) more =
+doctype_on src utf8 asked es i p q dtd nodes items is (parts_of.MayHaveDoctype.doctype _ j _ front others _ _ one rest) more =
     subst (λ (f : Forest Item). MayHaveDoctype src i q true f asked es) (sym (join_assoc front others items))
-    (document.MayHaveDoctype.doctype i j q front (join others items) asked es one (misc_append src utf8 j p q others items rest more))
-doctype_on src utf8 asked es i p q dtd nodes items is (document.MayHaveDoctype.no_doctype _) more = cc is
+    (parts_of.MayHaveDoctype.doctype i j q front (join others items) asked es one (misc_append src utf8 j p q others items rest more))
+doctype_on src utf8 asked es i p q dtd nodes items is (parts_of.MayHaveDoctype.no_doctype _) more = cc is
 
-pub declared_on : (src : List ℕ) (utf8 : IsUtf8 src) (asked : List Asked) (es : List Entity) (p q : ℕ) (done items : Forest Item) → PrologWithDoctype src asked es p done → Misc src p q items → PrologWithDoctype src asked es q (join done items)
-declared_on src utf8 asked es p q done items a more =
-    record {
+-- what stands before the root element, with a document type declaration
+abbrev pub Declared : List ℕ → List Asked → List Entity → ℕ → Forest Item → Type 0
+Declared src asked es p items = Prolog src p true items asked es
+
+pub declared_on : (src : List ℕ) (utf8 : IsUtf8 src) (asked : List Asked) (es : List Entity) (p q : ℕ) (done items : Forest Item) → Declared src asked es p done → Misc src p q items → Declared src asked es q (join done items)
+declared_on src utf8 asked es p q done items front more =
+    let a = prolog_parts src p true done asked es front in
+    parts_prolog src q true (join done items) asked es
+    (record {
       begun = a.begun;
       before = a.before;
       ahead = a.ahead;
       nodes = join a.nodes items;
       doctype = doctype_on src utf8 asked es a.begun p q true a.nodes items refl a.doctype more;
       all = ap (λ (f : Forest Item). join f items) a.all ∙ join_assoc a.before a.nodes items;
-    }
+    })
 
 module _ (src : List ℕ) (utf8 : IsUtf8 src) (limit : ℕ) (allow : Bool) where
   -- the refusal stands
@@ -109,7 +119,7 @@ module _ (src : List ℕ) (utf8 : IsUtf8 src) (limit : ℕ) (allow : Bool) where
   plain_refused (refused request p message) ill = tt
 
   -- behind a document type declaration
-  behind_refused : (asked : List Asked) (es : List Entity) → allow ≡ true → (e : Refusal) → Refuses es (From (opens_at es) es limit src true (PrologWithDoctype src asked es)) src e → Refused asked e
+  behind_refused : (asked : List Asked) (es : List Entity) → allow ≡ true → (e : Refusal) → Refuses es (From (opens_at es) es limit src true (Declared src asked es)) src e → Refused asked e
   behind_refused asked es may (here f) ill = behind asked es src f may ill
   behind_refused asked es may (there source f) ill = behind asked es source f may ill.0
   behind_refused asked es may (refused request p message) ill = tt
@@ -194,11 +204,12 @@ module _ (src : List ℕ) (utf8 : IsUtf8 src) (limit : ℕ) (allow : Bool) where
         let less : limit ≤ most = omega arith in
         let least : most ≤ max limit 1 = omega arith in
         let es = e.entities in
-        let Front : ℕ → Forest Item → Type 0 = PrologWithDoctype src asked es in
-        let here' : MayHaveDoctype src i e.state.at true (join items Nil) asked es = document.MayHaveDoctype.doctype i e.state.at e.state.at items Nil asked es is (no_misc e.state.at) in
+        let Front : ℕ → Forest Item → Type 0 = Declared src asked es in
+        let here' : MayHaveDoctype src i e.state.at true (join items Nil) asked es = parts_of.MayHaveDoctype.doctype i e.state.at e.state.at items Nil asked es is (no_misc e.state.at) in
         let texts : AreTexts es = texts_agree src utf8 i e.state.at true (join items Nil) asked es here' in
         let point : Front e.state.at (join before items) =
-        record { begun = i; before = before; ahead = ahead; nodes = join items Nil; doctype = here'; all = ap (λ (f : Forest Item). join before f) (sym (join-nil items)) } in
+        parts_prolog src e.state.at true (join before items) asked es
+        (record { begun = i; before = before; ahead = ahead; nodes = join items Nil; doctype = here'; all = ap (λ (f : Forest Item). join before f) (sym (join-nil items)) }) in
         let on = declared_on src utf8 asked es in
         let fine' : IsValidState most (state e.state.at (join before items) root 255) = subst (IsValidState most) state_is fine in
         let elements : (i j openings_left : ℕ) (one : Forest Item) → IsElement true (included_in_main es) src i j 255 openings_left one → (openings_left' : ℕ) × IsElement true (opens_at es 0) src i j 255 openings_left' one = λ i j openings_left one is. (openings_left, is) in

@@ -15,10 +15,11 @@ use Rattle.rox_grammar.specs.FixedTexts.{at}
 use Rattle.rox_grammar.specs.Content.{Inclusion, Value, Content}
 use Rattle.rox_grammar.specs.Entities.{Replacement, Entity, text_of, Spends, no_entities, Includes, most_deep, included_in_main}
 use Rattle.rox_grammar.specs.Doctype.{Asked, IsDoctype}
-use Rattle.rox_grammar.specs.Document.{Misc, no_misc, an_item, MayHaveDoctype, doctype, no_doctype, ParseOf, IsWithinLimits, Permits, PrologTo}
+use Rattle.rox_grammar.specs.Document.{Behind, Misc, no_misc, an_item, ParseOf, IsWithinLimits, Permits, PrologTo}
+use Rattle.rox_theory.specs.ParseParts.{MayHaveDoctype, doctype, no_doctype}
 use Rattle.rox_grammar.specs.State as grammar
 use Rattle.rox_grammar.specs.State.{root}
-use Rattle.rox_grammar.specs.ContentPoints.{is_main, PrologWithDoctype, Behind, MayOpen, RootBegins, ContentPoint, begins, goes, enters}
+use Rattle.rox_grammar.specs.ContentPoints.{is_main, MayOpen, RootBegins, ContentPoint, begins, goes, enters}
 use Rattle.rox_grammar.specs.Faults.{FaultFrom, no_root, unknown_ahead, at_place, in_value, unknown_behind, in_one, misc_ahead, misc_behind, one_too_many, at_point}
 use Rattle.rox_grammar.specs.FaultsWithDoctype.{InDoctype, opens_at, RefusalOf, in_declaration, without, not_allowed, in_doctype, behind}
 use Rattle.rox_reading.specs.WholeText.{prolog}
@@ -34,13 +35,15 @@ use Rattle.rox_theory.proofs.DoctypeAgreement.{texts_agree}
 use Rattle.rox_theory.proofs.FailedReadings.{ok_one}
 use Rattle.rox_faults.proofs.FaultLimits.{IsOver, nodes_over}
 use Rattle.rox_faults.proofs.FaultWhole.{ahead_on}
-use Rattle.rox_faults.proofs.FaultRefused.{values_at, contents_at, declared_on}
+use Rattle.rox_faults.proofs.FaultRefused.{Declared, values_at, contents_at, declared_on}
 use Rattle.rox_faults.proofs.FaultPairs.{declaration_apart}
 use Rattle.rox_faults.proofs.SubsetFronts.{doctypes_once}
 use Rattle.rox_faults.proofs.FaultInDoctype.{in_doctype_apart}
 use Rattle.rox_faults.proofs.FaultMisc.{misc_front, misc_at, before_end, other_at, one_misc}
 use Rattle.rox_faults.proofs.FaultWay.{OpensAt}
 use Rattle.rox_faults.proofs.FaultNever.{Parsed, never, fault_over, no_doctype_there}
+use Rattle.rox_theory.specs.ParseParts.{ParseParts}
+use Rattle.rox_theory.proofs.ParseParts.{prolog_parts, parts}
 
 -- what stands before a place
 place_front : (opens : ℕ → Inclusion) (es : List Entity) (text : List ℕ) (Root : ℕ → Forest Item → Type 0) (k open_around b : ℕ) (src : List ℕ) (s : grammar.State) → ContentPoint opens es text Root k open_around src b s → (p : ℕ) × (items : Forest Item) × Root p items
@@ -75,13 +78,13 @@ plain_over limit allow src source asked given f tree utf8 (without _ ill) parse 
 plain_over limit allow src source asked given f tree utf8 (not_allowed i before _ ahead fits is) parse = absurd (no_doctype_there limit src given tree i before utf8 ahead is parse)
 plain_over limit allow src source asked given f tree utf8 (in_doctype i before _ _ _ may ahead fits is ill) parse = absurd (no_doctype_there limit src given tree i before utf8 ahead is parse)
 plain_over limit allow src source asked given f tree utf8 (behind _ es _ _ may ill) parse =
-    let front = front_of _ es limit src true (PrologWithDoctype src asked es) source f ill in
-    let a = front.2 in
+    let front = front_of _ es limit src true (Declared src asked es) source f ill in
+    let a = prolog_parts src front.0 true front.1 asked es front.2 in
     absurd (no_doctype_there limit src given tree a.begun a.before utf8 a.ahead (begins_there src a.begun front.0 true a.nodes asked es refl a.doctype) parse)
 
 -- ---- before a document type declaration
 
-module _ (limit : ℕ) (src : List ℕ) (utf8 : IsUtf8 src) (given : List Asked) (tree : Forest Item) (p : ParseOf src true given tree) where
+module _ (limit : ℕ) (src : List ℕ) (utf8 : IsUtf8 src) (given : List Asked) (tree : Forest Item) (p : ParseParts src true given tree) where
   -- it begins where it stands
   begins_here : at word.DoctypeStart src p.begun ≡ true
   begins_here = begins_there src p.begun p.start true p.nodes given p.entities refl p.doctype
@@ -105,7 +108,7 @@ module _ (limit : ℕ) (src : List ℕ) (utf8 : IsUtf8 src) (given : List Asked)
   no_root_begins q items ahead root_begins =
       no_root_here q items ahead (record { no_space = no_spaces src q root_begins.opens; no_comment = root_begins.no_comment; no_instruction = root_begins.no_instruction }) (root_begins.no_doctype refl)
 
-  no_root_behind : (q : ℕ) (items : Forest Item) → Behind (λ k. no_entities) src (PrologTo src) q items → ⊥
+  no_root_behind : (q : ℕ) (items : Forest Item) → Behind no_entities src (PrologTo src) q items → ⊥
   no_root_behind q items back =
       let there = element_stops true no_entities src back.start back.end 255 back.openings_left back.one back.element in
       no_root_here back.start back.before back.ahead there.2 there.1
@@ -207,7 +210,7 @@ module _ (src : List ℕ) (utf8 : IsUtf8 src) where
       let r = misc_front src utf8 k p q more more' (subst (λ (j : ℕ). Misc src j p more) both.0 rest) rest' stops in
       (r.0, r.1, ap (join items') r.2 ∙ ap (λ (f : Forest Item). join f (join more r.0)) (sym both.1) ∙ sym (join_assoc items more r.0), both.3)
 
-module _ (limit : ℕ) (src : List ℕ) (utf8 : IsUtf8 src) (given : List Asked) (tree : Forest Item) (p : ParseOf src true given tree) where
+module _ (limit : ℕ) (src : List ℕ) (utf8 : IsUtf8 src) (given : List Asked) (tree : Forest Item) (p : ParseParts src true given tree) where
   -- what stands before the root element
   abbrev before_root : Forest Item
   before_root = join p.before p.nodes
@@ -232,8 +235,9 @@ module _ (limit : ℕ) (src : List ℕ) (utf8 : IsUtf8 src) (given : List Asked)
 
   module _ (asked : List Asked) (same : SameAnswers asked given) where
     -- what is left up to the root element, and the entities are those of the parse
-    declared_rest : (es : List Entity) (q : ℕ) (items : Forest Item) → PrologWithDoctype src asked es q items → ((rest : Forest Item) × Misc src q p.start rest × (before_root ≡ join items rest)) × (es ≡ p.entities)
-    declared_rest es q items a =
+    declared_rest : (es : List Entity) (q : ℕ) (items : Forest Item) → Declared src asked es q items → ((rest : Forest Item) × Misc src q p.start rest × (before_root ≡ join items rest)) × (es ≡ p.entities)
+    declared_rest es q items front =
+        let a = prolog_parts src q true items asked es front in
         let begun = one_misc src utf8 a.ahead.declared_to p.prolog.declared_to a.begun p.begun a.before p.before (one_declaration limit src utf8 given tree p a.ahead.declared_to a.ahead.declaration) a.ahead.misc
         (doctype_stops src a.begun (begins_there src a.begun q true a.nodes asked es refl a.doctype)) p.prolog.misc (doctype_stops src p.begun (begins_here limit src utf8 given tree p)) in
         let r = doctype_front src utf8 a.begun p.begun q p.start true true a.nodes p.nodes asked given es p.entities refl refl begun.0 same a.doctype p.doctype root_stops.2 in
@@ -241,7 +245,7 @@ module _ (limit : ℕ) (src : List ℕ) (utf8 : IsUtf8 src) (given : List Asked)
         ap (λ (b : Forest Item). join b p.nodes) begun.1 ∙ ap (join a.before) r.2 ∙ sym (join_assoc a.before a.nodes r.0) ∙ ap (λ (f : Forest Item). join f r.0) (sym a.all) in
         ((r.0, r.1, whole), r.3)
 
-    declared_parsed : Parsed (opens_at p.entities) limit (IsWithinLimits limit tree) src (PrologWithDoctype src asked p.entities)
+    declared_parsed : Parsed (opens_at p.entities) limit (IsWithinLimits limit tree) src (Declared src asked p.entities)
     declared_parsed =
         record {
           start = p.start;
@@ -259,23 +263,23 @@ module _ (limit : ℕ) (src : List ℕ) (utf8 : IsUtf8 src) (given : List Asked)
         }
 
     -- so no fault stands behind it but those of the limits
-    behind_over : (es : List Entity) (source : List ℕ) (f : Fault) → FaultFrom (opens_at es) es limit src true (PrologWithDoctype src asked es) source f → IsOver (IsWithinLimits limit tree) f
+    behind_over : (es : List Entity) (source : List ℕ) (f : Fault) → FaultFrom (opens_at es) es limit src true (Declared src asked es) source f → IsOver (IsWithinLimits limit tree) f
     behind_over es source f ill =
-        let front = front_of (opens_at es) es limit src true (PrologWithDoctype src asked es) source f ill in
+        let front = front_of (opens_at es) es limit src true (Declared src asked es) source f ill in
         let entities_are : es ≡ p.entities = (declared_rest es front.0 front.1 front.2).1 in
-        never (opens_at p.entities) p.entities (declared_opens p.entities entities_texts) limit (IsWithinLimits limit tree) src utf8 (PrologWithDoctype src asked p.entities) declared_parsed true source f
-        (subst (λ (es : List Entity). FaultFrom (opens_at es) es limit src true (PrologWithDoctype src asked es) source f) entities_are ill)
+        never (opens_at p.entities) p.entities (declared_opens p.entities entities_texts) limit (IsWithinLimits limit tree) src utf8 (Declared src asked p.entities) declared_parsed true source f
+        (subst (λ (es : List Entity). FaultFrom (opens_at es) es limit src true (Declared src asked es) source f) entities_are ill)
 
 -- a refusal that stands in a text that has a parse is that of a limit, and the parse is not within the limits, where what was asked
 -- until then had the answers that the parse has
 pub refused_over : (limit : ℕ) (allow dtd : Bool) (src source : List ℕ) (asked given : List Asked) (f : Fault) (tree : Forest Item) → IsUtf8 src → RefusalOf limit allow src asked source f → ParseOf src dtd given tree
     → Permits allow dtd → SameAnswers asked given → IsOver (IsWithinLimits limit tree) f
 refused_over limit allow false src source asked given f tree utf8 ill parse permits same = plain_over limit allow src source asked given f tree utf8 ill parse
-refused_over limit allow true src source asked given f tree utf8 (in_declaration q t _ is due lack) parse permits same = absurd (declaration_never limit src utf8 given tree parse q t f is due lack)
-refused_over limit allow true src source asked given f tree utf8 (without _ ill) parse permits same = ahead_over limit src utf8 given tree parse src f ill
+refused_over limit allow true src source asked given f tree utf8 (in_declaration q t _ is due lack) parse permits same = absurd (declaration_never limit src utf8 given tree (parts src true given tree parse) q t f is due lack)
+refused_over limit allow true src source asked given f tree utf8 (without _ ill) parse permits same = ahead_over limit src utf8 given tree (parts src true given tree parse) src f ill
 refused_over limit allow true src source asked given f tree utf8 (not_allowed i before none ahead fits is) parse permits same = absurd (true≢false (sym (permits refl) ∙ none))
-refused_over limit allow true src source asked given f tree utf8 (in_doctype i before _ _ _ may ahead fits is ill) parse permits same = inside_over limit src utf8 given tree parse i before asked source f ahead is same ill
-refused_over limit allow true src source asked given f tree utf8 (behind _ es _ _ may ill) parse permits same = behind_over limit src utf8 given tree parse asked same es source f ill
+refused_over limit allow true src source asked given f tree utf8 (in_doctype i before _ _ _ may ahead fits is ill) parse permits same = inside_over limit src utf8 given tree (parts src true given tree parse) i before asked source f ahead is same ill
+refused_over limit allow true src source asked given f tree utf8 (behind _ es _ _ may ill) parse permits same = behind_over limit src utf8 given tree (parts src true given tree parse) asked same es source f ill
 
 -- so no refusal stands in a text that has a parse within the limits
 pub refused_never : (limit : ℕ) (allow dtd : Bool) (src source : List ℕ) (asked given : List Asked) (f : Fault) (tree : Forest Item) → IsUtf8 src → RefusalOf limit allow src asked source f → ParseOf src dtd given tree

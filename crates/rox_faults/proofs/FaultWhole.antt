@@ -23,14 +23,14 @@ use Rattle.rox_grammar.specs.Content.{Inclusion, IsElement}
 use Rattle.rox_grammar.specs.TextStart.{after_bom}
 use Rattle.rox_grammar.specs.Entities.{Entity, no_entities, most_deep, included_in_main}
 use Rattle.rox_grammar.specs.Doctype.{Asked}
-use Rattle.rox_grammar.specs.Document.{Misc, no_misc, space, an_item, PrologTo}
+use Rattle.rox_grammar.specs.Document.{Behind, Misc, no_misc, space, an_item, PrologTo}
 use Rattle.rox_grammar.specs.State.{root, nodes_so_far, FitsLimits}
 use Rattle.rox_reading.specs.Refusals.{Refusal, here, there, refused, lifted}
 use Rattle.rox_reading.specs.State.{State}
 use Rattle.rox_grammar.specs.Due.{DueItem, a_byte, a_qname, a_gap, a_word, chars_to, IsMissing, no_gap, DueInPair, its_name, equals, opening, its_value, closing, value_end, PairBegins, version, encoding, standalone, DueInXmlDecl, its_version, in_pair, behind_pair}
 use Rattle.rox_faults.proofs.DueForms.{a_quote}
 use Rattle.rox_grammar.specs.Due as dues
-use Rattle.rox_grammar.specs.ContentPoints.{is_main, Behind, begins, of_root}
+use Rattle.rox_grammar.specs.ContentPoints.{is_main, begins, of_root}
 use Rattle.rox_grammar.specs.Faults.{InMisc, no_root, unknown_ahead, unknown_behind, in_one, misc_ahead, misc_behind, one_too_many}
 use Rattle.rox_grammar.specs.FaultsWithDoctype.{FaultOf, without, in_declaration, not_allowed}
 use Rattle.rox_reading.specs.Lexical.{byte_at, quote_at, qname_at, chars_up_to}
@@ -39,7 +39,7 @@ use Rattle.rox_reading.specs.Machine.{value_opener, opener, with_item, comment_s
 use Rattle.rox_reading.specs.Doctype.{Reply, Asks, asks_nothing, ◌>>>◌, Dtd}
 use Rattle.rox_reading.specs.WholeText.{misc, body, finished, prolog, reading}
 use Rattle.rox_reading.specs.WholeText as whole
-use Rattle.rox_reading.proofs.Forests.{join-nil, join_assoc, named-right}
+use Rattle.rox_reading.proofs.Forests.{join-nil, join_assoc, named-join}
 use Rattle.rox_theory.proofs.Basics.{ok_same, bind_ok, bind_lifted, bind_lifted_only, chosen, within, byte_sound, chars_sound, run_end_le}
 use Rattle.rox_theory.proofs.NameLemmas.{chars_here, qname_sound}
 use Rattle.rox_faults.proofs.NameSpans.{run_cut, cut_behind}
@@ -65,6 +65,8 @@ use Rattle.rox_faults.proofs.FaultTags.{quote_fails, value_cut}
 use Rattle.rox_theory.proofs.NoEntities.{no_values, no_contents}
 use Rattle.rox_faults.proofs.FaultPoints.{Refuses, refuses_here, From, fine_fits}
 use Rattle.rox_faults.proofs.FaultPlaces.{Here, tag_fails, tag_taken, tagged_takes, tag_goes, takes_cut, takes_opened, drive_fails}
+use Rattle.rox_grammar.specs.Document as document
+use Rattle.rox_grammar.specs.Content as content
 
 -- behind white space stands none
 pub no_more_space : (src : List ℕ) (i : ℕ) → IsUtf8 src → IsCharBoundary src i → is_space (byte src (spaces_end src i)) ≡ false
@@ -272,8 +274,15 @@ module _ (src : List ℕ) (utf8 : IsUtf8 src) where
         let same = elements i u.at u.openings_left e.0 e.1 in
         (same.0, e.0, same.1, e.2, chain.1)
 
+    -- comments and processing instructions have no names in namespaces
+    misc_named : (i j : ℕ) (items : Forest Item) → Misc src i j items → AreWellNamed [] items
+    misc_named i j items (document.Misc.no_misc _) = tt
+    misc_named i j items (document.Misc.space _ _ _ white rest) = misc_named (i + 1) j items rest
+    misc_named i j items (document.Misc.an_item _ k _ _ more (content.IsMisc.comment _ e _ is) rest) = (tt, tt, misc_named k j more rest)
+    misc_named i j items (document.Misc.an_item _ k _ _ more (content.IsMisc.instruction _ n e _ is) rest) = (tt, tt, misc_named k j more rest)
+
     -- behind the root element
-    pub behind_on : (p q : ℕ) (done items : Forest Item) → Behind opens src Front p done → Misc src p q items → Behind opens src Front q (join done items)
+    pub behind_on : (p q : ℕ) (done items : Forest Item) → Behind (opens 0) src Front p done → Misc src p q items → Behind (opens 0) src Front q (join done items)
     behind_on p q done items point more =
         record {
           start = point.start;
@@ -283,7 +292,7 @@ module _ (src : List ℕ) (utf8 : IsUtf8 src) where
           openings_left = point.openings_left;
           one = point.one;
           element = point.element;
-          well_named = point.well_named;
+          well_named = named-join [] done items point.well_named (misc_named p q items more);
           after = join point.after items;
           misc = misc_append point.end p q point.after items point.misc more;
           all = ap (λ (d : Forest Item). join d items) point.all ∙ join_assoc (join point.before point.one) point.after items;
@@ -291,10 +300,10 @@ module _ (src : List ℕ) (utf8 : IsUtf8 src) where
 
     -- right behind it
     behind_root : (i openings_left : ℕ) (before one : Forest Item) (u : State) → Front i before → IsElement true (opens 0) src i u.at 255 openings_left one → u ≡ state u.at (join before one) root u.openings_left → IsValidState most u
-        → Behind opens src Front u.at (join before one)
+        → Behind (opens 0) src Front u.at (join before one)
     behind_root i openings_left before one u ahead element is fine =
         let named : AreWellNamed [] (join before one) = (subst (IsValidState most) is fine).named in
-        record { start = i; before = before; ahead = ahead; end = u.at; openings_left = openings_left; one = one; element = element; well_named = named-right [] before one named; after = Nil; misc = no_misc u.at; all = sym (join-nil (join before one)) }
+        record { start = i; before = before; ahead = ahead; end = u.at; openings_left = openings_left; one = one; element = element; well_named = named; after = Nil; misc = no_misc u.at; all = sym (join-nil (join before one)) }
 
     -- the root element and what follows it
     pub body_fails : (i : ℕ) (before : Forest Item) (e : Refusal) → IsCharBoundary src i → IsValidState most (state i before root 255) → Front i before → at word.CommentStart src i ≡ false → at word.PIStart src i ≡ false
@@ -324,7 +333,7 @@ module _ (src : List ℕ) (utf8 : IsUtf8 src) where
         lifted_err (misc limit (length src) src u) _ e h
         (λ f bad same.
         refuses_here es P src f e same
-        (misc_fails limit most less least f (Behind opens src Front) behind_on (P src f) (λ p items point fits ill. misc_behind p items _ point fits (in_one f ill))
+        (misc_fails limit most less least f (Behind (opens 0) src Front) behind_on (P src f) (λ p items point fits ill. misc_behind p items _ point fits (in_one f ill))
         (λ p j items item point fits item_is many is. subst (P src) is (misc_behind p items _ point fits (one_too_many j item item_is many)))
         (length src) u.openings_left u.at (join before one) behind (subst (IsValidState most) u_is root'.4) (ends_cut src u.at utf8 (element_ends true (opens 0) src i u.at 255 root'.0 one root'.2))
         (subst (λ (u : State). misc limit (length src) src u ≡ Err f) u_is bad)))

@@ -7,22 +7,12 @@ use Rattle.rox_grammar.specs.Written.{Name, Attribute, NamespaceDecl, Tag, Item,
 use Rattle.rox_grammar.specs.Tree.{listed, listable_of}
 use Rattle.rox_grammar.specs.Names.{byte, slice, spaces_end, IsQName}
 use Rattle.rox_grammar.specs.Constructs.{text_at, IsCData, IsEnd, IsPair}
-use Rattle.rox_grammar.specs.Content.{Inclusion, DataByte, piece, section, Part, Parts, IsCharacterData, Value, Attributes, IsTag, IsMisc, IsElement}
+use Rattle.rox_grammar.specs.Content.{Inclusion, DataByte, piece, section, Part, Parts, IsCharacterData, Value, Attributes, IsTag, IsMisc}
 use Rattle.rox_grammar.specs.WellNamed.{AreDeclarable, IsWellNamed, AreWellNamed}
 use Rattle.rox_grammar.specs.References.{IsReference, predefined}
 use Rattle.rox_grammar.specs.Entities.{Replacement, Entity, text_of, most_within, most_deep}
-use Rattle.rox_grammar.specs.Doctype.{Asked}
-use Rattle.rox_grammar.specs.Document.{Misc, PrologTo, MayHaveDoctype, pairs, with_new, distinct_pairs, most_pairs}
+use Rattle.rox_grammar.specs.Document.{pairs, with_new, distinct_pairs, most_pairs}
 use Rattle.rox_grammar.specs.OpenElements.{Open, root, inside, State, depth_of, scope_of, tree_so_far}
-
--- the same with a document type declaration, up to the root element: with what is asked for its entities, and the entities
-pub record PrologWithDoctype (text : List ℕ) (asked : List Asked) (es : List Entity) (p : ℕ) (items : Forest Item) : Type 0 where
-  pub begun : ℕ
-  pub before : Forest Item
-  pub ahead : PrologTo text begun before
-  pub nodes : Forest Item
-  pub doctype : MayHaveDoctype text begun p true nodes asked es
-  pub all : items ≡ join before nodes
 
 -- the `<` of the root element: of no comment, processing instruction or document type declaration. Behind a document type
 -- declaration no other may stand, so there `<!DOCTYPE` is read as a start tag.
@@ -107,20 +97,6 @@ pub data ValuePart (opens : ℕ → Inclusion) (es : List Entity) (k : ℕ) (src
   opened : (l i stop d c r p j : ℕ) (part front : List ℕ) (t : Replacement) → ValuePart opens es k src start end b l part i stop d
       → Value (is_main l) (opens l) part p i d c front → p < stop → RefersTo es part p j t → MayOpen l c r
       → ValuePart opens es k src start end b (suc l) t.source t.start (length t.source) r
-
--- what stands behind the root element, up to p: all of these, with what stands before it
-pub record Behind (opens : ℕ → Inclusion) (text : List ℕ) (Front : ℕ → Forest Item → Type 0) (p : ℕ) (items : Forest Item) : Type 0 where
-  pub start : ℕ
-  pub before : Forest Item
-  pub ahead : Front start before
-  pub end : ℕ
-  pub openings_left : ℕ
-  pub one : Forest Item
-  pub element : IsElement true (opens 0) text start end most_within openings_left one
-  pub well_named : AreWellNamed [] one
-  pub after : Forest Item
-  pub misc : Misc text end p after
-  pub all : items ≡ join (join before one) after
 
 -- how many pairs there are, with those of these declarations that are listed
 abbrev pub pairs_with : List NamespaceDecl → List NamespaceDecl → ℕ

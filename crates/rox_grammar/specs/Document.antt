@@ -6,7 +6,7 @@ use Rattle.rox_grammar.specs.Forest.{Forest, Nil, Cons, join, size}
 use Rattle.rox_grammar.specs.Written.{NamespaceDecl, Tag, Item, Element, leaf}
 use Rattle.rox_grammar.specs.Tree.{Node, same_prefix, listable_of, document_tree}
 use Rattle.rox_grammar.specs.Names.{byte}
-use Rattle.rox_grammar.specs.Content.{IsMisc, IsElement}
+use Rattle.rox_grammar.specs.Content.{Inclusion, IsMisc, IsElement}
 use Rattle.rox_grammar.specs.TextStart.{after_bom, MayHaveXmlDecl}
 use Rattle.rox_grammar.specs.Entities.{Entity, most_within, included_in_main}
 use Rattle.rox_grammar.specs.Doctype.{Request, Asked, IsExternalID, MayHaveNotation, CutsNotation, BeginsEntity, SubsetTo, IsDoctype}
@@ -24,30 +24,31 @@ pub record PrologTo (src : List ℕ) (p : ℕ) (items : Forest Item) : Type 0 wh
   pub declaration : MayHaveXmlDecl src (after_bom src) declared_to
   pub misc : Misc src declared_to p items
 
--- XML 2.8 [22] a document type declaration with what follows it, or nothing; whether there is one; and its nodes, what is asked
--- for its entities, and the entities
-pub data MayHaveDoctype (src : List ℕ) : ℕ → ℕ → Bool → Forest Item → List Asked → List Entity → Type 0 where
-  doctype : (i j k : ℕ) (items more : Forest Item) (asked : List Asked) (es : List Entity) → IsDoctype src i j items asked es → Misc src j k more
-      → MayHaveDoctype src i k true (join items more) asked es
-  no_doctype : (i : ℕ) → MayHaveDoctype src i i false Nil [] []
+-- XML 2.8 [22] prolog, up to the root element at p: whether it has a document type declaration, its nodes, what is asked for its
+-- entities, and the entities
+pub data Prolog (src : List ℕ) (p : ℕ) : Bool → Forest Item → List Asked → List Entity → Type 0 where
+  with_doctype : (i j : ℕ) (before items after : Forest Item) (asked : List Asked) (es : List Entity) → PrologTo src i before → IsDoctype src i j items asked es → Misc src j p after
+      → Prolog src p true (join before (join items after)) asked es
+  without_doctype : (before : Forest Item) → PrologTo src p before → Prolog src p false before [] []
 
--- XML 2.1 [1], 2.8 [22] document: whether it has a document type declaration, what is asked for its entities, and its top nodes.
-pub record ParseOf (src : List ℕ) (dtd : Bool) (asked : List Asked) (tree : Forest Item) : Type 0 where
-  pub begun : ℕ
-  pub before : Forest Item
-  pub prolog : PrologTo src begun before
+-- XML 2.1 [1] up to p, behind the root element: all nodes, where what `Front` says stands before the element
+pub record Behind (Includes : Inclusion) (src : List ℕ) (Front : ℕ → Forest Item → Type 0) (p : ℕ) (items : Forest Item) : Type 0 where
   pub start : ℕ
-  pub nodes : Forest Item
-  pub entities : List Entity
-  pub doctype : MayHaveDoctype src begun start dtd nodes asked entities
+  pub before : Forest Item
+  pub ahead : Front start before
   pub end : ℕ
   pub openings_left : ℕ
   pub one : Forest Item
-  pub element : IsElement true (included_in_main entities) src start end most_within openings_left one
+  pub element : IsElement true Includes src start end most_within openings_left one
   pub after : Forest Item
-  pub misc_after : Misc src end (length src) after
-  pub is_tree : tree ≡ join before (join nodes (join one after))
-  pub well_named : AreWellNamed [] tree
+  pub misc : Misc src end p after
+  pub all : items ≡ join (join before one) after
+  pub well_named : AreWellNamed [] items
+
+-- XML 2.1 [1], 2.8 [22] document: whether it has a document type declaration, what is asked for its entities, and its top nodes.
+pub record ParseOf (src : List ℕ) (dtd : Bool) (asked : List Asked) (tree : Forest Item) : Type 0 where
+  pub entities : List Entity
+  pub whole : Behind (included_in_main entities) src (λ p items. Prolog src p dtd items asked entities) (length src) tree
 
 -- what a tag declares and its element lists
 abbrev pub listable : Tag → List NamespaceDecl

@@ -19,10 +19,10 @@ use Rattle.rox_grammar.specs.References.{IsReference, IsCharacter, predefined}
 use Rattle.rox_grammar.specs.Content.{Inclusion, IsCharacterData, Value, IsAttribute, TagEnds, IsMisc}
 use Rattle.rox_grammar.specs.WellNamed.{may_declare, is_known, same_expanded, AreDistinct, may_name, AreWellNamed}
 use Rattle.rox_grammar.specs.Entities.{Replacement, Entity, text_of}
-use Rattle.rox_grammar.specs.Document.{pairs, distinct_pairs, attribute_count, most_attributes, most_pairs}
+use Rattle.rox_grammar.specs.Document.{Behind, pairs, distinct_pairs, attribute_count, most_attributes, most_pairs}
 use Rattle.rox_grammar.specs.OpenElements.{Open, root, inside, State, depth_of, scope_of, tree_so_far, FitsLimits, HasTooManyNodes}
 use Rattle.rox_grammar.specs.Due.{DueItem, a_byte, a_qname, one_of, chars_to, tag_rest, IsMissing, DueInText, DueInPI, DueInEnd, DueInPair}
-use Rattle.rox_grammar.specs.ContentPoints.{RootBegins, Behind, is_content, is_main, TagBegins, StepsOver, PartsTo, RefersTo, IsSpent, ContentPoint, ValuePart, TagTo, pairs_with, BeginsValue}
+use Rattle.rox_grammar.specs.ContentPoints.{RootBegins, is_content, is_main, TagBegins, StepsOver, PartsTo, RefersTo, IsSpent, ContentPoint, ValuePart, TagTo, pairs_with, BeginsValue}
 
 -- the bytes of a name as it is written, without the colon if there is no prefix
 abbrev pub spelled : Name → List ℕ
@@ -184,8 +184,8 @@ pub data FaultFrom (opens : ℕ → Inclusion) (es : List Entity) (limit : ℕ) 
   at_point : (k open_around b : ℕ) (src : List ℕ) (s : State) (source : List ℕ) (f : Fault)
       → ContentPoint opens es text (λ p items. Front p items × RootBegins declared text p) k open_around src b s → FitsLimits limit s.stack s.done
       → AtPoint opens es limit k open_around src s b source f → FaultFrom opens es limit text declared Front source f
-  misc_behind : (p : ℕ) (items : Forest Item) (f : Fault) → Behind opens text Front p items → FitsLimits limit root items → InMiscs limit text p items f
+  misc_behind : (p : ℕ) (items : Forest Item) (f : Fault) → Behind (opens 0) text Front p items → FitsLimits limit root items → InMiscs limit text p items f
       → FaultFrom opens es limit text declared Front text f
-  unknown_behind : (p : ℕ) (items : Forest Item) → Behind opens text Front p items → FitsLimits limit root items → p < length text
+  unknown_behind : (p : ℕ) (items : Forest Item) → Behind (opens 0) text Front p items → FitsLimits limit root items → p < length text
       → is_space (byte text p) ≡ false → text_at "<!--" text p ≡ false → text_at "<?" text p ≡ false
       → FaultFrom opens es limit text declared Front text (fault.UnknownToken p)

@@ -17,8 +17,8 @@ use Rattle.rox_grammar.specs.Entities.{Replacement, Entity, most_deep, no_entiti
 use Rattle.rox_grammar.specs.Doctype.{Request, Asked, IsSpace, IsExternalID, MayHaveNotation, CutsNotation, GivesReplacement, IsDefinition, BeginsEntity, SubsetTo}
 use Rattle.rox_grammar.specs.OpenElements.{root, FitsLimits}
 use Rattle.rox_grammar.specs.Due.{DueItem, a_byte, one_of, IsMissing, DueInXmlDecl, DueInEntity, DueInDoctype}
-use Rattle.rox_grammar.specs.ContentPoints.{PrologWithDoctype, is_main}
-use Rattle.rox_grammar.specs.Document.{PrologTo}
+use Rattle.rox_grammar.specs.ContentPoints.{is_main}
+use Rattle.rox_grammar.specs.Document.{PrologTo, Prolog}
 use Rattle.rox_grammar.specs.Faults.{InMiscs, FaultFrom}
 
 -- `<!ELEMENT`, `<!ATTLIST` or `<!NOTATION` stands here
@@ -83,7 +83,7 @@ pub data RefusalOf (limit : ℕ) (allow : Bool) (text : List ℕ) : List Asked �
   not_allowed : (i : ℕ) (before : Forest Item) → allow ≡ false → PrologTo text i before → FitsLimits limit root before → text_at "<!DOCTYPE" text i ≡ true → RefusalOf limit allow text [] text fault.DtdDetected
   in_doctype : (i : ℕ) (before : Forest Item) (asked : List Asked) (source : List ℕ) (f : Fault) → allow ≡ true → PrologTo text i before → FitsLimits limit root before → text_at "<!DOCTYPE" text i ≡ true
       → InDoctype limit text i before asked source f → RefusalOf limit allow text asked source f
-  behind : (asked : List Asked) (es : List Entity) (source : List ℕ) (f : Fault) → allow ≡ true → FaultFrom (opens_at es) es limit text true (PrologWithDoctype text asked es) source f
+  behind : (asked : List Asked) (es : List Entity) (source : List ℕ) (f : Fault) → allow ≡ true → FaultFrom (opens_at es) es limit text true (λ p items. Prolog text p true items asked es) source f
       → RefusalOf limit allow text asked source f
 
 -- The fault stands in this text where no document type declaration may stand. So no entity is declared, and it stands in the text

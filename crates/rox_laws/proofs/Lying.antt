@@ -11,16 +11,18 @@ use Rattle.rox_grammar.specs.Content.{Inclusion}
 use Rattle.rox_grammar.specs.Entities.{Replacement, Entity, text_of}
 use Rattle.rox_grammar.specs.Doctype.{Request, Asked, GivesReplacement, IsDefinition, entry, Subset, IsDoctype}
 use Rattle.rox_grammar.specs.Doctype as doctype
-use Rattle.rox_grammar.specs.Document.{MayHaveDoctype}
+use Rattle.rox_theory.specs.ParseParts.{MayHaveDoctype, PrologParts}
 use Rattle.rox_grammar.specs.Document as document
 use Rattle.rox_grammar.specs.State.{State}
-use Rattle.rox_grammar.specs.ContentPoints.{ContentPoint, ValuePart, PrologWithDoctype}
+use Rattle.rox_grammar.specs.ContentPoints.{ContentPoint, ValuePart}
 use Rattle.rox_grammar.specs.ContentPoints as places
 use Rattle.rox_grammar.specs.Faults.{FaultFrom}
 use Rattle.rox_grammar.specs.Faults as faults
 use Rattle.rox_grammar.specs.FaultsWithDoctype.{InDoctype, RefusalOf}
 use Rattle.rox_grammar.specs.FaultsWithDoctype as refused
 use Rattle.rox_laws.specs.Sources.{IsLiteralIn, IsAnswerIn}
+use Rattle.rox_theory.specs.ParseParts as parts_of
+use Rattle.rox_theory.proofs.ParseParts.{prolog_parts}
 
 -- ---- of an entity
 
@@ -70,8 +72,8 @@ itself_lies text i j items asked es (doctype.IsDoctype.no_subset _ s begins clos
 itself_lies text i j items asked es (doctype.IsDoctype.with_subset _ s k _ _ _ begins opens subset ends closes) name t found = subset_lies text (s + 1) k items asked es subset name t found
 
 doctype_lies : (text : List ℕ) (i j : ℕ) (dtd : Bool) (items : Forest Item) (asked : List Asked) (es : List Entity) → MayHaveDoctype text i j dtd items asked es → (name : List ℕ) (t : Replacement) → text_of es name ≡ Some t → Lies text asked t.source
-doctype_lies text i j dtd items asked es (document.MayHaveDoctype.doctype _ k _ own rest _ _ one behind) name t found = itself_lies text i k own asked es one name t found
-doctype_lies text i j dtd items asked es (document.MayHaveDoctype.no_doctype _) name t found = cc found
+doctype_lies text i j dtd items asked es (parts_of.MayHaveDoctype.doctype _ k _ own rest _ _ one behind) name t found = itself_lies text i k own asked es one name t found
+doctype_lies text i j dtd items asked es (parts_of.MayHaveDoctype.no_doctype _) name t found = cc found
 
 -- ---- of a fault
 
@@ -140,6 +142,6 @@ source_lies limit allow text asked source f (refused.RefusalOf.behind _ es _ _ m
       | inl own ↦ inl own
       | inr (front, inl own) ↦ inl own
       | inr (front, inr (name, t, found, is)) ↦ (
-          let declared : PrologWithDoctype text asked es front.0 front.1 = front.2 in
+          let declared : PrologParts text true asked es front.0 front.1 = prolog_parts text front.0 true front.1 asked es front.2 in
           inr (subst (λ (s : List ℕ). IsLiteralIn text s ⊎ IsAnswerIn asked s) (sym is) (doctype_lies text declared.begun front.0 true declared.nodes asked es declared.doctype name t found)))
     ]

@@ -5,9 +5,11 @@ use Rattle.rox_grammar.specs.Written.{Item, Element, Text, Comment, PI, glue, me
 use Rattle.rox_grammar.specs.Content.{Inclusion, DataByte, piece, Parts, last_part, then_entity, IsMisc, comment, instruction, IsElement, empty, nest, Content, ends, run, cdata, misc, node}
 use Rattle.rox_grammar.specs.Entities.{Entity, Includes, included_in_main, most_deep}
 use Rattle.rox_grammar.specs.Doctype.{Asked, Subset, no_more as no_item, space as subset_space, an_item as subset_item, skipped_declaration, an_entity, IsDoctype, no_subset, with_subset}
-use Rattle.rox_grammar.specs.Document.{Misc, no_misc, space, an_item, MayHaveDoctype, doctype, no_doctype, ParseOf}
+use Rattle.rox_grammar.specs.Document.{Misc, no_misc, space, an_item, ParseOf}
+use Rattle.rox_theory.specs.ParseParts.{MayHaveDoctype, doctype, no_doctype}
 use Rattle.rox_reading.proofs.Forests.{join-nil, join_assoc}
 use Rattle.rox_theory.specs.Apart.{Apart, AnyElement}
+use Rattle.rox_theory.proofs.ParseParts.{parts}
 
 -- so is what is below each of these, and nothing is below a text
 abbrev Below : Forest Item → Type 0
@@ -131,7 +133,8 @@ top_doctype src i j dtd items asked es back (doctype _ k _ front more _ _ is res
 
 -- the texts of a parse are apart
 pub parse_apart : (src : List ℕ) (dtd : Bool) (asked : List Asked) (tree : Forest Item) → ParseOf src dtd asked tree → Apart tree
-parse_apart src dtd asked tree p =
+parse_apart src dtd asked tree whole =
+    let p = parts src dtd asked tree whole in
     let after : Apart (join p.after Nil) = top_misc src p.end (length src) p.after Nil p.misc_after tt in
     let one = top_element true (included_in_main p.entities) (opens_apart p.entities most_deep true) src p.start p.end 255 p.openings_left p.one p.after p.element (subst (λ (f : Forest Item). Apart f) (join-nil p.after) after) in
     let nodes = top_doctype src p.begun p.start dtd p.nodes asked p.entities (join p.one p.after) p.doctype one in
@@ -148,7 +151,8 @@ any_behind (Cons (PI start end target value) c r) back h = any_behind r back h
 
 -- a parse has an element at its top
 pub parse_has : (src : List ℕ) (dtd : Bool) (asked : List Asked) (tree : Forest Item) → ParseOf src dtd asked tree → AnyElement tree
-parse_has src dtd asked tree p =
+parse_has src dtd asked tree whole =
+    let p = parts src dtd asked tree whole in
     let one = top_is true (included_in_main p.entities) (opens_apart p.entities most_deep true) src p.start p.end 255 p.openings_left p.one p.after p.element in
     subst (λ (f : Forest Item). AnyElement f) (sym p.is_tree)
     (any_behind p.before (join p.nodes (join p.one p.after)) (any_behind p.nodes (join p.one p.after) one))

@@ -18,7 +18,8 @@ use Rattle.rox_grammar.specs.Content.{Inclusion, IsMisc, comment, instruction, I
 use Rattle.rox_grammar.specs.TextStart.{bom, after_bom, MayHaveXmlDecl, declared, not_declared}
 use Rattle.rox_grammar.specs.Entities.{Entity}
 use Rattle.rox_grammar.specs.Doctype.{Asked, IsDoctype, no_subset, with_subset}
-use Rattle.rox_grammar.specs.Document.{Permits, MayHaveDoctype, doctype, no_doctype, Misc, no_misc, space, an_item, own_attributes, own_pairs}
+use Rattle.rox_grammar.specs.Document.{Permits, Misc, no_misc, space, an_item, own_attributes, own_pairs}
+use Rattle.rox_theory.specs.ParseParts.{MayHaveDoctype, doctype, no_doctype}
 use Rattle.rox_grammar.specs.WellNamed.{ItemWellNamed}
 use Rattle.rox_reading.specs.Markup.{comment_at, Instruction, instruction_at, xml_decl_at}
 use Rattle.rox_grammar.specs.State.{root}

@@ -13,13 +13,15 @@ use Rattle.rox_grammar.specs.Entities.{Entity, included_in_main, most_deep}
 use Rattle.rox_grammar.specs.Chars.{is_name_char, is_space}
 use Rattle.rox_grammar.specs.Names.{IsName}
 use Rattle.rox_grammar.specs.Doctype.{Asked, IsQuoted, IsExternalID, system, public, MayHaveNotation, notation, no_notation, of_parameter, IsDefinition, internal, external, IsKind, of_parameter as parameter_kind, general, IsEntityDeclaration, IsPassedOver, Subset, no_more as no_item, space as subset_space, an_item as subset_item, skipped_declaration, an_entity as an_entity_declared, MayHaveExternalID, external_id, no_external_id, BeginsDoctype, IsDoctype, no_subset, with_subset}
-use Rattle.rox_grammar.specs.Document.{Misc, no_misc, space, an_item, MayHaveDoctype, doctype, no_doctype, ParseOf}
+use Rattle.rox_grammar.specs.Document.{Misc, no_misc, space, an_item, ParseOf}
+use Rattle.rox_theory.specs.ParseParts.{MayHaveDoctype, doctype, no_doctype}
 use Rattle.rox_grammar.specs.Expansion.{longest}
 use Rattle.rox_theory.specs.ItemSize.{most_bytes, bytes_in, IsBounded}
 use Rattle.rox_theory.proofs.Onward.{run_onward, reference_onward, value_char, part_bytes, qname_onward, eq_onward, tag_end_onward, end_onward, section_onward, byte_onward}
 use Rattle.rox_theory.proofs.Following.{few_opened, few_opened_in_value}
 use Rattle.rox_theory.proofs.Weights.{piece_most, section_most, misc_most, counts_weigh, more_times}
 use Rattle.rox_theory.proofs.Measures.{Measure, most_of, fewer, by_bytes, by_count, count_in}
+use Rattle.rox_theory.proofs.ParseParts.{parts}
 
 -- ---- the main text
 
@@ -317,7 +319,8 @@ turned n r = sym (mul_assoc n 256 r) ∙ ap (λ (x : ℕ). x * r) (mul_comm n 25
 
 -- a whole document
 pub parse_bounded : (of : Forest Item → ℕ) → Measure of → (src : List ℕ) (dtd : Bool) (asked : List Asked) (tree : Forest Item) (p : ParseOf src dtd asked tree) → of tree ≤ most_bytes src p.entities
-parse_bounded of is_measure src dtd asked tree p =
+parse_bounded of is_measure src dtd asked tree whole =
+    let p = parts src dtd asked tree whole in
     let w = 256 * longest p.entities in
     let before = all_misc of is_measure src p.prolog.declared_to p.begun p.before p.prolog.misc in
     let nodes = all_doctype of is_measure src p.begun p.start dtd p.nodes asked p.entities p.doctype in

@@ -19,7 +19,8 @@ use Rattle.rox_grammar.specs.Constructs.{IsComment, IsPI, IsCData}
 use Rattle.rox_grammar.specs.Content.{Inclusion, DataByte, IsAttribute, Attributes, no_more, one_more, TagEnds, opened, closed, IsTag, IsMisc, comment, instruction, IsElement, empty, nest, Content, ends, run, cdata, misc, node, line_ends, literals}
 use Rattle.rox_grammar.specs.Entities.{Entity, Includes, included_in_main, most_deep}
 use Rattle.rox_grammar.specs.Doctype.{Asked, Subset, no_more as no_item, space as subset_space, an_item as subset_item, skipped_declaration, an_entity as an_entity_declared, IsDoctype, no_subset, with_subset}
-use Rattle.rox_grammar.specs.Document.{Misc, no_misc, space, an_item, MayHaveDoctype, doctype, no_doctype, ParseOf}
+use Rattle.rox_grammar.specs.Document.{Misc, no_misc, space, an_item, ParseOf}
+use Rattle.rox_theory.specs.ParseParts.{MayHaveDoctype, doctype, no_doctype}
 use Rattle.rox_theory.specs.Openers.{AreTexts}
 use Rattle.rox_theory.specs.CharItems.{WrittenChars, TagChars, ItemChars, ItemsChars}
 use Rattle.rox_theory.proofs.LiteralLemmas.{from_bound, from_here, quote_ascii, literal_closes}
@@ -29,6 +30,7 @@ use Rattle.rox_theory.proofs.CharTexts.{texts_joined, cut_at, cut_behind, chars_
 use Rattle.rox_theory.proofs.CharCuts.{name_char}
 use Rattle.rox_theory.proofs.CharSigns.{part_char, no_signs, text_front, items_joined, OpensChars, value_chars, parts_items}
 use Rattle.rox_theory.proofs.DoctypeAgreement.{texts_agree}
+use Rattle.rox_theory.proofs.ParseParts.{parts}
 
 -- ---- names
 
@@ -238,7 +240,8 @@ doctype_items src i j dtd items asked es utf8 (doctype _ k _ front more _ _ is r
 
 -- a document
 pub parse_items : (src : List ℕ) (dtd : Bool) (asked : List Asked) (tree : Forest Item) → IsUtf8 src → ParseOf src dtd asked tree → ItemsChars tree
-parse_items src dtd asked tree utf8 p =
+parse_items src dtd asked tree utf8 whole =
+    let p = parts src dtd asked tree whole in
     let texts = texts_agree src utf8 p.begun p.start dtd p.nodes asked p.entities p.doctype in
     let one = element_items true (included_in_main p.entities) (opens_chars p.entities texts most_deep true) src utf8 p.start p.end 255 p.openings_left p.one p.element in
     let nodes = doctype_items src p.begun p.start dtd p.nodes asked p.entities utf8 p.doctype in

@@ -14,7 +14,8 @@ use Rattle.rox_grammar.specs.FixedTexts.{at}
 use Rattle.rox_grammar.specs.TextStart.{after_bom}
 use Rattle.rox_grammar.specs.Entities.{Replacement, Entity}
 use Rattle.rox_grammar.specs.Doctype.{Asked, IsQuoted, GivesReplacement, nothing, the_rest, IsDefinition, internal, external, entry, IsEntityDeclaration, Subset, no_more, space, an_item, skipped_declaration, an_entity, BeginsDoctype, IsDoctype, no_subset, with_subset}
-use Rattle.rox_grammar.specs.Document.{MayHaveDoctype, doctype, no_doctype, Permits}
+use Rattle.rox_grammar.specs.Document.{Permits}
+use Rattle.rox_theory.specs.ParseParts.{MayHaveDoctype, doctype, no_doctype}
 use Rattle.rox_grammar.specs.State.{Open, root}
 use Rattle.rox_reading.specs.Refusals.{Refusal, here, there, refused, lifted}
 use Rattle.rox_reading.specs.State.{State}

@@ -42,6 +42,7 @@ pub mod Chains
 pub mod Derivations
 pub mod DoctypeLemmas
 pub mod EntityLemmas
+pub mod ParseParts
 pub mod Tops
 pub mod Asking
 pub mod Whole

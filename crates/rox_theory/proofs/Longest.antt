@@ -7,9 +7,11 @@ use Rattle.rox_grammar.specs.Written.{Item}
 use Rattle.rox_grammar.specs.Names.{slice}
 use Rattle.rox_grammar.specs.Entities.{Replacement, Entity}
 use Rattle.rox_grammar.specs.Doctype.{Asked, GivesReplacement, nothing, the_rest, IsDefinition, internal, external, entry, IsEntityDeclaration, Subset, no_more, space, an_item, skipped_declaration, an_entity, IsDoctype, no_subset, with_subset}
-use Rattle.rox_grammar.specs.Document.{MayHaveDoctype, doctype, no_doctype, ParseOf}
+use Rattle.rox_grammar.specs.Document.{ParseOf}
+use Rattle.rox_theory.specs.ParseParts.{MayHaveDoctype, doctype, no_doctype}
 use Rattle.rox_grammar.specs.Expansion.{longest}
 use Rattle.rox_theory.specs.Answers.{AreShort}
+use Rattle.rox_theory.proofs.ParseParts.{parts}
 
 short_parts : (most : ℕ) (first later : List Asked) → AreShort most (first ++ later) → AreShort most first × AreShort most later
 short_parts most [] later h = (tt, h)
@@ -62,4 +64,6 @@ module _ (src : List ℕ) (most : ℕ) where
   doctype_short i j dtd items asked es (doctype _ k _ front more _ _ is rest) h = itself_short i k front asked es is h
 
 pub parse_short : (src : List ℕ) (dtd : Bool) (asked : List Asked) (tree : Forest Item) (p : ParseOf src dtd asked tree) (most : ℕ) → AreShort most asked → longest p.entities ≤ max (length src) most
-parse_short src dtd asked tree p most h = doctype_short src most p.begun p.start dtd p.nodes asked p.entities p.doctype h
+parse_short src dtd asked tree whole most h =
+    let p = parts src dtd asked tree whole in
+    doctype_short src most p.begun p.start dtd p.nodes asked p.entities p.doctype h

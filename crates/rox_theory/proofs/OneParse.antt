@@ -12,7 +12,8 @@ use Rattle.rox_grammar.specs.TextStart.{after_bom}
 use Rattle.rox_grammar.specs.Entities.{Entity, included_in_main}
 use Rattle.rox_grammar.specs.Doctype.{Asked, Subset, IsDoctype, no_subset, with_subset, no_more, skipped_declaration, an_entity}
 use Rattle.rox_grammar.specs.Doctype as dtd
-use Rattle.rox_grammar.specs.Document.{Misc, no_misc, space, an_item, MayHaveDoctype, doctype, no_doctype, ParseOf, IsTreeOf, Permits, attribute_count, pairs}
+use Rattle.rox_grammar.specs.Document.{Misc, no_misc, space, an_item, ParseOf, IsTreeOf, Permits, attribute_count, pairs}
+use Rattle.rox_theory.specs.ParseParts.{MayHaveDoctype, doctype, no_doctype}
 use Rattle.rox_grammar.specs.Tree.{Node, document_tree}
 use Rattle.rox_grammar.specs.WellNamed.{AreWellNamed}
 use Rattle.rox_grammar.specs.State.{root}
@@ -27,6 +28,8 @@ use Rattle.rox_theory.proofs.FailedReadings.{ok_one}
 use Rattle.rox_theory.proofs.Whole.{asks_nothing_there}
 use Rattle.rox_theory.proofs.Once.{element_once}
 use Rattle.rox_theory.proofs.Around.{Stops, DoctypesAgree, none_agree, element_stops, end_stops, begins_stop, dtd_begins, misc_complete, prolog_complete}
+use Rattle.rox_theory.specs.ParseParts.{ParseParts}
+use Rattle.rox_theory.proofs.ParseParts.{parts}
 
 -- the same answers are the same replies
 pub same_replies : (a b : List Asked) → map (λ x. x.answer) a ≡ map (λ x. x.answer) b → replies_of a ≡ replies_of b
@@ -89,7 +92,7 @@ module _ (src : List ℕ) (utf8 : IsUtf8 src) where
         record { nodes = fits; attributes = omega (arith, bare.0); pairs = rw none (omega arith); named = named }
 
     -- the items of a document type declaration are well named
-    named_there : (is : Bool) (asked : List Asked) (t : Forest Item) (p : ParseOf src is asked t) → AreWellNamed [] p.nodes
+    named_there : (is : Bool) (asked : List Asked) (t : Forest Item) (p : ParseParts src is asked t) → AreWellNamed [] p.nodes
     named_there is asked t p =
         let named : AreWellNamed [] (join p.before (join p.nodes (join p.one p.after))) = subst (AreWellNamed []) p.is_tree p.well_named in
         named-left [] p.nodes (join p.one p.after) (named-right [] p.before (join p.nodes (join p.one p.after)) named)
@@ -111,7 +114,9 @@ module _ (src : List ℕ) (utf8 : IsUtf8 src) where
     -- for the same answers there is one parse
     pub one_parse : (d e : Bool) (a b : List Asked) (t u : Forest Item) → ParseOf src d a t → ParseOf src e b u → Permits allow d → Permits allow e → replies_of a ≡ replies_of b
         → (d ≡ e) × (a ≡ b) × (t ≡ u)
-    one_parse d e a b t u p q permits permits' answers =
+    one_parse d e a b t u first second permits permits' answers =
+        let p = parts src d a t first in
+        let q = parts src e b u second in
         let declared = ok_one p.prolog.declared_to q.prolog.declared_to (prolog src (after_bom src)) (prolog_complete src utf8 (after_bom src) p.prolog.declared_to p.prolog.declaration) (prolog_complete src utf8 (after_bom src) q.prolog.declared_to q.prolog.declaration) in
         let stops = element_stops true (included_in_main p.entities) src p.start p.end 255 p.openings_left p.one p.element in
         let stops' = element_stops true (included_in_main q.entities) src q.start q.end 255 q.openings_left q.one q.element in

@@ -6,8 +6,10 @@ use Rattle.rox_grammar.specs.Content.{Inclusion, IsMisc, comment, instruction, I
 use Rattle.rox_grammar.specs.Entities.{Entity, included_in_main}
 use Rattle.rox_grammar.specs.Doctype.{Asked, Subset, IsDoctype, no_subset, with_subset, no_more, skipped_declaration, an_entity}
 use Rattle.rox_grammar.specs.Doctype as dtd
-use Rattle.rox_grammar.specs.Document.{Misc, no_misc, space, an_item, MayHaveDoctype, doctype, no_doctype, ParseOf}
+use Rattle.rox_grammar.specs.Document.{Misc, no_misc, space, an_item, ParseOf}
+use Rattle.rox_theory.specs.ParseParts.{MayHaveDoctype, doctype, no_doctype}
 use Rattle.rox_reading.proofs.Forests.{is_text}
+use Rattle.rox_theory.proofs.ParseParts.{parts}
 
 -- no item of the row is a text
 abbrev pub HasNoText : Forest Item → Type 0
@@ -65,7 +67,8 @@ tops_merged main O src h i j k l b c is before nodes one after asked es first de
 
 -- merging changes nothing of a parse
 pub parse_merged : (src : List ℕ) (is : Bool) (asked : List Asked) (t : Forest Item) → ParseOf src is asked t → merge t ≡ t
-parse_merged src is asked t p =
+parse_merged src is asked t whole =
+    let p = parts src is asked t whole in
     ap merge p.is_tree
     ∙ tops_merged true (included_in_main p.entities) src p.prolog.declared_to p.begun p.start p.end (length src) 255 p.openings_left is p.before p.nodes p.one p.after asked p.entities p.prolog.misc p.doctype p.element p.misc_after
     ∙ sym p.is_tree

@@ -13,7 +13,8 @@ use Rattle.rox_grammar.specs.Content.{IsElement, empty, nest}
 use Rattle.rox_grammar.specs.TextStart.{after_bom}
 use Rattle.rox_grammar.specs.Entities.{Entity, most_deep, included_in_main}
 use Rattle.rox_grammar.specs.Doctype.{Asked}
-use Rattle.rox_grammar.specs.Document.{Misc, MayHaveDoctype, ParseOf, IsWithinLimits, Permits}
+use Rattle.rox_grammar.specs.Document.{Misc, ParseOf, IsWithinLimits, Permits}
+use Rattle.rox_theory.specs.ParseParts.{MayHaveDoctype}
 use Rattle.rox_grammar.specs.Document as document
 use Rattle.rox_grammar.specs.State.{root}
 use Rattle.rox_reading.specs.Refusals.{Refusal, here, there, refused, IsTextRefusal}
@@ -39,6 +40,9 @@ use Rattle.rox_theory.proofs.Tops.{tops_merged, parse_merged}
 use Rattle.rox_theory.proofs.SameReplies.{reading_same}
 use Rattle.rox_theory.proofs.Asking.{ok_lifted, nothing_ok, nothing_lifted_ok, asks_none, asking_ok}
 use Rattle.rox_theory.proofs.Around.{DoctypesAgree, element_stops, end_stops, none_agree, begins_stop, dtd_begins, ends_cut, element_ends, bom_cut, misc_sound, misc_complete, prolog_sound, prolog_complete, prolog_cut}
+use Rattle.rox_theory.specs.ParseParts.{ParseParts}
+use Rattle.rox_theory.specs.ParseParts as parts_of
+use Rattle.rox_theory.proofs.ParseParts.{parts, parsed}
 
 -- an element is a node at least
 element_size : (src : List ℕ) (i j b c : ℕ) (es : List Entity) (one : Forest Item) → IsElement true (included_in_main es) src i j b c one → 1 ≤ size one
@@ -153,7 +157,7 @@ module _ (src : List ℕ) (utf8 : IsUtf8 src) where
         let some = element_size src d.state.at found.end 255 found.openings_left d.entities found.one found.element in
         let counted : 1 + size t ≤ most = subst (λ (f : Forest Item). 1 + size f ≤ most) merged found.fine.nodes in (
           dtd.0,
-          record {
+          parsed src dtd.0 asked t (record {
             begun = s.at;
             before = ahead.0;
             prolog = record { declared_to = i; declaration = may; misc = ahead.1 };
@@ -169,7 +173,7 @@ module _ (src : List ℕ) (utf8 : IsUtf8 src) where
             misc_after = found.misc_after;
             is_tree = tree;
             well_named = found.fine.named;
-          },
+          }),
           record { nodes = omega arith; attributes = found.fine.attributes; namespaces = found.fine.pairs },
           dtd.3,
         )))))
@@ -198,18 +202,18 @@ module _ (src : List ℕ) (utf8 : IsUtf8 src) where
       rw (eq-eqb _ _ (element_stops true (included_in_main es) src i j 255 c one element).0, read, driven, rest) refl
 
   -- what the limits allow of a parse they allow where its text has been read
-  parse_fine : (limit : ℕ) (dtd : Bool) (asked : List Asked) (t : Forest Item) (p : ParseOf src dtd asked t) → IsWithinLimits limit t
+  parse_fine : (limit : ℕ) (dtd : Bool) (asked : List Asked) (t : Forest Item) (p : ParseParts src dtd asked t) → IsWithinLimits limit t
       → IsValidState limit (state (length src) (join (join (join p.before p.nodes) p.one) p.after) root p.openings_left) × (t ≡ join (join (join p.before p.nodes) p.one) p.after)
   parse_fine limit dtd asked t p within =
       let tree : t ≡ join (join (join p.before p.nodes) p.one) p.after =
       p.is_tree ∙ ap (join p.before) (sym (join_assoc p.nodes p.one p.after)) ∙ sym (join_assoc p.before (join p.nodes p.one) p.after) ∙ ap (λ (f : Forest Item). join f p.after) (sym (join_assoc p.before p.nodes p.one)) in
-      let merged = parse_merged src dtd asked t p in
+      let merged = parse_merged src dtd asked t (parsed src dtd asked t p) in
       let counted : 1 + size (merge t) ≤ limit = rw merged (omega (arith, within.nodes)) in
       let whole : IsValidState limit (state (length src) t root p.openings_left) = record { nodes = counted; attributes = within.attributes; pairs = within.namespaces; named = p.well_named } in
       (subst (λ (f : Forest Item). IsValidState limit (state (length src) f root p.openings_left)) tree whole, tree)
 
   -- what comes before a document type declaration is read, and one begins behind it, if there is one
-  before_read : (limit : ℕ) (dtd : Bool) (asked : List Asked) (t : Forest Item) (p : ParseOf src dtd asked t) → IsWithinLimits limit t
+  before_read : (limit : ℕ) (dtd : Bool) (asked : List Asked) (t : Forest Item) (p : ParseParts src dtd asked t) → IsWithinLimits limit t
       → (prolog src (after_bom src) ≡ Ok p.prolog.declared_to) × (misc limit (length src) src (state p.prolog.declared_to Nil root 255) ≡ Ok (state p.begun p.before root 255)) × (at word.DoctypeStart src p.begun ≡ dtd)
   before_read limit dtd asked t p within =
       let stops = element_stops true (included_in_main p.entities) src p.start p.end 255 p.openings_left p.one p.element in
@@ -227,19 +231,22 @@ module _ (src : List ℕ) (utf8 : IsUtf8 src) where
   pub doctype_seen : (limit : ℕ) (dtd : Bool) (asked : List Asked) (t : Forest Item) → ParseOf src dtd asked t → IsWithinLimits limit t → has_doctype limit src ≡ dtd
   unfolding has_doctype
   doctype_seen limit dtd asked t p within =
-      let b = before_read limit dtd asked t p within in
+      let b = before_read limit dtd asked t (parts src dtd asked t p) within in
       rw (b.0, b.1) b.2
 
   module _ (allow : Bool) (doctypes : DoctypesAgree src allow) where
     -- the entities of a parse are text
     pub parse_texts : (dtd : Bool) (asked : List Asked) (t : Forest Item) (p : ParseOf src dtd asked t) → Permits allow dtd → AreTexts p.entities
-    parse_texts dtd asked t p permits = doctypes.texts p.begun p.start dtd p.nodes asked p.entities p.doctype permits
+    parse_texts dtd asked t whole permits =
+        let p = parts src dtd asked t whole in
+        doctypes.texts p.begun p.start dtd p.nodes asked p.entities p.doctype permits
 
     -- a parse within the limits is read, with any replies behind the answers
     pub parse_is_read : (limit : ℕ) (dtd : Bool) (asked : List Asked) (more : List Reply) (t : Forest Item) → ParseOf src dtd asked t → IsWithinLimits limit t → Permits allow dtd
         → reading limit allow (replies_of asked ++ more) src ≡ (asked, Ok t)
     unfolding reading
-    parse_is_read limit dtd asked more t p within permits =
+    parse_is_read limit dtd asked more t read within permits =
+        let p = parts src dtd asked t read in
         let b = before_read limit dtd asked t p within in
         let f = parse_fine limit dtd asked t p within in
         let fine = f.0 in
@@ -247,7 +254,7 @@ module _ (src : List ℕ) (utf8 : IsUtf8 src) where
         let behind = fine_before limit p.end (length src) p.openings_left p.openings_left (join (join p.before p.nodes) p.one) p.after root fine in
         let element = fine_before limit p.start p.end 255 p.openings_left (join p.before p.nodes) p.one root behind in
         let declared = doctypes.complete limit p.begun p.start dtd p.before p.nodes asked p.entities more p.doctype stops.2 stops.1 permits element in
-        let main = body_complete limit p.entities p.start p.end p.openings_left (join p.before p.nodes) p.one p.after (parse_texts dtd asked t p permits) p.element p.misc_after fine in
+        let main = body_complete limit p.entities p.start p.end p.openings_left (join p.before p.nodes) p.one p.after (parse_texts dtd asked t read permits) p.element p.misc_after fine in
         let done = finishes (join (join (join p.before p.nodes) p.one) p.after) p.openings_left in
         let e : asked ++ [] ≡ asked = append-nil asked in
         rw (b.0, b.1, declared, main, done, e) (ap (λ (f : Forest Item). (asked, Ok f)) (sym f.1))
@@ -295,11 +302,11 @@ module _ (src : List ℕ) (utf8 : IsUtf8 src) where
 
   -- nothing is asked
   pub asks_nothing_there : (asked : List Asked) (t : Forest Item) → ParseOf src false asked t → asked ≡ []
-  asks_nothing_there asked t p = none p.begun p.start p.nodes asked p.entities false refl p.doctype
+  asks_nothing_there asked t whole = let p = parts src false asked t whole in none p.begun p.start p.nodes asked p.entities false refl p.doctype
     where
       none : (i j : ℕ) (nodes : Forest Item) (asked : List Asked) (es : List Entity) (dtd : Bool) → dtd ≡ false → MayHaveDoctype src i j dtd nodes asked es → asked ≡ []
-      none i j nodes asked es dtd is (document.doctype _ k _ own more _ _ one rest) = absurd (false≢true (sym is))
-      none i j nodes asked es dtd is (document.no_doctype _) = refl
+      none i j nodes asked es dtd is (parts_of.MayHaveDoctype.doctype _ k _ own more _ _ one rest) = absurd (false≢true (sym is))
+      none i j nodes asked es dtd is (parts_of.MayHaveDoctype.no_doctype _) = refl
 
   -- what is read where none may stand is a parse
   pub plain_parse : (limit : ℕ) (asked : List Asked) (t : Forest Item) → reading limit false [] src ≡ (asked, Ok t) → (asked ≡ []) × ParseOf src false [] t × IsWithinLimits limit t

@@ -5,9 +5,11 @@ use Rattle.rox_grammar.specs.Written.{Item}
 use Rattle.rox_grammar.specs.Content.{IsElement}
 use Rattle.rox_grammar.specs.Entities.{Entity, included_in_main, no_entities}
 use Rattle.rox_grammar.specs.Doctype.{Asked}
-use Rattle.rox_grammar.specs.Document.{Misc, MayHaveDoctype, no_doctype, ParseOf}
+use Rattle.rox_grammar.specs.Document.{Misc, ParseOf}
+use Rattle.rox_theory.specs.ParseParts.{MayHaveDoctype, no_doctype}
 use Rattle.rox_theory.specs.WithoutDoctype.{ParseWithout}
 use Rattle.rox_theory.proofs.Following.{element_without, element_count, follows_any}
+use Rattle.rox_theory.proofs.ParseParts.{parts, parsed}
 
 -- nothing stands there, is asked or declared
 pub no_doctype_there : (src : List ℕ) (i j : ℕ) (items : Forest Item) (asked : List Asked) (es : List Entity) → MayHaveDoctype src i j false items asked es
@@ -15,7 +17,8 @@ pub no_doctype_there : (src : List ℕ) (i j : ℕ) (items : Forest Item) (asked
 no_doctype_there src i j items asked es (no_doctype _) = (refl, refl, refl, refl)
 
 pub parse_without : (src : List ℕ) (asked : List Asked) (tree : Forest Item) → ParseOf src false asked tree → (asked ≡ []) × ParseWithout src tree
-parse_without src asked tree p =
+parse_without src asked tree whole =
+    let p = parts src false asked tree whole in
     let none = no_doctype_there src p.begun p.start p.nodes asked p.entities p.doctype in
     let one = element_without src p.start p.end 255 p.openings_left p.one
     (subst (λ (es : List Entity). IsElement true (included_in_main es) src p.start p.end 255 p.openings_left p.one) none.3 p.element) in (
@@ -42,7 +45,7 @@ element_with es src i j b c one is = let x = element_count true no_entities (inc
 pub parse_with : (src : List ℕ) (tree : Forest Item) → ParseWithout src tree → ParseOf src false [] tree
 parse_with src tree p =
     let one = element_with [] src p.start p.end 255 p.openings_left p.one p.element in
-    record {
+    parsed src false [] tree (record {
       begun = p.start;
       before = p.before;
       prolog = record { declared_to = p.prolog.declared_to; declaration = p.prolog.declaration; misc = p.prolog.misc };
@@ -58,4 +61,4 @@ parse_with src tree p =
       misc_after = p.misc_after;
       is_tree = p.is_tree;
       well_named = p.well_named;
-    }
+    })

@@ -1,6 +1,7 @@
 pub mod ValidState
 pub mod Openers
 pub mod WithoutDoctype
+pub mod ParseParts
 pub mod CharItems
 pub mod Apart
 pub mod Answers

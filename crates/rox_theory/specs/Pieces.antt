@@ -60,9 +60,9 @@ writes es (suc d) main =
 -- of a whole parse: the comments and processing instructions around the root element are written in the text itself
 abbrev pub pieces_of : (src : List ℕ) (dtd : Bool) (asked : List Asked) (tree : Forest Item) → ParseOf src dtd asked tree → Forest Piece
 pieces_of src dtd asked tree p =
-    join (written_in src p.before)
-    (join (written_in src p.nodes)
-    (join (element_pieces true (included_in_main p.entities) (writes p.entities most_deep true) src p.start p.end 255 p.openings_left p.one p.element) (written_in src p.after)))
+    join (written_in src p.whole.before)
+    (join (element_pieces true (included_in_main p.entities) (writes p.entities most_deep true) src p.whole.start p.whole.end 255 p.whole.openings_left p.whole.one p.whole.element)
+    (written_in src p.whole.after))
 
 -- These items, where below each of them every longest row of touching texts becomes one text: its value is theirs joined, and its
 -- range is that of the first. (At the top of a document there are no texts.)

@@ -5,7 +5,7 @@ ghost use Rattle.rox_grammar.specs.Forest.{Forest};
 ghost use Rattle.rox_grammar.specs.Written.{Item};
 ghost use Rattle.rox_grammar.specs.Entities.{Entity};
 ghost use Rattle.rox_grammar.specs.Doctype.{Asked};
-ghost use Rattle.rox_grammar.specs.Document.{MayHaveDoctype};
+ghost use Rattle.rox_theory.specs.ParseParts.{MayHaveDoctype};
 ghost use Rattle.rox_theory.specs.Openers.{AreTexts};
 
 /// Each entity that a document type declaration declares is text.

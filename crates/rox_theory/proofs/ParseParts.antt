@@ -1,0 +1,63 @@
+-- A parse and its parts say the same.
+use Rattle.std.proofs.Common.{◌≡◌, ℕ, Bool, true, false, List, [], refl, sym, ap, ◌∙◌, subst}
+use Rattle.rox_grammar.specs.Forest.{Forest, Nil, join}
+use Rattle.rox_grammar.specs.Written.{Item}
+use Rattle.rox_grammar.specs.Entities.{Entity}
+use Rattle.rox_grammar.specs.Doctype.{Asked}
+use Rattle.rox_grammar.specs.Document.{Prolog, with_doctype, without_doctype, PrologTo, ParseOf}
+use Rattle.rox_theory.specs.ParseParts.{MayHaveDoctype, doctype, no_doctype, PrologParts, ParseParts}
+use Rattle.rox_reading.proofs.Forests.{join_assoc, join-nil}
+
+pub prolog_parts : (src : List ℕ) (p : ℕ) (dtd : Bool) (items : Forest Item) (asked : List Asked) (es : List Entity) → Prolog src p dtd items asked es → PrologParts src dtd asked es p items
+prolog_parts src p dtd items asked es (with_doctype i j before own after _ _ ahead is behind) =
+    record { begun = i; before = before; ahead = ahead; nodes = join own after; doctype = doctype i j p own after asked es is behind; all = refl }
+prolog_parts src p dtd items asked es (without_doctype _ ahead) = record { begun = p; before = items; ahead = ahead; nodes = Nil; doctype = no_doctype p; all = sym (join-nil items) }
+
+pub parts_prolog : (src : List ℕ) (p : ℕ) (dtd : Bool) (items : Forest Item) (asked : List Asked) (es : List Entity) → PrologParts src dtd asked es p items → Prolog src p dtd items asked es
+parts_prolog src p dtd items asked es a = subst (λ (f : Forest Item). Prolog src p dtd f asked es) (sym a.all) (joined a.begun p dtd a.before a.nodes asked es a.ahead a.doctype)
+  where
+    joined : (i p : ℕ) (dtd : Bool) (before nodes : Forest Item) (asked : List Asked) (es : List Entity) → PrologTo src i before → MayHaveDoctype src i p dtd nodes asked es → Prolog src p dtd (join before nodes) asked es
+    joined i p dtd before nodes asked es ahead (doctype _ j _ own after _ _ is behind) = with_doctype i j before own after asked es ahead is behind
+    joined i p dtd before nodes asked es ahead (no_doctype _) = subst (λ (f : Forest Item). Prolog src i false f [] []) (sym (join-nil before)) (without_doctype before ahead)
+
+abbrev pub parts : (src : List ℕ) (dtd : Bool) (asked : List Asked) (tree : Forest Item) → ParseOf src dtd asked tree → ParseParts src dtd asked tree
+parts src dtd asked tree p =
+    let b = p.whole in
+    let a = prolog_parts src b.start dtd b.before asked p.entities b.ahead in
+    record {
+      begun = a.begun;
+      before = a.before;
+      prolog = a.ahead;
+      start = b.start;
+      nodes = a.nodes;
+      entities = p.entities;
+      doctype = a.doctype;
+      end = b.end;
+      openings_left = b.openings_left;
+      one = b.one;
+      element = b.element;
+      after = b.after;
+      misc_after = b.misc;
+      is_tree = b.all ∙ join_assoc b.before b.one b.after ∙ ap (λ (f : Forest Item). join f (join b.one b.after)) a.all ∙ join_assoc a.before a.nodes (join b.one b.after);
+      well_named = b.well_named;
+    }
+
+pub parsed : (src : List ℕ) (dtd : Bool) (asked : List Asked) (tree : Forest Item) → ParseParts src dtd asked tree → ParseOf src dtd asked tree
+parsed src dtd asked tree p =
+    record {
+      entities = p.entities;
+      whole = record {
+        start = p.start;
+        before = join p.before p.nodes;
+        ahead = parts_prolog src p.start dtd (join p.before p.nodes) asked p.entities
+            (record { begun = p.begun; before = p.before; ahead = p.prolog; nodes = p.nodes; doctype = p.doctype; all = refl });
+        end = p.end;
+        openings_left = p.openings_left;
+        one = p.one;
+        element = p.element;
+        after = p.after;
+        misc = p.misc_after;
+        all = p.is_tree ∙ sym (join_assoc p.before p.nodes (join p.one p.after)) ∙ sym (join_assoc (join p.before p.nodes) p.one p.after);
+        well_named = p.well_named;
+      };
+    }
