@@ -6,7 +6,8 @@ use Rattle.std.proofs.lemmas.Nat.{and_le_r}
 use Rattle.std.proofs.lemmas.Simd.{Each1-all, Each1-weaker, Each1-zip2, Each2-splat, below_from_Fits, length-zip2, swz_l, SwzOk, SwzOk-from_below, length-swz_l, get_or-swz_l_below, zip2_splat, zip2_of_maps, map-map, mask_l-mod, length-chunk, leading_from_mask_l, trailing_mask_l, run_in_chunk_fails, run_in_chunk_stops}
 use Rattle.std.proofs.lemmas.List.{get_or-map, ext_get_or, length-map, drop-map, drop-take, drop-drop}
 use Rattle.std.proofs.lemmas.Bool.{cases_lt, not-false, not-true}
-use Rattle.rox_scan.specs.ByteSets.{AllPass}
+use Rattle.rox_scan.specs.ByteSets.{AllPass, EndsSet}
+use Rattle.rox_scan.specs.Windows.{IsSeen}
 use Rattle.rox_scan.proofs.TableLemmas.{agree_below, agree_at}
 use lib.Count.{count_trailing_zeros}
 use lib.Bits.{bit_and, bit_or}
@@ -79,6 +80,29 @@ passes_on p src i e j before behind k low high = elim (cases_lt k e) [ inl less 
 
 pub block_stops : (p : ℕ → Bool) (src : List ℕ) (i n r : ℕ) → i + n ≤ length src → r ≡ prefix_len (λ b. not (not (p b))) (chunk i n src) → r < n → p (get_or src (i + r) 0) ≡ false
 block_stops p src i n r room counted short = not-true _ (run_in_chunk_stops (λ b. not (p b)) src i n r 0 room counted short)
+
+-- where no bit is set all sixteen pass
+pub none_seen : (p : ℕ → Bool) (src : List ℕ) (i others : ℕ) → IsSeen p src i others → others ≡ 0 → AllPass p src i (i + 16)
+none_seen p src i others seen none =
+    let within = seen.within in
+    block_passes p src i 16 16 within (counted_none (λ b. not (p b)) src i 16 within (sym seen.mask ∙ none))
+
+-- and the first that has a bit ends the set
+pub first_seen : (p : ℕ → Bool) (src : List ℕ) (i others : ℕ) → IsSeen p src i others → 0 < others → EndsSet p src i (i + count_trailing_zeros 64 others)
+first_seen p src i others seen some =
+    let q = λ (b : ℕ). not (p b) in
+    let within = seen.within in
+    let mask = seen.mask in
+    let left : 0 < mask_l (map q (chunk i 16 src)) = omega (arith, mask, some) in
+    let counted = counted_some q src i 16 within (omega arith) left in
+    let count = ap (count_trailing_zeros 64) mask ∙ counted in
+    let short : count_trailing_zeros 64 others < 16 = omega (arith, count, some_left q (chunk i 16 src) left, length-chunk i 16 src within) in
+    record {
+      onward = omega arith;
+      within = omega arith;
+      passes = block_passes p src i 16 _ within count;
+      stops = λ more. block_stops p src i 16 _ within count short;
+    }
 
 -- the lanes as they are
 pub map_same : (v : List ℕ) → v ≡ map (λ x. x) v

@@ -1,8 +1,8 @@
 -- Where a fixed text stands.
-use Rattle.std.proofs.Common.{◌≡◌, ◌⊎◌, ℕ, zero, suc, ◌+◌, ◌<◌, ◌≤◌, ◌==◌, Bool, true, false, List, [], ◌∷◌, ◌++◌, length, get_or, drop, Option, Some, None, unwrap_or, refl, sym, inl, inr, add-zero, arith, add_assoc}
+use Rattle.std.proofs.Common.{◌≡◌, ◌⊎◌, ℕ, zero, suc, ◌+◌, ◌<◌, ◌≤◌, ◌==◌, Bool, true, false, List, [], ◌∷◌, ◌++◌, length, get_or, drop, Option, Some, None, unwrap_or, refl, sym, inl, inr, add-zero, arith, add_assoc, lit<, ap, get_or-drop}
 use Rattle.std.specs.List.{starts_with, position_or_len}
 use Rattle.std.specs.Str.{IsUtf8, IsCharBoundary}
-use Rattle.std.proofs.lemmas.Str.{IsCharBoundary-after_ascii}
+use Rattle.std.proofs.lemmas.Str.{IsCharBoundary-after_ascii, IsCharBoundary-before_ascii, IsCharBoundary-end}
 use Rattle.std.proofs.lemmas.Bool.{cases_lt, le-ltb}
 use Rattle.std.proofs.lemmas.Bool.Decides.{Decides-eqb}
 use Rattle.std.proofs.lemmas.List.{length-drop}
@@ -11,7 +11,11 @@ use Rattle.std.proofs.lemmas.List.Prefix.{at_reads, front_fits}
 use Rattle.std.proofs.lemmas.Slice.Eq.{starts_is}
 use Rattle.memchr.specs.Find.{IsFirstByte, FindsNeedle, OccursAt}
 use Rattle.memchr.proofs.lemmas.MatchLemmas.{OccursAt-split}
-use Rattle.rox_grammar.specs.Search.{stands, before_mark}
+use Rattle.rox_grammar.specs.Search.{stands, before_mark, mark_from}
+use Rattle.rox_grammar.specs.declared.fault.Word.{Word}
+use Rattle.rox_grammar.specs.declared.fault.Word.TheVariants as word
+use Rattle.rox_grammar.specs.FixedTexts.{word_text}
+use Rattle.rox_scan.specs.ScanResults.{Finds}
 use Rattle.rox_grammar.specs.Constructs.{has_mark}
 
 bool_cases : (b : Bool) → (b ≡ true) ⊎ (b ≡ false)
@@ -120,3 +124,45 @@ pub no_mark : (mark hay : List ℕ) → 0 < length mark → ((j : ℕ) → j < l
 no_mark mark hay some apart =
     let all = before_mark_is mark hay (length hay) (omega arith) (λ j below. not_from_first mark hay j some (apart j below)) (λ more. absurd (omega arith)) in
     rw all (le-ltb (length hay) (length hay) (omega arith))
+
+-- a fixed text begins with an ASCII byte
+pub word_first : (w : Word) → (0 < length (word_text w)) × (get_or (word_text w) 0 0 < 128)
+word_first word.CommentStart = (lit< tt, lit< tt)
+word_first word.CommentEnd = (lit< tt, lit< tt)
+word_first word.PIStart = (lit< tt, lit< tt)
+word_first word.PIEnd = (lit< tt, lit< tt)
+word_first word.XmlDeclStart = (lit< tt, lit< tt)
+word_first word.CDataStart = (lit< tt, lit< tt)
+word_first word.CDataEnd = (lit< tt, lit< tt)
+word_first word.EndTagStart = (lit< tt, lit< tt)
+word_first word.MarkupStart = (lit< tt, lit< tt)
+word_first word.DoctypeStart = (lit< tt, lit< tt)
+word_first word.Version = (lit< tt, lit< tt)
+word_first word.Encoding = (lit< tt, lit< tt)
+word_first word.Standalone = (lit< tt, lit< tt)
+word_first word.System = (lit< tt, lit< tt)
+word_first word.Public = (lit< tt, lit< tt)
+word_first word.EntityStart = (lit< tt, lit< tt)
+word_first word.ElementStart = (lit< tt, lit< tt)
+word_first word.AttlistStart = (lit< tt, lit< tt)
+word_first word.NotationStart = (lit< tt, lit< tt)
+word_first word.NData = (lit< tt, lit< tt)
+word_first word.Xml = (lit< tt, lit< tt)
+word_first word.Xmlns = (lit< tt, lit< tt)
+
+-- where a search behind a place finds the mark
+pub mark_found : (mark src : List ℕ) (i : ℕ) (r : Option ℕ) → IsCharBoundary src i → 0 < length mark → get_or mark 0 0 < 128 → FindsNeedle (drop i src) mark 0 r
+    → Finds src i (i + unwrap_or r (length (drop i src))) (mark_from mark src i)
+unfolding mark_from
+mark_found mark src i r cut some ascii found =
+    let n = unwrap_or r (length (drop i src)) in
+    let long = length-drop i src in
+    let within = found_within mark (drop i src) r found in
+    record {
+      place = ap (λ k. i + k) (sym (found_before mark (drop i src) r some found));
+      onward = omega arith;
+      cut = elim (cases_lt (i + n) (length src)) [
+        | inl more ↦ IsCharBoundary-before_ascii src (i + n) more (omega (arith, found_reads mark (drop i src) r some found (omega arith), get_or-drop i src n 0))
+        | inr past ↦ let end : i + n ≡ length src = omega arith in rw end (IsCharBoundary-end src)
+      ];
+    }

@@ -1,6 +1,6 @@
 -- The parts of a document type declaration, without where they lie in memory, and how a resolver's answer begins.
 use Prim.Native.Char.{code}
-use Rattle.std.specs.Prelude.{◌≡◌, ℕ, ◌+◌, ◌≤◌, ◌==◌, ◌||◌, Bool, List, Option, Some, Result, Ok, Err, length, take, IsCharBoundary, slice_index, nat_lt, nat_le, if◌then◌else◌}
+use Rattle.std.specs.Prelude.{◌≡◌, ℕ, ◌+◌, ◌==◌, ◌||◌, Bool, List, Option, Some, Result, Ok, Err, length, take, slice_index, nat_lt, nat_le, if◌then◌else◌}
 use Rattle.rox_grammar.specs.declared.fault.Fault.{Fault}
 use Rattle.rox_grammar.specs.declared.fault.Fault.TheVariants as fault
 use Rattle.rox_grammar.specs.declared.fault.Due.TheVariants as due
@@ -34,12 +34,6 @@ definition_view (definition.Outer id) = reading.outer (request_view id)
 
 abbrev pub head_view : EntityHead → reading.EntityHead
 head_view h = record { parameter = h.parameter; name = h.name.now }
-
--- two places between characters, in order
-pub record AreBoundaries (text : List ℕ) (start end : ℕ) : Type 0 where
-  pub ordered : start ≤ end
-  pub from : IsCharBoundary text start
-  pub until : IsCharBoundary text end
 
 -- a definition in quotes
 abbrev pub inner_at : List ℕ → ℕ → Read reading.Definition

@@ -1,5 +1,6 @@
 -- How the result of a step stands to what is read.
 use Rattle.std.specs.Prelude.{◌≡◌, ◌≤◌, ◌<◌, ℕ, Bool, true, List, length, slice_index, Result, Ok, Err}
+use Rattle.std.specs.Borrow.{Bor}
 use Rattle.std.specs.List.{position_or_len}
 use Rattle.std.specs.Str.{IsCharBoundary}
 use Rattle.rox_grammar.specs.declared.fault.Fault.{Fault}
@@ -24,10 +25,27 @@ abbrev pub GivesFrom : {A B : Type 0} → (A → B) → Cursor → Result A Fail
 GivesFrom view after (Ok x) read = read ≡ Ok (view x, after.pos)
 GivesFrom view after (Err e) read = Fails e read
 
--- the cursor stands at this place of its source
+-- the cursor stands at this place of this source
+pub record IsAt (text : Bor (List ℕ)) (at : ℕ) (cursor : Cursor) : Type 0 where
+  pub place : cursor.pos ≡ at
+  pub source : cursor.text ≡ text
+
+-- the cursor moved on to this place of its source
 pub record MovesTo (to : ℕ) (old new : Cursor) : Type 0 where
   pub place : new.pos ≡ to
   pub source : new.text ≡ old.text
+  pub onward : old.pos ≤ new.pos
+
+-- two places between characters, in order
+pub record AreBoundaries (text : List ℕ) (start end : ℕ) : Type 0 where
+  pub ordered : start ≤ end
+  pub from : IsCharBoundary text start
+  pub until : IsCharBoundary text end
+
+-- a character begins at this place
+pub record HasCharAt (text : List ℕ) (at : ℕ) : Type 0 where
+  pub cut : IsCharBoundary text at
+  pub within : at < length text
 
 -- What is found from `at` on stands at this place, which is between two characters, as `at` is.
 pub record Finds (text : List ℕ) (at found wanted : ℕ) : Type 0 where

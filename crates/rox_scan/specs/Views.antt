@@ -13,6 +13,7 @@ use Rattle.rox_scan.specs.declared.character_data.RawCharacterData.{RawCharacter
 use Rattle.rox_scan.specs.declared.markup.Instruction.{Instruction}
 use Rattle.rox_scan.specs.declared.tag.EndTag.{EndTag}
 use Rattle.rox_scan.specs.declared.tag.RawAttribute.{RawAttribute}
+use Rattle.rox_scan.specs.declared.tag.RawValue.{RawValue}
 use Rattle.rox_scan.specs.declared.tag.TagItem.{TagItem}
 use Rattle.rox_scan.specs.declared.tag.TagItem.TheVariants as item
 
@@ -41,6 +42,12 @@ pub record HasValue (text : List ℕ) (a : RawAttribute) : Type 0 where
   pub is : a.value.now ≡ slice_range text a.value_start a.value_end
   -- it says whether it has nothing to change
   pub verbatim : a.is_verbatim ≡ is_verbatim_value a.value.now
+
+-- a value in these quotes is read up to the quote, and it says whether it has nothing to change
+pub record ReadsValue (quote : ℕ) (old new : Cursor) (result : Result RawValue Fault) : Type 0 where
+  pub read : Steps (λ x. x.text.now) old new result (markup.raw_value_at quote)
+  pub text : IfOk result (λ x. x.text.now ≡ slice_range old.text.now old.pos new.pos)
+  pub verbatim : IfOk result (λ x. x.is_verbatim ≡ is_verbatim_value x.text.now)
 
 -- a value in these quotes is passed over, up to the quote, and the answer says whether it has nothing to change
 pub record PassesValue (quote : ℕ) (old new : Cursor) (result : Result Bool Fault) : Type 0 where

@@ -7,7 +7,8 @@ ghost use Rattle.std.specs.Simd.Lanes.{mask_l};
 ghost use Rattle.rox_grammar.specs.Chars as spec;
 ghost use Rattle.rox_grammar.specs.Runs.{run_end};
 ghost use Rattle.rox_scan.specs.ByteSets as near;
-ghost use Rattle.rox_scan.specs.ByteSets.{AllPass, EndsSet, is_part_byte};
+ghost use Rattle.rox_scan.specs.ByteSets.{EndsSet, is_part_byte};
+ghost use Rattle.rox_scan.specs.Windows.{IsSeen};
 ghost use Rattle.rox_scan.specs.ScanResults.{Finds};
 
 use crate::chars;
@@ -153,11 +154,7 @@ impl ByteSet for SpaceByte {
 #[inline(always)]
 fn others_at<C: ByteSet>(bytes: &[u8], at: usize) -> u64
     requires { at + 16 ≤ length bytes.now }
-    ensures none { result ≡ 0 → AllPass C.test bytes.now at (at + 16) }
-    ensures few { 0 < result → trailing_zeros w64 result < 16 }
-    ensures passes { 0 < result → AllPass C.test bytes.now at (at + trailing_zeros w64 result) }
-    ensures stops { 0 < result → C.test (slice_index bytes.now (at + trailing_zeros w64 result))
-        ≡ false }
+    ensures { IsSeen C.test bytes.now at result }
 {
     C::others(u8x16::from_slice(&bytes[at..]))
 }

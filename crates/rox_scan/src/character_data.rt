@@ -12,6 +12,7 @@ ghost use Rattle.rox_scan.specs.ByteSets as near;
 ghost use Rattle.rox_scan.specs.Lookahead as longer;
 ghost use Rattle.rox_scan.specs.Lookahead.{IsLineRun, IsLookahead, IsStep, LooksAhead};
 ghost use Rattle.rox_scan.specs.Views.{ReadsRun};
+ghost use Rattle.rox_scan.specs.ScanResults.{HasCharAt};
 
 use crate::byte_set::{ByteSet, skip_set};
 use crate::chars;
@@ -101,8 +102,7 @@ fn begins_no_char(text: &str, at: usize) -> bool
 /// The place behind the Char that begins with 239 at `at`, or `at` where U+FFFE or U+FFFF begins.
 #[inline(always)]
 fn after_wide(text: &str, at: usize) -> usize
-    requires cut { IsCharBoundary text.now at }
-    requires within { at < length text.now }
+    requires char { HasCharAt text.now at }
     requires here { slice_index text.now at ≡ 239 }
     ensures { IsStep text.now at result }
 {

@@ -22,7 +22,7 @@ pub struct Cursor<'input> {
 
 impl<'input> Cursor<'input> {
     ghost use Rattle.rox_grammar.specs.Failures.{name_view};
-    ghost use Rattle.rox_scan.specs.ScanResults.{MovesTo, Steps};
+    ghost use Rattle.rox_scan.specs.ScanResults.{AreBoundaries, IsAt, MovesTo, Steps};
     ghost use Rattle.rox_grammar.specs.Search.{stands};
     ghost use Rattle.rox_grammar.specs.FixedTexts.{word_text};
     ghost use Rattle.rox_grammar.specs.Names.{spaces_end};
@@ -31,8 +31,7 @@ impl<'input> Cursor<'input> {
     /// The start of a source.
     #[inline]
     pub fn new(text: &'input str) -> Cursor<'input>
-        ensures place { result.pos ≡ 0 }
-        ensures source { result.text ≡ text.entry }
+        ensures { IsAt text.entry 0 result }
     {
         Cursor { text, pos: 0 }
     }
@@ -41,8 +40,7 @@ impl<'input> Cursor<'input> {
     #[inline]
     pub fn at(text: &'input str, pos: usize) -> Cursor<'input>
         requires { IsCharBoundary text.now pos }
-        ensures place { result.pos ≡ pos }
-        ensures source { result.text ≡ text.entry }
+        ensures { IsAt text.entry pos result }
     {
         Cursor { text, pos }
     }
@@ -50,9 +48,7 @@ impl<'input> Cursor<'input> {
     /// The place `start` of a source that ends at `end`. Places count from the start of the whole text.
     #[inline]
     pub fn within(text: &'input str, start: usize, end: usize) -> Cursor<'input>
-        requires ordered { start ≤ end }
-        requires start { IsCharBoundary text.now start }
-        requires end { IsCharBoundary text.now end }
+        requires { AreBoundaries text.now start end }
         ensures place { result.pos ≡ start }
         ensures source { result.text.now ≡ take end text.entry.now }
     {
@@ -84,9 +80,7 @@ impl<'input> Cursor<'input> {
     /// Moves past any white space, also none (XML 1.0 [3] S).
     #[inline(always)]
     pub fn spaces(&mut self)
-        ensures place { self.new.pos ≡ spaces_end self.old.text.now self.old.pos }
-        ensures source { self.new.text ≡ self.old.text }
-        ensures onward { self.old.pos ≤ self.new.pos }
+        ensures { MovesTo (spaces_end self.old.text.now self.old.pos) self.old self.new }
     {
         self.pos = space_end(self.text, self.pos);
     }
@@ -231,8 +225,8 @@ impl<'input> Cursor<'input> {
         requires onward { self.old.pos ≤ end }
         requires cut { IsCharBoundary self.old.text.now end }
         ensures read { Steps (λ x. x.now) self.old self.new result (spec.chars_up_to end) }
-        ensures text { IfOk result (λ x. x.now ≡ slice_range self.old.text.now self.old.pos end) }
-        ensures place { IfOk result (λ x. self.new.pos ≡ end) }
+        ensures text { IfOk result (λ x.
+            (x.now ≡ slice_range self.old.text.now self.old.pos end) × (self.new.pos ≡ end)) }
     {
         let start = self.pos;
         let ill = chars_end(&self.text[..end], start);

@@ -12,7 +12,7 @@ ghost use Rattle.rox_reading.specs.Values as reading;
 ghost use Rattle.rox_scan.specs.ByteSets as near;
 ghost use Rattle.rox_scan.specs.Lookahead as longer;
 ghost use Rattle.rox_scan.specs.Lookahead.{IsLookahead, IsStep, LooksAhead};
-ghost use Rattle.rox_scan.specs.ScanResults.{Finds};
+ghost use Rattle.rox_scan.specs.ScanResults.{Finds, HasCharAt};
 
 use crate::byte_set::{ByteSet, CharByte, CommentByte, ValueByte, skip_set};
 use crate::nibbles::classes;
@@ -29,8 +29,7 @@ pub struct Lookahead {
 /// The place behind the Char that begins at `at`, or `at` where a character begins that is none.
 #[inline(always)]
 pub fn after_char(text: &str, at: usize) -> usize
-    requires cut { IsCharBoundary text.now at }
-    requires within { at < length text.now }
+    requires { HasCharAt text.now at }
     ensures step { IsStep text.now at result }
     ensures stops { result ≡ at → begins is_char text.now at ≡ false }
 {

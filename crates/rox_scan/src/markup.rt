@@ -1,6 +1,6 @@
 //! Comments, processing instructions and CDATA sections.
 
-ghost use Rattle.std.specs.Prelude.{◌≡◌, ◌<◌, ◌+◌, length, slice_index, true};
+ghost use Rattle.std.specs.Prelude.{◌≡◌, ◌+◌, true};
 ghost use Rattle.rox_grammar.specs.Search.{stands};
 ghost use Rattle.rox_grammar.specs.FixedTexts.{word_text};
 ghost use Rattle.rox_grammar.specs.Tree.{none_if_empty};
@@ -35,11 +35,9 @@ impl<'input> Cursor<'input> {
     #[inline]
     #[tactic(auto, unfolding(rox_reading::specs::Lexical::text_to))]
     fn text_to(&mut self, mark: Word) -> Result<&'input str, Fault>
-        requires some { 0 < length (word_text mark) }
-        requires ascii { slice_index (word_text mark) 0 < 128 }
         ensures { Steps (λ x. x.now) self.old self.new result (lexical.text_to mark) }
     {
-        let end = mark_from(self.text, self.pos, mark.text());
+        let end = mark_from(self.text, self.pos, mark);
         let text = self.chars_up_to(end)?;
         self.string(mark)?;
         Ok(text)

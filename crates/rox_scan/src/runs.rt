@@ -4,7 +4,7 @@ ghost use Rattle.std.specs.Char.{len_utf8};
 ghost use Rattle.std.specs.Str.{IsCharBoundary, chars};
 ghost use Rattle.rox_grammar.specs.Chars as spec;
 ghost use Rattle.rox_grammar.specs.Runs.{run_end, begins, StandsAt};
-ghost use Rattle.rox_scan.specs.ScanResults.{Finds};
+ghost use Rattle.rox_scan.specs.ScanResults.{Finds, HasCharAt};
 
 use crate::chars;
 
@@ -92,8 +92,7 @@ impl Class for XmlChar {
 /// The character that begins at `at`.
 #[inline]
 pub(crate) fn char_at(text: &str, at: usize) -> char
-    requires cut { IsCharBoundary text.now at }
-    requires within { at < length text.now }
+    requires { HasCharAt text.now at }
     ensures stands { StandsAt result text.now at }
     ensures first { result ≡ slice_index (chars (drop at text.now)) 0 }
     ensures cut { IsCharBoundary text.now (at + len_utf8 result) }
@@ -178,8 +177,7 @@ pub fn after_byte(text: &str, at: usize, byte: u8) -> usize
     requires some { 0 < byte }
     requires ascii { byte < 128 }
     requires here { slice_index text.now at ≡ byte }
-    ensures place { result ≡ at + 1 }
-    ensures cut { IsCharBoundary text.now result }
+    ensures { Finds text.now at result (at + 1) }
 {
     at + 1
 }

@@ -1,20 +1,20 @@
 //! The first place of a byte or of a fixed text.
-ghost use Rattle.std.specs.Prelude.{◌≡◌, ◌≢◌, ℕ, ◌+◌, ◌<◌, ◌≤◌, ◌||◌, ◌==◌, length, slice_index, true};
+ghost use Rattle.std.specs.Prelude.{◌≡◌, ◌+◌, ◌<◌, ◌≤◌, ◌||◌, ◌==◌, not, length};
 ghost use Rattle.std.specs.Str.{IsCharBoundary};
 ghost use Rattle.rox_grammar.specs.Search as spec;
 ghost use Rattle.rox_grammar.specs.Constructs.{has_mark};
+ghost use Rattle.rox_grammar.specs.FixedTexts.{word_text};
+ghost use Rattle.rox_scan.specs.ByteSets.{EndsSet};
 ghost use Rattle.rox_scan.specs.ScanResults.{Finds, FindsByte};
 
 use memchr::{memchr, memchr2, memmem};
+use rox_grammar::fault::Word;
 
 /// The first place from `at` on of the byte, or the end.
 #[inline]
 fn next_byte(bytes: &[u8], at: usize, byte: u8) -> usize
     requires { at ≤ length bytes.now }
-    ensures onward { at ≤ result }
-    ensures within { result ≤ length bytes.now }
-    ensures before { (k : ℕ) → at ≤ k → k < result → slice_index bytes.now k ≢ byte }
-    ensures found { result < length bytes.now → slice_index bytes.now result ≡ byte }
+    ensures { EndsSet (λ c. not (c == byte)) bytes.now at result }
 {
     match memchr(byte, bytes.split_at(at).1) {
         Some(count) => at + count,
@@ -40,18 +40,6 @@ pub fn before_mark(bytes: &[u8], mark: &[u8]) -> usize
         at = next + 1;
     }
     bytes.len()
-}
-
-/// The same in time that grows as the bytes do, whatever they are.
-#[inline]
-fn before_found(bytes: &[u8], mark: &[u8]) -> usize
-    requires { 0 < length mark.now }
-    ensures value { result ≡ spec.before_mark mark.now bytes.now }
-    ensures within { result ≤ length bytes.now }
-    ensures found { result < length bytes.now
-        → slice_index bytes.now result ≡ slice_index mark.now 0 }
-{
-    memmem::find(bytes, mark).unwrap_or(bytes.len())
 }
 
 /// How many bytes come before the first of this byte, or all.
@@ -80,16 +68,14 @@ pub fn has_mark(bytes: &[u8], mark: &[u8]) -> bool
     before_mark(bytes, mark) < bytes.len()
 }
 
-/// The first place from `at` on of the mark, or the end.
+/// The first place from `at` on of the fixed text, or the end, in time that grows as the text does, whatever it holds.
 #[inline]
-#[tactic(auto, unfolding(rox_grammar::specs::Search::mark_from))]
-pub fn mark_from(text: &str, at: usize, mark: &[u8]) -> usize
-    requires cut { IsCharBoundary text.now at }
-    requires some { 0 < length mark.now }
-    requires ascii { slice_index mark.now 0 < 128 }
-    ensures { Finds text.now at result (spec.mark_from mark.now text.now at) }
+pub fn mark_from(text: &str, at: usize, mark: Word) -> usize
+    requires { IsCharBoundary text.now at }
+    ensures { Finds text.now at result (spec.mark_from (word_text mark) text.now at) }
 {
-    at + before_found(text[at..].as_bytes(), mark)
+    let rest = text[at..].as_bytes();
+    at + memmem::find(rest, mark.text()).unwrap_or(rest.len())
 }
 
 /// The first place from `at` on of the byte, or the end.

@@ -6,6 +6,7 @@ ghost use Rattle.std.specs.List.{starts_with};
 ghost use Rattle.rox_grammar.specs.TextStart.{after_bom, bom};
 ghost use Rattle.rox_reading.specs.Doctype as spec;
 ghost use Rattle.rox_scan.specs.DoctypeViews.{IsReplacement};
+ghost use Rattle.rox_scan.specs.ScanResults.{IsAt};
 
 use crate::cursor::Cursor;
 use rox_grammar::fault::Fault;
@@ -19,8 +20,7 @@ fn has_byte_order_mark(text: &str) -> bool
 
 /// The start of a text, behind its byte order mark if it has one.
 pub fn start_of(text: &str) -> Cursor<'_>
-    ensures place { result.pos ≡ after_bom text.entry.now }
-    ensures source { result.text ≡ text.entry }
+    ensures { IsAt text.entry (after_bom text.entry.now) result }
 {
     if has_byte_order_mark(text) {
         Cursor::at(text, 3)

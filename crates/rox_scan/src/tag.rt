@@ -1,13 +1,12 @@
 //! What tags hold: the attributes of a start tag as they are written, its end, and the name of an end tag (XML 1.0 section 3.1).
 
-ghost use Rattle.std.specs.Prelude.{◌≡◌, ◌==◌, ◌||◌, ◌<◌, IfOk, slice_range, true};
+ghost use Rattle.std.specs.Prelude.{◌≡◌, ◌==◌, ◌||◌, IfOk, true};
 ghost use Rattle.rox_grammar.specs.Search.{stands};
 ghost use Rattle.rox_grammar.specs.FixedTexts.{word_text};
-ghost use Rattle.rox_grammar.specs.Content.{is_verbatim_value};
 ghost use Rattle.rox_grammar.specs.declared.fault.Word.TheVariants as word;
 ghost use Rattle.rox_reading.specs.Markup as spec;
 ghost use Rattle.rox_scan.specs.ScanResults.{Steps};
-ghost use Rattle.rox_scan.specs.Views.{HasValue, PassesValue, TagItemHasValue, attribute_view, end_tag_view, tag_item_view};
+ghost use Rattle.rox_scan.specs.Views.{HasValue, PassesValue, ReadsValue, TagItemHasValue, attribute_view, end_tag_view, tag_item_view};
 
 use crate::byte_set::{ValueByte, skip_set};
 use crate::cursor::Cursor;
@@ -74,10 +73,7 @@ impl<'input> Cursor<'input> {
     #[tactic(auto, using(crate::proofs::NearLemmas::near_plain, crate::proofs::NearLemmas::value_cut))]
     fn raw_value(&mut self, quote: u8) -> Result<RawValue<'input>, Fault>
         requires { (quote == 39 || quote == 34) ≡ true }
-        ensures read { Steps (λ x. x.text.now) self.old self.new result (spec.raw_value_at quote) }
-        ensures text { IfOk result
-            (λ x. x.text.now ≡ slice_range self.old.text.now self.old.pos self.new.pos) }
-        ensures verbatim { IfOk result (λ x. x.is_verbatim ≡ is_verbatim_value x.text.now) }
+        ensures { ReadsValue quote self.old self.new result }
     {
         let start = self.pos;
         let near = skip_set::<ValueByte>(self.text, start);

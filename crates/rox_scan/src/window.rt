@@ -1,6 +1,6 @@
 //! Sixteen bytes of a tag, seen at once: an attribute's name, and the end of its value or of as much of it as is among them.
 
-ghost use Rattle.std.specs.Prelude.{◌≤◌, ◌+◌, ◌<◌, ◌≡◌, ℕ, List, IfSome, IfNone, length};
+ghost use Rattle.std.specs.Prelude.{◌≤◌, ◌+◌, ◌<◌, ◌≡◌, ℕ, List, MatchOption, length};
 ghost use Rattle.rox_scan.specs.ByteSets.{AllPass, EndsSet, is_part_byte, is_value_byte};
 ghost use Rattle.rox_scan.specs.Windows.{Sees};
 
@@ -48,11 +48,10 @@ impl Window {
     #[inline(always)]
     pub fn value_count(&self, before: usize) -> Option<usize>
         requires { before ≤ 16 }
-        ensures some { (src : List ℕ) → Sees src self.now → IfSome result
+        ensures { (src : List ℕ) → Sees src self.now → MatchOption result
+            (AllPass is_value_byte src (self.now.at + before) (self.now.at + 16))
             (λ n. EndsSet is_value_byte src (self.now.at + before) (self.now.at + before + n)
             × (before + n < 16)) }
-        ensures none { (src : List ℕ) → Sees src self.now
-            → IfNone result (AllPass is_value_byte src (self.now.at + before) (self.now.at + 16)) }
     {
         let rest = self.values >> before;
         if rest == 0 {

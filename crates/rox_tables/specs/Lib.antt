@@ -14,3 +14,5 @@ pub mod Bindings
 pub mod Ropes
 pub mod TagDeclarations
 pub mod TagScopes
+pub mod NodeChanges
+pub mod Puts

@@ -15,3 +15,8 @@ is_borrowed (Owned s) = false
 -- both have these bytes, and both or neither are a slice of the input
 abbrev pub IsSameText : StringStorage → StringStorage → Type 0
 IsSameText s t = (storage_bytes t ≡ storage_bytes s) × (is_borrowed t ≡ is_borrowed s)
+
+-- a text of its own, of these bytes
+pub record IsOwnText (text : List ℕ) (s : StringStorage) : Type 0 where
+  pub bytes : storage_bytes s ≡ text
+  pub owned : is_borrowed s ≡ false

@@ -1,5 +1,5 @@
 -- Attributes as their table stores them: most tell where they stand by their start, others by a place in a table of places.
-use Rattle.std.specs.Prelude.{◌≡◌, ◌==◌, true, ℕ, ◌+◌, List, [], ◌∷◌, ◌++◌, length, get_or, if◌then◌else◌}
+use Rattle.std.specs.Prelude.{◌≡◌, ◌==◌, true, ℕ, ◌+◌, List, [], ◌∷◌, ◌++◌, length, get_or, take, if◌then◌else◌}
 use Rattle.std.specs.Mem.{manually_drop_value}
 use Rattle.std.specs.Coded.{×_prop, →_prop, Unit-prop, Coded-set, coded_ℕ}
 use Rattle.rox_tables.specs.Storage.{storage_bytes, is_borrowed}
@@ -21,6 +21,12 @@ namespace_of kind.Listed listed = space.Listed listed
 -- what an attribute is
 abbrev pub data_of : StoredAttribute → AttributeData
 data_of r = record { local = r.local; value = manually_drop_value r.value; namespace = namespace_of r.kind r.listed }
+
+-- the row of an attribute, with so many bytes before the local part and this place
+pub record StoresAttribute (item : AttributeData) (before place : ℕ) (r : StoredAttribute) : Type 0 where
+  pub is : data_of r ≡ item
+  pub before_is : r.before ≡ before
+  pub place_is : r.place ≡ place
 
 -- where it stands, beside the table of unusual places
 abbrev pub places_in : List AttributePlaces → StoredAttribute → AttributePlaces
@@ -57,3 +63,8 @@ own_place value i = if is_borrowed value then [] else i ∷ []
 abbrev pub owned_places : ℕ → List StoredAttribute → List ℕ
 owned_places i [] = []
 owned_places i (r ∷ rs) = own_place (manually_drop_value r.value) i ++ owned_places (i + 1) rs
+
+-- the rows behind the first so many are taken back, and with them the places of those whose values are owned
+pub record TakesBack (count : ℕ) (old new : List StoredAttribute) (owned left : List ℕ) : Type 0 where
+  pub rows : new ≡ take count old
+  pub listed : owned_places 0 old ≡ owned → owned_places 0 new ≡ left

@@ -1,5 +1,5 @@
 -- The rows of nodes as their table stores them.
-use Rattle.std.specs.Prelude.{ℕ, ◌+◌, ◌*◌, ◌^◌, ◌≡◌, ◌==◌, ◌&&◌, Bool, true, false, not, List, [], ◌∷◌, Some, None, nat_lt, if◌then◌else◌}
+use Rattle.std.specs.Prelude.{ℕ, ◌+◌, ◌*◌, ◌^◌, ◌≡◌, ◌==◌, ◌&&◌, Bool, true, false, not, List, [], ◌∷◌, Some, None, length, nat_lt, if◌then◌else◌}
 use Rattle.std.specs.Mem.{manually_drop_value}
 use Rattle.std.specs.List.{list_all}
 use Rattle.rox_tables.specs.Storage.{is_borrowed}
@@ -101,6 +101,12 @@ owns_text (kind.PI pi) = false
 pub record IsChainedTo (last : ℕ) (k : NodeKind) (row : StoredKind) : Type 0 where
   pub owned : owns row ≡ owns_text k
   pub behind : owns row ≡ true → previous row ≡ last
+
+-- this row stores the node, beside these processing instructions
+pub record Stores (pis : List PI) (last : ℕ) (k : NodeKind) (row : StoredKind) : Type 0 where
+  pub value : whole_kind pis row ≡ k
+  pub within : is_kind_within (length pis) row ≡ true
+  pub chained : IsChainedTo last k row
 
 -- where this is the last row before that owns a text, its number stands in a row that owns one too
 abbrev pub is_linked : ℕ → StoredKind → Bool

@@ -1,10 +1,10 @@
 -- How the code's texts and references stand to what is read.
-use Rattle.std.specs.Prelude.{◌≡◌, ◌<◌, ℕ, Bool, true, false, not, ◌==◌, ◌||◌, List, ◌++◌, Option, Some, None, Result, Ok, Err, IfOk, drop, slice_range, if◌then◌else◌}
+use Rattle.std.specs.Prelude.{◌≡◌, ◌<◌, ◌≤◌, ◌^◌, ℕ, Bool, true, false, not, ◌==◌, ◌||◌, List, ◌++◌, Option, Some, None, Result, Ok, Err, IfOk, drop, length, min, slice_range, if◌then◌else◌}
 use Rattle.std.specs.List.{list_any}
 use Rattle.std.specs.Str.{IsCharBoundary}
 use Rattle.rox_grammar.specs.declared.fault.Fault.{Fault}
 use Rattle.rox_grammar.specs.Content.{literals, line_ends}
-use Rattle.rox_grammar.specs.References.{is_digit, is_hex_digit}
+use Rattle.rox_grammar.specs.References.{bytes_end, is_digit, is_hex_digit, number}
 use Rattle.rox_reading.specs.Lexical.{Read, ◌>>=◌}
 use Rattle.rox_reading.specs.Refusals.{Refusal}
 use Rattle.rox_reading.specs.Values as reading
@@ -18,6 +18,7 @@ use Rattle.rox_values.specs.DeclaredEntities.{AreDeclared}
 use Rattle.rox_values.specs.declared.entities.Entities.{Entities}
 use Rattle.rox_values.specs.Refusals.{IsRefusal}
 use Rattle.rox_values.specs.declared.parse_error.ParseError.{ParseError}
+use Rattle.rox_values.specs.declared.reference.Digits.{Digits}
 use Rattle.rox_values.specs.declared.reference.Reference.{Reference}
 use Rattle.rox_values.specs.declared.reference.Reference.TheVariants as reference
 use Rattle.rox_values.specs.declared.text_value.TextValue.{TextValue}
@@ -30,6 +31,13 @@ base_of hexadecimal = if hexadecimal then 16 else 10
 abbrev pub is_digit_of : Bool → ℕ → Bool
 is_digit_of true b = is_hex_digit b
 is_digit_of false b = is_digit b
+
+-- the digits that begin at this place: where they end, and their number, or 2^32 if that is less
+pub record AreDigits (hexadecimal : Bool) (text : List ℕ) (at : ℕ) (digits : Digits) : Type 0 where
+  pub place : digits.end ≡ bytes_end (is_digit_of hexadecimal) text at
+  pub number_is : digits.number ≡ min (number (base_of hexadecimal) (slice_range text at digits.end)) (2 ^ 32)
+  pub onward : at ≤ digits.end
+  pub within : digits.end ≤ length text
 
 abbrev pub reference_view : Reference → reading.Reference
 reference_view (reference.Character c) = reading.character_of c
@@ -115,6 +123,11 @@ next_view (Some text) i = reading.opening (replacement_view text) i
 abbrev pub AppendsPart : List ℕ → List ℕ → Cursor → Result (Option Cursor) Failure → Result (List ℕ × reading.Next) Fault → Type 0
 AppendsPart old new after (Ok next) read = text_behind old read ≡ Ok (new, next_view next after.pos)
 AppendsPart old new after (Err e) read = Fails e read
+
+-- the same of what is read from where the cursor stood, of the entities that are declared, and the source stays
+pub record AppendsPartFrom (entities : Entities) (old new : List ℕ) (before after : Cursor) (result : Result (Option Cursor) Failure) (read : List Entity → List ℕ → ℕ → Result (List ℕ × reading.Next) Fault) : Type 0 where
+  pub value : (es : List Entity) → AreDeclared es entities → AppendsPart old new after result (read es before.text.now before.pos)
+  pub source : after.text ≡ before.text
 
 -- and a value, or a part of one, behind which so many replacement texts may be opened
 abbrev pub AppendsValue : List ℕ → List ℕ → Result ℕ ParseError → Result (List ℕ × ℕ) Refusal → Type 0

@@ -14,7 +14,7 @@ ghost use Rattle.rox_grammar.specs.declared.fault.Fault.{Fault};
 ghost use Rattle.rox_reading.specs.Machine.{value_opener};
 ghost use Rattle.rox_scan.specs.DoctypeViews.{replacement_view};
 ghost use Rattle.rox_values.specs.DeclaredEntities.{AreDeclared};
-ghost use Rattle.rox_values.specs.Values.{Appends, AppendsFrom, AppendsBitFrom, StopsAt, AppendsCharacter, AppendsValue, GivesValue, ends_stretch, is_inner_byte, piece_view};
+ghost use Rattle.rox_values.specs.Values.{AppendsFrom, AppendsBitFrom, StopsAt, AppendsCharacter, AppendsValue, GivesValue, ends_stretch, is_inner_byte, piece_view};
 
 use crate::context::Context;
 use crate::parse_error::ParseError;
@@ -45,10 +45,9 @@ fn white_space(cursor: &mut Cursor<'_>, stop: usize, out: &mut String) -> Result
     requires here { spec.is_special (slice_index cursor.old.text.now cursor.old.pos) ≡ true }
     requires no_reference { slice_index cursor.old.text.now cursor.old.pos ≢ 38 }
     requires stop { StopsAt cursor.old.text.now cursor.old.pos stop }
-    ensures value { (main : Bool) (es : List Entity)
-        → Appends (string_bytes out.old) (string_bytes out.new) cursor.new result
-        (spec.value_bit_at main es cursor.old.text.now stop cursor.old.pos) }
-    ensures source { cursor.new.text ≡ cursor.old.text }
+    ensures { (main : Bool)
+        → AppendsFrom (string_bytes out.old) (string_bytes out.new) cursor.old cursor.new result
+        (λ es src at. spec.value_bit_at main es src stop at) }
 {
     let here = cursor.text.as_bytes()[cursor.pos];
     cursor.advance();

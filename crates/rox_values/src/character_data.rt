@@ -1,14 +1,12 @@
 //! What the parts of character data stand for, with references and line ends (XML 1.0 sections 2.4, 2.11 and 4.1).
 
-ghost use Rattle.std.specs.Prelude.{◌≡◌, ◌≢◌, ◌==◌, ◌||◌, ◌-◌, List, false, ◌<◌, ◌≤◌, slice_index, true};
+ghost use Rattle.std.specs.Prelude.{◌≡◌, ◌≢◌, ◌==◌, ◌||◌, ◌-◌, false, ◌<◌, ◌≤◌, slice_index, true};
 ghost use Rattle.rox_grammar.specs.Search.{byte_from};
 ghost use Rattle.std.specs.String.{string_bytes};
 ghost use Rattle.std.specs.Str.{IsCharBoundary};
 ghost use Rattle.rox_reading.specs.Values as spec;
 ghost use Rattle.rox_scan.specs.ScanResults.{Finds};
-ghost use Rattle.rox_grammar.specs.Entities.{Entity};
-ghost use Rattle.rox_values.specs.DeclaredEntities.{AreDeclared};
-ghost use Rattle.rox_values.specs.Values.{AppendsFrom, AppendsBitFrom, AppendsPart, StopsAt};
+ghost use Rattle.rox_values.specs.Values.{AppendsFrom, AppendsBitFrom, AppendsPartFrom, StopsAt};
 
 use crate::context::Context;
 use crate::line_ends::line_end;
@@ -129,11 +127,9 @@ pub fn data_part<'input>(
     out: &mut String,
 ) -> Result<Option<Cursor<'input>>, Failure>
     requires { IsCharBoundary cursor.old.text.now stop }
-    ensures value { (es : List Entity) → AreDeclared es context.entry.entities.now
-        → AppendsPart (string_bytes out.old) (string_bytes out.new) cursor.new result
-        (spec.data_part context.entry.main es
-        (stop - cursor.old.pos) cursor.old.text.now stop cursor.old.pos) }
-    ensures source { cursor.new.text ≡ cursor.old.text }
+    ensures { AppendsPartFrom context.entry.entities.now (string_bytes out.old)
+        (string_bytes out.new) cursor.old cursor.new result
+        (λ es src at. spec.data_part context.entry.main es (stop - at) src stop at) }
 {
     'bits: for _turn in cursor.pos..stop {
         if cursor.pos >= stop {

@@ -1,9 +1,10 @@
 //! Line ends, each of which is read as a line feed (XML 1.0 section 2.11).
 
-ghost use Rattle.std.specs.Prelude.{◌≡◌, ◌++◌, List, IfOk, OnOk, ◌<◌, length, slice_index, true};
+ghost use Rattle.std.specs.Prelude.{◌≡◌, ◌++◌, List, IfOk, OnOk, ◌<◌, slice_index, true};
 ghost use Rattle.std.specs.String.{string_bytes};
 ghost use Rattle.std.specs.Str.{IsCharBoundary};
 ghost use Rattle.rox_reading.specs.Values as spec;
+ghost use Rattle.rox_scan.specs.ScanResults.{HasCharAt};
 ghost use Rattle.rox_values.specs.Values.{AppendsFrom, StopsAt, section_rest};
 
 use rox_grammar::failure::Failure;
@@ -46,8 +47,7 @@ pub fn line_feeds(raw: &str, out: &mut String) -> Result<(), AllocError>
 /// Appends a part of a CDATA section: a line end, or all up to the next CR. It answers where the part ends.
 #[tactic(auto, using(crate::proofs::SectionLemmas::part_stretch, crate::proofs::SectionLemmas::stretch_moves, crate::proofs::SectionLemmas::part_feed, crate::proofs::SectionLemmas::part_return))]
 fn section_part(raw: &str, at: usize, out: &mut String) -> Result<usize, AllocError>
-    requires within { at < length raw.now }
-    requires cut { IsCharBoundary raw.now at }
+    requires { HasCharAt raw.now at }
     ensures value { IfOk result (λ next. string_bytes out.new ++ section_rest raw.now next
         ≡ string_bytes out.old ++ section_rest raw.now at) }
     ensures moves { IfOk result (λ next. at < next) }

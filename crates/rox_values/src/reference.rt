@@ -1,6 +1,6 @@
 //! References to characters and to entities, and the replacement text that one names (XML 1.0 sections 4.1 and 4.6).
 
-ghost use Rattle.std.specs.Prelude.{◌≡◌, ◌^◌, ◌≤◌, ◌<◌, List, IfOk, min, length, slice_index, slice_range};
+ghost use Rattle.std.specs.Prelude.{◌≡◌, ◌≤◌, ◌<◌, List, length, slice_index};
 ghost use Rattle.std.specs.Str.{IsCharBoundary};
 ghost use Rattle.rox_grammar.specs.Chars.{is_char, is_name_char};
 ghost use Rattle.rox_grammar.specs.Entities.{Entity, text_of};
@@ -9,7 +9,7 @@ ghost use Rattle.rox_grammar.specs.Runs as grammar;
 ghost use Rattle.rox_reading.specs.Values as reading;
 ghost use Rattle.rox_scan.specs.ScanResults.{Finds};
 ghost use Rattle.rox_values.specs.DeclaredEntities.{AreDeclared};
-ghost use Rattle.rox_values.specs.Values.{FindsEntity, ReadsReference, base_of, is_digit_of};
+ghost use Rattle.rox_values.specs.Values.{AreDigits, FindsEntity, ReadsReference, base_of, is_digit_of};
 
 use crate::context::Context;
 use rox_grammar::fault::{Fault, Span};
@@ -68,11 +68,7 @@ fn digit_value(byte: u8) -> u64
 #[tactic(auto, using(crate::proofs::DigitLemmas::digit_steps, crate::proofs::DigitLemmas::one_more_digit))]
 fn read_digits(text: &str, at: usize, hexadecimal: bool) -> Digits
     requires { at ≤ length text.now }
-    ensures place { result.end ≡ spec.bytes_end (is_digit_of hexadecimal) text.now at }
-    ensures number { result.number
-        ≡ min (spec.number (base_of hexadecimal) (slice_range text.now at result.end)) (2 ^ 32) }
-    ensures onward { at ≤ result.end }
-    ensures within { result.end ≤ length text.now }
+    ensures { AreDigits hexadecimal text.now at result }
 {
     let base: u64 = if hexadecimal { 16 } else { 10 };
     let bytes = text.as_bytes();

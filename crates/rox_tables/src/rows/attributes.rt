@@ -1,8 +1,9 @@
 //! The table of attributes.
 
-ghost use Rattle.std.specs.Prelude.{◌≡◌, ◌<◌, ◌≤◌, ◌+◌, ◌-◌, ◌^◌, ◌/◌, ◌++◌, ◌∷◌, [], true, false, length, take, min, vec_len, vec_capacity, if◌then◌else◌, is_ok, IfOk, OnOk};
-ghost use Rattle.rox_tables.specs.StoredAttributes.{AreNumbered, AreNumbered-prop, unusual_count, own_place, owned_places};
+ghost use Rattle.std.specs.Prelude.{◌≡◌, ◌<◌, ◌≤◌, ◌+◌, ◌-◌, ◌^◌, ◌/◌, ◌∷◌, [], true, false, length, take, min, vec_len, vec_capacity, if◌then◌else◌, is_ok, IfOk, OnOk};
+ghost use Rattle.rox_tables.specs.StoredAttributes.{AreNumbered, AreNumbered-prop, TakesBack, unusual_count, own_place, owned_places};
 ghost use Rattle.std.proofs.Props.{props};
+ghost use Rattle.rox_tables.specs.Puts.{Puts};
 
 use crate::rows::growth::{make_room, push, reserve, trim, with_room};
 use crate::rows::storage::StringStorage;
@@ -55,8 +56,7 @@ fn count_unusual(rows: &[StoredAttribute<'_>]) -> usize
 /// refused, and then nothing is noted.
 #[inline(always)]
 fn note(owned: &mut Vec<usize>, value: &StringStorage<'_>, count: usize) -> bool
-    ensures noted { result ≡ true → owned.new.items ≡ owned.old.items ++ own_place value.now count }
-    ensures none { result ≡ false → owned.new.items ≡ owned.old.items }
+    ensures { Puts (own_place value.now count) result owned.old.items owned.new.items }
 {
     if value.is_owned() {
         return push(owned, count).is_ok();
@@ -66,10 +66,9 @@ fn note(owned: &mut Vec<usize>, value: &StringStorage<'_>, count: usize) -> bool
 
 /// Takes back the last row, and frees its value.
 fn take_last(items: &mut Vec<StoredAttribute<'_>>, owned: &mut Vec<usize>)
-    ensures rows { items.new.items ≡ take (vec_len items.old - 1) items.old.items }
+    ensures taken { TakesBack (vec_len items.old - 1) items.old.items items.new.items
+        owned.old.items owned.new.items }
     ensures count { vec_len items.new ≡ vec_len items.old - 1 }
-    ensures listed { owned_places 0 items.old.items ≡ owned.old.items
-        → owned_places 0 items.new.items ≡ owned.new.items }
 {
     if let Some(row) = items.pop() {
         let value = ManuallyDrop::into_inner(row.value);
@@ -82,9 +81,7 @@ fn take_last(items: &mut Vec<StoredAttribute<'_>>, owned: &mut Vec<usize>)
 /// Takes back the rows behind the first so many, and frees their values.
 fn take_back(items: &mut Vec<StoredAttribute<'_>>, owned: &mut Vec<usize>, count: usize)
     requires { count ≤ vec_len items.old }
-    ensures rows { items.new.items ≡ take count items.old.items }
-    ensures listed { owned_places 0 items.old.items ≡ owned.old.items
-        → owned_places 0 items.new.items ≡ owned.new.items }
+    ensures { TakesBack count items.old.items items.new.items owned.old.items owned.new.items }
 {
     while items.len() > count {
         take_last(items, owned);
@@ -112,8 +109,7 @@ impl Drop for AttributeTable<'_> {
 impl<'input> AttributeTable<'input> {
     ghost use Rattle.rox_tables.specs.Rows.{attribute_rows};
     ghost use Rattle.rox_tables.specs.StoredAttributes.{places_in, place_bound};
-    ghost use Rattle.rox_tables.specs.UsualPlaces.{usual_places};
-    ghost use Rattle.rox_tables.specs.Storage.{storage_bytes};
+    ghost use Rattle.rox_tables.specs.UsualPlaces.{IsUsual};
 
     /// The table of a text of so many bytes, without attributes, with room for so many.
     pub fn of_text(alloc: Global, bytes: usize, room: usize) -> AttributeTable<'input>
@@ -193,13 +189,9 @@ impl<'input> AttributeTable<'input> {
         before: u8,
     ) -> bool
         requires room { vec_len self.old.items < vec_capacity self.old.items }
-        requires before { before < 255 }
-        requires start { places.start < 2 ^ 32 }
-        requires usual { places ≡ usual_places places.start before (length item.local.now)
-            (length (storage_bytes item.value)) }
-        ensures put { result ≡ true
-            → attribute_rows self.new ≡ attribute_rows self.old ++ (item.entry, places) ∷ [] }
-        ensures none { result ≡ false → attribute_rows self.new ≡ attribute_rows self.old }
+        requires usual { IsUsual item places before }
+        ensures { Puts ((item.entry, places) ∷ []) result (attribute_rows self.old)
+            (attribute_rows self.new) }
     {
         if !note(&mut self.owned, &item.value, self.items.len()) {
             return false;
@@ -217,9 +209,8 @@ impl<'input> AttributeTable<'input> {
         item: AttributeData<'input>,
         places: AttributePlaces,
     ) -> bool
-        ensures put { result ≡ true
-            → attribute_rows self.new ≡ attribute_rows self.old ++ (item.entry, places) ∷ [] }
-        ensures none { result ≡ false → attribute_rows self.new ≡ attribute_rows self.old }
+        ensures { Puts ((item.entry, places) ∷ []) result (attribute_rows self.old)
+            (attribute_rows self.new) }
     {
         let number = self.unusual.len();
         if self.is_full() || number >= self.unusual.capacity() || number > u32::MAX as usize {
@@ -242,10 +233,9 @@ impl<'input> AttributeTable<'input> {
         item: AttributeData<'input>,
         places: AttributePlaces,
     ) -> Result<(), AllocError>
-        requires room { vec_len self.old.items < vec_capacity self.old.items }
-        ensures rows { attribute_rows self.new ≡ (if is_ok result
-            then attribute_rows self.old ++ (item.entry, places) ∷ []
-            else attribute_rows self.old) }
+        requires { vec_len self.old.items < vec_capacity self.old.items }
+        ensures { Puts ((item.entry, places) ∷ []) (is_ok result) (attribute_rows self.old)
+            (attribute_rows self.new) }
     {
         if self.unusual.len() >= self.unusual.capacity() {
             make_room(&mut self.unusual, places.end, self.text_end)?;
@@ -260,9 +250,8 @@ impl<'input> AttributeTable<'input> {
     /// Puts an attribute at the end. Answers false where memory is refused, and then the table is as before.
     #[inline(always)]
     pub(crate) fn put(&mut self, row: (AttributeData<'input>, AttributePlaces)) -> bool
-        ensures put { result ≡ true
-            → attribute_rows self.new ≡ attribute_rows self.old ++ row.entry ∷ [] }
-        ensures none { result ≡ false → attribute_rows self.new ≡ attribute_rows self.old }
+        ensures { Puts (row.entry ∷ []) result (attribute_rows self.old)
+            (attribute_rows self.new) }
     {
         let (item, places) = row;
         if !self.has_room(places.end) {

@@ -1,6 +1,7 @@
 //! Growth of tables.
 
 ghost use Rattle.std.specs.Prelude.{◌≡◌, ◌<◌, ◌≤◌, ◌+◌, ◌/◌, ◌^◌, ◌++◌, ◌∷◌, [], if◌then◌else◌, is_ok, min, vec_len, vec_capacity, IfOk, OnOk};
+ghost use Rattle.std.specs.Vec.{VecUnchanged};
 ghost use Rattle.rox_tables.specs.Growth as room;
 
 use std::alloc::{AllocError, Global};
@@ -9,8 +10,7 @@ use std::alloc::{AllocError, Global};
 #[cold]
 #[inline(never)]
 fn grow<T: Drop>(to: &mut Vec<T>) -> Result<(), AllocError>
-    ensures items { to.new.items ≡ to.old.items }
-    ensures len { vec_len to.new ≡ vec_len to.old }
+    ensures items { VecUnchanged to.old to.new }
     ensures ok { OnOk result (vec_len to.new < vec_capacity to.new) }
 {
     to.reserve(1)?;
@@ -39,8 +39,7 @@ const SMALL: usize = 204;
 /// is want of memory.
 #[inline(always)]
 pub fn reserve<T: Drop>(to: &mut Vec<T>, more: usize, fewer: usize) -> Result<(), AllocError>
-    ensures items { to.new.items ≡ to.old.items }
-    ensures len { vec_len to.new ≡ vec_len to.old }
+    ensures items { VecUnchanged to.old to.new }
     ensures ok { OnOk result (vec_len to.new + min more fewer ≤ vec_capacity to.new) }
     ensures small { OnOk result (vec_len to.old + more ≤ 204
         → vec_len to.new + more ≤ vec_capacity to.new) }
@@ -112,9 +111,7 @@ fn foreseen(len: usize, place: usize, end: usize) -> usize
 #[cold]
 #[inline(never)]
 pub fn make_room<T: Drop>(to: &mut Vec<T>, place: usize, end: usize) -> Result<(), AllocError>
-    ensures items { to.new.items ≡ to.old.items }
-    ensures len { vec_len to.new ≡ vec_len to.old }
-    ensures ok { OnOk result (vec_len to.new < vec_capacity to.new) }
+    ensures items { VecUnchanged to.old to.new }
     ensures eighth { OnOk result (vec_len to.new + vec_len to.new / 8 < vec_capacity to.new) }
     ensures small { OnOk result (room.foreseen (vec_len to.old) place end ≤ 204
         → room.foreseen (vec_len to.old) place end ≤ vec_capacity to.new) }
@@ -130,8 +127,7 @@ const SPARE: usize = 65536;
 /// Gives back the room that a whole table does not need, where it is large.
 #[inline]
 pub fn trim<T: Drop>(table: &mut Vec<T>)
-    ensures items { table.new.items ≡ table.old.items }
-    ensures len { vec_len table.new ≡ vec_len table.old }
+    ensures items { VecUnchanged table.old table.new }
     ensures room { vec_capacity table.new ≤ vec_capacity table.old }
     ensures none { vec_len table.old ≡ 0 → 65536 < vec_capacity table.old
         → vec_capacity table.new ≡ 0 }

@@ -1,6 +1,6 @@
 //! The table of nodes.
 
-ghost use Rattle.std.specs.Prelude.{◌≡◌, ◌<◌, ◌≤◌, ◌+◌, ◌-◌, ◌++◌, ◌∷◌, [], ◌^◌, List, true, length, take, set, get_or, vec_len, vec_capacity, if◌then◌else◌, is_ok, IfOk, OnOk, IfErr};
+ghost use Rattle.std.specs.Prelude.{◌≡◌, ◌<◌, ◌≤◌, ◌+◌, ◌-◌, ◌∷◌, [], ◌^◌, List, true, length, take, set, get_or, vec_len, vec_capacity, if◌then◌else◌, is_ok, IfOk, OnOk, OnErr};
 ghost use Rattle.std.proofs.Props.{props};
 ghost use Rattle.rox_tables.specs.StoredNodes as stored;
 ghost use Rattle.rox_tables.specs.StoredNodes.{are_within};
@@ -158,6 +158,7 @@ impl Drop for NodeTable<'_> {
 
 impl<'input> NodeTable<'input> {
     ghost use Rattle.rox_tables.specs.Rows.{node_rows};
+    ghost use Rattle.rox_tables.specs.NodeChanges.{EndsNode, FitsNode, KeepsNodes, PushesNode, PutsNode};
 
     /// The root node of a text of so many bytes, with room for so many rows. The only error is want of memory.
     #[inline(always)]
@@ -246,8 +247,7 @@ impl<'input> NodeTable<'input> {
     #[cold]
     #[inline(never)]
     fn make_room(&mut self, start: usize, end: usize) -> Result<(), AllocError>
-        ensures rows { node_rows self.new ≡ node_rows self.old }
-        ensures len { vec_len self.new.rows ≡ vec_len self.old.rows }
+        ensures rows { KeepsNodes self.old self.new }
         ensures ok { OnOk result (vec_len self.new.rows < vec_capacity self.new.rows) }
     {
         let text_end = self.text_end();
@@ -257,13 +257,9 @@ impl<'input> NodeTable<'input> {
     /// Puts a node at the end, where there is room for its row and the row holds it alone.
     #[inline(always)]
     pub fn put(&mut self, row: NodeData<'input>)
-        requires room { vec_len self.old.rows < vec_capacity self.old.rows }
-        requires start { row.start < 2 ^ 32 }
-        requires end { row.end < 2 ^ 32 }
+        requires fits { FitsNode row self.old }
         requires small { stored.IsSmallKind row.kind }
-        ensures rows { node_rows self.new ≡ node_rows self.old ++ row.entry ∷ [] }
-        ensures len { vec_len self.new.rows ≡ vec_len self.old.rows + 1 }
-        ensures capacity { vec_capacity self.new.rows ≡ vec_capacity self.old.rows }
+        ensures { PutsNode row.entry self.old self.new }
     {
         let owns = owns_text(&row.kind);
         let kind = small_kind(row.kind, self.last_owned);
@@ -280,10 +276,7 @@ impl<'input> NodeTable<'input> {
     /// Puts a node at the end. The only error is want of memory, and then the nodes are as before.
     #[inline(always)]
     pub fn push(&mut self, row: NodeData<'input>) -> Result<(), AllocError>
-        ensures rows { node_rows self.new ≡ (if is_ok result
-            then node_rows self.old ++ row.entry ∷ [] else node_rows self.old) }
-        ensures len { vec_len self.new.rows ≡ (if is_ok result then vec_len self.old.rows + 1
-            else vec_len self.old.rows) }
+        ensures { PushesNode row.entry (is_ok result) self.old self.new }
     {
         if self.rows.len() >= self.rows.capacity() {
             self.make_room(row.start, row.end)?;
@@ -297,13 +290,8 @@ impl<'input> NodeTable<'input> {
     /// The same of a node whose places have no upper halves, where there is room for its row.
     #[inline(always)]
     fn push_near(&mut self, row: NodeData<'input>) -> Result<(), AllocError>
-        requires room { vec_len self.old.rows < vec_capacity self.old.rows }
-        requires start { row.start < 2 ^ 32 }
-        requires end { row.end < 2 ^ 32 }
-        ensures rows { node_rows self.new ≡ (if is_ok result
-            then node_rows self.old ++ row.entry ∷ [] else node_rows self.old) }
-        ensures len { vec_len self.new.rows ≡ (if is_ok result then vec_len self.old.rows + 1
-            else vec_len self.old.rows) }
+        requires { FitsNode row self.old }
+        ensures { PushesNode row.entry (is_ok result) self.old self.new }
     {
         let owns = owns_text(&row.kind);
         let kind = store_kind(&mut self.instructions, row.kind, self.last_owned)?;
@@ -323,10 +311,7 @@ impl<'input> NodeTable<'input> {
     #[inline(never)]
     fn push_far(&mut self, row: NodeData<'input>) -> Result<(), AllocError>
         requires { vec_len self.old.rows < vec_capacity self.old.rows }
-        ensures rows { node_rows self.new ≡ (if is_ok result
-            then node_rows self.old ++ row.entry ∷ [] else node_rows self.old) }
-        ensures len { vec_len self.new.rows ≡ (if is_ok result then vec_len self.old.rows + 1
-            else vec_len self.old.rows) }
+        ensures { PushesNode row.entry (is_ok result) self.old self.new }
     {
         fill(&mut self.high, self.rows.len())?;
         let owns = owns_text(&row.kind);
@@ -352,16 +337,7 @@ impl<'input> NodeTable<'input> {
     pub fn put_end(&mut self, row: u32, end: usize)
         requires few { vec_len self.old.rows < 2 ^ 32 }
         requires room { vec_len self.old.high < vec_len self.old.rows → end < 2 ^ 32 }
-        ensures rows { (d : NodeData)
-            → node_rows self.new
-            ≡ set (node_rows self.old) row
-            (record (get_or (node_rows self.old) row d) {
-              end = end;
-              subtree_end = length
-                  (node_rows self.old);
-            }) }
-        ensures len { vec_len self.new.rows ≡ vec_len self.old.rows }
-        ensures capacity { vec_capacity self.new.rows ≡ vec_capacity self.old.rows }
+        ensures { EndsNode row end self.old self.new }
     {
         let subtree_end = self.rows.len() as u32;
         end_stored(&mut self.rows, row, low_half(end), subtree_end);
@@ -372,16 +348,8 @@ impl<'input> NodeTable<'input> {
     #[inline(always)]
     pub fn end_row(&mut self, row: u32, end: usize) -> Result<(), AllocError>
         requires { vec_len self.old.rows < 2 ^ 32 }
-        ensures rows { OnOk result ((d : NodeData)
-            → node_rows self.new
-            ≡ set (node_rows self.old) row
-            (record (get_or (node_rows self.old) row d) {
-              end = end;
-              subtree_end = length
-                  (node_rows self.old);
-            })) }
-        ensures len { vec_len self.new.rows ≡ vec_len self.old.rows }
-        ensures same { IfErr result (λ e. node_rows self.new ≡ node_rows self.old) }
+        ensures ends { OnOk result (EndsNode row end self.old self.new) }
+        ensures same { OnErr result (KeepsNodes self.old self.new) }
     {
         if end >= FIRST_HIGH {
             fill(&mut self.high, self.rows.len())?;
@@ -417,8 +385,7 @@ impl<'input> NodeTable<'input> {
 
     /// Gives back room that it does not need.
     pub fn trim(&mut self)
-        ensures rows { node_rows self.new ≡ node_rows self.old }
-        ensures len { vec_len self.new.rows ≡ vec_len self.old.rows }
+        ensures { KeepsNodes self.old self.new }
     {
         trim(&mut self.rows);
     }

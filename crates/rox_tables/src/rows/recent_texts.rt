@@ -1,9 +1,9 @@
 //! Owned texts that come again, as the indentation of a text whose lines end with a carriage return and a line feed does: a text
 //! that equals the last one of its length shares its storage, and so does a value.
 
-ghost use Rattle.std.specs.Prelude.{◌≡◌, ◌<◌, false, vec_len, OnOk, IfOk, IfSome};
+ghost use Rattle.std.specs.Prelude.{◌<◌, vec_len, OnOk, IfOk, IfSome};
 ghost use Rattle.std.specs.String.{string_bytes};
-ghost use Rattle.rox_tables.specs.Storage.{storage_bytes, is_borrowed};
+ghost use Rattle.rox_tables.specs.Storage.{IsOwnText};
 
 use crate::rows::storage::StringStorage;
 use std::alloc::{AllocError, Global};
@@ -33,8 +33,7 @@ pub fn owned_value<'input>(
     recent: &mut Option<Box<Recent>>,
     text: String,
 ) -> Option<StringStorage<'input>>
-    ensures bytes { IfSome result (λ s. storage_bytes s ≡ string_bytes text) }
-    ensures owned { IfSome result (λ s. is_borrowed s ≡ false) }
+    ensures { IfSome result (IsOwnText (string_bytes text)) }
 {
     if text.len() < LONG {
         return short_value(alloc, recent, text);
@@ -52,8 +51,7 @@ fn short_value<'input>(
     recent: &mut Option<Box<Recent>>,
     text: String,
 ) -> Option<StringStorage<'input>>
-    ensures bytes { IfSome result (λ s. storage_bytes s ≡ string_bytes text) }
-    ensures owned { IfSome result (λ s. is_borrowed s ≡ false) }
+    ensures { IfSome result (IsOwnText (string_bytes text)) }
 {
     if recent.is_none() {
         let Ok(first) = Box::new(alloc, Recent::new(alloc)) else {
@@ -91,8 +89,7 @@ impl Recent {
         alloc: Global,
         text: &str,
     ) -> Result<StringStorage<'input>, AllocError>
-        ensures bytes { IfOk result (λ s. storage_bytes s ≡ text.now) }
-        ensures owned { IfOk result (λ s. is_borrowed s ≡ false) }
+        ensures { IfOk result (IsOwnText text.now) }
     {
         if let Some(Some(kept)) = self.texts.get(text.len()) {
             if kept.as_str() == text {
@@ -109,8 +106,7 @@ impl Recent {
 
     /// The same of a value that is not long, which is made already: values differ more often than texts of one length do.
     fn share<'input>(&mut self, text: String) -> Result<StringStorage<'input>, AllocError>
-        ensures bytes { IfOk result (λ s. storage_bytes s ≡ string_bytes text) }
-        ensures owned { IfOk result (λ s. is_borrowed s ≡ false) }
+        ensures { IfOk result (IsOwnText (string_bytes text)) }
     {
         let place = place_of(text.as_str());
         if let Some(Some(kept)) = self.texts.get(place) {

@@ -3,7 +3,7 @@
 ghost use Rattle.std.specs.Prelude.{◌≡◌, ◌==◌, false, ◌<◌, ◌≤◌, ◌+◌, ◌^◌, length, IfSome};
 ghost use Rattle.std.specs.Mem.{manually_drop_value};
 ghost use Rattle.rox_tables.specs.Storage.{storage_bytes};
-ghost use Rattle.rox_tables.specs.UsualPlaces.{usual_places};
+ghost use Rattle.rox_tables.specs.UsualPlaces.{IsUsual, usual_places};
 
 use crate::rows::storage::StringStorage;
 use crate::rows::tables::{AttributeData, AttributeNamespace, AttributePlaces};
@@ -39,7 +39,7 @@ pub struct StoredAttribute<'input> {
 pub const UNUSUAL: u8 = 255;
 
 impl<'input> StoredAttribute<'input> {
-    ghost use Rattle.rox_tables.specs.StoredAttributes.{data_of};
+    ghost use Rattle.rox_tables.specs.StoredAttributes.{StoresAttribute, data_of};
 
     /// The row of an attribute.
     #[inline(always)]
@@ -51,9 +51,7 @@ impl<'input> StoredAttribute<'input> {
         requires { before < 255
             → place + before + length item.local.now + length (storage_bytes item.value) + 3
             < 2 ^ 64 }
-        ensures is { data_of result ≡ item.entry }
-        ensures before { result.before ≡ before }
-        ensures place { result.place ≡ place }
+        ensures { StoresAttribute item.entry before place result }
     {
         let (kind, listed) = match item.namespace {
             AttributeNamespace::None => (NamespaceKind::None, 0),
@@ -115,11 +113,7 @@ impl<'input> StoredAttribute<'input> {
 /// stands round `=`, and the value is as long as it is written.
 #[inline(always)]
 pub(crate) fn usual_before(item: &AttributeData<'_>, places: &AttributePlaces) -> Option<u8>
-    ensures before { IfSome result (λ before. before < 255) }
-    ensures start { IfSome result (λ _. places.now.start < 2 ^ 32) }
-    ensures usual { IfSome result
-        (λ before. places.now ≡ usual_places places.now.start before (length item.now.local.now)
-        (length (storage_bytes item.now.value))) }
+    ensures { IfSome result (IsUsual item.now places.now) }
 {
     let name = places.name_end.checked_sub(places.start)?;
     let before = name.checked_sub(item.local.len())?;

@@ -163,9 +163,8 @@ fn number_before(text: &StringStorage<'_>, last: u32) -> u32
 /// What an element is.
 #[inline(always)]
 fn stored_element<'input>(element: ElementData<'input>) -> StoredKind<'input>
-    ensures value { (pis : List PI) → stored.whole_kind pis result ≡ kind.Element element.entry }
-    ensures within { (n : ℕ) → stored.is_kind_within n result ≡ true }
-    ensures chained { (last : ℕ) → stored.IsChainedTo last (kind.Element element.entry) result }
+    ensures { (pis : List PI) (last : ℕ)
+        → stored.Stores pis last (kind.Element element.entry) result }
 {
     let ElementData {
         local,
@@ -190,9 +189,7 @@ fn stored_element<'input>(element: ElementData<'input>) -> StoredKind<'input>
 #[inline(always)]
 pub(crate) fn small_kind<'input>(kind: NodeKind<'input>, last: u32) -> StoredKind<'input>
     requires { stored.IsSmallKind kind }
-    ensures value { (pis : List PI) → stored.whole_kind pis result ≡ kind.entry }
-    ensures within { (n : ℕ) → stored.is_kind_within n result ≡ true }
-    ensures chained { stored.IsChainedTo last kind.entry result }
+    ensures { (pis : List PI) → stored.Stores pis last kind.entry result }
 {
     match kind {
         NodeKind::Root | NodeKind::PI(_) => StoredKind::Root,
@@ -215,10 +212,7 @@ pub(crate) fn store_kind<'input>(
     kind: NodeKind<'input>,
     last: u32,
 ) -> Result<StoredKind<'input>, AllocError>
-    ensures value { IfOk result (λ k. stored.whole_kind instructions.new.items k ≡ kind.entry) }
-    ensures within { IfOk result (λ k. stored.is_kind_within (length instructions.new.items) k
-        ≡ true) }
-    ensures chained { IfOk result (stored.IsChainedTo last kind.entry) }
+    ensures stored { IfOk result (stored.Stores instructions.new.items last kind.entry) }
     ensures same { (high : List HighPlaces) (rows : List StoredNode)
         → stored.are_within (length instructions.old.items) rows ≡ true
         → stored.whole_rows instructions.new.items high rows

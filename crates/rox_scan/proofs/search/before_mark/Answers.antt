@@ -1,12 +1,16 @@
-use Rattle.std.proofs.Common.{◌≡◌, ◌==◌, ℕ, ◌<◌, length, drop, false, inl, inr, sym, ◌∙◌, arith}
+use Rattle.std.proofs.Common.{◌≡◌, ◌==◌, ℕ, ◌<◌, length, drop, not, true, false, inl, inr, sym, ◌∙◌, arith}
 use Rattle.std.specs.List.{starts_with}
 use Rattle.std.proofs.lemmas.Bool.{cases_eq}
+use Rattle.std.proofs.lemmas.Bool.Decides.{nat_tests}
 use Rattle.rox_scan.proofs.MarkLemmas.{before_mark_is, none_below}
 use Rattle.rox_scan.proofs.search.before_mark.Goals as goal
 use Rattle.rox_scan.proofs.search.before_mark.Goals.{After-next_byte-next}
 
+apart : (a b : ℕ) → not (a == b) ≡ true → a ≡ b → ⊥
+apart a b h same = grind (arith, nat_tests)
+
 none_before : (c : After-next_byte-next) → (j : ℕ) → j < c.next_byte-next.result → starts_with ◌==◌ (drop j c.args.bytes.now) c.args.mark.now ≡ false
-none_before c = none_below c.args.mark.now c.args.bytes.now c.loop-at.at c.next_byte-next.result c.requires c.loop-at.invariant.1 c.next_byte-next.ensures.before
+none_before c = none_below c.args.mark.now c.args.bytes.now c.loop-at.at c.next_byte-next.result c.requires c.loop-at.invariant.1 (λ k low high same. apart _ _ (c.next_byte-next.ensures.passes k low high) same)
 
 pub returns-then-starts_with : goal.returns-then-starts_with
 returns-then-starts_with c =

@@ -5,4 +5,4 @@ use Rattle.rox_build.proofs.builder.Builder.close.Goals as goal
 pub returns-in_ok-end_row-clause-ok : goal.returns-in_ok-end_row-clause-ok
 returns-in_ok-end_row-clause-ok c = λ total start t before up done sh.
     let s = c.in_ok-flush.ensures.ok total _ done sh in
-    close_shows total start c.args.end t before up done c.flush.new.self _ c.pop.new.self.items c.in-Some.element s c.in-Some.ensures.items refl refl refl c.in_ok-end_row.ensures.rows
+    close_shows total start c.args.end t before up done c.flush.new.self _ c.pop.new.self.items c.in-Some.element s c.in-Some.ensures.items refl refl refl c.in_ok-end_row.ensures.ends.rows

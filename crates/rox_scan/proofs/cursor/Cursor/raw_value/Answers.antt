@@ -1,13 +1,17 @@
 use Rattle.std.proofs.Common.{sym, ◌∙◌, rules}
-use Rattle.rox_scan.proofs.NearLemmas.{short_value, value_cut}
+use Rattle.rox_scan.proofs.NearLemmas.{short_value, value_cut, near_plain}
 use Rattle.rox_scan.proofs.cursor.Cursor.raw_value.Goals as goal
 
-pub returns-then-is_at-clause-read : goal.returns-then-is_at-clause-read
-returns-then-is_at-clause-read c =
+pub returns-then-is_at : goal.returns-then-is_at
+returns-then-is_at c =
     let s = c.args.self.now in
     let near = c.skip_set-near.ensures in
     record {
-      value = rw c.range.ensures.value (short_value s.text.now s.pos c.skip_set-near.result c.args.quote s.utf8 s.cut c.requires near.onward (value_cut s.text.now _ near.within near.stops) near.passes (sym c.is_at.ensures ∙ c.if-is_at.true));
-      source = search rules;
-      onward = search rules;
+      read = record {
+        value = rw c.range.ensures.value (short_value s.text.now s.pos c.skip_set-near.result c.args.quote s.utf8 s.cut c.requires near.onward (value_cut s.text.now _ near.within near.stops) near.passes (sym c.is_at.ensures ∙ c.if-is_at.true));
+        source = search rules;
+        onward = search rules;
+      };
+      text = search rules;
+      verbatim = search (rules, near_plain, value_cut);
     }

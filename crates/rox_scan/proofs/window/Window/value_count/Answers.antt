@@ -42,11 +42,11 @@ seen_some p src i others n seen few some =
       omega arith,
     )
 
-pub returns-then-rest-eq0-clause-none : goal.returns-then-rest-eq0-clause-none
-returns-then-rest-eq0-clause-none c = λ src sees. seen_none is_value_byte src c.args.self.now.at c.args.self.now.values c.args.before sees.values c.requires c.if-rest-eq0.true
+pub returns-then-rest-eq0 : goal.returns-then-rest-eq0
+returns-then-rest-eq0 c = λ src sees. seen_none is_value_byte src c.args.self.now.at c.args.self.now.values c.args.before sees.values c.requires c.if-rest-eq0.true
 
-pub returns-clause-some : goal.returns-clause-some
-returns-clause-some c = λ src sees.
+pub returns : goal.returns
+returns c = λ src sees.
     let w = c.args.self.now in
     let n = c.args.before in
     subst (λ m. EndsSet is_value_byte src (w.at + n) (w.at + n + m) × (n + m < 16)) (sym c.before_first.ensures)

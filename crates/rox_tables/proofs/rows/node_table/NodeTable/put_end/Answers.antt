@@ -1,4 +1,4 @@
-use Rattle.std.proofs.Common.{◌≡◌, ◌^◌, ◌<◌, length, sym, ap, ◌∙◌, arith}
+use Rattle.std.proofs.Common.{rules, ◌≡◌, ◌^◌, ◌<◌, length, sym, ap, ◌∙◌, arith}
 use Rattle.rox_tables.specs.StoredNodes.{no_high, whole_place}
 use Rattle.rox_tables.proofs.StoredNodes.{a_row, count_nodes, end_is, within-end, chain_end}
 use Rattle.rox_tables.proofs.rows.node_table.NodeTable.put_end.Goals as goal
@@ -15,10 +15,15 @@ invariant_of-self c =
       within = rw (c.end_stored.ensures.rows a_row) (within-end _ t.rows.items c.args.row c.low_half.result c.len-subtree_end.result a_row t.within);
     }
 
-pub returns-clause-rows : goal.returns-clause-rows
-returns-clause-rows c = λ d.
-    let t = c.args.self.now in
-    let none : length t.high.items < length t.rows.items → c.high_half.result ≡ 0 =
-    λ fewer. let small : c.args.end < 2 ^ 32 = c.requires.room (omega (arith, fewer, t.rows.ok.0, t.high.ok.0)) in omega (arith, small, c.high_half.ensures) in
-    let place : whole_place c.low_half.result c.high_half.result ≡ c.args.end = ap (whole_place c.low_half.result) c.high_half.ensures ∙ sym c.low_half.ensures in
-    end_is t c.args.row c.low_half.result c.high_half.result c.len-subtree_end.result c.args.end _ d _ _ t.short none (c.end_high.ensures.high no_high) (c.end_stored.ensures.rows a_row) place (c.len-subtree_end.ensures ∙ count_nodes t)
+pub returns : goal.returns
+returns c = record {
+  rows =
+      λ d.
+      let t = c.args.self.now in
+      let none : length t.high.items < length t.rows.items → c.high_half.result ≡ 0 =
+      λ fewer. let small : c.args.end < 2 ^ 32 = c.requires.room (omega (arith, fewer, t.rows.ok.0, t.high.ok.0)) in omega (arith, small, c.high_half.ensures) in
+      let place : whole_place c.low_half.result c.high_half.result ≡ c.args.end = ap (whole_place c.low_half.result) c.high_half.ensures ∙ sym c.low_half.ensures in
+      end_is t c.args.row c.low_half.result c.high_half.result c.len-subtree_end.result c.args.end _ d _ _ t.short none (c.end_high.ensures.high no_high) (c.end_stored.ensures.rows a_row) place (c.len-subtree_end.ensures ∙ count_nodes t);
+  len = search rules;
+  capacity = search rules;
+}

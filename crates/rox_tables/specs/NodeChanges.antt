@@ -1,0 +1,33 @@
+-- How the table of nodes changes.
+use Rattle.std.specs.Prelude.{◌≡◌, ◌+◌, ◌^◌, ◌<◌, ◌∷◌, ◌++◌, [], ℕ, Bool, length, set, get_or, vec_len, vec_capacity, if◌then◌else◌}
+use Rattle.rox_tables.specs.Rows.{node_rows}
+use Rattle.rox_tables.specs.declared.rows.node_table.NodeTable.{NodeTable}
+use Rattle.rox_tables.specs.declared.rows.tables.NodeData.{NodeData}
+
+-- the nodes stay
+pub record KeepsNodes (old new : NodeTable) : Type 0 where
+  pub rows : node_rows new ≡ node_rows old
+  pub len : vec_len new.rows ≡ vec_len old.rows
+
+-- there is room for a row, and it holds this node alone, whose places have no upper halves
+pub record FitsNode (row : NodeData) (t : NodeTable) : Type 0 where
+  pub room : vec_len t.rows < vec_capacity t.rows
+  pub start : row.start < 2 ^ 32
+  pub end : row.end < 2 ^ 32
+
+-- a node is put at the end, in the room that there was
+pub record PutsNode (row : NodeData) (old new : NodeTable) : Type 0 where
+  pub rows : node_rows new ≡ node_rows old ++ row ∷ []
+  pub len : vec_len new.rows ≡ vec_len old.rows + 1
+  pub capacity : vec_capacity new.rows ≡ vec_capacity old.rows
+
+-- a node is put at the end if all went well, and else the nodes stay
+pub record PushesNode (row : NodeData) (well : Bool) (old new : NodeTable) : Type 0 where
+  pub rows : node_rows new ≡ (if well then node_rows old ++ row ∷ [] else node_rows old)
+  pub len : vec_len new.rows ≡ (if well then vec_len old.rows + 1 else vec_len old.rows)
+
+-- an element ends here, and all rows behind its own are of its descendants
+pub record EndsNode (row end : ℕ) (old new : NodeTable) : Type 0 where
+  pub rows : (d : NodeData) → node_rows new ≡ set (node_rows old) row (record (get_or (node_rows old) row d) { end = end; subtree_end = length (node_rows old) })
+  pub len : vec_len new.rows ≡ vec_len old.rows
+  pub capacity : vec_capacity new.rows ≡ vec_capacity old.rows
