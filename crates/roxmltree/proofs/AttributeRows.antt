@@ -1,54 +1,75 @@
 -- Stretches of the table of attributes.
-use Rattle.std.proofs.Common.{◌≡◌, ℕ, zero, suc, ◌+◌, ◌-◌, ◌<◌, ◌≤◌, List, [], ◌∷◌, ◌++◌, length, map, get_or, sym, ap, ◌∙◌, subst, arith}
+use Rattle.std.proofs.Common.{◌≡◌, ℕ, zero, suc, ◌+◌, ◌-◌, ◌==◌, ◌<◌, ◌≤◌, Bool, true, false, if◌then◌else◌, List, [], ◌∷◌, ◌++◌, length, map, take, drop, get_or, refl, sym, ap, ◌∙◌, subst, arith}
 use Rattle.std.specs.List.{AllByRecursion, slice_range}
-use Rattle.std.proofs.lemmas.List.{get_or-map}
-use Rattle.rox_grammar.specs.Written.{NamespaceDecl}
-use Rattle.rox_tables.specs.Rows.{AttributeRow, NamespaceWithin, attribute, attribute_rows}
-use Rattle.rox_tables.specs.StoredAttributes.{data_of, row_in, place_bound}
+use Rattle.std.proofs.lemmas.List.{length-map, take_more, take_all, take-map, drop-map, map-append}
+use Rattle.rox_grammar.specs.Tree as tree
+use Rattle.rox_tables.specs.Rows.{AttributeRow, NamespaceWithin, attribute, attribute_rows, namespace_view}
+use Rattle.rox_tables.specs.StoredAttributes.{AreNumbered, data_of, row_in, place_bound, unusual_count}
 use Rattle.rox_tables.specs.declared.rows.tables.AttributePlaces.{AttributePlaces}
+use Rattle.rox_tables.specs.declared.rows.tables.Tables.{Tables}
 use Rattle.rox_tables.specs.declared.rows.stored_attribute.StoredAttribute.{StoredAttribute}
 use Rattle.rox_tables.specs.declared.rows.attributes.AttributeTable.{AttributeTable}
-use Rattle.rox_tables.proofs.AttributeRows.{length_rows, place_within}
 use Rattle.roxmltree.specs.NamespaceBound.{namespace_bound}
-use Rattle.roxmltree.proofs.Ends.{first_of, last_of, length_stretch}
 use Rattle.roxmltree.proofs.Entries.{reach_within}
 
--- a place of a stretch is one of what is stored
-pub stored_at : (t : AttributeTable) (i j : ℕ) → i < j → j ≤ length (attribute_rows t) → i < length t.items.items
-stored_at t i j o w = let l = length_rows t in omega (arith, l)
+-- a stretch of what the rows are is that of what is stored
+pub stretch_rows : (t : AttributeTable) (i j : ℕ) → map (row_in t.unusual.items) (slice_range t.items.items i j) ≡ slice_range (attribute_rows t) i j
+stretch_rows t i j =
+    sym (ap (take (j - i)) (drop-map (row_in t.unusual.items) i t.items.items) ∙ take-map (row_in t.unusual.items) (j - i) (drop i t.items.items))
 
-row_at : (t : AttributeTable) (i : ℕ) (x : StoredAttribute) → i < length t.items.items → get_or (attribute_rows t) i (row_in t.unusual.items x) ≡ row_in t.unusual.items (get_or t.items.items i x)
-row_at t i x l = get_or-map (row_in t.unusual.items) t.items.items i x (row_in t.unusual.items x) l
+-- ---- what rows say
 
--- the first row of a stretch, and the rest
-pub first_row : (t : AttributeTable) (i j : ℕ) (x : StoredAttribute) → i ≤ j → (i ≡ j → ⊥) → j ≤ length (attribute_rows t)
-    → slice_range (attribute_rows t) i j ≡ row_in t.unusual.items (get_or t.items.items i x) ∷ slice_range (attribute_rows t) (i + 1) j
-first_row t i j x o n w =
-    first_of (attribute_rows t) i j (row_in t.unusual.items x) (omega arith) w
-    ∙ ap (λ (r : AttributeRow). r ∷ slice_range (attribute_rows t) (i + 1) j) (row_at t i x (stored_at t i j (omega arith) w))
+abbrev said : Tables → StoredAttribute → tree.Attribute
+said t x = attribute (map namespace_view t.namespaces.items) (row_in t.attributes.unusual.items x)
 
--- those before the last row of a stretch, and the last
-pub last_row : (t : AttributeTable) (i j : ℕ) (x : StoredAttribute) → i ≤ j → (i ≡ j → ⊥) → j ≤ length (attribute_rows t)
-    → slice_range (attribute_rows t) i j ≡ slice_range (attribute_rows t) i (j - 1) ++ row_in t.unusual.items (get_or t.items.items (j - 1) x) ∷ []
-last_row t i j x o n w =
-    last_of (attribute_rows t) i j (row_in t.unusual.items x) (omega arith) w
-    ∙ ap (λ (r : AttributeRow). slice_range (attribute_rows t) i (j - 1) ++ r ∷ []) (row_at t (j - 1) x (stored_at t (j - 1) j (omega arith) w))
+abbrev all_said : Tables → List StoredAttribute → List tree.Attribute
+all_said t xs = map (attribute (map namespace_view t.namespaces.items)) (map (row_in t.attributes.unusual.items) xs)
 
--- how many attributes a stretch has
-pub length_left : (namespaces : List NamespaceDecl) (t : AttributeTable) (i j : ℕ) → i ≤ j → j ≤ length (attribute_rows t) → length (map (attribute namespaces) (slice_range (attribute_rows t) i j)) ≡ j - i
-length_left namespaces t i j o w = length_stretch (attribute namespaces) (attribute_rows t) i j o w
+pub length_said : (t : Tables) (xs : List StoredAttribute) → length (all_said t xs) ≡ length xs
+length_said t xs = length-map (map (row_in t.attributes.unusual.items) xs) (attribute (map namespace_view t.namespaces.items)) ∙ length-map xs (row_in t.attributes.unusual.items)
 
-reach_in : (n : ℕ) (us : List AttributePlaces) (xs : List StoredAttribute) (i : ℕ) (x : StoredAttribute) → AllByRecursion (λ (r : AttributeRow). NamespaceWithin n r.0.namespace) (map (row_in us) xs)
-    → i < length xs → x ≡ get_or xs i x → namespace_bound (data_of x).namespace ≤ n
-reach_in n us [] i x h l is = absurd (omega arith)
-reach_in n us (a ∷ xs) zero x h l is = subst (λ (y : StoredAttribute). namespace_bound (data_of y).namespace ≤ n) (sym is) (reach_within n (data_of a).namespace h.0)
-reach_in n us (a ∷ xs) (suc i) x h l is = reach_in n us xs i x h.1 (omega arith) is
+-- the first, and the rest
+pub first_said : (t : Tables) (xs : List StoredAttribute) (x : StoredAttribute) → (length xs ≡ 0 → ⊥) → x ≡ get_or xs 0 x → all_said t xs ≡ said t x ∷ all_said t (slice_range xs 1 (length xs))
+first_said t [] x some is = absurd (some refl)
+first_said t (y ∷ xs) x some is =
+    ap (λ (z : StoredAttribute). said t z ∷ all_said t xs) (sym is)
+    ∙ ap (λ (zs : List StoredAttribute). said t x ∷ all_said t zs) (sym (take_all (length (y ∷ xs) - 1) xs (omega arith)))
 
--- a namespace that is named at a place of the table is within the other
-pub reach_at : (n : ℕ) (t : AttributeTable) (i : ℕ) (x : StoredAttribute) → AllByRecursion (λ (r : AttributeRow). NamespaceWithin n r.0.namespace) (attribute_rows t) → i < length t.items.items
-    → x ≡ get_or t.items.items i x → namespace_bound (data_of x).namespace ≤ n
-reach_at n t i x h l is = reach_in n t.unusual.items t.items.items i x h l is
+-- those before the last, and the last
+pub last_said : (t : Tables) (xs : List StoredAttribute) (x : StoredAttribute) → (length xs ≡ 0 → ⊥) → x ≡ get_or xs (length xs - 1) x
+    → all_said t xs ≡ all_said t (take (length xs - 1) xs) ++ said t x ∷ []
+last_said t xs x some is =
+    let front = take (length xs - 1) xs in
+    let row = row_in t.attributes.unusual.items in
+    let e : xs ≡ front ++ x ∷ [] =
+    sym (take_all (length xs - 1 + 1) xs (omega arith)) ∙ take_more xs (length xs - 1) x (omega (arith, some)) ∙ ap (λ (z : StoredAttribute). front ++ z ∷ []) (sym is) in
+    ap (all_said t) e ∙ ap (map (attribute (map namespace_view t.namespaces.items))) (map-append row front (x ∷ []))
+    ∙ map-append (attribute (map namespace_view t.namespaces.items)) (map row front) (row x ∷ [])
+
+-- ---- what the tables have for rows
+
+-- what holds of all rows holds of one
+pub all_at : (P : StoredAttribute → Type 0) (xs : List StoredAttribute) (i : ℕ) (x : StoredAttribute) → AllByRecursion P xs → i < length xs → x ≡ get_or xs i x → P x
+all_at P [] i x h l is = absurd (omega arith)
+all_at P (y ∷ xs) zero x h l is = subst P (sym is) h.0
+all_at P (y ∷ xs) (suc i) x h l is = all_at P xs i x h.1 (omega arith) is
+
+-- the namespace of each row that is stored is within the other table
+pub all_reach : (n : ℕ) (us : List AttributePlaces) (xs : List StoredAttribute) → AllByRecursion (λ (r : AttributeRow). NamespaceWithin n r.0.namespace) (map (row_in us) xs)
+    → AllByRecursion (λ (r : StoredAttribute). namespace_bound (data_of r).namespace ≤ n) xs
+all_reach n us [] h = tt
+all_reach n us (x ∷ xs) h = (reach_within n (data_of x).namespace h.0, all_reach n us xs h.1)
 
 -- and its unusual places are in the table
-pub place_at : (t : AttributeTable) (i : ℕ) (x : StoredAttribute) → i < length t.items.items → x ≡ get_or t.items.items i x → place_bound x ≤ length t.unusual.items
-place_at t i x l is = let w = place_within 0 t.items.items i x t.numbered l is in omega (arith, w, t.counted)
+all_numbered : (m n : ℕ) (xs : List StoredAttribute) → AreNumbered n xs → unusual_count xs + n ≤ m → AllByRecursion (λ (r : StoredAttribute). place_bound r ≤ m) xs
+all_numbered m n [] h w = tt
+all_numbered m n (x ∷ xs) h w =
+    let one : ℕ = if x.before == 255 then 1 else 0 in
+    (first (x.before == 255) x.place h.0 (omega (arith, w)), all_numbered m (one + n) xs h.1 (omega (arith, w)))
+  where
+    first : (b : Bool) (p : ℕ) → (b ≡ true → p ≡ n) → (if b then 1 else 0) + n ≤ m → (if b then p + 1 else 0) ≤ m
+    first true p is le = let e = is refl in omega (arith, e, le)
+    first false p is le = omega arith
+
+pub all_placed : (t : AttributeTable) → AllByRecursion (λ (r : StoredAttribute). place_bound r ≤ length t.unusual.items) t.items.items
+all_placed t = all_numbered (length t.unusual.items) 0 t.items.items t.numbered (omega (arith, t.counted))

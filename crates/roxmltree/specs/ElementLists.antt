@@ -6,6 +6,9 @@ use Rattle.rox_grammar.specs.Written.{NamespaceDecl}
 use Rattle.rox_grammar.specs.Tree as tree
 use Rattle.rox_tables.specs.Rows.{attribute, attribute_rows, namespace_view, namespace_at, AreScopes, NamespaceWithin}
 use Rattle.rox_tables.specs.Scopes.{places_in, ArePlaces}
+use Rattle.rox_tables.specs.StoredAttributes.{data_of, row_in, place_bound}
+use Rattle.rox_tables.specs.declared.rows.tables.Tables.{Tables}
+use Rattle.roxmltree.specs.NamespaceBound.{namespace_bound}
 use Rattle.roxmltree.specs.TreeCodes.{attribute_code, namespace_decl_code}
 pub use Rattle.roxmltree.specs.AttributeView.{attribute_of}
 use Rattle.roxmltree.specs.declared.attributes.Attributes.TheInside as attributes
@@ -19,13 +22,18 @@ namespace_decls_code = coded_list namespace_decl_code
 
 -- those that are left
 abbrev pub attributes_left : attributes.Inside → List tree.Attribute
-attributes_left a = map (attribute (map namespace_view a.tables.now.namespaces.items)) (slice_range (attribute_rows a.tables.now.attributes) a.from a.until)
+attributes_left a = map (attribute (map namespace_view a.tables.now.namespaces.items)) (map (row_in a.tables.now.attributes.unusual.items) a.rest.now)
 
--- they are a stretch of the table, and each of its rows has its namespace among the others
+-- of each row the namespace and the unusual places are in the tables
 pub record AttributesWithin (a : attributes.Inside) : Type 0 where
-  pub ordered : a.from ≤ a.until
-  pub within : a.until ≤ length (attribute_rows a.tables.now.attributes)
-  pub each : AllByRecursion (λ r. NamespaceWithin (length a.tables.now.namespaces.items) r.0.namespace) (attribute_rows a.tables.now.attributes)
+  pub within : AllByRecursion (λ r. namespace_bound (data_of r).namespace ≤ length a.tables.now.namespaces.items) a.rest.now
+  pub placed : AllByRecursion (λ r. place_bound r ≤ length a.tables.now.attributes.unusual.items) a.rest.now
+
+-- a stretch of the table, each of whose rows has its namespace among the others
+pub record IsAttributeStretch (tables : Tables) (start stop : ℕ) : Type 0 where
+  pub ordered : start ≤ stop
+  pub within : stop ≤ length (attribute_rows tables.attributes)
+  pub each : AllByRecursion (λ r. NamespaceWithin (length tables.namespaces.items) r.0.namespace) (attribute_rows tables.attributes)
 
 -- the places that are left of those that the scope lists
 abbrev pub places_left : namespaces.Inside → List ℕ

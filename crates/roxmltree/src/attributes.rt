@@ -176,8 +176,7 @@ impl fmt::Debug for Attribute<'_, '_> {
 #[derive(Clone, Drop)]
 pub struct Attributes<'a, 'input> {
     pub(crate) tables: &'a Tables<'input>,
-    pub(crate) from: usize,
-    pub(crate) until: usize,
+    pub(crate) rest: &'a [StoredAttribute<'input>],
 }
 
 impl<'a, 'input> Model for Attributes<'a, 'input> {
@@ -197,7 +196,7 @@ impl<'a, 'input> Model for Attributes<'a, 'input> {
 impl<'a, 'input> Attributes<'a, 'input> {
     ghost use Rattle.std.specs.Prelude.{map, slice_range};
     ghost use Rattle.rox_tables.specs.Rows.{attribute, attribute_rows};
-    ghost use Rattle.roxmltree.specs.ElementLists.{attribute_of, AttributesWithin};
+    ghost use Rattle.roxmltree.specs.ElementLists.{attribute_of, IsAttributeStretch};
     ghost use Rattle.roxmltree.specs.ExpandedNames.{expanded, named};
 
     /// A stretch of the attributes of all elements.
@@ -207,16 +206,13 @@ impl<'a, 'input> Attributes<'a, 'input> {
         from: usize,
         until: usize,
     ) -> Attributes<'a, 'input>
-        requires { AttributesWithin (record { tables = tables; from = from; until = until }) }
+        requires { IsAttributeStretch tables.now from until }
         ensures { result
             ≡ map (attribute (map namespace_view tables.now.namespaces.items))
             (slice_range (attribute_rows tables.now.attributes) from until) }
     {
-        Attributes {
-            tables,
-            from,
-            until,
-        }
+        let rest = &tables.attributes.items[from..until];
+        Attributes { tables, rest }
     }
 
     /// The first of these of this local name that has no namespace.
@@ -273,16 +269,15 @@ impl<'a, 'input> Iterator for Attributes<'a, 'input> {
     ghost remaining = { item_count (λ s. s) };
 
     #[inline]
-    #[tactic(auto, using(crate::proofs::AttributeRows::first_row, crate::proofs::AttributeRows::stored_at))]
     fn next(&mut self) -> Option<Attribute<'a, 'input>> {
-        if self.from == self.until {
+        let rest = self.rest;
+        if rest.is_empty() {
             return None;
         }
-        let place = self.from;
-        self.from = place + 1;
+        self.rest = &rest[1..];
         let tables = self.tables;
         Some(Attribute {
-            row: &tables.attributes.items[place],
+            row: &rest[0],
             tables,
         })
     }
@@ -303,16 +298,16 @@ impl<'a, 'input> DoubleEndedIterator for Attributes<'a, 'input> {
 
     ghost next_back_gives = { YieldsLastBy attribute_of (λ s. s) };
 
-    #[tactic(auto, using(crate::proofs::AttributeRows::stored_at))]
     fn next_back(&mut self) -> Option<Attribute<'a, 'input>> {
-        if self.from == self.until {
+        let rest = self.rest;
+        if rest.is_empty() {
             return None;
         }
-        let place = self.until - 1;
-        self.until = place;
+        let last = rest.len() - 1;
+        self.rest = &rest[..last];
         let tables = self.tables;
         Some(Attribute {
-            row: &tables.attributes.items[place],
+            row: &rest[last],
             tables,
         })
     }
@@ -320,6 +315,6 @@ impl<'a, 'input> DoubleEndedIterator for Attributes<'a, 'input> {
 
 impl ExactSizeIterator for Attributes<'_, '_> {
     fn len(&self) -> usize {
-        self.until - self.from
+        self.rest.len()
     }
 }
