@@ -14,7 +14,7 @@ use Rattle.rox_tables.proofs.Pairs.{declared_some}
 use Rattle.rox_grammar.specs.Tree.{listed, element_namespace}
 use Rattle.rox_grammar.specs.Document.{most_attributes}
 use Rattle.rox_tables.specs.Rows.{scope_at, namespace_at, OptionWithin, attribute_rows}
-use Rattle.rox_tables.specs.Scopes.{ArePlaces, entries, places_in}
+use Rattle.rox_tables.specs.Scopes.{ArePlaces, PrefixesOnce, entries, places_in}
 use Rattle.rox_tables.specs.TagScopes.{lists_in}
 use Rattle.rox_tables.specs.UsualPlaces.{usual_places}
 use Rattle.rox_tables.specs.declared.rows.tables.ElementData.{ElementData}
@@ -382,6 +382,12 @@ pub few_within : (t : ElementTables) (ns : List Namespace) (scopes : List Scope)
     → ArePlaces (length t.namespaces.items.items) t.listed.items → ps ≡ places_in listed scopes scope → ArePlaces (length ns) ps
 few_within t ns scopes listed ps scope n s l all few = rw (few, s, l, n) (all_places (length t.namespaces.items.items) t.listed.items t.scopes.items scope all)
 
+-- each prefix is among them once
+pub few_once : (t : ElementTables) (ns : List Namespace) (scopes : List Scope) (listed ps : List ℕ) (scope : ℕ) → ns ≡ t.namespaces.items.items → scopes ≡ t.scopes.items → listed ≡ t.listed.items
+    → PrefixesOnce (scope_at (lists_in t) scope) → ps ≡ places_in listed scopes scope → PrefixesOnce (entries (map namespace_view ns) ps)
+few_once t ns scopes listed ps scope n s l once few =
+    rw (few, s, l, n) (subst PrefixesOnce (scope_places (map namespace_view t.namespaces.items.items) t.listed.items t.scopes.items scope) once)
+
 pub few_found : (t : ElementTables) (ns : List Namespace) (scopes : List Scope) (listed ps : List ℕ) (scope : ℕ) → ns ≡ t.namespaces.items.items → scopes ≡ t.scopes.items → listed ≡ t.listed.items
     → ps ≡ places_in listed scopes scope → FindsBinding (map namespace_view ns) (Some ps) t.present (scope_at (lists_in t) scope)
 few_found t ns scopes listed ps scope n s l few =
@@ -398,7 +404,7 @@ scope_found t scope = few_found t t.namespaces.items.items t.scopes.items t.list
 
 -- where the attributes alone have changed, the scope is there, and attributes are added in it
 pub scope_stays : (old now : ElementTables) (scope : ℕ) → now ≡ record old { attributes = now.attributes } → HasScope old scope → HasScope now scope
-scope_stays old now scope is h = subst (λ (t : ElementTables). HasScope t scope) (sym is) (record { places = h.places; scopes = h.scopes; within = h.within })
+scope_stays old now scope is h = subst (λ (t : ElementTables). HasScope t scope) (sym is) (record { places = h.places; scopes = h.scopes; within = h.within; once = h.once })
 
 pub adds_there : (old now : ElementTables) (scope from : ℕ) (src : List ℕ) (i j : ℕ) (before after : List AttributeRow) → now ≡ record old { attributes = now.attributes }
     → AddsPlain (map namespace_view now.namespaces.items.items) (few_in now scope) now.present from src i j before after

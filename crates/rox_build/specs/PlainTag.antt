@@ -15,7 +15,7 @@ use Rattle.rox_reading.specs.Values.{ValueInclusion, value_at}
 use Rattle.rox_reading.specs.Tags.{TagSoFar, Values, attribute_with, attributes_at, names_tested, tag_at}
 use Rattle.rox_tables.specs.Bindings.{FindsBinding}
 use Rattle.rox_tables.specs.Rows.{AttributeRow, AreScopes, NamespaceWithin, namespace_view, attribute, attribute_rows}
-use Rattle.rox_tables.specs.Scopes.{ArePlaces, places_in}
+use Rattle.rox_tables.specs.Scopes.{ArePlaces, PrefixesOnce, places_in}
 use Rattle.rox_tables.specs.declared.namespaces.bindings.PrefixBindings.{PrefixBindings}
 use Rattle.rox_tables.specs.ResolvedNames.{AddsResolved}
 use Rattle.rox_tables.specs.TagDeclarations.{unresolved_view}
@@ -28,16 +28,17 @@ use Rattle.rox_scan.specs.ByteSets.{EndsSet, is_part_byte}
 use Rattle.rox_tables.specs.TagScopes.{HasBindings}
 use Rattle.rox_build.specs.BuilderState.{IsOpenWithin}
 use Rattle.rox_build.specs.declared.builder.OpenElement.{OpenElement}
-use Rattle.rox_build.specs.ElementRow.{Tagged}
+use Rattle.rox_build.specs.ElementRow.{Tagged, scope_in_tables}
 use Rattle.rox_build.specs.declared.plain_tag.PlainName.{PlainName}
 use Rattle.rox_build.specs.declared.tag.StartTag.{StartTag}
 use Rattle.rox_tables.specs.declared.namespaces.unresolved_attribute.UnresolvedAttribute.{UnresolvedAttribute}
 
--- the tables have this scope, and the places that it lists
+-- the tables have this scope, and the places that it lists, each prefix once
 pub record HasScope (t : ElementTables) (scope : ℕ) : Type 0 where
   pub places : ArePlaces (length t.namespaces.items.items) t.listed.items
   pub scopes : AreScopes (length t.listed.items) t.scopes.items
   pub within : scope < length t.scopes.items
+  pub once : PrefixesOnce (scope_in_tables t scope)
 
 -- these places, as a look-up among few takes them
 abbrev pub few_in : ElementTables → ℕ → Option (List ℕ)

@@ -39,7 +39,7 @@ use rox_tables::namespaces::namespace_decl::is_namespace_decl;
 use rox_tables::namespaces::resolve::{
     element_namespace, put_changed, put_resolved, put_usual_attribute,
 };
-use rox_tables::namespaces::scope::{few_places, find_prefix};
+use rox_tables::namespaces::scope::{few_places, find_near};
 use rox_tables::namespaces::seen_names::SeenNames;
 use rox_tables::namespaces::unresolved_attribute::{UnresolvedAttribute, UsualAttribute};
 use rox_tables::rows::attributes::AttributeTable;
@@ -289,6 +289,7 @@ fn namespace_in(
     elements: &ElementTables<'_>,
     scope: u32,
     name: QName<'_>,
+    near: &mut usize,
 ) -> Option<AttributeNamespace>
     requires scope { HasScope elements.now scope }
     ensures within { IfSome result
@@ -312,7 +313,7 @@ fn namespace_in(
     }
     let places = few_places(&elements.scopes, &elements.listed, scope)?;
     let namespaces = elements.namespaces.as_slice();
-    match find_prefix(namespaces, Some(places), &elements.present, name.prefix) {
+    match find_near(namespaces, places, name.prefix, near) {
         Some(place) => Some(AttributeNamespace::Listed(place)),
         None => None,
     }
@@ -341,7 +342,7 @@ fn put_spaced_attribute<'input>(
     if is_namespace_decl(one.name) {
         return 0;
     }
-    let Some(namespace) = namespace_in(elements, scope, one.name) else {
+    let Some(namespace) = namespace_in(elements, scope, one.name, &mut seen.near) else {
         return 0;
     };
     let end = one.end;
@@ -562,7 +563,7 @@ fn put_named_attribute<'input>(
     if before >= UNUSUAL as usize {
         return some_place(put_other_attribute(text, start, elements, scope, seen));
     }
-    let namespace = namespace_in(elements, scope, name)?;
+    let namespace = namespace_in(elements, scope, name, &mut seen.near)?;
     let one = UsualAttribute {
         start: start as u32,
         before: before as u8,

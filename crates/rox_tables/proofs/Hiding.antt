@@ -2,7 +2,7 @@
 use Rattle.std.proofs.Common.{◌≡◌, ℕ, zero, suc, ◌+◌, ◌<◌, ◌&&◌, ◌||◌, not, filter, Bool, true, false, List, [], ◌∷◌, ◌++◌, Option, Some, if◌then◌else◌, length, get_or, refl, sym, ap, ◌∙◌, arith}
 use Rattle.std.proofs.lemmas.List.Folds.{list_any-append}
 use Rattle.rox_grammar.specs.Written.{NamespaceDecl}
-use Rattle.rox_grammar.specs.Tree.{same_prefix, is_declared, is_xml}
+use Rattle.rox_grammar.specs.Tree.{same_prefix, is_declared, is_xml, uri_of}
 use Rattle.rox_grammar.specs.FixedTexts.{word_text}
 use Rattle.rox_grammar.specs.declared.fault.Word.TheVariants.{Xml}
 use Rattle.rox_tables.specs.Rows.{namespace_at}
@@ -39,6 +39,22 @@ once_filtered f (d ∷ ds) (n, h) = one (f d) (filtered_none f d.prefix ds n) (o
     one true m r = (m, r)
     one false m r = r
 
+-- one behind which none has its prefix has another than each of them
+apart_behind : (namespaces : List NamespaceDecl) (x : ℕ) (xs : List ℕ) (i : ℕ) (p : Option (List ℕ)) → is_declared (namespace_at namespaces x).prefix (entries namespaces xs) ≡ false → i < length xs
+    → same_prefix (namespace_at namespaces (get_or xs i 0)).prefix p ≡ true → same_prefix (namespace_at namespaces x).prefix p ≡ false
+apart_behind namespaces x [] i p n lt s = absurd (omega arith)
+apart_behind namespaces x (y ∷ ys) zero p n lt s =
+    let same : (namespace_at namespaces y).prefix ≡ p = same_prefix-true _ _ s in
+    ap (same_prefix (namespace_at namespaces x).prefix) (sym same) ∙ same_prefix-sym (namespace_at namespaces x).prefix (namespace_at namespaces y).prefix ∙ (or_parts _ _ n).0
+apart_behind namespaces x (y ∷ ys) (suc i) p n lt s = apart_behind namespaces x ys i p (or_parts _ _ n).1 (omega arith) s
+
+-- any place with this prefix is the one that is looked up
+pub uri_once : (namespaces : List NamespaceDecl) (places : List ℕ) (i : ℕ) (p : Option (List ℕ)) → PrefixesOnce (entries namespaces places) → i < length places
+    → same_prefix (namespace_at namespaces (get_or places i 0)).prefix p ≡ true → uri_of (entries namespaces places) p ≡ Some (namespace_at namespaces (get_or places i 0)).uri
+uri_once namespaces [] i p h lt s = absurd (omega arith)
+uri_once namespaces (x ∷ xs) zero p h lt s = rw s refl
+uri_once namespaces (x ∷ xs) (suc i) p (n, h) lt s = rw (apart_behind namespaces x xs i p n (omega arith) s) (uri_once namespaces xs i p h (omega arith) s)
+
 -- the one with this prefix is left out alone
 pub unlisted_one : (namespaces : List NamespaceDecl) (places : List ℕ) (i : ℕ) (p : Option (List ℕ)) → PrefixesOnce (entries namespaces places) → i < length places → same_prefix (namespace_at namespaces (get_or places i 0)).prefix p ≡ true
     → entries namespaces (cut i places) ≡ unlisted p (entries namespaces places)
@@ -47,16 +63,9 @@ unlisted_one namespaces (x ∷ xs) zero p (n, h) lt s =
     let same : (namespace_at namespaces x).prefix ≡ p = same_prefix-true _ _ s in
     rw s (sym (unlisted_none p (entries namespaces xs) (ap (λ q. is_declared q (entries namespaces xs)) (sym same) ∙ n)))
 unlisted_one namespaces (x ∷ xs) (suc i) p (n, h) lt s =
-    let other : same_prefix (namespace_at namespaces x).prefix p ≡ false = apart xs i n (omega arith) s in
+    let other = apart_behind namespaces x xs i p n (omega arith) s in
     let next : suc i + 1 ≡ suc (i + 1) = omega arith in
     rw (other, next) (ap (λ ys. namespace_at namespaces x ∷ ys) (unlisted_one namespaces xs i p h (omega arith) s))
-  where
-    apart : (xs : List ℕ) (i : ℕ) → is_declared (namespace_at namespaces x).prefix (entries namespaces xs) ≡ false → i < length xs → same_prefix (namespace_at namespaces (get_or xs i 0)).prefix p ≡ true → same_prefix (namespace_at namespaces x).prefix p ≡ false
-    apart [] i n lt s = absurd (omega arith)
-    apart (y ∷ ys) zero n lt s =
-        let same : (namespace_at namespaces y).prefix ≡ p = same_prefix-true _ _ s in
-        ap (same_prefix (namespace_at namespaces x).prefix) (sym same) ∙ same_prefix-sym (namespace_at namespaces x).prefix (namespace_at namespaces y).prefix ∙ (or_parts _ _ n).0
-    apart (y ∷ ys) (suc i) n lt s = apart ys i (or_parts _ _ n).1 (omega arith) s
 
 -- one more that is not declared yet
 pub once_more : (ds : List NamespaceDecl) (d : NamespaceDecl) → PrefixesOnce ds → is_declared d.prefix ds ≡ false → PrefixesOnce (ds ++ d ∷ [])

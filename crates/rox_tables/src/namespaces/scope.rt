@@ -4,7 +4,7 @@
 ghost use Rattle.std.specs.Prelude.{◌≡◌, ◌<◌, ◌++◌, ℕ, List, length, map, drop, slice_range, false, OnOk, IfSome, IfNone, Some, None, ◌&&◌, ◌||◌};
 ghost use Rattle.rox_grammar.specs.Tree.{same_prefix, is_declared, is_xml};
 ghost use Rattle.rox_tables.specs.Rows.{namespace_view};
-ghost use Rattle.rox_tables.specs.Scopes.{prefix_view, entries, places_in, is_few_at, ArePlaces, others};
+ghost use Rattle.rox_tables.specs.Scopes.{prefix_view, entries, places_in, is_few_at, ArePlaces, PrefixesOnce, others};
 ghost use Rattle.rox_tables.specs.PrefixSet.{HasPrefixes, IsBelowFew};
 ghost use Rattle.rox_tables.specs.Ropes.{IsScope};
 ghost use Rattle.rox_tables.specs.Bindings.{FindsPlace, LooksUp, LooksWithin, places_view};
@@ -111,6 +111,49 @@ fn place_of_prefix(namespaces: &[Namespace<'_>], places: &[u16], prefix: &str) -
         }
     }
     None
+}
+
+/// As `find_near`, by a look at one place after another: notes where it is found.
+#[inline(never)]
+fn find_far(
+    namespaces: &[Namespace<'_>],
+    places: &[u16],
+    prefix: &str,
+    near: &mut usize,
+) -> Option<u16>
+    requires { ArePlaces (length namespaces.now) places.now }
+    ensures { FindsPlace namespaces.now places.now (Some prefix.now) result }
+{
+    for (index, place) in places.iter().enumerate() {
+        if same_prefix(namespaces[*place as usize].name, Some(prefix)) {
+            *near = index;
+            return Some(*place);
+        }
+    }
+    None
+}
+
+/// The one of these places whose namespace has this prefix, looked for first where the last one was found: most names of a tag
+/// have the same prefix.
+#[inline(always)]
+pub fn find_near(
+    namespaces: &[Namespace<'_>],
+    places: &[u16],
+    prefix: &str,
+    near: &mut usize,
+) -> Option<u16>
+    requires within { ArePlaces (length namespaces.now) places.now }
+    requires once { PrefixesOnce (entries (map namespace_view namespaces.now) places.now) }
+    ensures { FindsPlace namespaces.now places.now (Some prefix.now) result }
+{
+    let guess = *near;
+    if guess < places.len() {
+        let place = places[guess];
+        if is_short_prefix(namespaces[place as usize].name, prefix) {
+            return Some(place);
+        }
+    }
+    find_far(namespaces, places, prefix, near)
 }
 
 /// The place of this prefix: the first among these places, where they are few, and else as it is present.

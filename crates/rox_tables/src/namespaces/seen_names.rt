@@ -20,6 +20,8 @@ pub struct SeenNames {
     pub codes: [bool; 256],
     /// How many of them came again.
     pub again: usize,
+    /// Where a prefix was found last, among the places of its scope.
+    pub near: usize,
     /// The owned values of all tags that come again, once there is one.
     pub values: Option<Box<Recent>>,
 }
@@ -75,6 +77,7 @@ impl SeenNames {
             from,
             codes: [false; CODES],
             again: 0,
+            near: 0,
             values: None,
         }
     }

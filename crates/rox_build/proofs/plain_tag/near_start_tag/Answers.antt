@@ -17,7 +17,7 @@ use Rattle.rox_build.proofs.Starting.{tag_made, tested_known, tested_passes}
 use Rattle.rox_build.proofs.plain_tag.near_start_tag.Goals as goal
 
 pub some_attributes-requires-clause-scope : goal.some_attributes-requires-clause-scope
-some_attributes-requires-clause-scope c = record { places = c.requires.below.places; scopes = c.requires.below.scopes; within = c.requires.below.parent.0 }
+some_attributes-requires-clause-scope c = record { places = c.requires.below.places; scopes = c.requires.below.scopes; within = c.requires.below.parent.0; once = c.requires.below.parent.1 }
 
 pub returns-clause-read : goal.returns-clause-read
 returns-clause-read c =

@@ -18,10 +18,10 @@ use Rattle.rox_build.proofs.Starting.{tag_made, tested_known, tested_passes}
 use Rattle.rox_build.proofs.plain_tag.plain_start_tag.Goals as goal
 
 pub tag_namespace-requires-clause-scope : goal.tag_namespace-requires-clause-scope
-tag_namespace-requires-clause-scope c = record { places = c.requires.below.places; scopes = c.requires.below.scopes; within = c.requires.below.parent.0 }
+tag_namespace-requires-clause-scope c = record { places = c.requires.below.places; scopes = c.requires.below.scopes; within = c.requires.below.parent.0; once = c.requires.below.parent.1 }
 
 pub plain_attributes-requires-clause-scope : goal.plain_attributes-requires-clause-scope
-plain_attributes-requires-clause-scope c = record { places = c.requires.below.places; scopes = c.requires.below.scopes; within = c.requires.below.parent.0 }
+plain_attributes-requires-clause-scope c = record { places = c.requires.below.places; scopes = c.requires.below.scopes; within = c.requires.below.parent.0; once = c.requires.below.parent.1 }
 
 pub returns-clause-read : goal.returns-clause-read
 returns-clause-read c =
