@@ -3,6 +3,7 @@ pub mod OpenRows
 pub mod DataParts
 pub mod PendingText
 pub mod BuilderState
+pub mod Outcomes
 pub mod PlainSteps
 pub mod TagState
 pub mod ElementRow

@@ -66,6 +66,13 @@ pub record HasPlainValue (src : List ℕ) (i quote j : ℕ) (value : List ℕ) :
   pub cut : IsCharBoundary src j
   pub is : value ≡ slice_range src i j
 
+-- a name is read at this place
+pub record IsPlainName (src : List ℕ) (i : ℕ) (n : PlainName) : Type 0 where
+  pub value : qname_at src i ≡ Ok (name_view n.name, n.end)
+  pub onward : i ≤ n.end
+  pub cut : IsCharBoundary src n.end
+  pub local : i + length n.name.local.now ≤ n.end
+
 -- an attribute's name is read at this place, and `=` and a quote stand right behind it
 pub record IsAttributeName (src : List ℕ) (i : ℕ) (n : PlainName) : Type 0 where
   pub value : qname_at src i ≡ Ok (name_view n.name, n.end)

@@ -189,6 +189,7 @@ impl<'input> Builder<'input> {
     ghost use Rattle.rox_grammar.specs.Failures.{Fails};
     ghost use Rattle.rox_values.specs.Values.{piece_view};
     ghost use Rattle.rox_build.specs.BuilderState.{Represents, RepresentsFlushed, IsNode, IsOpening, AreSound, Adds, IsConsistent, IsOpened, IsReady, KeepsOpen, KeepsState, KeepsTables, names_in, opened_in, last_row, tables_of};
+    ghost use Rattle.rox_build.specs.Outcomes.{AddsText};
     ghost use Rattle.rox_tables.specs.Rows.{HoldsTree};
     ghost use Rattle.rox_tables.specs.StoredNodes.{IsSmallKind};
     ghost use Rattle.rox_tables.specs.Scopes.{PrefixesOnce};
@@ -465,10 +466,7 @@ impl<'input> Builder<'input> {
         end: usize,
         text: &'input str,
     ) -> Result<(), Failure>
-        ensures value { (total at : ℕ) (s : State) → Represents total s.stack s.done self.old
-            → Adds total result self.new
-            (with_item self.old.nodes_limit s at (Text start end text.now true)) }
-        ensures kept { KeepsOpen self.old self.new }
+        ensures { AddsText self.old self.new result (Text start end text.now true) }
     {
         match self.pending {
             Pending::None => {
@@ -544,10 +542,7 @@ impl<'input> Builder<'input> {
         end: usize,
         changed: &str,
     ) -> Result<(), Failure>
-        ensures value { (total at : ℕ) (s : State) → Represents total s.stack s.done self.old
-            → Adds total result self.new
-            (with_item self.old.nodes_limit s at (Text start end changed.now false)) }
-        ensures kept { KeepsOpen self.old self.new }
+        ensures { AddsText self.old self.new result (Text start end changed.now false) }
     {
         match self.pending {
             Pending::None => {
@@ -574,11 +569,8 @@ impl<'input> Builder<'input> {
 
     /// A piece of text that stands in the buffer for values. The only fault is that there are too many nodes.
     pub fn scratch_piece(&mut self, alloc: Global, start: usize, end: usize) -> Result<(), Failure>
-        ensures value { (total at : ℕ) (s : State) → Represents total s.stack s.done self.old
-            → Adds total result self.new
-            (with_item self.old.nodes_limit s at
-            (Text start end (string_bytes self.old.buffers.scratch) false)) }
-        ensures kept { KeepsOpen self.old self.new }
+        ensures { AddsText self.old self.new result
+            (Text start end (string_bytes self.old.buffers.scratch) false) }
     {
         match self.pending {
             Pending::None => {
@@ -652,11 +644,8 @@ impl<'input> Builder<'input> {
         end: usize,
         piece: TextValue<'input>,
     ) -> Result<(), Failure>
-        ensures value { (total at : ℕ) (s : State) → Represents total s.stack s.done self.old
-            → let text = piece_view piece.entry (string_bytes self.old.buffers.scratch) in
-            Adds total result self.new
-            (with_item self.old.nodes_limit s at (Text start end text.value text.borrowed)) }
-        ensures kept { KeepsOpen self.old self.new }
+        ensures { let text = piece_view piece.entry (string_bytes self.old.buffers.scratch) in
+            AddsText self.old self.new result (Text start end text.value text.borrowed) }
     {
         match piece {
             TextValue::Plain(text) => self.slice_piece(start, end, text),

@@ -14,9 +14,9 @@ ghost use Rattle.rox_grammar.specs.NameParts.{local_span, same_qname};
 ghost use Rattle.rox_grammar.specs.State.{Open};
 ghost use Rattle.rox_grammar.specs.Entities.{Entity};
 ghost use Rattle.rox_reading.specs.Refusals.{lifted};
-ghost use Rattle.rox_values.specs.DeclaredEntities.{AreDeclared};
 ghost use Rattle.rox_values.specs.Contexts.{context_of};
-ghost use Rattle.rox_build.specs.BuilderState.{GoesOn, IsConsistent, IsInState, ScansTo, ParsesTo, Represents};
+ghost use Rattle.rox_build.specs.BuilderState.{GoesOn, IsConsistent, IsInState, ScansTo, Represents};
+ghost use Rattle.rox_build.specs.Outcomes.{ParsesAs, ScansAs};
 
 use crate::builder::Builder;
 use crate::tag::{TagContext, start_tag};
@@ -40,10 +40,8 @@ pub fn comment<'input>(
 ) -> Result<(), Failure>
     requires here { stands (word_text word.CommentStart) cursor.old.text.now cursor.old.pos ≡ true }
     requires fine { IsConsistent builder.old.tables builder.old.opened.items }
-    ensures value { (limit end : ℕ) (s : State) → IsInState limit end s cursor.old builder.old
-        → ScansTo limit end result cursor.new builder.new
-        (lifted (machine.comment_step limit cursor.old.text.now s)) }
-    ensures goes { OnOk result (GoesOn cursor.old cursor.new builder.new) }
+    ensures { ScansAs (λ limit src s. lifted (machine.comment_step limit src s)) cursor.old
+        cursor.new builder.old builder.new result }
 {
     let start = cursor.pos;
     let text = cursor.comment()?;
@@ -63,10 +61,8 @@ pub fn instruction<'input>(
 ) -> Result<(), Failure>
     requires here { stands (word_text word.PIStart) cursor.old.text.now cursor.old.pos ≡ true }
     requires fine { IsConsistent builder.old.tables builder.old.opened.items }
-    ensures value { (limit end : ℕ) (s : State) → IsInState limit end s cursor.old builder.old
-        → ScansTo limit end result cursor.new builder.new
-        (lifted (machine.instruction_step limit cursor.old.text.now s)) }
-    ensures goes { OnOk result (GoesOn cursor.old cursor.new builder.new) }
+    ensures { ScansAs (λ limit src s. lifted (machine.instruction_step limit src s)) cursor.old
+        cursor.new builder.old builder.new result }
 {
     let start = cursor.pos;
     let pi = cursor.instruction()?;
@@ -89,10 +85,8 @@ fn cdata<'input>(
 ) -> Result<(), Failure>
     requires here { stands (word_text word.CDataStart) cursor.old.text.now cursor.old.pos ≡ true }
     requires fine { IsConsistent builder.old.tables builder.old.opened.items }
-    ensures value { (limit end : ℕ) (s : State) → IsInState limit end s cursor.old builder.old
-        → ScansTo limit end result cursor.new builder.new
-        (lifted (machine.cdata_step limit cursor.old.text.now s)) }
-    ensures goes { OnOk result (GoesOn cursor.old cursor.new builder.new) }
+    ensures { ScansAs (λ limit src s. lifted (machine.cdata_step limit src s)) cursor.old
+        cursor.new builder.old builder.new result }
 {
     let start = cursor.pos;
     let raw = cursor.cdata()?;
@@ -150,11 +144,8 @@ pub fn element<'input>(
     requires there { cursor.old.pos < length cursor.old.text.now }
     requires here { slice_index cursor.old.text.now cursor.old.pos ≡ 60 }
     requires fine { IsConsistent builder.old.tables builder.old.opened.items }
-    ensures value { (limit end : ℕ) (es : List Entity) (s : State)
-        → AreDeclared es context.entry.entities.now → IsInState limit end s cursor.old builder.old
-        → ParsesTo limit end result cursor.new builder.new
-        (machine.tag_step (context_of limit es context.entry) cursor.old.text.now s) }
-    ensures goes { OnOk result (GoesOn cursor.old cursor.new builder.new) }
+    ensures { ParsesAs machine.tag_step context.entry cursor.old cursor.new builder.old builder.new
+        result }
 {
     let start = cursor.pos;
     let cut = cut_off_fault(builder, context);
@@ -252,11 +243,8 @@ pub fn markup<'input>(
     requires here { slice_index cursor.old.text.now cursor.old.pos ≡ 60 }
     requires no_end_tag { slice_index cursor.old.text.now (cursor.old.pos + 1) ≢ 47 }
     requires fine { IsConsistent builder.old.tables builder.old.opened.items }
-    ensures value { (limit end : ℕ) (es : List Entity) (s : State)
-        → AreDeclared es context.entry.entities.now → IsInState limit end s cursor.old builder.old
-        → ParsesTo limit end result cursor.new builder.new
-        (machine.step (context_of limit es context.entry) cursor.old.text.now s) }
-    ensures goes { OnOk result (GoesOn cursor.old cursor.new builder.new) }
+    ensures { ParsesAs machine.step context.entry cursor.old cursor.new builder.old builder.new
+        result }
 {
     let bytes = cursor.text.as_bytes();
     let next = bytes[cursor.pos + 1];

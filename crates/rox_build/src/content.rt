@@ -14,6 +14,7 @@ ghost use Rattle.rox_values.specs.DeclaredEntities.{AreDeclared};
 ghost use Rattle.rox_values.specs.Contexts.{context_of};
 ghost use Rattle.rox_build.specs.BuilderState.{GoesOn, IsConsistent, IsInState, ParsesTo, HoldsState, ParsesToHeld, GivesPart, Adds, Represents};
 ghost use Rattle.rox_build.specs.DataParts.{GivesDataPart, next_part};
+ghost use Rattle.rox_build.specs.Outcomes.{MayStep, ParsesAs};
 
 use crate::builder::Builder;
 use crate::constructs::{end_tag, markup};
@@ -42,11 +43,8 @@ fn slow_character_data<'input>(
     context: Context<'_, 'input>,
 ) -> Result<(), ParseError<'input>>
     requires fine { IsConsistent builder.old.tables builder.old.opened.items }
-    ensures value { (limit end : ℕ) (es : List Entity) (s : State)
-        → AreDeclared es context.entry.entities.now → IsInState limit end s cursor.old builder.old
-        → ParsesTo limit end result cursor.new builder.new
-        (machine.character_data_step (context_of limit es context.entry) cursor.old.text.now s) }
-    ensures goes { OnOk result (GoesOn cursor.old cursor.new builder.new) }
+    ensures { ParsesAs machine.character_data_step context.entry cursor.old cursor.new builder.old
+        builder.new result }
 {
     let start = cursor.pos;
     let text = cursor.text;
@@ -77,11 +75,8 @@ fn ended_character_data<'input>(
     context: Context<'_, 'input>,
 ) -> Result<(), ParseError<'input>>
     requires fine { IsConsistent builder.old.tables builder.old.opened.items }
-    ensures value { (limit end : ℕ) (es : List Entity) (s : State)
-        → AreDeclared es context.entry.entities.now → IsInState limit end s cursor.old builder.old
-        → ParsesTo limit end result cursor.new builder.new
-        (machine.character_data_step (context_of limit es context.entry) cursor.old.text.now s) }
-    ensures goes { OnOk result (GoesOn cursor.old cursor.new builder.new) }
+    ensures { ParsesAs machine.character_data_step context.entry cursor.old cursor.new builder.old
+        builder.new result }
 {
     slow_character_data(alloc, cursor, builder, context)?;
     builder.end_run(alloc, cursor.text, cursor.pos)?;
@@ -98,11 +93,8 @@ fn character_data<'input>(
     context: Context<'_, 'input>,
 ) -> Result<(), ParseError<'input>>
     requires fine { IsConsistent builder.old.tables builder.old.opened.items }
-    ensures value { (limit end : ℕ) (es : List Entity) (s : State)
-        → AreDeclared es context.entry.entities.now → IsInState limit end s cursor.old builder.old
-        → ParsesTo limit end result cursor.new builder.new
-        (machine.character_data_step (context_of limit es context.entry) cursor.old.text.now s) }
-    ensures goes { OnOk result (GoesOn cursor.old cursor.new builder.new) }
+    ensures { ParsesAs machine.character_data_step context.entry cursor.old cursor.new builder.old
+        builder.new result }
 {
     let start = cursor.pos;
     let text = cursor.text;
@@ -127,12 +119,8 @@ fn data_parts<'input>(
 ) -> Result<(), ParseError<'input>>
     requires stop { IsCharBoundary cursor.old.text.now stop }
     requires fine { IsConsistent builder.old.tables builder.old.opened.items }
-    ensures value { (limit end : ℕ) (es : List Entity) (s : State)
-        → AreDeclared es context.entry.entities.now → IsInState limit end s cursor.old builder.old
-        → ParsesTo limit end result cursor.new builder.new
-        (machine.data_parts (context_of limit es context.entry)
-        (length cursor.old.text.now) cursor.old.text.now start stop s) }
-    ensures goes { OnOk result (GoesOn cursor.old cursor.new builder.new) }
+    ensures { ParsesAs (λ k src. machine.data_parts k (length src) src start stop) context.entry
+        cursor.old cursor.new builder.old builder.new result }
 {
     for _turn in 0..cursor.text.len() {
         match part_piece(alloc, cursor, builder, context, start, stop)? {
@@ -378,13 +366,9 @@ fn other_step<'input>(
     builder: &mut Builder<'input>,
     context: Context<'_, 'input>,
 ) -> Result<(), ParseError<'input>>
-    requires there { cursor.old.pos < length cursor.old.text.now }
-    requires fine { IsConsistent builder.old.tables builder.old.opened.items }
-    ensures value { (limit end : ℕ) (es : List Entity) (s : State)
-        → AreDeclared es context.entry.entities.now → IsInState limit end s cursor.old builder.old
-        → ParsesTo limit end result cursor.new builder.new
-        (machine.step (context_of limit es context.entry) cursor.old.text.now s) }
-    ensures goes { OnOk result (GoesOn cursor.old cursor.new builder.new) }
+    requires { MayStep cursor.old builder.old }
+    ensures { ParsesAs machine.step context.entry cursor.old cursor.new builder.old builder.new
+        result }
 {
     let bytes = cursor.text.as_bytes();
     if bytes[cursor.pos] != b'<' {
@@ -412,13 +396,9 @@ fn general_step<'input>(
     builder: &mut Builder<'input>,
     context: Context<'_, 'input>,
 ) -> Result<(), ParseError<'input>>
-    requires there { cursor.old.pos < length cursor.old.text.now }
-    requires fine { IsConsistent builder.old.tables builder.old.opened.items }
-    ensures value { (limit end : ℕ) (es : List Entity) (s : State)
-        → AreDeclared es context.entry.entities.now → IsInState limit end s cursor.old builder.old
-        → ParsesTo limit end result cursor.new builder.new
-        (machine.step (context_of limit es context.entry) cursor.old.text.now s) }
-    ensures goes { OnOk result (GoesOn cursor.old cursor.new builder.new) }
+    requires { MayStep cursor.old builder.old }
+    ensures { ParsesAs machine.step context.entry cursor.old cursor.new builder.old builder.new
+        result }
 {
     let bytes = cursor.text.as_bytes();
     if bytes[cursor.pos] != b'<' && !builder.is_text_open() {
@@ -436,13 +416,9 @@ fn step<'input>(
     builder: &mut Builder<'input>,
     context: Context<'_, 'input>,
 ) -> Result<(), ParseError<'input>>
-    requires there { cursor.old.pos < length cursor.old.text.now }
-    requires fine { IsConsistent builder.old.tables builder.old.opened.items }
-    ensures value { (limit end : ℕ) (es : List Entity) (s : State)
-        → AreDeclared es context.entry.entities.now → IsInState limit end s cursor.old builder.old
-        → ParsesTo limit end result cursor.new builder.new
-        (machine.step (context_of limit es context.entry) cursor.old.text.now s) }
-    ensures goes { OnOk result (GoesOn cursor.old cursor.new builder.new) }
+    requires { MayStep cursor.old builder.old }
+    ensures { ParsesAs machine.step context.entry cursor.old cursor.new builder.old builder.new
+        result }
 {
     if plain_step(cursor, builder, context.open_around) {
         return Ok(());
@@ -461,13 +437,9 @@ fn inner_step<'input>(
     builder: &mut Builder<'input>,
     context: Context<'_, 'input>,
 ) -> Result<(), ParseError<'input>>
-    requires there { cursor.old.pos < length cursor.old.text.now }
-    requires fine { IsConsistent builder.old.tables builder.old.opened.items }
-    ensures value { (limit end : ℕ) (es : List Entity) (s : State)
-        → AreDeclared es context.entry.entities.now → IsInState limit end s cursor.old builder.old
-        → ParsesTo limit end result cursor.new builder.new
-        (machine.step (context_of limit es context.entry) cursor.old.text.now s) }
-    ensures goes { OnOk result (GoesOn cursor.old cursor.new builder.new) }
+    requires { MayStep cursor.old builder.old }
+    ensures { ParsesAs machine.step context.entry cursor.old cursor.new builder.old builder.new
+        result }
 {
     let bytes = cursor.text.as_bytes();
     if bytes[cursor.pos] != b'<' {
@@ -485,12 +457,8 @@ pub fn content<'input>(
     context: Context<'_, 'input>,
 ) -> Result<(), ParseError<'input>>
     requires fine { IsConsistent builder.old.tables builder.old.opened.items }
-    ensures value { (limit end : ℕ) (es : List Entity) (s : State)
-        → AreDeclared es context.entry.entities.now → IsInState limit end s cursor.old builder.old
-        → ParsesTo limit end result cursor.new builder.new
-        (machine.drive (context_of limit es context.entry)
-        (length cursor.old.text.now) cursor.old.text.now s) }
-    ensures goes { OnOk result (GoesOn cursor.old cursor.new builder.new) }
+    ensures { ParsesAs (λ k src. machine.drive k (length src) src) context.entry
+        cursor.old cursor.new builder.old builder.new result }
 {
     let mut left = cursor.text.len();
     while left > 0 {

@@ -17,6 +17,7 @@ ghost use Rattle.rox_build.specs.PlainSteps.{Reads};
 ghost use Rattle.rox_build.specs.PendingText.{waiting};
 ghost use Rattle.rox_build.specs.PlainTag.{EndsNear};
 ghost use Rattle.rox_scan.specs.ByteSets.{EndsSet, is_part_byte};
+ghost use Rattle.rox_scan.specs.ScanResults.{Finds};
 ghost use Rattle.rox_scan.specs.declared.cursor.Cursor.{Cursor};
 
 use crate::builder::Builder;
@@ -228,9 +229,8 @@ fn other_element<'input>(
 ) -> usize
     requires here { slice_index text.now start ≡ 60 }
     requires start { IsCharBoundary text.now start }
-    requires part { part ≡ run_end is_part_char text.now (start + 1) }
-    requires cut { IsCharBoundary text.now part }
-    requires onward { start + 1 ≤ part }
+    requires part { Finds text.now (start + 1) part
+        (run_end is_part_char text.now (start + 1)) }
     requires short { length text.now < 2 ^ 32 }
     requires ready { IsReady 1 builder.old }
     requires fine { IsConsistent builder.old.tables builder.old.opened.items }

@@ -7,11 +7,10 @@ ghost use Rattle.std.specs.Str.{IsCharBoundary};
 ghost use Rattle.rox_grammar.specs.Chars.{is_name_start, is_part_char, is_space};
 ghost use Rattle.rox_grammar.specs.Runs.{run_end, begins};
 ghost use Rattle.rox_grammar.specs.Failures.{name_view};
-ghost use Rattle.rox_grammar.specs.Content.{is_verbatim_value};
 ghost use Rattle.rox_reading.specs.Lexical.{qname_at};
 ghost use Rattle.rox_scan.specs.ByteSets.{EndsSet, is_part_byte, is_value_byte};
+ghost use Rattle.rox_scan.specs.ScanResults.{Finds};
 ghost use Rattle.rox_scan.specs.Windows.{Sees};
-ghost use Rattle.rox_reading.specs.Markup.{raw_value_at};
 ghost use Rattle.rox_reading.specs.Values.{is_special};
 ghost use Rattle.rox_tables.specs.Storage.{storage_bytes};
 ghost use Rattle.rox_grammar.specs.Tree as tree;
@@ -23,7 +22,7 @@ ghost use Rattle.std.specs.List.{AllByRecursion};
 ghost use Rattle.rox_tables.specs.SeenNames.{AreSeen};
 ghost use Rattle.rox_build.specs.ElementRow.{scope_in_tables};
 ghost use Rattle.rox_build.specs.BuilderState.{IsNamespaceOf};
-ghost use Rattle.rox_build.specs.PlainTag.{EndsNear, MayOpenBelow, HasPlainValue, HasScope, few_in, IsValueStart, IsPlainAttribute, IsNearAttribute, IsAttributeName, HoldsTag, MayPut, PutsPlain, ArePlainAttributes, IsPlainTag};
+ghost use Rattle.rox_build.specs.PlainTag.{EndsNear, MayOpenBelow, HasPlainValue, HasScope, few_in, IsPlainName, IsValueStart, IsPlainAttribute, IsNearAttribute, IsAttributeName, HoldsTag, MayPut, PutsPlain, ArePlainAttributes, IsPlainTag};
 
 use crate::builder::OpenElement;
 use crate::spaced_value::{spaced_value, spaced_value_ends};
@@ -64,14 +63,8 @@ pub struct PlainName<'input> {
 #[tactic(auto, unfolding(rox_reading::specs::Lexical::qname_at))]
 fn plain_name<'input>(text: &'input str, start: usize, colon: usize) -> Option<PlainName<'input>>
     requires start { IsCharBoundary text.now start }
-    requires colon { IsCharBoundary text.now colon }
-    requires onward { start ≤ colon }
-    requires first { colon ≡ run_end is_part_char text.now start }
-    ensures value { IfSome result (λ n. qname_at text.entry.now start
-        ≡ Ok (name_view n.name, n.end)) }
-    ensures onward { IfSome result (λ n. start ≤ n.end) }
-    ensures cut { IfSome result (λ n. IsCharBoundary text.entry.now n.end) }
-    ensures local { IfSome result (λ n. start + length n.name.local.now ≤ n.end) }
+    requires part { Finds text.now start colon (run_end is_part_char text.now start) }
+    ensures { IfSome result (λ n. IsPlainName text.entry.now start n) }
 {
     if !begins::<NameStart>(text, start) {
         return None;
@@ -91,16 +84,10 @@ fn plain_name<'input>(text: &'input str, start: usize, colon: usize) -> Option<P
 #[tactic(auto, unfolding(rox_reading::specs::Lexical::qname_at))]
 fn second_part<'input>(text: &'input str, start: usize, colon: usize) -> Option<PlainName<'input>>
     requires start { IsCharBoundary text.now start }
-    requires colon { IsCharBoundary text.now colon }
-    requires onward { start ≤ colon }
-    requires first { colon ≡ run_end is_part_char text.now start }
+    requires part { Finds text.now start colon (run_end is_part_char text.now start) }
     requires begins { begins is_name_start text.now start ≡ true }
     requires here { slice_index text.now colon ≡ 58 }
-    ensures value { IfSome result (λ n. qname_at text.entry.now start
-        ≡ Ok (name_view n.name, n.end)) }
-    ensures onward { IfSome result (λ n. start ≤ n.end) }
-    ensures cut { IfSome result (λ n. IsCharBoundary text.entry.now n.end) }
-    ensures local { IfSome result (λ n. start + length n.name.local.now ≤ n.end) }
+    ensures { IfSome result (λ n. IsPlainName text.entry.now start n) }
 {
     let local = after_byte(text, colon, b':');
     let end = part_end(text, local);
@@ -120,12 +107,8 @@ fn second_part<'input>(text: &'input str, start: usize, colon: usize) -> Option<
 fn verbatim_value_end(text: &str, start: usize, quote: u8) -> usize
     requires cut { IsCharBoundary text.now start }
     requires quote { (quote == 39 || quote == 34) ≡ true }
-    ensures read { 0 < result
-        → raw_value_at quote text.now start ≡ Ok (slice_range text.now start result, result) }
-    ensures verbatim { 0 < result → is_verbatim_value (slice_range text.now start result) ≡ true }
-    ensures here { 0 < result → slice_index text.now result ≡ quote }
-    ensures onward { 0 < result → start ≤ result }
-    ensures cut { 0 < result → IsCharBoundary text.now result }
+    ensures { 0 < result → HasPlainValue text.now start quote result
+        (slice_range text.now start result) }
 {
     let look = scan_value(text, start, quote);
     if look.is_verbatim && is_at(text, look.end, quote) {
@@ -680,9 +663,7 @@ fn put_far_attribute<'input>(
 #[tactic(auto, unfolding(rox_reading::specs::Lexical::qname_at))]
 fn whole_name<'input>(text: &'input str, start: usize, part: usize) -> PlainName<'input>
     requires start { IsCharBoundary text.now start }
-    requires part { IsCharBoundary text.now part }
-    requires onward { start ≤ part }
-    requires first { part ≡ run_end is_part_char text.now start }
+    requires part { Finds text.now start part (run_end is_part_char text.now start) }
     requires begins { begins is_name_start text.now start ≡ true }
     requires here { slice_index text.now part ≡ 61 }
     ensures value { qname_at text.entry.now start ≡ Ok (name_view result.name, result.end) }
@@ -765,9 +746,7 @@ fn empty_end(text: &str, at: usize) -> Option<TagEnd>
 fn near_space_end(text: &str, at: usize) -> usize
     requires cut { IsCharBoundary text.now at }
     requires within { at + 1 < length text.now }
-    ensures end { result ≡ run_end is_space text.now at }
-    ensures onward { at ≤ result }
-    ensures cut { IsCharBoundary text.now result }
+    ensures { Finds text.now at result (run_end is_space text.now at) }
 {
     let bytes = text.as_bytes();
     if bytes[at] == b' ' && bytes[at + 1] > b' ' {
@@ -791,9 +770,7 @@ struct NextItem {
 fn next_item(text: &str, at: usize) -> NextItem
     requires cut { IsCharBoundary text.now at }
     requires within { at + 1 < length text.now }
-    ensures end { result.at ≡ run_end is_space text.now at }
-    ensures onward { at ≤ result.at }
-    ensures cut { IsCharBoundary text.now result.at }
+    ensures end { Finds text.now at result.at (run_end is_space text.now at) }
     ensures begins { result.may_begin ≡ true
         → (at < result.at) × (62 < slice_index text.now result.at) }
 {
@@ -1038,9 +1015,8 @@ pub fn plain_start_tag<'input>(
     seen: &mut SeenNames,
 ) -> Option<PlainTag<'input>>
     requires here { slice_index text.now place.start ≡ 60 }
-    requires part { place.part ≡ run_end is_part_char text.now (place.start + 1) }
-    requires cut { IsCharBoundary text.now place.part }
-    requires onward { place.start + 1 ≤ place.part }
+    requires part { Finds text.now (place.start + 1) place.part
+        (run_end is_part_char text.now (place.start + 1)) }
     requires short { length text.now < 2 ^ 32 }
     requires below { MayOpenBelow elements.old parent.now }
     ensures read { IfSome result

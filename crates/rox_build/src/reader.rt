@@ -9,6 +9,7 @@ ghost use Rattle.rox_reading.specs.Refusals.{lifted};
 ghost use Rattle.rox_reading.specs.WholeText as whole;
 ghost use Rattle.rox_values.specs.DeclaredEntities.{AreDeclared};
 ghost use Rattle.rox_build.specs.BuilderState.{GoesOn, IsConsistent, IsInState, ScansTo, ParsesToWith};
+ghost use Rattle.rox_build.specs.Outcomes.{ScansAs};
 ghost use Rattle.rox_reading.specs.Doctype.{Dtd};
 ghost use Rattle.rox_reading.specs.Answering.{left_with};
 ghost use Rattle.rox_build.specs.Requests.{Allows, MayAsk};
@@ -51,10 +52,8 @@ fn misc<'input>(
     builder: &mut Builder<'input>,
 ) -> Result<(), Failure>
     requires fine { IsConsistent builder.old.tables builder.old.opened.items }
-    ensures value { (limit end : ℕ) (s : State) → IsInState limit end s cursor.old builder.old
-        → ScansTo limit end result cursor.new builder.new
-        (lifted (whole.misc limit (length cursor.old.text.now) cursor.old.text.now s)) }
-    ensures goes { OnOk result (GoesOn cursor.old cursor.new builder.new) }
+    ensures { ScansAs (λ limit src s. lifted (whole.misc limit (length src) src s)) cursor.old
+        cursor.new builder.old builder.new result }
 {
     for _turn in 0..cursor.text.len() {
         cursor.spaces();

@@ -285,10 +285,7 @@ fn element_data<'input>(
     requires present { HasBindingsOf elements.old scope }
     requires few { length (attribute_rows elements.old.attributes) ≤ most_attributes }
     requires small { at < 2 ^ 63 }
-    ensures namespaces { elements.new.namespaces ≡ elements.old.namespaces }
-    ensures listed { elements.new.listed ≡ elements.old.listed }
-    ensures scopes { elements.new.scopes ≡ elements.old.scopes }
-    ensures present { elements.new.present ≡ elements.old.present }
+    ensures others { elements.new ≡ record elements.old { attributes = elements.new.attributes } }
     ensures tested { OnOk result (tested_at (scope_in_tables elements.old scope)
         (length (attribute_rows elements.old.attributes)) at (name_view name.entry)
         (map unresolved_view taken.old.items) ≡ Ok tt) }

@@ -1,4 +1,4 @@
-use Rattle.std.proofs.Common.{◌≡◌, refl, sym, ap}
+use Rattle.std.proofs.Common.{◌≡◌, refl, sym, ap, rules}
 use Rattle.std.proofs.lemmas.Result.{err_from_is_err_and}
 use Rattle.std.specs.String.{string_bytes}
 use Rattle.rox_values.specs.Values.{piece_view, section_text}
@@ -6,19 +6,25 @@ use Rattle.rox_reading.specs.Refusals.{lifted}
 use Rattle.rox_build.proofs.Stepping.{cdata_is, cdata_fails, text_stepped, same_shows}
 use Rattle.rox_build.proofs.constructs.cdata.Goals as goal
 
-pub returns-clause-value : goal.returns-clause-value
-returns-clause-value c = λ limit end s h.
-    let src = c.args.cursor.now.text.now in
-    let b = c.args.builder.now in
-    let j = c.cdata.new.self.pos in
-    let raw = c.in_ok-raw.raw.now in
-    let t = piece_view c.in_ok-piece.piece (string_bytes c.cdata_text.new.scratch) in
-    let k : section_text raw ≡ t = sym c.in_ok-piece.ensures in
-    let a = c.piece.ensures.value end j s (same_shows end s.stack s.done b _ h.shows refl refl refl refl refl) in
-    rw (cdata_is limit src s c.args.cursor.now.pos j raw t h.here c.in_ok-raw.ensures.value k)
-    (text_stepped limit end s c.args.cursor.now c.cdata.new.self b c.piece.new.self c.piece.result t h c.piece.ensures.kept.tables c.piece.ensures.kept.limit c.piece.ensures.kept.openings_left a)
+pub returns : goal.returns
+returns c = record {
+  value = λ limit end s h.
+      let src = c.args.cursor.now.text.now in
+      let b = c.args.builder.now in
+      let j = c.cdata.new.self.pos in
+      let raw = c.in_ok-raw.raw.now in
+      let t = piece_view c.in_ok-piece.piece (string_bytes c.cdata_text.new.scratch) in
+      let k : section_text raw ≡ t = sym c.in_ok-piece.ensures in
+      let a = c.piece.ensures.value end j s (same_shows end s.stack s.done b _ h.shows refl refl refl refl refl) in
+      rw (cdata_is limit src s c.args.cursor.now.pos j raw t h.here c.in_ok-raw.ensures.value k)
+      (text_stepped limit end s c.args.cursor.now c.cdata.new.self b c.piece.new.self c.piece.result t h c.piece.ensures.kept.tables c.piece.ensures.kept.limit c.piece.ensures.kept.openings_left a);
+  goes = search rules;
+}
 
-pub returns-in_err-raw-clause-value : goal.returns-in_err-raw-clause-value
-returns-in_err-raw-clause-value c = λ limit end s h.
-    let p = err_from_is_err_and c.from_residual.result c.from_residual.ensures.1 in
-    rw (p.1, p.2) (ap lifted (cdata_fails limit c.args.cursor.now.text.now s c.args.cursor.now.pos c.in_err-raw.field-0.0 h.here c.in_err-raw.ensures.value))
+pub returns-in_err-raw : goal.returns-in_err-raw
+returns-in_err-raw c = record {
+  value = λ limit end s h.
+      let p = err_from_is_err_and c.from_residual.result c.from_residual.ensures.1 in
+      rw (p.1, p.2) (ap lifted (cdata_fails limit c.args.cursor.now.text.now s c.args.cursor.now.pos c.in_err-raw.field-0.0 h.here c.in_err-raw.ensures.value));
+  goes = let p = err_from_is_err_and c.from_residual.result c.from_residual.ensures.1 in rw p.1 tt;
+}

@@ -25,127 +25,136 @@ with_left openings_left s = record { at = s.at; done = s.done; stack = s.stack; 
 pub start_tag-requires-clause-once : goal.start_tag-requires-clause-once
 start_tag-requires-clause-once c = c.scope-above.ensures.once c.requires.fine
 
-pub returns-in_err-tag-clause-value : goal.returns-in_err-tag-clause-value
-returns-in_err-tag-clause-value c = λ limit end es s declared h.
-    let p = err_from_is_err_and c.from_residual.result c.from_residual.ensures.1 in
-    rw (p.1, p.2) (tag_fails (context_of limit es c.args.context) c.args.cursor.now.text.now s c.args.cursor.now.pos _ _ _ _ c.in_err-tag.field-0.0 h.here (c.cut_off_fault-cut.ensures end s.stack s.done h.shows)
-    (c.scope-above.ensures.value c.requires.fine end s.stack s.done h.shows) h.attributes h.namespaces (rw h.openings_left_is at (c.in_err-tag.ensures.value es declared)))
+pub returns-in_err-tag : goal.returns-in_err-tag
+returns-in_err-tag c = record {
+  value = λ limit end es s declared h.
+      let p = err_from_is_err_and c.from_residual.result c.from_residual.ensures.1 in
+      rw (p.1, p.2) (tag_fails (context_of limit es c.args.context) c.args.cursor.now.text.now s c.args.cursor.now.pos _ _ _ _ c.in_err-tag.field-0.0 h.here (c.cut_off_fault-cut.ensures end s.stack s.done h.shows)
+      (c.scope-above.ensures.value c.requires.fine end s.stack s.done h.shows) h.attributes h.namespaces (rw h.openings_left_is at (c.in_err-tag.ensures.value es declared)));
+  goes = let p = err_from_is_err_and c.from_residual.result c.from_residual.ensures.1 in rw p.1 tt;
+}
 
-pub returns-then-tag-clause-value : goal.returns-then-tag-clause-value
-returns-then-tag-clause-value c = λ limit end es s declared h.
-    let v = rw h.openings_left_is at (c.in_ok-tag.ensures.value es declared) in
-    let b = c.args.builder.now in
-    let old = b.tables in
-    let new = c.start_tag.new.elements in
-    let t = c.in_ok-tag.tag in
-    let pos = c.args.cursor.now.pos in
-    let d = c.start_tag.new.cursor in
-    let sc = c.scope-above.ensures.value c.requires.fine end s.stack s.done h.shows in
-    let tg : Tagged old new t (scope_of s.stack) v.0 = subst (λ (a : List NamespaceDecl). Tagged old new t a v.0) sc v.2 in
-    let shows = grown_shows end s.stack s.done b _ h.shows c.requires.fine.sound c.requires.fine.elements (grown_by old new t (scope_of s.stack) v.0 tg) refl refl refl refl in
-    let node : IsNode new (scope_of s.stack) pos d.pos (kind.Element t.element) (Element s.at d.pos v.0) =
-    subst (λ (n : ℕ). IsNode new (scope_of s.stack) pos d.pos (kind.Element t.element) (Element n d.pos v.0)) h.here (is_node old new t (scope_of s.stack) v.0 pos d.pos tg) in
-    let adds = c.leaf.ensures.value end d.pos (with_left t.openings_left s) (Element s.at d.pos v.0) shows node in
-    rw (tag_is (context_of limit es c.args.context) c.args.cursor.now.text.now s pos _ _ _ _ v.0 t.empty t.openings_left d.pos h.here (c.cut_off_fault-cut.ensures end s.stack s.done h.shows) sc h.attributes h.namespaces v.1
-    ∙ ap (λ (e : Bool). lifted (opened_by limit s v.0 e t.openings_left d.pos)) c.if-tag.true)
-    (subst (λ r. ScansTo limit end r d c.leaf.new.self (lifted (opened_by limit s v.0 true t.openings_left d.pos))) c.in_ok-leaf.was
-    (empty_stepped limit end t.openings_left s d old new b.nodes_limit c.leaf.new.self c.leaf.result t (scope_of s.stack) v.0 tg h.namespaces h.attributes h.limit_is c.leaf.ensures.kept.openings_left c.leaf.ensures.kept.tables c.leaf.ensures.kept.limit adds))
+pub returns-then-tag : goal.returns-then-tag
+returns-then-tag c = record {
+  value = λ limit end es s declared h.
+      let v = rw h.openings_left_is at (c.in_ok-tag.ensures.value es declared) in
+      let b = c.args.builder.now in
+      let old = b.tables in
+      let new = c.start_tag.new.elements in
+      let t = c.in_ok-tag.tag in
+      let pos = c.args.cursor.now.pos in
+      let d = c.start_tag.new.cursor in
+      let sc = c.scope-above.ensures.value c.requires.fine end s.stack s.done h.shows in
+      let tg : Tagged old new t (scope_of s.stack) v.0 = subst (λ (a : List NamespaceDecl). Tagged old new t a v.0) sc v.2 in
+      let shows = grown_shows end s.stack s.done b _ h.shows c.requires.fine.sound c.requires.fine.elements (grown_by old new t (scope_of s.stack) v.0 tg) refl refl refl refl in
+      let node : IsNode new (scope_of s.stack) pos d.pos (kind.Element t.element) (Element s.at d.pos v.0) =
+      subst (λ (n : ℕ). IsNode new (scope_of s.stack) pos d.pos (kind.Element t.element) (Element n d.pos v.0)) h.here (is_node old new t (scope_of s.stack) v.0 pos d.pos tg) in
+      let adds = c.leaf.ensures.value end d.pos (with_left t.openings_left s) (Element s.at d.pos v.0) shows node in
+      rw (tag_is (context_of limit es c.args.context) c.args.cursor.now.text.now s pos _ _ _ _ v.0 t.empty t.openings_left d.pos h.here (c.cut_off_fault-cut.ensures end s.stack s.done h.shows) sc h.attributes h.namespaces v.1
+      ∙ ap (λ (e : Bool). lifted (opened_by limit s v.0 e t.openings_left d.pos)) c.if-tag.true)
+      (subst (λ r. ScansTo limit end r d c.leaf.new.self (lifted (opened_by limit s v.0 true t.openings_left d.pos))) c.in_ok-leaf.was
+      (empty_stepped limit end t.openings_left s d old new b.nodes_limit c.leaf.new.self c.leaf.result t (scope_of s.stack) v.0 tg h.namespaces h.attributes h.limit_is c.leaf.ensures.kept.openings_left c.leaf.ensures.kept.tables c.leaf.ensures.kept.limit adds));
+  goes =
+      let d = some_declare c.args.context.entities.now in
+      let v = c.in_ok-tag.ensures.value d.0 d.1 in
+      let b = c.args.builder.now in
+      record {
+        source = c.start_tag.ensures.source;
+        fine = subst (λ r. OnOk r (IsConsistent c.leaf.new.self.tables c.leaf.new.self.opened.items)) c.in_ok-leaf.was
+            (fine_kept c.leaf.result c.start_tag.new.elements b.opened.items c.leaf.new.self (fine_by b.tables c.start_tag.new.elements c.in_ok-tag.tag _ v.0 b.opened.items v.2 c.requires.fine) c.leaf.ensures.kept.tables
+            (ap (λ x. x.items) c.leaf.ensures.kept.opened));
+      };
+}
 
-pub returns-in_err-leaf-clause-value : goal.returns-in_err-leaf-clause-value
-returns-in_err-leaf-clause-value c = λ limit end es s declared h.
-    let v = rw h.openings_left_is at (c.in_ok-tag.ensures.value es declared) in
-    let b = c.args.builder.now in
-    let old = b.tables in
-    let new = c.start_tag.new.elements in
-    let t = c.in_ok-tag.tag in
-    let pos = c.args.cursor.now.pos in
-    let d = c.start_tag.new.cursor in
-    let sc = c.scope-above.ensures.value c.requires.fine end s.stack s.done h.shows in
-    let tg : Tagged old new t (scope_of s.stack) v.0 = subst (λ (a : List NamespaceDecl). Tagged old new t a v.0) sc v.2 in
-    let shows = grown_shows end s.stack s.done b _ h.shows c.requires.fine.sound c.requires.fine.elements (grown_by old new t (scope_of s.stack) v.0 tg) refl refl refl refl in
-    let node : IsNode new (scope_of s.stack) pos d.pos (kind.Element t.element) (Element s.at d.pos v.0) =
-    subst (λ (n : ℕ). IsNode new (scope_of s.stack) pos d.pos (kind.Element t.element) (Element n d.pos v.0)) h.here (is_node old new t (scope_of s.stack) v.0 pos d.pos tg) in
-    let adds = c.leaf.ensures.value end d.pos (with_left t.openings_left s) (Element s.at d.pos v.0) shows node in
-    let p = err_from_is_err_and c.from_residual-in_err-leaf.result c.from_residual-in_err-leaf.ensures.1 in
-    rw (
-      p.1,
-      p.2,
-      tag_is (context_of limit es c.args.context) c.args.cursor.now.text.now s pos _ _ _ _ v.0 t.empty t.openings_left d.pos h.here (c.cut_off_fault-cut.ensures end s.stack s.done h.shows) sc h.attributes h.namespaces v.1
-          ∙ ap (λ (e : Bool). lifted (opened_by limit s v.0 e t.openings_left d.pos)) c.if-tag.true,
-    )
-    (refused_too c.in_err-leaf.field-0.0 (lifted (opened_by limit s v.0 true t.openings_left d.pos)) (subst (λ r. ScansTo limit end r d c.leaf.new.self (lifted (opened_by limit s v.0 true t.openings_left d.pos))) c.in_err-leaf.was
-    (empty_stepped limit end t.openings_left s d old new b.nodes_limit c.leaf.new.self c.leaf.result t (scope_of s.stack) v.0 tg h.namespaces h.attributes h.limit_is c.leaf.ensures.kept.openings_left c.leaf.ensures.kept.tables c.leaf.ensures.kept.limit adds)))
+pub returns-in_err-leaf : goal.returns-in_err-leaf
+returns-in_err-leaf c = record {
+  value = λ limit end es s declared h.
+      let v = rw h.openings_left_is at (c.in_ok-tag.ensures.value es declared) in
+      let b = c.args.builder.now in
+      let old = b.tables in
+      let new = c.start_tag.new.elements in
+      let t = c.in_ok-tag.tag in
+      let pos = c.args.cursor.now.pos in
+      let d = c.start_tag.new.cursor in
+      let sc = c.scope-above.ensures.value c.requires.fine end s.stack s.done h.shows in
+      let tg : Tagged old new t (scope_of s.stack) v.0 = subst (λ (a : List NamespaceDecl). Tagged old new t a v.0) sc v.2 in
+      let shows = grown_shows end s.stack s.done b _ h.shows c.requires.fine.sound c.requires.fine.elements (grown_by old new t (scope_of s.stack) v.0 tg) refl refl refl refl in
+      let node : IsNode new (scope_of s.stack) pos d.pos (kind.Element t.element) (Element s.at d.pos v.0) =
+      subst (λ (n : ℕ). IsNode new (scope_of s.stack) pos d.pos (kind.Element t.element) (Element n d.pos v.0)) h.here (is_node old new t (scope_of s.stack) v.0 pos d.pos tg) in
+      let adds = c.leaf.ensures.value end d.pos (with_left t.openings_left s) (Element s.at d.pos v.0) shows node in
+      let p = err_from_is_err_and c.from_residual-in_err-leaf.result c.from_residual-in_err-leaf.ensures.1 in
+      rw (
+        p.1,
+        p.2,
+        tag_is (context_of limit es c.args.context) c.args.cursor.now.text.now s pos _ _ _ _ v.0 t.empty t.openings_left d.pos h.here (c.cut_off_fault-cut.ensures end s.stack s.done h.shows) sc h.attributes h.namespaces v.1
+            ∙ ap (λ (e : Bool). lifted (opened_by limit s v.0 e t.openings_left d.pos)) c.if-tag.true,
+      )
+      (refused_too c.in_err-leaf.field-0.0 (lifted (opened_by limit s v.0 true t.openings_left d.pos)) (subst (λ r. ScansTo limit end r d c.leaf.new.self (lifted (opened_by limit s v.0 true t.openings_left d.pos))) c.in_err-leaf.was
+      (empty_stepped limit end t.openings_left s d old new b.nodes_limit c.leaf.new.self c.leaf.result t (scope_of s.stack) v.0 tg h.namespaces h.attributes h.limit_is c.leaf.ensures.kept.openings_left c.leaf.ensures.kept.tables c.leaf.ensures.kept.limit adds)));
+  goes = let p = err_from_is_err_and c.from_residual-in_err-leaf.result c.from_residual-in_err-leaf.ensures.1 in rw p.1 tt;
+}
 
-pub returns-clause-value : goal.returns-clause-value
-returns-clause-value c = λ limit end es s declared h.
-    let v = rw h.openings_left_is at (c.in_ok-tag.ensures.value es declared) in
-    let b = c.args.builder.now in
-    let old = b.tables in
-    let new = c.start_tag.new.elements in
-    let t = c.in_ok-tag.tag in
-    let pos = c.args.cursor.now.pos in
-    let d = c.start_tag.new.cursor in
-    let sc = c.scope-above.ensures.value c.requires.fine end s.stack s.done h.shows in
-    let tg : Tagged old new t (scope_of s.stack) v.0 = subst (λ (a : List NamespaceDecl). Tagged old new t a v.0) sc v.2 in
-    let shows = grown_shows end s.stack s.done b _ h.shows c.requires.fine.sound c.requires.fine.elements (grown_by old new t (scope_of s.stack) v.0 tg) refl refl refl refl in
-    let adds = c.open_element.ensures.value end d.pos t.openings_left s v.0 shows (sym h.here) (is_opening old new t (scope_of s.stack) v.0 pos tg c.in_ok-tag.ensures.starts) in
-    rw (tag_is (context_of limit es c.args.context) c.args.cursor.now.text.now s pos _ _ _ _ v.0 t.empty t.openings_left d.pos h.here (c.cut_off_fault-cut.ensures end s.stack s.done h.shows) sc h.attributes h.namespaces v.1
-    ∙ ap (λ (e : Bool). lifted (opened_by limit s v.0 e t.openings_left d.pos)) c.if-tag.false)
-    (subst (λ r. ScansTo limit end r d c.open_element.new.self (lifted (opened_by limit s v.0 false t.openings_left d.pos))) c.in_ok-open_element.was
-    (open_stepped limit end t.openings_left s d old new b.nodes_limit c.open_element.new.self c.open_element.result t (scope_of s.stack) v.0 tg h.namespaces h.attributes h.limit_is c.open_element.ensures.kept.openings_left c.open_element.ensures.kept.tables c.open_element.ensures.kept.limit adds))
+pub returns : goal.returns
+returns c = record {
+  value = λ limit end es s declared h.
+      let v = rw h.openings_left_is at (c.in_ok-tag.ensures.value es declared) in
+      let b = c.args.builder.now in
+      let old = b.tables in
+      let new = c.start_tag.new.elements in
+      let t = c.in_ok-tag.tag in
+      let pos = c.args.cursor.now.pos in
+      let d = c.start_tag.new.cursor in
+      let sc = c.scope-above.ensures.value c.requires.fine end s.stack s.done h.shows in
+      let tg : Tagged old new t (scope_of s.stack) v.0 = subst (λ (a : List NamespaceDecl). Tagged old new t a v.0) sc v.2 in
+      let shows = grown_shows end s.stack s.done b _ h.shows c.requires.fine.sound c.requires.fine.elements (grown_by old new t (scope_of s.stack) v.0 tg) refl refl refl refl in
+      let adds = c.open_element.ensures.value end d.pos t.openings_left s v.0 shows (sym h.here) (is_opening old new t (scope_of s.stack) v.0 pos tg c.in_ok-tag.ensures.starts) in
+      rw (tag_is (context_of limit es c.args.context) c.args.cursor.now.text.now s pos _ _ _ _ v.0 t.empty t.openings_left d.pos h.here (c.cut_off_fault-cut.ensures end s.stack s.done h.shows) sc h.attributes h.namespaces v.1
+      ∙ ap (λ (e : Bool). lifted (opened_by limit s v.0 e t.openings_left d.pos)) c.if-tag.false)
+      (subst (λ r. ScansTo limit end r d c.open_element.new.self (lifted (opened_by limit s v.0 false t.openings_left d.pos))) c.in_ok-open_element.was
+      (open_stepped limit end t.openings_left s d old new b.nodes_limit c.open_element.new.self c.open_element.result t (scope_of s.stack) v.0 tg h.namespaces h.attributes h.limit_is c.open_element.ensures.kept.openings_left c.open_element.ensures.kept.tables c.open_element.ensures.kept.limit adds));
+  goes =
+      let d = some_declare c.args.context.entities.now in
+      let v = c.in_ok-tag.ensures.value d.0 d.1 in
+      let b = c.args.builder.now in
+      let cursor = c.args.cursor.now in
+      let src = cursor.text.now in
+      let t = c.in_ok-tag.tag in
+      let opens = subst (λ (text : List ℕ). OnOk c.open_element.result ((x : OpenElement) × (c.open_element.new.self.opened.items ≡ b.opened.items ++ x ∷ []) × IsOpened text t x))
+      (ap (λ x. x.now) c.start_tag.ensures.source) c.open_element.ensures.opened in
+      record {
+        source = c.start_tag.ensures.source;
+        fine = subst (λ r. OnOk r (IsConsistent c.open_element.new.self.tables c.open_element.new.self.opened.items)) c.in_ok-open_element.was
+            (fine_more c.open_element.result c.start_tag.new.elements b.opened.items c.open_element.new.self src t
+            (fine_by b.tables c.start_tag.new.elements t _ v.0 b.opened.items v.2 c.requires.fine) c.open_element.ensures.kept.tables opens v.2.element.scope_within v.2.once (namespace_by b.tables c.start_tag.new.elements t _ v.0 v.2)
+            (λ o by. opened_named _ _ _ _ _ src cursor.pos _ _ _ t o cursor.utf8 c.requires.here v.1 v.2.name v.2.name_end c.in_ok-tag.ensures.starts by));
+      };
+}
 
-pub returns-in_err-open_element-clause-value : goal.returns-in_err-open_element-clause-value
-returns-in_err-open_element-clause-value c = λ limit end es s declared h.
-    let v = rw h.openings_left_is at (c.in_ok-tag.ensures.value es declared) in
-    let b = c.args.builder.now in
-    let old = b.tables in
-    let new = c.start_tag.new.elements in
-    let t = c.in_ok-tag.tag in
-    let pos = c.args.cursor.now.pos in
-    let d = c.start_tag.new.cursor in
-    let sc = c.scope-above.ensures.value c.requires.fine end s.stack s.done h.shows in
-    let tg : Tagged old new t (scope_of s.stack) v.0 = subst (λ (a : List NamespaceDecl). Tagged old new t a v.0) sc v.2 in
-    let shows = grown_shows end s.stack s.done b _ h.shows c.requires.fine.sound c.requires.fine.elements (grown_by old new t (scope_of s.stack) v.0 tg) refl refl refl refl in
-    let adds = c.open_element.ensures.value end d.pos t.openings_left s v.0 shows (sym h.here) (is_opening old new t (scope_of s.stack) v.0 pos tg c.in_ok-tag.ensures.starts) in
-    let p = err_from_is_err_and c.from_residual-in_err-open_element.result c.from_residual-in_err-open_element.ensures.1 in
-    rw (
-      p.1,
-      p.2,
-      tag_is (context_of limit es c.args.context) c.args.cursor.now.text.now s pos _ _ _ _ v.0 t.empty t.openings_left d.pos h.here (c.cut_off_fault-cut.ensures end s.stack s.done h.shows) sc h.attributes h.namespaces v.1
-          ∙ ap (λ (e : Bool). lifted (opened_by limit s v.0 e t.openings_left d.pos)) c.if-tag.false,
-    )
-    (refused_too c.in_err-open_element.field-0.0 (lifted (opened_by limit s v.0 false t.openings_left d.pos)) (subst (λ r. ScansTo limit end r d c.open_element.new.self (lifted (opened_by limit s v.0 false t.openings_left d.pos))) c.in_err-open_element.was
-    (open_stepped limit end t.openings_left s d old new b.nodes_limit c.open_element.new.self c.open_element.result t (scope_of s.stack) v.0 tg h.namespaces h.attributes h.limit_is c.open_element.ensures.kept.openings_left c.open_element.ensures.kept.tables c.open_element.ensures.kept.limit adds)))
-
-pub returns-then-tag-clause-goes : goal.returns-then-tag-clause-goes
-returns-then-tag-clause-goes c =
-    let d = some_declare c.args.context.entities.now in
-    let v = c.in_ok-tag.ensures.value d.0 d.1 in
-    let b = c.args.builder.now in
-    record {
-      source = c.start_tag.ensures.source;
-      fine = subst (λ r. OnOk r (IsConsistent c.leaf.new.self.tables c.leaf.new.self.opened.items)) c.in_ok-leaf.was
-          (fine_kept c.leaf.result c.start_tag.new.elements b.opened.items c.leaf.new.self (fine_by b.tables c.start_tag.new.elements c.in_ok-tag.tag _ v.0 b.opened.items v.2 c.requires.fine) c.leaf.ensures.kept.tables
-          (ap (λ x. x.items) c.leaf.ensures.kept.opened));
-    }
-
-pub returns-clause-goes : goal.returns-clause-goes
-returns-clause-goes c =
-    let d = some_declare c.args.context.entities.now in
-    let v = c.in_ok-tag.ensures.value d.0 d.1 in
-    let b = c.args.builder.now in
-    let cursor = c.args.cursor.now in
-    let src = cursor.text.now in
-    let t = c.in_ok-tag.tag in
-    let opens = subst (λ (text : List ℕ). OnOk c.open_element.result ((x : OpenElement) × (c.open_element.new.self.opened.items ≡ b.opened.items ++ x ∷ []) × IsOpened text t x))
-    (ap (λ x. x.now) c.start_tag.ensures.source) c.open_element.ensures.opened in
-    record {
-      source = c.start_tag.ensures.source;
-      fine = subst (λ r. OnOk r (IsConsistent c.open_element.new.self.tables c.open_element.new.self.opened.items)) c.in_ok-open_element.was
-          (fine_more c.open_element.result c.start_tag.new.elements b.opened.items c.open_element.new.self src t
-          (fine_by b.tables c.start_tag.new.elements t _ v.0 b.opened.items v.2 c.requires.fine) c.open_element.ensures.kept.tables opens v.2.element.scope_within v.2.once (namespace_by b.tables c.start_tag.new.elements t _ v.0 v.2)
-          (λ o by. opened_named _ _ _ _ _ src cursor.pos _ _ _ t o cursor.utf8 c.requires.here v.1 v.2.name v.2.name_end c.in_ok-tag.ensures.starts by));
-    }
+pub returns-in_err-open_element : goal.returns-in_err-open_element
+returns-in_err-open_element c = record {
+  value = λ limit end es s declared h.
+      let v = rw h.openings_left_is at (c.in_ok-tag.ensures.value es declared) in
+      let b = c.args.builder.now in
+      let old = b.tables in
+      let new = c.start_tag.new.elements in
+      let t = c.in_ok-tag.tag in
+      let pos = c.args.cursor.now.pos in
+      let d = c.start_tag.new.cursor in
+      let sc = c.scope-above.ensures.value c.requires.fine end s.stack s.done h.shows in
+      let tg : Tagged old new t (scope_of s.stack) v.0 = subst (λ (a : List NamespaceDecl). Tagged old new t a v.0) sc v.2 in
+      let shows = grown_shows end s.stack s.done b _ h.shows c.requires.fine.sound c.requires.fine.elements (grown_by old new t (scope_of s.stack) v.0 tg) refl refl refl refl in
+      let adds = c.open_element.ensures.value end d.pos t.openings_left s v.0 shows (sym h.here) (is_opening old new t (scope_of s.stack) v.0 pos tg c.in_ok-tag.ensures.starts) in
+      let p = err_from_is_err_and c.from_residual-in_err-open_element.result c.from_residual-in_err-open_element.ensures.1 in
+      rw (
+        p.1,
+        p.2,
+        tag_is (context_of limit es c.args.context) c.args.cursor.now.text.now s pos _ _ _ _ v.0 t.empty t.openings_left d.pos h.here (c.cut_off_fault-cut.ensures end s.stack s.done h.shows) sc h.attributes h.namespaces v.1
+            ∙ ap (λ (e : Bool). lifted (opened_by limit s v.0 e t.openings_left d.pos)) c.if-tag.false,
+      )
+      (refused_too c.in_err-open_element.field-0.0 (lifted (opened_by limit s v.0 false t.openings_left d.pos)) (subst (λ r. ScansTo limit end r d c.open_element.new.self (lifted (opened_by limit s v.0 false t.openings_left d.pos))) c.in_err-open_element.was
+      (open_stepped limit end t.openings_left s d old new b.nodes_limit c.open_element.new.self c.open_element.result t (scope_of s.stack) v.0 tg h.namespaces h.attributes h.limit_is c.open_element.ensures.kept.openings_left c.open_element.ensures.kept.tables c.open_element.ensures.kept.limit adds)));
+  goes = let p = err_from_is_err_and c.from_residual-in_err-open_element.result c.from_residual-in_err-open_element.ensures.1 in rw p.1 tt;
+}
 
 pub open_element-requires : goal.open_element-requires
 open_element-requires c =

@@ -1,4 +1,4 @@
-use Rattle.std.proofs.Common.{◌+◌, refl, sym, ap, ◌∙◌, slice_index, List, ℕ}
+use Rattle.std.proofs.Common.{◌+◌, refl, sym, ap, ◌∙◌, slice_index, List, ℕ, rules}
 use Rattle.std.proofs.lemmas.Bool.{ne_eqb}
 use Rattle.std.proofs.lemmas.Result.{err_from_is_err_and}
 use Rattle.rox_build.proofs.Lifting.{refused_too}
@@ -12,38 +12,53 @@ instruction-requires-clause-here c =
     let i = c.args.cursor.now.pos in
     two_stand c.args.cursor.now.text.now i 60 63 c.requires.there c.requires.here (ap (λ (xs : List ℕ). slice_index xs (i + 1)) (sym e) ∙ c.if-next-eq63.true)
 
-pub returns-then-next-eq63-clause-value : goal.returns-then-next-eq63-clause-value
-returns-then-next-eq63-clause-value c = λ limit end es s declared h.
-    let e = c.as_bytes-bytes.ensures.value in
-    let i = c.args.cursor.now.pos in
-    rw (step_is_markup (context_of limit es c.args.context) c.args.cursor.now.text.now c.args.cursor.now.text.now s i 63 refl h.here c.requires.here c.requires.there (ap (λ (xs : List ℕ). slice_index xs (i + 1)) (sym e) ∙ c.if-next-eq63.true) (λ e. cc e))
-    (c.in_ok-instruction.ensures.value limit end s h)
+pub returns-then-next-eq63 : goal.returns-then-next-eq63
+returns-then-next-eq63 c = record {
+  value = λ limit end es s declared h.
+      let e = c.as_bytes-bytes.ensures.value in
+      let i = c.args.cursor.now.pos in
+      rw (step_is_markup (context_of limit es c.args.context) c.args.cursor.now.text.now c.args.cursor.now.text.now s i 63 refl h.here c.requires.here c.requires.there (ap (λ (xs : List ℕ). slice_index xs (i + 1)) (sym e) ∙ c.if-next-eq63.true) (λ e. cc e))
+      (c.in_ok-instruction.ensures.value limit end s h);
+  goes = search rules;
+}
 
-pub returns-clause-value : goal.returns-clause-value
-returns-clause-value c = λ limit end es s declared h.
-    let e = c.as_bytes-bytes.ensures.value in
-    let i = c.args.cursor.now.pos in
-    let b = slice_index c.as_bytes-bytes.result.now (i + 1) in
-    let same = ap (λ (xs : List ℕ). slice_index xs (i + 1)) e in
-    let x = step_is_markup (context_of limit es c.args.context) c.args.cursor.now.text.now c.args.cursor.now.text.now s i b refl h.here c.requires.here c.requires.there (sym same) c.if-next-eq33.false in
-    rw (x, ne_eqb b 63 c.if-next-eq63.false, ne_eqb b 47 (λ k. c.requires.no_end_tag (sym same ∙ k))) (c.in_ok-element.ensures.value limit end es s declared h)
+pub returns : goal.returns
+returns c = record {
+  value = λ limit end es s declared h.
+      let e = c.as_bytes-bytes.ensures.value in
+      let i = c.args.cursor.now.pos in
+      let b = slice_index c.as_bytes-bytes.result.now (i + 1) in
+      let same = ap (λ (xs : List ℕ). slice_index xs (i + 1)) e in
+      let x = step_is_markup (context_of limit es c.args.context) c.args.cursor.now.text.now c.args.cursor.now.text.now s i b refl h.here c.requires.here c.requires.there (sym same) c.if-next-eq33.false in
+      rw (x, ne_eqb b 63 c.if-next-eq63.false, ne_eqb b 47 (λ k. c.requires.no_end_tag (sym same ∙ k))) (c.in_ok-element.ensures.value limit end es s declared h);
+  goes = search rules;
+}
 
-pub returns-in_err-comment_or_section-clause-value : goal.returns-in_err-comment_or_section-clause-value
-returns-in_err-comment_or_section-clause-value c = λ limit end es s declared h.
-    let p = err_from_is_err_and c.from_residual.result c.from_residual.ensures.1 in
-    rw (p.1, p.2) (refused_too c.in_err-comment_or_section.field-0.0 _ (c.in_err-comment_or_section.ensures.value (context_of limit es c.args.context) end s h))
+pub returns-in_err-comment_or_section : goal.returns-in_err-comment_or_section
+returns-in_err-comment_or_section c = record {
+  value = λ limit end es s declared h.
+      let p = err_from_is_err_and c.from_residual.result c.from_residual.ensures.1 in
+      rw (p.1, p.2) (refused_too c.in_err-comment_or_section.field-0.0 _ (c.in_err-comment_or_section.ensures.value (context_of limit es c.args.context) end s h));
+  goes = let p = err_from_is_err_and c.from_residual.result c.from_residual.ensures.1 in rw p.1 tt;
+}
 
-pub returns-then-next-eq33-clause-value : goal.returns-then-next-eq33-clause-value
-returns-then-next-eq33-clause-value c = λ limit end es s declared h. c.in_ok-comment_or_section.ensures.value (context_of limit es c.args.context) end s h
+pub returns-then-next-eq33 : goal.returns-then-next-eq33
+returns-then-next-eq33 c = record {
+  value = λ limit end es s declared h. c.in_ok-comment_or_section.ensures.value (context_of limit es c.args.context) end s h;
+  goes = search rules;
+}
 
-pub returns-in_err-instruction-clause-value : goal.returns-in_err-instruction-clause-value
-returns-in_err-instruction-clause-value c = λ limit end es s declared h.
-    let e = c.as_bytes-bytes.ensures.value in
-    let i = c.args.cursor.now.pos in
-    let p = err_from_is_err_and c.from_residual-in_err-instruction.result c.from_residual-in_err-instruction.ensures.1 in
-    rw (
-      p.1,
-      p.2,
-      step_is_markup (context_of limit es c.args.context) c.args.cursor.now.text.now c.args.cursor.now.text.now s i 63 refl h.here c.requires.here c.requires.there (ap (λ (xs : List ℕ). slice_index xs (i + 1)) (sym e) ∙ c.if-next-eq63.true) (λ e. cc e),
-    )
-    (refused_too c.in_err-instruction.field-0.0 _ (c.in_err-instruction.ensures.value limit end s h))
+pub returns-in_err-instruction : goal.returns-in_err-instruction
+returns-in_err-instruction c = record {
+  value = λ limit end es s declared h.
+      let e = c.as_bytes-bytes.ensures.value in
+      let i = c.args.cursor.now.pos in
+      let p = err_from_is_err_and c.from_residual-in_err-instruction.result c.from_residual-in_err-instruction.ensures.1 in
+      rw (
+        p.1,
+        p.2,
+        step_is_markup (context_of limit es c.args.context) c.args.cursor.now.text.now c.args.cursor.now.text.now s i 63 refl h.here c.requires.here c.requires.there (ap (λ (xs : List ℕ). slice_index xs (i + 1)) (sym e) ∙ c.if-next-eq63.true) (λ e. cc e),
+      )
+      (refused_too c.in_err-instruction.field-0.0 _ (c.in_err-instruction.ensures.value limit end s h));
+  goes = let p = err_from_is_err_and c.from_residual-in_err-instruction.result c.from_residual-in_err-instruction.ensures.1 in rw p.1 tt;
+}

@@ -1,4 +1,4 @@
-use Rattle.std.proofs.Common.{◌≡◌, ◌<◌, ◌≤◌, ◌+◌, ◌-◌, suc, ℕ, true, false, List, Ok, Err, length, slice_index, slice_range, refl, sym, ap, ◌∙◌, arith}
+use Rattle.std.proofs.Common.{◌≡◌, ◌<◌, ◌≤◌, ◌+◌, ◌-◌, suc, ℕ, true, false, List, Ok, Err, length, slice_index, slice_range, refl, sym, ap, ◌∙◌, arith, rules}
 use Rattle.std.proofs.lemmas.Bool.{leb-true, leb-false}
 use Rattle.std.proofs.lemmas.Result.{err_from_is_err_and}
 use Rattle.rox_grammar.specs.Content.{is_verbatim}
@@ -17,161 +17,200 @@ use Rattle.rox_build.proofs.content.+content.Goals as goal
 
 -- ---- a run
 
-pub character_data-returns-then-ends_character_data-clause-value : goal.character_data-returns-then-ends_character_data-clause-value
-character_data-returns-then-ends_character_data-clause-value t c = λ limit end es s declared h.
-    let src = c.args.cursor.now.text.now in
-    let b = c.args.builder.now in
-    let i = c.args.cursor.now.pos in
-    let e = c.plain_run_end-near.result in
-    let look = c.plain_run_end-near.ensures in
-    let read = longer_run src i e true look (sym c.ends_character_data.ensures ∙ c.if-ends_character_data.true) in
-    let plain : is_verbatim (slice_range src i e) ≡ true = sym look.verbatim_is in
-    let text : ReadText = record { value = slice_range src i e; borrowed = true } in
-    rw (plain_run (context_of limit es c.args.context) src s i e (slice_range src i e) h.here read plain)
-    (text_stepped limit end s c.args.cursor.now _ b c.slice_piece.new.self (Ok c.in_ok-slice_piece.field-0) text h c.slice_piece.ensures.kept.tables c.slice_piece.ensures.kept.limit c.slice_piece.ensures.kept.openings_left
-    (rw c.range.ensures.value at (c.in_ok-slice_piece.ensures.value end e s h.shows)))
+pub character_data-returns-then-ends_character_data : goal.character_data-returns-then-ends_character_data
+character_data-returns-then-ends_character_data t c = record {
+  value = λ limit end es s declared h.
+      let src = c.args.cursor.now.text.now in
+      let b = c.args.builder.now in
+      let i = c.args.cursor.now.pos in
+      let e = c.plain_run_end-near.result in
+      let look = c.plain_run_end-near.ensures in
+      let read = longer_run src i e true look (sym c.ends_character_data.ensures ∙ c.if-ends_character_data.true) in
+      let plain : is_verbatim (slice_range src i e) ≡ true = sym look.verbatim_is in
+      let text : ReadText = record { value = slice_range src i e; borrowed = true } in
+      rw (plain_run (context_of limit es c.args.context) src s i e (slice_range src i e) h.here read plain)
+      (text_stepped limit end s c.args.cursor.now _ b c.slice_piece.new.self (Ok c.in_ok-slice_piece.field-0) text h c.slice_piece.ensures.kept.tables c.slice_piece.ensures.kept.limit c.slice_piece.ensures.kept.openings_left
+      (rw c.range.ensures.value at (c.in_ok-slice_piece.ensures.value end e s h.shows)));
+  goes = search rules;
+}
 
-pub character_data-returns-in_err-slice_piece-clause-value : goal.character_data-returns-in_err-slice_piece-clause-value
-character_data-returns-in_err-slice_piece-clause-value t c = λ limit end es s declared h.
-    let src = c.args.cursor.now.text.now in
-    let b = c.args.builder.now in
-    let i = c.args.cursor.now.pos in
-    let e = c.plain_run_end-near.result in
-    let look = c.plain_run_end-near.ensures in
-    let read = longer_run src i e true look (sym c.ends_character_data.ensures ∙ c.if-ends_character_data.true) in
-    let plain : is_verbatim (slice_range src i e) ≡ true = sym look.verbatim_is in
-    let text : ReadText = record { value = slice_range src i e; borrowed = true } in
-    let p = err_from_is_err_and c.from_residual.result c.from_residual.ensures.1 in
-    rw (p.1, p.2, plain_run (context_of limit es c.args.context) src s i e (slice_range src i e) h.here read plain)
-    (refused_too c.in_err-slice_piece.field-0.0 _
-    (text_stepped limit end s c.args.cursor.now (record { text = c.args.cursor.now.text; pos = e; utf8 = c.args.cursor.now.utf8; cut = look.cut }) b c.slice_piece.new.self (Err c.in_err-slice_piece.field-0.0) text h c.slice_piece.ensures.kept.tables c.slice_piece.ensures.kept.limit c.slice_piece.ensures.kept.openings_left
-    (rw c.range.ensures.value at (c.in_err-slice_piece.ensures.value end e s h.shows))))
+pub character_data-returns-in_err-slice_piece : goal.character_data-returns-in_err-slice_piece
+character_data-returns-in_err-slice_piece t c = record {
+  value = λ limit end es s declared h.
+      let src = c.args.cursor.now.text.now in
+      let b = c.args.builder.now in
+      let i = c.args.cursor.now.pos in
+      let e = c.plain_run_end-near.result in
+      let look = c.plain_run_end-near.ensures in
+      let read = longer_run src i e true look (sym c.ends_character_data.ensures ∙ c.if-ends_character_data.true) in
+      let plain : is_verbatim (slice_range src i e) ≡ true = sym look.verbatim_is in
+      let text : ReadText = record { value = slice_range src i e; borrowed = true } in
+      let p = err_from_is_err_and c.from_residual.result c.from_residual.ensures.1 in
+      rw (p.1, p.2, plain_run (context_of limit es c.args.context) src s i e (slice_range src i e) h.here read plain)
+      (refused_too c.in_err-slice_piece.field-0.0 _
+      (text_stepped limit end s c.args.cursor.now (record { text = c.args.cursor.now.text; pos = e; utf8 = c.args.cursor.now.utf8; cut = look.cut }) b c.slice_piece.new.self (Err c.in_err-slice_piece.field-0.0) text h c.slice_piece.ensures.kept.tables c.slice_piece.ensures.kept.limit c.slice_piece.ensures.kept.openings_left
+      (rw c.range.ensures.value at (c.in_err-slice_piece.ensures.value end e s h.shows))));
+  goes = let p = err_from_is_err_and c.from_residual.result c.from_residual.ensures.1 in rw p.1 tt;
+}
 
-pub slow_character_data-returns-in_err-raw-clause-value : goal.slow_character_data-returns-in_err-raw-clause-value
-slow_character_data-returns-in_err-raw-clause-value t c = λ limit end es s declared h.
-    let p = err_from_is_err_and c.from_residual-in_err-raw.result c.from_residual-in_err-raw.ensures.1 in
-    rw (p.1, p.2) (run_fails (context_of limit es c.args.context) c.args.cursor.now.text.now s c.args.cursor.now.pos c.in_err-raw.field-0.0 h.here c.in_err-raw.ensures.read.value)
+pub slow_character_data-returns-in_err-raw : goal.slow_character_data-returns-in_err-raw
+slow_character_data-returns-in_err-raw t c = record {
+  value = λ limit end es s declared h.
+      let p = err_from_is_err_and c.from_residual-in_err-raw.result c.from_residual-in_err-raw.ensures.1 in
+      rw (p.1, p.2) (run_fails (context_of limit es c.args.context) c.args.cursor.now.text.now s c.args.cursor.now.pos c.in_err-raw.field-0.0 h.here c.in_err-raw.ensures.read.value);
+  goes = let p = err_from_is_err_and c.from_residual-in_err-raw.result c.from_residual-in_err-raw.ensures.1 in rw p.1 tt;
+}
 
-pub slow_character_data-returns-then-raw-clause-value : goal.slow_character_data-returns-then-raw-clause-value
-slow_character_data-returns-then-raw-clause-value t c = λ limit end es s declared h.
-    let src = c.args.cursor.now.text.now in
-    let b = c.args.builder.now in
-    let raw = c.in_ok-raw.raw.text.now in
-    let j = c.raw_character_data.new.cursor.pos in
-    let plain : is_verbatim raw ≡ true = sym c.in_ok-raw.ensures.verbatim ∙ c.if-raw.true in
-    let text : ReadText = record { value = raw; borrowed = true } in
-    rw (plain_run (context_of limit es c.args.context) src s c.args.cursor.now.pos j raw h.here c.in_ok-raw.ensures.read.value plain)
-    (text_stepped limit end s c.args.cursor.now c.raw_character_data.new.cursor b c.slice_piece.new.self (Ok c.in_ok-slice_piece.field-0) text h c.slice_piece.ensures.kept.tables c.slice_piece.ensures.kept.limit c.slice_piece.ensures.kept.openings_left
-    (c.in_ok-slice_piece.ensures.value end j s h.shows))
+pub slow_character_data-returns-then-raw : goal.slow_character_data-returns-then-raw
+slow_character_data-returns-then-raw t c = record {
+  value = λ limit end es s declared h.
+      let src = c.args.cursor.now.text.now in
+      let b = c.args.builder.now in
+      let raw = c.in_ok-raw.raw.text.now in
+      let j = c.raw_character_data.new.cursor.pos in
+      let plain : is_verbatim raw ≡ true = sym c.in_ok-raw.ensures.verbatim ∙ c.if-raw.true in
+      let text : ReadText = record { value = raw; borrowed = true } in
+      rw (plain_run (context_of limit es c.args.context) src s c.args.cursor.now.pos j raw h.here c.in_ok-raw.ensures.read.value plain)
+      (text_stepped limit end s c.args.cursor.now c.raw_character_data.new.cursor b c.slice_piece.new.self (Ok c.in_ok-slice_piece.field-0) text h c.slice_piece.ensures.kept.tables c.slice_piece.ensures.kept.limit c.slice_piece.ensures.kept.openings_left
+      (c.in_ok-slice_piece.ensures.value end j s h.shows));
+  goes = search rules;
+}
 
-pub slow_character_data-returns-in_err-slice_piece-clause-value : goal.slow_character_data-returns-in_err-slice_piece-clause-value
-slow_character_data-returns-in_err-slice_piece-clause-value t c = λ limit end es s declared h.
-    let src = c.args.cursor.now.text.now in
-    let b = c.args.builder.now in
-    let raw = c.in_ok-raw.raw.text.now in
-    let j = c.raw_character_data.new.cursor.pos in
-    let plain : is_verbatim raw ≡ true = sym c.in_ok-raw.ensures.verbatim ∙ c.if-raw.true in
-    let text : ReadText = record { value = raw; borrowed = true } in
-    let p = err_from_is_err_and c.from_residual-in_err-slice_piece.result c.from_residual-in_err-slice_piece.ensures.1 in
-    rw (p.1, p.2, plain_run (context_of limit es c.args.context) src s c.args.cursor.now.pos j raw h.here c.in_ok-raw.ensures.read.value plain)
-    (refused_too c.in_err-slice_piece.field-0.0 _
-    (text_stepped limit end s c.args.cursor.now c.raw_character_data.new.cursor b c.slice_piece.new.self (Err c.in_err-slice_piece.field-0.0) text h c.slice_piece.ensures.kept.tables c.slice_piece.ensures.kept.limit c.slice_piece.ensures.kept.openings_left
-    (c.in_err-slice_piece.ensures.value end j s h.shows)))
+pub slow_character_data-returns-in_err-slice_piece : goal.slow_character_data-returns-in_err-slice_piece
+slow_character_data-returns-in_err-slice_piece t c = record {
+  value = λ limit end es s declared h.
+      let src = c.args.cursor.now.text.now in
+      let b = c.args.builder.now in
+      let raw = c.in_ok-raw.raw.text.now in
+      let j = c.raw_character_data.new.cursor.pos in
+      let plain : is_verbatim raw ≡ true = sym c.in_ok-raw.ensures.verbatim ∙ c.if-raw.true in
+      let text : ReadText = record { value = raw; borrowed = true } in
+      let p = err_from_is_err_and c.from_residual-in_err-slice_piece.result c.from_residual-in_err-slice_piece.ensures.1 in
+      rw (p.1, p.2, plain_run (context_of limit es c.args.context) src s c.args.cursor.now.pos j raw h.here c.in_ok-raw.ensures.read.value plain)
+      (refused_too c.in_err-slice_piece.field-0.0 _
+      (text_stepped limit end s c.args.cursor.now c.raw_character_data.new.cursor b c.slice_piece.new.self (Err c.in_err-slice_piece.field-0.0) text h c.slice_piece.ensures.kept.tables c.slice_piece.ensures.kept.limit c.slice_piece.ensures.kept.openings_left
+      (c.in_err-slice_piece.ensures.value end j s h.shows)));
+  goes = let p = err_from_is_err_and c.from_residual-in_err-slice_piece.result c.from_residual-in_err-slice_piece.ensures.1 in rw p.1 tt;
+}
 
-pub slow_character_data-returns-clause-value : goal.slow_character_data-returns-clause-value
-slow_character_data-returns-clause-value t c = λ limit end es s declared h.
-    let src = c.args.cursor.now.text.now in
-    let raw = c.in_ok-raw.raw.text.now in
-    let j = c.raw_character_data.new.cursor.pos in
-    let same = ap (λ t. t.now) c.in_ok-raw.ensures.read.source in
-    let other : is_verbatim raw ≡ false = sym c.in_ok-raw.ensures.verbatim ∙ c.if-raw.false in
-    rw (parted_run (context_of limit es c.args.context) src s c.args.cursor.now.pos j raw h.here c.in_ok-raw.ensures.read.value other, ← same)
-    (c.data_parts.ensures.value limit end es s declared (record { here = h.here; limit_is = h.limit_is; shows = h.shows; namespaces = h.namespaces; attributes = h.attributes; openings_left_is = h.openings_left_is }))
+pub slow_character_data-returns : goal.slow_character_data-returns
+slow_character_data-returns t c = record {
+  value = λ limit end es s declared h.
+      let src = c.args.cursor.now.text.now in
+      let raw = c.in_ok-raw.raw.text.now in
+      let j = c.raw_character_data.new.cursor.pos in
+      let same = ap (λ t. t.now) c.in_ok-raw.ensures.read.source in
+      let other : is_verbatim raw ≡ false = sym c.in_ok-raw.ensures.verbatim ∙ c.if-raw.false in
+      rw (parted_run (context_of limit es c.args.context) src s c.args.cursor.now.pos j raw h.here c.in_ok-raw.ensures.read.value other, ← same)
+      (c.data_parts.ensures.value limit end es s declared (record { here = h.here; limit_is = h.limit_is; shows = h.shows; namespaces = h.namespaces; attributes = h.attributes; openings_left_is = h.openings_left_is }));
+  goes = search rules;
+}
 
 -- a line end and bytes that stand for themselves
-pub slow_character_data-returns-in-Some-clause-value : goal.slow_character_data-returns-in-Some-clause-value
-slow_character_data-returns-in-Some-clause-value t c = λ limit end es s declared h.
-    let src = c.args.cursor.now.text.now in
-    let b = c.args.builder.now in
-    let i = c.args.cursor.now.pos in
-    let j = c.in-Some.end in
-    let run = c.in-Some.ensures in
-    let text : ReadText = record { value = slice_range src (i + 1) j; borrowed = false } in
-    rw (parted_run (context_of limit es c.args.context) src s i j (slice_range src i j) h.here run.value run.verbatim, line_run (context_of limit es c.args.context) src s i j h.here c.if-context.true run.line)
-    (text_stepped limit end s c.args.cursor.now _ b c.owned_piece.new.self (Ok c.in_ok-owned_piece.field-0) text h c.owned_piece.ensures.kept.tables c.owned_piece.ensures.kept.limit c.owned_piece.ensures.kept.openings_left
-    (rw c.range.ensures.value at (c.in_ok-owned_piece.ensures.value end j s h.shows)))
+pub slow_character_data-returns-in-Some : goal.slow_character_data-returns-in-Some
+slow_character_data-returns-in-Some t c = record {
+  value = λ limit end es s declared h.
+      let src = c.args.cursor.now.text.now in
+      let b = c.args.builder.now in
+      let i = c.args.cursor.now.pos in
+      let j = c.in-Some.end in
+      let run = c.in-Some.ensures in
+      let text : ReadText = record { value = slice_range src (i + 1) j; borrowed = false } in
+      rw (parted_run (context_of limit es c.args.context) src s i j (slice_range src i j) h.here run.value run.verbatim, line_run (context_of limit es c.args.context) src s i j h.here c.if-context.true run.line)
+      (text_stepped limit end s c.args.cursor.now _ b c.owned_piece.new.self (Ok c.in_ok-owned_piece.field-0) text h c.owned_piece.ensures.kept.tables c.owned_piece.ensures.kept.limit c.owned_piece.ensures.kept.openings_left
+      (rw c.range.ensures.value at (c.in_ok-owned_piece.ensures.value end j s h.shows)));
+  goes = search rules;
+}
 
-pub slow_character_data-returns-in_err-owned_piece-clause-value : goal.slow_character_data-returns-in_err-owned_piece-clause-value
-slow_character_data-returns-in_err-owned_piece-clause-value t c = λ limit end es s declared h.
-    let src = c.args.cursor.now.text.now in
-    let b = c.args.builder.now in
-    let i = c.args.cursor.now.pos in
-    let j = c.in-Some.end in
-    let run = c.in-Some.ensures in
-    let text : ReadText = record { value = slice_range src (i + 1) j; borrowed = false } in
-    let p = err_from_is_err_and c.from_residual.result c.from_residual.ensures.1 in
-    rw (p.1, p.2, parted_run (context_of limit es c.args.context) src s i j (slice_range src i j) h.here run.value run.verbatim, line_run (context_of limit es c.args.context) src s i j h.here c.if-context.true run.line)
-    (refused_too c.in_err-owned_piece.field-0.0 _
-    (text_stepped limit end s c.args.cursor.now (record { text = c.args.cursor.now.text; pos = j; utf8 = c.args.cursor.now.utf8; cut = run.cut }) b c.owned_piece.new.self (Err c.in_err-owned_piece.field-0.0) text h c.owned_piece.ensures.kept.tables c.owned_piece.ensures.kept.limit c.owned_piece.ensures.kept.openings_left
-    (rw c.range.ensures.value at (c.in_err-owned_piece.ensures.value end j s h.shows))))
+pub slow_character_data-returns-in_err-owned_piece : goal.slow_character_data-returns-in_err-owned_piece
+slow_character_data-returns-in_err-owned_piece t c = record {
+  value = λ limit end es s declared h.
+      let src = c.args.cursor.now.text.now in
+      let b = c.args.builder.now in
+      let i = c.args.cursor.now.pos in
+      let j = c.in-Some.end in
+      let run = c.in-Some.ensures in
+      let text : ReadText = record { value = slice_range src (i + 1) j; borrowed = false } in
+      let p = err_from_is_err_and c.from_residual.result c.from_residual.ensures.1 in
+      rw (p.1, p.2, parted_run (context_of limit es c.args.context) src s i j (slice_range src i j) h.here run.value run.verbatim, line_run (context_of limit es c.args.context) src s i j h.here c.if-context.true run.line)
+      (refused_too c.in_err-owned_piece.field-0.0 _
+      (text_stepped limit end s c.args.cursor.now (record { text = c.args.cursor.now.text; pos = j; utf8 = c.args.cursor.now.utf8; cut = run.cut }) b c.owned_piece.new.self (Err c.in_err-owned_piece.field-0.0) text h c.owned_piece.ensures.kept.tables c.owned_piece.ensures.kept.limit c.owned_piece.ensures.kept.openings_left
+      (rw c.range.ensures.value at (c.in_err-owned_piece.ensures.value end j s h.shows))));
+  goes = let p = err_from_is_err_and c.from_residual.result c.from_residual.ensures.1 in rw p.1 tt;
+}
 
-pub ended_character_data-returns-in_err-slow_character_data-clause-value : goal.ended_character_data-returns-in_err-slow_character_data-clause-value
-ended_character_data-returns-in_err-slow_character_data-clause-value t c = λ limit end es s declared h.
-    let p = err_from_is_err_and c.from_residual.result c.from_residual.ensures.1 in
-    rw (p.1, p.2) (c.in_err-slow_character_data.ensures.value limit end es s declared h)
+pub ended_character_data-returns-in_err-slow_character_data : goal.ended_character_data-returns-in_err-slow_character_data
+ended_character_data-returns-in_err-slow_character_data t c = record {
+  value = λ limit end es s declared h.
+      let p = err_from_is_err_and c.from_residual.result c.from_residual.ensures.1 in
+      rw (p.1, p.2) (c.in_err-slow_character_data.ensures.value limit end es s declared h);
+  goes = let p = err_from_is_err_and c.from_residual.result c.from_residual.ensures.1 in rw p.1 tt;
+}
 
-pub ended_character_data-returns-clause-value : goal.ended_character_data-returns-clause-value
-ended_character_data-returns-clause-value t c = λ limit end es s declared h.
-    let r = c.in_ok-slow_character_data.ensures.value limit end es s declared h in
-    let k = r.2 in (
-      r.0,
-      r.1,
-      record {
-        here = k.here;
-        limit_is = c.end_run.ensures.kept.limit ∙ k.limit_is;
-        shows = c.in_ok-end_run.ensures.ok end r.0.stack r.0.done k.shows;
-        namespaces = rw c.end_run.ensures.kept.tables k.namespaces;
-        attributes = rw c.end_run.ensures.kept.tables k.attributes;
-        openings_left_is = c.end_run.ensures.kept.openings_left ∙ k.openings_left_is;
-      },
-    )
+pub ended_character_data-returns : goal.ended_character_data-returns
+ended_character_data-returns t c = record {
+  value = λ limit end es s declared h.
+      let r = c.in_ok-slow_character_data.ensures.value limit end es s declared h in
+      let k = r.2 in (
+        r.0,
+        r.1,
+        record {
+          here = k.here;
+          limit_is = c.end_run.ensures.kept.limit ∙ k.limit_is;
+          shows = c.in_ok-end_run.ensures.ok end r.0.stack r.0.done k.shows;
+          namespaces = rw c.end_run.ensures.kept.tables k.namespaces;
+          attributes = rw c.end_run.ensures.kept.tables k.attributes;
+          openings_left_is = c.end_run.ensures.kept.openings_left ∙ k.openings_left_is;
+        },
+      );
+  goes = search rules;
+}
 
 -- ---- its parts
 
-pub data_parts-returns-in_err-text-clause-value : goal.data_parts-returns-in_err-text-clause-value
-data_parts-returns-in_err-text-clause-value t c = λ limit end es s declared h.
-    let src = c.args.cursor.now.text.now in
-    let context = context_of limit es c.args.context in
-    let n = length src - c.loop-turn._turn in
-    let one : n ≡ suc (n - 1) = omega arith in
-    let s0 = ap (λ t. t.now) c.loop-turn.invariant.source in
-    let g = c.loop-turn.invariant.reads limit end es s declared h in
-    let p = err_from_is_err_and c.from_residual.result c.from_residual.ensures.1 in
-    rw (p.1, p.2) (parting_fails context end src c.args.start c.args.stop _ n (n - 1) c.loop-turn.cursor c.loop-turn.builder c.in_err-text.field-0.0 g one (rw s0 at (c.in_err-text.ensures.value limit end es g.s declared g.sees)))
+pub data_parts-returns-in_err-text : goal.data_parts-returns-in_err-text
+data_parts-returns-in_err-text t c = record {
+  value = λ limit end es s declared h.
+      let src = c.args.cursor.now.text.now in
+      let context = context_of limit es c.args.context in
+      let n = length src - c.loop-turn._turn in
+      let one : n ≡ suc (n - 1) = omega arith in
+      let s0 = ap (λ t. t.now) c.loop-turn.invariant.source in
+      let g = c.loop-turn.invariant.reads limit end es s declared h in
+      let p = err_from_is_err_and c.from_residual.result c.from_residual.ensures.1 in
+      rw (p.1, p.2) (parting_fails context end src c.args.start c.args.stop _ n (n - 1) c.loop-turn.cursor c.loop-turn.builder c.in_err-text.field-0.0 g one (rw s0 at (c.in_err-text.ensures.value limit end es g.s declared g.sees)));
+  goes = let p = err_from_is_err_and c.from_residual.result c.from_residual.ensures.1 in rw p.1 tt;
+}
 
-pub data_parts-returns-in_err-open_text-in-Some-clause-value : goal.data_parts-returns-in_err-open_text-in-Some-clause-value
-data_parts-returns-in_err-open_text-in-Some-clause-value t c = λ limit end es s declared h.
-    let src = c.args.cursor.now.text.now in
-    let context = context_of limit es c.args.context in
-    let n = length src - c.loop-turn._turn in
-    let one : n ≡ suc (n - 1) = omega arith in
-    let s0 = ap (λ t. t.now) c.loop-turn.invariant.source in
-    let g = c.loop-turn.invariant.reads limit end es s declared h in
-    let part = rw (s0, c.in-Some.is) at (c.in_ok-text.ensures.value limit end es g.s declared g.sees) in
-    let p = err_from_is_err_and c.from_residual-in_err-open_text-in-Some.result c.from_residual-in_err-open_text-in-Some.ensures.1 in
-    rw (p.1, p.2) (parting_stops context end src c.args.start c.args.stop _ n (n - 1) c.loop-turn.cursor c.loop-turn.builder part.0 (replacement_view c.in-Some.text) c.part_piece.new.cursor.pos c.in_err-open_text-in-Some.field-0.0 g one part.1
-    (c.in_err-open_text-in-Some.ensures.value limit end es part.0 declared part.2))
+pub data_parts-returns-in_err-open_text-in-Some : goal.data_parts-returns-in_err-open_text-in-Some
+data_parts-returns-in_err-open_text-in-Some t c = record {
+  value = λ limit end es s declared h.
+      let src = c.args.cursor.now.text.now in
+      let context = context_of limit es c.args.context in
+      let n = length src - c.loop-turn._turn in
+      let one : n ≡ suc (n - 1) = omega arith in
+      let s0 = ap (λ t. t.now) c.loop-turn.invariant.source in
+      let g = c.loop-turn.invariant.reads limit end es s declared h in
+      let part = rw (s0, c.in-Some.is) at (c.in_ok-text.ensures.value limit end es g.s declared g.sees) in
+      let p = err_from_is_err_and c.from_residual-in_err-open_text-in-Some.result c.from_residual-in_err-open_text-in-Some.ensures.1 in
+      rw (p.1, p.2) (parting_stops context end src c.args.start c.args.stop _ n (n - 1) c.loop-turn.cursor c.loop-turn.builder part.0 (replacement_view c.in-Some.text) c.part_piece.new.cursor.pos c.in_err-open_text-in-Some.field-0.0 g one part.1
+      (c.in_err-open_text-in-Some.ensures.value limit end es part.0 declared part.2));
+  goes = let p = err_from_is_err_and c.from_residual-in_err-open_text-in-Some.result c.from_residual-in_err-open_text-in-Some.ensures.1 in rw p.1 tt;
+}
 
-pub data_parts-returns-in-None-clause-value : goal.data_parts-returns-in-None-clause-value
-data_parts-returns-in-None-clause-value t c = λ limit end es s declared h.
-    let src = c.args.cursor.now.text.now in
-    let context = context_of limit es c.args.context in
-    let n = length src - c.loop-turn._turn in
-    let one : n ≡ suc (n - 1) = omega arith in
-    let s0 = ap (λ t. t.now) c.loop-turn.invariant.source in
-    let g = c.loop-turn.invariant.reads limit end es s declared h in
-    let part = rw (s0, c.in-None.is) at (c.in_ok-text.ensures.value limit end es g.s declared g.sees) in
-    parting_ends context end src c.args.start c.args.stop _ n (n - 1) c.loop-turn.cursor _ c.loop-turn.builder c.part_piece.new.builder part.0 g one part.1 part.2 refl
+pub data_parts-returns-in-None : goal.data_parts-returns-in-None
+data_parts-returns-in-None t c = record {
+  value = λ limit end es s declared h.
+      let src = c.args.cursor.now.text.now in
+      let context = context_of limit es c.args.context in
+      let n = length src - c.loop-turn._turn in
+      let one : n ≡ suc (n - 1) = omega arith in
+      let s0 = ap (λ t. t.now) c.loop-turn.invariant.source in
+      let g = c.loop-turn.invariant.reads limit end es s declared h in
+      let part = rw (s0, c.in-None.is) at (c.in_ok-text.ensures.value limit end es g.s declared g.sees) in
+      parting_ends context end src c.args.start c.args.stop _ n (n - 1) c.loop-turn.cursor _ c.loop-turn.builder c.part_piece.new.builder part.0 g one part.1 part.2 refl;
+  goes = search rules;
+}
 
 pub data_parts-loop-turn-preserved : goal.data_parts-loop-turn-preserved
 data_parts-loop-turn-preserved t c = record {
@@ -192,12 +231,15 @@ data_parts-loop-turn-preserved t c = record {
       (sym (opener_at limit es c.args.context.depth_left c.args.context.main text after part.0 opened.0 opened.1)) opened.2;
 }
 
-pub data_parts-returns-clause-value : goal.data_parts-returns-clause-value
-data_parts-returns-clause-value t c = λ limit end es s declared h.
-    let src = c.args.cursor.now.text.now in
-    let over = c.loop-turn-test.false in
-    let none : length src - c.loop-turn._turn ≡ 0 = omega arith in
-    parting_out (context_of limit es c.args.context) end src c.args.start c.args.stop _ _ c.loop-turn.cursor _ c.loop-turn.builder (c.loop-turn.invariant.reads limit end es s declared h) none refl
+pub data_parts-returns : goal.data_parts-returns
+data_parts-returns t c = record {
+  value = λ limit end es s declared h.
+      let src = c.args.cursor.now.text.now in
+      let over = c.loop-turn-test.false in
+      let none : length src - c.loop-turn._turn ≡ 0 = omega arith in
+      parting_out (context_of limit es c.args.context) end src c.args.start c.args.stop _ _ c.loop-turn.cursor _ c.loop-turn.builder (c.loop-turn.invariant.reads limit end es s declared h) none refl;
+  goes = search rules;
+}
 
 -- ---- a replacement text
 
@@ -292,25 +334,37 @@ content_text-returns-clause-value t c = λ limit end es s declared h at.
 
 -- ---- one construct
 
-pub step-returns-then-plain_step-clause-value : goal.step-returns-then-plain_step-clause-value
-step-returns-then-plain_step-clause-value t c = λ limit end es s declared h. c.plain_step.ensures.value c.if-plain_step.true (context_of limit es c.args.context) end s refl h
+pub step-returns-then-plain_step : goal.step-returns-then-plain_step
+step-returns-then-plain_step t c = record {
+  value = λ limit end es s declared h. c.plain_step.ensures.value c.if-plain_step.true (context_of limit es c.args.context) end s refl h;
+  goes = search rules;
+}
 
-pub step-returns-clause-value : goal.step-returns-clause-value
-step-returns-clause-value t c = λ limit end es s declared h.
-    let no = c.if-plain_step.false in
-    let same = ap (λ t. t.text.now) (c.plain_step.ensures.place no) in
-    rw same at (c.in_ok-general_step.ensures.value limit end es s declared (c.plain_step.ensures.other no (context_of limit es c.args.context) end s h))
+pub step-returns : goal.step-returns
+step-returns t c = record {
+  value = λ limit end es s declared h.
+      let no = c.if-plain_step.false in
+      let same = ap (λ t. t.text.now) (c.plain_step.ensures.place no) in
+      rw same at (c.in_ok-general_step.ensures.value limit end es s declared (c.plain_step.ensures.other no (context_of limit es c.args.context) end s h));
+  goes = search rules;
+}
 
-pub step-returns-in_err-general_step-clause-value : goal.step-returns-in_err-general_step-clause-value
-step-returns-in_err-general_step-clause-value t c = λ limit end es s declared h.
-    let no = c.if-plain_step.false in
-    let same = ap (λ t. t.text.now) (c.plain_step.ensures.place no) in
-    let p = err_from_is_err_and c.from_residual.result c.from_residual.ensures.1 in
-    rw (p.1, p.2) (rw same at (c.in_err-general_step.ensures.value limit end es s declared (c.plain_step.ensures.other no (context_of limit es c.args.context) end s h)))
+pub step-returns-in_err-general_step : goal.step-returns-in_err-general_step
+step-returns-in_err-general_step t c = record {
+  value = λ limit end es s declared h.
+      let no = c.if-plain_step.false in
+      let same = ap (λ t. t.text.now) (c.plain_step.ensures.place no) in
+      let p = err_from_is_err_and c.from_residual.result c.from_residual.ensures.1 in
+      rw (p.1, p.2) (rw same at (c.in_err-general_step.ensures.value limit end es s declared (c.plain_step.ensures.other no (context_of limit es c.args.context) end s h)));
+  goes = let p = err_from_is_err_and c.from_residual.result c.from_residual.ensures.1 in rw p.1 tt;
+}
 
-pub inner_step-returns-then-bytes-cursor-ne60-clause-value : goal.inner_step-returns-then-bytes-cursor-ne60-clause-value
-inner_step-returns-then-bytes-cursor-ne60-clause-value t c = λ limit end es s declared h.
-    rw (step_is_run (context_of limit es c.args.context) c.args.cursor.now.text.now _ s c.args.cursor.now.pos c.as_bytes-bytes.ensures.value h.here c.if-bytes-cursor-ne60.true) (c.character_data.ensures.value limit end es s declared h)
+pub inner_step-returns-then-bytes-cursor-ne60 : goal.inner_step-returns-then-bytes-cursor-ne60
+inner_step-returns-then-bytes-cursor-ne60 t c = record {
+  value = λ limit end es s declared h.
+      rw (step_is_run (context_of limit es c.args.context) c.args.cursor.now.text.now _ s c.args.cursor.now.pos c.as_bytes-bytes.ensures.value h.here c.if-bytes-cursor-ne60.true) (c.character_data.ensures.value limit end es s declared h);
+  goes = search rules;
+}
 
 pub other_step-end_tag-requires-clause-here : goal.other_step-end_tag-requires-clause-here
 other_step-end_tag-requires-clause-here t c =
@@ -320,25 +374,37 @@ other_step-end_tag-requires-clause-here t c =
     let more = c.if-cursor-bytes.false in
     two_stand c.args.cursor.now.text.now i 60 47 (omega arith) (ap (λ (xs : List ℕ). slice_index xs i) (sym e) ∙ c.if-bytes-cursor-ne60.false) (ap (λ (xs : List ℕ). slice_index xs (i + 1)) (sym e) ∙ c.if-next-eq47.true)
 
-pub other_step-returns-then-bytes-cursor-ne60-clause-value : goal.other_step-returns-then-bytes-cursor-ne60-clause-value
-other_step-returns-then-bytes-cursor-ne60-clause-value t c = λ limit end es s declared h.
-    rw (step_is_run (context_of limit es c.args.context) c.args.cursor.now.text.now _ s c.args.cursor.now.pos c.as_bytes-bytes.ensures.value h.here c.if-bytes-cursor-ne60.true) (c.character_data.ensures.value limit end es s declared h)
+pub other_step-returns-then-bytes-cursor-ne60 : goal.other_step-returns-then-bytes-cursor-ne60
+other_step-returns-then-bytes-cursor-ne60 t c = record {
+  value = λ limit end es s declared h.
+      rw (step_is_run (context_of limit es c.args.context) c.args.cursor.now.text.now _ s c.args.cursor.now.pos c.as_bytes-bytes.ensures.value h.here c.if-bytes-cursor-ne60.true) (c.character_data.ensures.value limit end es s declared h);
+  goes = search rules;
+}
 
-pub other_step-returns-in_err-end_tag-clause-value : goal.other_step-returns-in_err-end_tag-clause-value
-other_step-returns-in_err-end_tag-clause-value t c = λ limit end es s declared h.
-    let p = err_from_is_err_and c.from_residual.result c.from_residual.ensures.1 in
-    rw (
-      p.1,
-      p.2,
-      step_is_markup (context_of limit es c.args.context) c.args.cursor.now.text.now _ s c.args.cursor.now.pos 47 c.as_bytes-bytes.ensures.value h.here c.if-bytes-cursor-ne60.false c.if-cursor-bytes.false c.if-next-eq47.true (λ e. cc e),
-    )
-    (refused_too c.in_err-end_tag.field-0.0 _ (c.in_err-end_tag.ensures.value limit end es s h))
+pub other_step-returns-in_err-end_tag : goal.other_step-returns-in_err-end_tag
+other_step-returns-in_err-end_tag t c = record {
+  value = λ limit end es s declared h.
+      let p = err_from_is_err_and c.from_residual.result c.from_residual.ensures.1 in
+      rw (
+        p.1,
+        p.2,
+        step_is_markup (context_of limit es c.args.context) c.args.cursor.now.text.now _ s c.args.cursor.now.pos 47 c.as_bytes-bytes.ensures.value h.here c.if-bytes-cursor-ne60.false c.if-cursor-bytes.false c.if-next-eq47.true (λ e. cc e),
+      )
+      (refused_too c.in_err-end_tag.field-0.0 _ (c.in_err-end_tag.ensures.value limit end es s h));
+  goes = let p = err_from_is_err_and c.from_residual.result c.from_residual.ensures.1 in rw p.1 tt;
+}
 
-pub other_step-returns-then-next-eq47-clause-value : goal.other_step-returns-then-next-eq47-clause-value
-other_step-returns-then-next-eq47-clause-value t c = λ limit end es s declared h.
-    rw (step_is_markup (context_of limit es c.args.context) c.args.cursor.now.text.now _ s c.args.cursor.now.pos 47 c.as_bytes-bytes.ensures.value h.here c.if-bytes-cursor-ne60.false c.if-cursor-bytes.false c.if-next-eq47.true (λ e. cc e))
-    (c.in_ok-end_tag.ensures.value limit end es s h)
+pub other_step-returns-then-next-eq47 : goal.other_step-returns-then-next-eq47
+other_step-returns-then-next-eq47 t c = record {
+  value = λ limit end es s declared h.
+      rw (step_is_markup (context_of limit es c.args.context) c.args.cursor.now.text.now _ s c.args.cursor.now.pos 47 c.as_bytes-bytes.ensures.value h.here c.if-bytes-cursor-ne60.false c.if-cursor-bytes.false c.if-next-eq47.true (λ e. cc e))
+      (c.in_ok-end_tag.ensures.value limit end es s h);
+  goes = search rules;
+}
 
-pub general_step-returns-then-not-is_text_open-clause-value : goal.general_step-returns-then-not-is_text_open-clause-value
-general_step-returns-then-not-is_text_open-clause-value t c = λ limit end es s declared h.
-    rw (step_is_run (context_of limit es c.args.context) c.args.cursor.now.text.now _ s c.args.cursor.now.pos c.as_bytes-bytes.ensures.value h.here c.if-bytes-cursor-ne60.true) (c.ended_character_data.ensures.value limit end es s declared h)
+pub general_step-returns-then-not-is_text_open : goal.general_step-returns-then-not-is_text_open
+general_step-returns-then-not-is_text_open t c = record {
+  value = λ limit end es s declared h.
+      rw (step_is_run (context_of limit es c.args.context) c.args.cursor.now.text.now _ s c.args.cursor.now.pos c.as_bytes-bytes.ensures.value h.here c.if-bytes-cursor-ne60.true) (c.ended_character_data.ensures.value limit end es s declared h);
+  goes = search rules;
+}

@@ -1,4 +1,4 @@
-use Rattle.std.proofs.Common.{◌≡◌, ℕ, List, subst, ◌<◌, ◌≤◌, ◌-◌, suc, false, Ok, refl, sym, ap, ◌∙◌, arith, length}
+use Rattle.std.proofs.Common.{◌≡◌, ℕ, List, subst, ◌<◌, ◌≤◌, ◌-◌, suc, false, Ok, refl, sym, ap, ◌∙◌, arith, length, rules}
 use Rattle.std.proofs.lemmas.Result.{err_from_is_err_and}
 use Rattle.std.proofs.lemmas.Bool.{leb-true, leb-false}
 use Rattle.rox_values.specs.Refusals.{IsRefusal}
@@ -10,42 +10,51 @@ use Rattle.rox_build.specs.BuilderState.{ScansTo}
 use Rattle.rox_build.proofs.Twice.{drives_past}
 use Rattle.rox_build.proofs.content.content.Goals as goal
 
-pub returns-then-is_at_root-clause-value : goal.returns-then-is_at_root-clause-value
-returns-then-is_at_root-clause-value c = λ limit end es s declared sees.
-    let src = c.args.cursor.now.text.now in
-    let context = context_of limit es c.args.context in
-    let s0 = ap (λ t. t.now) c.loop-left.invariant.source in
-    let k = c.plain_stretch-read.result in
-    let few : k ≤ c.loop-left.left = (let n = c.plain_stretch-read.ensures.count in let m = c.min-rows.ensures in omega arith) in
-    let g0 = c.loop-left.invariant.reads limit end es s declared sees in
-    let g = drives_past context end src _ c.loop-left.left k _ _ _ _ g0 few (rw s0 at (c.plain_stretch-read.ensures.value context end g0.s refl g0.sees)) in
-    drive_done context end src _ _ _ _ g (sym (c.is_at_root.ensures end g.s.stack g.s.done g.sees.shows) ∙ c.if-is_at_root.true)
+pub returns-then-is_at_root : goal.returns-then-is_at_root
+returns-then-is_at_root c = record {
+  value = λ limit end es s declared sees.
+      let src = c.args.cursor.now.text.now in
+      let context = context_of limit es c.args.context in
+      let s0 = ap (λ t. t.now) c.loop-left.invariant.source in
+      let k = c.plain_stretch-read.result in
+      let few : k ≤ c.loop-left.left = (let n = c.plain_stretch-read.ensures.count in let m = c.min-rows.ensures in omega arith) in
+      let g0 = c.loop-left.invariant.reads limit end es s declared sees in
+      let g = drives_past context end src _ c.loop-left.left k _ _ _ _ g0 few (rw s0 at (c.plain_stretch-read.ensures.value context end g0.s refl g0.sees)) in
+      drive_done context end src _ _ _ _ g (sym (c.is_at_root.ensures end g.s.stack g.s.done g.sees.shows) ∙ c.if-is_at_root.true);
+  goes = search rules;
+}
 
-pub returns-then-left-eq0-clause-value : goal.returns-then-left-eq0-clause-value
-returns-then-left-eq0-clause-value c = λ limit end es s declared sees.
-    let src = c.args.cursor.now.text.now in
-    let context = context_of limit es c.args.context in
-    let s0 = ap (λ t. t.now) c.loop-left.invariant.source in
-    let k = c.plain_stretch-read.result in
-    let few : k ≤ c.loop-left.left = (let n = c.plain_stretch-read.ensures.count in let m = c.min-rows.ensures in omega arith) in
-    let g0 = c.loop-left.invariant.reads limit end es s declared sees in
-    let g = drives_past context end src _ c.loop-left.left k _ _ _ _ g0 few (rw s0 at (c.plain_stretch-read.ensures.value context end g0.s refl g0.sees)) in
-    let inner : is_root g.s.stack ≡ false = sym (c.is_at_root.ensures end g.s.stack g.s.done g.sees.shows) ∙ c.if-is_at_root.false in
-    drive_spent context end src _ _ _ _ g inner c.if-left-eq0.true
+pub returns-then-left-eq0 : goal.returns-then-left-eq0
+returns-then-left-eq0 c = record {
+  value = λ limit end es s declared sees.
+      let src = c.args.cursor.now.text.now in
+      let context = context_of limit es c.args.context in
+      let s0 = ap (λ t. t.now) c.loop-left.invariant.source in
+      let k = c.plain_stretch-read.result in
+      let few : k ≤ c.loop-left.left = (let n = c.plain_stretch-read.ensures.count in let m = c.min-rows.ensures in omega arith) in
+      let g0 = c.loop-left.invariant.reads limit end es s declared sees in
+      let g = drives_past context end src _ c.loop-left.left k _ _ _ _ g0 few (rw s0 at (c.plain_stretch-read.ensures.value context end g0.s refl g0.sees)) in
+      let inner : is_root g.s.stack ≡ false = sym (c.is_at_root.ensures end g.s.stack g.s.done g.sees.shows) ∙ c.if-is_at_root.false in
+      drive_spent context end src _ _ _ _ g inner c.if-left-eq0.true;
+  goes = search rules;
+}
 
-pub returns-then-is_at_end-clause-value : goal.returns-then-is_at_end-clause-value
-returns-then-is_at_end-clause-value c = λ limit end es s declared sees.
-    let src = c.args.cursor.now.text.now in
-    let context = context_of limit es c.args.context in
-    let s0 = ap (λ t. t.now) c.loop-left.invariant.source in
-    let s1 = ap (λ t. t.now) c.plain_stretch-read.ensures.goes.source ∙ s0 in
-    let k = c.plain_stretch-read.result in
-    let few : k ≤ c.loop-left.left = (let n = c.plain_stretch-read.ensures.count in let m = c.min-rows.ensures in omega arith) in
-    let g0 = c.loop-left.invariant.reads limit end es s declared sees in
-    let g = drives_past context end src _ c.loop-left.left k _ _ _ _ g0 few (rw s0 at (c.plain_stretch-read.ensures.value context end g0.s refl g0.sees)) in
-    let inner : is_root g.s.stack ≡ false = sym (c.is_at_root.ensures end g.s.stack g.s.done g.sees.shows) ∙ c.if-is_at_root.false in
-    let past : length src ≤ g.s.at = rw (s1, g.sees.here) at (leb-true _ _ (sym c.is_at_end.ensures ∙ c.if-is_at_end.true)) in
-    drive_cut context end src _ _ _ _ g inner past
+pub returns-then-is_at_end : goal.returns-then-is_at_end
+returns-then-is_at_end c = record {
+  value = λ limit end es s declared sees.
+      let src = c.args.cursor.now.text.now in
+      let context = context_of limit es c.args.context in
+      let s0 = ap (λ t. t.now) c.loop-left.invariant.source in
+      let s1 = ap (λ t. t.now) c.plain_stretch-read.ensures.goes.source ∙ s0 in
+      let k = c.plain_stretch-read.result in
+      let few : k ≤ c.loop-left.left = (let n = c.plain_stretch-read.ensures.count in let m = c.min-rows.ensures in omega arith) in
+      let g0 = c.loop-left.invariant.reads limit end es s declared sees in
+      let g = drives_past context end src _ c.loop-left.left k _ _ _ _ g0 few (rw s0 at (c.plain_stretch-read.ensures.value context end g0.s refl g0.sees)) in
+      let inner : is_root g.s.stack ≡ false = sym (c.is_at_root.ensures end g.s.stack g.s.done g.sees.shows) ∙ c.if-is_at_root.false in
+      let past : length src ≤ g.s.at = rw (s1, g.sees.here) at (leb-true _ _ (sym c.is_at_end.ensures ∙ c.if-is_at_end.true)) in
+      drive_cut context end src _ _ _ _ g inner past;
+  goes = search rules;
+}
 
 pub loop-left-preserved-then-rows-read-lt2 : goal.loop-left-preserved-then-rows-read-lt2
 loop-left-preserved-then-rows-read-lt2 c = record {
@@ -106,35 +115,44 @@ loop-left-preserved c = record {
       drives_on context end src _ n (n - 1) _ _ _ _ _ g one inner inside stepped;
 }
 
-pub returns-in_err-general_step-clause-value : goal.returns-in_err-general_step-clause-value
-returns-in_err-general_step-clause-value c = λ limit end es s declared sees.
-    let src = c.args.cursor.now.text.now in
-    let context = context_of limit es c.args.context in
-    let s0 = ap (λ t. t.now) c.loop-left.invariant.source in
-    let s1 = ap (λ t. t.now) c.plain_stretch-read.ensures.goes.source ∙ s0 in
-    let s2 = ap (λ t. t.now) c.plain_main_line.ensures.goes.source ∙ s1 in
-    let k = c.plain_stretch-read.result in
-    let n = c.loop-left.left - k in
-    let one : n ≡ suc (n - 1) = (let more = c.if-left-eq0.false in omega arith) in
-    let few : k ≤ c.loop-left.left = (let n = c.plain_stretch-read.ensures.count in let m = c.min-rows.ensures in omega arith) in
-    let g0 = c.loop-left.invariant.reads limit end es s declared sees in
-    let g = drives_past context end src _ c.loop-left.left k _ _ _ _ g0 few (rw s0 at (c.plain_stretch-read.ensures.value context end g0.s refl g0.sees)) in
-    let inner : is_root g.s.stack ≡ false = sym (c.is_at_root.ensures end g.s.stack g.s.done g.sees.shows) ∙ c.if-is_at_root.false in
-    let inside : g.s.at < length src = rw (s1, g.sees.here) at (leb-false _ _ (sym c.is_at_end.ensures ∙ c.if-is_at_end.false)) in
-    let still = c.plain_main_line.ensures.other c.if-plain_main_line.false context end g.s g.sees in
-    let q = err_from_is_err_and c.from_residual.result c.from_residual.ensures.1 in
-    let fails : IsRefusal c.in_err-general_step.field-0.0 (step context src g.s) = rw s2 at (c.in_err-general_step.ensures.value limit end es g.s declared still) in
-    rw (q.1, q.2) (drive_fails context end src _ n (n - 1) _ _ c.in_err-general_step.field-0.0 g one inner inside fails)
+pub returns-in_err-general_step : goal.returns-in_err-general_step
+returns-in_err-general_step c = record {
+  value = λ limit end es s declared sees.
+      let src = c.args.cursor.now.text.now in
+      let context = context_of limit es c.args.context in
+      let s0 = ap (λ t. t.now) c.loop-left.invariant.source in
+      let s1 = ap (λ t. t.now) c.plain_stretch-read.ensures.goes.source ∙ s0 in
+      let s2 = ap (λ t. t.now) c.plain_main_line.ensures.goes.source ∙ s1 in
+      let k = c.plain_stretch-read.result in
+      let n = c.loop-left.left - k in
+      let one : n ≡ suc (n - 1) = (let more = c.if-left-eq0.false in omega arith) in
+      let few : k ≤ c.loop-left.left = (let n = c.plain_stretch-read.ensures.count in let m = c.min-rows.ensures in omega arith) in
+      let g0 = c.loop-left.invariant.reads limit end es s declared sees in
+      let g = drives_past context end src _ c.loop-left.left k _ _ _ _ g0 few (rw s0 at (c.plain_stretch-read.ensures.value context end g0.s refl g0.sees)) in
+      let inner : is_root g.s.stack ≡ false = sym (c.is_at_root.ensures end g.s.stack g.s.done g.sees.shows) ∙ c.if-is_at_root.false in
+      let inside : g.s.at < length src = rw (s1, g.sees.here) at (leb-false _ _ (sym c.is_at_end.ensures ∙ c.if-is_at_end.false)) in
+      let still = c.plain_main_line.ensures.other c.if-plain_main_line.false context end g.s g.sees in
+      let q = err_from_is_err_and c.from_residual.result c.from_residual.ensures.1 in
+      let fails : IsRefusal c.in_err-general_step.field-0.0 (step context src g.s) = rw s2 at (c.in_err-general_step.ensures.value limit end es g.s declared still) in
+      rw (q.1, q.2) (drive_fails context end src _ n (n - 1) _ _ c.in_err-general_step.field-0.0 g one inner inside fails);
+  goes = let q = err_from_is_err_and c.from_residual.result c.from_residual.ensures.1 in rw q.1 tt;
+}
 
-pub returns-then-is_at_root-2-clause-value : goal.returns-then-is_at_root-2-clause-value
-returns-then-is_at_root-2-clause-value c = λ limit end es s declared sees.
-    let g = c.loop-left.invariant.reads limit end es s declared sees in
-    drive_done (context_of limit es c.args.context) end c.args.cursor.now.text.now _ _ c.loop-left.cursor c.loop-left.builder g (sym (c.is_at_root-2.ensures end g.s.stack g.s.done g.sees.shows) ∙ c.if-is_at_root-2.true)
+pub returns-then-is_at_root-2 : goal.returns-then-is_at_root-2
+returns-then-is_at_root-2 c = record {
+  value = λ limit end es s declared sees.
+      let g = c.loop-left.invariant.reads limit end es s declared sees in
+      drive_done (context_of limit es c.args.context) end c.args.cursor.now.text.now _ _ c.loop-left.cursor c.loop-left.builder g (sym (c.is_at_root-2.ensures end g.s.stack g.s.done g.sees.shows) ∙ c.if-is_at_root-2.true);
+  goes = search rules;
+}
 
-pub returns-else-is_at_root-2-clause-value : goal.returns-else-is_at_root-2-clause-value
-returns-else-is_at_root-2-clause-value c = λ limit end es s declared sees.
-    let src = c.args.cursor.now.text.now in
-    let g = c.loop-left.invariant.reads limit end es s declared sees in
-    let inner : is_root g.s.stack ≡ false = sym (c.is_at_root-2.ensures end g.s.stack g.s.done g.sees.shows) ∙ c.if-is_at_root-2.false in
-    let none : c.loop-left.left ≡ 0 = omega (arith, c.loop-left-test.false) in
-    drive_spent (context_of limit es c.args.context) end src _ _ c.loop-left.cursor c.loop-left.builder g inner none
+pub returns-else-is_at_root-2 : goal.returns-else-is_at_root-2
+returns-else-is_at_root-2 c = record {
+  value = λ limit end es s declared sees.
+      let src = c.args.cursor.now.text.now in
+      let g = c.loop-left.invariant.reads limit end es s declared sees in
+      let inner : is_root g.s.stack ≡ false = sym (c.is_at_root-2.ensures end g.s.stack g.s.done g.sees.shows) ∙ c.if-is_at_root-2.false in
+      let none : c.loop-left.left ≡ 0 = omega (arith, c.loop-left-test.false) in
+      drive_spent (context_of limit es c.args.context) end src _ _ c.loop-left.cursor c.loop-left.builder g inner none;
+  goes = search rules;
+}

@@ -15,7 +15,8 @@ use Rattle.rox_build.proofs.Items.{stands_within}
 use Rattle.rox_build.proofs.SameNames.{below_last, opened_named}
 use Rattle.rox_build.proofs.Growing.{grown_shows}
 use Rattle.rox_build.proofs.Opening.{cut_back, grown_by, is_node, is_opening, fine_by, fine_kept, fine_more, fine_same, namespace_by, tag_is, empty_stepped, open_stepped}
-use Rattle.rox_build.proofs.PlainTags.{near_ends}
+use Rattle.std.proofs.lemmas.Str.{IsCharBoundary-after_ascii}
+use Rattle.rox_build.proofs.PlainTags.{near_cut, near_ends}
 use Rattle.std.proofs.Common.{◌+◌}
 use Rattle.rox_build.proofs.plain_constructs.plain_element.Goals as goal
 
@@ -27,7 +28,15 @@ near_start_tag-requires-clause-below c =
     below_last b.tables os (take (c.len-depth.result - 1) os) o c.requires.fine (split_at os c.len-depth.result o (omega arith) (omega arith) c.index-parent.ensures)
 
 pub other_element-requires-clause-part : goal.other_element-requires-clause-part
-other_element-requires-clause-part c = near_ends c.args.text.now (c.args.start + 1) c.args.near c.utf8.text c.requires.near
+other_element-requires-clause-part c =
+    let src = c.args.text.now in
+    let i = c.args.start in
+    let within = stands_within src i 60 c.requires.here (omega arith) in
+    record {
+      place = near_ends src (i + 1) c.args.near c.utf8.text c.requires.near;
+      onward = c.requires.near.ends.onward;
+      cut = near_cut src (i + 1) c.args.near c.utf8.text (IsCharBoundary-after_ascii src i c.utf8.text within (omega (arith, c.requires.here))) c.requires.near;
+    }
 
 pub returns-then-not-is_empty-clause-value : goal.returns-then-not-is_empty-clause-value
 returns-then-not-is_empty-clause-value c = λ less context end s here behind start stop h.

@@ -33,7 +33,7 @@ returns c =
     let size = ap length c.range.ensures.value in
     record {
       raw = record { start = k; name = name_view name.name; name_end = n; value_start = s; value_end = j };
-      read = item_more src i k e _ near.ensures.end c.if-start-at.false begins.0 begins.1 (omega arith) read;
+      read = item_more src i k e _ near.ensures.place c.if-start-at.false begins.0 begins.1 (omega arith) read;
       value = λ main es opener openings_left. rw c.range.ensures.value (value_is main es opener src s j openings_left w.verbatim);
       view = rw done refl;
       cut = c.after_byte.ensures.cut;

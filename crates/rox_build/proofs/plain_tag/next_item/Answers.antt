@@ -8,4 +8,5 @@ returns-then-bytes-at-gt62-clause-end c =
     let bytes = c.as_bytes-bytes.ensures in
     let here = rw bytes.value at c.if-bytes-at-eq32.true in
     let behind = rw bytes.value at c.if-bytes-at-gt62.true in
-    c.after_byte.ensures.place ∙ one_space src c.args.at c.utf8.text c.requires.within here (omega (arith, behind))
+    let place = c.after_byte.ensures.place in
+    record { place = place ∙ one_space src c.args.at c.utf8.text c.requires.within here (omega (arith, behind)); onward = omega arith; cut = c.after_byte.ensures.cut }

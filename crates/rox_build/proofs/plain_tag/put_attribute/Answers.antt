@@ -1,19 +1,23 @@
 use Rattle.std.proofs.Common.{◌+◌, subst, arith}
 use Rattle.std.specs.Str.{IsCharBoundary}
 use Rattle.rox_scan.specs.ByteSets.{EndsSet, is_part_byte}
-use Rattle.rox_scan.proofs.NearLemmas.{part_stops}
+use Rattle.rox_scan.proofs.NearLemmas.{part_cut, part_stops}
 use Rattle.rox_build.proofs.PlainTags.{behind_quote, ascii_begins}
 use Rattle.rox_build.proofs.plain_tag.put_attribute.Goals as goal
 
-pub whole_name-name-requires-clause-first : goal.whole_name-name-requires-clause-first
-whole_name-name-requires-clause-first c =
+pub whole_name-name-requires-clause-part : goal.whole_name-name-requires-clause-part
+whole_name-name-requires-clause-part c =
     let src = c.args.text.now in
     let i = c.args.start in
     let window = c.new-window.ensures in
     let seen = c.part_count-count.ensures src window.sees (omega (arith, c.if-count-gt-MOST_NAME.false)) in
     let near : EndsSet is_part_byte src i (i + c.part_count-count.result) = rw window.place at seen in
     let here = c.seen_quote-quote.ensures.equals (omega arith) in
-    part_stops src i _ c.utf8.text near.onward near.within near.passes near.stops (λ _. omega (arith, here))
+    record {
+      place = part_stops src i _ c.utf8.text near.onward near.within near.passes near.stops (λ _. omega (arith, here));
+      onward = near.onward;
+      cut = part_cut src i _ c.utf8.text c.requires.put.cut near.onward near.within near.passes;
+    }
 
 pub whole_name-name-requires-clause-begins : goal.whole_name-name-requires-clause-begins
 whole_name-name-requires-clause-begins c =

@@ -1,13 +1,17 @@
 use Rattle.std.proofs.Common.{arith}
-use Rattle.rox_scan.proofs.NearLemmas.{part_stops}
+use Rattle.rox_scan.proofs.NearLemmas.{part_cut, part_stops}
 use Rattle.rox_build.proofs.PlainTags.{ascii_begins, behind_quote}
 use Rattle.rox_build.proofs.plain_tag.put_far_attribute.Goals as goal
 
-pub whole_name-name-requires-clause-first : goal.whole_name-name-requires-clause-first
-whole_name-name-requires-clause-first c =
+pub whole_name-name-requires-clause-part : goal.whole_name-name-requires-clause-part
+whole_name-name-requires-clause-part c =
     let near = c.skip_set-part.ensures in
     let here = c.quote_behind_equals-quote.ensures.equals (omega arith) in
-    part_stops c.args.text.now c.args.start _ c.utf8.text near.onward near.within near.passes near.stops (λ _. omega (arith, here))
+    record {
+      place = part_stops c.args.text.now c.args.start _ c.utf8.text near.onward near.within near.passes near.stops (λ _. omega (arith, here));
+      onward = near.onward;
+      cut = part_cut c.args.text.now c.args.start _ c.utf8.text c.requires.cut near.onward near.within near.passes;
+    }
 
 pub whole_name-name-requires-clause-begins : goal.whole_name-name-requires-clause-begins
 whole_name-name-requires-clause-begins c =

@@ -25,7 +25,7 @@ returns-then-not-next-clause-read c =
     let t = c.args.elements.now in
     let near = c.next_item-next in
     ends_or_not (map namespace_view t.namespaces.items.items) (few_in t c.args.scope) t.present c.args.text.now c.args.start (attribute_rows t.attributes) l.at near.result.at (attribute_rows l.elements.attributes) c.tag_end.result
-    l.invariant.so_far near.ensures.onward near.ensures.end c.tag_end.ensures.opens c.tag_end.ensures.closes
+    l.invariant.so_far near.ensures.end.onward near.ensures.end.place c.tag_end.ensures.opens c.tag_end.ensures.closes
 
 not_false : (b : Bool) → not b ≡ false → b ≡ true
 not_false true h = refl
@@ -36,7 +36,7 @@ put_attribute-requires-clause-put c =
     let l = c.loop-at in
     let t = c.args.elements.now in
     record {
-      cut = c.next_item-next.ensures.cut;
+      cut = c.next_item-next.ensures.end.cut;
       begins = (c.next_item-next.ensures.begins (not_false c.next_item-next.result.may_begin c.if-not-next.false)).1;
       short = c.requires.short;
       holds = record {
@@ -75,5 +75,5 @@ loop-at-preserved c =
       seen = puts.put.seen some;
       cut = subst (IsCharBoundary src) x.end x.plain.cut;
       so_far = subst (λ (i : ℕ). PlainSoFar namespaces few present src c.args.start old i next) x.end
-          (plain_more namespaces few present src c.args.start old l.at j now next x.one l.invariant.so_far near.ensures.onward near.ensures.end (λ same. omega (arith, same, begins.0)) on.0 on.1 x.plain x.other resolved);
+          (plain_more namespaces few present src c.args.start old l.at j now next x.one l.invariant.so_far near.ensures.end.onward near.ensures.end.place (λ same. omega (arith, same, begins.0)) on.0 on.1 x.plain x.other resolved);
     }

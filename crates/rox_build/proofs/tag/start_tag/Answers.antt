@@ -1,4 +1,5 @@
 use Rattle.std.proofs.Common.{◌≡◌, ◌≤◌, ◌+◌, [], false, length, map, bytes_eq, refl, sym, ap, subst, ◌∙◌, arith, Ok}
+use Rattle.rox_tables.specs.declared.rows.tables.ElementTables.{ElementTables}
 use Rattle.std.proofs.lemmas.List.{length-map}
 use Rattle.std.proofs.lemmas.Result.{err_from_is_err_and}
 use Rattle.rox_grammar.specs.declared.fault.Word.TheVariants.{Xmlns}
@@ -138,5 +139,5 @@ returns-clause-value c = λ es declared.
       tag_made (values_in es c.args.context) c.args.around.cut above (length (attribute_rows old.attributes)) known src i c.args.around.openings_left name n c.attributes.new.cursor.pos h c.in_ok-xml.empty c.in_ok-xml.openings_left is other read fine,
       tagged old c.attributes.new.elements c.scope_of_tag.new.elements c.element_data.new.elements _ above name n h c.in_ok-xml.xml _ c.in_ok-scope.scope refl refl
           c.in_ok-xml.ensures.kept.attributes took.2 c.in_ok-xml.ensures.tables.few c.in_ok-scope.ensures.namespaces c.in_ok-scope.ensures.attributes c.in_ok-xml.ensures.kept.lists (c.in_ok-scope.ensures.more, c.in_ok-scope.ensures.lists_more) c.in_ok-scope.ensures.places
-          c.in_ok-scope.ensures.scopes scopes c.in_ok-element.ensures.namespaces c.in_ok-element.ensures.listed c.in_ok-element.ensures.scopes c.in_ok-element.ensures.element c.in_ok-scope.ensures.kept c.in_ok-element.ensures.present c.in_ok-scope.ensures.once,
+          c.in_ok-scope.ensures.scopes scopes (ap (λ (x : ElementTables). x.namespaces) c.in_ok-element.ensures.others) (ap (λ (x : ElementTables). x.listed) c.in_ok-element.ensures.others) (ap (λ (x : ElementTables). x.scopes) c.in_ok-element.ensures.others) c.in_ok-element.ensures.element c.in_ok-scope.ensures.kept (ap (λ (x : ElementTables). x.present) c.in_ok-element.ensures.others) c.in_ok-scope.ensures.once,
     )
