@@ -4,15 +4,14 @@
 ghost use Rattle.std.specs.Prelude.{◌≡◌, ◌==◌, ◌<◌, ◌≤◌, ◌-◌, ℕ, Bool, List, Ok, IfSome, true, false, ◌||◌, length, slice_index};
 ghost use Rattle.std.specs.Str.{IsCharBoundary};
 ghost use Rattle.std.specs.String.{string_bytes};
-ghost use Rattle.rox_grammar.specs.Constructs.{AreChars};
 ghost use Rattle.rox_grammar.specs.Entities.{Entity};
 ghost use Rattle.rox_reading.specs.Values as reading;
 ghost use Rattle.rox_scan.specs.ByteSets.{EndsSet, is_stretch_byte};
 ghost use Rattle.rox_scan.specs.Lookahead as longer;
 ghost use Rattle.rox_scan.specs.Lookahead.{IsLookahead};
 ghost use Rattle.rox_tables.specs.Storage.{storage_bytes, is_borrowed};
-ghost use Rattle.rox_values.specs.Values.{behind, text_behind};
-ghost use Rattle.rox_build.specs.SpacedBytes.{IsSpacedValue, is_spaced_byte, none_changes};
+ghost use Rattle.rox_values.specs.Values.{text_behind};
+ghost use Rattle.rox_build.specs.SpacedBytes.{IsSpacedValue, IsValueRest, PutsBit, is_spaced_byte, none_changes};
 
 use rox_scan::byte_set::{ByteSet, ValueByte, skip_set};
 use rox_scan::cursor::Cursor;
@@ -123,11 +122,8 @@ fn put_space(text: &str, at: usize, stop: usize, out: &mut String) -> usize
     requires here { (slice_index text.now at == 10 || slice_index text.now at == 9) ≡ true }
     requires before { at < stop }
     requires within { stop ≤ length text.now }
-    ensures value { 0 < result → (main : Bool) (es : List Entity)
-        → behind (string_bytes out.old) (reading.value_bit_at main es text.now stop at)
-        ≡ Ok (reading.bytes_of (string_bytes out.new), result) }
-    ensures place { 0 < result → (at < result) × (result ≤ stop) }
-    ensures cut { 0 < result → IsCharBoundary text.now result }
+    ensures { 0 < result → PutsBit text.now at stop (string_bytes out.old)
+        (string_bytes out.new) result }
 {
     if out.push(' ').is_err() {
         return 0;
@@ -142,11 +138,8 @@ fn put_return(text: &str, at: usize, stop: usize, out: &mut String) -> usize
     requires here { slice_index text.now at ≡ 13 }
     requires before { at < stop }
     requires stop { IsCharBoundary text.now stop }
-    ensures value { 0 < result → (main : Bool) (es : List Entity)
-        → behind (string_bytes out.old) (reading.value_bit_at main es text.now stop at)
-        ≡ Ok (reading.bytes_of (string_bytes out.new), result) }
-    ensures place { 0 < result → (at < result) × (result ≤ stop) }
-    ensures cut { 0 < result → IsCharBoundary text.now result }
+    ensures { 0 < result → PutsBit text.now at stop (string_bytes out.old)
+        (string_bytes out.new) result }
 {
     let behind = at + 1;
     if is_at(&text[..stop], behind, b'\n') {
@@ -162,16 +155,10 @@ fn put_return(text: &str, at: usize, stop: usize, out: &mut String) -> usize
 /// nothing, or there is no memory.
 #[inline(always)]
 fn put_stretch(text: &str, at: usize, stop: usize, out: &mut String) -> usize
-    requires start { IsCharBoundary text.now at }
-    requires stop { IsCharBoundary text.now stop }
+    requires rest { IsValueRest text.now at stop }
     requires before { at < stop }
-    requires chars { AreChars text.now at stop }
-    requires apart { (k : ℕ) → at ≤ k → k < stop → (slice_index text.now k == 60) ≡ false }
-    ensures value { 0 < result → (main : Bool) (es : List Entity)
-        → behind (string_bytes out.old) (reading.value_bit_at main es text.now stop at)
-        ≡ Ok (reading.bytes_of (string_bytes out.new), result) }
-    ensures place { 0 < result → (at < result) × (result ≤ stop) }
-    ensures cut { 0 < result → IsCharBoundary text.now result }
+    ensures { 0 < result → PutsBit text.now at stop (string_bytes out.old)
+        (string_bytes out.new) result }
 {
     let end = skip_set::<StretchByte>(text, at).min(stop);
     if end == at || out.push_str(&text[at..end]).is_err() {
@@ -197,11 +184,8 @@ fn put_reference(text: &str, at: usize, stop: usize, out: &mut String) -> usize
     requires here { slice_index text.now at ≡ 38 }
     requires before { at < stop }
     requires within { stop ≤ length text.now }
-    ensures value { 0 < result → (main : Bool) (es : List Entity)
-        → behind (string_bytes out.old) (reading.value_bit_at main es text.now stop at)
-        ≡ Ok (reading.bytes_of (string_bytes out.new), result) }
-    ensures place { 0 < result → (at < result) × (result ≤ stop) }
-    ensures cut { 0 < result → IsCharBoundary text.now result }
+    ensures { 0 < result → PutsBit text.now at stop (string_bytes out.old)
+        (string_bytes out.new) result }
 {
     let mut cursor = Cursor::at(text, at);
     let Ok(Reference::Character(character)) = read_reference(&mut cursor) else {
@@ -220,16 +204,10 @@ fn put_reference(text: &str, at: usize, stop: usize, out: &mut String) -> usize
 /// the place behind that, or 0 where a reference stands that not all read alike, or there is no memory.
 #[inline(always)]
 fn put_bit(text: &str, at: usize, stop: usize, out: &mut String) -> usize
-    requires start { IsCharBoundary text.now at }
-    requires stop { IsCharBoundary text.now stop }
+    requires rest { IsValueRest text.now at stop }
     requires before { at < stop }
-    requires chars { AreChars text.now at stop }
-    requires apart { (k : ℕ) → at ≤ k → k < stop → (slice_index text.now k == 60) ≡ false }
-    ensures value { 0 < result → (main : Bool) (es : List Entity)
-        → behind (string_bytes out.old) (reading.value_bit_at main es text.now stop at)
-        ≡ Ok (reading.bytes_of (string_bytes out.new), result) }
-    ensures place { 0 < result → (at < result) × (result ≤ stop) }
-    ensures cut { 0 < result → IsCharBoundary text.now result }
+    ensures { 0 < result → PutsBit text.now at stop (string_bytes out.old)
+        (string_bytes out.new) result }
 {
     let here = text.as_bytes()[at];
     if here == b'\n' || here == b'\t' {
@@ -247,11 +225,7 @@ fn put_bit(text: &str, at: usize, stop: usize, out: &mut String) -> usize
 /// Appends what the value's text from `start` up to `stop` stands for, if all read it alike, and there is memory for it.
 #[inline(always)]
 fn put_spaced(text: &str, start: usize, stop: usize, out: &mut String) -> bool
-    requires start { IsCharBoundary text.now start }
-    requires stop { IsCharBoundary text.now stop }
-    requires onward { start ≤ stop }
-    requires chars { AreChars text.now start stop }
-    requires apart { (k : ℕ) → start ≤ k → k < stop → (slice_index text.now k == 60) ≡ false }
+    requires { IsValueRest text.now start stop }
     ensures { result ≡ true
         → (main : Bool) (es : List Entity) (opener : reading.ValueInclusion) (openings_left : ℕ)
         (bits : ℕ) → stop - start ≤ bits → text_behind (string_bytes out.old)

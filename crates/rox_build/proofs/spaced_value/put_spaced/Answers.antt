@@ -13,6 +13,18 @@ bits-init c = record {
   reads = λ bits enough. (bits, (enough, λ main es opener openings_left. refl));
 }
 
+pub put_bit-behind-requires-clause-rest : goal.put_bit-behind-requires-clause-rest
+put_bit-behind-requires-clause-rest c =
+    let v = c.bits.invariant in
+    let from = v.onward in
+    record {
+      start = v.cut;
+      stop = c.requires.stop;
+      onward = v.within;
+      chars = v.chars;
+      apart = λ k low high. c.requires.apart k (omega arith) high;
+    }
+
 pub returns : goal.returns
 returns c = λ done main es opener openings_left bits enough.
     let l = c.bits in
@@ -28,17 +40,17 @@ bits-preserved c =
     let n = c.put_bit-behind.result in
     let zero = c.if-behind-eq0.false in
     let some : 0 < n = omega arith in
-    let b = c.put_bit-behind.ensures in
-    let place = b.place some in
+    let b = c.put_bit-behind.ensures some in
+    let place = b.place in
     let low = place.0 in
     let high = place.1 in
     let from = v.onward in
     let more = c.bits-test.true in
     record {
-      cut = b.cut some;
+      cut = b.cut;
       onward = omega arith;
       within = high;
-      chars = (chars_parted src l.at n stop c.utf8.text v.cut (b.cut some) c.requires.stop (omega arith) high v.chars).1;
+      chars = (chars_parted src l.at n stop c.utf8.text v.cut (b.cut) c.requires.stop (omega arith) high v.chars).1;
       reads = λ bits enough.
           let r = v.reads bits enough in
           let left = r.0 in
@@ -48,7 +60,7 @@ bits-preserved c =
             (
               omega arith,
               λ main es opener openings_left.
-                  value_more main es opener openings_left (string_bytes l.out) _ left (left - 1) src stop l.at n one more (b.value some main es)
+                  value_more main es opener openings_left (string_bytes l.out) _ left (left - 1) src stop l.at n one more (b.value main es)
                   ∙ r.1.1 main es opener openings_left,
             ),
           );

@@ -11,20 +11,20 @@ range-requires-clause-end_boundary c =
     let more : c.args.first < length c.args.text.now = omega arith in
     special_cut c.args.text.now c.args.first more (c.requires.front.stops more)
 
-pub put_spaced-requires-clause-start : goal.put_spaced-requires-clause-start
-put_spaced-requires-clause-start c =
-    let within = c.requires.stop.0 in
-    let less = c.requires.before in
-    let more : c.args.first < length c.args.text.now = omega arith in
-    special_cut c.args.text.now c.args.first more (c.requires.front.stops more)
-
-pub put_spaced-requires-clause-chars : goal.put_spaced-requires-clause-chars
-put_spaced-requires-clause-chars c =
+pub put_spaced-requires : goal.put_spaced-requires
+put_spaced-requires c =
     let within = c.requires.stop.0 in
     let less = c.requires.before in
     let more : c.args.first < length c.args.text.now = omega arith in
     let mid = special_cut c.args.text.now c.args.first more (c.requires.front.stops more) in
-    (chars_parted c.args.text.now c.args.start c.args.first c.args.stop c.utf8.text c.requires.start mid c.requires.stop c.requires.front.onward (omega arith) c.requires.chars).1
+    let from = c.requires.front.onward in
+    record {
+      start = mid;
+      stop = c.requires.stop;
+      onward = omega arith;
+      chars = (chars_parted c.args.text.now c.args.start c.args.first c.args.stop c.utf8.text c.requires.start mid c.requires.stop from (omega arith) c.requires.chars).1;
+      apart = λ k low high. c.requires.apart k (omega arith) high;
+    }
 
 pub returns : goal.returns
 returns c = λ main es opener openings_left.
