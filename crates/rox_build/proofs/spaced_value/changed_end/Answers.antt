@@ -1,4 +1,4 @@
-use Rattle.std.proofs.Common.{◌≡◌, ◌<◌, ℕ, List, false, get_or, refl, ap, ◌∙◌, arith}
+use Rattle.std.proofs.Common.{rules, ◌≡◌, ◌<◌, ℕ, List, false, get_or, refl, ap, ◌∙◌, arith}
 use Rattle.std.proofs.lemmas.Bool.{ne_eqb}
 use Rattle.rox_scan.specs.Lookahead.{ends_value}
 use Rattle.rox_build.proofs.SpacedEnds.{spaced_near, spaced_on}
@@ -9,8 +9,8 @@ loop-end-init c =
     let n = c.skip_set-end.ensures in
     record { looked = spaced_near c.args.text.now c.args.quote c.args.start _ c.utf8.text c.requires.quote c.requires.cut n.onward n.within n.passes n.stops }
 
-pub after_char-next-requires-clause-cut : goal.after_char-next-requires-clause-cut
-after_char-next-requires-clause-cut c = c.loop-end.invariant.looked.cut
+pub after_char-next-requires : goal.after_char-next-requires
+after_char-next-requires c = record { cut = c.loop-end.invariant.looked.cut; within = search rules }
 
 pub loop-end-preserved : goal.loop-end-preserved
 loop-end-preserved c =
