@@ -1,7 +1,10 @@
 -- Which codes of names were seen.
-use Rattle.std.proofs.Common.{◌≡◌, ℕ, ◌+◌, ◌<◌, ◌≤◌, ◌∷◌, ◌++◌, [], List, Bool, true, false, length, length-append, set, get_or, drop, bytes_eq, ◌&&◌, refl, sym, ap, ◌∙◌, subst, inl, inr, arith}
+use Rattle.std.proofs.Common.{◌≡◌, ℕ, ◌+◌, ◌<◌, ◌≤◌, ◌∷◌, ◌++◌, [], List, Bool, true, false, length, length-append, set, get_or, drop, bytes_eq, ◌&&◌, ◌*◌, ◌/◌, ◌%◌, ◌^◌, eqb, refl, sym, ap, ◌∙◌, subst, inl, inr, arith}
 use Rattle.std.specs.List.{AllByRecursion, list_any}
 use Rattle.std.proofs.lemmas.Bool.{cases_eq}
+use Rattle.std.specs.Int.{bit_at, w64}
+use Rattle.std.specs.Int.Bits.{bit_and, bit_or}
+use Rattle.std.proofs.lemmas.Nat.Bits.{shr_and_one, bit_at_set_same, bit_at_set_other}
 use Rattle.std.proofs.lemmas.List.{get_or-set_same, get_or-set_other}
 use Rattle.std.proofs.lemmas.List.{drop-append-le}
 use Rattle.std.proofs.Math.ListN.{drop_of_length-le}
@@ -17,32 +20,41 @@ use Rattle.rox_tables.specs.declared.namespaces.seen_names.SeenNames.{SeenNames}
 use Rattle.rox_tables.specs.SeenNames.{name_code, HasCode, HasNameOf, HaveCodes, AreSeen, SeesName}
 use Rattle.rox_tables.proofs.Stable.{all_append, all_weaker}
 
--- a code that was not put is not there
-pub not_there : (codes : List Bool) (code : ℕ) → get_or codes code false ≡ false → HasCode codes code → ⊥
+-- a code whose bit is clear is not there
+pub not_there : (codes : List ℕ) (code : ℕ) → eqb (bit_and (get_or codes (code / 64) 0 / 2 ^ (code % 64)) 1) 1 ≡ false → HasCode codes code → ⊥
 unfolding HasCode
-not_there codes code clear has = cc (clear, has)
+not_there codes code clear has =
+    let set : bit_and (get_or codes (code / 64) 0 / 2 ^ (code % 64)) 1 ≡ 1 = shr_and_one (get_or codes (code / 64) 0) (code % 64) ∙ has in
+    cc (clear, ap (λ b. eqb b 1) set)
 
-module _ (codes : List Bool) (code : ℕ) where
-  abbrev pub more : List Bool
-  more = set codes code true
+module _ (codes : List ℕ) (code : ℕ) where
+  abbrev word : ℕ
+  word = get_or codes (code / 64) 0
+
+  -- its bit is set
+  abbrev pub more : List ℕ
+  more = set codes (code / 64) (bit_or word (1 * 2 ^ (code % 64) % 2 ^ 64))
 
   -- a code that is put is there
-  pub put_there : code < length codes → HasCode more code
+  pub put_there : code / 64 < length codes → HasCode more code
   unfolding HasCode
-  put_there within = get_or-set_same codes code true false within
+  put_there within = ap (λ w. bit_at w (code % 64)) (get_or-set_same codes (code / 64) _ 0 within) ∙ bit_at_set_same w64 word (code % 64) (omega arith)
 
   -- and those that were there stay
-  pub stays_there : code < length codes → (other : ℕ) → HasCode codes other → HasCode more other
+  pub stays_there : code / 64 < length codes → (other : ℕ) → HasCode codes other → HasCode more other
   unfolding HasCode
-  stays_there within other has = elim (cases_eq other code) [
-    | inl same ↦ ap (λ n. get_or more n false) same ∙ get_or-set_same codes code true false within
-    | inr apart ↦ get_or-set_other codes code other true false apart ∙ has
+  stays_there within other has = elim (cases_eq (other / 64) (code / 64)) [
+    | inl same ↦ elim (cases_eq (other % 64) (code % 64)) [
+      | inl bit ↦ ap (λ n. bit_at (get_or more n 0) (other % 64)) same ∙ ap (bit_at (get_or more (code / 64) 0)) bit ∙ put_there within
+      | inr differ ↦ ap (λ n. bit_at (get_or more n 0) (other % 64)) same ∙ ap (λ w. bit_at w (other % 64)) (get_or-set_same codes (code / 64) _ 0 within) ∙ bit_at_set_other w64 word (code % 64) (omega arith) (other % 64) differ ∙ ap (λ n. bit_at (get_or codes n 0) (other % 64)) (sym same) ∙ has
+    ]
+    | inr apart ↦ ap (λ w. bit_at w (other % 64)) (get_or-set_other codes (code / 64) (other / 64) _ 0 apart) ∙ has
   ]
 
 -- ---- attributes whose names were seen
 
 -- a name with another code is not that of one of them
-other_code : (codes : List Bool) (xs ys : List ℕ) → HasCode codes (name_code xs) → (HasCode codes (name_code ys) → ⊥) → (b : Bool) → bytes_eq xs ys ≡ b → b ≡ false
+other_code : (codes : List ℕ) (xs ys : List ℕ) → HasCode codes (name_code xs) → (HasCode codes (name_code ys) → ⊥) → (b : Bool) → bytes_eq xs ys ≡ b → b ≡ false
 other_code codes xs ys has fresh false is = refl
 other_code codes xs ys has fresh true is = absurd (fresh (subst (λ zs. HasCode codes (name_code zs)) ((bytes_eq-Decides xs ys).0 is) has))
 
@@ -51,7 +63,7 @@ neither true b h = h
 neither false b h = refl
 
 -- so none has it
-pub none_has : (namespaces : List NamespaceDecl) (s : AttributeNamespace) (local : List ℕ) (codes : List Bool) (done : List StoredAttribute)
+pub none_has : (namespaces : List NamespaceDecl) (s : AttributeNamespace) (local : List ℕ) (codes : List ℕ) (done : List StoredAttribute)
     → AllByRecursion (λ a. HasNameOf codes (data_of a)) done → (HasCode codes (name_code local) → ⊥)
     → list_any (λ a. has_expanded namespaces s local (data_of a)) done ≡ false
 none_has namespaces s local codes [] h fresh = refl
@@ -100,7 +112,7 @@ pub one_seen : (seen : SeenNames) (rows : List AttributeRow) → seen.from ≤ l
 one_seen seen rows within few = record { from = within; codes = λ more. absurd (omega (arith, few, more)) }
 
 -- no row has a name whose code was not seen
-pub none_rows : (namespaces : List NamespaceDecl) (s : AttributeNamespace) (local : List ℕ) (codes : List Bool) (rows : List AttributeRow)
+pub none_rows : (namespaces : List NamespaceDecl) (s : AttributeNamespace) (local : List ℕ) (codes : List ℕ) (rows : List AttributeRow)
     → AllByRecursion (λ (a : AttributeRow). HasNameOf codes a.0) rows → (HasCode codes (name_code local) → ⊥)
     → list_any (λ (r : AttributeRow). has_expanded namespaces s local r.0) rows ≡ false
 none_rows namespaces s local codes [] h fresh = refl
@@ -114,5 +126,5 @@ same_seen old new rows codes from seen = record {
   from = omega (arith, from, seen.from);
   codes = λ more.
       subst (λ (n : ℕ). AllByRecursion (λ (a : AttributeRow). HasNameOf new.codes a.0) (drop n rows)) (sym from)
-      (subst (λ (cs : List Bool). AllByRecursion (λ (a : AttributeRow). HasNameOf cs a.0) (drop old.from rows)) (sym codes) (seen.codes (omega (arith, more, from))));
+      (subst (λ (cs : List ℕ). AllByRecursion (λ (a : AttributeRow). HasNameOf cs a.0) (drop old.from rows)) (sym codes) (seen.codes (omega (arith, more, from))));
 }

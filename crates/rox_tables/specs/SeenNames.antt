@@ -1,7 +1,7 @@
 -- The codes of local names, and which were seen.
 use Rattle.std.specs.Prelude.{◌≡◌, ◌<◌, ◌≤◌, ℕ, ◌+◌, ◌*◌, ◌-◌, ◌/◌, ◌%◌, ◌^◌, Bool, true, false, List, get_or, if◌then◌else◌, drop, leb, eqb, length, slice_index, slice_range}
 use Rattle.std.specs.List.{AllByRecursion}
-use Rattle.std.specs.Int.{w32, from_le_bytes}
+use Rattle.std.specs.Int.{w32, from_le_bytes, bit_at}
 use Rattle.rox_tables.specs.Rows.{AttributeRow, NamespaceWithin}
 use Rattle.rox_tables.specs.declared.namespaces.seen_names.SeenNames.{SeenNames}
 use Rattle.rox_tables.specs.declared.rows.tables.AttributeData.{AttributeData}
@@ -15,14 +15,14 @@ name_sum local = if leb 4 (length local)
 
 -- the code of a local name
 unfoldable pub name_code : List ℕ → ℕ
-name_code local = name_sum local * 11400714819323198485 % 2 ^ 64 / 2 ^ 56
+name_code local = name_sum local * 11400714819323198485 % 2 ^ 64 / 2 ^ 54
 
--- this code was seen
-unfoldable pub HasCode : List Bool → ℕ → Type 0
-HasCode codes code = get_or codes code false ≡ true
+-- this code was seen: each word has 64 of them
+unfoldable pub HasCode : List ℕ → ℕ → Type 0
+HasCode codes code = bit_at (get_or codes (code / 64) 0) (code % 64) ≡ 1
 
 -- the code of an attribute's local name was seen
-abbrev pub HasNameOf : List Bool → AttributeData → Type 0
+abbrev pub HasNameOf : List ℕ → AttributeData → Type 0
 HasNameOf codes a = HasCode codes (name_code a.local.now)
 
 -- the attributes of the tag, which are the last of these rows, have codes that were seen

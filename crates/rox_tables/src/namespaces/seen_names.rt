@@ -1,6 +1,6 @@
 //! Which local names the attributes of a tag have had: a filter that spares most of them from being compared with those before.
 
-ghost use Rattle.std.specs.Prelude.{◌≡◌, ◌+◌, ◌<◌, ◌++◌, ◌∷◌, [], List, false, drop};
+ghost use Rattle.std.specs.Prelude.{◌≡◌, ◌+◌, ◌<◌, ◌≤◌, length, ◌++◌, ◌∷◌, [], List, false, drop};
 ghost use Rattle.std.specs.List.{list_any};
 ghost use Rattle.rox_grammar.specs.Written.{NamespaceDecl};
 ghost use Rattle.rox_tables.specs.Rows.{AttributeRow, attribute_rows};
@@ -17,7 +17,8 @@ use crate::rows::recent_texts::Recent;
 #[derive(Drop)]
 pub struct SeenNames {
     pub from: usize,
-    pub codes: [bool; 256],
+    /// A bit for each code.
+    pub codes: [u64; CODES / WIDTH],
     /// How many of them came again.
     pub again: usize,
     /// Where a prefix was found last, among the places of its scope.
@@ -30,7 +31,10 @@ pub struct SeenNames {
 const MOST_AGAIN: usize = 32;
 
 /// How many codes there are.
-const CODES: usize = 256;
+const CODES: usize = 1024;
+
+/// How many codes a word has.
+const WIDTH: usize = 64;
 
 /// Up to so many attributes of a tag have no codes yet: most tags have no more.
 const WITHOUT_CODES: usize = 2;
@@ -62,9 +66,9 @@ fn name_sum(bytes: &[u8]) -> u64
 #[tactic(auto, unfolding(crate::specs::SeenNames::name_code))]
 fn name_code(local: &str) -> usize
     ensures is { result ≡ name_code local.now }
-    ensures within { result < 256 }
+    ensures within { result < 1024 }
 {
-    (name_sum(local.as_bytes()).wrapping_mul(SCATTER) >> 56) as usize
+    (name_sum(local.as_bytes()).wrapping_mul(SCATTER) >> 54) as usize
 }
 
 impl SeenNames {
@@ -75,7 +79,7 @@ impl SeenNames {
     {
         SeenNames {
             from,
-            codes: [false; CODES],
+            codes: [0; CODES / WIDTH],
             again: 0,
             near: 0,
             values: None,
@@ -98,30 +102,41 @@ impl SeenNames {
         ensures sees { SeesName self.old self.new local.now }
     {
         let code = name_code(local);
-        let came = self.codes[code];
-        self.codes[code] = true;
-        came
+        let bits = self.codes[code / WIDTH];
+        let bit = code % WIDTH;
+        self.codes[code / WIDTH] = bits | (1 << bit);
+        (bits >> bit) & 1 == 1
     }
 
-    /// Puts the names of the attributes of the tag there, and those alone, if they have no codes yet. It is out of line, so that what
-    /// reads an attribute stays small enough to be in line.
+    /// Puts the names of the attributes of the tag there, and those alone. They are few.
+    #[cold]
     #[inline(never)]
-    pub(crate) fn put_few(&mut self, attributes: &AttributeTable<'_>)
-        requires { AreSeen self.old (attribute_rows attributes.now) }
+    fn put_first(&mut self, attributes: &AttributeTable<'_>)
+        requires from { self.old.from ≤ length (attribute_rows attributes.now) }
+        requires few { length (attribute_rows attributes.now) ≤ self.old.from + 2 }
         ensures coded { HaveCodes self.new (attribute_rows attributes.now) }
         ensures from { self.new.from ≡ self.old.from }
     {
         let count = attributes.items.len() - self.from;
-        if count > WITHOUT_CODES {
-            return;
-        }
-        self.codes = [false; CODES];
+        self.codes = [0; CODES / WIDTH];
         if count == 0 {
             return;
         }
         self.put(attributes.items[self.from].local);
         if count == WITHOUT_CODES {
             self.put(attributes.items[self.from + 1].local);
+        }
+    }
+
+    /// The same if they have no codes yet, which is so once in a tag.
+    #[inline(always)]
+    pub(crate) fn put_few(&mut self, attributes: &AttributeTable<'_>)
+        requires { AreSeen self.old (attribute_rows attributes.now) }
+        ensures coded { HaveCodes self.new (attribute_rows attributes.now) }
+        ensures from { self.new.from ≡ self.old.from }
+    {
+        if attributes.items.len() - self.from <= WITHOUT_CODES {
+            self.put_first(attributes);
         }
     }
 
