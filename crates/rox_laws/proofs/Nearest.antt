@@ -226,7 +226,7 @@ listed_by_none (tree.PI start end target value) p h = refl
 module _ (src : List ℕ) (tops : Forest Item) (tree : Forest Node) (shown : tree ≡ document_tree (length src) tops) where
   pub found_is_nearest : {dtd : Bool} {asked : List Asked} → ParseOf src dtd asked tops → (id : ℕ) (p : Option (List ℕ)) (u : List ℕ) → IsElementAt tree id → p ≢ xml → (listed_uri tree id p ≡ Some u) ↔ IsNearest tops tree id p u
   found_is_nearest parse id p u =
-      subst (λ (t : Forest Node). IsElementAt t id → p ≢ xml → (listed_uri t id p ≡ Some u) ↔ IsNearest tops t id p u) (sym shown) (found_in (length src) tops parse.well_named id p u)
+      subst (λ (t : Forest Node). IsElementAt t id → p ≢ xml → (listed_uri t id p ≡ Some u) ↔ IsNearest tops t id p u) (sym shown) (found_in (length src) tops parse.whole.well_named id p u)
 
   pub none_is_declared : (id : ℕ) (p : Option (List ℕ)) → IsElementAt tree id → p ≢ xml → (listed_uri tree id p ≡ None) ↔ NoneDeclares tops p (upwards tree id)
   none_is_declared id p =

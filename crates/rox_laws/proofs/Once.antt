@@ -105,4 +105,4 @@ resolved_distinct above (Cons (written.PI a e t o) c r) once h = ((tt, tt), reso
 -- in a document
 pub names_distinct : {dtd : Bool} {asked : List Asked} (src : List ℕ) (limit : ℕ) (tree : Forest Node) → IsTreeOf src dtd asked limit tree → NamesDistinct tree
 names_distinct src limit tree h =
-    subst (λ (f : Forest Node). NamesDistinct f) (sym h.shown) ((tt, tt), resolved_distinct [] h.written tt h.parse.well_named, tt)
+    subst (λ (f : Forest Node). NamesDistinct f) (sym h.shown) ((tt, tt), resolved_distinct [] h.written tt h.parse.whole.well_named, tt)

@@ -98,8 +98,8 @@ lacks_placed src p t f fits (due.IsMissing.ends_before _ by_byte end) = tt
 module _ (src : List ℕ) (utf8 : IsUtf8 src) where
   -- in a text that begins within the source
   text_fits : (w : Word) (s p : ℕ) (t : DueItem) → s ≤ length src → DueInText w src s p t → Fits src t p
-  text_fits w s p t inside due.DueInText.its_chars = tt
-  text_fits w s p t inside (due.DueInText.its_end chars) = first_le w src s inside
+  text_fits w s p t le due.DueInText.its_chars = tt
+  text_fits w s p t le (due.DueInText.its_end chars) = first_le w src s le
 
   -- behind the name of an instruction, and the white space there
   spaces_inside : (i n : ℕ) → at word.PIStart src i ≡ true → IsName src (i + 2) n → spaces_end src n ≤ length src
