@@ -7,7 +7,7 @@ use Rattle.rox_grammar.specs.declared.fault.Due.{Due}
 use Rattle.rox_grammar.specs.declared.fault.Due.TheVariants as due
 use Rattle.rox_grammar.specs.declared.fault.Fault.{Fault}
 use Rattle.rox_grammar.specs.declared.fault.Fault.TheVariants as fault
-use Rattle.rox_grammar.specs.FixedTexts.{word_text}
+use Rattle.rox_grammar.specs.ExpectedTexts.{expected_text}
 use Rattle.rox_grammar.specs.Positions.{row_of, col_of}
 use Rattle.rox_grammar.specs.Spans.{IsTextSpan}
 use Rattle.rox_error.specs.declared.position.TextPos.{TextPos}
@@ -69,7 +69,7 @@ IsErrorOf src (fault.InvalidChar expected actual at) e = e ≡ error.InvalidChar
 IsErrorOf src (fault.InvalidChar2 expected actual at) e =
     (words : Bor (List ℕ)) × (words.now ≡ due_text expected) × (e ≡ error.InvalidChar2 words actual (position_at src at))
 IsErrorOf src (fault.InvalidString expected at) e =
-    (words : Bor (List ℕ)) × (words.now ≡ word_text expected) × (e ≡ error.InvalidString words (position_at src at))
+    (words : Bor (List ℕ)) × (words.now ≡ expected_text expected) × (e ≡ error.InvalidString words (position_at src at))
 IsErrorOf src (fault.InvalidExternalID at) e = e ≡ error.InvalidExternalID (position_at src at)
 IsErrorOf src (fault.InvalidComment at) e = e ≡ error.InvalidComment (position_at src at)
 IsErrorOf src (fault.InvalidCharacterData at) e = e ≡ error.InvalidCharacterData (position_at src at)

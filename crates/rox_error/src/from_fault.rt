@@ -1,13 +1,13 @@
 //! From a fault of a source to the error that is told of it.
 
 ghost use Rattle.std.specs.Prelude.{◌≡◌, IfOk, MatchResult};
-ghost use Rattle.rox_grammar.specs.FixedTexts.{word_text};
+ghost use Rattle.rox_grammar.specs.ExpectedTexts.{expected_text};
 ghost use Rattle.rox_error.specs.declared.error.Error.TheVariants as error;
 ghost use Rattle.rox_error.specs.FaultErrors.{due_text, position_at, Names, IsErrorOf};
 
 use crate::error::Error;
 use crate::position::{TextPos, text_pos_at};
-use rox_grammar::fault::{Due, Fault, Span, Word};
+use rox_grammar::fault::{Due, Expected, Fault, Span};
 use std::alloc::{AllocError, Global};
 use std::str;
 
@@ -130,8 +130,8 @@ fn due_words(due: Due) -> &'static str
 }
 
 /// The fixed text that was due.
-fn fixed_text(word: Word) -> &'static str
-    ensures { result.now ≡ word_text word }
+fn fixed_text(expected: Expected) -> &'static str
+    ensures { result.now ≡ expected_text expected }
 {
-    str::from_utf8(word.text()).unwrap()
+    str::from_utf8(expected.text()).unwrap()
 }

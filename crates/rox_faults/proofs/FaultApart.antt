@@ -3,15 +3,18 @@ use Rattle.std.proofs.Common.{◌≡◌, ℕ, ◌+◌, ◌-◌, ◌<◌, ◌⊎�
 use Rattle.std.specs.Str.{IsUtf8, IsCharBoundary}
 use Rattle.std.proofs.lemmas.Bool.{true≢false}
 use Rattle.rox_grammar.specs.declared.fault.Fault.{Fault}
-use Rattle.rox_grammar.specs.declared.fault.Word.{Word}
+use Rattle.rox_grammar.specs.declared.fault.Expected.{Expected}
 use Rattle.rox_grammar.specs.declared.fault.Word.TheVariants as word
-use Rattle.rox_grammar.specs.FixedTexts.{word_text, at, first}
+use Rattle.rox_grammar.specs.declared.fault.Expected.TheVariants as expected
+use Rattle.rox_grammar.specs.FixedTexts.{word_text, at}
+use Rattle.rox_grammar.specs.ExpectedTexts.{expected_text}
+use Rattle.rox_grammar.specs.Search.{stands, mark_from}
 use Rattle.rox_grammar.specs.Chars.{is_char, is_space, is_name_char}
 use Rattle.rox_grammar.specs.Written.{Name, Item}
 use Rattle.rox_grammar.specs.Names.{byte, slice, spaces_end, IsName, IsQName}
 use Rattle.rox_grammar.specs.Constructs.{double_dash, has_mark, AreChars, IsComment, IsPI}
 use Rattle.rox_grammar.specs.Content.{IsMisc, comment, instruction}
-use Rattle.rox_grammar.specs.Due.{DueItem, a_name, a_qname, a_byte, a_word, chars_to, IsMissing, no_name, no_qname, other_byte, other_word, no_char, ends_before, DueInText, DueInPI, none_of}
+use Rattle.rox_grammar.specs.Due.{DueItem, a_name, a_qname, a_byte, a_text, chars_to, IsMissing, no_name, no_qname, other_byte, other_text, no_char, ends_before, DueInText, DueInPI, none_of}
 use Rattle.rox_faults.proofs.DueForms.{a_space}
 use Rattle.rox_grammar.specs.Due as due
 use Rattle.rox_grammar.specs.Faults.{InMisc, comment_lacks, double_dashes, a_declaration, instruction_lacks}
@@ -53,8 +56,8 @@ byte_stands src b q f some is (other_byte _ below apart) = apart is
 byte_stands src b q f some is (ends_before _ byte' past) = let l = within src q (λ z. omega arith) in absurd (omega arith)
 
 -- a fixed text
-pub word_stands : (src : List ℕ) (w : Word) (q : ℕ) (f : Fault) → at w src q ≡ true → IsMissing src q (a_word w) f → ⊥
-word_stands src w q f is (other_word _ none) = true≢false (sym is ∙ none)
+pub word_stands : (src : List ℕ) (w : Expected) (q : ℕ) (f : Fault) → stands (expected_text w) src q ≡ true → IsMissing src q (a_text w) f → ⊥
+word_stands src w q f is (other_text _ none) = true≢false (sym is ∙ none)
 word_stands src w q f is (ends_before _ byte' past) = cc byte'
 
 module _ (src : List ℕ) (utf8 : IsUtf8 src) where
@@ -70,19 +73,19 @@ module _ (src : List ℕ) (utf8 : IsUtf8 src) where
   chars_stand i e f cut end are (ends_before _ byte' past) = cc byte'
 
   -- a text up to a fixed one
-  pub text_stands : (w : Word) (s e q : ℕ) (t : DueItem) (f : Fault) → IsCharBoundary src s → IsCharBoundary src (first w src s) → e ≡ first w src s → AreChars src s e → at w src e ≡ true
+  pub text_stands : (w : Expected) (s e q : ℕ) (t : DueItem) (f : Fault) → IsCharBoundary src s → IsCharBoundary src (mark_from (expected_text w) src s) → e ≡ mark_from (expected_text w) src s → AreChars src s e → stands (expected_text w) src e ≡ true
       → DueInText w src s q t → IsMissing src q t f → ⊥
-  text_stands w s e q t f cut end is chars closes due.DueInText.its_chars lack = chars_stand s (first w src s) f cut end (subst (λ (e : ℕ). AreChars src s e) is chars) lack
-  text_stands w s e q t f cut end is chars closes (due.DueInText.its_end _) lack = word_stands src w (first w src s) f (subst (λ (e : ℕ). at w src e ≡ true) is closes) lack
+  text_stands w s e q t f cut end is chars closes due.DueInText.its_chars lack = chars_stand s (mark_from (expected_text w) src s) f cut end (subst (λ (e : ℕ). AreChars src s e) is chars) lack
+  text_stands w s e q t f cut end is chars closes (due.DueInText.its_end _) lack = word_stands src w (mark_from (expected_text w) src s) f (subst (λ (e : ℕ). stands (expected_text w) src e ≡ true) is closes) lack
 
   -- ---- comments and processing instructions
 
   -- in a comment
-  comment_apart : (i e j q : ℕ) (t : DueItem) (f : Fault) → IsComment src i e j → DueInText word.CommentEnd src (i + 4) q t → IsMissing src q t f → ⊥
+  comment_apart : (i e j q : ℕ) (t : DueItem) (f : Fault) → IsComment src i e j → DueInText expected.CommentEnd src (i + 4) q t → IsMissing src q t f → ⊥
   comment_apart i e j q t f is due' lack =
       let three : i + 3 + 1 ≡ i + 4 = omega arith in
       let cut = subst (IsCharBoundary src) three (behind word.CommentStart src i 3 45 utf8 is.opens (omega arith) refl (omega arith) (omega arith)) in
-      text_stands word.CommentEnd (i + 4) e q t f cut (mark_cut (word_text word.CommentEnd) 45 (45 ∷ 62 ∷ []) src (i + 4) refl (omega arith) cut.0) is.end is.chars is.closes due' lack
+      text_stands expected.CommentEnd (i + 4) e q t f cut (mark_cut (word_text word.CommentEnd) 45 (45 ∷ 62 ∷ []) src (i + 4) refl (omega arith) cut.0) is.end is.chars is.closes due' lack
 
   -- in an instruction: its name ends in one place
   instruction_apart : (i n e j q : ℕ) (t : DueItem) (f : Fault) → IsPI src i n e j → DueInPI src i q t → IsMissing src q t f → ⊥
@@ -93,8 +96,8 @@ module _ (src : List ℕ) (utf8 : IsUtf8 src) where
       let v = spaces_end src n in
       let at_value : IsCharBoundary src v = run_cut is_space src n utf8 (subst (IsCharBoundary src) (sym is.target.longest) (run_cut is_name_char src (i + 2) utf8 cut)) in
       let same : m ≡ n = name.longest ∙ sym is.target.longest in
-      text_stands word.PIEnd v e q t f at_value (mark_cut (word_text word.PIEnd) 63 (62 ∷ []) src v refl (omega arith) at_value.0) is.end is.chars is.closes
-      (subst (λ (m : ℕ). DueInText word.PIEnd src (spaces_end src m) q t) same value) lack
+      text_stands expected.PIEnd v e q t f at_value (mark_cut (word_text word.PIEnd) 63 (62 ∷ []) src v refl (omega arith) at_value.0) is.end is.chars is.closes
+      (subst (λ (m : ℕ). DueInText expected.PIEnd src (spaces_end src m) q t) same value) lack
 
   -- one of both begins where a fault of them stands
   pub misc_begins : (i : ℕ) (f : Fault) → InMisc src i f → (at word.CommentStart src i ≡ true) ⊎ (at word.PIStart src i ≡ true)

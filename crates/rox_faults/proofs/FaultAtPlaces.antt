@@ -6,6 +6,7 @@ use Rattle.std.proofs.lemmas.Str.{IsCharBoundary-before_ascii, IsCharBoundary-en
 use Rattle.std.proofs.lemmas.Bool.{true≢false, cases_Bool, lt-leb, le-leb, eq-eqb, eqb-true, ne_eqb}
 use Rattle.rox_grammar.specs.declared.fault.Fault.{Fault}
 use Rattle.rox_grammar.specs.declared.fault.Word.TheVariants as word
+use Rattle.rox_grammar.specs.declared.fault.Expected.TheVariants as expected
 use Rattle.rox_grammar.specs.FixedTexts.{word_text, at}
 use Rattle.rox_grammar.specs.Search.{byte_from}
 use Rattle.rox_grammar.specs.Forest.{Forest, Nil, join}
@@ -123,13 +124,13 @@ module _ (opens : ℕ → Inclusion) (es : List Entity) (all : OpensAt opens es)
         spent_apart k c x.1 x.4 spent
 
     -- in a CDATA section
-    section_apart : (q : ℕ) (t : DueItem) (f : Fault) → at word.CDataStart src s.at ≡ true → DueInText word.CDataEnd src (s.at + 9) q t → IsMissing src q t f → ⊥
+    section_apart : (q : ℕ) (t : DueItem) (f : Fault) → at word.CDataStart src s.at ≡ true → DueInText expected.CDataEnd src (s.at + 9) q t → IsMissing src q t f → ⊥
     section_apart q t f opens' due' lack =
         let below : s.at < length src = let two = (cdata_bytes src s.at opens').0 in omega arith in
         let is = (there_by opens es all limit W k open_around src here r a_cdata below (cdata_kind src s.at opens')).2 in
         let eight : s.at + 8 + 1 ≡ s.at + 9 = omega arith in
         let cut = subst (IsCharBoundary src) eight (behind word.CDataStart src s.at 8 91 r.utf8 opens' (omega arith) refl (omega arith) (omega arith)) in
-        text_stands src r.utf8 word.CDataEnd (s.at + 9) _ q t f cut (mark_cut (word_text word.CDataEnd) 93 (93 ∷ 62 ∷ []) src (s.at + 9) refl (omega arith) cut.0) is.end is.chars is.closes due' lack
+        text_stands src r.utf8 expected.CDataEnd (s.at + 9) _ q t f cut (mark_cut (word_text word.CDataEnd) 93 (93 ∷ 62 ∷ []) src (s.at + 9) refl (omega arith) cut.0) is.end is.chars is.closes due' lack
 
     -- in a comment or an instruction
     item_there : (at word.CommentStart src s.at ≡ true) ⊎ (at word.PIStart src s.at ≡ true) → (j : ℕ) × (item : Item) × IsMisc src s.at j item

@@ -5,13 +5,14 @@ use Rattle.std.proofs.lemmas.Bool.{true≢false}
 use Rattle.rox_grammar.specs.declared.fault.Fault.{Fault}
 use Rattle.rox_grammar.specs.declared.fault.Word.{Word}
 use Rattle.rox_grammar.specs.declared.fault.Word.TheVariants as word
+use Rattle.rox_grammar.specs.declared.fault.Expected.TheVariants as expected
 use Rattle.rox_grammar.specs.Chars.{is_space}
 use Rattle.rox_grammar.specs.Written.{Name}
 use Rattle.rox_grammar.specs.Names.{byte, spaces_end, IsQName}
 use Rattle.rox_grammar.specs.FixedTexts.{word_text, at}
 use Rattle.rox_grammar.specs.Constructs.{AreChars, IsEq, IsLiteral, IsPair, IsGap, some_space, MayBePair, is_pair, no_pair, MayEndPair, is_last, no_last, IsXmlDecl}
 use Rattle.rox_grammar.specs.Constructs as constructs
-use Rattle.rox_grammar.specs.Due.{DueItem, a_byte, a_gap, a_word, chars_to, IsMissing, no_gap, ends_before, DueInPair, its_name, equals, opening, its_value, closing, value_end, PairBegins, version, encoding, standalone, DueInXmlDecl, its_version, in_pair, behind_pair, none_of}
+use Rattle.rox_grammar.specs.Due.{DueItem, a_byte, a_gap, a_text, chars_to, IsMissing, no_gap, ends_before, DueInPair, its_name, equals, opening, its_value, closing, value_end, PairBegins, version, encoding, standalone, DueInXmlDecl, its_version, in_pair, behind_pair, none_of}
 use Rattle.rox_faults.proofs.DueForms.{a_quote, quote_is}
 use Rattle.rox_grammar.specs.Due as due
 use Rattle.rox_reading.specs.Lexical.{qname_at}
@@ -114,7 +115,7 @@ module _ (src : List ℕ) (utf8 : IsUtf8 src) where
 
   -- in the declaration: rows 21 to 25
   pub declaration_apart : (i j q : ℕ) (t : DueItem) (f : Fault) → IsXmlDecl src i j → DueInXmlDecl src i q t → IsMissing src q t f → ⊥
-  declaration_apart i j q t f is its_version lack = word_stands src word.Version (spaces_end src (i + 5)) f is.version lack
+  declaration_apart i j q t f is its_version lack = word_stands src expected.Version (spaces_end src (i + 5)) f is.version lack
   declaration_apart i j q t f is (in_pair gap p _ _ begins due') lack =
       let there = pair_there i j p gap is begins in
       let x = there.1 in
@@ -128,4 +129,4 @@ module _ (src : List ℕ) (utf8 : IsUtf8 src) where
       let first : is.v ≡ v = one_may word.Version (spaces_end src (i + 5)) is.v v is.first_pair may in
       let second : is.e ≡ e = one_may word.Encoding v is.e e (subst (λ (v : ℕ). MayBePair (word_text word.Encoding) src v is.e) first is.encoding) may' in
       let third : is.s ≡ s = one_last word.Standalone e is.s s (subst (λ (e : ℕ). MayEndPair (word_text word.Standalone) src e is.s) second is.standalone) last in
-      word_stands src word.PIEnd (spaces_end src is.s) f is.closes (subst (λ (s : ℕ). IsMissing src (spaces_end src s) (a_word word.PIEnd) f) (sym third) lack)
+      word_stands src expected.PIEnd (spaces_end src is.s) f is.closes (subst (λ (s : ℕ). IsMissing src (spaces_end src s) (a_text expected.PIEnd) f) (sym third) lack)

@@ -8,9 +8,12 @@ use Rattle.std.proofs.lemmas.Bool.{cases_lt, cases_Bool, eqb-true, or_cases, con
 use Rattle.rox_grammar.specs.declared.fault.Fault.{Fault}
 use Rattle.rox_grammar.specs.declared.fault.Span.{Span}
 use Rattle.rox_grammar.specs.declared.fault.Word.{Word}
+use Rattle.rox_grammar.specs.declared.fault.Expected.{Expected}
 use Rattle.rox_grammar.specs.declared.fault.Word.TheVariants as word
+use Rattle.rox_grammar.specs.declared.fault.Expected.TheVariants as expected
 use Rattle.rox_grammar.specs.declared.fault.Fault.TheVariants as fault
 use Rattle.rox_grammar.specs.FixedTexts.{word_text, at, first}
+use Rattle.rox_grammar.specs.ExpectedTexts.{expected_text}
 use Rattle.rox_grammar.specs.Chars.{is_space, is_char, is_part_char, is_name_start, is_name_char}
 use Rattle.rox_grammar.specs.Runs.{run_end, begins, first_passes}
 use Rattle.rox_grammar.specs.Search.{stands, before_mark, mark_from, byte_from}
@@ -20,7 +23,7 @@ use Rattle.rox_grammar.specs.Names.{byte, slice, spaces_end, IsName, IsQName, un
 use Rattle.rox_grammar.specs.Constructs.{double_dash, has_mark, AreChars}
 use Rattle.rox_grammar.specs.References.{is_digit, is_hex_digit, number, bytes_end, character}
 use Rattle.rox_grammar.specs.Entities.{Replacement, Entity, text_of}
-use Rattle.rox_grammar.specs.Due.{DueItem, a_byte, a_word, a_qname, a_name, chars_to, IsMissing, no_name, DueInText, DueInPI, DueInEnd}
+use Rattle.rox_grammar.specs.Due.{DueItem, a_byte, a_text, a_qname, a_name, chars_to, IsMissing, no_name, DueInText, DueInPI, DueInEnd}
 use Rattle.rox_grammar.specs.Due as due
 use Rattle.rox_grammar.specs.Faults.{SpanIs, spelled, InMisc, comment_lacks, double_dashes, a_declaration, instruction_lacks, InReferences, malformed, undeclared}
 use Rattle.rox_reading.specs.Lexical.{byte_at, string_at, chars_up_to, text_to, qname_at, name_at}
@@ -78,14 +81,14 @@ mark_cut mark b rest src i is ascii inside =
         rw is (before_mark_is b rest (drop i src) some')
 
 -- the text up to a mark, and the mark
-text_fails : (w : Word) (b : ℕ) (rest src : List ℕ) (i : ℕ) (f : Fault) → word_text w ≡ b ∷ rest → b < 128 → IsUtf8 src → IsCharBoundary src i → text_to w src i ≡ Err f
-    → IsMissing src i (chars_to (mark_from (word_text w) src i)) f ⊎ (AreChars src i (mark_from (word_text w) src i) × IsMissing src (mark_from (word_text w) src i) (a_word w) f)
+text_fails : (w : Expected) (b : ℕ) (rest src : List ℕ) (i : ℕ) (f : Fault) → expected_text w ≡ b ∷ rest → b < 128 → IsUtf8 src → IsCharBoundary src i → text_to w src i ≡ Err f
+    → IsMissing src i (chars_to (mark_from (expected_text w) src i)) f ⊎ (AreChars src i (mark_from (expected_text w) src i) × IsMissing src (mark_from (expected_text w) src i) (a_text w) f)
 unfolding text_to
 text_fails w b rest src i f is ascii utf8 cut h =
-    let e = mark_from (word_text w) src i in
-    let le = mark_from_le (word_text w) src i in
+    let e = mark_from (expected_text w) src i in
+    let le = mark_from_le (expected_text w) src i in
     bind_err (chars_up_to e src i) _ f h
-    (λ bad. inl (chars_fails src i e f utf8 cut (mark_cut (word_text w) b rest src i is ascii cut.0) le bad))
+    (λ bad. inl (chars_fails src i e f utf8 cut (mark_cut (expected_text w) b rest src i is ascii cut.0) le bad))
     (λ text read h.
     let c = chars_sound e src i text utf8 le read in
     bind_err (string_at w src text.1) _ f h
@@ -114,13 +117,13 @@ module _ (src : List ℕ) (utf8 : IsUtf8 src) where
   comment_fails i f opens h =
       let three : i + 3 + 1 ≡ i + 4 = omega arith in
       let cut = subst (IsCharBoundary src) three (behind word.CommentStart src i 3 45 utf8 opens (omega arith) refl (omega arith) (omega arith)) in
-      bind_err (text_to word.CommentEnd src (i + 4)) _ f h
-      (λ bad. elim (text_fails word.CommentEnd 45 (45 ∷ 62 ∷ []) src (i + 4) f refl (omega arith) utf8 cut bad) as (λ s. InMisc src i f) [
+      bind_err (text_to expected.CommentEnd src (i + 4)) _ f h
+      (λ bad. elim (text_fails expected.CommentEnd 45 (45 ∷ 62 ∷ []) src (i + 4) f refl (omega arith) utf8 cut bad) as (λ s. InMisc src i f) [
         | inl ill ↦ comment_lacks (i + 4) (chars_to (first word.CommentEnd src (i + 4))) f opens due.DueInText.its_chars ill
-        | inr none ↦ comment_lacks (first word.CommentEnd src (i + 4)) (a_word word.CommentEnd) f opens (due.DueInText.its_end none.0) none.1
+        | inr none ↦ comment_lacks (first word.CommentEnd src (i + 4)) (a_text expected.CommentEnd) f opens (due.DueInText.its_end none.0) none.1
       ])
       (λ text read h.
-      let s = text_sound word.CommentEnd src (i + 4) text utf8 read in
+      let s = text_sound expected.CommentEnd src (i + 4) text utf8 read in
       let e = first word.CommentEnd src (i + 4) in
       let is_text : text.0 ≡ slice src (i + 4) e = s.2 in
       chosen (has_mark double_dash text.0 || byte text.0 (length text.0 - 1) == 45) _ _ _ h
@@ -143,10 +146,10 @@ module _ (src : List ℕ) (utf8 : IsUtf8 src) where
       (λ name read h.
       let target = (name_sound src (i + 2) name read).0 in
       let v = spaces_end src name.1 in
-      bind_err (text_to word.PIEnd src v) _ f h
-      (λ bad. elim (text_fails word.PIEnd 63 (62 ∷ []) src v f refl (omega arith) utf8 (value_cut i name.1 opens target) bad) as (λ s. InMisc src i f) [
+      bind_err (text_to expected.PIEnd src v) _ f h
+      (λ bad. elim (text_fails expected.PIEnd 63 (62 ∷ []) src v f refl (omega arith) utf8 (value_cut i name.1 opens target) bad) as (λ s. InMisc src i f) [
         | inl ill ↦ instruction_lacks v (chars_to (first word.PIEnd src v)) f opens none (due.DueInPI.its_value name.1 _ _ target due.DueInText.its_chars) ill
-        | inr lacks ↦ instruction_lacks (first word.PIEnd src v) (a_word word.PIEnd) f opens none (due.DueInPI.its_value name.1 _ _ target (due.DueInText.its_end lacks.0)) lacks.1
+        | inr lacks ↦ instruction_lacks (first word.PIEnd src v) (a_text expected.PIEnd) f opens none (due.DueInPI.its_value name.1 _ _ target (due.DueInText.its_end lacks.0)) lacks.1
       ])
       (λ value read h. no_fault _ f h)))
     where
@@ -164,14 +167,14 @@ module _ (src : List ℕ) (utf8 : IsUtf8 src) where
           run_cut is_space src n utf8 (subst (IsCharBoundary src) (sym target.longest) (run_cut is_name_char src (i + 2) utf8 cut))
 
   -- a CDATA section
-  pub section_fails : (i : ℕ) (f : Fault) → at word.CDataStart src i ≡ true → cdata_at src i ≡ Err f → (p : ℕ) × (t : DueItem) × DueInText word.CDataEnd src (i + 9) p t × IsMissing src p t f
+  pub section_fails : (i : ℕ) (f : Fault) → at word.CDataStart src i ≡ true → cdata_at src i ≡ Err f → (p : ℕ) × (t : DueItem) × DueInText expected.CDataEnd src (i + 9) p t × IsMissing src p t f
   unfolding cdata_at
   section_fails i f opens h =
       let eight : i + 8 + 1 ≡ i + 9 = omega arith in
       let cut = subst (IsCharBoundary src) eight (behind word.CDataStart src i 8 91 utf8 opens (omega arith) refl (omega arith) (omega arith)) in
-      elim (text_fails word.CDataEnd 93 (93 ∷ 62 ∷ []) src (i + 9) f refl (omega arith) utf8 cut h) as (λ s. (p : ℕ) × (t : DueItem) × DueInText word.CDataEnd src (i + 9) p t × IsMissing src p t f) [
+      elim (text_fails expected.CDataEnd 93 (93 ∷ 62 ∷ []) src (i + 9) f refl (omega arith) utf8 cut h) as (λ s. (p : ℕ) × (t : DueItem) × DueInText expected.CDataEnd src (i + 9) p t × IsMissing src p t f) [
         | inl ill ↦ (i + 9, chars_to (first word.CDataEnd src (i + 9)), due.DueInText.its_chars, ill)
-        | inr none ↦ (first word.CDataEnd src (i + 9), a_word word.CDataEnd, due.DueInText.its_end none.0, none.1)
+        | inr none ↦ (first word.CDataEnd src (i + 9), a_text expected.CDataEnd, due.DueInText.its_end none.0, none.1)
       ]
 
   -- an end tag

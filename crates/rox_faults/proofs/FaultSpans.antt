@@ -7,10 +7,13 @@ use Rattle.std.proofs.lemmas.Str.{IsCharBoundary-after_ascii}
 use Rattle.std.proofs.lemmas.Bool.{cond_both, eqb-true, leb-false}
 use Rattle.rox_grammar.specs.declared.fault.Fault.{Fault}
 use Rattle.rox_grammar.specs.declared.fault.Word.{Word}
+use Rattle.rox_grammar.specs.declared.fault.Expected.{Expected}
 use Rattle.rox_grammar.specs.declared.fault.Word.TheVariants as word
+use Rattle.rox_grammar.specs.declared.fault.Expected.TheVariants as expected
 use Rattle.rox_grammar.specs.Spans.{IsTextSpan, NamesText}
 use Rattle.rox_grammar.specs.Chars.{is_space, is_name_start}
 use Rattle.rox_grammar.specs.FixedTexts.{word_text, at}
+use Rattle.rox_grammar.specs.ExpectedTexts.{expected_text}
 use Rattle.rox_grammar.specs.Runs.{begins}
 use Rattle.rox_grammar.specs.Search.{stands, mark_from, byte_from}
 use Rattle.rox_grammar.specs.Forest.{Forest, Nil, join}
@@ -80,15 +83,15 @@ module _ (src : List ℕ) where
   name_spans i = spanned_cond src _ (begins is_name_start src i) _ _ (λ h. record { holds = tt }) (λ h. record { holds = tt })
 
   -- a fixed text
-  string_spans : (w : Word) (i : ℕ) → FaultSpanned src (string_at w src i)
+  string_spans : (w : Expected) (i : ℕ) → FaultSpanned src (string_at w src i)
   unfolding string_at
-  string_spans w i = spanned_cond src _ (stands (word_text w) src i) _ _ (λ h. record { holds = tt }) (λ h. record { holds = tt })
+  string_spans w i = spanned_cond src _ (stands (expected_text w) src i) _ _ (λ h. record { holds = tt }) (λ h. record { holds = tt })
 
   -- the text up to a mark
-  text_spans : (w : Word) (i : ℕ) → FaultSpanned src (text_to w src i)
+  text_spans : (w : Expected) (i : ℕ) → FaultSpanned src (text_to w src i)
   unfolding text_to
   text_spans w i =
-      let e = mark_from (word_text w) src i in
+      let e = mark_from (expected_text w) src i in
       spanned_bind src (λ (x : List ℕ × ℕ). Unit {0}) _ (chars_up_to e src i) _ (chars_spans src e i) (λ text read h.
       spanned_bind src (λ (x : Unit {0} × ℕ). Unit {0}) _ (string_at w src text.1) _ (string_spans w text.1) (λ end read h. record { holds = tt }))
 
@@ -100,7 +103,7 @@ module _ (src : List ℕ) where
   comment_spans : (i : ℕ) → FaultSpanned src (comment_at src i)
   unfolding comment_at
   comment_spans i =
-      spanned_bind src (λ (x : List ℕ × ℕ). Unit {0}) _ (text_to word.CommentEnd src (i + 4)) _ (text_spans word.CommentEnd (i + 4)) (λ text read h.
+      spanned_bind src (λ (x : List ℕ × ℕ). Unit {0}) _ (text_to expected.CommentEnd src (i + 4)) _ (text_spans expected.CommentEnd (i + 4)) (λ text read h.
       spanned_cond src _ (has_mark double_dash text.0 || slice_index text.0 (length text.0 - 1) == 45) _ _ (λ h. record { holds = tt }) (λ h. record { holds = tt }))
 
   -- a processing instruction
@@ -109,13 +112,13 @@ module _ (src : List ℕ) where
   instruction_spans i =
       spanned_cond src _ (stands (word_text word.XmlDeclStart) src i) _ _ (λ h. record { holds = tt })
       (λ h. spanned_bind src (λ (x : List ℕ × ℕ). Unit {0}) _ (name_at src (i + 2)) _ (name_spans (i + 2)) (λ target read h.
-      spanned_bind src (λ (x : List ℕ × ℕ). Unit {0}) _ (text_to word.PIEnd src (spaces_end src target.1)) _ (text_spans word.PIEnd (spaces_end src target.1))
+      spanned_bind src (λ (x : List ℕ × ℕ). Unit {0}) _ (text_to expected.PIEnd src (spaces_end src target.1)) _ (text_spans expected.PIEnd (spaces_end src target.1))
       (λ value read h. record { holds = tt })))
 
   -- a CDATA section
   cdata_spans : (i : ℕ) → FaultSpanned src (cdata_at src i)
   unfolding cdata_at
-  cdata_spans i = text_spans word.CDataEnd (i + 9)
+  cdata_spans i = text_spans expected.CDataEnd (i + 9)
 
   -- a name and a value of the declaration
   pair_spans : (i : ℕ) → FaultSpanned src (pair_at src i)
@@ -157,7 +160,7 @@ module _ (src : List ℕ) where
       (λ h. spanned_bind src (λ (x : Unit {0} × ℕ). Unit {0}) _ (pair_if word.Version src v) _ (pair_if_spans word.Version v) (λ version read h.
       spanned_bind src (λ (x : Unit {0} × ℕ). Unit {0}) _ (pair_if word.Encoding src version.1) _ (pair_if_spans word.Encoding version.1) (λ encoding read h.
       spanned_bind src (λ (x : Unit {0} × ℕ). Unit {0}) _ _ _ (last_spans encoding.1) (λ standalone read h.
-      string_spans word.PIEnd (spaces_end src standalone.1)))))
+      string_spans expected.PIEnd (spaces_end src standalone.1)))))
       (λ h. record { holds = tt })
 
   -- the declaration, if it stands here

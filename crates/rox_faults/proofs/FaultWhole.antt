@@ -7,6 +7,7 @@ use Rattle.std.proofs.lemmas.Bool.{eqb-true, eqb-false, leb-false, ltb-true, ltb
 use Rattle.rox_grammar.specs.declared.fault.Fault.{Fault}
 use Rattle.rox_grammar.specs.declared.fault.Word.{Word}
 use Rattle.rox_grammar.specs.declared.fault.Word.TheVariants as word
+use Rattle.rox_grammar.specs.declared.fault.Expected.TheVariants as expected
 use Rattle.rox_grammar.specs.declared.fault.Due.TheVariants as due
 use Rattle.rox_grammar.specs.declared.fault.Fault.TheVariants as fault
 use Rattle.rox_grammar.specs.Chars.{is_space}
@@ -27,7 +28,7 @@ use Rattle.rox_grammar.specs.Document.{Behind, Misc, no_misc, space, an_item, Pr
 use Rattle.rox_grammar.specs.State.{root, nodes_so_far, FitsLimits}
 use Rattle.rox_reading.specs.Refusals.{Refusal, here, there, refused, lifted}
 use Rattle.rox_reading.specs.State.{State}
-use Rattle.rox_grammar.specs.Due.{DueItem, a_byte, a_qname, a_gap, a_word, chars_to, IsMissing, no_gap, DueInPair, its_name, equals, opening, its_value, closing, value_end, PairBegins, version, encoding, standalone, DueInXmlDecl, its_version, in_pair, behind_pair}
+use Rattle.rox_grammar.specs.Due.{DueItem, a_byte, a_qname, a_gap, a_text, chars_to, IsMissing, no_gap, DueInPair, its_name, equals, opening, its_value, closing, value_end, PairBegins, version, encoding, standalone, DueInXmlDecl, its_version, in_pair, behind_pair}
 use Rattle.rox_faults.proofs.DueForms.{a_quote}
 use Rattle.rox_grammar.specs.Due as dues
 use Rattle.rox_grammar.specs.ContentPoints.{is_main, begins, of_root}
@@ -162,10 +163,10 @@ module _ (src : List ℕ) (utf8 : IsUtf8 src) where
       (λ there bad. let x = pair_fails e.1 f bad in (x.0, x.1, in_pair false e.1 x.0 x.1 (standalone v.1 e.1 here first_pair second there) x.2, x.3))
       (λ none bad. cc))
       (λ s read'' h.
-      (spaces_end src s.1, a_word word.PIEnd, dues.DueInXmlDecl.its_end v.1 e.1 s.1 here first_pair second (last_sound src utf8 e.1 s read''), string_fails word.PIEnd src (spaces_end src s.1) f h)))))
+      (spaces_end src s.1, a_text expected.PIEnd, dues.DueInXmlDecl.its_end v.1 e.1 s.1 here first_pair second (last_sound src utf8 e.1 s read''), string_fails expected.PIEnd src (spaces_end src s.1) f h)))))
       (λ none h.
-      let is : fault.InvalidString word.Version p ≡ f = cc in
-      (p, a_word word.Version, its_version, subst (IsMissing src p (a_word word.Version)) is (dues.IsMissing.other_word word.Version none)))
+      let is : fault.InvalidString expected.Version p ≡ f = cc in
+      (p, a_text expected.Version, its_version, subst (IsMissing src p (a_text expected.Version)) is (dues.IsMissing.other_text expected.Version none)))
 
   -- ---- comments and processing instructions
 

@@ -1,7 +1,7 @@
 -- The points that reading comes to: places of content, and points before and behind the root element. A construct is
 -- passed where it stands in the grammar and is well named; nothing else is.
 use Prim.Native.Char.{code}
-use Rattle.std.specs.Prelude.{◌≡◌, ◌≢◌, ℕ, zero, suc, ◌+◌, ◌<◌, ◌≤◌, ◌⊎◌, Some, None, Bool, true, false, List, [], length, bytes_eq, codes}
+use Rattle.std.specs.Prelude.{◌≡◌, ◌≢◌, ℕ, zero, suc, ◌+◌, ◌<◌, ◌≤◌, ◌⊎◌, Some, None, Bool, true, false, List, length, bytes_eq, codes}
 use Rattle.rox_grammar.specs.Forest.{Forest, Nil, Cons, join}
 use Rattle.rox_grammar.specs.Written.{Name, Attribute, NamespaceDecl, Tag, Item, Element, namespace_decls_of, merge, leaf}
 use Rattle.rox_grammar.specs.Tree.{listed, listable_of}

@@ -1,16 +1,16 @@
 -- What is due at a place within a construct, and the fault where it does not stand there.
 use Prim.Native.Char.{code}
 use Rattle.std.specs.Prelude.{◌≡◌, ◌≢◌, ◌⊎◌, ℕ, ◌+◌, ◌<◌, ◌≤◌, ◌==◌, ◌||◌, Bool, true, false, List, length, take, codes}
-use Rattle.rox_grammar.specs.declared.fault.Word.{Word}
-use Rattle.rox_grammar.specs.declared.fault.Word.TheVariants as word
+use Rattle.rox_grammar.specs.declared.fault.Expected.{Expected}
+use Rattle.rox_grammar.specs.declared.fault.Expected.TheVariants as expected
 use Rattle.rox_grammar.specs.declared.fault.Due.{Due}
 use Rattle.rox_grammar.specs.declared.fault.Due.TheVariants as due
 use Rattle.rox_grammar.specs.declared.fault.Fault.{Fault}
 use Rattle.rox_grammar.specs.declared.fault.Fault.TheVariants as fault
 use Rattle.rox_grammar.specs.Chars.{is_space, is_char}
-use Rattle.rox_grammar.specs.FixedTexts.{at, first}
+use Rattle.rox_grammar.specs.ExpectedTexts.{expected_text}
 use Rattle.rox_grammar.specs.Runs.{run_end, StandsAt}
-use Rattle.rox_grammar.specs.Search.{byte_from}
+use Rattle.rox_grammar.specs.Search.{stands, mark_from, byte_from}
 use Rattle.rox_grammar.specs.Written.{Name}
 use Rattle.rox_grammar.specs.Names.{byte, spaces_end, IsName, IsQName}
 use Rattle.rox_grammar.specs.Doctype.{Request, IsQuoted, IsSpace, IsExternalID, IsKind, BeginsEntity, BeginsDoctype}
@@ -21,7 +21,7 @@ pub data DueItem : Type 0 where
   a_name : DueItem
   a_qname : DueItem
   a_byte : ℕ → DueItem
-  a_word : Word → DueItem
+  a_text : Expected → DueItem
   -- a byte of this kind
   one_of : Due → DueItem
   -- white space, `?>` or the end
@@ -52,7 +52,7 @@ pub data IsMissing (src : List ℕ) (p : ℕ) : DueItem → Fault → Type 0 whe
   no_name : ((j : ℕ) → IsName src p j → ⊥) → IsMissing src p a_name (fault.InvalidName p)
   no_qname : ((name : Name) (j : ℕ) → IsQName src p name j → ⊥) → IsMissing src p a_qname (fault.InvalidName p)
   other_byte : (b : ℕ) → p < length src → byte src p ≢ b → IsMissing src p (a_byte b) (fault.InvalidChar b (byte src p) p)
-  other_word : (w : Word) → at w src p ≡ false → IsMissing src p (a_word w) (fault.InvalidString w p)
+  other_text : (text : Expected) → stands (expected_text text) src p ≡ false → IsMissing src p (a_text text) (fault.InvalidString text p)
   none_of : (kind : Due) → p < length src → is_of kind (byte src p) ≡ false → IsMissing src p (one_of kind) (fault.InvalidChar2 kind (byte src p) p)
   no_gap : p < length src → is_space (byte src p) ≡ false → text_at "?>" src p ≡ false → IsMissing src p a_gap (fault.InvalidChar2 due.Space (byte src p) p)
   -- XML 2.2 [2]: the longest stretch of Chars ends at q, before e, with this character
@@ -62,14 +62,14 @@ pub data IsMissing (src : List ℕ) (p : ℕ) : DueItem → Fault → Type 0 whe
   ends_before : (t : DueItem) → takes_byte t ≡ true → length src ≤ p → IsMissing src p t fault.UnexpectedEndOfStream
 
 -- XML 2.5 [15], 2.6 [16], 2.7 [18]: in the text of a comment, processing instruction or CDATA section, from s up to where this stands
-pub data DueInText (end : Word) (src : List ℕ) (s : ℕ) : ℕ → DueItem → Type 0 where
-  its_chars : DueInText end src s s (chars_to (first end src s))
-  its_end : AreChars src s (first end src s) → DueInText end src s (first end src s) (a_word end)
+pub data DueInText (end : Expected) (src : List ℕ) (s : ℕ) : ℕ → DueItem → Type 0 where
+  its_chars : DueInText end src s s (chars_to (mark_from (expected_text end) src s))
+  its_end : AreChars src s (mark_from (expected_text end) src s) → DueInText end src s (mark_from (expected_text end) src s) (a_text end)
 
 -- XML 2.6 [16]: in the processing instruction that begins at i
 pub data DueInPI (src : List ℕ) (i : ℕ) : ℕ → DueItem → Type 0 where
   its_target : DueInPI src i (i + 2) a_name
-  its_value : (n p : ℕ) (t : DueItem) → IsName src (i + 2) n → DueInText word.PIEnd src (spaces_end src n) p t → DueInPI src i p t
+  its_value : (n p : ℕ) (t : DueItem) → IsName src (i + 2) n → DueInText expected.PIEnd src (spaces_end src n) p t → DueInPI src i p t
 
 -- XML 3.1 [42]: in the end tag that begins at i
 pub data DueInEnd (src : List ℕ) (i : ℕ) : ℕ → DueItem → Type 0 where
@@ -101,11 +101,11 @@ pub data PairBegins (src : List ℕ) (i : ℕ) : Bool → ℕ → Type 0 where
 
 -- in the declaration that begins at i
 pub data DueInXmlDecl (src : List ℕ) (i : ℕ) : ℕ → DueItem → Type 0 where
-  its_version : DueInXmlDecl src i (spaces_end src (i + 5)) (a_word word.Version)
+  its_version : DueInXmlDecl src i (spaces_end src (i + 5)) (a_text expected.Version)
   in_pair : (gap : Bool) (j p : ℕ) (t : DueItem) → PairBegins src i gap j → DueInPair src j p t → DueInXmlDecl src i p t
   behind_pair : (j p : ℕ) → PairBegins src i true j → IsPair src j p → DueInXmlDecl src i p a_gap
   its_end : (v e s : ℕ) → text_at "version" src (spaces_end src (i + 5)) ≡ true → MayBePair (codes "version") src (spaces_end src (i + 5)) v → MayBePair (codes "encoding") src v e
-      → MayEndPair (codes "standalone") src e s → DueInXmlDecl src i (spaces_end src s) (a_word word.PIEnd)
+      → MayEndPair (codes "standalone") src e s → DueInXmlDecl src i (spaces_end src s) (a_text expected.PIEnd)
 
 -- XML 2.3 [9], [11], [12]: in a literal of any characters but the quote, which begins at i
 pub data DueInLiteral (src : List ℕ) (i : ℕ) : ℕ → DueItem → Type 0 where

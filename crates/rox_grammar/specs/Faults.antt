@@ -3,7 +3,7 @@ use Prim.Native.Char.{code}
 use Rattle.std.specs.Prelude.{◌≡◌, ◌≢◌, ◌⊎◌, ℕ, ◌+◌, ◌-◌, ◌<◌, ◌≤◌, ◌==◌, Bool, true, false, List, [], ◌∷◌, ◌++◌, None, length, bytes_eq, if◌then◌else◌, codes}
 use Rattle.std.specs.List.{list_any}
 use Rattle.rox_grammar.specs.declared.fault.Span.{Span}
-use Rattle.rox_grammar.specs.declared.fault.Word.TheVariants as word
+use Rattle.rox_grammar.specs.declared.fault.Expected.TheVariants as expected
 use Rattle.rox_grammar.specs.declared.fault.Due.TheVariants as due
 use Rattle.rox_grammar.specs.declared.fault.Fault.{Fault}
 use Rattle.rox_grammar.specs.declared.fault.Fault.TheVariants as fault
@@ -34,7 +34,7 @@ SpanIs src span bytes = slice src span.start span.end ≡ bytes
 
 -- ---- in a comment or a processing instruction that begins at i
 pub data InMisc (src : List ℕ) (i : ℕ) : Fault → Type 0 where
-  comment_lacks : (p : ℕ) (t : DueItem) (f : Fault) → text_at "<!--" src i ≡ true → DueInText word.CommentEnd src (i + 4) p t → IsMissing src p t f → InMisc src i f
+  comment_lacks : (p : ℕ) (t : DueItem) (f : Fault) → text_at "<!--" src i ≡ true → DueInText expected.CommentEnd src (i + 4) p t → IsMissing src p t f → InMisc src i f
   -- two dashes in the text, or one at its end
   double_dashes : (e : ℕ) → text_at "<!--" src i ≡ true → e ≡ first_text "-->" src (i + 4) → AreChars src (i + 4) e → text_at "-->" src e ≡ true
       → (has_mark double_dash (slice src (i + 4) e) ≡ true) ⊎ (byte (slice src (i + 4) e) (length (slice src (i + 4) e) - 1) ≡ code "-") → InMisc src i (fault.InvalidComment i)
@@ -149,7 +149,7 @@ pub data InEnd (open_around : ℕ) (src : List ℕ) (s : State) : Fault → Type
 -- ---- at a place
 pub data Stands (limit : ℕ) (es : List Entity) (k open_around : ℕ) (Includes : Inclusion) (src : List ℕ) (s : State) (b : ℕ) : Fault → Type 0 where
   in_run : (f : Fault) → is_content k s.stack ≡ true → s.at < length src → byte src s.at ≢ code "<" → InRun es k Includes src s.at b f → Stands limit es k open_around Includes src s b f
-  in_section : (p : ℕ) (t : DueItem) (f : Fault) → is_content k s.stack ≡ true → text_at "<![CDATA[" src s.at ≡ true → DueInText word.CDataEnd src (s.at + 9) p t → IsMissing src p t f → Stands limit es k open_around Includes src s b f
+  in_section : (p : ℕ) (t : DueItem) (f : Fault) → is_content k s.stack ≡ true → text_at "<![CDATA[" src s.at ≡ true → DueInText expected.CDataEnd src (s.at + 9) p t → IsMissing src p t f → Stands limit es k open_around Includes src s b f
   in_misc : (f : Fault) → is_content k s.stack ≡ true → InMisc src s.at f → Stands limit es k open_around Includes src s b f
   in_tag : (f : Fault) → TagBegins src s.at (is_content k s.stack) → InTag (is_main k) Includes src s b f → Stands limit es k open_around Includes src s b f
   in_end : (f : Fault) → is_content k s.stack ≡ true → InEnd open_around src s f → Stands limit es k open_around Includes src s b f

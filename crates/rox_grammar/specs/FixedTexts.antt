@@ -1,4 +1,4 @@
--- The fixed texts that a fault may name.
+-- The fixed texts that reading looks for.
 use Rattle.std.specs.Prelude.{ℕ, Bool, List, codes}
 use Rattle.rox_grammar.specs.declared.fault.Word.{Word}
 use Rattle.rox_grammar.specs.declared.fault.Word.TheVariants as word

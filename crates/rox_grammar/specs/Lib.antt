@@ -4,6 +4,7 @@ pub mod Search
 pub mod Positions
 pub mod Spans
 pub mod FixedTexts
+pub mod ExpectedTexts
 pub mod Forest
 pub mod Written
 pub mod NameParts

@@ -71,6 +71,46 @@ impl Word {
     }
 }
 
+/// A fixed text that is due at a place.
+#[derive(Clone, Copy)]
+pub enum Expected {
+    CommentEnd,
+    PIEnd,
+    CDataEnd,
+    Version,
+}
+
+impl Expected {
+    ghost use Rattle.rox_grammar.specs.ExpectedTexts.{expected_text};
+    ghost use Rattle.rox_grammar.specs.FixedTexts.{word_text};
+
+    /// Its bytes.
+    #[inline]
+    pub fn text(self) -> &'static [u8]
+        ensures { result.now ≡ expected_text self }
+    {
+        match self {
+            Expected::CommentEnd => b"-->",
+            Expected::PIEnd => b"?>",
+            Expected::CDataEnd => b"]]>",
+            Expected::Version => b"version",
+        }
+    }
+
+    /// The same of the fixed texts that constructs hold.
+    #[inline]
+    pub fn word(self) -> Word
+        ensures { word_text result ≡ expected_text self }
+    {
+        match self {
+            Expected::CommentEnd => Word::CommentEnd,
+            Expected::PIEnd => Word::PIEnd,
+            Expected::CDataEnd => Word::CDataEnd,
+            Expected::Version => Word::Version,
+        }
+    }
+}
+
 /// What was due where another byte stands.
 #[derive(Clone, Copy)]
 pub enum Due {
@@ -114,7 +154,7 @@ pub enum Fault {
     /// The byte that is due, and the one that stands there.
     InvalidChar(u8, u8, usize),
     InvalidChar2(Due, u8, usize),
-    InvalidString(Word, usize),
+    InvalidString(Expected, usize),
     InvalidExternalID(usize),
     InvalidComment(usize),
     InvalidCharacterData(usize),

@@ -5,6 +5,7 @@ use Rattle.std.specs.List.{starts_with}
 use Rattle.std.specs.Str.{IsUtf8, IsCharBoundary}
 use Rattle.std.proofs.lemmas.Bool.{cases_Bool}
 use Rattle.rox_grammar.specs.declared.fault.Word.{Word}
+use Rattle.rox_grammar.specs.declared.fault.Expected.{Expected}
 use Rattle.rox_grammar.specs.declared.fault.Word.TheVariants as word
 use Rattle.rox_grammar.specs.declared.fault.Due.TheVariants as kinds
 use Rattle.rox_grammar.specs.declared.fault.Fault.{Fault}
@@ -21,7 +22,7 @@ use Rattle.rox_grammar.specs.Content.{Inclusion, Attributes}
 use Rattle.rox_grammar.specs.Content as content
 use Rattle.rox_grammar.specs.Entities.{Entity}
 use Rattle.rox_grammar.specs.State.{Open, root, inside, State}
-use Rattle.rox_grammar.specs.Due.{DueItem, a_name, a_qname, a_byte, a_word, one_of, a_gap, chars_to, tag_rest, IsMissing, DueInText, DueInPI, DueInEnd, DueInPair, PairBegins, DueInXmlDecl}
+use Rattle.rox_grammar.specs.Due.{DueItem, a_name, a_qname, a_byte, a_text, one_of, a_gap, chars_to, tag_rest, IsMissing, DueInText, DueInPI, DueInEnd, DueInPair, PairBegins, DueInXmlDecl}
 use Rattle.rox_grammar.specs.Due as due
 use Rattle.rox_grammar.specs.ContentPoints.{TagBegins, of_root, in_content}
 use Rattle.rox_grammar.specs.Faults.{InMisc, InReferences, InRun, InValue, IllDeclared, IllNamed, cut_off, InTag, InEnd, Stands, FaultFrom}
@@ -46,9 +47,9 @@ before_le mark (b ∷ bs) =
       | inr later ↦ (let le = before_le mark bs in rw later (omega arith))
     ]
 
-first_le : (w : Word) (src : List ℕ) (i : ℕ) → i ≤ length src → first w src i ≤ length src
+first_le : (w : Expected) (src : List ℕ) (i : ℕ) → i ≤ length src → mark_from (expected_text w) src i ≤ length src
 unfolding mark_from
-first_le w src i le = omega (arith, before_le (word_text w) (drop i src), length-drop i src)
+first_le w src i le = omega (arith, before_le (expected_text w) (drop i src), length-drop i src)
 
 char_within : (c : ℕ) (src : List ℕ) (i : ℕ) → StandsAt c src i → i < length src
 char_within c src i is =
@@ -76,7 +77,7 @@ reference_inside src i n j is =
 abbrev Fits : List ℕ → DueItem → ℕ → Type 0
 Fits src a_name p = p ≤ length src
 Fits src a_qname p = p ≤ length src
-Fits src (a_word w) p = p ≤ length src
+Fits src (a_text w) p = p ≤ length src
 Fits src (a_byte b) p = Unit {0}
 Fits src (one_of kind) p = Unit {0}
 Fits src a_gap p = Unit {0}
@@ -87,7 +88,7 @@ lacks_placed : (src : List ℕ) (p : ℕ) (t : DueItem) (f : Fault) → Fits src
 lacks_placed src p t f fits (due.IsMissing.no_name none) = fits
 lacks_placed src p t f fits (due.IsMissing.no_qname none) = fits
 lacks_placed src p t f fits (due.IsMissing.other_byte b there other) = omega arith
-lacks_placed src p t f fits (due.IsMissing.other_word w none) = fits
+lacks_placed src p t f fits (due.IsMissing.other_text w none) = fits
 lacks_placed src p t f fits (due.IsMissing.none_of kind there none) = omega arith
 lacks_placed src p t f fits (due.IsMissing.no_gap there none no_end) = omega arith
 lacks_placed src p t f fits (due.IsMissing.no_char e q c ends before is bad) = let there = char_within c src q is in omega arith
@@ -97,7 +98,7 @@ lacks_placed src p t f fits (due.IsMissing.ends_before _ by_byte end) = tt
 
 module _ (src : List ℕ) (utf8 : IsUtf8 src) where
   -- in a text that begins within the source
-  text_fits : (w : Word) (s p : ℕ) (t : DueItem) → s ≤ length src → DueInText w src s p t → Fits src t p
+  text_fits : (w : Expected) (s p : ℕ) (t : DueItem) → s ≤ length src → DueInText w src s p t → Fits src t p
   text_fits w s p t le due.DueInText.its_chars = tt
   text_fits w s p t le (due.DueInText.its_end chars) = first_le w src s le
 

@@ -4,11 +4,11 @@ use Rattle.std.specs.Prelude.{ℕ, ◌+◌, ◌==◌, ◌||◌, ◌&&◌, not, B
 use Rattle.std.specs.Str.{chars}
 use Rattle.rox_grammar.specs.declared.fault.Due.TheVariants.{Space, Quote}
 use Rattle.rox_grammar.specs.declared.fault.Fault.{Fault}
-use Rattle.rox_grammar.specs.declared.fault.Word.{Word}
+use Rattle.rox_grammar.specs.declared.fault.Expected.{Expected}
 use Rattle.rox_grammar.specs.declared.fault.Fault.TheVariants.{InvalidName, NonXmlChar, InvalidChar, InvalidChar2, InvalidString, UnexpectedEndOfStream}
 use Rattle.rox_grammar.specs.Chars.{is_space, is_name_start, is_name_char, is_part_char, is_char}
 use Rattle.rox_grammar.specs.Runs.{run_end, begins}
-use Rattle.rox_grammar.specs.FixedTexts.{word_text}
+use Rattle.rox_grammar.specs.ExpectedTexts.{expected_text}
 use Rattle.rox_grammar.specs.Search.{stands, mark_from}
 use Rattle.rox_grammar.specs.Written.{Name}
 use Rattle.rox_grammar.specs.Names.{spaces_end}
@@ -50,9 +50,9 @@ name_at src i =
     else Err (InvalidName i)
 
 -- the fixed text
-unfoldable pub string_at : Word → List ℕ → ℕ → Read (Unit {0})
+unfoldable pub string_at : Expected → List ℕ → ℕ → Read (Unit {0})
 string_at w src i =
-    if stands (word_text w) src i then Ok (tt, i + length (word_text w))
+    if stands (expected_text w) src i then Ok (tt, i + length (expected_text w))
     else Err (InvalidString w i)
 
 -- Chars from i up to `end`
@@ -63,9 +63,9 @@ chars_up_to end src i =
     else Ok (slice_range src i end, end)
 
 -- the text up to a mark, and the mark
-unfoldable pub text_to : Word → List ℕ → ℕ → Read (List ℕ)
+unfoldable pub text_to : Expected → List ℕ → ℕ → Read (List ℕ)
 text_to w src i = do
-  text ← chars_up_to (mark_from (word_text w) src i) src i
+  text ← chars_up_to (mark_from (expected_text w) src i) src i
   end ← string_at w src text.1
   Ok (text.0, end.1)
 

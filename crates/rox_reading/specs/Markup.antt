@@ -5,6 +5,7 @@ use Rattle.rox_grammar.specs.declared.fault.Due.TheVariants.{Space}
 use Rattle.rox_grammar.specs.declared.fault.Fault.TheVariants.{InvalidChar2, InvalidString, UnexpectedEndOfStream, UnexpectedDeclaration, InvalidComment}
 use Rattle.rox_grammar.specs.declared.fault.Word.{Word}
 use Rattle.rox_grammar.specs.declared.fault.Word.TheVariants as word
+use Rattle.rox_grammar.specs.declared.fault.Expected.TheVariants as expected
 use Rattle.rox_grammar.specs.Chars.{is_space}
 use Rattle.rox_grammar.specs.FixedTexts.{word_text}
 use Rattle.rox_grammar.specs.Search.{stands, byte_from}
@@ -17,7 +18,7 @@ use Rattle.rox_reading.specs.Lexical.{Read, ◌>>=◌, byte_at, quote_at, name_a
 -- from `<!--`
 unfoldable pub comment_at : List ℕ → ℕ → Read (List ℕ)
 comment_at src i = do
-  text ← text_to word.CommentEnd src (i + 4)
+  text ← text_to expected.CommentEnd src (i + 4)
   if has_mark double_dash text.0 || slice_index text.0 (length text.0 - 1) == code "-" then Err (InvalidComment i) else Ok (text.0, text.1)
 
 pub record Instruction : Type 0 where
@@ -28,11 +29,11 @@ pub record Instruction : Type 0 where
 unfoldable pub instruction_at : List ℕ → ℕ → Read Instruction
 instruction_at src i =
     if stands (word_text word.XmlDeclStart) src i then Err (UnexpectedDeclaration i)
-    else name_at src (i + 2) >>= λ target. text_to word.PIEnd src (spaces_end src target.1) >>= λ value. Ok (record { target = target.0; value = none_if_empty value.0 }, value.1)
+    else name_at src (i + 2) >>= λ target. text_to expected.PIEnd src (spaces_end src target.1) >>= λ value. Ok (record { target = target.0; value = none_if_empty value.0 }, value.1)
 
 -- from `<![CDATA[`
 unfoldable pub cdata_at : List ℕ → ℕ → Read (List ℕ)
-cdata_at src i = text_to word.CDataEnd src (i + 9)
+cdata_at src i = text_to expected.CDataEnd src (i + 9)
 
 pub record EndTag : Type 0 where
   pub name : Name
@@ -73,8 +74,8 @@ xml_decl_at src i =
     if stands (word_text word.Version) src (spaces_end src (i + 5)) then
     (pair_if word.Version src (spaces_end src (i + 5)) >>= λ version. pair_if word.Encoding src version.1 >>= λ encoding.
     (if stands (word_text word.Standalone) src encoding.1 then pair_at src encoding.1 else Ok (tt, encoding.1)) >>= λ standalone.
-    string_at word.PIEnd src (spaces_end src standalone.1))
-    else Err (InvalidString word.Version (spaces_end src (i + 5)))
+    string_at expected.PIEnd src (spaces_end src standalone.1))
+    else Err (InvalidString expected.Version (spaces_end src (i + 5)))
 
 -- an attribute before its value is looked at: the quote behind it is at value_end
 pub record RawAttribute : Type 0 where

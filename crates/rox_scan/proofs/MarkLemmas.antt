@@ -12,9 +12,9 @@ use Rattle.std.proofs.lemmas.Slice.Eq.{starts_is}
 use Rattle.memchr.specs.Find.{IsFirstByte, FindsNeedle, OccursAt}
 use Rattle.memchr.proofs.lemmas.MatchLemmas.{OccursAt-split}
 use Rattle.rox_grammar.specs.Search.{stands, before_mark, mark_from}
-use Rattle.rox_grammar.specs.declared.fault.Word.{Word}
-use Rattle.rox_grammar.specs.declared.fault.Word.TheVariants as word
-use Rattle.rox_grammar.specs.FixedTexts.{word_text}
+use Rattle.rox_grammar.specs.declared.fault.Expected.{Expected}
+use Rattle.rox_grammar.specs.declared.fault.Expected.TheVariants as expected
+use Rattle.rox_grammar.specs.ExpectedTexts.{expected_text}
 use Rattle.rox_scan.specs.ScanResults.{Finds}
 use Rattle.rox_grammar.specs.Constructs.{has_mark}
 
@@ -126,29 +126,11 @@ no_mark mark hay some apart =
     rw all (le-ltb (length hay) (length hay) (omega arith))
 
 -- a fixed text begins with an ASCII byte
-pub word_first : (w : Word) → (0 < length (word_text w)) × (get_or (word_text w) 0 0 < 128)
-word_first word.CommentStart = (lit< tt, lit< tt)
-word_first word.CommentEnd = (lit< tt, lit< tt)
-word_first word.PIStart = (lit< tt, lit< tt)
-word_first word.PIEnd = (lit< tt, lit< tt)
-word_first word.XmlDeclStart = (lit< tt, lit< tt)
-word_first word.CDataStart = (lit< tt, lit< tt)
-word_first word.CDataEnd = (lit< tt, lit< tt)
-word_first word.EndTagStart = (lit< tt, lit< tt)
-word_first word.MarkupStart = (lit< tt, lit< tt)
-word_first word.DoctypeStart = (lit< tt, lit< tt)
-word_first word.Version = (lit< tt, lit< tt)
-word_first word.Encoding = (lit< tt, lit< tt)
-word_first word.Standalone = (lit< tt, lit< tt)
-word_first word.System = (lit< tt, lit< tt)
-word_first word.Public = (lit< tt, lit< tt)
-word_first word.EntityStart = (lit< tt, lit< tt)
-word_first word.ElementStart = (lit< tt, lit< tt)
-word_first word.AttlistStart = (lit< tt, lit< tt)
-word_first word.NotationStart = (lit< tt, lit< tt)
-word_first word.NData = (lit< tt, lit< tt)
-word_first word.Xml = (lit< tt, lit< tt)
-word_first word.Xmlns = (lit< tt, lit< tt)
+pub word_first : (w : Expected) → (0 < length (expected_text w)) × (get_or (expected_text w) 0 0 < 128)
+word_first expected.CommentEnd = (lit< tt, lit< tt)
+word_first expected.PIEnd = (lit< tt, lit< tt)
+word_first expected.CDataEnd = (lit< tt, lit< tt)
+word_first expected.Version = (lit< tt, lit< tt)
 
 -- where a search behind a place finds the mark
 pub mark_found : (mark src : List ℕ) (i : ℕ) (r : Option ℕ) → IsCharBoundary src i → 0 < length mark → get_or mark 0 0 < 128 → FindsNeedle (drop i src) mark 0 r

@@ -4,8 +4,8 @@ use Rattle.std.proofs.lemmas.Bool.{cases_lt, lt-leb, eq-eqb}
 use Rattle.std.proofs.lemmas.List.{get_or_past}
 use Rattle.std.specs.Str.{IsUtf8}
 use Rattle.rox_grammar.specs.Chars.{is_space, is_name_start, is_part_char}
-use Rattle.rox_grammar.specs.FixedTexts.{word_text}
-use Rattle.rox_grammar.specs.declared.fault.Word.{Word}
+use Rattle.rox_grammar.specs.ExpectedTexts.{expected_text}
+use Rattle.rox_grammar.specs.declared.fault.Expected.{Expected}
 use Rattle.rox_grammar.specs.Names.{spaces_end}
 use Rattle.rox_grammar.specs.Runs.{begins, run_end}
 use Rattle.rox_grammar.specs.Search.{byte_from, stands}
@@ -45,6 +45,6 @@ pair_is src i name k j e utf8 named equals quote place value here =
     rw (named, ← first, byte_is src k 61 equals (omega arith), ← second, quote_is src (k + 1) quote, there, value, byte_is src e 34 here (omega arith)) refl
 
 -- a fixed text that stands there
-pub string_is : (w : Word) (src : List ℕ) (i : ℕ) → stands (word_text w) src i ≡ true → string_at w src i ≡ Ok (tt, i + length (word_text w))
+pub string_is : (w : Expected) (src : List ℕ) (i : ℕ) → stands (expected_text w) src i ≡ true → string_at w src i ≡ Ok (tt, i + length (expected_text w))
 unfolding string_at
 string_is w src i h = rw h refl

@@ -8,7 +8,7 @@ use crate::byte_set::part_end;
 use crate::chars::is_space;
 use crate::lookahead::chars_end;
 use crate::runs::{NameChar, NameStart, after_byte, begins, char_at, is_at, run_end, space_end};
-use rox_grammar::fault::{Due, Fault, Word};
+use rox_grammar::fault::{Due, Expected, Fault, Word};
 use rox_grammar::name::QName;
 
 /// A place between two characters of a source, as a count of bytes from its start.
@@ -173,11 +173,12 @@ impl<'input> Cursor<'input> {
     /// The fixed text. It is a fault where it does not stand here.
     #[inline]
     #[tactic(auto, unfolding(rox_reading::specs::Lexical::string_at))]
-    pub fn string(&mut self, word: Word) -> Result<(), Fault>
-        ensures { Steps (λ x. x) self.old self.new result (spec.string_at word) }
+    pub fn string(&mut self, expected: Expected) -> Result<(), Fault>
+        ensures { Steps (λ x. x) self.old self.new result (spec.string_at expected) }
     {
+        let word = expected.word();
         if !self.starts(word) {
-            return Err(Fault::InvalidString(word, self.pos));
+            return Err(Fault::InvalidString(expected, self.pos));
         }
         self.skip(word);
         Ok(())

@@ -13,7 +13,7 @@ ghost use Rattle.rox_scan.specs.Views.{instruction_view, text_view};
 use crate::cursor::Cursor;
 use crate::lookahead::comment_end;
 use crate::search::{has_mark, mark_from};
-use rox_grammar::fault::{Fault, Word};
+use rox_grammar::fault::{Expected, Fault, Word};
 
 /// A processing instruction as it is written. It has no value where nothing but white space follows its target.
 #[derive(Clone, Copy)]
@@ -34,7 +34,7 @@ impl<'input> Cursor<'input> {
     /// The text up to the first mark, and the mark.
     #[inline]
     #[tactic(auto, unfolding(rox_reading::specs::Lexical::text_to))]
-    fn text_to(&mut self, mark: Word) -> Result<&'input str, Fault>
+    fn text_to(&mut self, mark: Expected) -> Result<&'input str, Fault>
         ensures { Steps (λ x. x.now) self.old self.new result (lexical.text_to mark) }
     {
         let end = mark_from(self.text, self.pos, mark);
@@ -72,7 +72,7 @@ impl<'input> Cursor<'input> {
         requires { self.old.pos ≡ start + 4 }
         ensures { Steps (λ x. x.now) self.old self.new result (λ src _. spec.comment_at src start) }
     {
-        let text = self.text_to(Word::CommentEnd)?;
+        let text = self.text_to(Expected::CommentEnd)?;
         let bytes = text.as_bytes();
         if has_mark(bytes, b"--") || bytes.last() == Some(&b'-') {
             return Err(Fault::InvalidComment(start));
@@ -93,7 +93,7 @@ impl<'input> Cursor<'input> {
         self.skip(Word::PIStart);
         let target = self.name()?;
         self.spaces();
-        let value = self.text_to(Word::PIEnd)?;
+        let value = self.text_to(Expected::PIEnd)?;
         Ok(Instruction {
             target,
             value: none_if_empty(value),
@@ -108,6 +108,6 @@ impl<'input> Cursor<'input> {
         ensures { Steps (λ x. x.now) self.old self.new result spec.cdata_at }
     {
         self.skip(Word::CDataStart);
-        self.text_to(Word::CDataEnd)
+        self.text_to(Expected::CDataEnd)
     }
 }

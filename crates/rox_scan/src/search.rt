@@ -3,12 +3,12 @@ ghost use Rattle.std.specs.Prelude.{◌≡◌, ◌+◌, ◌<◌, ◌≤◌, ◌|
 ghost use Rattle.std.specs.Str.{IsCharBoundary};
 ghost use Rattle.rox_grammar.specs.Search as spec;
 ghost use Rattle.rox_grammar.specs.Constructs.{has_mark};
-ghost use Rattle.rox_grammar.specs.FixedTexts.{word_text};
+ghost use Rattle.rox_grammar.specs.ExpectedTexts.{expected_text};
 ghost use Rattle.rox_scan.specs.ByteSets.{EndsSet};
 ghost use Rattle.rox_scan.specs.ScanResults.{Finds, FindsByte};
 
 use memchr::{memchr, memchr2, memmem};
-use rox_grammar::fault::Word;
+use rox_grammar::fault::Expected;
 
 /// The first place from `at` on of the byte, or the end.
 #[inline]
@@ -70,9 +70,9 @@ pub fn has_mark(bytes: &[u8], mark: &[u8]) -> bool
 
 /// The first place from `at` on of the fixed text, or the end, in time that grows as the text does, whatever it holds.
 #[inline]
-pub fn mark_from(text: &str, at: usize, mark: Word) -> usize
+pub fn mark_from(text: &str, at: usize, mark: Expected) -> usize
     requires { IsCharBoundary text.now at }
-    ensures { Finds text.now at result (spec.mark_from (word_text mark) text.now at) }
+    ensures { Finds text.now at result (spec.mark_from (expected_text mark) text.now at) }
 {
     let rest = text[at..].as_bytes();
     at + memmem::find(rest, mark.text()).unwrap_or(rest.len())

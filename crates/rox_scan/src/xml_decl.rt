@@ -13,7 +13,7 @@ use crate::chars::is_space;
 use crate::cursor::Cursor;
 use crate::runs::{NameStart, after_byte, begins, is_at};
 use crate::search::either_from;
-use rox_grammar::fault::{Due, Fault, Word};
+use rox_grammar::fault::{Due, Expected, Fault, Word};
 
 impl<'input> Cursor<'input> {
     /// A value of the XML declaration, up to the quote or a `<`: at one look where the quote stands behind plain bytes.
@@ -192,7 +192,7 @@ impl<'input> Cursor<'input> {
         self.skip_xml_decl_start();
         self.spaces();
         if !self.starts(Word::Version) {
-            return Err(Fault::InvalidString(Word::Version, self.pos));
+            return Err(Fault::InvalidString(Expected::Version, self.pos));
         }
         self.pair_if(Word::Version)?;
         self.pair_if(Word::Encoding)?;
@@ -200,7 +200,7 @@ impl<'input> Cursor<'input> {
             self.pair()?;
         }
         self.spaces();
-        self.string(Word::PIEnd)
+        self.string(Expected::PIEnd)
     }
 
     /// The declaration that a text begins with, if it does (XML 1.0 [23] XMLDecl, [77] TextDecl).

@@ -5,11 +5,11 @@ use Rattle.std.proofs.lemmas.List.{get_or_past}
 use Rattle.std.proofs.lemmas.Bool.{eqb-true, leb-false, lt-leb, eq-eqb, ltb-false, le-ltb, cases_lt}
 use Rattle.std.specs.Str.{IsUtf8}
 use Rattle.rox_grammar.specs.declared.fault.Fault.{Fault}
-use Rattle.rox_grammar.specs.declared.fault.Word.{Word}
+use Rattle.rox_grammar.specs.declared.fault.Expected.{Expected}
 use Rattle.rox_grammar.specs.Chars.{is_char}
 use Rattle.rox_grammar.specs.Runs.{run_end}
 use Rattle.rox_grammar.specs.Search.{stands, mark_from}
-use Rattle.rox_grammar.specs.FixedTexts.{word_text}
+use Rattle.rox_grammar.specs.ExpectedTexts.{expected_text}
 use Rattle.rox_grammar.specs.Names.{byte, slice}
 use Rattle.rox_grammar.specs.Constructs.{AreChars}
 use Rattle.rox_reading.specs.Lexical.{◌>>=◌, byte_at, string_at, chars_up_to, text_to}
@@ -68,14 +68,14 @@ byte_complete b src i h nz =
     rw (l, e) refl
 
 -- a fixed text that is read stands there
-pub string_sound : (w : Word) (src : List ℕ) (i : ℕ) (x : Unit {0} × ℕ) → string_at w src i ≡ Ok x → (stands (word_text w) src i ≡ true) × (x.1 ≡ i + length (word_text w))
+pub string_sound : (w : Expected) (src : List ℕ) (i : ℕ) (x : Unit {0} × ℕ) → string_at w src i ≡ Ok x → (stands (expected_text w) src i ≡ true) × (x.1 ≡ i + length (expected_text w))
 unfolding string_at
-string_sound w src i x h = chosen (stands (word_text w) src i) _ _ _ h
+string_sound w src i x h = chosen (stands (expected_text w) src i) _ _ _ h
     (λ holds e. (holds, sym (ap (λ p. p.1) (ok_same _ _ e))))
     (λ fails e. cc)
 
 -- a fixed text that stands there is read
-pub string_complete : (w : Word) (src : List ℕ) (i : ℕ) → stands (word_text w) src i ≡ true → string_at w src i ≡ Ok (tt, i + length (word_text w))
+pub string_complete : (w : Expected) (src : List ℕ) (i : ℕ) → stands (expected_text w) src i ≡ true → string_at w src i ≡ Ok (tt, i + length (expected_text w))
 unfolding string_at
 string_complete w src i h = rw h refl
 
@@ -100,21 +100,21 @@ unfolding mark_from
 mark_from_le mark src i = omega arith
 
 -- from the text to a mark
-pub text_sound : (w : Word) (src : List ℕ) (i : ℕ) (x : List ℕ × ℕ) → IsUtf8 src → text_to w src i ≡ Ok x
-    → AreChars src i (mark_from (word_text w) src i) × (stands (word_text w) src (mark_from (word_text w) src i) ≡ true)
-    × (x.0 ≡ slice src i (mark_from (word_text w) src i)) × (x.1 ≡ mark_from (word_text w) src i + length (word_text w))
+pub text_sound : (w : Expected) (src : List ℕ) (i : ℕ) (x : List ℕ × ℕ) → IsUtf8 src → text_to w src i ≡ Ok x
+    → AreChars src i (mark_from (expected_text w) src i) × (stands (expected_text w) src (mark_from (expected_text w) src i) ≡ true)
+    × (x.0 ≡ slice src i (mark_from (expected_text w) src i)) × (x.1 ≡ mark_from (expected_text w) src i + length (expected_text w))
 unfolding text_to
 text_sound w src i x utf8 h =
-    let e = mark_from (word_text w) src i in
+    let e = mark_from (expected_text w) src i in
     bind_ok (chars_up_to e src i) _ _ h (λ t is h. bind_ok (string_at w src t.1) _ _ h (λ m ends h.
-    let c = chars_sound e src i t utf8 (mark_from_le (word_text w) src i) is in
+    let c = chars_sound e src i t utf8 (mark_from_le (expected_text w) src i) is in
     let s = string_sound w src t.1 m ends in
     let at_end : t.1 ≡ e = c.2 in
     (c.0, rw at_end at s.0, sym (ap (λ p. p.0) (ok_same _ _ h)) ∙ c.1, sym (ap (λ p. p.1) (ok_same _ _ h)) ∙ rw at_end at s.1)))
 
 -- Chars up to a mark, and the mark, that stand there are read
-pub text_complete : (w : Word) (src : List ℕ) (i e : ℕ) → e ≡ mark_from (word_text w) src i → AreChars src i e → stands (word_text w) src e ≡ true
-    → text_to w src i ≡ Ok (slice src i e, e + length (word_text w))
+pub text_complete : (w : Expected) (src : List ℕ) (i e : ℕ) → e ≡ mark_from (expected_text w) src i → AreChars src i e → stands (expected_text w) src e ≡ true
+    → text_to w src i ≡ Ok (slice src i e, e + length (expected_text w))
 unfolding text_to
 text_complete w src i e is chars stands =
     let c = chars_complete e src i chars in

@@ -10,14 +10,14 @@ use Rattle.std.proofs.Math.Seq.{drop-append_seam, take-add}
 use Rattle.std.proofs.Math.Utf8.{scalar, scalars}
 use Rattle.std.proofs.lemmas.Bool.Decides.{nat_tests}
 use Rattle.rox_grammar.specs.declared.fault.Fault.{Fault}
-use Rattle.rox_grammar.specs.declared.fault.Word.{Word}
+use Rattle.rox_grammar.specs.declared.fault.Expected.{Expected}
 use Rattle.rox_grammar.specs.declared.fault.Fault.TheVariants as fault
 use Rattle.rox_grammar.specs.Chars.{is_char, is_part_char, is_name_start}
 use Rattle.rox_grammar.specs.Runs.{run_end, begins, passing, StandsAt}
 use Rattle.rox_grammar.specs.Search.{stands}
-use Rattle.rox_grammar.specs.FixedTexts.{word_text}
+use Rattle.rox_grammar.specs.ExpectedTexts.{expected_text}
 use Rattle.rox_grammar.specs.Names.{byte}
-use Rattle.rox_grammar.specs.Due.{a_byte, a_word, a_qname, chars_to, IsMissing, no_char, other_byte, other_word, no_qname, ends_before}
+use Rattle.rox_grammar.specs.Due.{a_byte, a_text, a_qname, chars_to, IsMissing, no_char, other_byte, other_text, no_qname, ends_before}
 use Rattle.rox_reading.specs.Refusals.{Refusal, here, lifted}
 use Rattle.rox_reading.specs.Lexical.{◌>>=◌, byte_at, string_at, chars_up_to, qname_at}
 use Rattle.rox_theory.proofs.Basics.{chosen}
@@ -134,11 +134,11 @@ byte_fails b src i f h =
     (λ apart h. let is : fault.InvalidChar b (byte src i) i ≡ f = cc in subst (IsMissing src i (a_byte b)) is (other_byte b (leb-false _ _ inside) (eqb-false _ _ apart))))
 
 -- a fixed text that is due
-pub string_fails : (w : Word) (src : List ℕ) (i : ℕ) (f : Fault) → string_at w src i ≡ Err f → IsMissing src i (a_word w) f
+pub string_fails : (w : Expected) (src : List ℕ) (i : ℕ) (f : Fault) → string_at w src i ≡ Err f → IsMissing src i (a_text w) f
 unfolding string_at
 string_fails w src i f h =
-    chosen (stands (word_text w) src i) _ _ _ h (λ same h. cc)
-    (λ apart h. let is : fault.InvalidString w i ≡ f = cc in subst (IsMissing src i (a_word w)) is (other_word w apart))
+    chosen (stands (expected_text w) src i) _ _ _ h (λ same h. cc)
+    (λ apart h. let is : fault.InvalidString w i ≡ f = cc in subst (IsMissing src i (a_text w)) is (other_text w apart))
 
 -- the fault of a name that is none
 qname_fault : (src : List ℕ) (i : ℕ) (f : Fault) → qname_at src i ≡ Err f → f ≡ fault.InvalidName i

@@ -3,7 +3,7 @@
 use super::{refusal_of, same};
 use rox_error::error::Error;
 use rox_error::position::{TextPos, text_pos_at};
-use rox_grammar::fault::{Due, Fault, Span, Word};
+use rox_grammar::fault::{Due, Expected, Fault, Span};
 use std::alloc::Global;
 use std::process::Abort;
 use std::test::Fail;
@@ -56,7 +56,7 @@ fn faults(rt: HostRuntime) {
         Error::from_fault(alloc, text, space),
         "expected a whitespace not '\"' at 1:2",
     );
-    let version = Fault::InvalidString(Word::Version, 14);
+    let version = Fault::InvalidString(Expected::Version, 14);
     shows(
         &rt,
         Error::from_fault(alloc, text, version),

@@ -1,5 +1,5 @@
 use Rattle.std.proofs.Common.{◌≡◌, sym, ◌∙◌, rules}
-use Rattle.rox_grammar.specs.declared.fault.Word.TheVariants as word
+use Rattle.rox_grammar.specs.declared.fault.Expected.TheVariants as expected
 use Rattle.rox_reading.specs.Markup.{xml_decl_at}
 use Rattle.rox_scan.proofs.PairLemmas.{string_is}
 use Rattle.rox_scan.proofs.cursor.Cursor.usual_declaration.Goals as goal
@@ -23,7 +23,7 @@ returns c = λ _.
     let standalone = rw t4 at third.value in
     let end = rw (t6, c.spaces-2.ensures.place, t5) at (sym c.starts-2.ensures ∙ c.if-not-starts-2.false) in
     record {
-      value = rw (there, version, encoding, standalone, c.skip.ensures.place, c.spaces-2.ensures.place, t5) (string_is word.PIEnd s.text.now _ end);
+      value = rw (there, version, encoding, standalone, c.skip.ensures.place, c.spaces-2.ensures.place, t5) (string_is expected.PIEnd s.text.now _ end);
       source = c.skip.ensures.source ∙ t6;
       onward = search rules;
     }
