@@ -14,7 +14,7 @@ use Rattle.rox_grammar.specs.Written.{Name, Item}
 use Rattle.rox_grammar.specs.Names.{byte, slice, spaces_end, IsName, IsQName}
 use Rattle.rox_grammar.specs.Constructs.{double_dash, has_mark, AreChars, IsComment, IsPI}
 use Rattle.rox_grammar.specs.Content.{IsMisc, comment, instruction}
-use Rattle.rox_grammar.specs.Due.{DueItem, a_name, a_qname, a_byte, a_text, chars_to, IsMissing, no_name, no_qname, other_byte, other_text, no_char, ends_before, DueInText, DueInPI, none_of}
+use Rattle.rox_grammar.specs.Due.{DueItem, a_name, a_qname, a_byte, a_text, chars_to, IsMissing, no_name, no_qname, other_byte, other_text, no_char, no_byte, none_left, DueInText, DueInPI, none_of}
 use Rattle.rox_faults.proofs.DueForms.{a_space}
 use Rattle.rox_grammar.specs.Due as due
 use Rattle.rox_grammar.specs.Faults.{InMisc, comment_lacks, double_dashes, a_declaration, instruction_lacks}
@@ -43,34 +43,30 @@ not_both src i c p = let a = comment_bytes src i c in let b = instruction_bytes 
 -- a name that is due and stands there
 pub name_stands : (src : List ℕ) (q n : ℕ) (f : Fault) → IsName src q n → IsMissing src q a_name f → ⊥
 name_stands src q n f is (no_name none) = none n is
-name_stands src q n f is (ends_before _ byte' past) = cc byte'
 
 -- a qualified name
 pub qname_stands : (src : List ℕ) (q n : ℕ) (name : Name) (f : Fault) → IsQName src q name n → IsMissing src q a_qname f → ⊥
 qname_stands src q n name f is (no_qname none) = none name n is
-qname_stands src q n name f is (ends_before _ byte' past) = cc byte'
 
 -- a byte
 pub byte_stands : (src : List ℕ) (b q : ℕ) (f : Fault) → 0 < b → byte src q ≡ b → IsMissing src q (a_byte b) f → ⊥
 byte_stands src b q f some is (other_byte _ below apart) = apart is
-byte_stands src b q f some is (ends_before _ byte' past) = let l = within src q (λ z. omega arith) in absurd (omega arith)
+byte_stands src b q f some is (no_byte _ past) = let l = within src q (λ z. omega arith) in absurd (omega arith)
 
 -- a fixed text
 pub word_stands : (src : List ℕ) (w : Expected) (q : ℕ) (f : Fault) → stands (expected_text w) src q ≡ true → IsMissing src q (a_text w) f → ⊥
 word_stands src w q f is (other_text _ none) = true≢false (sym is ∙ none)
-word_stands src w q f is (ends_before _ byte' past) = cc byte'
 
 module _ (src : List ℕ) (utf8 : IsUtf8 src) where
   -- white space
   pub space_stands : (p : ℕ) (f : Fault) → IsCharBoundary src p → p < spaces_end src p → IsMissing src p a_space f → ⊥
   space_stands p f cut some (none_of _ inside none) =
       true≢false (sym (begins_byte is_space (λ c h. space_ascii c h) src p utf8 cut (some_run is_space src p some)) ∙ none)
-  space_stands p f cut some (ends_before _ byte' past) = let e = run_past is_space src p past in absurd (omega arith)
+  space_stands p f cut some (none_left _ past) = let e = run_past is_space src p past in absurd (omega arith)
 
   -- Chars
   pub chars_stand : (i e : ℕ) (f : Fault) → IsCharBoundary src i → IsCharBoundary src e → AreChars src i e → IsMissing src i (chars_to e) f → ⊥
   chars_stand i e f cut end are (no_char _ q c is below standing ill) = chars_refuse src i e q c utf8 cut end (let le = run_end_le is_char (take e src) i in omega arith) below are standing ill
-  chars_stand i e f cut end are (ends_before _ byte' past) = cc byte'
 
   -- a text up to a fixed one
   pub text_stands : (w : Expected) (s e q : ℕ) (t : DueItem) (f : Fault) → IsCharBoundary src s → IsCharBoundary src (mark_from (expected_text w) src s) → e ≡ mark_from (expected_text w) src s → AreChars src s e → stands (expected_text w) src e ≡ true

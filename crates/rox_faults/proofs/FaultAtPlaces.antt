@@ -19,10 +19,10 @@ use Rattle.rox_grammar.specs.Entities.{Replacement, Entity, text_of, most_deep}
 use Rattle.rox_grammar.specs.State as grammar
 use Rattle.rox_grammar.specs.WellNamed.{IsWellNamed}
 use Rattle.rox_grammar.specs.State.{Open, root, inside, is_root, depth_of, scope_of}
-use Rattle.rox_grammar.specs.Due.{DueItem, IsMissing, no_qname, ends_before, DueInText}
+use Rattle.rox_grammar.specs.Due.{DueItem, IsMissing, no_qname, DueInText}
 use Rattle.rox_grammar.specs.Due as due
 use Rattle.rox_grammar.specs.ContentPoints.{is_main, is_content, TagBegins, of_root, in_content, IsSpent, MayOpen, ValuePart, itself, opened, TagTo}
-use Rattle.rox_grammar.specs.Faults.{InMisc, InRun, no_char, end_mark, in_reference, too_many, InValue, less, less_by_reference, InEnd, lacks, other_name, none_open, Stands, in_run, in_section, in_misc, in_tag, in_end, unknown, unclosed, unclosed_in_replacement, too_many_nodes, too_many_pieces}
+use Rattle.rox_grammar.specs.Faults.{InMisc, InRun, no_char, end_mark, in_reference, too_many, InValue, less, InEnd, lacks, other_name, none_open, Stands, in_run, in_section, in_misc, in_tag, in_end, unknown, unclosed, unclosed_in_replacement, too_many_nodes, too_many_pieces}
 use Rattle.rox_grammar.specs.Faults as faults
 use Rattle.rox_reading.specs.State.{State}
 use Rattle.rox_reading.specs.Markup.{EndTag, end_tag_at}
@@ -53,9 +53,7 @@ use Rattle.rox_faults.proofs.StateCounts.{too_many_counted}
 
 -- where a text may be opened the openings are not spent
 spent_apart : (k b r : ℕ) → MayOpen k b r → IsSpent k b → ⊥
-spent_apart zero b r may spent = spent
-spent_apart (suc k) b r (before, more) (inl none) = absurd (omega arith)
-spent_apart (suc k) b r (before, more) (inr most) = absurd (omega arith)
+spent_apart k b r may spent = spent r may
 
 -- where a start tag begins in content, one is read
 tag_here : (src : List ℕ) (i : ℕ) (x : Bool) → TagBegins src i x → x ≡ true → kind_at src i ≡ a_tag
@@ -148,7 +146,6 @@ module _ (opens : ℕ → Inclusion) (es : List Entity) (all : OpensAt opens es)
     end_apart : (f : Fault) → InEnd open_around src s f → ⊥
     unfolding tag_of
     end_apart f (lacks q t _ (due.DueInEnd.its_name opens') (no_qname none)) = let there = end_there opens' in none there.1.name there.4 there.8.is_name
-    end_apart f (lacks q t _ (due.DueInEnd.its_name opens') (ends_before _ byte' past)) = cc byte'
     end_apart f (lacks q t _ (due.DueInEnd.its_end name n opens' is_name) lack) =
         let there = end_there opens' in
         let same = (one_qname src (s.at + 2) n there.4 name there.1.name is_name there.8.is_name).1 in
@@ -300,8 +297,8 @@ module _ (opens : ℕ → Inclusion) (es : List Entity) (all : OpensAt opens es)
       let there = value_front (is_main l) (opens l) (spends_once r.depth l r.deep) part stop i q refers.n j d c r.openings_left front r.bytes to r.value below refers.is_reference refers.no_character in
       let x = all.value l c there.1 (slice part (q + 1) refers.n) there.0 there.2 in
       spent_apart l c x.1 x.4 spent
-  part_apart l part i stop d f r (less q inner from below here) = value_no_less es (is_main l) (opens l) part r.utf8 stop i q d r.openings_left r.bytes r.value from below here
-  part_apart l part i stop d f r (less_by_reference q j inner from below is) = value_gives_less es (is_main l) (opens l) part r.utf8 (value_declared l) i stop d r.openings_left q j r.bytes r.value inner from below is
+  part_apart l part i stop d f r (less q inner from below (inl here)) = value_no_less es (is_main l) (opens l) part r.utf8 stop i q d r.openings_left r.bytes r.value from below here
+  part_apart l part i stop d f r (less q inner from below (inr (j, is))) = value_gives_less es (is_main l) (opens l) part r.utf8 (value_declared l) i stop d r.openings_left q j r.bytes r.value inner from below is
   part_apart l part i stop d f r (faults.InValue.no_char q c inner from below stands ill) = chars_refuse part i stop q c r.utf8 r.cut r.end_cut from below r.chars stands ill
 
   -- nor in a value of a start tag at a place

@@ -12,7 +12,7 @@ use Rattle.rox_grammar.specs.Search.{byte_from}
 use Rattle.rox_grammar.specs.FixedTexts.{word_text, at}
 use Rattle.rox_grammar.specs.Names.{byte, spaces_end}
 use Rattle.rox_grammar.specs.Doctype.{Request, IsExternalID, BeginsEntity}
-use Rattle.rox_grammar.specs.Due.{DueItem, a_name, a_byte, IsMissing, no_name, no_external_id, ends_before, DueInLiteral, DueInExternalID, DueInEntity, DueInDoctype}
+use Rattle.rox_grammar.specs.Due.{DueItem, a_name, a_byte, IsMissing, no_name, no_external_id, none_left, DueInLiteral, DueInExternalID, DueInEntity, DueInDoctype}
 use Rattle.rox_faults.proofs.DueForms.{a_space, a_quote, a_definition, no_space, no_definition}
 use Rattle.rox_grammar.specs.Due as dues
 use Rattle.rox_reading.specs.Lexical.{byte_at, space_at, quote_at, name_at}
@@ -30,7 +30,7 @@ pub space_fails : (src : List ℕ) (i : ℕ) (f : Fault) → space_at src i ≡ 
 unfolding space_at
 space_fails src i f h =
     chosen (leb (length src) i) _ _ _ h
-    (λ out h. let is : fault.UnexpectedEndOfStream ≡ f = cc in subst (IsMissing src i a_space) is (ends_before a_space refl (leb-true _ _ out)))
+    (λ out h. let is : fault.UnexpectedEndOfStream ≡ f = cc in subst (IsMissing src i a_space) is (none_left _ (leb-true _ _ out)))
     (λ inside h. chosen (is_space (byte src i)) _ _ _ h (λ some h. no_fault _ f h)
     (λ none h. let is : fault.InvalidChar2 due.Space (byte src i) i ≡ f = cc in subst (IsMissing src i a_space) is (no_space (leb-false _ _ inside) none)))
 
@@ -131,7 +131,7 @@ unfolding definition_at
 definition_fails src i n m d parameter f begins' h =
     chosen (leb (length src) d) _ _ _ h
     (λ out h. let is : fault.UnexpectedEndOfStream ≡ f = cc in
-    (d, a_definition, dues.DueInEntity.its_definition parameter n m d begins', subst (IsMissing src d a_definition) is (ends_before a_definition refl (leb-true _ _ out))))
+    (d, a_definition, dues.DueInEntity.its_definition parameter n m d begins', subst (IsMissing src d a_definition) is (none_left _ (leb-true _ _ out))))
     (λ inside h. chosen (byte src d == 34 || byte src d == 39) _ _ _ h
     (λ quote h. bind_err (quoted_at src d) _ f h
     (λ bad.

@@ -17,7 +17,7 @@ use Rattle.rox_grammar.specs.TextStart.{after_bom, MayHaveXmlDecl, declared, not
 use Rattle.rox_grammar.specs.Entities.{Replacement, Entity}
 use Rattle.rox_grammar.specs.Doctype.{Request, Asked, IsQuoted, IsSpace, IsExternalID, system, public, MayHaveNotation, notation, no_notation, CutsNotation, GivesReplacement, nothing, the_rest, IsDefinition, internal, external, BeginsEntity, IsEntityDeclaration, Subset, MayHaveExternalID, external_id, no_external_id, BeginsDoctype, IsDoctype, no_subset, with_subset, SubsetTo}
 use Rattle.rox_grammar.specs.Doctype as dtd
-use Rattle.rox_grammar.specs.Due.{DueItem, a_byte, a_name, IsMissing, ends_before, DueInXmlDecl, DueInLiteral, its_quote, its_end, DueInExternalID, space_before, its_literal, space_between, second_literal, DueInEntity, DueInDoctype, none_of}
+use Rattle.rox_grammar.specs.Due.{DueItem, a_byte, a_name, IsMissing, none_left, DueInXmlDecl, DueInLiteral, its_quote, its_end, DueInExternalID, space_before, its_literal, space_between, second_literal, DueInEntity, DueInDoctype, none_of}
 use Rattle.rox_faults.proofs.DueForms.{a_space, a_quote, a_definition, subset_or_end, doctype_end, quote_is, quote_defines, letter_defines, subset_or_end_is, end_is}
 use Rattle.rox_grammar.specs.Due as due
 use Rattle.rox_grammar.specs.Faults.{in_one, one_too_many}
@@ -39,7 +39,7 @@ use Rattle.rox_faults.proofs.FaultLimits.{IsOver, nodes_over}
 -- a quote that is due and stands there
 quote_stands : (src : List ℕ) (i : ℕ) (f : Fault) → (byte src i ≡ 39) ⊎ (byte src i ≡ 34) → IsMissing src i a_quote f → ⊥
 quote_stands src i f is (none_of _ below none) = true≢false (sym (quote_is (byte src i) is) ∙ none)
-quote_stands src i f is (ends_before _ byte' past) = let some = (quote_ascii (byte src i) is) in let l = within src i (λ z. omega arith) in absurd (omega arith)
+quote_stands src i f is (none_left _ past) = let some = (quote_ascii (byte src i) is) in let l = within src i (λ z. omega arith) in absurd (omega arith)
 
 -- the text of an answer that gives one has no fault in its declaration
 gives_apart : (answer : List ℕ) (given : Option (List ℕ)) (text : Option Replacement) (q : ℕ) (t : DueItem) (f : Fault) → Some answer ≡ given → GivesReplacement given text → at word.XmlDeclStart answer (after_bom answer) ≡ true
@@ -115,11 +115,11 @@ module _ (src : List ℕ) (utf8 : IsUtf8 src) where
   definition_stands : (i j : ℕ) (parameter : Bool) (asked : List Asked) (text : Option Replacement) (f : Fault) → IsDefinition src parameter i j asked text → IsMissing src i a_definition f → ⊥
   definition_stands i j parameter asked text f (internal _ e _ q) (none_of _ below none) = true≢false (sym (quote_defines (byte src i) q.quote) ∙ none)
   definition_stands i j parameter asked text f (internal _ e _ q) (due.IsMissing.no_external_id which no_system no_public) = letter_no_quote i which q.quote
-  definition_stands i j parameter asked text f (internal _ e _ q) (ends_before _ byte' past) = let some = (quote_ascii (byte src i) q.quote) in let l = within src i (λ z. omega arith) in absurd (omega arith)
+  definition_stands i j parameter asked text f (internal _ e _ q) (none_left _ past) = let some = (quote_ascii (byte src i) q.quote) in let l = within src i (λ z. omega arith) in absurd (omega arith)
   definition_stands i j parameter asked text f (external _ n _ request answer _ is may gives) (none_of _ below none) = true≢false (sym (letter_defines (byte src i) (external_byte src i request n is)) ∙ none)
   definition_stands i j parameter asked text f (external _ n _ request answer _ (system _ s e _ is sp q) may gives) (due.IsMissing.no_external_id which no_system no_public) = true≢false (sym is ∙ no_system)
   definition_stands i j parameter asked text f (external _ n _ request answer _ (public _ s d k v e _ is sp q sp' q') may gives) (due.IsMissing.no_external_id which no_system no_public) = true≢false (sym is ∙ no_public)
-  definition_stands i j parameter asked text f (external _ n _ request answer _ is may gives) (ends_before _ byte' past) = let l = (external_cut src i request n utf8 is).2 in absurd (omega arith)
+  definition_stands i j parameter asked text f (external _ n _ request answer _ is may gives) (none_left _ past) = let l = (external_cut src i request n utf8 is).2 in absurd (omega arith)
 
   -- what is due in its literal
   in_literal : (i j p : ℕ) (parameter : Bool) (asked : List Asked) (text : Option Replacement) (t : DueItem) (f : Fault) → IsDefinition src parameter i j asked text → (byte src i ≡ 39) ⊎ (byte src i ≡ 34)
@@ -240,7 +240,7 @@ module _ (src : List ℕ) (utf8 : IsUtf8 src) where
     where
       lack_apart : (f : Fault) → IsMissing src s subset_or_end f → ⊥
       lack_apart f (none_of _ below none) = true≢false (sym (subset_or_end_is (byte src s) ends) ∙ none)
-      lack_apart f (ends_before _ byte' past) = elim ends as (λ _. ⊥) [ inl c ↦ (let l = within src s (λ z. omega arith) in omega arith) | inr o ↦ (let l = within src s (λ z. omega arith) in omega arith) ]
+      lack_apart f (none_left _ past) = elim ends as (λ _. ⊥) [ inl c ↦ (let l = within src s (λ z. omega arith) in omega arith) | inr o ↦ (let l = within src s (λ z. omega arith) in omega arith) ]
 
   -- how one begins
   head_there : (i j : ℕ) (nodes : Forest Item) (asked : List Asked) (es : List Entity) → IsDoctype src i j nodes asked es → (s : ℕ) × BeginsDoctype src i s × ((byte src s ≡ 62) ⊎ (byte src s ≡ 91))
@@ -339,7 +339,7 @@ module _ (src : List ℕ) (utf8 : IsUtf8 src) where
 
       lack_apart : (p : ℕ) (f : Fault) → IsMissing src p doctype_end f → byte src p ≡ 62 → ⊥
       lack_apart p f (none_of _ below none) closes = true≢false (sym (end_is (byte src p) closes) ∙ none)
-      lack_apart p f (ends_before _ byte' past) closes = let l = within src p (λ z. omega arith) in absurd (omega arith)
+      lack_apart p f (none_left _ past) closes = let l = within src p (λ z. omega arith) in absurd (omega arith)
   in_doctype_apart W limit i j before nodes after asked given es source f is few same (in_subset p items _ _ _ _ to fits (unknown none inside)) =
       let c = closed_there i j p items nodes asked given [] es is to (subst (λ (a : List Asked). SameAnswers a given) (sym (append-nil asked)) same) in
       let r = c.front in

@@ -22,7 +22,7 @@ use Rattle.rox_grammar.specs.WellNamed.{may_declare, is_known, same_expanded, Is
 use Rattle.rox_grammar.proofs.NamesApart.{DeclarableBehind, DistinctBehind, declarable_behind, distinct_behind}
 use Rattle.rox_grammar.specs.Document.{with_new, distinct_pairs, most_attributes, most_pairs}
 use Rattle.rox_grammar.specs.State.{State, scope_of, attributes_so_far, pairs_so_far}
-use Rattle.rox_grammar.specs.Due.{DueItem, a_byte, IsMissing, ends_before, DueInPair}
+use Rattle.rox_grammar.specs.Due.{DueItem, a_byte, IsMissing, DueInPair}
 use Rattle.rox_faults.proofs.DueForms.{a_space}
 use Rattle.rox_grammar.specs.ContentPoints.{TagTo}
 use Rattle.rox_grammar.specs.Faults.{IllDeclared, other_uri, uri_of_xml, uri_of_xmlns, again, IllNamed, unknown_attribute, twice, unknown_element, InTag, no_name, xmlns_prefix, cut, cut_in_replacement, no_rest, not_closed, in_pair, ill_declared, too_many_pairs, too_many_attributes, ill_named, in_rest}
@@ -269,7 +269,7 @@ module _ (context : Values) (O : Inclusion) (agrees : AgreesValue context.entiti
         let x = tag_front p c as' to in let l = next_within p j c empty x.0 x.2 in absurd (omega (arith, run_end_le is_space src p))
     tag_apart f (in_rest p c as' _ to (cut_in_replacement past main')) =
         let x = tag_front p c as' to in let l = next_within p j c empty x.0 x.2 in absurd (omega (arith, run_end_le is_space src p))
-    tag_apart f (in_rest p c as' _ to (no_rest _ below (ends_before _ byte' past))) = let x = tag_front p c as' to in let l = next_within p j c empty x.0 x.2 in absurd (omega arith)
+    tag_apart f (in_rest p c as' _ to (no_rest below past)) = let x = tag_front p c as' to in let l = next_within p j c empty x.0 x.2 in absurd (omega arith)
     tag_apart f (faults.InTag.in_rest p c as' _ to (faults.InTagRest.no_space _ below no_slash no_close lack)) = let x = tag_front p c as' to in absurd (space_apart p c x.0 f (to_cut p c as' to) x.2 no_slash no_close lack)
     tag_apart f (in_rest p c as' _ to (not_closed _ slash lack)) = let x = tag_front p c as' to in absurd (slash_apart p j c empty x.0 f x.2 slash lack)
     tag_apart f (in_rest p c as' _ to (in_pair q t _ spaces inside no_slash no_close due lack)) = let x = tag_front p c as' to in absurd (pair_in p q c x.0 t f x.2 no_slash no_close due lack)

@@ -1,6 +1,6 @@
 -- A fault that stands in a text refuses it: the text has no parse within the limits, and none at all if the fault is not that of a
 -- limit.
-use Rattle.std.proofs.Common.{◌≡◌, ℕ, ◌+◌, ◌<◌, ◌≤◌, Bool, true, false, List, [], length, refl, sym, ap, ◌∙◌, subst, arith}
+use Rattle.std.proofs.Common.{◌≡◌, ℕ, ◌+◌, ◌<◌, ◌≤◌, Bool, true, false, List, [], length, refl, sym, ap, ◌∙◌, subst, arith, inl, inr}
 use Rattle.std.specs.Str.{IsUtf8}
 use Rattle.std.proofs.lemmas.Str.{IsCharBoundary-before_ascii}
 use Rattle.std.proofs.lemmas.Bool.{true≢false}
@@ -19,7 +19,7 @@ use Rattle.rox_theory.specs.ParseParts.{no_doctype}
 use Rattle.rox_grammar.specs.State as grammar
 use Rattle.rox_grammar.specs.State.{root, nodes_so_far, FitsLimits}
 use Rattle.rox_grammar.specs.ContentPoints.{is_main, RootBegins, ContentPoint}
-use Rattle.rox_grammar.specs.Faults.{FaultFrom, no_root, unknown_ahead, at_place, in_value, unknown_behind, in_one, misc_ahead, misc_behind, one_too_many, at_point}
+use Rattle.rox_grammar.specs.Faults.{FaultFrom, no_root, unknown_ahead, at_place, in_value, unknown_behind, in_one, misc_around, one_too_many, at_point}
 use Rattle.rox_grammar.specs.FaultsWithDoctype.{RefusalOf, FaultOf, without, in_declaration, not_allowed, in_doctype}
 use Rattle.rox_grammar.specs.FaultsWithDoctype as rows
 use Rattle.rox_reading.specs.State.{State}
@@ -158,8 +158,8 @@ module _ (opens : ℕ → Inclusion) (es : List Entity) (all : OpensAt opens es)
 
     -- no fault stands in the text but those of the limits
     pub never : (kind : Bool) (source : List ℕ) (f : Fault) → FaultFrom opens es limit text kind Front source f → IsOver W f
-    never kind source f (misc_ahead q items _ front fits (in_one _ ill)) = let r = p.ahead q items front in absurd (misc_at text utf8 q p.start r.0 f r.1 root_at.2 ill)
-    never kind source f (misc_ahead q items _ front fits (one_too_many k item is over)) =
+    never kind source f (misc_around q items _ (inl front) fits (in_one _ ill)) = let r = p.ahead q items front in absurd (misc_at text utf8 q p.start r.0 f r.1 root_at.2 ill)
+    never kind source f (misc_around q items _ (inl front) fits (one_too_many k item is over)) =
         let all' = join items (leaf item) in
         let r = p.ahead k all' (p.on q k items (leaf item) front (an_item q k k item Nil is (no_misc k))) in
         nodes_over W (λ w.
@@ -170,8 +170,8 @@ module _ (opens : ℕ → Inclusion) (es : List Entity) (all : OpensAt opens es)
     never kind source f (at_point k open_around b _ s _ _ place fits (at_place _ stands)) = stands_apart opens es all limit W k open_around b source s (place_there kind k open_around b source s place) f stands
     never kind source f (at_point k open_around b src s _ _ place fits (in_value c l i stop d _ _ value part ill)) =
         absurd (value_apart opens es all limit W k open_around b value.p c value.pair.n value.pair.v value.pair.e value.j l i stop d src source s value.written value.pair.name f (place_there kind k open_around b src s place) value.begins value.to value.pair.is_name value.pair.eq value.pair.literal part ill)
-    never kind source f (misc_behind q items _ behind fits (in_one _ ill)) = let r = behind_rest q items behind in absurd (misc_at text utf8 q (length text) r.rest f r.misc (end_stops text) ill)
-    never kind source f (misc_behind q items _ behind fits (one_too_many k item is over)) =
+    never kind source f (misc_around q items _ (inr behind) fits (in_one _ ill)) = let r = behind_rest q items behind in absurd (misc_at text utf8 q (length text) r.rest f r.misc (end_stops text) ill)
+    never kind source f (misc_around q items _ (inr behind) fits (one_too_many k item is over)) =
         let r = behind_rest q items behind in
         let s = misc_front text utf8 q k (length text) (leaf item) r.rest (an_item q k k item Nil is (no_misc k)) r.misc (end_stops text) in
         let whole : join (join p.before p.one) p.after ≡ join (join items (leaf item)) s.0 = r.whole ∙ ap (join items) s.2 ∙ sym (join_assoc items (leaf item) s.0) in

@@ -12,7 +12,7 @@ use Rattle.rox_grammar.specs.Names.{byte, spaces_end, IsQName}
 use Rattle.rox_grammar.specs.FixedTexts.{word_text, at}
 use Rattle.rox_grammar.specs.Constructs.{AreChars, IsEq, IsLiteral, IsPair, IsGap, some_space, MayBePair, is_pair, no_pair, MayEndPair, is_last, no_last, IsXmlDecl}
 use Rattle.rox_grammar.specs.Constructs as constructs
-use Rattle.rox_grammar.specs.Due.{DueItem, a_byte, a_gap, a_text, chars_to, IsMissing, no_gap, ends_before, DueInPair, its_name, equals, opening, its_value, closing, value_end, PairBegins, version, encoding, standalone, DueInXmlDecl, its_version, in_pair, behind_pair, none_of}
+use Rattle.rox_grammar.specs.Due.{DueItem, a_byte, a_gap, a_text, chars_to, IsMissing, no_gap, none_left, DueInPair, its_name, equals, opening, its_value, closing, value_end, PairBegins, version, encoding, standalone, DueInXmlDecl, its_version, in_pair, behind_pair, none_of}
 use Rattle.rox_faults.proofs.DueForms.{a_quote, quote_is}
 use Rattle.rox_grammar.specs.Due as due
 use Rattle.rox_reading.specs.Lexical.{qname_at}
@@ -37,8 +37,8 @@ one_qname src i m n x y a b =
 -- a quote that is due and stands there
 quote_stands : (src : List ℕ) (q : ℕ) (f : Fault) → (byte src q ≡ 39) ⊎ (byte src q ≡ 34) → IsMissing src q a_quote f → ⊥
 quote_stands src q f is (none_of _ inside none) = true≢false (sym (quote_is (byte src q) is) ∙ none)
-quote_stands src q f (inl is) (ends_before _ byte' past) = let l = within src q (λ z. omega arith) in absurd (omega arith)
-quote_stands src q f (inr is) (ends_before _ byte' past) = let l = within src q (λ z. omega arith) in absurd (omega arith)
+quote_stands src q f (inl is) (none_left _ past) = let l = within src q (λ z. omega arith) in absurd (omega arith)
+quote_stands src q f (inr is) (none_left _ past) = let l = within src q (λ z. omega arith) in absurd (omega arith)
 
 -- where the value begins
 pub eq_one : (src : List ℕ) (m n v w : ℕ) → m ≡ n → IsEq src m v → IsEq src n w → v ≡ w
@@ -90,7 +90,6 @@ module _ (src : List ℕ) (utf8 : IsUtf8 src) where
       true≢false (sym (begins_byte is_space (λ c h. space_ascii c h) src i utf8 cut (some_run is_space src i some)) ∙ no_space)
   gap_stands i j f cut (constructs.IsGap.no_space _ (inl end)) (no_gap inside no_space no_end) = absurd (omega arith)
   gap_stands i j f cut (constructs.IsGap.no_space _ (inr here)) (no_gap inside no_space no_end) = true≢false (sym here ∙ no_end)
-  gap_stands i j f cut gap (ends_before _ byte' past) = cc byte'
 
   -- a pair that may stand does, with its gap, where its word does
   may_is : (w : Word) (i k : ℕ) → at w src i ≡ true → MayBePair (word_text w) src i k → (j : ℕ) × IsPair src i j × IsGap src j k

@@ -106,7 +106,7 @@ plain_few limit s item no_attributes no_pairs fits = let few = fits_few limit s.
 -- what is left where none may be opened
 pub spent_here : (l after openings_left : ℕ) (f : Fault) → budget (is_main l) after openings_left ≡ Err f → IsSpent l openings_left × (fault.EntityReferenceLoop after ≡ f)
 spent_here zero after openings_left f h = no_fault _ f h
-spent_here (suc l) after zero f h = (inl refl, cc h)
+spent_here (suc l) after zero f h = (λ r may. omega (arith, may.0), cc h)
 spent_here (suc l) after (suc r) f h = no_fault _ f h
 
 -- and where one may
@@ -118,7 +118,7 @@ may_open (suc l) after (suc n) r fewer h = let e : n ≡ r = cc in (omega arith,
 -- the deepest
 pub deepest : (l openings_left : ℕ) → zero + l ≡ most_deep → IsSpent l openings_left
 deepest zero openings_left h = absurd (omega arith)
-deepest (suc l) openings_left h = inr (omega arith)
+deepest (suc l) openings_left h = λ r may. omega (arith, may.1)
 
 -- ---- places
 

@@ -1,5 +1,5 @@
 -- The refusal of a whole text, with a document type declaration or without.
-use Rattle.std.proofs.Common.{◌≡◌, ℕ, zero, suc, ◌+◌, ◌-◌, ◌≤◌, max, ◌==◌, Bool, true, false, nat_lt, List, [], ◌++◌, length, refl, sym, ap, ◌∙◌, subst, arith}
+use Rattle.std.proofs.Common.{◌≡◌, ℕ, zero, suc, ◌+◌, ◌-◌, ◌≤◌, max, ◌==◌, Bool, true, false, nat_lt, List, [], ◌++◌, length, refl, sym, ap, ◌∙◌, subst, arith, inl, inr}
 use Rattle.std.specs.Prelude.{Result, Ok, Err}
 use Rattle.std.specs.Str.{IsUtf8, IsCharBoundary}
 use Rattle.std.proofs.lemmas.List.{append-nil}
@@ -21,7 +21,7 @@ use Rattle.rox_theory.specs.ParseParts.{MayHaveDoctype}
 use Rattle.rox_grammar.specs.Document as document
 use Rattle.rox_grammar.specs.State.{root, FitsLimits}
 use Rattle.rox_grammar.specs.ContentPoints.{is_main}
-use Rattle.rox_grammar.specs.Faults.{in_one, misc_ahead, one_too_many}
+use Rattle.rox_grammar.specs.Faults.{in_one, misc_around, one_too_many}
 use Rattle.rox_grammar.specs.FaultsWithDoctype.{opens_at, RefusalOf, FaultOf, in_declaration, without, not_allowed, in_doctype, behind}
 use Rattle.rox_grammar.specs.FaultsWithDoctype as rows
 use Rattle.rox_reading.specs.Refusals.{Refusal, here, there, refused, lifted}
@@ -232,8 +232,8 @@ module _ (src : List ℕ) (utf8 : IsUtf8 src) (limit : ℕ) (allow : Bool) where
         (body_fails src utf8 (opens_at es) es limit most true Front less least values contents texts elements s.at (join (join before items) m.0) x stops.3 fine'' there stops.1 stops.2 (λ z. cc z)
         (subst (λ (s : State). body limit es src s ≡ Err x) s_is bad)))))
         (λ f bad. one_more asked (here f) (behind asked es src f may
-        (misc_fails src utf8 limit most less least f Front on (From (opens_at es) es limit src true Front src f) (λ p items point fits ill. misc_ahead p items _ point fits (in_one f ill))
-        (λ p j items item point fits item_is many is. subst (From (opens_at es) es limit src true Front src) is (misc_ahead p items _ point fits (one_too_many j item item_is many)))
+        (misc_fails src utf8 limit most less least f Front on (From (opens_at es) es limit src true Front src f) (λ p items point fits ill. misc_around p items _ (inl point) fits (in_one f ill))
+        (λ p j items item point fits item_is many is. subst (From (opens_at es) es limit src true Front src) is (misc_around p items _ (inl point) fits (one_too_many j item item_is many)))
         (length src) 255 e.state.at (join before items) point fine' cut (subst (λ (t : State). misc limit (length src) src t ≡ Err f) state_is bad))))
 
     -- either way
@@ -289,8 +289,8 @@ module _ (src : List ℕ) (utf8 : IsUtf8 src) (limit : ℕ) (allow : Bool) where
       subst (λ (t : State). Whole (whole.doctype limit allow src (record { state = t; entities = []; replies = replies }) >>> rest_of)) (sym s_is)
       (doctype_whole s.at m.0 replies texts stops.3 (subst (IsValidState most) s_is m.3) there stops.0 stops.1 stops.2))
       (λ f bad.
-      misc_fails src utf8 limit most less least f (PrologTo src) (ahead_on src utf8) (RefusalOf limit allow src [] src f) (λ p items point fits ill. without f (misc_ahead p items _ point fits (in_one f ill)))
-      (λ p j items item point fits item_is many is. subst (RefusalOf limit allow src [] src) is (without fault.NodesLimitReached (misc_ahead p items _ point fits (one_too_many j item item_is many))))
+      misc_fails src utf8 limit most less least f (PrologTo src) (ahead_on src utf8) (RefusalOf limit allow src [] src f) (λ p items point fits ill. without f (misc_around p items _ (inl point) fits (in_one f ill)))
+      (λ p j items item point fits item_is many is. subst (RefusalOf limit allow src [] src) is (without fault.NodesLimitReached (misc_around p items _ (inl point) fits (one_too_many j item item_is many))))
       (length src) 255 i Nil ahead start cut bad))
       (λ f bad. chosen (at word.XmlDeclStart src b) _ _ _ bad
       (λ is bad. bind_err (xml_decl_at src b) _ f bad (λ bad. let w = declaration_fails src utf8 b f bad in in_declaration w.0 w.1 f is w.2 w.3) (λ x read bad. no_fault _ f bad))

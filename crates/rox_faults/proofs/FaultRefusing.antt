@@ -1,6 +1,6 @@
 -- A refusal that stands in a text refuses its parses within the limits, where the answers are the same as far as both go; and all of
 -- its parses if it is not that of a limit.
-use Rattle.std.proofs.Common.{◌≡◌, ℕ, zero, suc, ◌+◌, ◌-◌, ◌<◌, ◌≤◌, Bool, true, false, List, [], length, Some, refl, sym, ap, ◌∙◌, subst, arith}
+use Rattle.std.proofs.Common.{◌≡◌, ℕ, zero, suc, ◌+◌, ◌-◌, ◌<◌, ◌≤◌, Bool, true, false, List, [], length, Some, refl, sym, ap, ◌∙◌, subst, arith, inl, inr}
 use Rattle.std.specs.Str.{IsUtf8}
 use Rattle.std.proofs.lemmas.Bool.{true≢false}
 use Rattle.rox_grammar.specs.declared.fault.Fault.{Fault}
@@ -20,7 +20,7 @@ use Rattle.rox_theory.specs.ParseParts.{MayHaveDoctype, doctype, no_doctype}
 use Rattle.rox_grammar.specs.State as grammar
 use Rattle.rox_grammar.specs.State.{root}
 use Rattle.rox_grammar.specs.ContentPoints.{is_main, MayOpen, RootBegins, ContentPoint, begins, goes, enters}
-use Rattle.rox_grammar.specs.Faults.{FaultFrom, no_root, unknown_ahead, at_place, in_value, unknown_behind, in_one, misc_ahead, misc_behind, one_too_many, at_point}
+use Rattle.rox_grammar.specs.Faults.{FaultFrom, no_root, unknown_ahead, at_place, in_value, unknown_behind, in_one, misc_around, one_too_many, at_point}
 use Rattle.rox_grammar.specs.FaultsWithDoctype.{InDoctype, opens_at, RefusalOf, in_declaration, without, not_allowed, in_doctype, behind}
 use Rattle.rox_reading.specs.WholeText.{prolog}
 use Rattle.rox_reading.proofs.Forests.{join_assoc, merge-more}
@@ -54,16 +54,16 @@ place_front opens es text Root k open_around b src s (enters l other d c r stop 
 -- and before a fault
 front_of : (opens : ℕ → Inclusion) (es : List Entity) (limit : ℕ) (text : List ℕ) (behind_dtd : Bool) (Front : ℕ → Forest Item → Type 0) (source : List ℕ) (f : Fault) → FaultFrom opens es limit text behind_dtd Front source f
     → (p : ℕ) × (items : Forest Item) × Front p items
-front_of opens es limit text behind_dtd Front source f (misc_ahead p items _ front fits (in_one _ ill)) = (p, items, front)
-front_of opens es limit text behind_dtd Front source f (misc_ahead p items _ front fits (one_too_many j item is over)) = (p, items, front)
+front_of opens es limit text behind_dtd Front source f (misc_around p items _ (inl front) fits (in_one _ ill)) = (p, items, front)
+front_of opens es limit text behind_dtd Front source f (misc_around p items _ (inl front) fits (one_too_many j item is over)) = (p, items, front)
 front_of opens es limit text behind_dtd Front source f (no_root items front fits) = (length text, items, front)
 front_of opens es limit text behind_dtd Front source f (unknown_ahead p items front fits below no_space no_less) = (p, items, front)
 front_of opens es limit text behind_dtd Front source f (at_point k open_around b _ s _ _ place fits (at_place _ stands)) =
     let r = place_front opens es text (λ p items. Front p items × RootBegins behind_dtd text p) k open_around b source s place in (r.0, r.1, r.2.0)
 front_of opens es limit text behind_dtd Front source f (at_point k open_around b src s _ _ place fits (in_value c l i stop d part _ value is ill)) =
     let r = place_front opens es text (λ p items. Front p items × RootBegins behind_dtd text p) k open_around b src s place in (r.0, r.1, r.2.0)
-front_of opens es limit text behind_dtd Front source f (misc_behind p items _ back fits (in_one _ ill)) = (back.start, back.before, back.ahead)
-front_of opens es limit text behind_dtd Front source f (misc_behind p items _ back fits (one_too_many j item is over)) = (back.start, back.before, back.ahead)
+front_of opens es limit text behind_dtd Front source f (misc_around p items _ (inr back) fits (in_one _ ill)) = (back.start, back.before, back.ahead)
+front_of opens es limit text behind_dtd Front source f (misc_around p items _ (inr back) fits (one_too_many j item is over)) = (back.start, back.before, back.ahead)
 front_of opens es limit text behind_dtd Front source f (unknown_behind p items back fits below a b c) = (back.start, back.before, back.ahead)
 
 -- a document type declaration begins where it stands
@@ -122,8 +122,8 @@ module _ (limit : ℕ) (src : List ℕ) (utf8 : IsUtf8 src) (given : List Asked)
 
   -- no fault stands before it but those of the limits
   ahead_over : (source : List ℕ) (f : Fault) → FaultFrom (λ k. no_entities) [] limit src false (PrologTo src) source f → IsOver (IsWithinLimits limit tree) f
-  ahead_over source f (misc_ahead q items _ ahead fits (in_one _ ill)) = let r = ahead_rest q items ahead in absurd (misc_at src utf8 q p.begun r.0 f r.1 (doctype_stops src p.begun begins_here) ill)
-  ahead_over source f (misc_ahead q items _ ahead fits (one_too_many j item is over)) =
+  ahead_over source f (misc_around q items _ (inl ahead) fits (in_one _ ill)) = let r = ahead_rest q items ahead in absurd (misc_at src utf8 q p.begun r.0 f r.1 (doctype_stops src p.begun begins_here) ill)
+  ahead_over source f (misc_around q items _ (inl ahead) fits (one_too_many j item is over)) =
       let all = join items (leaf item) in
       let r = ahead_rest j all (ahead_on src utf8 q j items (leaf item) ahead (an_item q j j item Nil is (no_misc j))) in
       let rest = join p.nodes (join p.one p.after) in
@@ -139,8 +139,8 @@ module _ (limit : ℕ) (src : List ℕ) (utf8 : IsUtf8 src) (given : List Asked)
       let r = place_front (λ k. no_entities) [] src (λ p items. PrologTo src p items × RootBegins false src p) k open_around b source s place in absurd (no_root_begins r.0 r.1 r.2.0 r.2.1)
   ahead_over source f (at_point k open_around b other s _ _ place fits (in_value c l i stop d part _ value is ill)) =
       let r = place_front (λ k. no_entities) [] src (λ p items. PrologTo src p items × RootBegins false src p) k open_around b other s place in absurd (no_root_begins r.0 r.1 r.2.0 r.2.1)
-  ahead_over source f (misc_behind q items _ back fits (in_one _ ill)) = absurd (no_root_behind q items back)
-  ahead_over source f (misc_behind q items _ back fits (one_too_many j item is over)) = absurd (no_root_behind q items back)
+  ahead_over source f (misc_around q items _ (inr back) fits (in_one _ ill)) = absurd (no_root_behind q items back)
+  ahead_over source f (misc_around q items _ (inr back) fits (one_too_many j item is over)) = absurd (no_root_behind q items back)
   ahead_over source f (unknown_behind q items back fits below a b c) = absurd (no_root_behind q items back)
 
   -- nor in the declaration

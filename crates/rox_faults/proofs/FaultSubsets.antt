@@ -19,7 +19,7 @@ use Rattle.rox_grammar.specs.TextStart.{after_bom}
 use Rattle.rox_grammar.specs.Entities.{Replacement, Entity}
 use Rattle.rox_grammar.specs.Doctype.{Request, Asked, IsDefinition, internal, external, IsPassedOver, Subset, no_more, space, an_item, skipped_declaration, an_entity, BeginsDoctype, IsDoctype, no_subset, with_subset, entry, SubsetTo}
 use Rattle.rox_grammar.specs.State.{root, nodes_so_far, FitsLimits}
-use Rattle.rox_grammar.specs.Due.{DueItem, a_byte, IsMissing, ends_before, DueInXmlDecl}
+use Rattle.rox_grammar.specs.Due.{DueItem, a_byte, IsMissing, none_left, DueInXmlDecl}
 use Rattle.rox_faults.proofs.DueForms.{doctype_end, subset_or_end, no_end, no_subset_or_end}
 use Rattle.rox_grammar.specs.Due as dues
 use Rattle.rox_grammar.specs.Faults.{in_one, one_too_many}
@@ -333,7 +333,7 @@ module _ (src : List ℕ) (utf8 : IsUtf8 src) (limit most : ℕ) (less : limit �
           let e = spaces_end src (k + 1) in
           let S : Asks Dtd → Type 0 = Outcome asked0 in
           cond_both (nat_le (length src) e) _ _ S
-          (λ out. here_now asked0 fault.UnexpectedEndOfStream (in_subset k so.items asked0 _ _ _ to_here fits (end_lacks fault.UnexpectedEndOfStream closing (ends_before doctype_end refl (leb-true _ _ out)))))
+          (λ out. here_now asked0 fault.UnexpectedEndOfStream (in_subset k so.items asked0 _ _ _ to_here fits (end_lacks fault.UnexpectedEndOfStream closing (none_left _ (leb-true _ _ out)))))
           (λ inside. cond_both (byte src e == 62) _ _ S
           (λ closes.
           let is = eqb-true _ _ closes in
@@ -479,7 +479,7 @@ module _ (src : List ℕ) (utf8 : IsUtf8 src) (limit most : ℕ) (less : limit �
       elim (name_or_end src n.1 name named) as (λ _. In [] src fault.UnexpectedEndOfStream) [
         | inl is ↦ (
             let begins : BeginsDoctype src i head.1 = record { opens = opens; n = n.1; space_before = sp; m = name.1; name = is.0; x = y.1; external = if_sound src (spaces_end src name.1) y may; next = sym e } in
-            head_lacks head.1 subset_or_end fault.UnexpectedEndOfStream (dues.DueInDoctype.its_end head.1 begins) (ends_before subset_or_end refl out))
+            head_lacks head.1 subset_or_end fault.UnexpectedEndOfStream (dues.DueInDoctype.its_end head.1 begins) (none_left _ out))
         | inr cut ↦ no_name n.1 sp cut.0
       ])))
 

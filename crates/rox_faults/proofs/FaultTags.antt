@@ -27,7 +27,7 @@ use Rattle.rox_grammar.specs.Entities.{Entity, most_deep}
 use Rattle.rox_grammar.specs.State as grammar
 use Rattle.rox_grammar.specs.State.{Open, root, State, scope_of, attributes_so_far, pairs_so_far}
 use Rattle.rox_grammar.specs.OpenElements.{tree_so_far}
-use Rattle.rox_grammar.specs.Due.{DueItem, a_byte, a_qname, chars_to, tag_rest, IsMissing, ends_before, DueInPair, its_name, equals, opening, its_value, closing, value_end}
+use Rattle.rox_grammar.specs.Due.{DueItem, a_byte, a_qname, chars_to, IsMissing, no_byte, none_left, DueInPair, its_name, equals, opening, its_value, closing, value_end}
 use Rattle.rox_faults.proofs.DueForms.{a_quote, no_space, no_quote}
 use Rattle.rox_grammar.specs.ContentPoints.{is_main, TagTo}
 use Rattle.rox_grammar.specs.Faults.{SpanIs, cut_off, IllDeclared, other_uri, uri_of_xml, uri_of_xmlns, again, IllNamed, unknown_attribute, twice, unknown_element, InTag, no_name, xmlns_prefix, cut, cut_in_replacement, no_rest, not_closed, in_pair, ill_declared, too_many_pairs, too_many_attributes, ill_named, in_rest}
@@ -60,7 +60,7 @@ pub quote_fails : (src : List ℕ) (i : ℕ) (f : Fault) → quote_at src i ≡ 
 unfolding quote_at
 quote_fails src i f h =
     chosen (leb (length src) i) _ _ _ h
-    (λ past h. let is : fault.UnexpectedEndOfStream ≡ f = cc in subst (IsMissing src i a_quote) is (ends_before a_quote refl (leb-true _ _ past)))
+    (λ past h. let is : fault.UnexpectedEndOfStream ≡ f = cc in subst (IsMissing src i a_quote) is (none_left _ (leb-true _ _ past)))
     (λ inside h. chosen (eqb (byte src i) 39 || eqb (byte src i) 34) _ _ _ h (λ same h. cc)
     (λ apart h.
     let both = or_parts (eqb (byte src i) 39) (eqb (byte src i) 34) apart in
@@ -200,7 +200,7 @@ module _ (src : List ℕ) (utf8 : IsUtf8 src) where
       let bad' = rw (q0, q1) at bad in
       chosen (leb (length src) e) _ _ _ bad'
       (λ out bad. let is : fault.UnexpectedEndOfStream ≡ f = cc in
-      (e, a_byte (byte src v), closing name.0 name.1 v is_name eq quote.0 (inl (leb-true _ _ out)), subst (IsMissing src e (a_byte (byte src v))) is (ends_before (a_byte (byte src v)) refl (leb-true _ _ out))))
+      (e, a_byte (byte src v), closing name.0 name.1 v is_name eq quote.0 (inl (leb-true _ _ out)), subst (IsMissing src e (a_byte (byte src v))) is (no_byte (byte src v) (leb-true _ _ out))))
       (λ some bad. (v + 1, chars_to e, its_value name.0 name.1 v is_name eq quote.0, chars_fails src (v + 1) e f utf8 cut' (value_cut v inside quote.0) le bad)))
       (λ text read h.
       let read' = rw (q0, q1) at read in
@@ -308,7 +308,7 @@ module _ (opens : ℕ → Inclusion) (es : List Entity) (agrees : (d l : ℕ) �
     turn_fails p c as' f to below h =
         let j = spaces_end src p in
         chosen (leb (length src) j) _ _ _ h
-        (λ out h. let is : fault.UnexpectedEndOfStream ≡ f = cc in subst Fails is (in_rest p c as' _ to (no_rest fault.UnexpectedEndOfStream below (ends_before tag_rest refl (leb-true _ _ out)))))
+        (λ out h. let is : fault.UnexpectedEndOfStream ≡ f = cc in subst Fails is (in_rest p c as' _ to (no_rest below (leb-true _ _ out))))
         (λ inside h. chosen (eqb (byte src j) 47) _ _ _ h
         (λ slash h. bind_err (byte_at 62 src (j + 1)) _ f h (λ bad. in_rest p c as' _ to (not_closed f (eqb-true _ _ slash) (byte_fails 62 src (j + 1) f bad))) (λ x read h. no_fault _ f h))
         (λ no_slash h. chosen (eqb (byte src j) 62) _ _ _ h (λ greater h. cc)

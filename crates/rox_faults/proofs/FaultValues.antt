@@ -12,9 +12,9 @@ use Rattle.rox_grammar.specs.Names.{byte, slice}
 use Rattle.rox_grammar.specs.References.{IsCharacter}
 use Rattle.rox_grammar.specs.Content.{Inclusion, is_verbatim_value, value_bytes, Value, value_ends, line_end, white, other, a_character, an_entity}
 use Rattle.rox_grammar.specs.Entities.{Replacement, Entity, text_of, most_deep}
-use Rattle.rox_grammar.specs.Due.{IsMissing, no_char, ends_before, chars_to}
+use Rattle.rox_grammar.specs.Due.{IsMissing, no_char, chars_to}
 use Rattle.rox_grammar.specs.ContentPoints.{is_main, RefersTo, MayOpen, IsSpent, ValuePart, opened}
-use Rattle.rox_grammar.specs.Faults.{InReferences, InValue, in_reference, too_many, less, less_by_reference}
+use Rattle.rox_grammar.specs.Faults.{InReferences, InValue, in_reference, too_many, less}
 use Rattle.rox_grammar.specs.Faults as faults
 use Rattle.rox_reading.specs.Lexical.{chars_up_to}
 use Rattle.rox_reading.specs.Refusals.{Refusal}
@@ -94,7 +94,6 @@ module _ (src : List ℕ) (utf8 : IsUtf8 src) (es : List Entity) (stop : ℕ) (l
   chars_ill p e f to (no_char _ q c is before stands ill) =
       let le = run_end_le is_char (take e src) p in
       ill_char q c refl (omega arith) (omega arith) stands ill
-  chars_ill p e f to (ends_before _ takes past) = absurd (false≢true takes)
 
   -- a stretch
   stretch_fails : (main : Bool) (p : ℕ) (f : Fault) → p < stop → IsCharBoundary src p → stretch_at main src stop p ≡ Err f → IllBit main p f
@@ -142,8 +141,8 @@ module _ (opens : ℕ → Inclusion) (es : List Entity) (k : ℕ) (whole : List 
     -- a fault of a bit is one of the part
     bit_stands : (p : ℕ) (f : Fault) → i ≤ p → p < stop → IllBit src utf8 es stop long closes (is_main l) p f → InPart src f
     bit_stands p f from below (ill_reference _ ill) = in_part l i stop c0 part (in_reference p f from below ill)
-    bit_stands p f from below (gives_less j within is) = in_part l i stop c0 part (less_by_reference p j within from below is)
-    bit_stands p f from below (is_less q within from' below' is) = in_part l i stop c0 part (less q within (omega arith) below' is)
+    bit_stands p f from below (gives_less j within is) = in_part l i stop c0 part (less p within from below (inr (j, is)))
+    bit_stands p f from below (is_less q within from' below' is) = in_part l i stop c0 part (less q within (omega arith) below' (inl is))
     bit_stands p f from below (ill_char q c within from' below' stands ill) = in_part l i stop c0 part (faults.InValue.no_char q c within (omega arith) below' stands ill)
 
     -- the value is read up to here

@@ -32,7 +32,7 @@ use Rattle.rox_grammar.specs.Due.{DueItem, a_byte, a_qname, a_gap, a_text, chars
 use Rattle.rox_faults.proofs.DueForms.{a_quote}
 use Rattle.rox_grammar.specs.Due as dues
 use Rattle.rox_grammar.specs.ContentPoints.{is_main, begins, of_root}
-use Rattle.rox_grammar.specs.Faults.{InMisc, no_root, unknown_ahead, unknown_behind, in_one, misc_ahead, misc_behind, one_too_many}
+use Rattle.rox_grammar.specs.Faults.{InMisc, no_root, unknown_ahead, unknown_behind, in_one, misc_around, one_too_many}
 use Rattle.rox_grammar.specs.FaultsWithDoctype.{FaultOf, without, in_declaration, not_allowed}
 use Rattle.rox_reading.specs.Lexical.{byte_at, quote_at, qname_at, chars_up_to}
 use Rattle.rox_reading.specs.Markup.{comment_at, instruction_at, pair_at, gap_at, pair_if, xml_decl_at}
@@ -334,8 +334,8 @@ module _ (src : List ℕ) (utf8 : IsUtf8 src) where
         lifted_err (misc limit (length src) src u) _ e h
         (λ f bad same.
         refuses_here es P src f e same
-        (misc_fails limit most less least f (Behind (opens 0) src Front) behind_on (P src f) (λ p items point fits ill. misc_behind p items _ point fits (in_one f ill))
-        (λ p j items item point fits item_is many is. subst (P src) is (misc_behind p items _ point fits (one_too_many j item item_is many)))
+        (misc_fails limit most less least f (Behind (opens 0) src Front) behind_on (P src f) (λ p items point fits ill. misc_around p items _ (inr point) fits (in_one f ill))
+        (λ p j items item point fits item_is many is. subst (P src) is (misc_around p items _ (inr point) fits (one_too_many j item item_is many)))
         (length src) u.openings_left u.at (join before one) behind (subst (IsValidState most) u_is root'.4) (ends_cut src u.at utf8 (element_ends true (opens 0) src i u.at 255 root'.0 one root'.2))
         (subst (λ (u : State). misc limit (length src) src u ≡ Err f) u_is bad)))
         (λ v rest h. no_fault _ e h))))
@@ -446,8 +446,8 @@ module _ (src : List ℕ) (utf8 : IsUtf8 src) where
       (λ bad. lifted_only (misc limit (length src) src first) e bad (λ f bad same. (
         f,
         same,
-        misc_fails limit most less least f (PrologTo src) ahead_on (FaultOf limit src f) (λ p items point fits ill. without f (misc_ahead p items _ point fits (in_one f ill)))
-            (λ p j items item point fits item_is many is. subst (FaultOf limit src) is (without fault.NodesLimitReached (misc_ahead p items _ point fits (one_too_many j item item_is many)))) (length src) 255 i Nil ahead start cut' bad,
+        misc_fails limit most less least f (PrologTo src) ahead_on (FaultOf limit src f) (λ p items point fits ill. without f (misc_around p items _ (inl point) fits (in_one f ill)))
+            (λ p j items item point fits item_is many is. subst (FaultOf limit src) is (without fault.NodesLimitReached (misc_around p items _ (inl point) fits (one_too_many j item item_is many)))) (length src) 255 i Nil ahead start cut' bad,
       )))
       (λ s read h.
       let begun = lifted_ok read in

@@ -1,7 +1,7 @@
--- The points that reading comes to: places of content, and points before and behind the root element. A construct is
--- passed where it stands in the grammar and is well named; nothing else is.
+-- The points of content that reading comes to, in the root element and in replacement texts. A construct is passed where it stands
+-- in the grammar and is well named; nothing else is.
 use Prim.Native.Char.{code}
-use Rattle.std.specs.Prelude.{◌≡◌, ◌≢◌, ℕ, zero, suc, ◌+◌, ◌<◌, ◌≤◌, ◌⊎◌, Some, None, Bool, true, false, List, length, bytes_eq, codes}
+use Rattle.std.specs.Prelude.{◌≡◌, ◌≢◌, ℕ, zero, suc, ◌+◌, ◌<◌, ◌≤◌, Some, None, Bool, true, false, List, length, bytes_eq, codes}
 use Rattle.rox_grammar.specs.Forest.{Forest, Nil, Cons, join}
 use Rattle.rox_grammar.specs.Written.{Name, Attribute, NamespaceDecl, Tag, Item, Element, namespace_decls_of, merge, leaf}
 use Rattle.rox_grammar.specs.Tree.{listed, listable_of}
@@ -74,8 +74,7 @@ MayOpen (suc k) b r = (b ≡ r + 1) × (suc k < most_deep)
 
 -- none may be opened
 abbrev pub IsSpent : (k b : ℕ) → Type 0
-IsSpent zero b = ⊥
-IsSpent (suc k) b = (b ≡ 0) ⊎ (most_deep ≤ suc k)
+IsSpent k b = (r : ℕ) → MayOpen k b r → ⊥
 
 -- A point that content reaches from the left: with k replacement texts open, around which `open_around` elements are open, in this
 -- source, with b openings left, and what is read and open there. `opens k` is the meaning of a reference there.

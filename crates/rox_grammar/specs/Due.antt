@@ -28,15 +28,6 @@ pub data DueItem : Type 0 where
   a_gap : DueItem
   -- Chars up to this place
   chars_to : ℕ → DueItem
-  -- white space and more of a tag
-  tag_rest : DueItem
-
--- it is looked for byte by byte, so that at the end of the text there is none
-abbrev pub takes_byte : DueItem → Bool
-takes_byte (a_byte b) = true
-takes_byte (one_of kind) = true
-takes_byte tag_rest = true
-takes_byte other = false
 
 -- the bytes that each kind stands for: of a document type declaration, whose subset may follow, and which ends behind it, and of
 -- an entity, which a literal or an external id defines
@@ -59,7 +50,9 @@ pub data IsMissing (src : List ℕ) (p : ℕ) : DueItem → Fault → Type 0 whe
   no_char : (e q c : ℕ) → q ≡ run_end is_char (take e src) p → q < e → StandsAt c src q → is_char c ≡ false → IsMissing src p (chars_to e) (fault.NonXmlChar c q)
   -- `S` or `P`
   no_external_id : (byte src p ≡ code "S") ⊎ (byte src p ≡ code "P") → text_at "SYSTEM" src p ≡ false → text_at "PUBLIC" src p ≡ false → IsMissing src p (one_of due.EntityDefinition) (fault.InvalidExternalID p)
-  ends_before : (t : DueItem) → takes_byte t ≡ true → length src ≤ p → IsMissing src p t fault.UnexpectedEndOfStream
+  -- the text ends where a byte is due
+  no_byte : (b : ℕ) → length src ≤ p → IsMissing src p (a_byte b) fault.UnexpectedEndOfStream
+  none_left : (kind : Due) → length src ≤ p → IsMissing src p (one_of kind) fault.UnexpectedEndOfStream
 
 -- XML 2.5 [15], 2.6 [16], 2.7 [18]: in the text of a comment, processing instruction or CDATA section, from s up to where this stands
 pub data DueInText (end : Expected) (src : List ℕ) (s : ℕ) : ℕ → DueItem → Type 0 where

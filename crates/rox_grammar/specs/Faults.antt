@@ -21,7 +21,7 @@ use Rattle.rox_grammar.specs.WellNamed.{may_declare, is_known, same_expanded, Ar
 use Rattle.rox_grammar.specs.Entities.{Replacement, Entity, text_of}
 use Rattle.rox_grammar.specs.Document.{Behind, pairs, distinct_pairs, attribute_count, most_attributes, most_pairs}
 use Rattle.rox_grammar.specs.OpenElements.{Open, root, inside, State, depth_of, scope_of, tree_so_far, FitsLimits, HasTooManyNodes}
-use Rattle.rox_grammar.specs.Due.{DueItem, a_byte, a_qname, one_of, chars_to, tag_rest, IsMissing, DueInText, DueInPI, DueInEnd, DueInPair}
+use Rattle.rox_grammar.specs.Due.{DueItem, a_byte, a_qname, one_of, chars_to, IsMissing, DueInText, DueInPI, DueInEnd, DueInPair}
 use Rattle.rox_grammar.specs.ContentPoints.{RootBegins, is_content, is_main, TagBegins, StepsOver, PartsTo, RefersTo, IsSpent, ContentPoint, ValuePart, TagTo, pairs_with, BeginsValue}
 
 -- the bytes of a name as it is written, without the colon if there is no prefix
@@ -71,8 +71,7 @@ pub data InValue (es : List Entity) (k : ℕ) (Includes : Inclusion) (src : List
   too_many : (p j c : ℕ) (front : List ℕ) (t : Replacement) → Value (is_main k) Includes src p i b c front → p < stop → RefersTo es src p j t → IsSpent k c
       → InValue es k Includes src i stop b (fault.EntityReferenceLoop j)
   -- in a replacement text `<`, a reference that gives it, or what is no Char
-  less : (p : ℕ) → is_main k ≡ false → i ≤ p → p < stop → byte src p ≡ code "<" → InValue es k Includes src i stop b (fault.InvalidAttributeValue p)
-  less_by_reference : (p j : ℕ) → is_main k ≡ false → i ≤ p → p < stop → IsCharacter src p (code "<") j → InValue es k Includes src i stop b (fault.InvalidAttributeValue p)
+  less : (p : ℕ) → is_main k ≡ false → i ≤ p → p < stop → (byte src p ≡ code "<") ⊎ ((j : ℕ) × IsCharacter src p (code "<") j) → InValue es k Includes src i stop b (fault.InvalidAttributeValue p)
   no_char : (q c : ℕ) → is_main k ≡ false → i ≤ q → q < stop → StandsAt c src q → is_char c ≡ false → InValue es k Includes src i stop b (fault.NonXmlChar c q)
 
 -- ---- a declaration that a start tag holds behind these (Namespaces in XML 1.0 section 3)
@@ -98,44 +97,38 @@ cut_off root = fault.NoRootNode
 cut_off (inside start tag before up) = fault.UnclosedRootNode
 
 -- ---- behind its name and these attributes and declarations, where the start tag that begins at a place is read up to p
-pub data InTagRest (main : Bool) (Includes : Inclusion) (src : List ℕ) (s : State) (name : Name) (as' : List Attribute) (p c : ℕ) : Fault → Type 0 where
-  cut : length src ≤ p → main ≡ true → InTagRest main Includes src s name as' p c (cut_off s.stack)
-  cut_in_replacement : length src ≤ p → main ≡ false → InTagRest main Includes src s name as' p c fault.UnexpectedEndOfStream
-  -- white space up to the end
-  no_rest : (f : Fault) → p < length src → IsMissing src (spaces_end src p) tag_rest f → InTagRest main Includes src s name as' p c f
-  no_space : (f : Fault) → p < length src → byte src p ≢ code "/" → byte src p ≢ code ">" → IsMissing src p (one_of due.Space) f
-      → InTagRest main Includes src s name as' p c f
-  -- `/` without `>`
-  not_closed : (f : Fault) → byte src (spaces_end src p) ≡ code "/" → IsMissing src (spaces_end src p + 1) (a_byte (code ">")) f
-      → InTagRest main Includes src s name as' p c f
-  -- an attribute or a declaration
-  in_pair : (q : ℕ) (t : DueItem) (f : Fault) → p < spaces_end src p → spaces_end src p < length src → byte src (spaces_end src p) ≢ code "/"
-      → byte src (spaces_end src p) ≢ code ">" → DueInPair src (spaces_end src p) q t → IsMissing src q t f
-      → InTagRest main Includes src s name as' p c f
-  ill_declared : (d j : ℕ) (a : Attribute) (f : Fault) → p < spaces_end src p → IsAttribute main Includes src (spaces_end src p) j c d a
-      → is_namespace_decl a.name ≡ true → IllDeclared src (namespace_decls_of as') a f → InTagRest main Includes src s name as' p c f
-  -- with the next declaration, which may stand there
-  too_many_pairs : (d j : ℕ) (a : Attribute) → p < spaces_end src p → IsAttribute main Includes src (spaces_end src p) j c d a
-      → is_namespace_decl a.name ≡ true → may_declare (namespace_decl_of a) ≡ true
-      → is_declared (namespace_decl_of a).prefix (namespace_decls_of as') ≡ false
-      → most_pairs < pairs_with (distinct_pairs (pairs (tree_so_far s.stack s.done))) (namespace_decls_of as' ++ namespace_decl_of a ∷ [])
-      → InTagRest main Includes src s name as' p c fault.NamespacesLimitReached
-  -- with those of the whole tag
-  too_many_attributes : (j : ℕ) (empty : Bool) → TagEnds src p empty j
-      → most_attributes < attribute_count (tree_so_far s.stack s.done) + length (plain_attributes_of as')
-      → InTagRest main Includes src s name as' p c fault.AttributesLimitReached
-  ill_named : (j : ℕ) (empty : Bool) (f : Fault) → TagEnds src p empty j
-      → attribute_count (tree_so_far s.stack s.done) + length (plain_attributes_of as') ≤ most_attributes
-      → IllNamed src s.at (listed (scope_of s.stack) (namespace_decls_of as')) name (plain_attributes_of as') f
-      → InTagRest main Includes src s name as' p c f
+module _ (main : Bool) (Includes : Inclusion) (src : List ℕ) (s : State) (name : Name) (as' : List Attribute) (p c : ℕ) where
+  pub data InTagRest : Fault → Type 0 where
+    cut : length src ≤ p → main ≡ true → InTagRest (cut_off s.stack)
+    cut_in_replacement : length src ≤ p → main ≡ false → InTagRest fault.UnexpectedEndOfStream
+    -- white space up to the end
+    no_rest : p < length src → length src ≤ spaces_end src p → InTagRest fault.UnexpectedEndOfStream
+    no_space : (f : Fault) → p < length src → byte src p ≢ code "/" → byte src p ≢ code ">" → IsMissing src p (one_of due.Space) f → InTagRest f
+    -- `/` without `>`
+    not_closed : (f : Fault) → byte src (spaces_end src p) ≡ code "/" → IsMissing src (spaces_end src p + 1) (a_byte (code ">")) f → InTagRest f
+    -- an attribute or a declaration
+    in_pair : (q : ℕ) (t : DueItem) (f : Fault) → p < spaces_end src p → spaces_end src p < length src → byte src (spaces_end src p) ≢ code "/"
+        → byte src (spaces_end src p) ≢ code ">" → DueInPair src (spaces_end src p) q t → IsMissing src q t f → InTagRest f
+    ill_declared : (d j : ℕ) (a : Attribute) (f : Fault) → p < spaces_end src p → IsAttribute main Includes src (spaces_end src p) j c d a
+        → is_namespace_decl a.name ≡ true → IllDeclared src (namespace_decls_of as') a f → InTagRest f
+    -- with the next declaration, which may stand there
+    too_many_pairs : (d j : ℕ) (a : Attribute) → p < spaces_end src p → IsAttribute main Includes src (spaces_end src p) j c d a → is_namespace_decl a.name ≡ true
+        → may_declare (namespace_decl_of a) ≡ true → is_declared (namespace_decl_of a).prefix (namespace_decls_of as') ≡ false
+        → most_pairs < pairs_with (distinct_pairs (pairs (tree_so_far s.stack s.done))) (namespace_decls_of as' ++ namespace_decl_of a ∷ [])
+        → InTagRest fault.NamespacesLimitReached
+    -- with those of the whole tag
+    too_many_attributes : (j : ℕ) (empty : Bool) → TagEnds src p empty j
+        → most_attributes < attribute_count (tree_so_far s.stack s.done) + length (plain_attributes_of as') → InTagRest fault.AttributesLimitReached
+    ill_named : (j : ℕ) (empty : Bool) (f : Fault) → TagEnds src p empty j
+        → attribute_count (tree_so_far s.stack s.done) + length (plain_attributes_of as') ≤ most_attributes
+        → IllNamed src s.at (listed (scope_of s.stack) (namespace_decls_of as')) name (plain_attributes_of as') f → InTagRest f
 
 -- ---- in the start tag that begins at a place (XML 3.1 [40], [44]); up to p it is as it should be (ContentPoints: TagTo)
-pub data InTag (main : Bool) (Includes : Inclusion) (src : List ℕ) (s : State) (b : ℕ) : Fault → Type 0 where
-  no_name : (f : Fault) → IsMissing src (s.at + 1) a_qname f → InTag main Includes src s b f
-  xmlns_prefix : (name : Name) (n : ℕ) → IsQName src (s.at + 1) name n → name.prefix ≡ codes "xmlns"
-      → InTag main Includes src s b (fault.InvalidElementNamePrefix (s.at + 1))
-  in_rest : (p c : ℕ) (as' : List Attribute) (f : Fault) (to : TagTo main Includes src s p b c as')
-      → InTagRest main Includes src s to.name as' p c f → InTag main Includes src s b f
+module _ (main : Bool) (Includes : Inclusion) (src : List ℕ) (s : State) (b : ℕ) where
+  pub data InTag : Fault → Type 0 where
+    no_name : (f : Fault) → IsMissing src (s.at + 1) a_qname f → InTag f
+    xmlns_prefix : (name : Name) (n : ℕ) → IsQName src (s.at + 1) name n → name.prefix ≡ codes "xmlns" → InTag (fault.InvalidElementNamePrefix (s.at + 1))
+    in_rest : (p c : ℕ) (as' : List Attribute) (f : Fault) (to : TagTo main Includes src s p b c as') → InTagRest main Includes src s to.name as' p c f → InTag f
 
 -- ---- in the end tag that begins at a place (XML 3.1 [42]), where `open_around` elements are open around the replacement text
 pub data InEnd (open_around : ℕ) (src : List ℕ) (s : State) : Fault → Type 0 where
@@ -176,7 +169,7 @@ pub data AtPoint (opens : ℕ → Inclusion) (es : List Entity) (limit k open_ar
 -- stands before: before the root element, in it, or behind it. All before it is as the grammar wants and within the limits.
 -- Positions and names of the fault count in the source. The flag says that a document type declaration stands before.
 pub data FaultFrom (opens : ℕ → Inclusion) (es : List Entity) (limit : ℕ) (text : List ℕ) (declared : Bool) (Front : ℕ → Forest Item → Type 0) : List ℕ → Fault → Type 0 where
-  misc_ahead : (p : ℕ) (items : Forest Item) (f : Fault) → Front p items → FitsLimits limit root items → InMiscs limit text p items f
+  misc_around : (p : ℕ) (items : Forest Item) (f : Fault) → Front p items ⊎ Behind (opens 0) text Front p items → FitsLimits limit root items → InMiscs limit text p items f
       → FaultFrom opens es limit text declared Front text f
   no_root : (items : Forest Item) → Front (length text) items → FitsLimits limit root items → FaultFrom opens es limit text declared Front text fault.NoRootNode
   unknown_ahead : (p : ℕ) (items : Forest Item) → Front p items → FitsLimits limit root items → p < length text → is_space (byte text p) ≡ false
@@ -184,8 +177,6 @@ pub data FaultFrom (opens : ℕ → Inclusion) (es : List Entity) (limit : ℕ) 
   at_point : (k open_around b : ℕ) (src : List ℕ) (s : State) (source : List ℕ) (f : Fault)
       → ContentPoint opens es text (λ p items. Front p items × RootBegins declared text p) k open_around src b s → FitsLimits limit s.stack s.done
       → AtPoint opens es limit k open_around src s b source f → FaultFrom opens es limit text declared Front source f
-  misc_behind : (p : ℕ) (items : Forest Item) (f : Fault) → Behind (opens 0) text Front p items → FitsLimits limit root items → InMiscs limit text p items f
-      → FaultFrom opens es limit text declared Front text f
   unknown_behind : (p : ℕ) (items : Forest Item) → Behind (opens 0) text Front p items → FitsLimits limit root items → p < length text
       → is_space (byte text p) ≡ false → text_at "<!--" text p ≡ false → text_at "<?" text p ≡ false
       → FaultFrom opens es limit text declared Front text (fault.UnknownToken p)

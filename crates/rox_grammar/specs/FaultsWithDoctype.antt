@@ -36,28 +36,27 @@ pub record NoItem (src : List ℕ) (p : ℕ) : Type 0 where
 
 -- ---- in the subset of the document type declaration that begins at i, which is read up to p, with these nodes before it and these
 -- asked: what was asked until then, and the source
-pub data InSubset (limit : ℕ) (src : List ℕ) (i p : ℕ) (items : Forest Item) (asked : List Asked) : List Asked → List ℕ → Fault → Type 0 where
-  in_miscs : (f : Fault) → InMiscs limit src p items f → InSubset limit src i p items asked asked src f
-  -- a declaration that is passed over has no `>`
-  not_passed : IsPassed src p → length src ≤ byte_from (λ c. c == code ">") src p → InSubset limit src i p items asked asked src (fault.UnknownToken i)
-  in_entity : (q : ℕ) (t : DueItem) (f : Fault) → text_at "<!ENTITY" src p ≡ true → DueInEntity src p q t → IsMissing src q t f
-      → InSubset limit src i p items asked asked src f
-  -- no `>` behind its definition, for which these are asked
-  entity_open : (n m d e : ℕ) (parameter : Bool) (first : List Asked) (text : Option Replacement) (f : Fault) → BeginsEntity src p parameter n m d
-      → IsDefinition src parameter d e first text → IsMissing src (spaces_end src e) (a_byte (code ">")) f
-      → InSubset limit src i p items asked (asked ++ first) src f
-  -- the text ends where the name of its notation is due
-  entity_cut : (n m d e j : ℕ) (parameter : Bool) (request : Request) (answer : Option (List ℕ)) (text : Option Replacement)
-      → BeginsEntity src p parameter n m d → IsExternalID src d request e → CutsNotation src parameter e j → GivesReplacement answer text
-      → InSubset limit src i p items asked (asked ++ record { request = request; answer = answer } ∷ []) src fault.UnexpectedEndOfStream
-  -- in the declaration of what is answered (XML 4.3.1 [77])
-  in_answer : (n m d e j q : ℕ) (parameter : Bool) (request : Request) (answer : List ℕ) (t : DueItem) (f : Fault) → BeginsEntity src p parameter n m d
-      → IsExternalID src d request e → MayHaveNotation src parameter e j ⊎ CutsNotation src parameter e j → IsUtf8 answer
-      → text_at "<?xml " answer (after_bom answer) ≡ true → DueInXmlDecl answer (after_bom answer) q t → IsMissing answer q t f
-      → InSubset limit src i p items asked (asked ++ record { request = request; answer = Some answer } ∷ []) answer f
-  end_lacks : (f : Fault) → byte src p ≡ code "]" → IsMissing src (spaces_end src (p + 1)) (one_of due.End) f → InSubset limit src i p items asked asked src f
-  -- anything else, or the end behind white space
-  unknown : NoItem src p → (p < length src) ⊎ (is_space (byte src (p - 1)) ≡ true) → InSubset limit src i p items asked asked src (fault.UnknownToken p)
+module _ (limit : ℕ) (src : List ℕ) (i p : ℕ) (items : Forest Item) (asked : List Asked) where
+  pub data InSubset : List Asked → List ℕ → Fault → Type 0 where
+    in_miscs : (f : Fault) → InMiscs limit src p items f → InSubset asked src f
+    -- a declaration that is passed over has no `>`
+    not_passed : IsPassed src p → length src ≤ byte_from (λ c. c == code ">") src p → InSubset asked src (fault.UnknownToken i)
+    in_entity : (q : ℕ) (t : DueItem) (f : Fault) → text_at "<!ENTITY" src p ≡ true → DueInEntity src p q t → IsMissing src q t f → InSubset asked src f
+    -- no `>` behind its definition, for which these are asked
+    entity_open : (n m d e : ℕ) (parameter : Bool) (first : List Asked) (text : Option Replacement) (f : Fault) → BeginsEntity src p parameter n m d
+        → IsDefinition src parameter d e first text → IsMissing src (spaces_end src e) (a_byte (code ">")) f → InSubset (asked ++ first) src f
+    -- the text ends where the name of its notation is due
+    entity_cut : (n m d e j : ℕ) (parameter : Bool) (request : Request) (answer : Option (List ℕ)) (text : Option Replacement) → BeginsEntity src p parameter n m d
+        → IsExternalID src d request e → CutsNotation src parameter e j → GivesReplacement answer text
+        → InSubset (asked ++ record { request = request; answer = answer } ∷ []) src fault.UnexpectedEndOfStream
+    -- in the declaration of what is answered (XML 4.3.1 [77])
+    in_answer : (n m d e j q : ℕ) (parameter : Bool) (request : Request) (answer : List ℕ) (t : DueItem) (f : Fault) → BeginsEntity src p parameter n m d
+        → IsExternalID src d request e → MayHaveNotation src parameter e j ⊎ CutsNotation src parameter e j → IsUtf8 answer
+        → text_at "<?xml " answer (after_bom answer) ≡ true → DueInXmlDecl answer (after_bom answer) q t → IsMissing answer q t f
+        → InSubset (asked ++ record { request = request; answer = Some answer } ∷ []) answer f
+    end_lacks : (f : Fault) → byte src p ≡ code "]" → IsMissing src (spaces_end src (p + 1)) (one_of due.End) f → InSubset asked src f
+    -- anything else, or the end behind white space
+    unknown : NoItem src p → (p < length src) ⊎ (is_space (byte src (p - 1)) ≡ true) → InSubset asked src (fault.UnknownToken p)
 
 -- ---- in the document type declaration that begins at i, before which these nodes stand (XML 2.8 [28]): what was asked until
 -- then, and the source

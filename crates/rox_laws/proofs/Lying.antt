@@ -98,8 +98,8 @@ module _ (opens : ℕ → Inclusion) (es : List Entity) (text : List ℕ) where
 
   from_of : (limit : ℕ) (declared : Bool) (Front : ℕ → Forest Item → Type 0) (source : List ℕ) (f : Fault) → FaultFrom opens es limit text declared Front source f
       → (source ≡ text) ⊎ (((p : ℕ) × (items : Forest Item) × Front p items) × IsOf text es source)
-  from_of limit declared Front source f (faults.FaultFrom.misc_ahead p items _ front fits (faults.InMiscs.in_one _ ill)) = inl refl
-  from_of limit declared Front source f (faults.FaultFrom.misc_ahead p items _ front fits (faults.InMiscs.one_too_many j item is over)) = inl refl
+  from_of limit declared Front source f (faults.FaultFrom.misc_around p items _ (inl front) fits (faults.InMiscs.in_one _ ill)) = inl refl
+  from_of limit declared Front source f (faults.FaultFrom.misc_around p items _ (inl front) fits (faults.InMiscs.one_too_many j item is over)) = inl refl
   from_of limit declared Front source f (faults.FaultFrom.no_root items front fits) = inl refl
   from_of limit declared Front source f (faults.FaultFrom.unknown_ahead p items front fits inside no_space no_less) = inl refl
   from_of limit declared Front source f (faults.FaultFrom.at_point k open_around b _ s _ _ place fits (faults.AtPoint.at_place _ ill)) =
@@ -108,8 +108,8 @@ module _ (opens : ℕ → Inclusion) (es : List Entity) (text : List ℕ) where
   from_of limit declared Front source f (faults.FaultFrom.at_point k open_around b src s _ _ place fits (faults.AtPoint.in_value c l i stop d _ _ value part ill)) =
       let root = place_root _ k open_around b src s place in
       inr ((root.0, root.1, root.2.0), part_of k src (value.pair.v + 1) value.pair.e c l source i stop d (place_of _ k open_around b src s place) part)
-  from_of limit declared Front source f (faults.FaultFrom.misc_behind p items _ behind fits (faults.InMiscs.in_one _ ill)) = inl refl
-  from_of limit declared Front source f (faults.FaultFrom.misc_behind p items _ behind fits (faults.InMiscs.one_too_many j item is over)) = inl refl
+  from_of limit declared Front source f (faults.FaultFrom.misc_around p items _ (inr behind) fits (faults.InMiscs.in_one _ ill)) = inl refl
+  from_of limit declared Front source f (faults.FaultFrom.misc_around p items _ (inr behind) fits (faults.InMiscs.one_too_many j item is over)) = inl refl
   from_of limit declared Front source f (faults.FaultFrom.unknown_behind p items behind fits inside no_space no_comment no_instruction) = inl refl
 
 -- in a document type declaration it is the text, or an answer as a whole

@@ -22,7 +22,7 @@ use Rattle.rox_grammar.specs.Content.{Inclusion, Attributes}
 use Rattle.rox_grammar.specs.Content as content
 use Rattle.rox_grammar.specs.Entities.{Entity}
 use Rattle.rox_grammar.specs.State.{Open, root, inside, State}
-use Rattle.rox_grammar.specs.Due.{DueItem, a_name, a_qname, a_byte, a_text, one_of, a_gap, chars_to, tag_rest, IsMissing, DueInText, DueInPI, DueInEnd, DueInPair, PairBegins, DueInXmlDecl}
+use Rattle.rox_grammar.specs.Due.{DueItem, a_name, a_qname, a_byte, a_text, one_of, a_gap, chars_to, IsMissing, DueInText, DueInPI, DueInEnd, DueInPair, PairBegins, DueInXmlDecl}
 use Rattle.rox_grammar.specs.Due as due
 use Rattle.rox_grammar.specs.ContentPoints.{TagBegins, of_root, in_content}
 use Rattle.rox_grammar.specs.Faults.{InMisc, InReferences, InRun, InValue, IllDeclared, IllNamed, cut_off, InTag, InEnd, Stands, FaultFrom}
@@ -82,7 +82,6 @@ Fits src (a_byte b) p = Unit {0}
 Fits src (one_of kind) p = Unit {0}
 Fits src a_gap p = Unit {0}
 Fits src (chars_to e) p = Unit {0}
-Fits src tag_rest p = Unit {0}
 
 lacks_placed : (src : List ℕ) (p : ℕ) (t : DueItem) (f : Fault) → Fits src t p → IsMissing src p t f → IsPlaced src f
 lacks_placed src p t f fits (due.IsMissing.no_name none) = fits
@@ -94,7 +93,8 @@ lacks_placed src p t f fits (due.IsMissing.no_gap there none no_end) = omega ari
 lacks_placed src p t f fits (due.IsMissing.no_char e q c ends before is bad) = let there = char_within c src q is in omega arith
 lacks_placed src p t f fits (due.IsMissing.no_external_id (inl is) no_system no_public) = let there = within src p (λ z. omega arith) in omega arith
 lacks_placed src p t f fits (due.IsMissing.no_external_id (inr is) no_system no_public) = let there = within src p (λ z. omega arith) in omega arith
-lacks_placed src p t f fits (due.IsMissing.ends_before _ by_byte end) = tt
+lacks_placed src p t f fits (due.IsMissing.no_byte _ end) = tt
+lacks_placed src p t f fits (due.IsMissing.none_left _ end) = tt
 
 module _ (src : List ℕ) (utf8 : IsUtf8 src) where
   -- in a text that begins within the source
@@ -193,8 +193,8 @@ module _ (src : List ℕ) (utf8 : IsUtf8 src) where
   pub value_placed : (es : List Entity) (k : ℕ) (O : Inclusion) (i stop b : ℕ) (f : Fault) → InValue es k O src i stop b f → IsPlaced src f
   value_placed es k O i stop b f (rows.InValue.in_reference p _ from before ill) = references_placed es p f ill
   value_placed es k O i stop b f (rows.InValue.too_many p j c front t to before refers spent) = reference_inside src p refers.n j refers.is_reference
-  value_placed es k O i stop b f (rows.InValue.less p inner from before is) = let there = within src p (λ z. omega arith) in omega arith
-  value_placed es k O i stop b f (rows.InValue.less_by_reference p j inner from before is) = let there = character_within src p 60 j is in omega arith
+  value_placed es k O i stop b f (rows.InValue.less p inner from before (inl is)) = let there = within src p (λ z. omega arith) in omega arith
+  value_placed es k O i stop b f (rows.InValue.less p inner from before (inr (j, is))) = let there = character_within src p 60 j is in omega arith
   value_placed es k O i stop b f (rows.InValue.no_char q c inner from before is bad) = let there = char_within c src q is in omega arith
 
   declared_placed : (before : List NamespaceDecl) (a : Attribute) (f : Fault) → a.start ≤ length src → IllDeclared src before a f → IsPlaced src f
@@ -240,7 +240,7 @@ module _ (src : List ℕ) (utf8 : IsUtf8 src) where
   tag_placed main O s b f le (rows.InTag.xmlns_prefix name n is xmlns) = omega arith
   tag_placed main O s b f le (rows.InTag.in_rest p c as' _ to (rows.InTagRest.cut past in_main)) = cut_placed s.stack
   tag_placed main O s b f le (rows.InTag.in_rest p c as' _ to (rows.InTagRest.cut_in_replacement past inner)) = tt
-  tag_placed main O s b f le (rows.InTag.in_rest p c as' _ to (rows.InTagRest.no_rest _ before lacks)) = lacks_placed src (spaces_end src p) tag_rest f tt lacks
+  tag_placed main O s b f le (rows.InTag.in_rest p c as' _ to (rows.InTagRest.no_rest before end)) = tt
   tag_placed main O s b f le (rows.InTag.in_rest p c as' _ to (rows.InTagRest.no_space _ before no_slash no_end lacks)) = lacks_placed src p (one_of kinds.Space) f tt lacks
   tag_placed main O s b f le (rows.InTag.in_rest p c as' _ to (rows.InTagRest.not_closed _ slash lacks)) = lacks_placed src (spaces_end src p + 1) (a_byte 62) f tt lacks
   tag_placed main O s b f le (rows.InTag.in_rest p c as' _ to (rows.InTagRest.in_pair q t _ space before no_slash no_end is lacks)) = lacks_placed src q t f (pair_fits (spaces_end src p) q t (omega arith) is) lacks

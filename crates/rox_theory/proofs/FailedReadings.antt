@@ -17,7 +17,7 @@ use Rattle.rox_grammar.specs.Runs.{run_end, begins, passing, StandsAt}
 use Rattle.rox_grammar.specs.Search.{stands}
 use Rattle.rox_grammar.specs.ExpectedTexts.{expected_text}
 use Rattle.rox_grammar.specs.Names.{byte}
-use Rattle.rox_grammar.specs.Due.{a_byte, a_text, a_qname, chars_to, IsMissing, no_char, other_byte, other_text, no_qname, ends_before}
+use Rattle.rox_grammar.specs.Due.{a_byte, a_text, a_qname, chars_to, IsMissing, no_char, other_byte, other_text, no_qname, no_byte}
 use Rattle.rox_reading.specs.Refusals.{Refusal, here, lifted}
 use Rattle.rox_reading.specs.Lexical.{◌>>=◌, byte_at, string_at, chars_up_to, qname_at}
 use Rattle.rox_theory.proofs.Basics.{chosen}
@@ -129,7 +129,7 @@ pub byte_fails : (b : ℕ) (src : List ℕ) (i : ℕ) (f : Fault) → byte_at b 
 unfolding byte_at
 byte_fails b src i f h =
     chosen (leb (length src) i) _ _ _ h
-    (λ past h. let is : fault.UnexpectedEndOfStream ≡ f = cc in subst (IsMissing src i (a_byte b)) is (ends_before (a_byte b) refl (leb-true _ _ past)))
+    (λ past h. let is : fault.UnexpectedEndOfStream ≡ f = cc in subst (IsMissing src i (a_byte b)) is (no_byte b (leb-true _ _ past)))
     (λ inside h. chosen (eqb (byte src i) b) _ _ _ h (λ same h. cc)
     (λ apart h. let is : fault.InvalidChar b (byte src i) i ≡ f = cc in subst (IsMissing src i (a_byte b)) is (other_byte b (leb-false _ _ inside) (eqb-false _ _ apart))))
 
