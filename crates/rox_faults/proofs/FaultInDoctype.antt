@@ -21,7 +21,7 @@ use Rattle.rox_grammar.specs.Due.{DueItem, a_byte, a_name, IsMissing, none_left,
 use Rattle.rox_faults.proofs.DueForms.{a_space, a_quote, a_definition, subset_or_end, doctype_end, quote_is, quote_defines, letter_defines, subset_or_end_is, end_is}
 use Rattle.rox_grammar.specs.Due as due
 use Rattle.rox_grammar.specs.Faults.{in_one, one_too_many}
-use Rattle.rox_grammar.specs.FaultsWithDoctype.{NoItem, InDoctype, head_lacks, no_name, not_passed, in_entity, entity_open, entity_cut, in_answer, end_lacks, unknown, no_root, in_subset, in_miscs}
+use Rattle.rox_grammar.specs.FaultsWithDoctype.{InDoctype, head_lacks, no_name, not_passed, in_entity, entity_open, entity_cut, in_answer, end_lacks, unknown, no_root, in_subset, in_miscs}
 use Rattle.rox_reading.proofs.Forests.{join_assoc, merge-more}
 use Rattle.rox_theory.specs.Answers.{SameAnswers}
 use Rattle.rox_theory.proofs.Basics.{within}
@@ -340,15 +340,15 @@ module _ (src : List ℕ) (utf8 : IsUtf8 src) where
       lack_apart : (p : ℕ) (f : Fault) → IsMissing src p doctype_end f → byte src p ≡ 62 → ⊥
       lack_apart p f (none_of _ below none) closes = true≢false (sym (end_is (byte src p) closes) ∙ none)
       lack_apart p f (none_left _ past) closes = let l = within src p (λ z. omega arith) in absurd (omega arith)
-  in_doctype_apart W limit i j before nodes after asked given es source f is few same (in_subset p items _ _ _ _ to fits (unknown none inside)) =
+  in_doctype_apart W limit i j before nodes after asked given es source f is few same (in_subset p items _ _ _ _ to fits (unknown no_space no_entity no_comment no_instruction no_declaration no_bracket inside)) =
       let c = closed_there i j p items nodes asked given [] es is to (subst (λ (a : List Asked). SameAnswers a given) (sym (append-nil asked)) same) in
       let r = c.front in
-      let at_end = nothing_there src utf8 c.k c.bracket p r.rest r.more r.gs r.left none.no_space (no_item p none) none.no_declaration none.no_entity in
-      absurd (none.no_bracket (ap (byte src) at_end ∙ c.bracket))
+      let at_end = nothing_there src utf8 c.k c.bracket p r.rest r.more r.gs r.left no_space no_item no_declaration no_entity in
+      absurd (no_bracket (ap (byte src) at_end ∙ c.bracket))
     where
-      no_item : (p : ℕ) → NoItem src p → OpensItem src p → ⊥
-      no_item p none (inl is) = true≢false (sym is ∙ none.no_comment)
-      no_item p none (inr is) = true≢false (sym is ∙ none.no_instruction)
+      no_item : OpensItem src p → ⊥
+      no_item (inl is) = true≢false (sym is ∙ no_comment)
+      no_item (inr is) = true≢false (sym is ∙ no_instruction)
   in_doctype_apart W limit i j before nodes after asked given es source f is few same (no_root items _ to fits solid) =
       let c = closed_there i j (length src) items nodes asked given [] es is to (subst (λ (a : List Asked). SameAnswers a given) (sym (append-nil asked)) same) in
       let r = c.front in

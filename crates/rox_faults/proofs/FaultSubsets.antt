@@ -23,7 +23,7 @@ use Rattle.rox_grammar.specs.Due.{DueItem, a_byte, IsMissing, none_left, DueInXm
 use Rattle.rox_faults.proofs.DueForms.{doctype_end, subset_or_end, no_end, no_subset_or_end}
 use Rattle.rox_grammar.specs.Due as dues
 use Rattle.rox_grammar.specs.Faults.{in_one, one_too_many}
-use Rattle.rox_grammar.specs.FaultsWithDoctype.{IsPassed, NoItem, InDoctype, head_lacks, no_name, not_passed, in_entity, entity_open, entity_cut, in_answer, end_lacks, unknown, in_subset, in_miscs}
+use Rattle.rox_grammar.specs.FaultsWithDoctype.{IsPassed, InDoctype, head_lacks, no_name, not_passed, in_entity, entity_open, entity_cut, in_answer, end_lacks, unknown, in_subset, in_miscs}
 use Rattle.rox_reading.specs.Lexical.{byte_at, space_at}
 use Rattle.rox_reading.specs.Markup.{comment_at, instruction_at, xml_decl_at}
 use Rattle.rox_reading.specs.Refusals.{Refusal, here, there, refused, lifted}
@@ -352,9 +352,8 @@ module _ (src : List ℕ) (utf8 : IsUtf8 src) (limit most : ℕ) (less : limit �
           let k = spaces_end src d.state.at in
           let both = or_parts (at word.ElementStart src k) (at word.AttlistStart src k || at word.NotationStart src k) no_passed in
           let others = or_parts (at word.AttlistStart src k) (at word.NotationStart src k) both.1 in
-          let none : NoItem src k =
-          record { no_space = no_more_space src d.state.at utf8 cut; no_entity = no_entity; no_comment = no_comment; no_instruction = no_instruction; no_declaration = no_declared k both.0 others.0 others.1; no_bracket = no_end' } in
-          here_now asked0 (fault.UnknownToken k) (in_subset k so.items asked0 _ _ _ to_here fits (unknown none (where_it_is inside)))
+          here_now asked0 (fault.UnknownToken k) (in_subset k so.items asked0 _ _ _ to_here fits
+          (unknown (no_more_space src d.state.at utf8 cut) no_entity no_comment no_instruction (no_declared k both.0 others.0 others.1) no_end' (where_it_is inside)))
         where
           no_declared : (k : ℕ) → at word.ElementStart src k ≡ false → at word.AttlistStart src k ≡ false → at word.NotationStart src k ≡ false → IsPassed src k → ⊥
           no_declared k no_element no_attlist no_notation (inl is) = true≢false (sym is ∙ no_element)

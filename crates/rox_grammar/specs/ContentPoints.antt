@@ -5,8 +5,8 @@ use Rattle.std.specs.Prelude.{◌≡◌, ◌≢◌, ℕ, zero, suc, ◌+◌, ◌
 use Rattle.rox_grammar.specs.Forest.{Forest, Nil, Cons, join}
 use Rattle.rox_grammar.specs.Written.{Name, Attribute, NamespaceDecl, Tag, Item, Element, namespace_decls_of, merge, leaf}
 use Rattle.rox_grammar.specs.Tree.{listed, listable_of}
-use Rattle.rox_grammar.specs.Names.{byte, slice, spaces_end, IsQName}
-use Rattle.rox_grammar.specs.Constructs.{text_at, IsCData, IsEnd, IsPair}
+use Rattle.rox_grammar.specs.Names.{byte, slice, IsQName}
+use Rattle.rox_grammar.specs.Constructs.{text_at, IsCData, IsEnd}
 use Rattle.rox_grammar.specs.Content.{Inclusion, DataByte, piece, section, Part, Parts, IsCharacterData, Value, Attributes, IsTag, IsMisc}
 use Rattle.rox_grammar.specs.WellNamed.{AreDeclarable, IsWellNamed, AreWellNamed}
 use Rattle.rox_grammar.specs.References.{IsReference, predefined}
@@ -111,13 +111,3 @@ pub record TagTo (main : Bool) (Includes : Inclusion) (src : List ℕ) (s : Stat
   pub attributes : Attributes main Includes src name_end p b c written
   pub declarable : AreDeclarable (namespace_decls_of written)
   pub few_pairs : pairs_with (distinct_pairs (pairs (tree_so_far s.stack s.done))) (namespace_decls_of written) ≤ most_pairs
-
--- the next attribute or declaration of the start tag at a place stands there, but for what its value has, where c openings are left
-pub record BeginsValue (k : ℕ) (Includes : Inclusion) (src : List ℕ) (s : State) (b c : ℕ) : Type 0 where
-  pub begins : TagBegins src s.at (is_content k s.stack)
-  pub p : ℕ
-  pub written : List Attribute
-  pub to : TagTo (is_main k) Includes src s p b c written
-  pub space : p < spaces_end src p
-  pub j : ℕ
-  pub pair : IsPair src (spaces_end src p) j

@@ -14,7 +14,7 @@ use Rattle.rox_grammar.specs.Forest.{Forest, join, size}
 use Rattle.rox_grammar.specs.Written.{Name, Attribute, NamespaceDecl, Tag, Item, is_namespace_decl, namespace_decl_of, namespace_decls_of, plain_attributes_of, leaf}
 use Rattle.rox_grammar.specs.Tree.{xml_uri, xmlns_uri, is_declared, listed, is_xml}
 use Rattle.rox_grammar.specs.Names.{byte, slice, spaces_end, IsQName}
-use Rattle.rox_grammar.specs.Constructs.{text_at, first_text, double_dash, has_mark, AreChars, IsEnd}
+use Rattle.rox_grammar.specs.Constructs.{text_at, first_text, double_dash, has_mark, AreChars, IsPair, IsEnd}
 use Rattle.rox_grammar.specs.References.{IsReference, IsCharacter, predefined}
 use Rattle.rox_grammar.specs.Content.{Inclusion, IsCharacterData, Value, IsAttribute, TagEnds, IsMisc}
 use Rattle.rox_grammar.specs.WellNamed.{may_declare, is_known, same_expanded, AreDistinct, may_name, AreWellNamed}
@@ -22,7 +22,7 @@ use Rattle.rox_grammar.specs.Entities.{Replacement, Entity, text_of}
 use Rattle.rox_grammar.specs.Document.{Behind, pairs, distinct_pairs, attribute_count, most_attributes, most_pairs}
 use Rattle.rox_grammar.specs.OpenElements.{Open, root, inside, State, depth_of, scope_of, tree_so_far, FitsLimits, HasTooManyNodes}
 use Rattle.rox_grammar.specs.Due.{DueItem, a_byte, a_qname, one_of, chars_to, IsMissing, DueInText, DueInPI, DueInEnd, DueInPair}
-use Rattle.rox_grammar.specs.ContentPoints.{RootBegins, is_content, is_main, TagBegins, StepsOver, PartsTo, RefersTo, IsSpent, ContentPoint, ValuePart, TagTo, pairs_with, BeginsValue}
+use Rattle.rox_grammar.specs.ContentPoints.{RootBegins, is_content, is_main, TagBegins, StepsOver, PartsTo, RefersTo, IsSpent, ContentPoint, ValuePart, TagTo, pairs_with}
 
 -- the bytes of a name as it is written, without the colon if there is no prefix
 abbrev pub spelled : Name → List ℕ
@@ -161,9 +161,11 @@ pub data Stands (limit : ℕ) (es : List Entity) (k open_around : ℕ) (Includes
 -- ---- at a point of content, where k replacement texts are open, around which `open_around` elements are open: in this source
 pub data AtPoint (opens : ℕ → Inclusion) (es : List Entity) (limit k open_around : ℕ) (src : List ℕ) (s : State) (b : ℕ) : List ℕ → Fault → Type 0 where
   at_place : (f : Fault) → Stands limit es k open_around (opens k) src s b f → AtPoint opens es limit k open_around src s b src f
-  -- in the value of an attribute or a declaration of the start tag here, or in a replacement text that is opened in it
-  in_value : (c l i stop d : ℕ) (part : List ℕ) (f : Fault) (value : BeginsValue k (opens k) src s b c)
-      → ValuePart opens es k src (value.pair.v + 1) value.pair.e c l part i stop d → InValue es l (opens l) part i stop d f → AtPoint opens es limit k open_around src s b part f
+  -- in the value of an attribute or a declaration, which stands behind p in the start tag here, or in a replacement text that is
+  -- opened in it
+  in_value : (p j c l i stop d : ℕ) (as' : List Attribute) (part : List ℕ) (f : Fault) → TagBegins src s.at (is_content k s.stack) → TagTo (is_main k) (opens k) src s p b c as'
+      → p < spaces_end src p → (pair : IsPair src (spaces_end src p) j) → ValuePart opens es k src (pair.v + 1) pair.e c l part i stop d → InValue es l (opens l) part i stop d f
+      → AtPoint opens es limit k open_around src s b part f
 
 -- Of this text, with at most `limit` nodes, the fault stands in this source, in the part that begins where `Front` says what
 -- stands before: before the root element, in it, or behind it. All before it is as the grammar wants and within the limits.

@@ -25,15 +25,6 @@ use Rattle.rox_grammar.specs.Faults.{InMiscs, FaultFrom}
 abbrev pub IsPassed : List ℕ → ℕ → Type 0
 IsPassed src p = (text_at "<!ELEMENT" src p ≡ true) ⊎ ((text_at "<!ATTLIST" src p ≡ true) ⊎ (text_at "<!NOTATION" src p ≡ true))
 
--- nothing stands here that a subset holds, or that ends it
-pub record NoItem (src : List ℕ) (p : ℕ) : Type 0 where
-  pub no_space : is_space (byte src p) ≡ false
-  pub no_entity : text_at "<!ENTITY" src p ≡ false
-  pub no_comment : text_at "<!--" src p ≡ false
-  pub no_instruction : text_at "<?" src p ≡ false
-  pub no_declaration : IsPassed src p → ⊥
-  pub no_bracket : byte src p ≢ code "]"
-
 -- ---- in the subset of the document type declaration that begins at i, which is read up to p, with these nodes before it and these
 -- asked: what was asked until then, and the source
 module _ (limit : ℕ) (src : List ℕ) (i p : ℕ) (items : Forest Item) (asked : List Asked) where
@@ -55,8 +46,9 @@ module _ (limit : ℕ) (src : List ℕ) (i p : ℕ) (items : Forest Item) (asked
         → text_at "<?xml " answer (after_bom answer) ≡ true → DueInXmlDecl answer (after_bom answer) q t → IsMissing answer q t f
         → InSubset (asked ++ record { request = request; answer = Some answer } ∷ []) answer f
     end_lacks : (f : Fault) → byte src p ≡ code "]" → IsMissing src (spaces_end src (p + 1)) (one_of due.End) f → InSubset asked src f
-    -- anything else, or the end behind white space
-    unknown : NoItem src p → (p < length src) ⊎ (is_space (byte src (p - 1)) ≡ true) → InSubset asked src (fault.UnknownToken p)
+    -- nothing that a subset holds or that ends it, or the end behind white space
+    unknown : is_space (byte src p) ≡ false → text_at "<!ENTITY" src p ≡ false → text_at "<!--" src p ≡ false → text_at "<?" src p ≡ false → (IsPassed src p → ⊥)
+        → byte src p ≢ code "]" → (p < length src) ⊎ (is_space (byte src (p - 1)) ≡ true) → InSubset asked src (fault.UnknownToken p)
 
 -- ---- in the document type declaration that begins at i, before which these nodes stand (XML 2.8 [28]): what was asked until
 -- then, and the source

@@ -36,7 +36,7 @@ from_placed opens es limit text declared Front source f utf8 (faults.FaultFrom.m
 from_placed opens es limit text declared Front source f utf8 (faults.FaultFrom.no_root items front fits) = inl refl
 from_placed opens es limit text declared Front source f utf8 (faults.FaultFrom.unknown_ahead p items front fits inside no_space no_less) = inl refl
 from_placed opens es limit text declared Front source f utf8 (faults.FaultFrom.at_point k open_around b _ s _ _ place fits (faults.AtPoint.at_place _ ill)) = inr (stands_placed source utf8 limit es k open_around (opens k) s b f ill)
-from_placed opens es limit text declared Front source f utf8 (faults.FaultFrom.at_point k open_around b src s _ _ place fits (faults.AtPoint.in_value c l i stop d _ _ value part ill)) =
+from_placed opens es limit text declared Front source f utf8 (faults.FaultFrom.at_point k open_around b src s _ _ place fits (faults.AtPoint.in_value p j c l i stop d _ _ _ opens' to space pair part ill)) =
     inr (value_placed source utf8 es l (opens l) i stop d f ill)
 from_placed opens es limit text declared Front source f utf8 (faults.FaultFrom.misc_around p items _ (inr behind) fits (faults.InMiscs.in_one _ ill)) = inl refl
 from_placed opens es limit text declared Front source f utf8 (faults.FaultFrom.misc_around p items _ (inr behind) fits (faults.InMiscs.one_too_many j item is over)) = inl refl
@@ -54,7 +54,7 @@ doctype_placed limit text i before asked source f (refused.InDoctype.in_subset p
 doctype_placed limit text i before asked source f (refused.InDoctype.in_subset p items first _ _ _ to fits (refused.InSubset.in_answer n m d e j q parameter request answer t _ begins id behind utf8 opens due lacks)) =
     inr (declaration_placed source utf8 (after_bom source) q t f opens due lacks)
 doctype_placed limit text i before asked source f (refused.InDoctype.in_subset p items _ _ _ _ to fits (refused.InSubset.end_lacks _ is lacks)) = inl refl
-doctype_placed limit text i before asked source f (refused.InDoctype.in_subset p items _ _ _ _ to fits (refused.InSubset.unknown none inside)) = inl refl
+doctype_placed limit text i before asked source f (refused.InDoctype.in_subset p items _ _ _ _ to fits (refused.InSubset.unknown no_space no_entity no_comment no_instruction no_declaration no_bracket inside)) = inl refl
 doctype_placed limit text i before asked source f (refused.InDoctype.no_root items _ to fits none) = inl refl
 
 refusal_placed : (limit : ℕ) (allow : Bool) (text : List ℕ) (asked : List Asked) (source : List ℕ) (f : Fault) → IsUtf8 source → RefusalOf limit allow text asked source f → IsOwn text source f

@@ -1,7 +1,5 @@
 -- Where a prefix is declared in a text as written, and which declaration is the nearest (Namespaces in XML 1.0 section 6.1).
-use Rattle.std.specs.Prelude.{◌≡◌, ℕ, false, List, [], ◌∷◌, ◌++◌, Option, Some, IsTrue, All, Contains, get_or}
-use Rattle.rox_grammar.specs.declared.fault.Word.TheVariants.{Xml}
-use Rattle.rox_grammar.specs.FixedTexts.{word_text}
+use Rattle.std.specs.Prelude.{◌≡◌, ℕ, false, List, [], ◌∷◌, ◌++◌, Option, Some, IsTrue, All, Contains, get_or, codes}
 use Rattle.rox_grammar.specs.Forest.{Forest, Nil, Cons}
 use Rattle.rox_grammar.specs.Written.{NamespaceDecl, Item, Element}
 use Rattle.rox_grammar.specs.Tree.{Node, is_declared, uri_of}
@@ -45,7 +43,7 @@ IsElementAt tree id = IsTrue (is_element_node (node_at tree id))
 
 -- the prefix `xml`
 abbrev pub xml : Option (List ℕ)
-xml = Some (word_text Xml)
+xml = Some (codes "xml")
 
 -- the URI that the node of this id lists for a prefix, or for the default
 abbrev pub listed_uri : Forest Node → ℕ → Option (List ℕ) → Option (List ℕ)

@@ -1,8 +1,6 @@
 -- Names with their namespaces (Namespaces in XML 1.0 section 2.1).
-use Rattle.std.specs.Prelude.{ℕ, Bool, ◌&&◌, List, [], ◌∷◌, Option, Some, None, IsTrue, IsSomeAnd, bytes_eq, slice_get, if◌then◌else◌}
+use Rattle.std.specs.Prelude.{ℕ, Bool, ◌&&◌, List, [], ◌∷◌, Option, Some, None, IsTrue, IsSomeAnd, bytes_eq, slice_get, if◌then◌else◌, codes}
 use Rattle.std.specs.Option.{option_map, option_eq}
-use Rattle.rox_grammar.specs.declared.fault.Word.TheVariants.{Xml}
-use Rattle.rox_grammar.specs.FixedTexts.{word_text}
 use Rattle.rox_grammar.specs.Written.{NamespaceDecl}
 use Rattle.rox_grammar.specs.Tree.{Attribute, xml_uri}
 use Rattle.roxmltree.specs.declared.names.ExpandedName.{ExpandedName}
@@ -36,4 +34,4 @@ first_prefix uri (d ∷ others) = if bytes_eq d.uri uri then d.prefix else first
 
 -- `xml` for its own URI (Namespaces in XML 1.0 section 3)
 abbrev pub prefix_of : List ℕ → List NamespaceDecl → Option (List ℕ)
-prefix_of uri listed = if bytes_eq uri xml_uri then Some (word_text Xml) else first_prefix uri listed
+prefix_of uri listed = if bytes_eq uri xml_uri then Some (codes "xml") else first_prefix uri listed
