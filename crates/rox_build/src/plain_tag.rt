@@ -29,6 +29,7 @@ use crate::spaced_value::{spaced_value, spaced_value_ends};
 use crate::tag::{MOST_ATTRIBUTES, StartTag, byte_count};
 use rox_grammar::name::QName;
 use rox_scan::byte_set::{PartByte, ValueByte, far_space_end, part_end, skip_set};
+use rox_scan::cursor::Quote;
 use rox_scan::lookahead::{changes, scan_value};
 use rox_scan::runs::{NameStart, after_byte, begins, is_at, space_end};
 use rox_scan::window::{WIDTH, Window};
@@ -110,7 +111,7 @@ fn verbatim_value_end(text: &str, start: usize, quote: u8) -> usize
     ensures { 0 < result → HasPlainValue text.now start quote result
         (slice_range text.now start result) }
 {
-    let look = scan_value(text, start, quote);
+    let look = scan_value(text, start, Quote { byte: quote });
     if look.is_verbatim && is_at(text, look.end, quote) {
         look.end
     } else {

@@ -1,7 +1,7 @@
 -- Bytes that stand for themselves, whichever character they are of, for a first look. 239 is none of them, since it begins the
 -- two characters past ASCII that are no Chars.
 use Rattle.rox_grammar.specs.Chars.{is_part_char}
-use Rattle.std.specs.Prelude.{◌≡◌, ◌≤◌, ◌<◌, ℕ, Bool, true, false, not, ◌&&◌, ◌||◌, ◌==◌, nat_le, nat_lt, List, length, slice_index}
+use Rattle.std.specs.Prelude.{◌≡◌, ◌+◌, ◌≤◌, ◌<◌, ℕ, Bool, true, false, not, ◌&&◌, ◌||◌, ◌==◌, nat_le, nat_lt, List, length, slice_index}
 
 -- a byte that begins no character but a Char, or goes on with one
 abbrev pub is_char_byte : ℕ → Bool
@@ -34,6 +34,12 @@ is_part_byte b = nat_lt b 128 && is_part_char b
 -- each byte from i up to j passes
 abbrev pub AllPass : (ℕ → Bool) → List ℕ → ℕ → ℕ → Type 0
 AllPass p src i j = (k : ℕ) → i ≤ k → k < j → p (slice_index src k) ≡ true
+
+-- of sixteen bytes or more, those from i on are sixteen at most
+pub record EndsInBlock (src : List ℕ) (i : ℕ) : Type 0 where
+  pub room : 16 ≤ length src
+  pub short : length src ≤ i + 16
+  pub within : i ≤ length src
 
 -- the bytes from i up to j pass, and the one at j, if there is one, does not
 pub record EndsSet (p : ℕ → Bool) (src : List ℕ) (i j : ℕ) : Type 0 where

@@ -1,6 +1,6 @@
 -- The parts of a document type declaration, without where they lie in memory, and how a resolver's answer begins.
 use Prim.Native.Char.{code}
-use Rattle.std.specs.Prelude.{◌≡◌, ℕ, ◌+◌, ◌==◌, ◌||◌, Bool, List, Option, Some, Result, Ok, Err, length, take, slice_index, nat_lt, nat_le, if◌then◌else◌}
+use Rattle.std.specs.Prelude.{◌≡◌, ℕ, ◌+◌, ◌==◌, ◌||◌, Bool, List, Option, Some, Result, Ok, Err, IfOk, length, take, slice_index, slice_range, nat_lt, nat_le, if◌then◌else◌}
 use Rattle.rox_grammar.specs.declared.fault.Fault.{Fault}
 use Rattle.rox_grammar.specs.declared.fault.Fault.TheVariants as fault
 use Rattle.rox_grammar.specs.declared.fault.Due.TheVariants as due
@@ -14,6 +14,7 @@ use Rattle.rox_reading.specs.Lexical.{Read, ◌>>=◌, chars_up_to}
 use Rattle.rox_reading.specs.Markup.{xml_decl_at}
 use Rattle.rox_reading.specs.Refusals.{Refusal, there}
 use Rattle.rox_reading.specs.Doctype as reading
+use Rattle.rox_scan.specs.ScanResults.{AreBoundaries, Steps}
 use Rattle.rox_scan.specs.Views.{text_view}
 use Rattle.rox_scan.specs.declared.cursor.Cursor.{Cursor}
 use Rattle.rox_scan.specs.declared.doctype.ExternalId.{ExternalId}
@@ -34,6 +35,12 @@ definition_view (definition.Outer id) = reading.outer (request_view id)
 
 abbrev pub head_view : EntityHead → reading.EntityHead
 head_view h = record { parameter = h.parameter; name = h.name.now }
+
+-- a text in quotes is read, and the answer says between which places it stands
+pub record ReadsQuoted (old new : Cursor) (result : Result (ℕ × ℕ) Fault) : Type 0 where
+  pub read : Steps (λ x. slice_range old.text.now x.0 x.1) old new result reading.quoted_at
+  pub start : IfOk result (λ x. x.0 ≡ old.pos + 1)
+  pub within : IfOk result (λ x. AreBoundaries old.text.now x.0 x.1)
 
 -- a definition in quotes
 abbrev pub inner_at : List ℕ → ℕ → Read reading.Definition

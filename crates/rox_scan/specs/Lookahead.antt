@@ -8,7 +8,7 @@ use Rattle.rox_grammar.specs.Search.{byte_from, stands}
 use Rattle.rox_grammar.specs.Chars.{is_char}
 use Rattle.rox_grammar.specs.Runs.{begins}
 use Rattle.rox_grammar.specs.Content.{is_verbatim}
-use Rattle.rox_reading.specs.Values.{raw_character_data_at}
+use Rattle.rox_reading.specs.Values.{is_special, raw_character_data_at}
 use Rattle.rox_grammar.specs.Constructs.{AreChars, double_dash}
 
 -- from i up to j there are Chars alone, it ends at no place among them, and whether they stand for themselves
@@ -31,9 +31,19 @@ pub record IsStep (src : List ℕ) (i j : ℕ) : Type 0 where
   pub cut : IsCharBoundary src j
   pub wide : (k : ℕ) → i < k → k < j → 128 ≤ slice_index src k
 
+-- j is behind the Char that begins at i, or i where the character that begins there is none
+pub record IsAfterChar (src : List ℕ) (i j : ℕ) : Type 0 where
+  pub step : IsStep src i j
+  pub stops : j ≡ i → begins is_char src i ≡ false
+
 -- a value ends at its quote or a `<`; it is changed at each special byte
 abbrev pub ends_value : ℕ → List ℕ → ℕ → Bool
 ends_value quote src k = (slice_index src k == quote) || (slice_index src k == 60)
+
+-- a value is in order from i up to j, and j is where it ends, a `&` stands, the text ends, or a character begins that is no Char
+pub record LooksAtValue (quote : ℕ) (src : List ℕ) (i j : ℕ) (verbatim : Bool) : Type 0 where
+  pub looked : IsLookahead (ends_value quote src) is_special src i j verbatim
+  pub stops : j < length src → (ends_value quote src j || slice_index src j == 38) ≡ false → begins is_char src j ≡ false
 
 -- a run ends at a `<` or a `]]>`
 abbrev pub ends_run : List ℕ → ℕ → Bool

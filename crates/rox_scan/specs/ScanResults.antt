@@ -1,8 +1,10 @@
 -- How the result of a step stands to what is read.
-use Rattle.std.specs.Prelude.{◌≡◌, ◌≤◌, ◌<◌, ℕ, Bool, true, List, length, slice_index, Result, Ok, Err}
+use Rattle.std.specs.Prelude.{◌≡◌, ◌+◌, ◌≤◌, ◌<◌, ℕ, Bool, true, List, length, take, drop, slice_index, Result, Ok, Err}
 use Rattle.std.specs.Borrow.{Bor}
 use Rattle.std.specs.List.{position_or_len}
-use Rattle.std.specs.Str.{IsCharBoundary}
+use Rattle.std.specs.Char.{len_utf8}
+use Rattle.std.specs.Str.{IsCharBoundary, chars}
+use Rattle.rox_grammar.specs.Runs.{StandsAt}
 use Rattle.rox_grammar.specs.declared.fault.Fault.{Fault}
 use Rattle.rox_grammar.specs.Failures.{Fails}
 use Rattle.rox_reading.specs.Lexical.{Read}
@@ -30,6 +32,11 @@ pub record IsAt (text : Bor (List ℕ)) (at : ℕ) (cursor : Cursor) : Type 0 wh
   pub place : cursor.pos ≡ at
   pub source : cursor.text ≡ text
 
+-- the cursor stands at the place `start` of this source cut off at `end`
+pub record StandsWithin (text : List ℕ) (start end : ℕ) (cursor : Cursor) : Type 0 where
+  pub place : cursor.pos ≡ start
+  pub source : cursor.text.now ≡ take end text
+
 -- the cursor moved on to this place of its source
 pub record MovesTo (to : ℕ) (old new : Cursor) : Type 0 where
   pub place : new.pos ≡ to
@@ -46,6 +53,17 @@ pub record AreBoundaries (text : List ℕ) (start end : ℕ) : Type 0 where
 pub record HasCharAt (text : List ℕ) (at : ℕ) : Type 0 where
   pub cut : IsCharBoundary text at
   pub within : at < length text
+
+-- an ASCII character stands at this place
+pub record HasAsciiAt (text : List ℕ) (at : ℕ) : Type 0 where
+  pub there : at < length text
+  pub ascii : slice_index text at < 128
+
+-- it is the character that begins at this place
+pub record IsCharAt (text : List ℕ) (at c : ℕ) : Type 0 where
+  pub stands : StandsAt c text at
+  pub first : c ≡ slice_index (chars (drop at text)) 0
+  pub cut : IsCharBoundary text (at + len_utf8 c)
 
 -- What is found from `at` on stands at this place, which is between two characters, as `at` is.
 pub record Finds (text : List ℕ) (at found wanted : ℕ) : Type 0 where

@@ -60,6 +60,16 @@ TagItemHasValue text (item.More a) = HasValue text a
 TagItemHasValue text item.Open = Unit {0}
 TagItemHasValue text item.Empty = Unit {0}
 
+-- an attribute is read, and its value is what stands between its places
+pub record ReadsAttribute (old new : Cursor) (result : Result RawAttribute Fault) : Type 0 where
+  pub read : Steps attribute_view old new result markup.attribute_at
+  pub text : IfOk result (λ a. HasValue old.text.now a)
+
+-- so is what a start tag holds next
+pub record ReadsTagItem (old new : Cursor) (result : Result TagItem Fault) : Type 0 where
+  pub read : Steps tag_item_view old new result markup.tag_item_at
+  pub text : IfOk result (λ t. TagItemHasValue old.text.now t)
+
 -- a run of character data is read, and it says whether it has nothing to change
 pub record ReadsRun (old new : Cursor) (result : Result RawCharacterData Fault) : Type 0 where
   pub read : Steps (λ raw. raw.text.now) old new result raw_character_data_at

@@ -13,3 +13,8 @@ pub record IsSeen (p : ℕ → Bool) (src : List ℕ) (i others : ℕ) : Type 0 
 pub record Sees (src : List ℕ) (w : Window) : Type 0 where
   pub parts : IsSeen is_part_byte src w.at w.parts
   pub values : IsSeen is_value_byte src w.at w.values
+
+-- it tells them from this place on
+pub record SeesFrom (src : List ℕ) (at : ℕ) (w : Window) : Type 0 where
+  pub sees : Sees src w
+  pub place : w.at ≡ at

@@ -1,6 +1,6 @@
 //! A place in a source, and the small steps that read from it.
 
-ghost use Rattle.std.specs.Prelude.{◌≡◌, ◌==◌, ◌||◌, IfOk, ◌+◌, ◌<◌, ◌≤◌, true, length, take, slice_index, slice_range, nat_le};
+ghost use Rattle.std.specs.Prelude.{◌≡◌, ◌==◌, ◌||◌, IfOk, ◌+◌, ◌<◌, ◌≤◌, true, length, slice_range, nat_le};
 ghost use Rattle.std.specs.Str.{IsCharBoundary, IsUtf8};
 ghost use Rattle.std.proofs.Props.{props};
 
@@ -20,9 +20,16 @@ pub struct Cursor<'input> {
     pub ghost cut: { IsCharBoundary text.now pos },
 }
 
+/// A quote, `'` or `"`, in which a value stands.
+#[derive(Clone, Copy)]
+pub struct Quote {
+    pub byte: u8,
+    pub ghost is: { (byte == 39 || byte == 34) ≡ true },
+}
+
 impl<'input> Cursor<'input> {
     ghost use Rattle.rox_grammar.specs.Failures.{name_view};
-    ghost use Rattle.rox_scan.specs.ScanResults.{AreBoundaries, IsAt, MovesTo, Steps};
+    ghost use Rattle.rox_scan.specs.ScanResults.{AreBoundaries, HasAsciiAt, IsAt, MovesTo, StandsWithin, Steps};
     ghost use Rattle.rox_grammar.specs.Search.{stands};
     ghost use Rattle.rox_grammar.specs.FixedTexts.{word_text};
     ghost use Rattle.rox_grammar.specs.Names.{spaces_end};
@@ -49,8 +56,7 @@ impl<'input> Cursor<'input> {
     #[inline]
     pub fn within(text: &'input str, start: usize, end: usize) -> Cursor<'input>
         requires { AreBoundaries text.now start end }
-        ensures place { result.pos ≡ start }
-        ensures source { result.text.now ≡ take end text.entry.now }
+        ensures { StandsWithin text.entry.now start end result }
     {
         Cursor {
             text: &text[..end],
@@ -70,8 +76,7 @@ impl<'input> Cursor<'input> {
     /// Moves past an ASCII byte that stands here.
     #[inline(always)]
     pub fn advance(&mut self)
-        requires there { self.old.pos < length self.old.text.now }
-        requires ascii { slice_index self.old.text.now self.old.pos < 128 }
+        requires { HasAsciiAt self.old.text.now self.old.pos }
         ensures { MovesTo (self.old.pos + 1) self.old self.new }
     {
         self.pos += 1;
@@ -123,9 +128,8 @@ impl<'input> Cursor<'input> {
     /// A quote, `'` or `"`, which it answers. Any other byte is a fault, and so is the end.
     #[inline]
     #[tactic(auto, unfolding(rox_reading::specs::Lexical::quote_at))]
-    pub fn quote(&mut self) -> Result<u8, Fault>
-        ensures quote { IfOk result (λ quote. (quote == 39 || quote == 34) ≡ true) }
-        ensures read { Steps (λ x. x) self.old self.new result spec.quote_at }
+    pub fn quote(&mut self) -> Result<Quote, Fault>
+        ensures { Steps (λ quote. quote.byte) self.old self.new result spec.quote_at }
     {
         if self.pos >= self.text.len() {
             return Err(Fault::UnexpectedEndOfStream);
@@ -135,7 +139,7 @@ impl<'input> Cursor<'input> {
             return Err(Fault::InvalidChar2(Due::Quote, here, self.pos));
         }
         self.advance();
-        Ok(here)
+        Ok(Quote { byte: here })
     }
 
     /// The longest name (XML 1.0 [5] Name). It is a fault where none begins here.

@@ -1,12 +1,12 @@
 //! The parts of a document type declaration (XML 1.0 sections 2.8, 4.2 and 4.7).
 
-ghost use Rattle.std.specs.Prelude.{◌≡◌, ◌+◌, IfOk, slice_index, slice_range, true};
+ghost use Rattle.std.specs.Prelude.{◌≡◌, ◌+◌, slice_index, true};
 ghost use Rattle.rox_grammar.specs.Search.{stands};
 ghost use Rattle.rox_grammar.specs.FixedTexts.{word_text};
 ghost use Rattle.rox_grammar.specs.declared.fault.Word.TheVariants as word;
 ghost use Rattle.rox_reading.specs.Doctype as spec;
-ghost use Rattle.rox_scan.specs.ScanResults.{AreBoundaries, Steps};
-ghost use Rattle.rox_scan.specs.DoctypeViews.{definition_view, head_view, inner_at, is_skipped_declaration, outer_at, skipped_declaration_at, request_view, subset_end_at};
+ghost use Rattle.rox_scan.specs.ScanResults.{Steps};
+ghost use Rattle.rox_scan.specs.DoctypeViews.{ReadsQuoted, definition_view, head_view, inner_at, is_skipped_declaration, outer_at, skipped_declaration_at, request_view, subset_end_at};
 
 use crate::cursor::Cursor;
 use crate::runs::{after_byte, is_at};
@@ -42,16 +42,13 @@ impl<'input> Cursor<'input> {
     /// The places between which a text in quotes stands. It ends at the first quote like the one before it.
     #[tactic(auto, unfolding(rox_reading::specs::Doctype::quoted_at))]
     fn quoted_span(&mut self) -> Result<(usize, usize), Fault>
-        ensures read { Steps
-            (λ x. slice_range self.old.text.now x.0 x.1) self.old self.new result spec.quoted_at }
-        ensures start { IfOk result (λ x. x.0 ≡ self.old.pos + 1) }
-        ensures within { IfOk result (λ x. AreBoundaries self.old.text.now x.0 x.1) }
+        ensures { ReadsQuoted self.old self.new result }
     {
         let quote = self.quote()?;
         let start = self.pos;
-        let end = byte_from(self.text, start, quote);
+        let end = byte_from(self.text, start, quote.byte);
         self.pos = end;
-        self.byte(quote)?;
+        self.byte(quote.byte)?;
         Ok((start, end))
     }
 

@@ -1,20 +1,21 @@
 //! A longer look at a value or a comment, where the first look stops at a byte that may be in order: a reference, white space,
 //! the other quote, a dash, or a character that begins with 239.
 
-ghost use Rattle.std.specs.Prelude.{◌≡◌, ◌==◌, ◌||◌, ◌<◌, ◌≤◌, ℕ, true, false, length, slice_index};
+ghost use Rattle.std.specs.Prelude.{◌≡◌, ◌==◌, ◌||◌, ◌<◌, ◌≤◌, ℕ, true, length, slice_index};
 ghost use Rattle.std.specs.Str.{IsCharBoundary};
 ghost use Rattle.rox_grammar.specs.Chars.{is_char};
-ghost use Rattle.rox_grammar.specs.Runs.{begins, run_end};
+ghost use Rattle.rox_grammar.specs.Runs.{run_end};
 ghost use Rattle.rox_grammar.specs.Constructs.{AreChars};
 ghost use Rattle.rox_grammar.specs.Search.{stands};
 ghost use Rattle.rox_grammar.specs.Content as content;
 ghost use Rattle.rox_reading.specs.Values as reading;
 ghost use Rattle.rox_scan.specs.ByteSets as near;
 ghost use Rattle.rox_scan.specs.Lookahead as longer;
-ghost use Rattle.rox_scan.specs.Lookahead.{IsLookahead, IsStep, LooksAhead};
+ghost use Rattle.rox_scan.specs.Lookahead.{IsAfterChar, LooksAhead, LooksAtValue};
 ghost use Rattle.rox_scan.specs.ScanResults.{Finds, HasCharAt};
 
 use crate::byte_set::{ByteSet, CharByte, CommentByte, ValueByte, skip_set};
+use crate::cursor::Quote;
 use crate::nibbles::classes;
 use crate::runs::{Class, XmlChar, char_at};
 use std::simd::prelude::*;
@@ -30,8 +31,7 @@ pub struct Lookahead {
 #[inline(always)]
 pub fn after_char(text: &str, at: usize) -> usize
     requires { HasCharAt text.now at }
-    ensures step { IsStep text.now at result }
-    ensures stops { result ≡ at → begins is_char text.now at ≡ false }
+    ensures { IsAfterChar text.now at result }
 {
     let here = text.as_bytes()[at];
     if here < 128 {
@@ -144,21 +144,16 @@ impl ByteSet for RunByte {
 
 /// A value as far as it is in order, up to its quote, a `<` or a `&`: where there is one reference there are often many, and a search
 /// for the quote is quicker then.
-pub fn scan_value(text: &str, at: usize, quote: u8) -> Lookahead
-    requires cut { IsCharBoundary text.now at }
-    requires quote { (quote == 39 || quote == 34) ≡ true }
-    ensures looked { IsLookahead (longer.ends_value quote text.now) reading.is_special text.now at
-        result.end result.is_verbatim }
-    ensures stops { result.end < length text.now
-        → (longer.ends_value quote text.now result.end || slice_index text.now result.end == 38)
-        ≡ false → begins is_char text.now result.end ≡ false }
+pub fn scan_value(text: &str, at: usize, quote: Quote) -> Lookahead
+    requires { IsCharBoundary text.now at }
+    ensures { LooksAtValue quote.byte text.now at result.end result.is_verbatim }
 {
     let bytes = text.as_bytes();
     let mut is_verbatim = true;
     let mut end = skip_set::<ValueByte>(text, at);
     while end < bytes.len() {
         let here = bytes[end];
-        if here == quote || here == b'<' || here == b'&' {
+        if here == quote.byte || here == b'<' || here == b'&' {
             break;
         }
         let next = after_char(text, end);

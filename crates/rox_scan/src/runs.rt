@@ -1,10 +1,9 @@
 //! Runs of characters.
-ghost use Rattle.std.specs.Prelude.{◌≡◌, ◌==◌, ◌+◌, ◌<◌, ◌≤◌, ℕ, Bool, true, length, drop, slice_index};
-ghost use Rattle.std.specs.Char.{len_utf8};
+ghost use Rattle.std.specs.Prelude.{◌≡◌, ◌==◌, ◌+◌, ◌<◌, ◌≤◌, ℕ, Bool, true, length, slice_index};
 ghost use Rattle.std.specs.Str.{IsCharBoundary, chars};
 ghost use Rattle.rox_grammar.specs.Chars as spec;
-ghost use Rattle.rox_grammar.specs.Runs.{run_end, begins, StandsAt};
-ghost use Rattle.rox_scan.specs.ScanResults.{Finds, HasCharAt};
+ghost use Rattle.rox_grammar.specs.Runs.{run_end, begins};
+ghost use Rattle.rox_scan.specs.ScanResults.{Finds, HasCharAt, IsCharAt};
 
 use crate::chars;
 
@@ -93,9 +92,7 @@ impl Class for XmlChar {
 #[inline]
 pub(crate) fn char_at(text: &str, at: usize) -> char
     requires { HasCharAt text.now at }
-    ensures stands { StandsAt result text.now at }
-    ensures first { result ≡ slice_index (chars (drop at text.now)) 0 }
-    ensures cut { IsCharBoundary text.now (at + len_utf8 result) }
+    ensures { IsCharAt text.now at result }
 {
     match text[at..].chars().next() {
         Some(c) => c,

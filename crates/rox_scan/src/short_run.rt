@@ -1,8 +1,8 @@
 //! Character data up to the end of its source, as most replacement texts are: what has sixteen bytes at most is seen at one look.
 
-ghost use Rattle.std.specs.Prelude.{◌≡◌, ◌+◌, ◌≤◌, length, true};
+ghost use Rattle.std.specs.Prelude.{◌≡◌, length, true};
 ghost use Rattle.std.specs.Str.{IsCharBoundary};
-ghost use Rattle.rox_scan.specs.ByteSets.{AllPass};
+ghost use Rattle.rox_scan.specs.ByteSets.{AllPass, EndsInBlock};
 ghost use Rattle.rox_scan.specs.Lookahead as longer;
 ghost use Rattle.rox_scan.specs.Lookahead.{IsLookahead};
 
@@ -13,9 +13,7 @@ use std::simd::prelude::*;
 /// Whether the bytes from `at` up to the end, sixteen at most, are all in the set. They are seen among the last sixteen.
 #[inline(always)]
 fn passes_to_end<C: ByteSet>(bytes: &[u8], at: usize) -> bool
-    requires room { 16 ≤ length bytes.now }
-    requires short { length bytes.now ≤ at + 16 }
-    requires within { at ≤ length bytes.now }
+    requires { EndsInBlock bytes.now at }
     ensures { result ≡ true → AllPass C.test bytes.now at (length bytes.now) }
 {
     let first = bytes.len() - 16;

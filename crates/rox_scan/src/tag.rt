@@ -1,15 +1,15 @@
 //! What tags hold: the attributes of a start tag as they are written, its end, and the name of an end tag (XML 1.0 section 3.1).
 
-ghost use Rattle.std.specs.Prelude.{◌≡◌, ◌==◌, ◌||◌, IfOk, true};
+ghost use Rattle.std.specs.Prelude.{◌≡◌, ◌==◌, true};
 ghost use Rattle.rox_grammar.specs.Search.{stands};
 ghost use Rattle.rox_grammar.specs.FixedTexts.{word_text};
 ghost use Rattle.rox_grammar.specs.declared.fault.Word.TheVariants as word;
 ghost use Rattle.rox_reading.specs.Markup as spec;
 ghost use Rattle.rox_scan.specs.ScanResults.{Steps};
-ghost use Rattle.rox_scan.specs.Views.{HasValue, PassesValue, ReadsValue, TagItemHasValue, attribute_view, end_tag_view, tag_item_view};
+ghost use Rattle.rox_scan.specs.Views.{PassesValue, ReadsAttribute, ReadsTagItem, ReadsValue, end_tag_view};
 
 use crate::byte_set::{ValueByte, skip_set};
-use crate::cursor::Cursor;
+use crate::cursor::{Cursor, Quote};
 use crate::lookahead::{is_verbatim_value, scan_value};
 use crate::runs::is_at;
 use crate::search::either_from;
@@ -71,13 +71,12 @@ impl<'input> Cursor<'input> {
     /// The text up to the quote or a `<`, one of which has to follow.
     #[inline]
     #[tactic(auto, using(crate::proofs::NearLemmas::near_plain, crate::proofs::NearLemmas::value_cut))]
-    fn raw_value(&mut self, quote: u8) -> Result<RawValue<'input>, Fault>
-        requires { (quote == 39 || quote == 34) ≡ true }
-        ensures { ReadsValue quote self.old self.new result }
+    fn raw_value(&mut self, quote: Quote) -> Result<RawValue<'input>, Fault>
+        ensures { ReadsValue quote.byte self.old self.new result }
     {
         let start = self.pos;
         let near = skip_set::<ValueByte>(self.text, start);
-        if is_at(self.text, near, quote) {
+        if is_at(self.text, near, quote.byte) {
             self.pos = near;
             return Ok(RawValue {
                 text: &self.text[start..near],
@@ -94,12 +93,11 @@ impl<'input> Cursor<'input> {
     /// The same, by a longer look. It moves to the end of the value, and answers whether that has no reference and no white
     /// space but spaces.
     #[inline(never)]
-    fn value_by_characters(&mut self, quote: u8) -> Result<bool, Fault>
-        requires { (quote == 39 || quote == 34) ≡ true }
-        ensures { PassesValue quote self.old self.new result }
+    fn value_by_characters(&mut self, quote: Quote) -> Result<bool, Fault>
+        ensures { PassesValue quote.byte self.old self.new result }
     {
         let look = scan_value(self.text, self.pos, quote);
-        if is_at(self.text, look.end, quote) {
+        if is_at(self.text, look.end, quote.byte) {
             self.pos = look.end;
             return Ok(look.is_verbatim);
         }
@@ -109,11 +107,10 @@ impl<'input> Cursor<'input> {
     /// The same of a value with a reference, of one that is not in order, and of one that no quote of its own ends.
     #[inline(never)]
     #[tactic(auto, unfolding(rox_reading::specs::Markup::raw_value_at))]
-    fn slow_value(&mut self, quote: u8) -> Result<bool, Fault>
-        requires { (quote == 39 || quote == 34) ≡ true }
-        ensures { PassesValue quote self.old self.new result }
+    fn slow_value(&mut self, quote: Quote) -> Result<bool, Fault>
+        ensures { PassesValue quote.byte self.old self.new result }
     {
-        let end = either_from(self.text, self.pos, quote, b'<');
+        let end = either_from(self.text, self.pos, quote.byte, b'<');
         if end >= self.text.len() {
             return Err(Fault::UnexpectedEndOfStream);
         }
@@ -126,8 +123,7 @@ impl<'input> Cursor<'input> {
     #[inline]
     #[tactic(auto, unfolding(rox_reading::specs::Markup::attribute_at))]
     pub fn attribute(&mut self) -> Result<RawAttribute<'input>, Fault>
-        ensures read { Steps attribute_view self.old self.new result spec.attribute_at }
-        ensures text { IfOk result (λ a. HasValue self.old.text.now a) }
+        ensures { ReadsAttribute self.old self.new result }
     {
         let start = self.pos;
         let name = self.qname()?;
@@ -139,7 +135,7 @@ impl<'input> Cursor<'input> {
         let value_start = self.pos;
         let value = self.raw_value(quote)?;
         let value_end = self.pos;
-        self.byte(quote)?;
+        self.byte(quote.byte)?;
         Ok(RawAttribute {
             start,
             name,
@@ -156,8 +152,7 @@ impl<'input> Cursor<'input> {
     #[inline]
     #[tactic(auto, unfolding(rox_reading::specs::Markup::tag_item_at))]
     pub fn tag_item(&mut self) -> Result<TagItem<'input>, Fault>
-        ensures read { Steps tag_item_view self.old self.new result spec.tag_item_at }
-        ensures text { IfOk result (λ t. TagItemHasValue self.old.text.now t) }
+        ensures { ReadsTagItem self.old self.new result }
     {
         let start = self.pos;
         self.spaces();

@@ -1,8 +1,8 @@
 //! Sixteen bytes of a tag, seen at once: an attribute's name, and the end of its value or of as much of it as is among them.
 
-ghost use Rattle.std.specs.Prelude.{◌≤◌, ◌+◌, ◌<◌, ◌≡◌, ℕ, List, MatchOption, length};
+ghost use Rattle.std.specs.Prelude.{◌≤◌, ◌+◌, ◌<◌, ℕ, List, MatchOption, length};
 ghost use Rattle.rox_scan.specs.ByteSets.{AllPass, EndsSet, is_part_byte, is_value_byte};
-ghost use Rattle.rox_scan.specs.Windows.{Sees};
+ghost use Rattle.rox_scan.specs.Windows.{Sees, SeesFrom};
 
 use crate::byte_set::{ByteSet, PartByte, ValueByte, before_first};
 use std::simd::prelude::*;
@@ -25,8 +25,7 @@ impl Window {
     #[inline(always)]
     pub fn new(text: &str, at: usize) -> Window
         requires { at + 16 ≤ length text.now }
-        ensures sees { Sees text.now result }
-        ensures place { result.at ≡ at }
+        ensures { SeesFrom text.now at result }
     {
         let bytes = text.as_bytes();
         let block = u8x16::from_slice(&bytes[at..]);

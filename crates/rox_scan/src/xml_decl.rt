@@ -1,6 +1,6 @@
 //! The declaration that a text may begin with (XML 1.0 [23] XMLDecl, [77] TextDecl).
 
-ghost use Rattle.std.specs.Prelude.{◌≡◌, ◌==◌, ◌||◌, ◌+◌, ◌<◌, Ok, if◌then◌else◌, true};
+ghost use Rattle.std.specs.Prelude.{◌≡◌, ◌||◌, ◌+◌, ◌<◌, Ok, if◌then◌else◌, true};
 ghost use Rattle.rox_grammar.specs.Search.{stands};
 ghost use Rattle.rox_grammar.specs.FixedTexts.{word_text};
 ghost use Rattle.rox_grammar.specs.declared.fault.Word.TheVariants as word;
@@ -10,7 +10,7 @@ ghost use Rattle.rox_scan.specs.DoctypeViews.{up_to_quote, xml_decl_if};
 
 use crate::byte_set::{ValueByte, part_end, skip_set};
 use crate::chars::is_space;
-use crate::cursor::Cursor;
+use crate::cursor::{Cursor, Quote};
 use crate::runs::{NameStart, after_byte, begins, is_at};
 use crate::search::either_from;
 use rox_grammar::fault::{Due, Expected, Fault, Word};
@@ -18,17 +18,16 @@ use rox_grammar::fault::{Due, Expected, Fault, Word};
 impl<'input> Cursor<'input> {
     /// A value of the XML declaration, up to the quote or a `<`: at one look where the quote stands behind plain bytes.
     #[inline(always)]
-    fn value(&mut self, quote: u8) -> Result<&'input str, Fault>
-        requires { (quote == 39 || quote == 34) ≡ true }
-        ensures { Steps (λ x. x.now) self.old self.new result (up_to_quote quote) }
+    fn value(&mut self, quote: Quote) -> Result<&'input str, Fault>
+        ensures { Steps (λ x. x.now) self.old self.new result (up_to_quote quote.byte) }
     {
         let start = self.pos;
         let near = skip_set::<ValueByte>(self.text, start);
-        if is_at(self.text, near, quote) {
+        if is_at(self.text, near, quote.byte) {
             self.pos = near;
             return Ok(&self.text[start..near]);
         }
-        let end = either_from(self.text, start, quote, b'<');
+        let end = either_from(self.text, start, quote.byte, b'<');
         self.chars_up_to(end)
     }
 
@@ -43,7 +42,7 @@ impl<'input> Cursor<'input> {
         self.spaces();
         let quote = self.quote()?;
         let _value = self.value(quote)?;
-        self.byte(quote)
+        self.byte(quote.byte)
     }
 
     /// White space, or nothing where `?>` stands or the source ends.

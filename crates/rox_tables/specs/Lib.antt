@@ -4,6 +4,7 @@ pub mod Storage
 pub mod UsualPlaces
 pub mod StoredAttributes
 pub mod Growth
+pub mod Words
 pub mod Scopes
 pub mod SeenNames
 pub mod ResolvedNames

@@ -1,8 +1,14 @@
 -- How the table of nodes changes.
-use Rattle.std.specs.Prelude.{◌≡◌, ◌+◌, ◌^◌, ◌<◌, ◌∷◌, ◌++◌, [], ℕ, Bool, length, set, get_or, vec_len, vec_capacity, if◌then◌else◌}
+use Rattle.std.specs.Prelude.{◌≡◌, ◌+◌, ◌^◌, ◌<◌, ◌≤◌, ◌∷◌, ◌++◌, [], ℕ, Bool, length, take, set, get_or, vec_len, vec_capacity, if◌then◌else◌}
 use Rattle.rox_tables.specs.Rows.{node_rows}
 use Rattle.rox_tables.specs.declared.rows.node_table.NodeTable.{NodeTable}
 use Rattle.rox_tables.specs.declared.rows.tables.NodeData.{NodeData}
+use Rattle.rox_tables.specs.declared.rows.tables.NodeKind.TheVariants as kind
+
+-- the root node alone, of a text of so many bytes
+pub record IsRootAlone (bytes : ℕ) (t : NodeTable) : Type 0 where
+  pub rows : node_rows t ≡ record { start = 0; end = bytes; parent = 0; subtree_end = 0; kind = kind.Root } ∷ []
+  pub len : vec_len t.rows ≡ 1
 
 -- the nodes stay
 pub record KeepsNodes (old new : NodeTable) : Type 0 where
@@ -25,6 +31,16 @@ pub record PutsNode (row : NodeData) (old new : NodeTable) : Type 0 where
 pub record PushesNode (row : NodeData) (well : Bool) (old new : NodeTable) : Type 0 where
   pub rows : node_rows new ≡ (if well then node_rows old ++ row ∷ [] else node_rows old)
   pub len : vec_len new.rows ≡ (if well then vec_len old.rows + 1 else vec_len old.rows)
+
+-- the nodes behind the first so many are taken back
+pub record TakesNodes (count : ℕ) (old new : NodeTable) : Type 0 where
+  pub rows : node_rows new ≡ take count (node_rows old)
+  pub len : count ≤ vec_len old.rows → vec_len new.rows ≡ count
+
+-- the root node is written the count of all rows
+pub record EndsRoot (count : ℕ) (old new : NodeTable) : Type 0 where
+  pub rows : (d : NodeData) → node_rows new ≡ set (node_rows old) 0 (record (get_or (node_rows old) 0 d) { subtree_end = count })
+  pub len : vec_len new.rows ≡ vec_len old.rows
 
 -- an element ends here, and all rows behind its own are of its descendants
 pub record EndsNode (row end : ℕ) (old new : NodeTable) : Type 0 where

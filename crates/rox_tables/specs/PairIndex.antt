@@ -1,5 +1,5 @@
 -- Where pairs stand in a table, and in a map of them.
-use Rattle.std.specs.Prelude.{ℕ, suc, ◌+◌, List, [], ◌∷◌, drop, Option, Some, None, if◌then◌else◌}
+use Rattle.std.specs.Prelude.{◌≡◌, ◌<◌, ◌≤◌, ℕ, suc, ◌+◌, List, [], ◌∷◌, ◌++◌, drop, length, map, Option, Some, None, if◌then◌else◌}
 use Rattle.std.specs.Option.{option_map, option_cmp}
 use Rattle.std.specs.declared.cmp.Ordering.{Ordering}
 use Rattle.std.specs.Ordering.{ordering_then, nat_cmp}
@@ -7,9 +7,10 @@ use Rattle.std.specs.Cmp.{IsTotalOrder, then_total, on_total, nat_cmp_total}
 use Rattle.std.specs.Cmp.Lexicographic.{slice_cmp, lists_total, options_total}
 use Rattle.std.specs.Map.{lookup}
 use Rattle.rox_grammar.specs.Written.{NamespaceDecl}
-use Rattle.rox_grammar.specs.Document.{same_pair}
-use Rattle.rox_tables.specs.Rows.{namespace_view}
+use Rattle.rox_grammar.specs.Document.{most_pairs, same_pair, with_new}
+use Rattle.rox_tables.specs.Rows.{namespace_at, namespace_view}
 use Rattle.rox_tables.specs.declared.namespaces.namespace_table.Key.{Key}
+use Rattle.rox_tables.specs.declared.rows.tables.Namespace.{Namespace}
 
 -- by prefix, of which the default comes first, and then by URI
 abbrev pub pair_cmp : NamespaceDecl → NamespaceDecl → Ordering
@@ -33,6 +34,17 @@ place_of (n ∷ namespaces) d = if same_pair n d then Some 0 else option_map suc
 -- how many pairs of a table are looked for one after another
 abbrev pub few_pairs : ℕ
 few_pairs = 16
+
+-- a pair is put at the end of a table, at this place
+pub record AddsPair (pair : NamespaceDecl) (at : ℕ) (old new : List Namespace) : Type 0 where
+  pub items : map namespace_view new ≡ map namespace_view old ++ pair ∷ []
+  pub place : at ≡ length old
+
+-- a pair is at this place of a table, where it was put at the end if it was new
+pub record PlacesPair (pair : NamespaceDecl) (at : ℕ) (old new : List Namespace) : Type 0 where
+  pub there : (at < length new) × (namespace_at (map namespace_view new) at ≡ pair)
+  pub table : map namespace_view new ≡ with_new (map namespace_view old) (pair ∷ [])
+  pub few : length new ≤ most_pairs
 
 -- the place of a pair that stands behind these
 abbrev pub place_behind : List NamespaceDecl → NamespaceDecl → Option ℕ

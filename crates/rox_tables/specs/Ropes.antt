@@ -1,9 +1,10 @@
 -- What rows of scopes list that were made from others.
-use Rattle.std.specs.Prelude.{◌≡◌, ℕ, ◌<◌, ◌≤◌, List, ◌++◌, length}
+use Rattle.std.specs.Prelude.{◌≡◌, ℕ, ◌-◌, ◌<◌, ◌≤◌, false, List, [], ◌∷◌, ◌++◌, Option, IfSome, IfNone, length}
+use Rattle.std.specs.Borrow.{Bor}
 use Rattle.std.specs.List.{AllByRecursion}
 use Rattle.rox_grammar.specs.Written.{NamespaceDecl}
 use Rattle.rox_tables.specs.Rows.{AreRows, AreScopes, EndsWithin}
-use Rattle.rox_tables.specs.Scopes.{entries, places_in, ArePlaces}
+use Rattle.rox_tables.specs.Scopes.{entries, is_few_at, places_in, ArePlaces}
 use Rattle.rox_tables.specs.declared.rows.tables.Scope.{Scope}
 use Rattle.rox_tables.specs.declared.rows.tables.Stretch.{Stretch}
 
@@ -17,17 +18,37 @@ pub record IsScope (listed : List ℕ) (table : List Scope) (scope : ℕ) : Type
   pub scopes : AreScopes (length listed) table
   pub within : scope < length table
 
+-- what such a row lists is given, if it is a row of few
+pub record GivesFew (listed : List ℕ) (table : List Scope) (scope : ℕ) (result : Option (Bor (List ℕ))) : Type 0 where
+  pub few : IfSome result (λ places. places.now ≡ places_in listed table scope)
+  pub many : IfNone result (is_few_at table scope ≡ false)
+
 -- each of which is that of one of so many namespaces
 pub record IsScopeOf (namespaces : ℕ) (listed : List ℕ) (table : List Scope) (scope : ℕ) : Type 0 where
   pub places : ArePlaces namespaces listed
   pub scopes : AreScopes (length listed) table
   pub within : scope < length table
 
+-- such a row lists one at this index
+pub record IsAmongScope (listed : List ℕ) (table : List Scope) (row i : ℕ) : Type 0 where
+  pub scope : IsScope listed table row
+  pub index : i < length (places_in listed table row)
+
 -- a stretch of what these rows list
 pub record IsStretch (table : List Scope) (stretch : Stretch) : Type 0 where
   pub rows : AreRows table
   pub ordered : stretch.from ≤ stretch.until
   pub ends : (n : ℕ) → AllByRecursion (EndsWithin n) table → stretch.until ≤ n
+
+-- such a stretch has one at this index
+pub record IsAmongStretch (table : List Scope) (s : Stretch) (i : ℕ) : Type 0 where
+  pub stretch : IsStretch table s
+  pub index : i < s.until - s.from
+
+-- a row is put behind the others, at this place
+pub record AddsRow (row : Scope) (at : ℕ) (old new : List Scope) : Type 0 where
+  pub items : new ≡ old ++ row ∷ []
+  pub value : at ≡ length old
 
 -- Rows were put behind the others, and the row at this place lists this of any listed places.
 pub record IsRope (old new : List Scope) (scope : ℕ) (list : List ℕ → List ℕ) : Type 0 where

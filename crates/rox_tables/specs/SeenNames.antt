@@ -5,6 +5,7 @@ use Rattle.std.specs.Int.{w32, from_le_bytes, bit_at}
 use Rattle.rox_tables.specs.Rows.{AttributeRow, NamespaceWithin}
 use Rattle.rox_tables.specs.declared.namespaces.seen_names.SeenNames.{SeenNames}
 use Rattle.rox_tables.specs.declared.rows.tables.AttributeData.{AttributeData}
+use Rattle.rox_tables.specs.declared.rows.tables.AttributeNamespace.{AttributeNamespace}
 
 -- what a name's code is made of
 unfoldable pub name_sum : List ℕ → ℕ
@@ -34,6 +35,21 @@ pub record AreSeen (seen : SeenNames) (rows : List AttributeRow) : Type 0 where
   pub from : seen.from ≤ length rows
   pub codes : seen.from + 2 < length rows → HaveCodes seen rows
 
+-- the code of a local name, of which there are 1,024
+pub record IsNameCode (local : List ℕ) (code : ℕ) : Type 0 where
+  pub is : code ≡ name_code local
+  pub within : code < 1024
+
+-- the codes that were seen stay, and the tag does
+pub record KeepsCodes (old new : SeenNames) : Type 0 where
+  pub codes : new.codes ≡ old.codes
+  pub from : new.from ≡ old.from
+
+-- the names of all attributes of the tag are seen, which are the last of these rows
+pub record SeesAll (old new : SeenNames) (rows : List AttributeRow) : Type 0 where
+  pub coded : HaveCodes new rows
+  pub from : new.from ≡ old.from
+
 -- one more name of the tag was seen
 pub record SeesName (old new : SeenNames) (local : List ℕ) : Type 0 where
   pub from : new.from ≡ old.from
@@ -44,6 +60,11 @@ pub record SeesName (old new : SeenNames) (local : List ℕ) : Type 0 where
 pub record HoldsSeen (namespaces : ℕ) (seen : SeenNames) (rows : List AttributeRow) : Type 0 where
   pub are_seen : AreSeen seen rows
   pub within : AllByRecursion (λ a. NamespaceWithin namespaces a.0.namespace) (drop seen.from rows)
+
+-- so were they, and so is that of one more attribute
+pub record TakesOneMore (namespaces : ℕ) (seen : SeenNames) (rows : List AttributeRow) (other : AttributeNamespace) : Type 0 where
+  pub namespace : NamespaceWithin namespaces other
+  pub tag : HoldsSeen namespaces seen rows
 
 -- A row is put behind those of the tag, which were seen, and is seen itself; or it is refused, and the rows are as before.
 pub record PutsSeen (seen after : SeenNames) (rows new : List AttributeRow) (put : Bool) : Type 0 where

@@ -1,5 +1,6 @@
 -- The rows of nodes as their table stores them.
-use Rattle.std.specs.Prelude.{ℕ, ◌+◌, ◌*◌, ◌^◌, ◌≡◌, ◌==◌, ◌&&◌, Bool, true, false, not, List, [], ◌∷◌, Some, None, length, nat_lt, if◌then◌else◌}
+use Rattle.std.specs.declared.alloc.Global.{Global}
+use Rattle.std.specs.Prelude.{ℕ, ◌+◌, ◌-◌, ◌*◌, ◌^◌, ◌<◌, ◌≤◌, ◌≡◌, ◌==◌, ◌&&◌, Bool, true, false, not, List, [], ◌∷◌, Some, None, Result, IfOk, IfErr, OnOk, Vec, vec_len, vec_capacity, length, take, set, get_or, nat_lt, if◌then◌else◌}
 use Rattle.std.specs.Mem.{manually_drop_value}
 use Rattle.std.specs.List.{list_all}
 use Rattle.rox_tables.specs.Storage.{is_borrowed}
@@ -128,6 +129,32 @@ IsSmallKind (kind.Element e) = Unit {0}
 IsSmallKind (kind.Text text) = Unit {0}
 IsSmallKind (kind.Comment text) = Unit {0}
 IsSmallKind (kind.PI pi) = ⊥
+
+-- one row is changed in place, if it is there
+pub record ChangesRow {A : Type 0} (row : ℕ) (change : A → A) (old new : Vec A Global) : Type 0 where
+  pub rows : (d : A) → new.items ≡ set old.items row (change (get_or old.items row d))
+  pub count : vec_len new ≡ vec_len old
+  pub room : vec_capacity new ≡ vec_capacity old
+
+-- the last row is taken back: this is the number of the last one then that owns a text, where it was `last`
+pub record TakesLast (last before : ℕ) (old new : Vec StoredNode Global) : Type 0 where
+  pub rows : new.items ≡ take (vec_len old - 1) old.items
+  pub count : 0 < vec_len old → vec_len new + 1 ≡ vec_len old
+  pub chain : is_chain 0 0 last old.items ≡ true → is_chain 0 0 before new.items ≡ true
+
+-- Upper halves of 0 are put behind those that are there: for so many rows, with room for one more, unless memory ran out.
+pub record FillsHigh {E : Type 0} (rows_there : ℕ) (old new : Vec HighPlaces Global) (result : Result (Unit {0}) E) : Type 0 where
+  pub same : (pis : List PI) (rows : List StoredNode) → whole_rows pis new.items rows ≡ whole_rows pis old.items rows
+  pub count : OnOk result (vec_len new ≡ rows_there)
+  pub most : vec_len new ≤ rows_there
+  pub room : OnOk result (vec_len new < vec_capacity new)
+
+-- A node is stored, with a processing instruction put at the end of these, unless memory ran out: the rows before stay.
+pub record StoresKind {E : Type 0} (last : ℕ) (k : NodeKind) (old new : List PI) (result : Result StoredKind E) : Type 0 where
+  pub stored : IfOk result (Stores new last k)
+  pub same : (high : List HighPlaces) (rows : List StoredNode) → are_within (length old) rows ≡ true → whole_rows new high rows ≡ whole_rows old high rows
+  pub more : length old ≤ length new
+  pub none : IfErr result (λ e. new ≡ old)
 
 -- what is lent is this
 abbrev pub kind_of : KindRef → NodeKind

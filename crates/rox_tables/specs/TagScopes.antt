@@ -1,9 +1,11 @@
 -- The scope of an element, in the tables.
-use Rattle.std.specs.Prelude.{◌≡◌, ℕ, ◌<◌, ◌≤◌, Bool, false, List, ◌++◌, length, map, drop}
+use Rattle.std.specs.Prelude.{◌≡◌, ℕ, ◌<◌, ◌≤◌, Bool, false, List, ◌++◌, Option, length, map, drop}
+use Rattle.std.specs.Borrow.{Bor}
 use Rattle.rox_grammar.specs.Written.{NamespaceDecl}
 use Rattle.rox_tables.specs.Rows.{namespace_view, lists_of, scope_at, AreScopes}
 use Rattle.rox_tables.specs.Bindings.{AreBindingsOf, IsBound, bound_place}
 use Rattle.rox_tables.specs.Scopes.{entries, places_in, ArePlaces, PrefixesOnce, others, is_few_at}
+use Rattle.rox_tables.specs.PrefixSet.{IsPrefixSet}
 use Rattle.rox_tables.specs.Ropes.{IsScopeOf}
 use Rattle.rox_tables.specs.declared.namespaces.bindings.PrefixBindings.{PrefixBindings}
 use Rattle.rox_tables.specs.declared.rows.tables.ElementTables.{ElementTables}
@@ -31,6 +33,11 @@ pub record HasOpenTag (t : ElementTables) (above own : ℕ) : Type 0 where
   pub once : PrefixesOnce (scope_at (lists_in t) above)
   pub own_once : PrefixesOnce (entries (map namespace_view t.namespaces.items.items) (drop own t.listed.items))
   pub kept : HasBindings t
+
+-- So is one whose prefixes are these keys, if they are many.
+pub record HasTagPrefixes (t : ElementTables) (keys : List (Option (Bor (List ℕ)))) (above own : ℕ) : Type 0 where
+  pub tag : HasOpenTag t above own
+  pub prefix_set : IsPrefixSet (map namespace_view t.namespaces.items.items) (drop own t.listed.items) keys
 
 -- A tag is read below a scope of many, which lists each prefix once, and whose prefixes have their places; from a place on what the tag
 -- declares is listed.

@@ -1,7 +1,7 @@
 //! Equality of short texts.
 
-ghost use Rattle.std.specs.Prelude.{◌≡◌, ◌≤◌, ◌<◌, ◌+◌, ◌^◌, length, bytes_eq, slice_range};
-ghost use Rattle.std.specs.Int.{w32, from_le_bytes, to_le_bytes};
+ghost use Rattle.std.specs.Prelude.{◌≡◌, ◌≤◌, ◌<◌, ◌+◌, length, bytes_eq, slice_range};
+ghost use Rattle.rox_tables.specs.Words.{HasLength, IsWord};
 
 /// The length from which on the library compares texts.
 pub const LONG: usize = 16;
@@ -13,9 +13,7 @@ pub const WORD: usize = 4;
 #[inline(always)]
 pub fn word_at(bytes: &[u8], at: usize) -> u64
     requires { at + 4 ≤ length bytes.now }
-    ensures value { result ≡ from_le_bytes w32 (slice_range bytes.now at (at + 4)) }
-    ensures back { to_le_bytes w32 result ≡ slice_range bytes.now at (at + 4) }
-    ensures small { result < 2 ^ 32 }
+    ensures { IsWord bytes.now at result }
 {
     u32::from_le_bytes([bytes[at], bytes[at + 1], bytes[at + 2], bytes[at + 3]]) as u64
 }
@@ -42,8 +40,7 @@ fn same_word(pair: Pair<'_, '_>, at: usize) -> bool
 /// Whether two stretches of four to eight bytes are the same: their first four are, and their last four.
 #[inline(always)]
 pub fn same_words(pair: Pair<'_, '_>) -> bool
-    requires least { 4 ≤ length pair.one.now }
-    requires most { length pair.one.now ≤ 8 }
+    requires { HasLength 4 8 pair.one.now }
     ensures { result ≡ bytes_eq pair.entry.one.now pair.entry.other.now }
 {
     let last = pair.one.len() - WORD;

@@ -1,5 +1,5 @@
 -- How the code's texts and references stand to what is read.
-use Rattle.std.specs.Prelude.{◌≡◌, ◌<◌, ◌≤◌, ◌^◌, ℕ, Bool, true, false, not, ◌==◌, ◌||◌, List, ◌++◌, Option, Some, None, Result, Ok, Err, IfOk, drop, length, min, slice_range, if◌then◌else◌}
+use Rattle.std.specs.Prelude.{◌≡◌, ◌≢◌, ◌<◌, ◌≤◌, ◌^◌, ℕ, Bool, true, false, not, ◌==◌, ◌||◌, List, ◌++◌, Option, Some, None, Result, Ok, Err, IfOk, drop, length, min, slice_index, slice_range, if◌then◌else◌}
 use Rattle.std.specs.List.{list_any}
 use Rattle.std.specs.Str.{IsCharBoundary}
 use Rattle.rox_grammar.specs.declared.fault.Fault.{Fault}
@@ -86,6 +86,27 @@ pub record StopsAt (text : List ℕ) (at stop : ℕ) : Type 0 where
   pub before : at < stop
   pub cut : IsCharBoundary text stop
 
+-- bytes of a value that stand for themselves begin here, before the place where reading stops
+pub record BeginsStretch (text : List ℕ) (at stop : ℕ) : Type 0 where
+  pub stop_is : StopsAt text at stop
+  pub plain : reading.is_special (slice_index text at) ≡ false
+
+-- white space of a value that is no space stands here
+pub record BeginsWhiteSpace (text : List ℕ) (at stop : ℕ) : Type 0 where
+  pub stop_is : StopsAt text at stop
+  pub here : reading.is_special (slice_index text at) ≡ true
+  pub no_reference : slice_index text at ≢ 38
+
+-- character data begins here that is no reference
+pub record BeginsData (text : List ℕ) (at stop : ℕ) : Type 0 where
+  pub stop_is : StopsAt text at stop
+  pub no_reference : slice_index text at ≢ 38
+
+-- a CR stands here
+pub record BeginsLineEnd (text : List ℕ) (at stop : ℕ) : Type 0 where
+  pub stop_is : StopsAt text at stop
+  pub here : slice_index text at ≡ 13
+
 -- what is read from where the cursor stood was appended, as `Appends` says, and the source stays
 pub record AppendsFrom (old new : List ℕ) (before after : Cursor) (result : Result (Unit {0}) Failure) (read : List Entity → List ℕ → ℕ → Read reading.Bit) : Type 0 where
   pub value : (es : List Entity) → Appends old new after result (read es before.text.now before.pos)
@@ -146,3 +167,9 @@ section_text raw = record { value = line_ends (literals raw); borrowed = not (li
 -- what a section's text from i on stands for, where no CR comes right before it
 abbrev pub section_rest : List ℕ → ℕ → List ℕ
 section_rest raw i = line_ends (literals (drop i raw))
+
+-- a part of a section is appended: with what stands from `next` on, the text is what it was with what stands from `at` on
+pub record AppendsSectionPart (raw : List ℕ) (at next : ℕ) (old new : List ℕ) : Type 0 where
+  pub value : new ++ section_rest raw next ≡ old ++ section_rest raw at
+  pub moves : at < next
+  pub cut : IsCharBoundary raw next

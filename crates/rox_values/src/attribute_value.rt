@@ -1,6 +1,6 @@
 //! The values of attributes: what they stand for, with references and white space (XML 1.0 sections 3.3.3 and 4.1).
 
-ghost use Rattle.std.specs.Prelude.{◌≡◌, ◌≢◌, Bool, List, Result, Ok, false, ◌≤◌, ◌<◌, length, slice_index, true};
+ghost use Rattle.std.specs.Prelude.{◌≡◌, Bool, List, Result, Ok, false, ◌≤◌, ◌<◌, length, slice_index, true};
 ghost use Rattle.std.specs.List.{position_or_len};
 ghost use Rattle.std.specs.String.{string_bytes};
 ghost use Rattle.std.specs.Char.{encode_utf8};
@@ -14,7 +14,7 @@ ghost use Rattle.rox_grammar.specs.declared.fault.Fault.{Fault};
 ghost use Rattle.rox_reading.specs.Machine.{value_opener};
 ghost use Rattle.rox_scan.specs.DoctypeViews.{replacement_view};
 ghost use Rattle.rox_values.specs.DeclaredEntities.{AreDeclared};
-ghost use Rattle.rox_values.specs.Values.{AppendsFrom, AppendsBitFrom, StopsAt, AppendsCharacter, AppendsValue, GivesValue, ends_stretch, is_inner_byte, piece_view};
+ghost use Rattle.rox_values.specs.Values.{AppendsFrom, AppendsBitFrom, BeginsStretch, BeginsWhiteSpace, StopsAt, AppendsCharacter, AppendsValue, GivesValue, ends_stretch, is_inner_byte, piece_view};
 
 use crate::context::Context;
 use crate::parse_error::ParseError;
@@ -42,9 +42,7 @@ fn special_from(text: &str, at: usize) -> usize
 /// Appends a space for the white space byte that stands here, and nothing for a CR right before a LF.
 #[tactic(auto, unfolding(rox_reading::specs::Values::value_bit_at))]
 fn white_space(cursor: &mut Cursor<'_>, stop: usize, out: &mut String) -> Result<(), Failure>
-    requires here { spec.is_special (slice_index cursor.old.text.now cursor.old.pos) ≡ true }
-    requires no_reference { slice_index cursor.old.text.now cursor.old.pos ≢ 38 }
-    requires stop { StopsAt cursor.old.text.now cursor.old.pos stop }
+    requires { BeginsWhiteSpace cursor.old.text.now cursor.old.pos stop }
     ensures { (main : Bool)
         → AppendsFrom (string_bytes out.old) (string_bytes out.new) cursor.old cursor.new result
         (λ es src at. spec.value_bit_at main es src stop at) }
@@ -151,8 +149,7 @@ fn stretch_end(text: &str, at: usize) -> usize
 #[inline(never)]
 #[tactic(auto, unfolding(rox_reading::specs::Values::value_bit_at, rox_reading::specs::Values::stretch_at))]
 fn inner_stretch(cursor: &mut Cursor<'_>, stop: usize, out: &mut String) -> Result<(), Failure>
-    requires stop { StopsAt cursor.old.text.now cursor.old.pos stop }
-    requires plain { spec.is_special (slice_index cursor.old.text.now cursor.old.pos) ≡ false }
+    requires { BeginsStretch cursor.old.text.now cursor.old.pos stop }
     ensures { AppendsFrom (string_bytes out.old) (string_bytes out.new) cursor.old cursor.new result
         (λ es src at. spec.value_bit_at false es src stop at) }
 {
@@ -169,8 +166,7 @@ fn inner_stretch(cursor: &mut Cursor<'_>, stop: usize, out: &mut String) -> Resu
 /// Appends all of a value in the main text up to the next special byte.
 #[tactic(auto, unfolding(rox_reading::specs::Values::value_bit_at, rox_reading::specs::Values::stretch_at))]
 fn main_stretch(cursor: &mut Cursor<'_>, stop: usize, out: &mut String) -> Result<(), Failure>
-    requires stop { StopsAt cursor.old.text.now cursor.old.pos stop }
-    requires plain { spec.is_special (slice_index cursor.old.text.now cursor.old.pos) ≡ false }
+    requires { BeginsStretch cursor.old.text.now cursor.old.pos stop }
     ensures { AppendsFrom (string_bytes out.old) (string_bytes out.new) cursor.old cursor.new result
         (λ es src at. spec.value_bit_at true es src stop at) }
 {

@@ -1,11 +1,10 @@
 //! Line ends, each of which is read as a line feed (XML 1.0 section 2.11).
 
-ghost use Rattle.std.specs.Prelude.{◌≡◌, ◌++◌, List, IfOk, OnOk, ◌<◌, slice_index, true};
+ghost use Rattle.std.specs.Prelude.{◌≡◌, ◌++◌, List, IfOk, OnOk, ◌<◌, true};
 ghost use Rattle.std.specs.String.{string_bytes};
-ghost use Rattle.std.specs.Str.{IsCharBoundary};
 ghost use Rattle.rox_reading.specs.Values as spec;
 ghost use Rattle.rox_scan.specs.ScanResults.{HasCharAt};
-ghost use Rattle.rox_values.specs.Values.{AppendsFrom, StopsAt, section_rest};
+ghost use Rattle.rox_values.specs.Values.{AppendsFrom, AppendsSectionPart, BeginsLineEnd, section_rest};
 
 use rox_grammar::failure::Failure;
 use rox_scan::cursor::Cursor;
@@ -20,8 +19,7 @@ pub(crate) fn line_end(
     stop: usize,
     out: &mut String,
 ) -> Result<(), Failure>
-    requires here { slice_index cursor.old.text.now cursor.old.pos ≡ 13 }
-    requires stop { StopsAt cursor.old.text.now cursor.old.pos stop }
+    requires { BeginsLineEnd cursor.old.text.now cursor.old.pos stop }
     ensures { AppendsFrom (string_bytes out.old) (string_bytes out.new) cursor.old cursor.new result
         (λ es src at. spec.data_bit_at true es src stop at) }
 {
@@ -48,10 +46,8 @@ pub fn line_feeds(raw: &str, out: &mut String) -> Result<(), AllocError>
 #[tactic(auto, using(crate::proofs::SectionLemmas::part_stretch, crate::proofs::SectionLemmas::stretch_moves, crate::proofs::SectionLemmas::part_feed, crate::proofs::SectionLemmas::part_return))]
 fn section_part(raw: &str, at: usize, out: &mut String) -> Result<usize, AllocError>
     requires { HasCharAt raw.now at }
-    ensures value { IfOk result (λ next. string_bytes out.new ++ section_rest raw.now next
-        ≡ string_bytes out.old ++ section_rest raw.now at) }
-    ensures moves { IfOk result (λ next. at < next) }
-    ensures cut { IfOk result (λ next. IsCharBoundary raw.now next) }
+    ensures { IfOk result
+        (λ next. AppendsSectionPart raw.now at next (string_bytes out.old) (string_bytes out.new)) }
 {
     if raw.as_bytes()[at] != b'\r' {
         let end = byte_from(raw, at, b'\r');

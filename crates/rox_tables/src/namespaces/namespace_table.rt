@@ -1,14 +1,14 @@
 //! The table of the distinct pairs of a prefix, or the default, and a URI. A pair is looked for among the first few of them, one
 //! after another, and then in a map of the others, so that a text of few pairs makes no map.
 
-ghost use Rattle.std.specs.Prelude.{◌≡◌, ◌<◌, ◌≤◌, ◌∷◌, ◌++◌, [], length, map, true, false, IfSome, IfNone, IfOk, OnOk, Err};
+ghost use Rattle.std.specs.Prelude.{◌≡◌, ◌<◌, ◌≤◌, ◌∷◌, [], length, map, true, false, IfSome, IfNone, IfOk, Err};
 ghost use Rattle.rox_grammar.specs.Written.{NamespaceDecl};
 ghost use Rattle.rox_grammar.specs.Document.{has_pair, same_pair, with_new, most_pairs};
 ghost use Rattle.rox_grammar.specs.declared.fault.Fault.{Fault};
 ghost use Rattle.rox_tables.specs.Storage.{storage_bytes};
 ghost use Rattle.rox_tables.specs.Rows.{namespace_view, namespace_at};
 ghost use Rattle.rox_tables.specs.Scopes.{prefix_view, pair};
-ghost use Rattle.rox_tables.specs.PairIndex.{pair_cmp, key_cmp, key_total, few_pairs, place_among, place_behind, place_of};
+ghost use Rattle.rox_tables.specs.PairIndex.{AddsPair, PlacesPair, few_pairs, key_cmp, key_total, pair_cmp, place_among, place_behind, place_of};
 
 use crate::compare::same_text;
 use crate::namespaces::scope::same_prefix;
@@ -175,9 +175,8 @@ impl<'input> NamespaceTable<'input> {
         requires few { length self.old.items.items < most_pairs }
         requires absent { has_pair (map namespace_view self.old.items.items)
             (namespace_view key.namespace) ≡ false }
-        ensures items { OnOk result (map namespace_view self.new.items.items
-            ≡ map namespace_view self.old.items.items ++ namespace_view key.entry.namespace ∷ []) }
-        ensures place { IfOk result (λ i. i ≡ length self.old.items.items) }
+        ensures { IfOk result (λ i. AddsPair (namespace_view key.entry.namespace) i
+            self.old.items.items self.new.items.items) }
     {
         let place = self.items.len() as u16;
         if self.items.len() < FEW {
@@ -200,13 +199,9 @@ impl<'input> NamespaceTable<'input> {
         uri: StringStorage<'input>,
     ) -> Result<u16, Failure>
         requires { length self.old.items.items ≤ most_pairs }
-        ensures there { IfOk result (λ i. (i < length self.new.items.items)
-            × (namespace_at (map namespace_view self.new.items.items) i
-            ≡ pair (prefix_view prefix.entry) (storage_bytes uri.entry))) }
-        ensures table { OnOk result (map namespace_view self.new.items.items
-            ≡ with_new (map namespace_view self.old.items.items)
-            (pair (prefix_view prefix.entry) (storage_bytes uri.entry) ∷ [])) }
-        ensures few { OnOk result (length self.new.items.items ≤ most_pairs) }
+        ensures placed { IfOk result
+            (λ i. PlacesPair (pair (prefix_view prefix.entry) (storage_bytes uri.entry)) i
+            self.old.items.items self.new.items.items) }
         ensures fault { (f : Fault) → result ≡ Err (Failure.Fault f)
             → (f ≡ Fault.NamespacesLimitReached)
             × (most_pairs

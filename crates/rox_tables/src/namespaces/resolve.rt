@@ -13,13 +13,12 @@ ghost use Rattle.rox_grammar.specs.WellNamed.{is_known, may_name};
 ghost use Rattle.rox_grammar.specs.Failures.{name_view};
 ghost use Rattle.rox_tables.specs.Rows.{AttributeRow, namespace_view, namespace_at, attribute, attribute_rows, attribute_uri, NamespaceWithin, OptionWithin};
 ghost use Rattle.rox_tables.specs.StoredAttributes.{data_of};
-ghost use Rattle.rox_tables.specs.Storage.{storage_bytes};
 ghost use Rattle.rox_tables.specs.Scopes.{prefix_view};
 ghost use Rattle.rox_tables.specs.Bindings.{FindsBinding, LooksWithin, places_view};
 ghost use Rattle.rox_tables.specs.TagDeclarations.{unresolved_view};
-ghost use Rattle.rox_tables.specs.ResolvedNames.{row_of_unresolved, row_of_usual, has_expanded, Tested, AddsResolved, AddsNew, IsNamespaceOf, Resolves};
+ghost use Rattle.rox_tables.specs.ResolvedNames.{row_of_unresolved, row_of_usual, has_expanded, Tested, AddsResolved, AddsNew, IsNamespaceOf, Resolves, StandsInOrder};
 ghost use Rattle.rox_tables.specs.ExpandedNames.{HasExpandedNames, TestedOr};
-ghost use Rattle.rox_tables.specs.SeenNames.{HasNameOf, SeesName, HoldsSeen, PutsSeen};
+ghost use Rattle.rox_tables.specs.SeenNames.{HasNameOf, HoldsSeen, KeepsCodes, PutsSeen, SeesName, TakesOneMore};
 
 use crate::compare::same_text;
 use crate::namespaces::bindings::PrefixBindings;
@@ -231,10 +230,7 @@ pub fn put_resolved<'input>(
     one: UnresolvedAttribute<'input>,
 ) -> bool
     requires within { LooksWithin (length namespaces.now) (places_view few) present.now }
-    requires short { one.end < 2 ^ 32 }
-    requires local { one.start + length one.name.local.now ≤ one.name_end }
-    requires value { one.end ≡ one.value_start + length (storage_bytes one.value) + 1 }
-    requires onward { one.name_end + 2 ≤ one.value_start }
+    requires places { StandsInOrder one }
     requires tag { HoldsSeen (length namespaces.now) seen.old (attribute_rows attributes.old) }
     ensures puts { PutsSeen seen.old seen.new (attribute_rows attributes.old)
         (attribute_rows attributes.new) result }
@@ -296,8 +292,7 @@ fn is_refused(
     ensures first { result ≡ false → list_any
         (λ r. has_expanded (map namespace_view namespaces.now.items.items) namespace local.now r.0)
         (drop seen.old.from (attribute_rows attributes.now)) ≡ false }
-    ensures codes { seen.new.codes ≡ seen.old.codes }
-    ensures from { seen.new.from ≡ seen.old.from }
+    ensures kept { KeepsCodes seen.old seen.new }
 {
     if seen.are_many_again() {
         return true;
@@ -317,9 +312,8 @@ pub fn put_usual_attribute<'input>(
     namespace: AttributeNamespace,
     one: UsualAttribute<'input>,
 ) -> bool
-    requires namespace { NamespaceWithin (length namespaces.now.items.items) namespace }
-    requires tag { HoldsSeen (length namespaces.now.items.items) seen.old
-        (attribute_rows attributes.old) }
+    requires { TakesOneMore (length namespaces.now.items.items) seen.old
+        (attribute_rows attributes.old) namespace }
     ensures puts { PutsSeen seen.old seen.new (attribute_rows attributes.old)
         (attribute_rows attributes.new) result }
     ensures added { result ≡ true
@@ -352,9 +346,8 @@ pub fn put_changed<'input>(
     namespace: AttributeNamespace,
     own: UnresolvedAttribute<'input>,
 ) -> bool
-    requires namespace { NamespaceWithin (length namespaces.now.items.items) namespace }
-    requires tag { HoldsSeen (length namespaces.now.items.items) seen.old
-        (attribute_rows attributes.old) }
+    requires { TakesOneMore (length namespaces.now.items.items) seen.old
+        (attribute_rows attributes.old) namespace }
     ensures puts { PutsSeen seen.old seen.new (attribute_rows attributes.old)
         (attribute_rows attributes.new) result }
     ensures added { result ≡ true

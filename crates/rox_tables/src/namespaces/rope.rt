@@ -1,12 +1,12 @@
 //! Scopes that list many namespaces: ropes of stretches of the listed places. A row is a leaf or joins two rows before it, so that
 //! a scope shares what it inherits with the scope above.
 
-ghost use Rattle.std.specs.Prelude.{◌≡◌, ◌<◌, ◌≤◌, ◌+◌, ◌-◌, ◌++◌, ◌∷◌, [], ℕ, length, take, drop, reverse, slice_index, slice_range, OnOk, IfOk, IfSome};
+ghost use Rattle.std.specs.Prelude.{◌≡◌, ◌<◌, ◌≤◌, ◌+◌, ◌-◌, ◌++◌, ℕ, length, take, drop, reverse, slice_index, slice_range, IfOk, IfSome};
 ghost use Rattle.rox_grammar.specs.Tree.{same_prefix};
 ghost use Rattle.rox_tables.specs.Rows.{count_at};
 ghost use Rattle.rox_tables.specs.Scopes.{prefix_view, places_in, ArePlaces};
 ghost use Rattle.rox_tables.specs.Bindings.{FindsIndex};
-ghost use Rattle.rox_tables.specs.Ropes.{AreJoinable, IsRope, IsRow, IsScope, IsScopeOf, IsStretch, Joins};
+ghost use Rattle.rox_tables.specs.Ropes.{AddsRow, AreJoinable, IsAmongScope, IsAmongStretch, IsRope, IsRow, IsScopeOf, Joins};
 
 use crate::namespaces::scope::same_prefix;
 use crate::rows::growth::push;
@@ -58,8 +58,7 @@ fn low(scopes: &[Scope], scope: u32) -> usize
 
 /// The position among the listed places of the one at this index of what a scope lists.
 pub fn position_at(scopes: &[Scope], listed: &[u16], scope: u32, index: usize) -> usize
-    requires scope { IsScope listed.now scopes.now scope }
-    requires index { index < length (places_in listed.now scopes.now scope) }
+    requires { IsAmongScope listed.now scopes.now scope index }
     ensures within { result < length listed.now }
     ensures value { slice_index listed.now result
         ≡ slice_index (places_in listed.now scopes.now scope) index }
@@ -80,8 +79,7 @@ pub fn position_at(scopes: &[Scope], listed: &[u16], scope: u32, index: usize) -
 /// The place at this index of what a scope lists.
 #[inline]
 pub fn place_at(scopes: &[Scope], listed: &[u16], scope: u32, index: usize) -> u16
-    requires scope { IsScope listed.now scopes.now scope }
-    requires index { index < length (places_in listed.now scopes.now scope) }
+    requires { IsAmongScope listed.now scopes.now scope index }
     ensures value { result ≡ slice_index (places_in listed.now scopes.now scope) index }
     ensures place { (n : ℕ) → ArePlaces n listed.now → result < n }
 {
@@ -104,8 +102,7 @@ pub fn stretch(from: usize, until: usize) -> Result<Stretch, AllocError>
 
 /// Puts a row behind the others. The only error is want of memory.
 pub fn add(scopes: &mut Vec<Scope>, row: Scope) -> Result<u32, AllocError>
-    ensures items { OnOk result (scopes.new.items ≡ scopes.old.items ++ row ∷ []) }
-    ensures value { IfOk result (λ s. s ≡ length scopes.old.items) }
+    ensures { IfOk result (λ s. AddsRow row s scopes.old.items scopes.new.items) }
 {
     let place = scopes.len();
     if place >= MOST_SCOPES {
@@ -221,8 +218,7 @@ pub fn both(scopes: &mut Vec<Scope>, first: u32, rest: u32) -> Result<u32, Alloc
 
 /// A row of a stretch from its front, but for the one at this index.
 fn without_few(scopes: &mut Vec<Scope>, stretch: Stretch, index: usize) -> Result<u32, AllocError>
-    requires stretch { IsStretch scopes.old.items stretch }
-    requires index { index < stretch.until - stretch.from }
+    requires { IsAmongStretch scopes.old.items stretch index }
     ensures { IfOk result (λ s. IsRope scopes.old.items scopes.new.items s
         (λ listed. take index (slice_range listed stretch.from stretch.until)
         ++ drop (index + 1) (slice_range listed stretch.from stretch.until))) }
@@ -243,8 +239,7 @@ fn without_few(scopes: &mut Vec<Scope>, stretch: Stretch, index: usize) -> Resul
 
 /// The same of a stretch from its back.
 fn without_back(scopes: &mut Vec<Scope>, stretch: Stretch, index: usize) -> Result<u32, AllocError>
-    requires stretch { IsStretch scopes.old.items stretch }
-    requires index { index < stretch.until - stretch.from }
+    requires { IsAmongStretch scopes.old.items stretch index }
     ensures { IfOk result (λ s. IsRope scopes.old.items scopes.new.items s
         (λ listed. take index (reverse (slice_range listed stretch.from stretch.until))
         ++ drop (index + 1) (reverse (slice_range listed stretch.from stretch.until)))) }

@@ -1,12 +1,12 @@
 //! Namespaces in scope (Namespaces in XML 1.0, section 6). A namespace is a place in the table of the distinct pairs of a
 //! prefix, or the default, and a URI; what an element lists is a row of such places.
 
-ghost use Rattle.std.specs.Prelude.{◌≡◌, ◌<◌, ◌++◌, ℕ, List, length, map, drop, slice_range, false, OnOk, IfSome, IfNone, Some, None, ◌&&◌, ◌||◌};
+ghost use Rattle.std.specs.Prelude.{◌≡◌, ◌<◌, ◌++◌, ℕ, List, length, map, drop, slice_range, false, OnOk, Some, None, ◌&&◌, ◌||◌};
 ghost use Rattle.rox_grammar.specs.Tree.{same_prefix, is_declared, is_xml};
 ghost use Rattle.rox_tables.specs.Rows.{namespace_view};
-ghost use Rattle.rox_tables.specs.Scopes.{prefix_view, entries, places_in, is_few_at, ArePlaces, PrefixesOnce, others};
+ghost use Rattle.rox_tables.specs.Scopes.{prefix_view, entries, ArePlaces, PrefixesOnce, others};
 ghost use Rattle.rox_tables.specs.PrefixSet.{HasPrefixes, IsBelowFew};
-ghost use Rattle.rox_tables.specs.Ropes.{IsScope};
+ghost use Rattle.rox_tables.specs.Ropes.{GivesFew, IsScope};
 ghost use Rattle.rox_tables.specs.Bindings.{FindsPlace, LooksUp, LooksWithin, places_view};
 
 use crate::compare::{LONG, Pair, same_short, same_text};
@@ -71,8 +71,7 @@ pub fn default_place(namespaces: &[Namespace<'_>], places: &[u16]) -> Option<u16
 #[inline(always)]
 pub fn few_places<'a>(scopes: &[Scope], listed: &'a [u16], scope: u32) -> Option<&'a [u16]>
     requires { IsScope listed.now scopes.now scope }
-    ensures few { IfSome result (λ places. places.now ≡ places_in listed.now scopes.now scope) }
-    ensures many { IfNone result (is_few_at scopes.now scope ≡ false) }
+    ensures { GivesFew listed.now scopes.now scope result }
 {
     match scopes[scope as usize] {
         Scope::Few(stretch) => Some(&listed[stretch.from as usize..stretch.until as usize]),

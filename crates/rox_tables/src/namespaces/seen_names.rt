@@ -6,7 +6,7 @@ ghost use Rattle.rox_grammar.specs.Written.{NamespaceDecl};
 ghost use Rattle.rox_tables.specs.Rows.{AttributeRow, attribute_rows};
 ghost use Rattle.rox_tables.specs.ResolvedNames.{has_expanded};
 ghost use Rattle.rox_tables.specs.declared.rows.tables.AttributeNamespace.{AttributeNamespace};
-ghost use Rattle.rox_tables.specs.SeenNames.{name_sum, name_code, HasCode, HaveCodes, AreSeen, SeesName};
+ghost use Rattle.rox_tables.specs.SeenNames.{name_sum, name_code, AreSeen, HasCode, IsNameCode, KeepsCodes, SeesAll, SeesName};
 
 use crate::compare::{WORD, same_text, word_at};
 use crate::rows::attributes::AttributeTable;
@@ -65,8 +65,7 @@ fn name_sum(bytes: &[u8]) -> u64
 #[inline(always)]
 #[tactic(auto, unfolding(crate::specs::SeenNames::name_code))]
 fn name_code(local: &str) -> usize
-    ensures is { result ≡ name_code local.now }
-    ensures within { result < 1024 }
+    ensures { IsNameCode local.now result }
 {
     (name_sum(local.as_bytes()).wrapping_mul(SCATTER) >> 54) as usize
 }
@@ -114,8 +113,7 @@ impl SeenNames {
     fn put_first(&mut self, attributes: &AttributeTable<'_>)
         requires from { self.old.from ≤ length (attribute_rows attributes.now) }
         requires few { length (attribute_rows attributes.now) ≤ self.old.from + 2 }
-        ensures coded { HaveCodes self.new (attribute_rows attributes.now) }
-        ensures from { self.new.from ≡ self.old.from }
+        ensures { SeesAll self.old self.new (attribute_rows attributes.now) }
     {
         let count = attributes.items.len() - self.from;
         self.codes = [0; CODES / WIDTH];
@@ -132,8 +130,7 @@ impl SeenNames {
     #[inline(always)]
     pub(crate) fn put_few(&mut self, attributes: &AttributeTable<'_>)
         requires { AreSeen self.old (attribute_rows attributes.now) }
-        ensures coded { HaveCodes self.new (attribute_rows attributes.now) }
-        ensures from { self.new.from ≡ self.old.from }
+        ensures { SeesAll self.old self.new (attribute_rows attributes.now) }
     {
         if attributes.items.len() - self.from <= WITHOUT_CODES {
             self.put_first(attributes);
@@ -166,8 +163,7 @@ impl SeenNames {
     /// Counts a name whose code was there.
     #[inline(always)]
     pub(crate) fn count_again(&mut self)
-        ensures codes { self.new.codes ≡ self.old.codes }
-        ensures from { self.new.from ≡ self.old.from }
+        ensures { KeepsCodes self.old self.new }
     {
         self.again = self.again.saturating_add(1);
     }

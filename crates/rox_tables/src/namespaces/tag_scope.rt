@@ -6,10 +6,10 @@ ghost use Rattle.rox_grammar.specs.Written.{NamespaceDecl};
 ghost use Rattle.rox_grammar.specs.Tree.{is_declared};
 ghost use Rattle.rox_tables.specs.Rows.{namespace_view, AreScopes};
 ghost use Rattle.rox_tables.specs.Scopes.{prefix_view, entries, places_in, PrefixesOnce, others, unlisted};
-ghost use Rattle.rox_tables.specs.PrefixSet.{IsPrefixSet, IsBelowFew};
+ghost use Rattle.rox_tables.specs.PrefixSet.{IsBelowFew};
 ghost use Rattle.rox_tables.specs.Bindings.{bound_place};
 ghost use Rattle.rox_tables.specs.Ropes.{IsListed, IsScopeOf};
-ghost use Rattle.rox_tables.specs.TagScopes.{HasOpenTag, HasScope, IsBelowMany};
+ghost use Rattle.rox_tables.specs.TagScopes.{HasOpenTag, HasScope, HasTagPrefixes, IsBelowMany};
 
 use crate::namespaces::bindings::PrefixBindings;
 use crate::namespaces::prefix_set::FEW;
@@ -171,9 +171,7 @@ fn scope_below_few<'input>(
     stretch: Stretch,
     own: OwnDeclarations,
 ) -> Result<u32, AllocError>
-    requires tag { HasOpenTag elements.old above own.from }
-    requires prefix_set { IsPrefixSet (map namespace_view elements.old.namespaces.items.items)
-        (drop own.from elements.old.listed.items) prefix_set.now.keys }
+    requires prefixes { HasTagPrefixes elements.old prefix_set.now.keys above own.from }
     requires few { Scope.Few stretch
         ≡ slice_index_or elements.old.scopes.items above (Scope.Few stretch) }
     ensures { IfOk result (λ s. HasScope elements.old elements.new above own.from own.xml s) }
@@ -245,9 +243,7 @@ pub fn scope_of_tag<'input>(
     above: u32,
     own: OwnDeclarations,
 ) -> Result<u32, AllocError>
-    requires tag { HasOpenTag elements.old above own.from }
-    requires prefix_set { IsPrefixSet (map namespace_view elements.old.namespaces.items.items)
-        (drop own.from elements.old.listed.items) prefix_set.now.keys }
+    requires { HasTagPrefixes elements.old prefix_set.now.keys above own.from }
     ensures { IfOk result (λ s. HasScope elements.old elements.new above own.from own.xml s) }
 {
     if let Scope::Few(stretch) = elements.scopes[above as usize] {

@@ -1,8 +1,9 @@
 //! Growth of tables.
 
-ghost use Rattle.std.specs.Prelude.{◌≡◌, ◌<◌, ◌≤◌, ◌+◌, ◌/◌, ◌^◌, ◌++◌, ◌∷◌, [], if◌then◌else◌, is_ok, min, vec_len, vec_capacity, IfOk, OnOk};
+ghost use Rattle.std.specs.Prelude.{◌≡◌, ◌<◌, ◌≤◌, ◌+◌, ◌/◌, ◌^◌, [], if◌then◌else◌, is_ok, min, vec_len, vec_capacity, IfOk, OnOk};
 ghost use Rattle.std.specs.Vec.{VecUnchanged};
 ghost use Rattle.rox_tables.specs.Growth as room;
+ghost use Rattle.rox_tables.specs.Puts.{Pushes};
 
 use std::alloc::{AllocError, Global};
 
@@ -21,9 +22,7 @@ fn grow<T: Drop>(to: &mut Vec<T>) -> Result<(), AllocError>
 /// answer has no room for it, which would be cleared at each call.
 #[inline(always)]
 pub fn push<T: Drop>(to: &mut Vec<T>, value: T) -> Result<(), AllocError>
-    ensures items { to.new.items ≡ (if is_ok result then to.old.items ++ value ∷ []
-        else to.old.items) }
-    ensures len { vec_len to.new ≡ (if is_ok result then vec_len to.old + 1 else vec_len to.old) }
+    ensures { Pushes value (is_ok result) to.old to.new }
 {
     if to.len() >= to.capacity() {
         grow(to)?;

@@ -1,6 +1,6 @@
 //! The table of nodes.
 
-ghost use Rattle.std.specs.Prelude.{◌≡◌, ◌<◌, ◌≤◌, ◌+◌, ◌-◌, ◌∷◌, [], ◌^◌, List, true, length, take, set, get_or, vec_len, vec_capacity, if◌then◌else◌, is_ok, IfOk, OnOk, OnErr};
+ghost use Rattle.std.specs.Prelude.{◌≡◌, ◌<◌, ◌≤◌, ◌+◌, ◌-◌, ◌^◌, true, length, get_or, vec_len, vec_capacity, if◌then◌else◌, is_ok, IfOk, OnOk, OnErr};
 ghost use Rattle.std.proofs.Props.{props};
 ghost use Rattle.rox_tables.specs.StoredNodes as stored;
 ghost use Rattle.rox_tables.specs.StoredNodes.{are_within};
@@ -51,11 +51,7 @@ fn high_places(high: &[HighPlaces], index: usize) -> HighPlaces
 #[inline(never)]
 fn fill(high: &mut Vec<HighPlaces>, count: usize) -> Result<(), AllocError>
     requires { vec_len high.old ≤ count }
-    ensures same { (pis : List PI) (rows : List StoredNode)
-        → stored.whole_rows pis high.new.items rows ≡ stored.whole_rows pis high.old.items rows }
-    ensures count { OnOk result (vec_len high.new ≡ count) }
-    ensures most { vec_len high.new ≤ count }
-    ensures room { OnOk result (vec_len high.new < vec_capacity high.new) }
+    ensures { stored.FillsHigh count high.old high.new result }
 {
     while high.len() < count {
         growth::push(high, HighPlaces { start: 0, end: 0 })?;
@@ -67,12 +63,8 @@ fn fill(high: &mut Vec<HighPlaces>, count: usize) -> Result<(), AllocError>
 /// Writes the lower half of an element's end into its row, and the id past its last descendant.
 #[inline(always)]
 fn end_stored(rows: &mut Vec<StoredNode<'_>>, row: u32, end: u32, subtree_end: u32)
-    ensures rows { (d : StoredNode)
-        → rows.new.items
-        ≡ set rows.old.items row
-        (record (get_or rows.old.items row d) { end = end; subtree_end = subtree_end }) }
-    ensures count { vec_len rows.new ≡ vec_len rows.old }
-    ensures room { vec_capacity rows.new ≡ vec_capacity rows.old }
+    ensures { stored.ChangesRow row
+        (λ (d : StoredNode). record d { end = end; subtree_end = subtree_end }) rows.old rows.new }
 {
     if let Some(node) = rows.get_mut(row as usize) {
         node.end = end;
@@ -83,10 +75,7 @@ fn end_stored(rows: &mut Vec<StoredNode<'_>>, row: u32, end: u32, subtree_end: u
 /// Writes the upper half of an element's end, where it has one.
 #[inline(always)]
 fn end_high(high: &mut Vec<HighPlaces>, row: u32, end: u32)
-    ensures high { (d : HighPlaces)
-        → high.new.items
-        ≡ set high.old.items row (record (get_or high.old.items row d) { end = end }) }
-    ensures count { vec_len high.new ≡ vec_len high.old }
+    ensures { stored.ChangesRow row (λ (d : HighPlaces). record d { end = end }) high.old high.new }
 {
     if let Some(places) = high.get_mut(row as usize) {
         places.end = end;
@@ -95,10 +84,8 @@ fn end_high(high: &mut Vec<HighPlaces>, row: u32, end: u32)
 
 /// Writes the count of all rows into that of the root node.
 fn close_stored(rows: &mut Vec<StoredNode<'_>>, count: u32)
-    ensures rows { (d : StoredNode)
-        → rows.new.items
-        ≡ set rows.old.items 0 (record (get_or rows.old.items 0 d) { subtree_end = count }) }
-    ensures count { vec_len rows.new ≡ vec_len rows.old }
+    ensures { stored.ChangesRow 0
+        (λ (d : StoredNode). record d { subtree_end = count }) rows.old rows.new }
 {
     if let Some(node) = rows.get_mut(0) {
         node.subtree_end = count;
@@ -119,10 +106,7 @@ fn last_with(last: u32, owns: bool, count: usize) -> u32
 
 /// Takes back the last row, and frees its text. Answers the number of the last row then that owns one.
 fn take_last(rows: &mut Vec<StoredNode<'_>>, last: u32) -> u32
-    ensures rows { rows.new.items ≡ take (vec_len rows.old - 1) rows.old.items }
-    ensures count { 0 < vec_len rows.old → vec_len rows.new + 1 ≡ vec_len rows.old }
-    ensures chain { stored.is_chain 0 0 last rows.old.items ≡ true
-        → stored.is_chain 0 0 result rows.new.items ≡ true }
+    ensures { stored.TakesLast last result rows.old rows.new }
 {
     match rows.pop() {
         Some(row) => row.kind.freed(last),
@@ -158,7 +142,7 @@ impl Drop for NodeTable<'_> {
 
 impl<'input> NodeTable<'input> {
     ghost use Rattle.rox_tables.specs.Rows.{node_rows};
-    ghost use Rattle.rox_tables.specs.NodeChanges.{EndsNode, FitsNode, KeepsNodes, PushesNode, PutsNode};
+    ghost use Rattle.rox_tables.specs.NodeChanges.{EndsNode, EndsRoot, FitsNode, IsRootAlone, KeepsNodes, PushesNode, PutsNode, TakesNodes};
 
     /// The root node of a text of so many bytes, with room for so many rows. The only error is want of memory.
     #[inline(always)]
@@ -167,11 +151,7 @@ impl<'input> NodeTable<'input> {
         bytes: usize,
         room: usize,
     ) -> Result<NodeTable<'input>, AllocError>
-        ensures rows { IfOk result
-            (λ t. node_rows t
-            ≡ record { start = 0; end = bytes; parent = 0; subtree_end = 0; kind = kind.Root }
-            ∷ []) }
-        ensures len { IfOk result (λ t. vec_len t.rows ≡ 1) }
+        ensures { IfOk result (IsRootAlone bytes) }
     {
         let rows = first_room(alloc, room, FEWEST_ROWS)?;
         let mut table = NodeTable {
@@ -360,11 +340,7 @@ impl<'input> NodeTable<'input> {
 
     /// Writes the count of all rows into that of the root node.
     pub fn end_root(&mut self, count: u32)
-        ensures rows { (d : NodeData)
-            → node_rows self.new
-            ≡ set (node_rows self.old) 0
-            (record (get_or (node_rows self.old) 0 d) { subtree_end = count }) }
-        ensures len { vec_len self.new.rows ≡ vec_len self.old.rows }
+        ensures { EndsRoot count self.old self.new }
     {
         close_stored(&mut self.rows, count);
     }
@@ -373,8 +349,7 @@ impl<'input> NodeTable<'input> {
     pub fn truncate(&mut self, count: usize)
         requires last { vec_len self.old.rows ≤ count + 1 }
         requires few { vec_len self.old.rows < 2 ^ 32 }
-        ensures rows { node_rows self.new ≡ take count (node_rows self.old) }
-        ensures len { count ≤ vec_len self.old.rows → vec_len self.new.rows ≡ count }
+        ensures { TakesNodes count self.old self.new }
     {
         if self.rows.len() <= count {
             return;

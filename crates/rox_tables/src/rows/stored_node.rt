@@ -1,6 +1,6 @@
 //! A node as its table holds it.
 
-ghost use Rattle.std.specs.Prelude.{◌≡◌, ◌≤◌, ◌+◌, ◌*◌, ◌/◌, ◌^◌, ℕ, List, true, false, length, if◌then◌else◌, IfOk, IfErr};
+ghost use Rattle.std.specs.Prelude.{◌≡◌, ◌+◌, ◌*◌, ◌/◌, ◌^◌, ℕ, List, true, false, if◌then◌else◌};
 ghost use Rattle.rox_tables.specs.Storage.{is_borrowed};
 ghost use Rattle.rox_tables.specs.StoredNodes as stored;
 ghost use Rattle.rox_tables.specs.declared.rows.tables.PI.{PI};
@@ -212,13 +212,8 @@ pub(crate) fn store_kind<'input>(
     kind: NodeKind<'input>,
     last: u32,
 ) -> Result<StoredKind<'input>, AllocError>
-    ensures stored { IfOk result (stored.Stores instructions.new.items last kind.entry) }
-    ensures same { (high : List HighPlaces) (rows : List StoredNode)
-        → stored.are_within (length instructions.old.items) rows ≡ true
-        → stored.whole_rows instructions.new.items high rows
-        ≡ stored.whole_rows instructions.old.items high rows }
-    ensures more { length instructions.old.items ≤ length instructions.new.items }
-    ensures none { IfErr result (λ e. instructions.new.items ≡ instructions.old.items) }
+    ensures { stored.StoresKind last kind.entry instructions.old.items instructions.new.items
+        result }
 {
     match kind {
         NodeKind::PI(instruction) => {

@@ -1,4 +1,4 @@
-use Rattle.std.proofs.Common.{◌≡◌, ◌≤◌, ◌+◌, [], false, length, map, bytes_eq, refl, sym, ap, subst, ◌∙◌, arith, Ok}
+use Rattle.std.proofs.Common.{rules, ◌≡◌, ◌≤◌, ◌+◌, [], false, length, map, bytes_eq, refl, sym, ap, subst, ◌∙◌, arith, Ok}
 use Rattle.rox_tables.specs.declared.rows.tables.ElementTables.{ElementTables}
 use Rattle.std.proofs.lemmas.List.{length-map}
 use Rattle.std.proofs.lemmas.Result.{err_from_is_err_and}
@@ -37,17 +37,20 @@ attributes-requires c =
     } in
     record { tables = tables }
 
-pub scope_of_tag-requires-clause-tag : goal.scope_of_tag-requires-clause-tag
-scope_of_tag-requires-clause-tag c =
+pub scope_of_tag-requires : goal.scope_of_tag-requires
+scope_of_tag-requires c =
     let t = c.in_ok-xml.ensures.tables in
     record {
-      places = t.places;
-      own_within = t.own_within;
-      scopes = t.scopes;
-      above_within = rw c.in_ok-xml.ensures.kept.scopes c.requires.above;
-      once = subst (λ ls. PrefixesOnce (scope_at ls c.args.around.above)) (sym c.in_ok-xml.ensures.kept.lists) c.requires.once;
-      own_once = t.once;
-      kept = t.kept;
+      tag = record {
+        places = t.places;
+        own_within = t.own_within;
+        scopes = t.scopes;
+        above_within = rw c.in_ok-xml.ensures.kept.scopes c.requires.above;
+        once = subst (λ ls. PrefixesOnce (scope_at ls c.args.around.above)) (sym c.in_ok-xml.ensures.kept.lists) c.requires.once;
+        own_once = t.once;
+        kept = t.kept;
+      };
+      prefix_set = search rules;
     }
 
 pub returns-in_err-xml-clause-value : goal.returns-in_err-xml-clause-value

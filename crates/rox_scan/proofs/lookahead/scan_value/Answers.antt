@@ -8,7 +8,7 @@ use Rattle.rox_scan.proofs.lookahead.scan_value.Goals as goal
 pub loop-end-init : goal.loop-end-init
 loop-end-init c =
     let n = c.skip_set-end.ensures in
-    record { looked = value_near c.args.text.now c.args.quote c.args.at _ c.utf8.text c.requires.quote c.requires.cut n.onward n.within n.passes n.stops }
+    record { looked = value_near c.args.text.now c.args.quote.byte c.args.at _ c.utf8.text c.args.quote.is c.requires n.onward n.within n.passes n.stops }
 
 pub after_char-next-requires : goal.after_char-next-requires
 after_char-next-requires c = record { cut = c.loop-end.invariant.looked.cut; within = search rules }
@@ -20,18 +20,18 @@ loop-end-preserved c =
     let a = c.after_char-next.ensures.step in
     let n = c.skip_set-end-in-loop-end.ensures in
     let read = ap (λ (l : List ℕ). get_or l j 0) c.as_bytes-bytes.ensures.value in
-    let other = ne_eqb (get_or src j 0) c.args.quote (λ h. c.if-here-quote.false (read ∙ h)) in
+    let other = ne_eqb (get_or src j 0) c.args.quote.byte (λ h. c.if-here-quote.false (read ∙ h)) in
     let no_tag = ne_eqb (get_or src j 0) 60 (λ h. absurd (omega (arith, h, read, c.if-here-eq60.false))) in
-    let here : ends_value c.args.quote src j ≡ false = rw (other, no_tag) refl in
+    let here : ends_value c.args.quote.byte src j ≡ false = rw (other, no_tag) refl in
     let some : j < c.after_char-next.result = omega (arith, a.onward, c.if-next-end.false) in
     let changed : c.is_special.result ≡ is_special (get_or src j 0) = c.is_special.ensures ∙ ap is_special read in
-    record { looked = rw changed (value_on src c.args.quote c.args.at j _ _ c.loop-end.is_verbatim c.utf8.text c.requires.quote c.requires.cut c.loop-end.invariant.looked some a.cut a.chars a.wide here n.onward n.within n.passes n.stops) }
+    record { looked = rw changed (value_on src c.args.quote.byte c.args.at j _ _ c.loop-end.is_verbatim c.utf8.text c.args.quote.is c.requires c.loop-end.invariant.looked some a.cut a.chars a.wide here n.onward n.within n.passes n.stops) }
 
-pub returns-after-loop-end-clause-looked : goal.returns-after-loop-end-clause-looked
-returns-after-loop-end-clause-looked c = c.loop-end.invariant.looked
+pub returns-after-loop-end : goal.returns-after-loop-end
+returns-after-loop-end c = record { looked = c.loop-end.invariant.looked; stops = search rules }
 
-pub returns-then-here-quote-clause-looked : goal.returns-then-here-quote-clause-looked
-returns-then-here-quote-clause-looked c = c.loop-end.invariant.looked
+pub returns-then-here-quote : goal.returns-then-here-quote
+returns-then-here-quote c = record { looked = c.loop-end.invariant.looked; stops = search rules }
 
-pub returns-then-next-end-clause-looked : goal.returns-then-next-end-clause-looked
-returns-then-next-end-clause-looked c = c.loop-end.invariant.looked
+pub returns-then-next-end : goal.returns-then-next-end
+returns-then-next-end c = record { looked = c.loop-end.invariant.looked; stops = search rules }

@@ -6,7 +6,7 @@ pub returns-then-is_at : goal.returns-then-is_at
 returns-then-is_at c =
     record {
       read = record {
-        value = looked_value c.args.self.now.text.now c.args.quote c.args.self.now.pos _ _ c.requires c.scan_value-look.ensures.looked (sym c.is_at.ensures ∙ c.if-is_at.true);
+        value = looked_value c.args.self.now.text.now c.args.quote.byte c.args.self.now.pos _ _ c.args.quote.is c.scan_value-look.ensures.looked (sym c.is_at.ensures ∙ c.if-is_at.true);
         source = search rules;
         onward = search rules;
       };

@@ -1,10 +1,13 @@
+use Rattle.std.proofs.Common.{refl}
 use Rattle.rox_scan.proofs.window.Window.new.Goals as goal
 
-pub returns-clause-sees : goal.returns-clause-sees
-returns-clause-sees c =
+pub returns : goal.returns
+returns c =
     let is = c.as_bytes-bytes.ensures.value in
-    let i = c.args.at in
     record {
-      parts = record { within = c.requires; mask = rw is at c.others-parts.ensures };
-      values = record { within = c.requires; mask = rw is at c.others-values.ensures };
+      sees = record {
+        parts = record { within = c.requires; mask = rw is at c.others-parts.ensures };
+        values = record { within = c.requires; mask = rw is at c.others-values.ensures };
+      };
+      place = refl;
     }

@@ -21,7 +21,7 @@ returns-clause-added c = λ done. record {
 pub returns-clause-puts : goal.returns-clause-puts
 returns-clause-puts c = record {
   from = elim c.else-repeats.branch [
-    | else-repeats-via-then-repeats+else-is_refused w ↦ rw w.seen-is (w.is_refused.ensures.from ∙ c.may_have-repeats.ensures.from)
+    | else-repeats-via-then-repeats+else-is_refused w ↦ rw w.seen-is (w.is_refused.ensures.kept.from ∙ c.may_have-repeats.ensures.from)
     | else-repeats-via-else-repeats w ↦ rw w.seen-is c.may_have-repeats.ensures.from
   ];
   refused = search;
@@ -30,7 +30,7 @@ returns-clause-puts c = record {
       let grown = c.put.ensures.put done in
       let seen = c.may_have-repeats.ensures.seen row refl in
       elim c.else-repeats.branch [
-        | else-repeats-via-then-repeats+else-is_refused w ↦ rw w.seen-is (subst (AreSeen w.is_refused.new.seen) (sym grown) (same_seen c.may_have-repeats.new.self w.is_refused.new.seen _ w.is_refused.ensures.codes w.is_refused.ensures.from seen))
+        | else-repeats-via-then-repeats+else-is_refused w ↦ rw w.seen-is (subst (AreSeen w.is_refused.new.seen) (sym grown) (same_seen c.may_have-repeats.new.self w.is_refused.new.seen _ w.is_refused.ensures.kept.codes w.is_refused.ensures.kept.from seen))
         | else-repeats-via-else-repeats w ↦ rw w.seen-is (subst (AreSeen c.may_have-repeats.new.self) (sym grown) seen)
       ];
 }

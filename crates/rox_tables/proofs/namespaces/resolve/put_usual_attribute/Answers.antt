@@ -24,7 +24,7 @@ returns-clause-added c = λ done. record {
 pub returns-clause-puts : goal.returns-clause-puts
 returns-clause-puts c = record {
   from = elim c.else-repeats.branch [
-    | else-repeats-via-then-repeats+else-is_refused w ↦ rw w.seen-is (w.is_refused.ensures.from ∙ c.may_have-repeats.ensures.from)
+    | else-repeats-via-then-repeats+else-is_refused w ↦ rw w.seen-is (w.is_refused.ensures.kept.from ∙ c.may_have-repeats.ensures.from)
     | else-repeats-via-else-repeats w ↦ rw w.seen-is c.may_have-repeats.ensures.from
   ];
   refused = λ no. c.put_usual.ensures.none no ∙ c.has_room.ensures.rows;
@@ -36,7 +36,7 @@ returns-clause-puts c = record {
       ∙ ap (λ (p : AttributePlaces). old ++ (item, p) ∷ []) c.places-places.ensures in
       let seen = c.may_have-repeats.ensures.seen row refl in
       elim c.else-repeats.branch [
-        | else-repeats-via-then-repeats+else-is_refused w ↦ rw w.seen-is (subst (AreSeen w.is_refused.new.seen) (sym grown) (same_seen c.may_have-repeats.new.self w.is_refused.new.seen _ w.is_refused.ensures.codes w.is_refused.ensures.from seen))
+        | else-repeats-via-then-repeats+else-is_refused w ↦ rw w.seen-is (subst (AreSeen w.is_refused.new.seen) (sym grown) (same_seen c.may_have-repeats.new.self w.is_refused.new.seen _ w.is_refused.ensures.kept.codes w.is_refused.ensures.kept.from seen))
         | else-repeats-via-else-repeats w ↦ rw w.seen-is (subst (AreSeen c.may_have-repeats.new.self) (sym grown) seen)
       ];
 }

@@ -54,7 +54,7 @@ position_at-requires t c =
     let m : count_at rows c.in-Concat.parts.first ≡ length (places_in ls rows c.in-Concat.parts.first) = f.2 in
     let n : c.count-before.result ≡ count_at rows c.in-Concat.parts.first = c.count-before.ensures in
     let d = c.decreases in
-    (omega arith, (record { scopes = c.requires.scope.scopes; within = omega arith }, omega arith))
+    (omega arith, record { scope = record { scopes = c.requires.scope.scopes; within = omega arith }; index = omega arith })
 
 pub position_at-requires-in-Concat : goal.position_at-requires-in-Concat
 position_at-requires-in-Concat t c =
@@ -69,7 +69,7 @@ position_at-requires-in-Concat t c =
     let l : length (places_in ls rows c.args.scope) ≡ length (places_in ls rows c.in-Concat.parts.first) + length (places_in ls rows c.in-Concat.parts.rest) =
     ap length f.3 ∙ length-append (places_in ls rows c.in-Concat.parts.first) (places_in ls rows c.in-Concat.parts.rest) in
     let d = c.decreases in
-    (omega arith, (record { scopes = c.requires.scope.scopes; within = omega arith }, omega arith))
+    (omega arith, record { scope = record { scopes = c.requires.scope.scopes; within = omega arith }; index = omega arith })
 
 pub returns-then-index-before-clause-value : goal.returns-then-index-before-clause-value
 returns-then-index-before-clause-value t c =

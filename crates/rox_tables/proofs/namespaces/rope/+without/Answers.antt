@@ -2,24 +2,38 @@ use Rattle.std.proofs.Common.{◌≡◌, ◌+◌, ◌-◌, ◌<◌, ◌≤◌, [
 use Rattle.rox_tables.specs.Rows.{count_at}
 use Rattle.rox_tables.specs.Scopes.{places_in}
 use Rattle.rox_tables.proofs.Leaves.{cut, cut_first, cut_rest}
-use Rattle.rox_tables.proofs.Ropes.{row_is, if_ok, rope_is, rope_first, rope_rest, count_places}
+use Rattle.rox_tables.proofs.Ropes.{row_is, row_ends, if_ok, rope_is, rope_first, rope_rest, count_places}
 use Rattle.rox_tables.proofs.namespaces.rope.+without.Goals as goal
 
-pub without_few-requires-clause-index : goal.without_few-requires-clause-index
-without_few-requires-clause-index t c =
+pub without_few-requires : goal.without_few-requires
+without_few-requires t c =
     let old = c.args.scopes.now.items in
     let r = row_is [] old c.args.scope _ _ c.requires.row.rows c.requires.row.within c.index.ensures c.in-Few.is in
     let n : count_at old c.args.scope ≡ c.in-Few.stretch.until - c.in-Few.stretch.from = r.count in
     let k = c.requires.index in
-    omega arith
+    record {
+      stretch = record {
+        rows = c.requires.row.rows;
+        ordered = r.row;
+        ends = λ m h. row_ends m old c.args.scope _ _ (record { rows = c.requires.row.rows; within = h }) c.requires.row.within c.index.ensures c.in-Few.is;
+      };
+      index = omega arith;
+    }
 
-pub without_back-requires-clause-index : goal.without_back-requires-clause-index
-without_back-requires-clause-index t c =
+pub without_back-requires : goal.without_back-requires
+without_back-requires t c =
     let old = c.args.scopes.now.items in
     let r = row_is [] old c.args.scope _ _ c.requires.row.rows c.requires.row.within c.index.ensures c.in-Back.is in
     let n : count_at old c.args.scope ≡ c.in-Back.stretch.until - c.in-Back.stretch.from = r.count in
     let k = c.requires.index in
-    omega arith
+    record {
+      stretch = record {
+        rows = c.requires.row.rows;
+        ordered = r.row;
+        ends = λ m h. row_ends m old c.args.scope _ _ (record { rows = c.requires.row.rows; within = h }) c.requires.row.within c.index.ensures c.in-Back.is;
+      };
+      index = omega arith;
+    }
 
 pub returns-in-Few : goal.returns-in-Few
 returns-in-Few t c =

@@ -1,4 +1,4 @@
-use Rattle.std.proofs.Common.{◌≡◌, ◌<◌, ◌≤◌, length, get_or, take, true, false, map, sym, ap, subst, ◌∙◌, arith, None}
+use Rattle.std.proofs.Common.{rules, ◌≡◌, ◌<◌, ◌≤◌, length, get_or, take, true, false, map, sym, ap, subst, ◌∙◌, arith, None}
 use Rattle.std.proofs.lemmas.List.{take_all}
 use Rattle.rox_grammar.specs.Tree.{same_prefix, uri_of}
 use Rattle.rox_grammar.specs.Written.{NamespaceDecl}
@@ -8,10 +8,10 @@ use Rattle.rox_tables.proofs.Pairs.{namespace_at-get, uri_none_more, declared_no
 use Rattle.rox_tables.proofs.Ropes.{count_places}
 use Rattle.rox_tables.proofs.namespaces.rope.first_of.Goals as goal
 
-pub place_at-place-requires-clause-index : goal.place_at-place-requires-clause-index
-place_at-place-requires-clause-index c =
+pub place_at-place-requires : goal.place_at-place-requires
+place_at-place-requires c =
     let n : c.count-index-end.result ≡ length (places_in c.args.listed.now c.args.scopes.now c.args.scope) = c.count-index-end.ensures ∙ count_places c.args.listed.now c.args.scopes.now c.args.scope c.requires.scopes c.requires.within in
-    omega arith
+    record { scope = search rules; index = omega arith }
 
 pub bounds-namespaces-place : goal.bounds-namespaces-place
 bounds-namespaces-place c = c.place_at-place.ensures.place _ c.requires.places

@@ -1,4 +1,4 @@
-use Rattle.std.proofs.Common.{◌≡◌, ◌<◌, length, get_or, true, map, sym, ap, ◌∙◌, arith}
+use Rattle.std.proofs.Common.{rules, ◌≡◌, ◌<◌, length, get_or, true, map, sym, ap, ◌∙◌, arith}
 use Rattle.rox_grammar.specs.Tree.{same_prefix}
 use Rattle.rox_grammar.specs.Written.{NamespaceDecl}
 use Rattle.rox_tables.specs.Rows.{namespace_view, namespace_at, count_at}
@@ -7,11 +7,11 @@ use Rattle.rox_tables.proofs.Pairs.{namespace_at-get}
 use Rattle.rox_tables.proofs.Ropes.{count_places}
 use Rattle.rox_tables.proofs.namespaces.rope.index_of.Goals as goal
 
-pub place_at-place-requires-clause-index : goal.place_at-place-requires-clause-index
-place_at-place-requires-clause-index c =
+pub place_at-place-requires : goal.place_at-place-requires
+place_at-place-requires c =
     let n : count_at c.args.scopes.now c.args.scope ≡ length (places_in c.args.listed.now c.args.scopes.now c.args.scope) = count_places c.args.listed.now c.args.scopes.now c.args.scope c.requires.scopes c.requires.within in
     let k : c.in-Some.index < count_at c.args.scopes.now c.args.scope = c.in-Some.ensures in
-    omega arith
+    record { scope = search rules; index = omega arith }
 
 pub bounds-namespaces-place : goal.bounds-namespaces-place
 bounds-namespaces-place c = c.place_at-place.ensures.place _ c.requires.places

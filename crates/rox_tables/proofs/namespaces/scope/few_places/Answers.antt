@@ -3,8 +3,8 @@ use Rattle.rox_tables.proofs.Ropes.{row_found}
 use Rattle.rox_tables.proofs.Finding.{few_not}
 use Rattle.rox_tables.proofs.namespaces.scope.few_places.Goals as goal
 
-pub returns-in-Few-clause-few : goal.returns-in-Few-clause-few
-returns-in-Few-clause-few c = sym (row_found c.args.listed.now _ _ _ c.requires.scopes.rows c.requires.within c.in-Few.is).lists
+pub returns-in-Few : goal.returns-in-Few
+returns-in-Few c = record { few = sym (row_found c.args.listed.now _ _ _ c.requires.scopes.rows c.requires.within c.in-Few.is).lists; many = tt }
 
 pub returns-in_default : goal.returns-in_default
 returns-in_default c = record { few = tt; many = few_not c.args.scopes.now c.args.scope c.requires.within c.in_default.not-Few }

@@ -11,7 +11,7 @@ use Rattle.rox_tables.proofs.Below.{listed_is, kept_then, few_here, few_lists, s
 use Rattle.rox_tables.proofs.namespaces.tag_scope.scope_below_few.Goals as goal
 
 pub listed_below_few-requires-clause-scopes : goal.listed_below_few-requires-clause-scopes
-listed_below_few-requires-clause-scopes c = scopes_more c.args.own.from (length c.args.elements.now.listed.items) c.args.elements.now.scopes.items c.requires.tag.own_within c.requires.tag.scopes
+listed_below_few-requires-clause-scopes c = scopes_more c.args.own.from (length c.args.elements.now.listed.items) c.args.elements.now.scopes.items c.requires.prefixes.tag.own_within c.requires.prefixes.tag.scopes
 
 pub returns-in-Few : goal.returns-in-Few
 returns-in-Few c =
@@ -24,16 +24,16 @@ returns-in-Few c =
     let mine = entries namespaces (drop c.args.own.from listed) in
     let s = c.args.stretch in
     let above = scope_at (lists_in o) c.args.above in
-    let h = scopes_more c.args.own.from (length listed) o.scopes.items c.requires.tag.own_within c.requires.tag.scopes in
+    let h = scopes_more c.args.own.from (length listed) o.scopes.items c.requires.prefixes.tag.own_within c.requires.prefixes.tag.scopes in
     let x : IsListed namespaces listed o.scopes.items after rows i (mine ++ others mine c.args.own.xml (entries namespaces (slice_range listed s.from s.until))) =
     subst (λ v. IsListed (map namespace_view v) listed o.scopes.items after rows i (entries (map namespace_view v) (drop c.args.own.from listed)
     ++ others (entries (map namespace_view v) (drop c.args.own.from listed)) c.args.own.xml (entries (map namespace_view v) (slice_range listed s.from s.until)))) c.as_slice.ensures.value c.in_ok-scope.ensures in
     let y : IsListed namespaces listed o.scopes.items after rows i (mine ++ others mine c.args.own.xml above) =
-    listed_is namespaces listed after o.scopes.items rows i _ _ x (ap (λ ds. mine ++ others mine c.args.own.xml ds) (few_lists namespaces listed o.scopes.items c.args.above s c.requires.tag.scopes.rows c.requires.tag.above_within c.requires.few)) in
+    listed_is namespaces listed after o.scopes.items rows i _ _ x (ap (λ ds. mine ++ others mine c.args.own.xml ds) (few_lists namespaces listed o.scopes.items c.args.above s c.requires.prefixes.tag.scopes.rows c.requires.prefixes.tag.above_within c.requires.few)) in
     let t : ElementTables = record { attributes = o.attributes; namespaces = o.namespaces; listed = c.listed_below_few.new.listed; scopes = c.listed_below_few.new.scopes; present = o.present } in
     let few = few_here rows i c.in-Few.field-0 c.index.result.now y.within (sym c.in-Few.is ∙ c.index.ensures) in
-    has_scope o t c.args.above c.args.own.from i c.args.own.xml refl refl c.requires.tag.places c.requires.tag.scopes c.requires.tag.own_within c.requires.tag.once c.requires.tag.own_once
-    (kept_then namespaces listed after o.scopes.items rows i _ o.present h y c.requires.tag.kept) (present_few t i few) y
+    has_scope o t c.args.above c.args.own.from i c.args.own.xml refl refl c.requires.prefixes.tag.places c.requires.prefixes.tag.scopes c.requires.prefixes.tag.own_within c.requires.prefixes.tag.once c.requires.prefixes.tag.own_once
+    (kept_then namespaces listed after o.scopes.items rows i _ o.present h y c.requires.prefixes.tag.kept) (present_few t i few) y
 
 pub returns : goal.returns
 returns c =
@@ -46,13 +46,13 @@ returns c =
     let mine = entries namespaces (drop c.args.own.from listed) in
     let s = c.args.stretch in
     let above = scope_at (lists_in o) c.args.above in
-    let h = scopes_more c.args.own.from (length listed) o.scopes.items c.requires.tag.own_within c.requires.tag.scopes in
+    let h = scopes_more c.args.own.from (length listed) o.scopes.items c.requires.prefixes.tag.own_within c.requires.prefixes.tag.scopes in
     let x : IsListed namespaces listed o.scopes.items after rows i (mine ++ others mine c.args.own.xml (entries namespaces (slice_range listed s.from s.until))) =
     subst (λ v. IsListed (map namespace_view v) listed o.scopes.items after rows i (entries (map namespace_view v) (drop c.args.own.from listed)
     ++ others (entries (map namespace_view v) (drop c.args.own.from listed)) c.args.own.xml (entries (map namespace_view v) (slice_range listed s.from s.until)))) c.as_slice.ensures.value c.in_ok-scope.ensures in
     let y : IsListed namespaces listed o.scopes.items after rows i (mine ++ others mine c.args.own.xml above) =
-    listed_is namespaces listed after o.scopes.items rows i _ _ x (ap (λ ds. mine ++ others mine c.args.own.xml ds) (few_lists namespaces listed o.scopes.items c.args.above s c.requires.tag.scopes.rows c.requires.tag.above_within c.requires.few)) in
+    listed_is namespaces listed after o.scopes.items rows i _ _ x (ap (λ ds. mine ++ others mine c.args.own.xml ds) (few_lists namespaces listed o.scopes.items c.args.above s c.requires.prefixes.tag.scopes.rows c.requires.prefixes.tag.above_within c.requires.few)) in
     let t : ElementTables = record { attributes = o.attributes; namespaces = o.namespaces; listed = c.listed_below_few.new.listed; scopes = c.listed_below_few.new.scopes; present = c.make_innermost.new.self } in
     let stood = stood_in o.namespaces.items.items c.as_slice-2.result.now after c.deref.result.now rows c.deref-2.result.now o.present c.make_innermost.new.self i c.as_slice-2.ensures.value c.deref.ensures.value c.deref-2.ensures.value
-    c.in_ok-make_innermost.ensures.value (kept_then namespaces listed after o.scopes.items rows i _ o.present h y c.requires.tag.kept) in
-    has_scope o t c.args.above c.args.own.from i c.args.own.xml refl refl c.requires.tag.places c.requires.tag.scopes c.requires.tag.own_within c.requires.tag.once c.requires.tag.own_once stood.0 (present_by t i stood.1) y
+    c.in_ok-make_innermost.ensures.value (kept_then namespaces listed after o.scopes.items rows i _ o.present h y c.requires.prefixes.tag.kept) in
+    has_scope o t c.args.above c.args.own.from i c.args.own.xml refl refl c.requires.prefixes.tag.places c.requires.prefixes.tag.scopes c.requires.prefixes.tag.own_within c.requires.prefixes.tag.once c.requires.prefixes.tag.own_once stood.0 (present_by t i stood.1) y

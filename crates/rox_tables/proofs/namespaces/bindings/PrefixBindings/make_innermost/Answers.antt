@@ -1,4 +1,4 @@
-use Rattle.std.proofs.Common.{◌≡◌, ◌≤◌, ◌<◌, ◌-◌, ◌++◌, ◌∷◌, ◌∙◌, [], map, length, get_or, ap, subst, sym, refl, arith}
+use Rattle.std.proofs.Common.{rules, ◌≡◌, ◌≤◌, ◌<◌, ◌-◌, ◌++◌, ◌∷◌, ◌∙◌, [], map, length, get_or, ap, subst, sym, refl, arith}
 use Rattle.rox_tables.specs.Rows.{namespace_view, lists_of, scope_at}
 use Rattle.rox_tables.specs.Scopes.{places_in}
 use Rattle.rox_tables.specs.Bindings.{bound_place, IsBound}
@@ -14,10 +14,10 @@ returns-then-is_in-clause-value c = λ h.
     let left = c.in_ok-leave_inner.ensures.keeps namespaces lists h in
     (left, c.is_in.ensures.bound c.if-is_in.true namespaces lists left)
 
-pub position_at-position-requires-clause-index : goal.position_at-position-requires-clause-index
-position_at-position-requires-clause-index c =
+pub position_at-position-requires : goal.position_at-position-requires
+position_at-position-requires c =
     let n : c.count-many.result ≡ length (places_in c.args.listed.now c.args.scopes.now c.args.scope) = c.count-many.ensures ∙ count_places c.args.listed.now c.args.scopes.now c.args.scope c.requires.scopes c.requires.within in
-    omega arith
+    record { scope = search rules; index = omega arith }
 
 pub loop-turn-init : goal.loop-turn-init
 loop-turn-init c =

@@ -1,11 +1,19 @@
-use Rattle.std.proofs.Common.{Ok}
+use Rattle.std.proofs.Common.{Ok, rules, map, length, ap, arith, length-append, ◌∷◌, []}
+use Rattle.std.proofs.lemmas.List.{length-map}
 use Rattle.rox_grammar.specs.declared.failure.Failure.{Failure}
 use Rattle.rox_tables.specs.declared.rows.tables.Namespace.{Namespace}
 use Rattle.rox_tables.specs.Rows.{namespace_view}
 use Rattle.rox_tables.proofs.Indexing.{row_last}
 use Rattle.rox_tables.proofs.namespaces.namespace_table.NamespaceTable.place.Goals as goal
 
-pub returns-clause-there : goal.returns-clause-there
-returns-clause-there c =
+pub returns-clause-placed : goal.returns-clause-placed
+returns-clause-placed c =
     let row : Namespace = record { name = c.args.prefix; uri = c.args.uri } in
-    row_last {E = Failure} (Ok c.in_ok-add.field-0) c.args.self.now.items.items c.add.new.self.items.items (namespace_view row) c.in_ok-add.ensures.items c.in_ok-add.ensures.place
+    let old = c.args.self.now.items.items in
+    let new = c.add.new.self.items.items in
+    let there = row_last {E = Failure} (Ok c.in_ok-add.field-0) old new (namespace_view row) c.in_ok-add.ensures.items c.in_ok-add.ensures.place in
+    let one = ap length c.in_ok-add.ensures.items in
+    let before = length-map old namespace_view in
+    let after = length-map new namespace_view in
+    let both = length-append (map namespace_view old) (namespace_view row ∷ []) in
+    record { there = there; table = search rules; few = omega (arith, one, before, after, both) }

@@ -1,5 +1,5 @@
 use Rattle.rox_tables.proofs.StoredNodes.{a_row, root_is, within-root, chain_root}
-use Rattle.std.proofs.Common.{arith}
+use Rattle.std.proofs.Common.{arith, rules}
 use Rattle.rox_tables.proofs.rows.node_table.NodeTable.end_root.Goals as goal
 
 pub invariant_of-self : goal.invariant_of-self
@@ -14,5 +14,5 @@ invariant_of-self c =
       within = rw (c.close_stored.ensures.rows a_row) (within-root _ t.rows.items c.args.count a_row t.within);
     }
 
-pub returns-clause-rows : goal.returns-clause-rows
-returns-clause-rows c = λ d. root_is c.args.self.now c.args.count d _ (c.close_stored.ensures.rows a_row)
+pub returns : goal.returns
+returns c = record { rows = λ d. root_is c.args.self.now c.args.count d _ (c.close_stored.ensures.rows a_row); len = search rules }

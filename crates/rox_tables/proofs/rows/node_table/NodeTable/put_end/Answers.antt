@@ -23,7 +23,7 @@ returns c = record {
       let none : length t.high.items < length t.rows.items → c.high_half.result ≡ 0 =
       λ fewer. let small : c.args.end < 2 ^ 32 = c.requires.room (omega (arith, fewer, t.rows.ok.0, t.high.ok.0)) in omega (arith, small, c.high_half.ensures) in
       let place : whole_place c.low_half.result c.high_half.result ≡ c.args.end = ap (whole_place c.low_half.result) c.high_half.ensures ∙ sym c.low_half.ensures in
-      end_is t c.args.row c.low_half.result c.high_half.result c.len-subtree_end.result c.args.end _ d _ _ t.short none (c.end_high.ensures.high no_high) (c.end_stored.ensures.rows a_row) place (c.len-subtree_end.ensures ∙ count_nodes t);
+      end_is t c.args.row c.low_half.result c.high_half.result c.len-subtree_end.result c.args.end _ d _ _ t.short none (c.end_high.ensures.rows no_high) (c.end_stored.ensures.rows a_row) place (c.len-subtree_end.ensures ∙ count_nodes t);
   len = search rules;
   capacity = search rules;
 }

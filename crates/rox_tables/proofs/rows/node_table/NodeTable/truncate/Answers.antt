@@ -1,4 +1,4 @@
-use Rattle.std.proofs.Common.{◌≡◌, ◌-◌, List, take, vec_len, sym, ap, ◌∙◌, arith}
+use Rattle.std.proofs.Common.{rules, ◌≡◌, ◌-◌, List, take, vec_len, sym, ap, ◌∙◌, arith}
 use Rattle.std.proofs.lemmas.List.{take_all}
 use Rattle.rox_tables.specs.Rows.{node_rows}
 use Rattle.rox_tables.specs.StoredNodes.{whole_rows}
@@ -31,17 +31,19 @@ invariant_of-self c =
       within = rw c.take_last-self.ensures.rows (within-take _ (vec_len t.rows - 1) t.rows.items t.within);
     }
 
-pub returns-clause-rows : goal.returns-clause-rows
-returns-clause-rows c =
+pub returns : goal.returns
+returns c =
     let t = c.args.self.now in
     let pis = t.instructions.items in
     let at : vec_len t.rows - 1 ≡ c.args.count = omega (arith, c.requires.last, c.if-len-count.false, c.len.ensures) in
+    let rows =
     ap (λ (hs : List HighPlaces). whole_rows pis hs c.take_last-self.new.rows.items) c.truncate.ensures.items
     ∙ ap (λ (rs : List StoredNode). whole_rows pis (take c.args.count t.high.items) rs) (c.take_last-self.ensures.rows ∙ ap (λ n. take n t.rows.items) at)
-    ∙ whole-take pis c.args.count t.high.items t.rows.items
+    ∙ whole-take pis c.args.count t.high.items t.rows.items in
+    record { rows = rows; len = search rules }
 
-pub returns-then-len-count-clause-rows : goal.returns-then-len-count-clause-rows
-returns-then-len-count-clause-rows c =
+pub returns-then-len-count : goal.returns-then-len-count
+returns-then-len-count c =
     let t = c.args.self.now in
     let n = length_nodes t in
-    sym (take_all c.args.count (node_rows t) (omega (arith, n, t.rows.ok.0, c.len.ensures, c.if-len-count.true)))
+    record { rows = sym (take_all c.args.count (node_rows t) (omega (arith, n, t.rows.ok.0, c.len.ensures, c.if-len-count.true))); len = search rules }
