@@ -18,6 +18,7 @@ use crate::namespaces::namespace_table::NamespaceTable;
 use crate::namespaces::prefix_set::add_prefix;
 use crate::namespaces::scope::{XML_URI, XMLNS_URI, is_own, is_xml};
 use crate::namespaces::unresolved_attribute::UnresolvedAttribute;
+use crate::rows::growth::push_among_eight;
 use crate::rows::tables::Namespace;
 use rox_grammar::failure::Failure;
 use rox_grammar::fault::{Fault, Span};
@@ -165,7 +166,7 @@ pub fn declare_namespace<'input>(
         return Ok(true);
     }
     let place = namespaces.place(prefix, taken.value)?;
-    listed.push(place)?;
+    push_among_eight(listed, place)?;
     add_prefix(prefix_set, namespaces.as_slice(), &listed[own..], prefix)?;
     Ok(xml)
 }

@@ -12,6 +12,7 @@ ghost use Rattle.rox_tables.specs.PairIndex.{pair_cmp, key_cmp, key_total, few_p
 
 use crate::compare::same_text;
 use crate::namespaces::scope::same_prefix;
+use crate::rows::growth::push_among_eight;
 use crate::rows::storage::StringStorage;
 use crate::rows::tables::Namespace;
 use rox_grammar::failure::Failure;
@@ -181,7 +182,7 @@ impl<'input> NamespaceTable<'input> {
     {
         let place = self.items.len() as u16;
         if self.items.len() < FEW {
-            self.items.push(key.namespace)?;
+            push_among_eight(&mut self.items, key.namespace)?;
             return Ok(place);
         }
         let namespace = key.namespace.clone()?;

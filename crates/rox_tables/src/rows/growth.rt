@@ -17,6 +17,35 @@ fn grow<T: Drop>(to: &mut Vec<T>) -> Result<(), AllocError>
     Ok(())
 }
 
+/// Makes room for one more, or in an empty table for eight. The only error is want of memory.
+#[cold]
+#[inline(never)]
+fn grow_from_eight<T: Drop>(to: &mut Vec<T>) -> Result<(), AllocError>
+    ensures items { VecUnchanged to.old to.new }
+    ensures ok { OnOk result (vec_len to.new < vec_capacity to.new) }
+{
+    if to.is_empty() {
+        to.reserve(8)?;
+        return Ok(());
+    }
+    to.reserve(1)?;
+    Ok(())
+}
+
+/// The same as `push`, into a table that has seldom more than eight rows, and then often nearly so many.
+#[inline(always)]
+pub fn push_among_eight<T: Drop>(to: &mut Vec<T>, value: T) -> Result<(), AllocError>
+    ensures items { to.new.items ≡ (if is_ok result then to.old.items ++ value ∷ []
+        else to.old.items) }
+    ensures len { vec_len to.new ≡ (if is_ok result then vec_len to.old + 1 else vec_len to.old) }
+{
+    if to.len() >= to.capacity() {
+        grow_from_eight(to)?;
+    }
+    to.push_reserved(value);
+    Ok(())
+}
+
 /// Puts a value at the end. The only error is want of memory, and then the value is dropped: unlike that of `Vec::push`, the
 /// answer has no room for it, which would be cleared at each call.
 #[inline(always)]
