@@ -198,7 +198,7 @@ first_child_none f i l m =
     rw (place_is f i h) (first_none (i + 1) h.below (omega arith))
 
 -- ---- the next sibling
-next_some : (T : List Place) (up left : List ℕ) (e : ℕ) (r : Forest Node) → Sits T up left e r → Follow T (e + size r) (length up) → e < length T → length up ≤ length (at T e).above → first (ids e r) ≡ Some e
+next_some : (T : List Place) (up left : List ℕ) (e : ℕ) (r : Forest Node) → Sits T up left e r → Follow T (e + size r) (length up) → e < length T → length (at T e).above ≡ length up → first (ids e r) ≡ Some e
 next_some T up left e Nil s h l d = let z : e + 0 ≡ e = omega arith in let k : length (at T e).above < length up = (rw z at h) l in absurd (omega arith)
 next_some T up left e (Cons x c r) s h l d = refl
 
@@ -206,7 +206,7 @@ next_none : (T : List Place) (up left : List ℕ) (e : ℕ) (r : Forest Node) �
 next_none T up left e Nil s h = refl
 next_none T up left e (Cons x c r) s h = absurd (h s.1 (ap (λ p. p.above) s.0))
 
-pub next_sibling_some : (f : Forest Node) (i : ℕ) → i < size f → i + (place f i).count < size f → length (place f i).above ≤ length (place f (i + (place f i).count)).above → next_sibling f i ≡ Some (i + (place f i).count)
+next_sibling_some : (f : Forest Node) (i : ℕ) → i < size f → i + (place f i).count < size f → length (place f (i + (place f i).count)).above ≡ length (place f i).above → next_sibling f i ≡ Some (i + (place f i).count)
 unfolding place
 next_sibling_some f i l =
     let h = here f i l in
@@ -242,7 +242,23 @@ parent_depth f i q l e = omega (arith, ap length (parent_is f i q l e).1)
 pub depth_le : (f : Forest Node) (i : ℕ) → i < size f → length (place f i).above ≤ i
 depth_le f i l = let h = here f i l in rw (place_is f i h) h.deep
 
--- ---- the next sibling
+-- ---- the next sibling, by its parent
+pub next_child : (f : Forest Node) (i e q : ℕ) → i < size f → e ≡ i + (place f i).count → e < size f → (i ≡ 0 → e ≡ size f) → (0 < i → parent f i ≡ Some q) → (0 < e → parent f e ≡ Some q) → next_sibling f i ≡ Some e
+next_child f i e q l is m root one other =
+    let low : 0 < i = ⊎_elim (λ none. absurd (let z = root none in omega arith)) (λ some. omega arith) (cases_eq i 0) in
+    let a = parent_is f i q l (one low) in
+    let b = parent_is f e q m (other (omega arith)) in
+    let k = next_sibling_some f i l in
+    rw (← is) at k (omega arith) (ap length b.1 ∙ sym (ap length a.1))
+
+pub no_next_child : (f : Forest Node) (i e q r : ℕ) → i < size f → e ≡ i + (place f i).count → e < size f → (i ≡ 0 → e ≡ size f) → (0 < i → parent f i ≡ Some q) → (0 < e → parent f e ≡ Some r) → (r ≡ q → ⊥) → next_sibling f i ≡ None
+no_next_child f i e q r l is m root one other ne =
+    let low : 0 < i = ⊎_elim (λ none. absurd (let z = root none in omega arith)) (λ some. omega arith) (cases_eq i 0) in
+    next_sibling_none f i l (λ k same.
+    let p : parent f e ≡ parent f i = rw is (ap first same) in
+    let z : Some r ≡ Some q = sym (other (omega arith)) ∙ p ∙ one low in
+    ne cc)
+
 pub no_next_row : (f : Forest Node) (i e : ℕ) → i < size f → e ≡ i + (place f i).count → size f ≤ e → next_sibling f i ≡ None
 no_next_row f i e l is past = next_sibling_none f i l (λ k same. absurd (omega arith))
 

@@ -3,7 +3,6 @@ use Rattle.std.proofs.Common.{◌≡◌, ℕ, suc, zero, ◌+◌, ◌-◌, ◌<�
 use Rattle.std.proofs.lemmas.Bool.{cases_lt, cases_eq}
 use Rattle.std.proofs.lemmas.List.{map-append}
 use Rattle.std.proofs.Common.{length-append}
-use Rattle.std.specs.List.{Contains}
 use Rattle.rox_grammar.specs.Forest.{Forest, Nil, Cons, size}
 use Rattle.rox_grammar.specs.Tree.{Node}
 use Rattle.roxmltree.specs.DocumentView.{DocumentView}
@@ -11,8 +10,8 @@ use Rattle.roxmltree.specs.NodeRef.{node_refs}
 use Rattle.roxmltree.specs.Places.{ids, Place, preorder, place, first, last, parent, children, last_child, next_sibling, prev_sibling, up_to}
 use Rattle.roxmltree.specs.SiblingRange.{row_from, apart, siblings_through, IsSiblingRange}
 use Rattle.roxmltree.specs.ChildrenLeft.{if_some, last_before, between, IsStretch}
-use Rattle.roxmltree.proofs.Preorder.{at, Sits, Leads, here, place_is, prior_rest, up_to_leads, length-preorder, first_child_some, first_child_none, last_child_some, place_end, parent_is, next_sibling_some}
-use Rattle.roxmltree.proofs.Siblings.{row_sits, row_at, second, next_row, prev_row, prev_next, run_same, run_next, run_next_none, run_back, run_back_none, run_children, no_children, below_leads, above_holds}
+use Rattle.roxmltree.proofs.Preorder.{at, Sits, Leads, here, place_is, prior_rest, up_to_leads, length-preorder, first_child_some, first_child_none, last_child_some, place_end}
+use Rattle.roxmltree.proofs.Siblings.{row_sits, row_at, second, next_row, prev_row, prev_next, run_same, run_next, run_next_none, run_back, run_back_none, run_children, no_children}
 
 -- from the last node of a subtree one comes up to its top
 end_up : (f : Forest Node) (i j q : ℕ) → i < size f → i + (place f i).count ≡ j + 1 → parent f i ≡ Some q → up_to f j q ≡ i
@@ -28,7 +27,7 @@ end_up f i j q l =
     end_leads f k i q (p ∷ up) is g = let same : p ≡ q = cc in rw same at (up_to_leads f k i p up g)
 
 -- a node's subtree has the node itself
-pub count_some : (f : Forest Node) (i : ℕ) → i < size f → 0 < (place f i).count
+count_some : (f : Forest Node) (i : ℕ) → i < size f → 0 < (place f i).count
 count_some f i l = let h = here f i l in let k : 0 < 1 + size h.below = omega arith in rw (place_is f i h) k
 
 first_is : (b n : ℕ) (f : Forest Node) → first (ids b f) ≡ Some n → n ≡ b
@@ -225,24 +224,3 @@ children_stretch f i a u h l ea eu eh = rw (ea, eu, eh) (whole_children f i l).s
 pub back_fewer : (d : DocumentView) (f : Forest Node) (a u h z : ℕ) → a < u → IsStretch f a u h → z ≡ last_before f u h → length (node_refs d (between f a z h)) < length (node_refs d (between f a u h))
 back_fewer d f a u h z l s e =
     omega (arith, ap length (back_left d f a u h z l s e), length-append (node_refs d (between f a z h)) ((d, z) ∷ []))
-
--- ---- the next sibling, where the subtree of its parent ends
-
-pub next_within : (f : Forest Node) (i e q : ℕ) → i < size f → e ≡ i + (place f i).count → parent f i ≡ Some q → e < q + (place f q).count → next_sibling f i ≡ Some e
-next_within f i e q l is up low =
-    let a = parent_is f i q l up in
-    let inside : Contains (place f i).above q = rw a.1 (0, omega arith, refl) in
-    let c = below_leads f q e a.0 (omega (arith, (above_holds f q i l inside).0)) low in
-    let k = next_sibling_some f i l in
-    rw (← is) at k (omega (arith, place_end f q a.0)) (omega (arith, ap length a.1, ap length c.1, length-append c.0 (q ∷ (place f q).above)))
-
-pub none_within : (f : Forest Node) (i e q : ℕ) → i < size f → e ≡ i + (place f i).count → parent f i ≡ Some q → q + (place f q).count ≤ e → next_sibling f i ≡ None
-none_within f i e q l is up high =
-    let a = parent_is f i q l up in
-    ⊎_elim
-    (λ none. none)
-    (λ some.
-    let there = next_row f i some.0 l some.1 in
-    let inside : Contains (place f some.0).above q = rw (next_above f i some.0 l some.1, a.1) (0, omega arith, refl) in
-    absurd (omega (arith, (above_holds f q some.0 there.0 inside).1, next_is_end f i some.0 l some.1)))
-    (option_cases (next_sibling f i))

@@ -159,19 +159,16 @@ impl<'a, 'input> Node<'a, 'input> {
     {
         let document = self.document;
         let row = self.row();
-        if self.id.0 == 0 {
+        let id = NodeId(row.subtree_end);
+        if (id.0 as usize) >= document.count() {
             return None;
         }
-        let end = row.subtree_end;
-        let above = Node::of(document, NodeId(row.parent));
-        if end >= above.row().subtree_end {
-            return None;
+        let next = Node::of(document, id);
+        if next.row().parent == row.parent {
+            Some(next)
+        } else {
+            None
         }
-        // A node without children is most often right before its sibling, whose row is then known before this one is read.
-        if end - self.id.0 > 1 {
-            return Some(Node::of(document, NodeId(end)));
-        }
-        Some(Node::of(document, NodeId(self.id.0 + 1)))
     }
 
     /// Of itself and the nodes above it, the nearest that is a child of this one, or else the root node.

@@ -14,10 +14,11 @@ ghost use Rattle.rox_tables.specs.TagDeclarations.{unresolved_view, Declares, De
 ghost use Rattle.rox_reading.specs.Tags.{TagSoFar};
 
 use crate::compare::same_text;
-use crate::namespaces::namespace_table::NamespaceTable;
+use crate::namespaces::namespace_table::{FIRST_ROOM, NamespaceTable};
 use crate::namespaces::prefix_set::add_prefix;
 use crate::namespaces::scope::{XML_URI, XMLNS_URI, is_own, is_xml};
 use crate::namespaces::unresolved_attribute::UnresolvedAttribute;
+use crate::rows::growth::push_with_room;
 use crate::rows::tables::Namespace;
 use rox_grammar::failure::Failure;
 use rox_grammar::fault::{Fault, Span};
@@ -165,7 +166,7 @@ pub fn declare_namespace<'input>(
         return Ok(true);
     }
     let place = namespaces.place(prefix, taken.value)?;
-    listed.push(place)?;
+    push_with_room(listed, place, FIRST_ROOM)?;
     add_prefix(prefix_set, namespaces.as_slice(), &listed[own..], prefix)?;
     Ok(xml)
 }

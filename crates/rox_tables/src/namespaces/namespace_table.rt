@@ -12,6 +12,7 @@ ghost use Rattle.rox_tables.specs.PairIndex.{AddsPair, PlacesPair, few_pairs, ke
 
 use crate::compare::same_text;
 use crate::namespaces::scope::same_prefix;
+use crate::rows::growth::push_with_room;
 use crate::rows::storage::StringStorage;
 use crate::rows::tables::Namespace;
 use rox_grammar::failure::Failure;
@@ -22,6 +23,9 @@ use std::collections::BTreeMap;
 
 /// The most pairs that the table holds.
 const MOST_PAIRS: usize = 65_535;
+
+/// There is room for so many pairs with the first: few texts have more.
+pub(crate) const FIRST_ROOM: usize = 8;
 
 /// How many pairs are looked for one after another.
 const FEW: usize = 16;
@@ -180,7 +184,7 @@ impl<'input> NamespaceTable<'input> {
     {
         let place = self.items.len() as u16;
         if self.items.len() < FEW {
-            self.items.push(key.namespace)?;
+            push_with_room(&mut self.items, key.namespace, FIRST_ROOM)?;
             return Ok(place);
         }
         let namespace = key.namespace.clone()?;

@@ -53,6 +53,14 @@ fn is_short_prefix(name: Option<&str>, prefix: &str) -> bool
     }
 }
 
+/// Whether this is no prefix, but the default.
+#[inline(always)]
+fn is_default(name: Option<&str>) -> bool
+    ensures { result ≡ same_prefix (prefix_view name.entry) None }
+{
+    name.is_none()
+}
+
 /// The first of these places whose namespace is the default.
 #[inline(always)]
 pub fn default_place(namespaces: &[Namespace<'_>], places: &[u16]) -> Option<u16>
@@ -60,7 +68,7 @@ pub fn default_place(namespaces: &[Namespace<'_>], places: &[u16]) -> Option<u16
     ensures { FindsPlace namespaces.now places.now None result }
 {
     for place in places {
-        if same_prefix(namespaces[*place as usize].name, None) {
+        if is_default(namespaces[*place as usize].name) {
             return Some(*place);
         }
     }

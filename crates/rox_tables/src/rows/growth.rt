@@ -31,6 +31,33 @@ pub fn push<T: Drop>(to: &mut Vec<T>, value: T) -> Result<(), AllocError>
     Ok(())
 }
 
+/// Makes room for one more, and in an empty table for so many. The only error is want of memory.
+#[cold]
+#[inline(never)]
+fn grow_first<T: Drop>(to: &mut Vec<T>, first: usize) -> Result<(), AllocError>
+    ensures items { VecUnchanged to.old to.new }
+    ensures ok { OnOk result (vec_len to.new < vec_capacity to.new) }
+{
+    if to.is_empty() {
+        to.reserve_exact(first.max(1))?;
+        return Ok(());
+    }
+    to.reserve(1)?;
+    Ok(())
+}
+
+/// The same in a table that gets room for so many with its first.
+#[inline(always)]
+pub fn push_with_room<T: Drop>(to: &mut Vec<T>, value: T, first: usize) -> Result<(), AllocError>
+    ensures { Pushes value (is_ok result) to.old to.new }
+{
+    if to.len() >= to.capacity() {
+        grow_first(to, first)?;
+    }
+    to.push_reserved(value);
+    Ok(())
+}
+
 /// The room that is asked for but once, in rows: 9 KiB of rows of nodes, which are the widest.
 const SMALL: usize = 204;
 

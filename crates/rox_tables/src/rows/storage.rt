@@ -46,7 +46,7 @@ impl<'input> StringStorage<'input> {
     }
 
     /// Its text.
-    #[inline]
+    #[inline(always)]
     pub fn as_str(&self) -> &str
         ensures { result.now ≡ storage_bytes self.now }
     {

@@ -92,8 +92,8 @@ returns-clause-value c = λ known before h o d.
     let there = c.in_ok-place.ensures.placed.there in
     let few : length (map namespace_view rows) ≤ most_pairs = rw long c.in_ok-place.ensures.placed.few in
     let here : c.in_ok-place.place < length (map namespace_view rows) = rw long there.0 in
-    declares_other known before namespaces (map namespace_view rows) c.args.listed.now.items c.push.new.self.items c.args.xml a h c.in_ok-place.place d uri new is
-    (c.in_ok-place.ensures.placed.table ∙ ap (λ (x : NamespaceDecl). with_new namespaces (x ∷ [])) one) few here (there.1 ∙ one) c.in_ok-push.ensures.items
+    declares_other known before namespaces (map namespace_view rows) c.args.listed.now.items c.push_with_room.new.to.items c.args.xml a h c.in_ok-place.place d uri new is
+    (c.in_ok-place.ensures.placed.table ∙ ap (λ (x : NamespaceDecl). with_new namespaces (x ∷ [])) one) few here (there.1 ∙ one) c.in_ok-push_with_room.ensures.items
 
 pub returns-clause-grown : goal.returns-clause-grown
 returns-clause-grown c = λ lists x h.
@@ -101,31 +101,31 @@ returns-clause-grown c = λ lists x h.
 
 pub returns-clause-lists : goal.returns-clause-lists
 returns-clause-lists c = λ scopes h.
-    lists_after c.args.namespaces.now.items.items c.place.new.self.items.items c.args.listed.now.items c.push.new.self.items (pair (prefix_view c.declared_prefix-prefix.result) (storage_bytes c.args.taken.value)) c.in_ok-place.place
-    c.args.own scopes c.in_ok-place.ensures.placed.table c.in_ok-push.ensures.items c.requires.own c.requires.places h
+    lists_after c.args.namespaces.now.items.items c.place.new.self.items.items c.args.listed.now.items c.push_with_room.new.to.items (pair (prefix_view c.declared_prefix-prefix.result) (storage_bytes c.args.taken.value)) c.in_ok-place.place
+    c.args.own scopes c.in_ok-place.ensures.placed.table c.in_ok-push_with_room.ensures.items c.requires.own c.requires.places h
 
 pub add_prefix-requires : goal.add_prefix-requires
 add_prefix-requires c =
     let rows = c.place.new.self.items.items in
-    let after = c.push.new.self.items in
+    let after = c.push_with_room.new.to.items in
     rw (c.as_slice-2.ensures.value, c.deref-2.ensures.value) (all_slice (λ i. i < length rows) after c.args.own (length after)
     (places_after c.args.namespaces.now.items.items rows c.args.listed.now.items after (pair (prefix_view c.declared_prefix-prefix.result) (storage_bytes c.args.taken.value)) c.in_ok-place.place
-    c.in_ok-place.ensures.placed.table c.in_ok-place.ensures.placed.there.0 c.in_ok-push.ensures.items c.requires.places))
+    c.in_ok-place.ensures.placed.table c.in_ok-place.ensures.placed.there.0 c.in_ok-push_with_room.ensures.items c.requires.places))
 
 pub returns-clause-own : goal.returns-clause-own
 returns-clause-own c = record {
   places =
-      places_after c.args.namespaces.now.items.items c.place.new.self.items.items c.args.listed.now.items c.push.new.self.items (pair (prefix_view c.declared_prefix-prefix.result) (storage_bytes c.args.taken.value)) c.in_ok-place.place
-      c.in_ok-place.ensures.placed.table c.in_ok-place.ensures.placed.there.0 c.in_ok-push.ensures.items c.requires.places;
-  own = omega (arith, c.requires.own, ap length c.in_ok-push.ensures.items, length-append c.args.listed.now.items (c.in_ok-place.place ∷ []));
+      places_after c.args.namespaces.now.items.items c.place.new.self.items.items c.args.listed.now.items c.push_with_room.new.to.items (pair (prefix_view c.declared_prefix-prefix.result) (storage_bytes c.args.taken.value)) c.in_ok-place.place
+      c.in_ok-place.ensures.placed.table c.in_ok-place.ensures.placed.there.0 c.in_ok-push_with_room.ensures.items c.requires.places;
+  own = omega (arith, c.requires.own, ap length c.in_ok-push_with_room.ensures.items, length-append c.args.listed.now.items (c.in_ok-place.place ∷ []));
   few = c.in_ok-place.ensures.placed.few;
   prefix_set =
       let rows = c.place.new.self.items.items in
       let namespaces = map namespace_view rows in
       let listed = c.args.listed.now.items in
-      let after = c.push.new.self.items in
+      let after = c.push_with_room.new.to.items in
       let before = drop c.args.own listed in
-      let mine : drop c.args.own after ≡ before ++ c.in_ok-place.place ∷ [] = ap (drop c.args.own) c.in_ok-push.ensures.items ∙ drop-append-le c.args.own listed (c.in_ok-place.place ∷ []) c.requires.own in
+      let mine : drop c.args.own after ≡ before ++ c.in_ok-place.place ∷ [] = ap (drop c.args.own) c.in_ok-push_with_room.ensures.items ∙ drop-append-le c.args.own listed (c.in_ok-place.place ∷ []) c.requires.own in
       let seen : slice_range c.deref-2.result.now c.args.own (length c.deref-2.result.now) ≡ drop c.args.own after = slice-rest c.deref-2.result.now c.args.own ∙ ap (drop c.args.own) c.deref-2.ensures.value in
       let old : IsPrefixSet namespaces before c.args.prefix_set.now.keys =
       remembers_after c.args.namespaces.now.items.items rows listed (pair (prefix_view c.declared_prefix-prefix.result) (storage_bytes c.args.taken.value)) c.args.own c.args.prefix_set.now.keys c.in_ok-place.ensures.placed.table c.requires.places c.requires.prefix_set in
@@ -146,6 +146,6 @@ returns-clause-own c = record {
       ap (λ xs. is_declared one.prefix (entries (map namespace_view old) xs)) (sym own_is)
       ∙ ap (λ ns. is_declared one.prefix (entries ns (slice_range seen c.args.own (length seen)))) (sym (ap (map namespace_view) c.as_slice.ensures.value))
       ∙ none_own _ _ (sym c.is_own.ensures ∙ c.if-is_own.false) in
-      once_after old c.place.new.self.items.items listed c.push.new.self.items one c.in_ok-place.place c.args.own c.in_ok-place.ensures.placed.table c.in_ok-push.ensures.items c.requires.own c.requires.places
+      once_after old c.place.new.self.items.items listed c.push_with_room.new.to.items one c.in_ok-place.place c.args.own c.in_ok-place.ensures.placed.table c.in_ok-push_with_room.ensures.items c.requires.own c.requires.places
       c.in_ok-place.ensures.placed.there.1 absent c.requires.once;
 }

@@ -9,11 +9,11 @@ use Rattle.rox_tables.proofs.namespaces.namespace_table.NamespaceTable.add.Goals
 pub invariant_of-self : goal.invariant_of-self
 invariant_of-self c =
     let old = c.args.self.now in
-    let new = c.push.new.self in
+    let new = c.push_with_room.new.to in
     let before = length-map old.items.items namespace_view in
     let after = length-map new.items namespace_view in
     record {
-      found = λ d. old.found d ∙ none_behind (map namespace_view old.items.items) d (omega arith) ∙ sym (none_behind (map namespace_view new.items) d (omega arith));
+      found = λ d. old.found d ∙ none_behind (map namespace_view old.items.items) d (omega arith) ∙ sym (none_behind (map namespace_view new.items) d (grind arith));
     }
 
 pub invariant_of-self-else-is_err : goal.invariant_of-self-else-is_err
@@ -27,5 +27,5 @@ invariant_of-self-else-is_err c =
     record {
       found = λ d. ap (λ xs. place_among xs d) (was_ok c.insert.result c.if-is_err.ensures.negation c.insert.ensures.entries ∙ ap (λ n. insert_entry key_cmp es c.args.key n) place)
           ∙ found_more rows c.in_ok-namespace.namespace es c.args.key many table.found c.requires.absent c.in_ok-namespace.ensures.cases d
-          ∙ ap (λ xs. place_behind (map namespace_view xs) d) (sym c.in_ok-push-2.ensures.items);
+          ∙ ap (λ xs. place_behind (map namespace_view xs) d) (sym c.in_ok-push.ensures.items);
     }
