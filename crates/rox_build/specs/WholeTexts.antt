@@ -1,5 +1,5 @@
 -- The parts of a whole text, and what is read of them.
-use Rattle.std.specs.Prelude.{◌≡◌, ℕ, Bool, List, Result, Ok, Err, length}
+use Rattle.std.specs.Prelude.{◌≡◌, ℕ, Bool, List, [], Result, Ok, Err, length}
 use Rattle.rox_grammar.specs.declared.fault.Fault.{Fault}
 use Rattle.rox_grammar.specs.declared.fault.Word.TheVariants as word
 use Rattle.rox_grammar.specs.FixedTexts.{at}
@@ -18,7 +18,8 @@ use Rattle.rox_reading.specs.WholeText.{misc, prolog, doctype, body, finished, h
 use Rattle.rox_scan.specs.declared.cursor.Cursor.{Cursor}
 use Rattle.rox_build.specs.Asking.{IsDoctypeRead}
 use Rattle.rox_values.specs.Refusals.{IsRefusal}
-use Rattle.rox_build.specs.BuilderState.{Represents}
+use Rattle.rox_build.specs.BuilderState.{Represents, IsConsistent, names_in}
+use Rattle.rox_tables.specs.Rows.{attribute_rows}
 use Rattle.rox_build.specs.declared.builder.Builder.{Builder}
 use Rattle.rox_values.specs.declared.entities.Entities.{Entities}
 use Rattle.rox_values.specs.declared.parse_error.ParseError.{ParseError}
@@ -26,6 +27,14 @@ use Rattle.rox_values.specs.declared.parse_error.ParseError.{ParseError}
 -- nothing is read yet
 abbrev pub start_state : ℕ → State
 start_state i = record { at = i; done = Nil; stack = root; openings_left = 255 }
+
+-- the builder shows the root node alone, of a text of this length
+pub record IsBegun (end : ℕ) (b : Builder) : Type 0 where
+  pub shows : Represents end root Nil b
+  pub namespaces : names_in b.tables ≡ []
+  pub attributes : length (attribute_rows b.tables.attributes) ≡ 0
+  pub openings_left : b.openings_left ≡ 255
+  pub consistent : IsConsistent b.tables b.opened.items
 
 -- what stands before a document type declaration
 abbrev pub beginning : ℕ → List ℕ → Result State Fault

@@ -12,6 +12,7 @@ ghost use Rattle.rox_tables.specs.Storage.{storage_bytes, is_borrowed};
 ghost use Rattle.rox_build.specs.declared.pending.Pending.TheVariants as pending;
 ghost use Rattle.std.specs.String.{string_bytes};
 
+use crate::first_room::push;
 use crate::pending::{JoinedText, Pending};
 use crate::tag::{Buffers, StartTag};
 use rox_grammar::failure::Failure;
@@ -21,9 +22,7 @@ use rox_scan::runs::is_at;
 use rox_tables::namespaces::bindings::PrefixBindings;
 use rox_tables::namespaces::namespace_table::NamespaceTable;
 use rox_tables::namespaces::seen_names::SeenNames;
-use rox_tables::namespaces::unresolved_attribute::UnresolvedAttribute;
 use rox_tables::rows::attributes::AttributeTable;
-use rox_tables::rows::growth::push;
 use rox_tables::rows::node_table::NodeTable;
 use rox_tables::rows::recent_texts::Recent;
 use rox_tables::rows::storage::StringStorage;
@@ -74,9 +73,6 @@ pub struct Builder<'input> {
 /// library keeps at hand. While it is full, each construct is left to the general step.
 pub const ROOM_TO_OPEN: usize = 12;
 
-/// So many attributes of a tag find room before their buffer grows.
-pub const ROOM_OF_A_TAG: usize = 11;
-
 /// So many scopes find room before their table grows: most texts have few.
 pub const ROOM_FOR_SCOPES: usize = 4;
 
@@ -90,17 +86,15 @@ pub fn empty_scope(alloc: Global) -> Result<Vec<Scope>, AllocError>
     Ok(scopes)
 }
 
-/// What memory is asked for at the start, beside the nodes: for no attribute and no open element yet, and for the scope of the
-/// root node, which lists nothing.
+/// What memory is asked for at the start: for the root node, for the scope of it, which lists nothing, and for no attribute yet.
 #[derive(Drop)]
 pub struct FirstTables<'input> {
     pub attributes: AttributeTable<'input>,
     pub scopes: Vec<Scope>,
-    pub opened: Vec<OpenElement<'input>>,
-    pub taken: Vec<UnresolvedAttribute<'input>>,
+    pub nodes: NodeTable<'input>,
     pub ghost none: { attribute_rows attributes ≡ [] },
     pub ghost root: { scopes.items ≡ scope.Few (record { from = 0; until = 0 }) ∷ [] },
-    pub ghost shallow: { opened.items ≡ [] },
+    pub ghost one: { vec_len nodes.rows ≡ 1 },
 }
 
 /// The bytes of a text from a place on.
@@ -199,17 +193,11 @@ impl<'input> Builder<'input> {
 
     /// The tables with the root node alone. No error comes with them, so that they are made where they stay.
     #[inline(always)]
-    pub fn of_root(
-        alloc: Global,
-        nodes: NodeTable<'input>,
-        first: FirstTables<'input>,
-        nodes_limit: u32,
-    ) -> Builder<'input>
-        requires { vec_len nodes.rows ≡ 1 }
+    pub fn of_root(alloc: Global, first: FirstTables<'input>, nodes_limit: u32) -> Builder<'input>
         ensures empty { (names_in result.tables ≡ [])
             × (length (attribute_rows result.tables.attributes) ≡ 0) }
         ensures fine { IsConsistent result.tables result.opened.items }
-        ensures shows { (bytes : ℕ) → node_rows nodes.entry ≡ record {
+        ensures shows { (bytes : ℕ) → node_rows first.entry.nodes ≡ record {
           start = 0;
           end = bytes;
           parent = 0;
@@ -222,8 +210,7 @@ impl<'input> Builder<'input> {
         let FirstTables {
             attributes,
             scopes,
-            opened,
-            taken,
+            nodes,
         } = first;
         Builder {
             nodes,
@@ -234,7 +221,7 @@ impl<'input> Builder<'input> {
                 scopes,
                 present: PrefixBindings::new(alloc),
             },
-            opened,
+            opened: Vec::new(alloc),
             pending: Pending::None,
             joined: JoinedText {
                 text: String::new(alloc),
@@ -245,7 +232,7 @@ impl<'input> Builder<'input> {
             buffers: Buffers {
                 scratch: String::new(alloc),
                 raw: String::new(alloc),
-                taken,
+                taken: Vec::new(alloc),
                 prefix_set: BTreeSet::new(alloc),
                 seen: SeenNames::new(0),
             },
@@ -689,7 +676,7 @@ impl<'input> Builder<'input> {
             namespace: tag.element.namespace,
             source,
         };
-        push(&mut self.opened, element)?;
+        push(&mut self.opened, element, ROOM_TO_OPEN)?;
         Ok(())
     }
 

@@ -1,6 +1,6 @@
 //! Reading of a text from its start to its end (XML 1.0 sections 2.1, 2.8).
 
-ghost use Rattle.std.specs.Prelude.{◌≡◌, ℕ, List, OnOk, IfOk, IfErr, length};
+ghost use Rattle.std.specs.Prelude.{◌≡◌, ◌∷◌, [], ℕ, List, OnOk, IfOk, IfErr, length};
 ghost use Rattle.rox_reading.specs.State.{State};
 ghost use Rattle.rox_grammar.specs.TextStart.{after_bom};
 ghost use Rattle.rox_grammar.specs.State.{root};
@@ -8,16 +8,18 @@ ghost use Rattle.rox_grammar.specs.Entities.{Entity};
 ghost use Rattle.rox_reading.specs.Refusals.{lifted};
 ghost use Rattle.rox_reading.specs.WholeText as whole;
 ghost use Rattle.rox_values.specs.DeclaredEntities.{AreDeclared};
-ghost use Rattle.rox_build.specs.BuilderState.{GoesOn, IsConsistent, IsInState, ScansTo, ParsesToWith};
+ghost use Rattle.rox_build.specs.BuilderState.{GoesOn, IsConsistent, IsInState, ScansTo, ParsesToWith, tables_of};
+ghost use Rattle.rox_tables.specs.Rows.{node_rows};
+ghost use Rattle.rox_tables.specs.declared.rows.tables.NodeKind.TheVariants as kind;
 ghost use Rattle.rox_build.specs.Outcomes.{ScansAs};
 ghost use Rattle.rox_reading.specs.Doctype.{Dtd};
 ghost use Rattle.rox_reading.specs.Answering.{left_with};
 ghost use Rattle.rox_build.specs.Requests.{Allows, MayAsk};
 ghost use Rattle.rox_build.specs.Asking.{AskOutcome};
 ghost use Rattle.rox_build.specs.Built.{Built, BuiltRefusal};
-ghost use Rattle.rox_build.specs.WholeTexts.{Finishes, IsDoctypeReadTo, IsWholeRead, beginning, root_read, start_state};
+ghost use Rattle.rox_build.specs.WholeTexts.{Finishes, IsDoctypeReadTo, IsBegun, IsWholeRead, beginning, root_read, start_state};
 
-use crate::builder::{Builder, FirstTables, ROOM_OF_A_TAG, ROOM_TO_OPEN, empty_scope};
+use crate::builder::{Builder, FirstTables, empty_scope};
 use crate::constructs::{comment, element, instruction};
 use crate::content::content;
 use crate::dtd::document_type;
@@ -29,20 +31,10 @@ use rox_scan::source::start_of;
 use rox_tables::rows::attributes::AttributeTable;
 use rox_tables::rows::forecast::first_rows;
 use rox_tables::rows::node_table::NodeTable;
-use rox_tables::rows::tables::Tables;
 use rox_values::context::Context;
 use rox_values::entities::Entities;
 use rox_values::parse_error::ParseError;
-use std::alloc::Global;
-
-/// What a reader of documents asks for.
-#[derive(Clone, Copy)]
-pub struct Options {
-    /// How many nodes there may be, the root node counted.
-    pub nodes_limit: u32,
-    /// Whether a document type declaration may stand.
-    pub allow_dtd: bool,
-}
+use std::alloc::{AllocError, Global};
 
 /// Comments, processing instructions and white space.
 #[inline(always)]
@@ -191,42 +183,54 @@ fn document<'input, R: EntityResolver<'input>>(
     Ok(dtd)
 }
 
-/// The tables of the tree of a text, and whether it has a document type declaration.
+/// What memory is asked for at the start of a text. The only error is want of memory.
 #[inline(always)]
-pub fn build<'input, R: EntityResolver<'input>>(
+pub fn first_tables<'input>(
     alloc: Global,
     text: &'input str,
-    options: Options,
-    resolver: &Option<R>,
-) -> Result<(Tables<'input>, bool), ParseError<'input>>
-    requires may { MayAsk R.can_resolve resolver.now }
-    ensures ok { IfOk result
-        (λ x. Built options.nodes_limit options.allow_dtd
-        (Allows R.allows resolver.now) text.now x.0 x.1) }
-    ensures refused { IfErr result
-        (λ e. BuiltRefusal options.nodes_limit options.allow_dtd
-        (Allows R.allows resolver.now) text.now e) }
+) -> Result<FirstTables<'input>, AllocError>
+    ensures { IfOk result (λ first. node_rows first.nodes ≡ record {
+      start = 0;
+      end = length text.now;
+      parent = 0;
+      subtree_end = 0;
+      kind = kind.Root;
+    } ∷ []) }
 {
-    let mut cursor: Cursor<'input> = start_of(text);
     let bytes = text.len();
     let rows = first_rows(text);
     // An allocator often gives places in turn, and a table behind which nothing stands grows where it is: the rows come last.
     let attributes = AttributeTable::of_text(alloc, bytes, rows.attributes);
     let scopes = empty_scope(alloc)?;
-    let opened = Vec::with_capacity(alloc, ROOM_TO_OPEN)?;
-    let taken = Vec::with_capacity(alloc, ROOM_OF_A_TAG)?;
     let nodes = NodeTable::of_text(alloc, bytes, rows.nodes)?;
-    let first = FirstTables {
+    Ok(FirstTables {
         attributes,
         scopes,
-        opened,
-        taken,
-    };
-    let limit = options.nodes_limit;
-    let mut builder: Builder<'input> = Builder::of_root(alloc, nodes, first, limit);
-    let allow = options.allow_dtd;
-    let dtd = document(alloc, &mut cursor, &mut builder, allow, resolver)?;
+        nodes,
+    })
+}
+
+/// Reads a text from its start to its end. The builder has the tables of its tree then. Answers whether the text has a document type
+/// declaration.
+#[inline(always)]
+pub fn build<'input, R: EntityResolver<'input>>(
+    alloc: Global,
+    text: &'input str,
+    allow: bool,
+    resolver: &Option<R>,
+    builder: &mut Builder<'input>,
+) -> Result<bool, ParseError<'input>>
+    requires may { MayAsk R.can_resolve resolver.now }
+    requires begun { IsBegun (length text.now) builder.old }
+    ensures ok { IfOk result
+        (λ dtd. Built builder.old.nodes_limit allow
+        (Allows R.allows resolver.now) text.now (tables_of builder.new) dtd) }
+    ensures refused { IfErr result
+        (λ e. BuiltRefusal builder.old.nodes_limit allow
+        (Allows R.allows resolver.now) text.now e) }
+{
+    let mut cursor: Cursor<'input> = start_of(text);
+    let dtd = document(alloc, &mut cursor, builder, allow, resolver)?;
     builder.end(alloc)?;
-    let tables = builder.finish();
-    Ok((tables, dtd))
+    Ok(dtd)
 }

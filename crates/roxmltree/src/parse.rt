@@ -19,7 +19,8 @@ ghost use Rattle.roxmltree.specs.FirstError.{IsFirst, IsReadDocument, IsErrorOfR
 
 use crate::options::ParsingOptions;
 use crate::tree::Document;
-use rox_build::reader::{Options, build};
+use rox_build::builder::Builder;
+use rox_build::reader::{build, first_tables};
 use rox_build::resolver::EntityResolver;
 use rox_error::error::Error;
 use rox_error::position::TextPos;
@@ -119,12 +120,21 @@ fn read<'input, 'w, R: EntityResolver<'input> + Drop>(
     ensures told { IfErr result (λ e. e ≢ Error.OutOfMemory
         → IsFirst opt.nodes_limit opt.allow_dtd (Allows R.allows opt.entity_resolver) text.now e) }
 {
-    let options = Options {
-        nodes_limit: opt.nodes_limit,
-        allow_dtd: opt.allow_dtd,
+    let Ok(first) = first_tables(alloc, text) else {
+        return Err(Error::OutOfMemory);
     };
-    match build(alloc, text, options, &opt.entity_resolver) {
-        Ok((tables, dtd)) => Ok(Document::from_tables(text, opt.document_key, dtd, tables)),
+    let mut builder = Builder::of_root(alloc, first, opt.nodes_limit);
+    match build(
+        alloc,
+        text,
+        opt.allow_dtd,
+        &opt.entity_resolver,
+        &mut builder,
+    ) {
+        Ok(dtd) => {
+            let tables = builder.finish();
+            Ok(Document::from_tables(text, opt.document_key, dtd, tables))
+        }
         Err(refused) => Err(told(alloc, text, refused)),
     }
 }
