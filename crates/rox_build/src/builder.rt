@@ -12,7 +12,6 @@ ghost use Rattle.rox_tables.specs.Storage.{storage_bytes, is_borrowed};
 ghost use Rattle.rox_build.specs.declared.pending.Pending.TheVariants as pending;
 ghost use Rattle.std.specs.String.{string_bytes};
 
-use crate::first_room::push;
 use crate::pending::{JoinedText, Pending};
 use crate::tag::{Buffers, StartTag};
 use rox_grammar::failure::Failure;
@@ -23,6 +22,7 @@ use rox_tables::namespaces::bindings::PrefixBindings;
 use rox_tables::namespaces::namespace_table::NamespaceTable;
 use rox_tables::namespaces::seen_names::SeenNames;
 use rox_tables::rows::attributes::AttributeTable;
+use rox_tables::rows::growth::push_with_room;
 use rox_tables::rows::node_table::NodeTable;
 use rox_tables::rows::recent_texts::Recent;
 use rox_tables::rows::storage::StringStorage;
@@ -676,7 +676,7 @@ impl<'input> Builder<'input> {
             namespace: tag.element.namespace,
             source,
         };
-        push(&mut self.opened, element, ROOM_TO_OPEN)?;
+        push_with_room(&mut self.opened, element, ROOM_TO_OPEN)?;
         Ok(())
     }
 

@@ -5,7 +5,6 @@ pub mod builder;
 pub mod constructs;
 pub mod content;
 pub mod dtd;
-mod first_room;
 pub mod pending;
 pub mod plain_constructs;
 pub mod plain_tag;

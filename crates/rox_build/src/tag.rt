@@ -19,7 +19,6 @@ ghost use Rattle.rox_tables.specs.TagDeclarations.{Declares, unresolved_view};
 ghost use Rattle.rox_build.specs.TagState.{HoldsTag, IsReadingTag, KeepsScopes, GivesAttribute, GivesTagPart, AddsAttribute, AddsAttributes, value_of};
 ghost use Rattle.rox_grammar.specs.Tree.{listed};
 
-use crate::first_room::push;
 use crate::plain_tag::near_attribute;
 use rox_grammar::failure::Failure;
 use rox_grammar::fault::Fault;
@@ -33,6 +32,7 @@ use rox_tables::namespaces::scope::{OwnDeclarations, few_places};
 use rox_tables::namespaces::seen_names::SeenNames;
 use rox_tables::namespaces::tag_scope::scope_of_tag;
 use rox_tables::namespaces::unresolved_attribute::UnresolvedAttribute;
+use rox_tables::rows::growth::push_with_room;
 use rox_tables::rows::storage::StringStorage;
 use rox_tables::rows::tables::{ElementData, ElementTables};
 use rox_values::attribute_value::value;
@@ -209,7 +209,7 @@ fn add_attribute<'input>(
         )?;
         return Ok(xml);
     }
-    push(&mut buffers.taken, one, ROOM_OF_A_TAG)?;
+    push_with_room(&mut buffers.taken, one, ROOM_OF_A_TAG)?;
     Ok(own.xml)
 }
 

@@ -37,5 +37,5 @@ returns-in_err-xml-clause-took c = λ known before h o hold.
 
 pub returns-clause-took : goal.returns-clause-took
 returns-clause-took c = λ known before h o hold.
-    took_attribute known before (map namespace_view c.args.elements.now.namespaces.items.items) c.args.elements.now.listed.items c.args.own.xml c.args.buffers.now.taken.items c.push.new.to.items h c.args.one c.in_ok-push.ensures.items
+    took_attribute known before (map namespace_view c.args.elements.now.namespaces.items.items) c.args.elements.now.listed.items c.args.own.xml c.args.buffers.now.taken.items c.push_with_room.new.to.items h c.args.one c.in_ok-push_with_room.ensures.items
     (sym c.is_namespace_decl.ensures ∙ c.if-is_namespace_decl.false) hold

@@ -37,7 +37,7 @@ returns-clause-value c = λ total at openings_left s t sh here is.
     rw here (c.in_ok-push.ensures.rows ∙ ap (λ (r : NodeData). (node_rows f.nodes) ++ record r { subtree_end = 0 } ∷ []) c.row-opening.ensures) in (
       next,
       counted_ok c.args.self.now.nodes_limit next (omega arith),
-      open_shows total s.stack s.done f _ s.at k t x st op.node.is op.node.within place view rows refl c.in_ok-push-2.ensures.items refl,
+      open_shows total s.stack s.done f _ s.at k t x st op.node.is op.node.within place view rows refl c.in_ok-push_with_room.ensures.items refl,
     )
 
 pub returns-in_err-room-clause-value : goal.returns-in_err-room-clause-value
