@@ -10,6 +10,7 @@ ghost use Rattle.rox_reading.specs.WholeText as whole;
 ghost use Rattle.rox_values.specs.DeclaredEntities.{AreDeclared};
 ghost use Rattle.rox_build.specs.BuilderState.{GoesOn, IsConsistent, IsInState, ScansTo, ParsesToWith};
 ghost use Rattle.rox_build.specs.Outcomes.{ScansAs};
+ghost use Rattle.rox_build.specs.Readiness.{MayReadAsking};
 ghost use Rattle.rox_reading.specs.Doctype.{Dtd};
 ghost use Rattle.rox_reading.specs.Answering.{left_with};
 ghost use Rattle.rox_build.specs.Requests.{Allows, MayAsk};
@@ -120,8 +121,7 @@ fn doctype<'input, R: EntityResolver<'input>>(
     allow: bool,
     resolver: &Option<R>,
 ) -> Result<bool, ParseError<'input>>
-    requires may { MayAsk R.can_resolve resolver.now }
-    requires fine { IsConsistent builder.old.tables builder.old.opened.items }
+    requires { MayReadAsking R.can_resolve resolver.now builder.old }
     ensures value { (limit end : ℕ) (d : Dtd) → IsInState limit end d.state cursor.old builder.old
         → AreDeclared d.entities entities.old
         → AskOutcome (Allows R.allows resolver.now)
@@ -174,8 +174,7 @@ fn document<'input, R: EntityResolver<'input>>(
     allow: bool,
     resolver: &Option<R>,
 ) -> Result<bool, ParseError<'input>>
-    requires may { MayAsk R.can_resolve resolver.now }
-    requires fine { IsConsistent builder.old.tables builder.old.opened.items }
+    requires { MayReadAsking R.can_resolve resolver.now builder.old }
     ensures value { (limit end : ℕ) → cursor.old.pos ≡ after_bom cursor.old.text.now
         → IsInState limit end (start_state cursor.old.pos) cursor.old builder.old
         → AskOutcome (Allows R.allows resolver.now)
