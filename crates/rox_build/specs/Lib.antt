@@ -4,6 +4,7 @@ pub mod DataParts
 pub mod PendingText
 pub mod BuilderState
 pub mod Outcomes
+pub mod Readiness
 pub mod PlainSteps
 pub mod TagState
 pub mod ElementRow

@@ -1,10 +1,13 @@
 -- What a call makes of the cursor and the builder that it is lent.
-use Rattle.std.specs.Prelude.{ℕ, ◌<◌, List, OnOk, Result, length}
+use Rattle.std.specs.Prelude.{◌≡◌, ℕ, ◌+◌, ◌++◌, ◌∷◌, [], ◌<◌, ◌≤◌, ◌^◌, false, List, OnOk, Result, Ok, length, vec_len}
+use Rattle.std.specs.Str.{IsCharBoundary}
 use Rattle.rox_grammar.specs.Entities.{Entity}
-use Rattle.rox_grammar.specs.Written.{Item}
+use Rattle.rox_grammar.specs.Forest.{Forest}
+use Rattle.rox_grammar.specs.State.{Open, scope_of}
+use Rattle.rox_grammar.specs.Written.{Item, Tag}
 use Rattle.rox_grammar.specs.declared.failure.Failure.{Failure}
 use Rattle.rox_reading.specs.Machine as machine
-use Rattle.rox_reading.specs.Machine.{with_item}
+use Rattle.rox_reading.specs.Machine.{opened_by, with_item}
 use Rattle.rox_reading.specs.Refusals.{Refusal}
 use Rattle.rox_reading.specs.State.{State}
 use Rattle.rox_scan.specs.declared.cursor.Cursor.{Cursor}
@@ -12,8 +15,12 @@ use Rattle.rox_values.specs.Contexts.{context_of}
 use Rattle.rox_values.specs.DeclaredEntities.{AreDeclared}
 use Rattle.rox_values.specs.declared.context.Context.{Context}
 use Rattle.rox_values.specs.declared.parse_error.ParseError.{ParseError}
-use Rattle.rox_build.specs.BuilderState.{Adds, GoesOn, IsConsistent, IsInState, KeepsOpen, ParsesTo, Represents, ScansTo}
+use Rattle.rox_build.specs.BuilderState.{Adds, GoesOn, IsConsistent, IsInState, IsNode, IsOpened, IsOpening, IsReady, KeepsOpen, KeepsState, KeepsTables, ParsesTo, Represents, RepresentsFlushed, ScansTo}
+use Rattle.rox_build.specs.PendingText.{waiting}
 use Rattle.rox_build.specs.declared.builder.Builder.{Builder}
+use Rattle.rox_build.specs.declared.builder.OpenElement.{OpenElement}
+use Rattle.rox_build.specs.declared.tag.StartTag.{StartTag}
+use Rattle.rox_tables.specs.declared.rows.tables.NodeKind.{NodeKind}
 
 -- something stands here, and what the builder holds is consistent
 pub record MayStep (c : Cursor) (b : Builder) : Type 0 where
@@ -31,7 +38,35 @@ pub record ScansAs (read : ℕ → List ℕ → State → Result State Refusal) 
   pub value : (limit end : ℕ) (s : State) → IsInState limit end s old b → ScansTo limit end result new after (read limit old.text.now s)
   pub goes : OnOk result (GoesOn old new after)
 
+-- what stands at i was read, as this reading does, up to j, which fits a row, and took the room of one at most; or nothing was
+pub record ReadsAt (read : machine.Context → List ℕ → State → Result State Refusal) (src : List ℕ) (i j : ℕ) (b after : Builder) : Type 0 where
+  pub value : j < 2 ^ 32 → (context : machine.Context) (end : ℕ) (s : State) (here behind : Cursor) → here.pos ≡ i → behind.pos ≡ j → IsInState context.limit end s here b
+      → ScansTo context.limit end (Ok tt) behind after (read context src s)
+  pub other : 2 ^ 32 ≤ j → KeepsState b after
+  pub cut : j < 2 ^ 32 → IsCharBoundary src j
+  pub ready : j < 2 ^ 32 → (n : ℕ) → IsReady (n + 1) b → IsReady n after
+  pub fine : IsConsistent after.tables after.opened.items
+
 -- the call adds this piece of a text behind what the builder shows, and keeps what is open
 pub record AddsText (old new : Builder) (result : Result (Unit {0}) Failure) (item : Item) : Type 0 where
   pub value : (total at : ℕ) (s : State) → Represents total s.stack s.done old → Adds total result new (with_item old.nodes_limit s at item)
+  pub kept : KeepsOpen old new
+
+-- the call adds this node, which is no text and has nothing below it, and keeps what is open
+pub record AddsNode (old new : Builder) (result : Result (Unit {0}) Failure) (start end : ℕ) (k : NodeKind) : Type 0 where
+  pub value : (total at : ℕ) (s : State) (item : Item) → Represents total s.stack s.done old → IsNode old.tables (scope_of s.stack) start end k item → Adds total result new (with_item old.nodes_limit s at item)
+  pub kept : KeepsOpen old new
+
+-- the call opens the element of this tag, which begins here in this text
+pub record OpensElement (old new : Builder) (result : Result (Unit {0}) Failure) (text : List ℕ) (start : ℕ) (tag : StartTag) : Type 0 where
+  pub value : (total at openings_left : ℕ) (s : State) (t : Tag) → Represents total s.stack s.done old → s.at ≡ start → IsOpening old.tables (scope_of s.stack) start tag t
+      → Adds total result new (opened_by old.nodes_limit s t false openings_left at)
+  pub kept : KeepsTables old new
+  pub opened : OnOk result ((x : OpenElement) × (new.opened.items ≡ old.opened.items ++ x ∷ []) × IsOpened text tag x)
+
+-- the call writes the text that waits for its row, and ends the one that may go on
+pub record Flushes {E : Type 0} (old new : Builder) (result : Result (Unit {0}) E) : Type 0 where
+  pub ok : OnOk result ((end : ℕ) (stack : Open) (done : Forest Item) → Represents end stack done old → RepresentsFlushed end stack done new)
+  pub empty : OnOk result (waiting new.pending ≡ 0)
+  pub count : OnOk result (vec_len new.nodes.rows ≡ vec_len old.nodes.rows + waiting old.pending)
   pub kept : KeepsOpen old new

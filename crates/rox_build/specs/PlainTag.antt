@@ -1,9 +1,11 @@
 -- Start tags that are read at one look: without declarations, and with attributes whose values refer to no declared entity.
-use Rattle.std.specs.Prelude.{◌≡◌, ◌≢◌, ℕ, ◌+◌, ◌<◌, ◌≤◌, ◌^◌, ◌==◌, ◌||◌, Bool, true, false, List, [], ◌++◌, Option, Some, Ok, drop, length, map, slice_index, slice_range}
+use Rattle.std.specs.Prelude.{◌≡◌, ◌≢◌, ℕ, ◌+◌, ◌-◌, ◌<◌, ◌≤◌, ◌^◌, ◌==◌, ◌||◌, Bool, true, false, List, [], ◌++◌, Option, Some, Ok, drop, length, map, slice_index, slice_range, IfSome}
 use Rattle.std.specs.List.{AllByRecursion}
 use Rattle.std.specs.Str.{IsCharBoundary}
 use Rattle.rox_grammar.specs.declared.fault.Fault.{Fault}
+use Rattle.rox_grammar.specs.Chars.{is_name_start, is_part_char}
 use Rattle.rox_grammar.specs.Names.{spaces_end}
+use Rattle.rox_grammar.specs.Runs.{run_end, begins}
 use Rattle.rox_grammar.specs.Written.{Attribute, NamespaceDecl, Tag, is_namespace_decl}
 use Rattle.rox_grammar.specs.Tree.{attribute_in}
 use Rattle.rox_grammar.specs.Entities.{Entity}
@@ -24,12 +26,15 @@ use Rattle.rox_tables.specs.declared.namespaces.seen_names.SeenNames.{SeenNames}
 use Rattle.rox_tables.specs.Storage.{storage_bytes, is_borrowed}
 use Rattle.rox_tables.specs.declared.rows.tables.ElementTables.{ElementTables}
 use Rattle.rox_grammar.specs.Document.{most_pairs}
-use Rattle.rox_scan.specs.ByteSets.{EndsSet, is_part_byte}
+use Rattle.rox_scan.specs.ByteSets.{EndsSet, is_part_byte, is_value_byte}
+use Rattle.rox_scan.specs.ScanResults.{Finds}
 use Rattle.rox_tables.specs.TagScopes.{HasBindings}
 use Rattle.rox_build.specs.BuilderState.{IsOpenWithin}
 use Rattle.rox_build.specs.declared.builder.OpenElement.{OpenElement}
 use Rattle.rox_build.specs.ElementRow.{Tagged, scope_in_tables}
 use Rattle.rox_build.specs.declared.plain_tag.PlainName.{PlainName}
+use Rattle.rox_build.specs.declared.plain_tag.PlainTag.{PlainTag}
+use Rattle.rox_build.specs.declared.plain_tag.TagEnd.{TagEnd}
 use Rattle.rox_build.specs.declared.tag.StartTag.{StartTag}
 use Rattle.rox_tables.specs.declared.namespaces.unresolved_attribute.UnresolvedAttribute.{UnresolvedAttribute}
 
@@ -65,6 +70,49 @@ pub record HasPlainValue (src : List ℕ) (i quote j : ℕ) (value : List ℕ) :
   pub onward : i ≤ j
   pub cut : IsCharBoundary src j
   pub is : value ≡ slice_range src i j
+
+-- a value may begin here, behind this quote
+pub record BeginsValue (src : List ℕ) (i q : ℕ) : Type 0 where
+  pub cut : IsCharBoundary src i
+  pub quote : (q == 39 || q == 34) ≡ true
+
+-- the same where each byte up to j stands for itself
+pub record SeesValue (src : List ℕ) (i q j : ℕ) : Type 0 where
+  pub cut : IsCharBoundary src i
+  pub near : EndsSet is_value_byte src i j
+  pub quote : (q == 39 || q == 34) ≡ true
+
+-- a quote stands right before this place
+pub record HasQuoteBefore (src : List ℕ) (i : ℕ) : Type 0 where
+  pub some : 0 < i
+  pub within : i ≤ length src
+  pub quote : (slice_index src (i - 1) == 39 || slice_index src (i - 1) == 34) ≡ true
+
+-- this quote stands here
+pub record IsQuoteAt (src : List ℕ) (i q : ℕ) : Type 0 where
+  pub here : slice_index src i ≡ q
+  pub within : i < length src
+  pub quote : (q == 39 || q == 34) ≡ true
+  pub some : 0 < q
+  pub ascii : q < 128
+
+-- `=` stands here, and this quote behind it
+pub record IsQuoteBehindEquals (src : List ℕ) (i q : ℕ) : Type 0 where
+  pub equals : slice_index src i ≡ 61
+  pub here : slice_index src (i + 1) ≡ q
+  pub quote : (q == 39 || q == 34) ≡ true
+  pub within : i + 1 < length src
+
+-- a name begins here, whose first part ends at this place
+pub record IsFirstPart (src : List ℕ) (i j : ℕ) : Type 0 where
+  pub start : IsCharBoundary src i
+  pub part : Finds src i j (run_end is_part_char src i)
+  pub begins : begins is_name_start src i ≡ true
+
+-- a character begins here that is not the last byte
+pub record IsBeforeLast (src : List ℕ) (i : ℕ) : Type 0 where
+  pub cut : IsCharBoundary src i
+  pub within : i + 1 < length src
 
 -- a name is read at this place
 pub record IsPlainName (src : List ℕ) (i : ℕ) (n : PlainName) : Type 0 where
@@ -163,6 +211,18 @@ pub record ArePlainAttributes (namespaces : List NamespaceDecl) (few : Option (L
   pub read : (context : Values) (cut : Fault) (known : List NamespaceDecl) (openings_left : ℕ)
       → attributes_at (length src) context cut known src start openings_left (holding []) ≡ Ok (record { held = holding written; empty = empty; openings_left = openings_left }, end)
 
+-- attributes of a tag whose element has this scope may be read here
+pub record MayReadAttributes (src : List ℕ) (i : ℕ) (t : ElementTables) (n : ℕ) : Type 0 where
+  pub cut : IsCharBoundary src i
+  pub short : length src < 2 ^ 32
+  pub scope : HasScope t n
+
+-- these are tables with more attributes
+pub record HasMore (old new : ElementTables) : Type 0 where
+  pub more : List AttributeRow
+  pub others : new ≡ record old { attributes = new.attributes }
+  pub rows : attribute_rows new.attributes ≡ attribute_rows old.attributes ++ more
+
 -- A start tag that is read here, whatever reads it, below an element that lists these; it opens no replacement text.
 pub record IsPlainTag (old new : ElementTables) (above : List NamespaceDecl) (src : List ℕ) (i end : ℕ) (t : StartTag) : Type 0 where
   pub tag : Tag
@@ -170,6 +230,25 @@ pub record IsPlainTag (old new : ElementTables) (above : List NamespaceDecl) (sr
   pub tagged : Tagged old new t above tag
   pub starts : t.name_start ≡ i + 1
   pub cut : IsCharBoundary src end
+
+-- the attributes of a tag were read from here up to its end, if they are plain, and are in the table, where others may stand too
+pub record ReadsAttributes (old new : ElementTables) (n : ℕ) (src : List ℕ) (i : ℕ) (result : Option TagEnd) : Type 0 where
+  pub read : IfSome result
+      (λ e. ArePlainAttributes (map namespace_view old.namespaces.items.items) (few_in old n) old.present src i (attribute_rows old.attributes) e.at e.empty (attribute_rows new.attributes))
+  pub cut : IfSome result (λ e. IsCharBoundary src e.at)
+  pub grown : HasMore old new
+
+-- the start tag was read that begins here, below this element, if it is plain, and so many replacement texts may be opened behind it
+pub record ReadsTag (old new : ElementTables) (o : OpenElement) (src : List ℕ) (i openings : ℕ) (result : Option PlainTag) : Type 0 where
+  pub read : IfSome result (λ t. IsPlainTag old new (scope_in_tables old o.scope) src i t.end t.tag)
+  pub openings_left : IfSome result (λ t. t.tag.openings_left ≡ openings)
+  pub grown : HasMore old new
+
+-- the same of one of a name alone, which has no attributes
+pub record IsBareTag (t : ElementTables) (o : OpenElement) (src : List ℕ) (i openings : ℕ) (p : PlainTag) : Type 0 where
+  pub read : IsPlainTag t t (scope_in_tables t o.scope) src i p.end p.tag
+  pub openings_left : p.tag.openings_left ≡ openings
+  pub opens : p.tag.empty ≡ false
 
 -- tables that hold the same, whatever room they have for attributes
 pub record HoldSame (old new : ElementTables) : Type 0 where
@@ -190,3 +269,9 @@ pub record MayOpenBelow (t : ElementTables) (o : OpenElement) : Type 0 where
   pub scopes : AreScopes (length t.listed.items) t.scopes.items
   pub kept : HasBindings t
   pub parent : IsOpenWithin t o
+
+-- a start tag may begin here, below this open element
+pub record MayOpenAt (src : List ℕ) (i : ℕ) (t : ElementTables) (o : OpenElement) : Type 0 where
+  pub here : slice_index src i ≡ 60
+  pub short : length src < 2 ^ 32
+  pub below : MayOpenBelow t o

@@ -15,10 +15,12 @@ use Rattle.rox_build.specs.declared.tag.TagPart.TheVariants as part
 use Rattle.rox_values.specs.declared.parse_error.ParseError.TheVariants as error
 use Rattle.rox_scan.specs.declared.cursor.Cursor.{Cursor}
 use Rattle.rox_tables.specs.PrefixSet.{IsPrefixSet}
+use Rattle.rox_tables.specs.Storage.{storage_bytes, is_borrowed}
 use Rattle.rox_tables.specs.Rows.{namespace_view, AreScopes}
 use Rattle.rox_tables.specs.Scopes.{entries, ArePlaces, PrefixesOnce}
 use Rattle.rox_tables.specs.TagDeclarations.{unresolved_view, Declares}
 use Rattle.rox_tables.specs.TagScopes.{HasBindings, lists_in}
+use Rattle.rox_tables.specs.declared.rows.storage.StringStorage.{StringStorage}
 use Rattle.rox_tables.specs.declared.rows.tables.ElementTables.{ElementTables}
 use Rattle.rox_tables.specs.declared.namespaces.unresolved_attribute.UnresolvedAttribute.{UnresolvedAttribute}
 use Rattle.rox_values.specs.Refusals.{IsRefusal}
@@ -45,6 +47,11 @@ pub record KeepsScopes (old new : ElementTables) : Type 0 where
 pub record HoldsTag (known : List NamespaceDecl) (before : List ℕ) (namespaces : List NamespaceDecl) (listed : List ℕ) (xml : Bool) (taken : List UnresolvedAttribute) (h : TagSoFar) : Type 0 where
   pub declares : Declares known before namespaces listed xml h.own
   pub attributes : map unresolved_view taken ≡ h.attributes
+
+-- a text is kept as it was read
+pub record IsStored (text : ReadText) (s : StringStorage) : Type 0 where
+  pub bytes : storage_bytes s ≡ text.value
+  pub kind : is_borrowed s ≡ text.borrowed
 
 -- what is read of its value, where so many may be opened
 abbrev pub value_of : Values → List ℕ → RawAttribute → ℕ → Result (ReadText × ℕ) Refusal

@@ -178,12 +178,13 @@ impl<'input> Builder<'input> {
     ghost use Rattle.rox_grammar.specs.declared.fault.Fault.TheVariants as fault;
     ghost use Rattle.rox_grammar.specs.State.{Open, root, inside, is_root, scope_of, nodes_so_far};
     ghost use Rattle.rox_reading.specs.State.{State};
-    ghost use Rattle.rox_reading.specs.Machine.{with_item, with_piece, opened_by, counted};
+    ghost use Rattle.rox_reading.specs.Machine.{with_item, with_piece, counted};
     ghost use Rattle.rox_build.specs.DataParts.{HasPart};
     ghost use Rattle.rox_grammar.specs.Failures.{Fails};
     ghost use Rattle.rox_values.specs.Values.{piece_view};
-    ghost use Rattle.rox_build.specs.BuilderState.{Represents, RepresentsFlushed, IsNode, IsOpening, AreSound, Adds, IsConsistent, IsOpened, IsReady, KeepsOpen, KeepsState, KeepsTables, names_in, opened_in, last_row, tables_of};
-    ghost use Rattle.rox_build.specs.Outcomes.{AddsText};
+    ghost use Rattle.rox_build.specs.BuilderState.{Represents, RepresentsFlushed, AreSound, Adds, IsConsistent, IsReady, KeepsOpen, KeepsState, KeepsTables, names_in, opened_in, last_row, tables_of};
+    ghost use Rattle.rox_build.specs.Outcomes.{AddsNode, AddsText, Flushes, OpensElement};
+    ghost use Rattle.rox_build.specs.Readiness.{MayPutRow, MayPutText};
     ghost use Rattle.rox_tables.specs.Rows.{HoldsTree};
     ghost use Rattle.rox_tables.specs.StoredNodes.{IsSmallKind};
     ghost use Rattle.rox_tables.specs.Scopes.{PrefixesOnce};
@@ -365,12 +366,7 @@ impl<'input> Builder<'input> {
     /// Writes the text that may go on.
     #[inline(always)]
     fn flush(&mut self, alloc: Global) -> Result<(), AllocError>
-        ensures ok { OnOk result ((end : ℕ) (stack : Open) (done : Forest Item)
-            → Represents end stack done self.old → RepresentsFlushed end stack done self.new) }
-        ensures empty { OnOk result (waiting self.new.pending ≡ 0) }
-        ensures count { OnOk result (vec_len self.new.nodes.rows ≡ vec_len self.old.nodes.rows
-            + waiting self.old.pending) }
-        ensures kept { KeepsOpen self.old self.new }
+        ensures { Flushes self.old self.new result }
     {
         match self.pending {
             Pending::None => Ok(()),
@@ -389,12 +385,7 @@ impl<'input> Builder<'input> {
     #[inline(never)]
     fn flush_joined(&mut self, alloc: Global) -> Result<(), AllocError>
         requires { self.old.pending ≡ pending.Joined }
-        ensures ok { OnOk result ((end : ℕ) (stack : Open) (done : Forest Item)
-            → Represents end stack done self.old → RepresentsFlushed end stack done self.new) }
-        ensures empty { OnOk result (waiting self.new.pending ≡ 0) }
-        ensures count { OnOk result (vec_len self.new.nodes.rows ≡ vec_len self.old.nodes.rows
-            + 1) }
-        ensures kept { KeepsOpen self.old self.new }
+        ensures { Flushes self.old self.new result }
     {
         let text = storage_of(alloc, &mut self.recent, &self.joined)?;
         let row = self.row(self.joined.start, self.joined.end, NodeKind::Text(text));
@@ -432,11 +423,7 @@ impl<'input> Builder<'input> {
         end: usize,
         kind: NodeKind<'input>,
     ) -> Result<(), Failure>
-        ensures value { (total at : ℕ) (s : State) (item : Item)
-            → Represents total s.stack s.done self.old
-            → IsNode self.old.tables (scope_of s.stack) start end kind.entry item
-            → Adds total result self.new (with_item self.old.nodes_limit s at item) }
-        ensures kept { KeepsOpen self.old self.new }
+        ensures { AddsNode self.old self.new result start end kind.entry }
     {
         self.flush(alloc)?;
         self.room()?;
@@ -650,15 +637,7 @@ impl<'input> Builder<'input> {
         tag: &StartTag<'input>,
     ) -> Result<(), Failure>
         requires within { tag.now.name_start ≤ length text.now }
-        ensures value { (total at openings_left : ℕ) (s : State) (t : Tag)
-            → Represents total s.stack s.done self.old → s.at ≡ start
-            → IsOpening self.old.tables (scope_of s.stack) start tag.now t
-            → Adds total result self.new
-            (opened_by self.old.nodes_limit s t false openings_left at) }
-        ensures kept { KeepsTables self.old self.new }
-        ensures opened { OnOk result ((x : OpenElement)
-            × (self.new.opened.items ≡ self.old.opened.items ++ x ∷ [])
-            × IsOpened text.now tag.now x) }
+        ensures { OpensElement self.old self.new result text.now start tag.now }
     {
         self.flush(alloc)?;
         self.room()?;
@@ -767,15 +746,9 @@ impl<'input> Builder<'input> {
     /// A text that is a slice of the source, where no text may go on and there is room for its row.
     #[inline(always)]
     pub fn put_text(&mut self, start: usize, end: usize, text: &'input str)
-        requires ready { IsReady 1 self.old }
-        requires apart { self.old.pending ≡ pending.None }
-        requires start { start < 2 ^ 32 }
-        requires end { end < 2 ^ 32 }
-        ensures value { (total at : ℕ) (s : State) → Represents total s.stack s.done self.old
-            → Adds total (Ok tt) self.new
-            (with_item self.old.nodes_limit s at (Text start end text.now true)) }
+        requires { MayPutText self.old start end }
+        ensures adds { AddsText self.old self.new (Ok tt) (Text start end text.now true) }
         ensures ready { (n : ℕ) → IsReady (n + 1) self.old → IsReady n self.new }
-        ensures kept { KeepsOpen self.old self.new }
     {
         let row = self.row(start, end, NodeKind::Text(StringStorage::Borrowed(text)));
         self.nodes.put(row);
@@ -785,10 +758,7 @@ impl<'input> Builder<'input> {
     /// The same of a text of these bytes that counts as owned. Answers false where memory is refused, and then all is as before.
     #[inline(always)]
     pub fn put_owned(&mut self, alloc: Global, start: usize, end: usize, changed: &str) -> bool
-        requires ready { IsReady 1 self.old }
-        requires apart { self.old.pending ≡ pending.None }
-        requires start { start < 2 ^ 32 }
-        requires end { end < 2 ^ 32 }
+        requires { MayPutText self.old start end }
         ensures value { result ≡ true → (total at : ℕ) (s : State)
             → Represents total s.stack s.done self.old → Adds total (Ok tt) self.new
             (with_item self.old.nodes_limit s at (Text start end changed.now false)) }
@@ -808,17 +778,11 @@ impl<'input> Builder<'input> {
     /// row this is.
     #[inline(always)]
     pub fn put_leaf(&mut self, parent: u32, start: usize, end: usize, kind: NodeKind<'input>)
-        requires ready { IsReady 1 self.old }
-        requires parent { parent ≡ last_row (opened_in self.old.tables self.old.opened.items) }
-        requires start { start < 2 ^ 32 }
+        requires row { MayPutRow self.old parent start }
         requires end { end < 2 ^ 32 }
         requires small { IsSmallKind kind }
-        ensures value { (total at : ℕ) (s : State) (item : Item)
-            → Represents total s.stack s.done self.old
-            → IsNode self.old.tables (scope_of s.stack) start end kind.entry item
-            → Adds total (Ok tt) self.new (with_item self.old.nodes_limit s at item) }
+        ensures adds { AddsNode self.old self.new (Ok tt) start end kind.entry }
         ensures ready { (n : ℕ) → IsReady (n + 1) self.old → IsReady n self.new }
-        ensures kept { KeepsOpen self.old self.new }
     {
         self.settle();
         let row = self.row_below(parent, start, end, kind);
@@ -828,21 +792,11 @@ impl<'input> Builder<'input> {
     /// An element opens at `start`, where there is room for it, below the innermost open one, whose row this is.
     #[inline(always)]
     pub fn put_open(&mut self, parent: u32, text: &'input str, start: usize, tag: &StartTag<'input>)
-        requires ready { IsReady 1 self.old }
-        requires parent { parent ≡ last_row (opened_in self.old.tables self.old.opened.items) }
+        requires row { MayPutRow self.old parent start }
         requires depth { vec_len self.old.opened < vec_capacity self.old.opened }
-        requires start { start < 2 ^ 32 }
         requires within { tag.now.name_start ≤ length text.now }
-        ensures value { (total at openings_left : ℕ) (s : State) (t : Tag)
-            → Represents total s.stack s.done self.old → s.at ≡ start
-            → IsOpening self.old.tables (scope_of s.stack) start tag.now t
-            → Adds total (Ok tt) self.new
-            (opened_by self.old.nodes_limit s t false openings_left at) }
+        ensures adds { OpensElement self.old self.new (Ok tt) text.now start tag.now }
         ensures ready { (n : ℕ) → IsReady (n + 1) self.old → IsReady n self.new }
-        ensures kept { KeepsTables self.old self.new }
-        ensures opened { (x : OpenElement)
-            × (self.new.opened.items ≡ self.old.opened.items ++ x ∷ [])
-            × IsOpened text.now tag.now x }
     {
         self.settle();
         let row = self.nodes.len() as u32;

@@ -1,9 +1,7 @@
 //! The constructs that have marks, read one by one into the builder: comments, processing instructions, CDATA sections and tags
 //! (XML 1.0 sections 2.5, 2.6, 2.7, 3.1).
 
-ghost use Rattle.std.specs.Prelude.{◌≡◌, ◌≢◌, ◌<◌, ◌+◌, ℕ, List, OnOk, length, slice_index, true};
-ghost use Rattle.rox_grammar.specs.Search.{stands};
-ghost use Rattle.rox_grammar.specs.FixedTexts.{word_text};
+ghost use Rattle.std.specs.Prelude.{◌≡◌, ◌≢◌, ◌<◌, ◌+◌, ℕ, List, OnOk, slice_index};
 ghost use Rattle.rox_grammar.specs.declared.fault.Word.TheVariants as word;
 ghost use Rattle.rox_reading.specs.State.{State};
 ghost use Rattle.rox_reading.specs.Machine as machine;
@@ -15,8 +13,9 @@ ghost use Rattle.rox_grammar.specs.State.{Open};
 ghost use Rattle.rox_grammar.specs.Entities.{Entity};
 ghost use Rattle.rox_reading.specs.Refusals.{lifted};
 ghost use Rattle.rox_values.specs.Contexts.{context_of};
-ghost use Rattle.rox_build.specs.BuilderState.{GoesOn, IsConsistent, IsInState, ScansTo, Represents};
+ghost use Rattle.rox_build.specs.BuilderState.{GoesOn, IsInState, ScansTo, Represents};
 ghost use Rattle.rox_build.specs.Outcomes.{ParsesAs, ScansAs};
+ghost use Rattle.rox_build.specs.Readiness.{MayRead, MayReadMarkup, MayReadTag};
 
 use crate::builder::Builder;
 use crate::tag::{TagContext, start_tag};
@@ -38,8 +37,7 @@ pub fn comment<'input>(
     cursor: &mut Cursor<'input>,
     builder: &mut Builder<'input>,
 ) -> Result<(), Failure>
-    requires here { stands (word_text word.CommentStart) cursor.old.text.now cursor.old.pos ≡ true }
-    requires fine { IsConsistent builder.old.tables builder.old.opened.items }
+    requires { MayRead word.CommentStart cursor.old builder.old }
     ensures { ScansAs (λ limit src s. lifted (machine.comment_step limit src s)) cursor.old
         cursor.new builder.old builder.new result }
 {
@@ -59,8 +57,7 @@ pub fn instruction<'input>(
     cursor: &mut Cursor<'input>,
     builder: &mut Builder<'input>,
 ) -> Result<(), Failure>
-    requires here { stands (word_text word.PIStart) cursor.old.text.now cursor.old.pos ≡ true }
-    requires fine { IsConsistent builder.old.tables builder.old.opened.items }
+    requires { MayRead word.PIStart cursor.old builder.old }
     ensures { ScansAs (λ limit src s. lifted (machine.instruction_step limit src s)) cursor.old
         cursor.new builder.old builder.new result }
 {
@@ -83,8 +80,7 @@ fn cdata<'input>(
     cursor: &mut Cursor<'input>,
     builder: &mut Builder<'input>,
 ) -> Result<(), Failure>
-    requires here { stands (word_text word.CDataStart) cursor.old.text.now cursor.old.pos ≡ true }
-    requires fine { IsConsistent builder.old.tables builder.old.opened.items }
+    requires { MayRead word.CDataStart cursor.old builder.old }
     ensures { ScansAs (λ limit src s. lifted (machine.cdata_step limit src s)) cursor.old
         cursor.new builder.old builder.new result }
 {
@@ -101,10 +97,8 @@ fn comment_or_section<'input>(
     cursor: &mut Cursor<'input>,
     builder: &mut Builder<'input>,
 ) -> Result<(), Failure>
-    requires there { cursor.old.pos + 1 < length cursor.old.text.now }
-    requires here { slice_index cursor.old.text.now cursor.old.pos ≡ 60 }
+    requires markup { MayReadMarkup cursor.old builder.old }
     requires next { slice_index cursor.old.text.now (cursor.old.pos + 1) ≡ 33 }
-    requires fine { IsConsistent builder.old.tables builder.old.opened.items }
     ensures value { (context : machine.Context) (end : ℕ) (s : State)
         → IsInState context.limit end s cursor.old builder.old
         → ScansTo context.limit end result cursor.new builder.new
@@ -141,9 +135,7 @@ pub fn element<'input>(
     builder: &mut Builder<'input>,
     context: Context<'_, 'input>,
 ) -> Result<(), ParseError<'input>>
-    requires there { cursor.old.pos < length cursor.old.text.now }
-    requires here { slice_index cursor.old.text.now cursor.old.pos ≡ 60 }
-    requires fine { IsConsistent builder.old.tables builder.old.opened.items }
+    requires { MayReadTag cursor.old builder.old }
     ensures { ParsesAs machine.tag_step context.entry cursor.old cursor.new builder.old builder.new
         result }
 {
@@ -205,8 +197,7 @@ pub fn end_tag<'input>(
     builder: &mut Builder<'input>,
     context: Context<'_, 'input>,
 ) -> Result<(), Failure>
-    requires here { stands (word_text word.EndTagStart) cursor.old.text.now cursor.old.pos ≡ true }
-    requires fine { IsConsistent builder.old.tables builder.old.opened.items }
+    requires { MayRead word.EndTagStart cursor.old builder.old }
     ensures value { (limit end : ℕ) (es : List Entity) (s : State)
         → IsInState limit end s cursor.old builder.old
         → ScansTo limit end result cursor.new builder.new
@@ -239,10 +230,8 @@ pub fn markup<'input>(
     builder: &mut Builder<'input>,
     context: Context<'_, 'input>,
 ) -> Result<(), ParseError<'input>>
-    requires there { cursor.old.pos + 1 < length cursor.old.text.now }
-    requires here { slice_index cursor.old.text.now cursor.old.pos ≡ 60 }
+    requires markup { MayReadMarkup cursor.old builder.old }
     requires no_end_tag { slice_index cursor.old.text.now (cursor.old.pos + 1) ≢ 47 }
-    requires fine { IsConsistent builder.old.tables builder.old.opened.items }
     ensures { ParsesAs machine.step context.entry cursor.old cursor.new builder.old builder.new
         result }
 {

@@ -15,6 +15,7 @@ ghost use Rattle.rox_values.specs.Contexts.{context_of};
 ghost use Rattle.rox_build.specs.BuilderState.{GoesOn, IsConsistent, IsInState, ParsesTo, HoldsState, ParsesToHeld, GivesPart, Adds, Represents};
 ghost use Rattle.rox_build.specs.DataParts.{GivesDataPart, next_part};
 ghost use Rattle.rox_build.specs.Outcomes.{MayStep, ParsesAs};
+ghost use Rattle.rox_build.specs.Readiness.{MayReadTo};
 
 use crate::builder::Builder;
 use crate::constructs::{end_tag, markup};
@@ -117,8 +118,7 @@ fn data_parts<'input>(
     start: usize,
     stop: usize,
 ) -> Result<(), ParseError<'input>>
-    requires stop { IsCharBoundary cursor.old.text.now stop }
-    requires fine { IsConsistent builder.old.tables builder.old.opened.items }
+    requires { MayReadTo stop cursor.old builder.old }
     ensures { ParsesAs (λ k src. machine.data_parts k (length src) src start stop) context.entry
         cursor.old cursor.new builder.old builder.new result }
 {
@@ -171,8 +171,7 @@ fn other_part_piece<'input>(
     start: usize,
     stop: usize,
 ) -> Result<Option<Cursor<'input>>, Failure>
-    requires stop { IsCharBoundary cursor.old.text.now stop }
-    requires fine { IsConsistent builder.old.tables builder.old.opened.items }
+    requires { MayReadTo stop cursor.old builder.old }
     ensures value { (limit end : ℕ) (es : List Entity) (s : State)
         → AreDeclared es context.entry.entities.now → IsInState limit end s cursor.old builder.old
         → GivesDataPart limit end result cursor.new builder.new
@@ -198,8 +197,7 @@ fn part_piece<'input>(
     start: usize,
     stop: usize,
 ) -> Result<Option<Cursor<'input>>, Failure>
-    requires stop { IsCharBoundary cursor.old.text.now stop }
-    requires fine { IsConsistent builder.old.tables builder.old.opened.items }
+    requires { MayReadTo stop cursor.old builder.old }
     ensures value { (limit end : ℕ) (es : List Entity) (s : State)
         → AreDeclared es context.entry.entities.now → IsInState limit end s cursor.old builder.old
         → GivesDataPart limit end result cursor.new builder.new

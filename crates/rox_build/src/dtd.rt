@@ -12,7 +12,9 @@ ghost use Rattle.rox_build.specs.Requests.{Reply, Allows, MayAsk};
 ghost use Rattle.rox_scan.specs.DoctypeViews.{definition_view, request_view};
 ghost use Rattle.rox_build.specs.Asking.{AskOutcome, IsDefined, IsEntityRead, IsSubsetSoFar, IsDoctypeRead, ItemOutcome};
 ghost use Rattle.rox_values.specs.DeclaredEntities.{AreDeclared};
-ghost use Rattle.rox_build.specs.BuilderState.{GoesOn, IsConsistent, IsInState};
+ghost use Rattle.rox_build.specs.BuilderState.{GoesOn, IsInState};
+ghost use Rattle.rox_build.specs.Outcomes.{MayStep};
+ghost use Rattle.rox_build.specs.Readiness.{MayRead, MayReadAsking};
 
 use crate::builder::Builder;
 use crate::constructs::{comment, instruction};
@@ -101,9 +103,8 @@ fn item<'input, R: EntityResolver<'input>>(
     resolver: &Option<R>,
     start: usize,
 ) -> Result<bool, ParseError<'input>>
-    requires inside { cursor.old.pos < length cursor.old.text.now }
+    requires here { MayStep cursor.old builder.old }
     requires may { MayAsk R.can_resolve resolver.now }
-    requires fine { IsConsistent builder.old.tables builder.old.opened.items }
     ensures value { (limit end n m : ℕ) (run : List Reply → Asks Dtd) → n ≡ suc m
         → IsSubsetSoFar limit end start n cursor.old.text.now
         (Allows R.allows resolver.now) run cursor.old builder.old entities.old
@@ -145,8 +146,7 @@ fn subset<'input, R: EntityResolver<'input>>(
     resolver: &Option<R>,
     start: usize,
 ) -> Result<(), ParseError<'input>>
-    requires may { MayAsk R.can_resolve resolver.now }
-    requires fine { IsConsistent builder.old.tables builder.old.opened.items }
+    requires { MayReadAsking R.can_resolve resolver.now builder.old }
     ensures value { (limit end : ℕ) (d : Dtd) → IsInState limit end d.state cursor.old builder.old
         → AreDeclared d.entities entities.old
         → AskOutcome (Allows R.allows resolver.now)
@@ -176,9 +176,8 @@ pub fn document_type<'input, R: EntityResolver<'input>>(
     entities: &mut Entities<'input>,
     resolver: &Option<R>,
 ) -> Result<(), ParseError<'input>>
-    requires here { stands (word_text word.DoctypeStart) cursor.old.text.now cursor.old.pos ≡ true }
+    requires start { MayRead word.DoctypeStart cursor.old builder.old }
     requires may { MayAsk R.can_resolve resolver.now }
-    requires fine { IsConsistent builder.old.tables builder.old.opened.items }
     ensures value { (limit end : ℕ) (d : Dtd) → IsInState limit end d.state cursor.old builder.old
         → AreDeclared d.entities entities.old
         → AskOutcome (Allows R.allows resolver.now)

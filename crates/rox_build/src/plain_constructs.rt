@@ -15,7 +15,9 @@ ghost use Rattle.rox_reading.specs.State.{State};
 ghost use Rattle.rox_build.specs.BuilderState.{GoesOn, IsConsistent, IsInState, IsReady, KeepsState, ScansTo};
 ghost use Rattle.rox_build.specs.PlainSteps.{Reads};
 ghost use Rattle.rox_build.specs.PendingText.{waiting};
+ghost use Rattle.rox_build.specs.Outcomes.{MayStep, ReadsAt};
 ghost use Rattle.rox_build.specs.PlainTag.{EndsNear};
+ghost use Rattle.rox_build.specs.Readiness.{HasRoom};
 ghost use Rattle.rox_scan.specs.ByteSets.{EndsSet, is_part_byte};
 ghost use Rattle.rox_scan.specs.ScanResults.{Finds};
 ghost use Rattle.rox_scan.specs.declared.cursor.Cursor.{Cursor};
@@ -182,9 +184,7 @@ fn bare_element<'input>(
     requires here { slice_index cursor.old.text.now cursor.old.pos ≡ 60 }
     requires near { EndsSet is_part_byte cursor.old.text.now (cursor.old.pos + 1) near }
     requires letter { 63 < slice_index cursor.old.text.now (cursor.old.pos + 1) }
-    requires short { length cursor.old.text.now < 2 ^ 32 }
-    requires ready { IsReady 1 builder.old }
-    requires fine { IsConsistent builder.old.tables builder.old.opened.items }
+    requires room { HasRoom cursor.old.text.now builder.old }
     ensures value { result ≡ true → (context : machine.Context) (end : ℕ) (s : State)
         → IsInState context.limit end s cursor.old builder.old
         → ScansTo context.limit end (Ok tt) cursor.new builder.new
@@ -231,19 +231,8 @@ fn other_element<'input>(
     requires start { IsCharBoundary text.now start }
     requires part { Finds text.now (start + 1) part
         (run_end is_part_char text.now (start + 1)) }
-    requires short { length text.now < 2 ^ 32 }
-    requires ready { IsReady 1 builder.old }
-    requires fine { IsConsistent builder.old.tables builder.old.opened.items }
-    ensures value { result < 2 ^ 32 → (context : machine.Context) (end : ℕ) (s : State)
-        (here behind : Cursor) → here.pos ≡ start → behind.pos ≡ result
-        → IsInState context.limit end s here builder.old
-        → ScansTo context.limit end (Ok tt) behind builder.new
-        (machine.tag_step context text.entry.now s) }
-    ensures other { 2 ^ 32 ≤ result → KeepsState builder.old builder.new }
-    ensures cut { result < 2 ^ 32 → IsCharBoundary text.entry.now result }
-    ensures ready { result < 2 ^ 32 → (n : ℕ) → IsReady (n + 1) builder.old
-        → IsReady n builder.new }
-    ensures fine { IsConsistent builder.new.tables builder.new.opened.items }
+    requires room { HasRoom text.now builder.old }
+    ensures { ReadsAt machine.tag_step text.entry.now start result builder.old builder.new }
 {
     if !builder.has_room_to_open() {
         return NOT_READ;
@@ -287,19 +276,8 @@ fn plain_element<'input>(
     requires here { slice_index text.now start ≡ 60 }
     requires start { IsCharBoundary text.now start }
     requires near { EndsNear text.now (start + 1) near }
-    requires short { length text.now < 2 ^ 32 }
-    requires ready { IsReady 1 builder.old }
-    requires fine { IsConsistent builder.old.tables builder.old.opened.items }
-    ensures value { result < 2 ^ 32 → (context : machine.Context) (end : ℕ) (s : State)
-        (here behind : Cursor) → here.pos ≡ start → behind.pos ≡ result
-        → IsInState context.limit end s here builder.old
-        → ScansTo context.limit end (Ok tt) behind builder.new
-        (machine.tag_step context text.entry.now s) }
-    ensures other { 2 ^ 32 ≤ result → KeepsState builder.old builder.new }
-    ensures cut { result < 2 ^ 32 → IsCharBoundary text.entry.now result }
-    ensures ready { result < 2 ^ 32 → (n : ℕ) → IsReady (n + 1) builder.old
-        → IsReady n builder.new }
-    ensures fine { IsConsistent builder.new.tables builder.new.opened.items }
+    requires room { HasRoom text.now builder.old }
+    ensures { ReadsAt machine.tag_step text.entry.now start result builder.old builder.new }
 {
     if !builder.has_room_to_open() {
         return NOT_READ;
@@ -338,9 +316,7 @@ fn plain_element<'input>(
 #[inline(always)]
 fn plain_comment<'input>(cursor: &mut Cursor<'input>, builder: &mut Builder<'input>) -> bool
     requires here { stands (word_text word.CommentStart) cursor.old.text.now cursor.old.pos ≡ true }
-    requires short { length cursor.old.text.now < 2 ^ 32 }
-    requires ready { IsReady 1 builder.old }
-    requires fine { IsConsistent builder.old.tables builder.old.opened.items }
+    requires room { HasRoom cursor.old.text.now builder.old }
     ensures value { result ≡ true → (limit end : ℕ) (s : State)
         → IsInState limit end s cursor.old builder.old
         → ScansTo limit end (Ok tt) cursor.new builder.new
@@ -367,19 +343,9 @@ fn plain_comment<'input>(cursor: &mut Cursor<'input>, builder: &mut Builder<'inp
 #[tactic(auto, unfolding(rox_reading::specs::Machine::step))]
 fn plain_section<'input>(text: &'input str, start: usize, builder: &mut Builder<'input>) -> usize
     requires cut { IsCharBoundary text.now start }
-    requires short { length text.now < 2 ^ 32 }
-    requires ready { IsReady 1 builder.old }
-    requires fine { IsConsistent builder.old.tables builder.old.opened.items }
-    ensures value { result < 2 ^ 32 → (context : machine.Context) (end : ℕ) (s : State)
-        (here behind : Cursor) → here.pos ≡ start → behind.pos ≡ result
-        → IsInState context.limit end s here builder.old
-        → ScansTo context.limit end (Ok tt) behind builder.new
-        (machine.step context text.entry.now s) }
+    requires room { HasRoom text.now builder.old }
+    ensures reads { ReadsAt machine.step text.entry.now start result builder.old builder.new }
     ensures other { 2 ^ 32 ≤ result → builder.new ≡ builder.old }
-    ensures cut { result < 2 ^ 32 → IsCharBoundary text.entry.now result }
-    ensures ready { result < 2 ^ 32 → (n : ℕ) → IsReady (n + 1) builder.old
-        → IsReady n builder.new }
-    ensures fine { IsConsistent builder.new.tables builder.new.opened.items }
 {
     let mut cursor = Cursor { text, pos: start };
     if !cursor.starts(Word::CommentStart) {
@@ -400,9 +366,7 @@ fn plain_markup<'input>(
     open_around: usize,
 ) -> bool
     requires here { slice_index cursor.old.text.now cursor.old.pos ≡ 60 }
-    requires short { length cursor.old.text.now < 2 ^ 32 }
-    requires ready { IsReady 1 builder.old }
-    requires fine { IsConsistent builder.old.tables builder.old.opened.items }
+    requires room { HasRoom cursor.old.text.now builder.old }
     ensures value { result ≡ true → (context : machine.Context) (end : ℕ) (s : State)
         → context.open_around ≡ open_around → IsInState context.limit end s cursor.old builder.old
         → ScansTo context.limit end (Ok tt) cursor.new builder.new
@@ -507,8 +471,7 @@ pub fn plain_step<'input>(
     builder: &mut Builder<'input>,
     open_around: usize,
 ) -> bool
-    requires there { cursor.old.pos < length cursor.old.text.now }
-    requires fine { IsConsistent builder.old.tables builder.old.opened.items }
+    requires { MayStep cursor.old builder.old }
     ensures value { result ≡ true → (context : machine.Context) (end : ℕ) (s : State)
         → context.open_around ≡ open_around → IsInState context.limit end s cursor.old builder.old
         → ScansTo context.limit end (Ok tt) cursor.new builder.new

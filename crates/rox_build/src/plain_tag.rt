@@ -2,13 +2,13 @@
 //! refer to no entities but the predefined ones (XML 1.0 sections 3.1 and 4.6). Nothing fails here: a tag that is not plain, or finds
 //! no room, is left to the general step, which reads it from its `<`.
 
-ghost use Rattle.std.specs.Prelude.{◌≡◌, ◌<◌, ◌≤◌, ◌+◌, ◌-◌, ◌^◌, ◌++◌, ◌==◌, ◌||◌, List, Ok, IfSome, IfNone, drop, length, map, slice_index, slice_range, true, false, []};
+ghost use Rattle.std.specs.Prelude.{◌≡◌, ◌<◌, ◌≤◌, ◌+◌, ◌-◌, ◌^◌, ◌==◌, ◌||◌, List, Ok, IfSome, IfNone, drop, length, map, slice_index, slice_range, true, false, []};
 ghost use Rattle.std.specs.Str.{IsCharBoundary};
 ghost use Rattle.rox_grammar.specs.Chars.{is_name_start, is_part_char, is_space};
 ghost use Rattle.rox_grammar.specs.Runs.{run_end, begins};
 ghost use Rattle.rox_grammar.specs.Failures.{name_view};
 ghost use Rattle.rox_reading.specs.Lexical.{qname_at};
-ghost use Rattle.rox_scan.specs.ByteSets.{EndsSet, is_part_byte, is_value_byte};
+ghost use Rattle.rox_scan.specs.ByteSets.{EndsSet, is_part_byte};
 ghost use Rattle.rox_scan.specs.ScanResults.{Finds};
 ghost use Rattle.rox_scan.specs.Windows.{Sees};
 ghost use Rattle.rox_reading.specs.Values.{is_special};
@@ -17,12 +17,12 @@ ghost use Rattle.rox_grammar.specs.Tree as tree;
 ghost use Rattle.rox_grammar.specs.WellNamed.{is_known, may_name};
 ghost use Rattle.rox_grammar.specs.Written.{NamespaceDecl};
 ghost use Rattle.rox_tables.specs.Bindings.{FindsBinding};
-ghost use Rattle.rox_tables.specs.Rows.{AttributeRow, NamespaceWithin, namespace_view, attribute_rows, attribute_uri};
+ghost use Rattle.rox_tables.specs.Rows.{NamespaceWithin, namespace_view, attribute_uri};
 ghost use Rattle.std.specs.List.{AllByRecursion};
 ghost use Rattle.rox_tables.specs.SeenNames.{AreSeen};
 ghost use Rattle.rox_build.specs.ElementRow.{scope_in_tables};
 ghost use Rattle.rox_build.specs.BuilderState.{IsNamespaceOf};
-ghost use Rattle.rox_build.specs.PlainTag.{EndsNear, MayOpenBelow, HasPlainValue, HasScope, few_in, IsPlainName, IsValueStart, IsPlainAttribute, IsNearAttribute, IsAttributeName, HoldsTag, MayPut, PutsPlain, ArePlainAttributes, IsPlainTag};
+ghost use Rattle.rox_build.specs.PlainTag.{BeginsValue, EndsNear, HasPlainValue, HasQuoteBefore, HasScope, HoldsTag, IsAttributeName, IsBareTag, IsBeforeLast, IsFirstPart, IsNearAttribute, IsPlainAttribute, IsPlainName, IsQuoteAt, IsQuoteBehindEquals, IsValueStart, MayOpenAt, MayOpenBelow, MayPut, MayReadAttributes, PutsPlain, ReadsAttributes, ReadsTag, SeesValue, few_in};
 
 use crate::builder::OpenElement;
 use crate::spaced_value::{spaced_value, spaced_value_ends};
@@ -84,9 +84,7 @@ fn plain_name<'input>(text: &'input str, start: usize, colon: usize) -> Option<P
 #[inline(always)]
 #[tactic(auto, unfolding(rox_reading::specs::Lexical::qname_at))]
 fn second_part<'input>(text: &'input str, start: usize, colon: usize) -> Option<PlainName<'input>>
-    requires start { IsCharBoundary text.now start }
-    requires part { Finds text.now start colon (run_end is_part_char text.now start) }
-    requires begins { begins is_name_start text.now start ≡ true }
+    requires first { IsFirstPart text.now start colon }
     requires here { slice_index text.now colon ≡ 58 }
     ensures { IfSome result (λ n. IsPlainName text.entry.now start n) }
 {
@@ -106,8 +104,7 @@ fn second_part<'input>(text: &'input str, start: usize, colon: usize) -> Option<
 /// bytes too.
 #[inline(never)]
 fn verbatim_value_end(text: &str, start: usize, quote: u8) -> usize
-    requires cut { IsCharBoundary text.now start }
-    requires quote { (quote == 39 || quote == 34) ≡ true }
+    requires { BeginsValue text.now start quote }
     ensures { 0 < result → HasPlainValue text.now start quote result
         (slice_range text.now start result) }
 {
@@ -123,9 +120,7 @@ fn verbatim_value_end(text: &str, start: usize, quote: u8) -> usize
 #[inline(always)]
 #[tactic(auto, using(rox_scan::proofs::NearLemmas::near_plain, rox_scan::proofs::NearLemmas::value_cut))]
 fn plain_value_end(text: &str, start: usize, quote: u8, near: usize) -> Option<usize>
-    requires cut { IsCharBoundary text.now start }
-    requires near { EndsSet is_value_byte text.now start near }
-    requires quote { (quote == 39 || quote == 34) ≡ true }
+    requires { SeesValue text.now start quote near }
     ensures { IfSome result (λ j. HasPlainValue text.now start quote j
         (slice_range text.now start j)) }
 {
@@ -146,10 +141,8 @@ fn plain_value_end(text: &str, start: usize, quote: u8, near: usize) -> Option<u
 #[inline(always)]
 #[tactic(auto, using(rox_scan::proofs::NearLemmas::near_plain, rox_scan::proofs::NearLemmas::value_cut))]
 fn closes_value(text: &str, start: usize, quote: u8, near: usize) -> bool
-    requires cut { IsCharBoundary text.now start }
-    requires near { EndsSet is_value_byte text.now start near }
+    requires sees { SeesValue text.now start quote near }
     requires within { near < length text.now }
-    requires quote { (quote == 39 || quote == 34) ≡ true }
     ensures { result ≡ true → HasPlainValue text.now start quote near
         (slice_range text.now start near) }
 {
@@ -159,9 +152,7 @@ fn closes_value(text: &str, start: usize, quote: u8, near: usize) -> bool
 /// The quote that stands at `at`, or 0.
 #[inline(always)]
 fn quote_here(text: &str, at: usize) -> u8
-    ensures some { 0 < result → (slice_index text.now at ≡ result)
-        × ((result == 39 || result == 34) ≡ true) }
-    ensures within { 0 < result → at < length text.now }
+    ensures { 0 < result → IsQuoteAt text.now at result }
 {
     let bytes = text.as_bytes();
     if at >= bytes.len() {
@@ -197,14 +188,8 @@ fn value_start(text: &str, at: usize) -> usize
 /// The quote behind which a value begins at `start`.
 #[inline(always)]
 fn quote_before(text: &str, start: usize) -> u8
-    requires some { 0 < start }
-    requires within { start ≤ length text.now }
-    requires quote { (slice_index text.now (start - 1) == 39
-        || slice_index text.now (start - 1) == 34) ≡ true }
-    ensures here { slice_index text.now (start - 1) ≡ result }
-    ensures quote { (result == 39 || result == 34) ≡ true }
-    ensures some { 0 < result }
-    ensures ascii { result < 128 }
+    requires { HasQuoteBefore text.now start }
+    ensures { IsQuoteAt text.now (start - 1) result }
 {
     text.as_bytes()[start - 1]
 }
@@ -386,10 +371,7 @@ fn put_other_attribute<'input>(
 #[inline(always)]
 fn quote_behind_equals(text: &str, at: usize) -> u8
     requires { at ≤ length text.now }
-    ensures equals { 0 < result → slice_index text.now at ≡ 61 }
-    ensures some { 0 < result → (slice_index text.now (at + 1) ≡ result)
-        × ((result == 39 || result == 34) ≡ true) }
-    ensures within { 0 < result → at + 1 < length text.now }
+    ensures { 0 < result → IsQuoteBehindEquals text.now at result }
 {
     let bytes = text.as_bytes();
     if at + 1 >= bytes.len() || bytes[at] != b'=' {
@@ -402,9 +384,7 @@ fn quote_behind_equals(text: &str, at: usize) -> u8
 #[inline(always)]
 fn seen_quote(text: &str, at: usize) -> u8
     requires { at + 1 < length text.now }
-    ensures equals { 0 < result → slice_index text.now at ≡ 61 }
-    ensures some { 0 < result → (slice_index text.now (at + 1) ≡ result)
-        × ((result == 39 || result == 34) ≡ true) }
+    ensures { 0 < result → IsQuoteBehindEquals text.now at result }
 {
     let bytes = text.as_bytes();
     let quote = bytes[at + 1];
@@ -464,9 +444,7 @@ fn plain_value<'input>(
     quote: u8,
     near: usize,
 ) -> Option<PlainValue<'input>>
-    requires cut { IsCharBoundary text.now start }
-    requires near { EndsSet is_value_byte text.now start near }
-    requires quote { (quote == 39 || quote == 34) ≡ true }
+    requires { SeesValue text.now start quote near }
     ensures { IfSome result (λ v. HasPlainValue text.entry.now start quote v.end v.text.now) }
 {
     let end = plain_value_end(text, start, quote, near)?;
@@ -486,8 +464,7 @@ fn seen_value<'input>(
 ) -> Option<PlainValue<'input>>
     requires sees { Sees text.now window }
     requires few { before ≤ 16 }
-    requires cut { IsCharBoundary text.now (window.at + before) }
-    requires quote { (quote == 39 || quote == 34) ≡ true }
+    requires begins { BeginsValue text.now (window.at + before) quote }
     ensures { IfSome result
         (λ v. HasPlainValue text.entry.now (window.at + before) quote v.end v.text.now) }
 {
@@ -663,9 +640,7 @@ fn put_far_attribute<'input>(
 #[inline(always)]
 #[tactic(auto, unfolding(rox_reading::specs::Lexical::qname_at))]
 fn whole_name<'input>(text: &'input str, start: usize, part: usize) -> PlainName<'input>
-    requires start { IsCharBoundary text.now start }
-    requires part { Finds text.now start part (run_end is_part_char text.now start) }
-    requires begins { begins is_name_start text.now start ≡ true }
+    requires first { IsFirstPart text.now start part }
     requires here { slice_index text.now part ≡ 61 }
     ensures value { qname_at text.entry.now start ≡ Ok (name_view result.name, result.end) }
     ensures local { start + length result.name.local.now ≤ result.end }
@@ -745,8 +720,7 @@ fn empty_end(text: &str, at: usize) -> Option<TagEnd>
 /// Where the white space that begins at `at` ends, before the last byte. Most often it is one space, or there is none.
 #[inline(always)]
 fn near_space_end(text: &str, at: usize) -> usize
-    requires cut { IsCharBoundary text.now at }
-    requires within { at + 1 < length text.now }
+    requires { IsBeforeLast text.now at }
     ensures { Finds text.now at result (run_end is_space text.now at) }
 {
     let bytes = text.as_bytes();
@@ -769,8 +743,7 @@ struct NextItem {
 /// What stands behind the white space that begins at `at`, before the last byte. A name begins with no byte up to `>`.
 #[inline(always)]
 fn next_item(text: &str, at: usize) -> NextItem
-    requires cut { IsCharBoundary text.now at }
-    requires within { at + 1 < length text.now }
+    requires { IsBeforeLast text.now at }
     ensures end { Finds text.now at result.at (run_end is_space text.now at) }
     ensures begins { result.may_begin ≡ true
         → (at < result.at) × (62 < slice_index text.now result.at) }
@@ -820,19 +793,8 @@ fn some_attributes<'input>(
     scope: u32,
     seen: &mut SeenNames,
 ) -> Option<TagEnd>
-    requires cut { IsCharBoundary text.now start }
-    requires short { length text.now < 2 ^ 32 }
-    requires scope { HasScope elements.old scope }
-    ensures read { IfSome result
-        (λ e. ArePlainAttributes (map namespace_view elements.old.namespaces.items.items)
-        (few_in elements.old scope) elements.old.present text.entry.now start
-        (attribute_rows elements.old.attributes) e.at e.empty
-        (attribute_rows elements.new.attributes)) }
-    ensures cut { IfSome result (λ e. IsCharBoundary text.entry.now e.at) }
-    ensures grown { (more : List AttributeRow)
-        × (elements.new ≡ record elements.old { attributes = elements.new.attributes })
-        × (attribute_rows elements.new.attributes ≡ attribute_rows elements.old.attributes
-        ++ more) }
+    requires { MayReadAttributes text.now start elements.old scope }
+    ensures { ReadsAttributes elements.old elements.new scope text.entry.now start result }
 {
     seen.begin(elements.attributes.len());
     let mut at = start;
@@ -855,19 +817,8 @@ fn plain_attributes<'input>(
     scope: u32,
     seen: &mut SeenNames,
 ) -> Option<TagEnd>
-    requires cut { IsCharBoundary text.now start }
-    requires short { length text.now < 2 ^ 32 }
-    requires scope { HasScope elements.old scope }
-    ensures read { IfSome result
-        (λ e. ArePlainAttributes (map namespace_view elements.old.namespaces.items.items)
-        (few_in elements.old scope) elements.old.present text.entry.now start
-        (attribute_rows elements.old.attributes) e.at e.empty
-        (attribute_rows elements.new.attributes)) }
-    ensures cut { IfSome result (λ e. IsCharBoundary text.entry.now e.at) }
-    ensures grown { (more : List AttributeRow)
-        × (elements.new ≡ record elements.old { attributes = elements.new.attributes })
-        × (attribute_rows elements.new.attributes ≡ attribute_rows elements.old.attributes
-        ++ more) }
+    requires { MayReadAttributes text.now start elements.old scope }
+    ensures { ReadsAttributes elements.old elements.new scope text.entry.now start result }
 {
     let bytes = text.as_bytes();
     if start < bytes.len() && bytes[start] > b' ' {
@@ -911,12 +862,8 @@ pub fn bare_start_tag<'input>(
     requires near { EndsNear text.now (start + 1) near }
     requires closed { slice_index text.now near ≡ 62 }
     requires below { MayOpenBelow elements.now parent.now }
-    ensures read { IfSome result
-        (λ t. IsPlainTag elements.entry.now elements.entry.now
-        (scope_in_tables elements.entry.now parent.entry.now.scope)
-        text.entry.now start t.end t.tag) }
-    ensures openings_left { IfSome result (λ t. t.tag.openings_left ≡ openings) }
-    ensures opens { IfSome result (λ t. t.tag.empty ≡ false) }
+    ensures { IfSome result (λ t. IsBareTag elements.entry.now parent.entry.now text.entry.now start
+        openings t) }
 {
     if !parent.name.prefix.is_empty() {
         return None;
@@ -1015,20 +962,11 @@ pub fn plain_start_tag<'input>(
     openings_left: u32,
     seen: &mut SeenNames,
 ) -> Option<PlainTag<'input>>
-    requires here { slice_index text.now place.start ≡ 60 }
+    requires here { MayOpenAt text.now place.start elements.old parent.now }
     requires part { Finds text.now (place.start + 1) place.part
         (run_end is_part_char text.now (place.start + 1)) }
-    requires short { length text.now < 2 ^ 32 }
-    requires below { MayOpenBelow elements.old parent.now }
-    ensures read { IfSome result
-        (λ t. IsPlainTag elements.old elements.new
-        (scope_in_tables elements.old parent.entry.now.scope) text.entry.now place.start
-        t.end t.tag) }
-    ensures openings_left { IfSome result (λ t. t.tag.openings_left ≡ openings_left) }
-    ensures grown { (more : List AttributeRow)
-        × (elements.new ≡ record elements.old { attributes = elements.new.attributes })
-        × (attribute_rows elements.new.attributes ≡ attribute_rows elements.old.attributes
-        ++ more) }
+    ensures { ReadsTag elements.old elements.new parent.entry.now text.entry.now place.start
+        openings_left result }
 {
     let small = byte_count(text);
     let name_start = after_byte(text, place.start, b'<');
@@ -1071,20 +1009,11 @@ pub fn near_start_tag<'input>(
     openings: u32,
     seen: &mut SeenNames,
 ) -> Option<PlainTag<'input>>
-    requires here { slice_index text.now place.start ≡ 60 }
+    requires here { MayOpenAt text.now place.start elements.old above.now }
     requires near { EndsNear text.now (place.start + 1) place.part }
-    requires short { length text.now < 2 ^ 32 }
-    requires below { MayOpenBelow elements.old above.now }
     requires bare { above.now.name.prefix.now ≡ [] }
-    ensures read { IfSome result
-        (λ t. IsPlainTag elements.old elements.new
-        (scope_in_tables elements.old above.entry.now.scope) text.entry.now place.start
-        t.end t.tag) }
-    ensures openings_left { IfSome result (λ t. t.tag.openings_left ≡ openings) }
-    ensures grown { (more : List AttributeRow)
-        × (elements.new ≡ record elements.old { attributes = elements.new.attributes })
-        × (attribute_rows elements.new.attributes ≡ attribute_rows elements.old.attributes
-        ++ more) }
+    ensures { ReadsTag elements.old elements.new above.entry.now text.entry.now place.start openings
+        result }
 {
     let name_at = after_byte(text, place.start, b'<');
     let first = elements.attributes.len();

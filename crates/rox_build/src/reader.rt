@@ -12,6 +12,7 @@ ghost use Rattle.rox_build.specs.BuilderState.{GoesOn, IsConsistent, IsInState, 
 ghost use Rattle.rox_tables.specs.Rows.{node_rows};
 ghost use Rattle.rox_tables.specs.declared.rows.tables.NodeKind.TheVariants as kind;
 ghost use Rattle.rox_build.specs.Outcomes.{ScansAs};
+ghost use Rattle.rox_build.specs.Readiness.{MayReadAsking};
 ghost use Rattle.rox_reading.specs.Doctype.{Dtd};
 ghost use Rattle.rox_reading.specs.Answering.{left_with};
 ghost use Rattle.rox_build.specs.Requests.{Allows, MayAsk};
@@ -112,8 +113,7 @@ fn doctype<'input, R: EntityResolver<'input>>(
     allow: bool,
     resolver: &Option<R>,
 ) -> Result<bool, ParseError<'input>>
-    requires may { MayAsk R.can_resolve resolver.now }
-    requires fine { IsConsistent builder.old.tables builder.old.opened.items }
+    requires { MayReadAsking R.can_resolve resolver.now builder.old }
     ensures value { (limit end : ℕ) (d : Dtd) → IsInState limit end d.state cursor.old builder.old
         → AreDeclared d.entities entities.old
         → AskOutcome (Allows R.allows resolver.now)
@@ -166,8 +166,7 @@ fn document<'input, R: EntityResolver<'input>>(
     allow: bool,
     resolver: &Option<R>,
 ) -> Result<bool, ParseError<'input>>
-    requires may { MayAsk R.can_resolve resolver.now }
-    requires fine { IsConsistent builder.old.tables builder.old.opened.items }
+    requires { MayReadAsking R.can_resolve resolver.now builder.old }
     ensures value { (limit end : ℕ) → cursor.old.pos ≡ after_bom cursor.old.text.now
         → IsInState limit end (start_state cursor.old.pos) cursor.old builder.old
         → AskOutcome (Allows R.allows resolver.now)

@@ -1,22 +1,21 @@
 //! Start tags: attributes and declarations, each tested in order (XML 1.0 section 3.1, Namespaces in XML 1.0).
 
-ghost use Rattle.std.specs.Prelude.{◌≡◌, ◌<◌, ◌≤◌, ◌+◌, ◌-◌, ◌^◌, ◌∷◌, [], Bool, false, true, List, ℕ, length, map, drop, Ok, Err, OnOk, IfOk, slice_index, IfErr, ◌++◌};
+ghost use Rattle.std.specs.Prelude.{◌≡◌, ◌<◌, ◌+◌, ◌-◌, ◌^◌, ◌∷◌, [], Bool, false, true, List, ℕ, length, map, drop, Ok, Err, OnOk, IfOk, slice_index, IfErr, ◌++◌};
 ghost use Rattle.rox_grammar.specs.Written.{NamespaceDecl};
-ghost use Rattle.rox_grammar.specs.Document.{most_pairs, most_attributes};
 ghost use Rattle.rox_reading.specs.Tags.{TagSoFar, taken, attributes_at, tag_at, tested_at};
 ghost use Rattle.rox_grammar.specs.Failures.{Fails, name_view};
-ghost use Rattle.rox_tables.specs.TagScopes.{HasBindingsOf, HasBindings, lists_in};
+ghost use Rattle.rox_tables.specs.TagScopes.{lists_in};
 ghost use Rattle.rox_build.specs.ElementRow.{IsElement, GivesTag, scope_in_tables};
-ghost use Rattle.rox_scan.specs.Views.{HasValue, attribute_view};
+ghost use Rattle.rox_build.specs.Readiness.{IsBehind, MayReadBelow, MayResolve};
+ghost use Rattle.rox_scan.specs.Views.{attribute_view};
 ghost use Rattle.rox_grammar.specs.Entities.{Entity};
 ghost use Rattle.rox_values.specs.DeclaredEntities.{AreDeclared, values_in};
 ghost use Rattle.rox_values.specs.Values.{piece_view};
-ghost use Rattle.rox_tables.specs.Storage.{storage_bytes, is_borrowed};
-ghost use Rattle.rox_tables.specs.Rows.{namespace_view, scope_at, AreScopes, attribute_rows};
-ghost use Rattle.rox_tables.specs.Scopes.{ArePlaces, PrefixesOnce, entries};
+ghost use Rattle.rox_tables.specs.Rows.{namespace_view, scope_at, attribute_rows};
+ghost use Rattle.rox_tables.specs.Scopes.{entries};
 ghost use Rattle.rox_tables.specs.PrefixSet.{IsPrefixSet};
 ghost use Rattle.rox_tables.specs.TagDeclarations.{Declares, unresolved_view};
-ghost use Rattle.rox_build.specs.TagState.{HoldsTag, IsReadingTag, KeepsScopes, GivesAttribute, GivesTagPart, AddsAttribute, AddsAttributes, value_of};
+ghost use Rattle.rox_build.specs.TagState.{HoldsTag, IsReadingTag, KeepsScopes, GivesAttribute, GivesTagPart, AddsAttribute, AddsAttributes, IsStored, value_of};
 ghost use Rattle.rox_grammar.specs.Tree.{listed};
 
 use crate::plain_tag::near_attribute;
@@ -80,10 +79,7 @@ pub fn stored<'input>(
     piece: TextValue<'input>,
     scratch: &str,
 ) -> Result<StringStorage<'input>, AllocError>
-    ensures bytes { IfOk result
-        (λ s. storage_bytes s ≡ (piece_view piece.entry scratch.now).value) }
-    ensures kind { IfOk result
-        (λ s. is_borrowed s ≡ (piece_view piece.entry scratch.now).borrowed) }
+    ensures { IfOk result (λ s. IsStored (piece_view piece.entry scratch.now) s) }
 {
     match piece {
         TextValue::Plain(text) => Ok(StringStorage::Borrowed(text)),
@@ -121,9 +117,7 @@ fn unresolved<'input>(
     openings_left: u32,
     scratch: &mut String,
 ) -> Result<(UnresolvedAttribute<'input>, u32), ParseError<'input>>
-    requires value { HasValue cursor.now.text.now raw.now }
-    requires placed { raw.now.start < 2 ^ 63 }
-    requires end { cursor.now.pos ≡ raw.now.value_end + 1 }
+    requires { IsBehind raw.now cursor.now }
     ensures { (es : List Entity) → AreDeclared es context.entry.entities.now
         → GivesAttribute (attribute_view raw.now) result
         (value_of (values_in es context.entry) cursor.now.text.now
@@ -281,12 +275,7 @@ fn element_data<'input>(
     at: usize,
     scope: u32,
 ) -> Result<ElementData<'input>, Failure>
-    requires places { ArePlaces
-        (length elements.old.namespaces.items.items) elements.old.listed.items }
-    requires scopes { AreScopes (length elements.old.listed.items) elements.old.scopes.items }
-    requires within { scope < length elements.old.scopes.items }
-    requires present { HasBindingsOf elements.old scope }
-    requires few { length (attribute_rows elements.old.attributes) ≤ most_attributes }
+    requires tables { MayResolve elements.old scope }
     requires small { at < 2 ^ 63 }
     ensures others { elements.new ≡ record elements.old { attributes = elements.new.attributes } }
     ensures tested { OnOk result (tested_at (scope_in_tables elements.old scope)
@@ -342,14 +331,7 @@ pub fn start_tag<'input>(
 ) -> Result<StartTag<'input>, ParseError<'input>>
     requires there { cursor.old.pos < length cursor.old.text.now }
     requires here { slice_index cursor.old.text.now cursor.old.pos ≡ 60 }
-    requires places { ArePlaces
-        (length elements.old.namespaces.items.items) elements.old.listed.items }
-    requires few { length elements.old.namespaces.items.items ≤ most_pairs }
-    requires few_attributes { length (attribute_rows elements.old.attributes) ≤ most_attributes }
-    requires scopes { AreScopes (length elements.old.listed.items) elements.old.scopes.items }
-    requires above { around.above < length elements.old.scopes.items }
-    requires once { PrefixesOnce (scope_in_tables elements.old around.above) }
-    requires kept { HasBindings elements.old }
+    requires below { MayReadBelow elements.old around.above }
     ensures source { cursor.new.text ≡ cursor.old.text }
     ensures starts { IfOk result (λ t. t.name_start ≡ cursor.old.pos + 1) }
     ensures value { (es : List Entity) → AreDeclared es context.entry.entities.now

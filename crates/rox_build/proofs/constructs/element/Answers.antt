@@ -22,8 +22,18 @@ use Rattle.rox_build.proofs.constructs.element.Goals as goal
 abbrev with_left : ℕ → State → State
 with_left openings_left s = record { at = s.at; done = s.done; stack = s.stack; openings_left = openings_left }
 
-pub start_tag-requires-clause-once : goal.start_tag-requires-clause-once
-start_tag-requires-clause-once c = c.scope-above.ensures.once c.requires.fine
+pub start_tag-requires-clause-below : goal.start_tag-requires-clause-below
+start_tag-requires-clause-below c =
+    let fine = c.requires.fine in
+    record {
+      places = fine.sound.listed;
+      few = fine.few_names;
+      few_attributes = fine.few_attributes;
+      scopes = fine.sound.scopes;
+      above = c.scope-above.ensures.within fine;
+      once = c.scope-above.ensures.once fine;
+      kept = fine.kept;
+    }
 
 pub returns-in_err-tag : goal.returns-in_err-tag
 returns-in_err-tag c = record {

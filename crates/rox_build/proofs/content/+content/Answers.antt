@@ -366,13 +366,16 @@ inner_step-returns-then-bytes-cursor-ne60 t c = record {
   goes = search rules;
 }
 
-pub other_step-end_tag-requires-clause-here : goal.other_step-end_tag-requires-clause-here
-other_step-end_tag-requires-clause-here t c =
+pub other_step-end_tag-requires : goal.other_step-end_tag-requires
+other_step-end_tag-requires t c =
     let e = c.as_bytes-bytes.ensures.value in
     let i = c.args.cursor.now.pos in
     let l = c.as_bytes-bytes.ensures.len in
     let more = c.if-cursor-bytes.false in
-    two_stand c.args.cursor.now.text.now i 60 47 (omega arith) (ap (λ (xs : List ℕ). slice_index xs i) (sym e) ∙ c.if-bytes-cursor-ne60.false) (ap (λ (xs : List ℕ). slice_index xs (i + 1)) (sym e) ∙ c.if-next-eq47.true)
+    record {
+      here = two_stand c.args.cursor.now.text.now i 60 47 (omega arith) (ap (λ (xs : List ℕ). slice_index xs i) (sym e) ∙ c.if-bytes-cursor-ne60.false) (ap (λ (xs : List ℕ). slice_index xs (i + 1)) (sym e) ∙ c.if-next-eq47.true);
+      fine = c.requires.fine;
+    }
 
 pub other_step-returns-then-bytes-cursor-ne60 : goal.other_step-returns-then-bytes-cursor-ne60
 other_step-returns-then-bytes-cursor-ne60 t c = record {
@@ -408,3 +411,6 @@ general_step-returns-then-not-is_text_open t c = record {
       rw (step_is_run (context_of limit es c.args.context) c.args.cursor.now.text.now _ s c.args.cursor.now.pos c.as_bytes-bytes.ensures.value h.here c.if-bytes-cursor-ne60.true) (c.ended_character_data.ensures.value limit end es s declared h);
   goes = search rules;
 }
+
+pub data_parts-part_piece-requires : goal.data_parts-part_piece-requires
+data_parts-part_piece-requires t c = record { stop = rw c.loop-turn.invariant.source c.requires.stop; fine = c.loop-turn.invariant.fine }

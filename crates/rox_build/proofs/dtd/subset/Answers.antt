@@ -1,11 +1,12 @@
 use Rattle.std.proofs.Common.{◌≡◌, ℕ, suc, ◌+◌, ◌-◌, ◌≤◌, List, Bool, Ok, Err, Result, sym, ap, ◌∙◌, subst, refl, length, arith}
 use Rattle.std.proofs.lemmas.Result.{err_from_is_err_and}
-use Rattle.std.proofs.lemmas.Bool.{leb-true}
+use Rattle.std.proofs.lemmas.Bool.{leb-true, leb-false}
 use Rattle.rox_reading.specs.Doctype as reading
 use Rattle.rox_reading.specs.Doctype.{Asks, Dtd}
 use Rattle.rox_reading.specs.Answering.{left_with}
 use Rattle.rox_build.specs.Requests.{Reply, Allows}
 use Rattle.rox_build.specs.Asking.{IsSubsetSoFar, ItemOutcome}
+use Rattle.rox_build.specs.Outcomes.{MayStep}
 use Rattle.rox_build.specs.declared.builder.Builder.{Builder}
 use Rattle.rox_values.specs.declared.entities.Entities.{Entities}
 use Rattle.rox_values.specs.declared.parse_error.ParseError.{ParseError}
@@ -86,3 +87,8 @@ returns-clause-value g c = λ limit end d sees declared.
     let none : n ≡ 0 = omega arith in
     let k = c.loop-turn.invariant.reads limit end d sees declared in
     (k.asked, k.given, turns_end limit end c.args.start n src _ _ c.loop-turn.cursor c.loop-turn.builder c.loop-turn.entities k none)
+
+pub item-requires : goal.item-requires
+item-requires g c =
+    let here : MayStep c.loop-turn.cursor c.loop-turn.builder = record { there = leb-false _ _ (sym c.is_at_end.ensures ∙ c.if-is_at_end.false); fine = c.loop-turn.invariant.fine } in
+    λ k. ((refl, tt), (here, c.requires.may))

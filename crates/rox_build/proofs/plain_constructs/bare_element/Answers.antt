@@ -19,7 +19,7 @@ pub bare_start_tag-requires-clause-below : goal.bare_start_tag-requires-clause-b
 bare_start_tag-requires-clause-below c =
     let b = c.args.builder.now in
     let split = c.in-Some.ensures in
-    below_last b.tables b.opened.items split.0 c.in-Some.parent c.requires.fine split.1
+    below_last b.tables b.opened.items split.0 c.in-Some.parent c.requires.room.fine split.1
 
 pub returns-clause-value : goal.returns-clause-value
 returns-clause-value c = λ _ context end s h.
@@ -36,10 +36,10 @@ returns-clause-value c = λ _ context end s h.
     let tg : Tagged old old t (scope_of s.stack) x.tag = subst (λ (a : List NamespaceDecl). Tagged old old t a x.tag) sc x.tagged in
     let cut = cut_off_fault context.values.main s.stack in
     let kept : t.openings_left ≡ s.openings_left = c.in-Some-bare_start_tag.ensures.openings_left ∙ h.openings_left_is in
-    let adds = c.put_open.ensures.value end e s.openings_left s x.tag h.shows (sym h.here) (is_opening old old t (scope_of s.stack) x.tag pos tg x.starts) in
+    let adds = c.put_open.ensures.adds.value end e s.openings_left s x.tag h.shows (sym h.here) (is_opening old old t (scope_of s.stack) x.tag pos tg x.starts) in
     rw (tag_is context src s pos cut _ _ _ x.tag t.empty s.openings_left e h.here refl sc h.attributes h.namespaces (rw kept at (x.read context.values cut))
     ∙ ap (λ (y : Bool). lifted (opened_by context.limit s x.tag y s.openings_left e)) c.in-Some-bare_start_tag.ensures.opens)
-    (open_stepped context.limit end s.openings_left s _ old old b.nodes_limit c.put_open.new.self (Ok tt) t (scope_of s.stack) x.tag tg h.namespaces h.attributes h.limit_is (c.put_open.ensures.kept.openings_left ∙ h.openings_left_is) c.put_open.ensures.kept.tables c.put_open.ensures.kept.limit adds)
+    (open_stepped context.limit end s.openings_left s _ old old b.nodes_limit c.put_open.new.self (Ok tt) t (scope_of s.stack) x.tag tg h.namespaces h.attributes h.limit_is (c.put_open.ensures.adds.kept.openings_left ∙ h.openings_left_is) c.put_open.ensures.adds.kept.tables c.put_open.ensures.adds.kept.limit adds)
 
 pub returns-clause-goes : goal.returns-clause-goes
 returns-clause-goes c =
@@ -52,7 +52,7 @@ returns-clause-goes c =
     record {
       source = refl;
       fine = fine_more (Ok tt) b.tables b.opened.items c.put_open.new.self src t
-          (fine_by b.tables b.tables t _ x.tag b.opened.items x.tagged c.requires.fine) c.put_open.ensures.kept.tables c.put_open.ensures.opened x.tagged.element.scope_within x.tagged.once (namespace_by b.tables b.tables t _ x.tag x.tagged)
+          (fine_by b.tables b.tables t _ x.tag b.opened.items x.tagged c.requires.room.fine) c.put_open.ensures.adds.kept.tables c.put_open.ensures.adds.opened x.tagged.element.scope_within x.tagged.once (namespace_by b.tables b.tables t _ x.tag x.tagged)
           (λ o by. opened_named context fault.NoRootNode _ _ _ src cursor.pos t.openings_left _ _ t o cursor.utf8 c.requires.here (x.read context fault.NoRootNode) x.tagged.name x.tagged.name_end x.starts by);
     }
 
@@ -64,10 +64,11 @@ put_open-requires-clause-within c =
     let starts = x.starts in
     omega arith
 
-pub put_open-requires-clause-start : goal.put_open-requires-clause-start
-put_open-requires-clause-start c = omega (arith, c.requires.short, c.args.cursor.now.cut.0)
-
-pub put_open-requires-clause-parent : goal.put_open-requires-clause-parent
-put_open-requires-clause-parent c =
+pub put_open-requires-clause-row : goal.put_open-requires-clause-row
+put_open-requires-clause-row c =
     let split = c.in-Some.ensures in
-    sym (innermost_row c.args.builder.now.tables c.args.builder.now.opened.items split.0 c.in-Some.parent split.1)
+    record {
+      ready = c.requires.room.ready;
+      parent = sym (innermost_row c.args.builder.now.tables c.args.builder.now.opened.items split.0 c.in-Some.parent split.1);
+      start = omega (arith, c.requires.room.short, c.args.cursor.now.cut.0);
+    }

@@ -19,10 +19,12 @@ returns-clause-value c = λ _ context end s h.
     let r = short_run src i e cursor.utf8 cursor.cut n.onward cut n.passes here in
     let text : ReadText = record { value = slice_range src i e; borrowed = true } in
     rw (plain_run context src s i e (slice_range src i e) h.here r.0 r.1)
-    (text_stepped context.limit end s cursor _ b c.put_text.new.self (Ok tt) text h c.put_text.ensures.kept.tables c.put_text.ensures.kept.limit c.put_text.ensures.kept.openings_left (rw c.range.ensures.value at (c.put_text.ensures.value end e s h.shows)))
+    (text_stepped context.limit end s cursor _ b c.put_text.new.self (Ok tt) text h c.put_text.ensures.adds.kept.tables c.put_text.ensures.adds.kept.limit c.put_text.ensures.adds.kept.openings_left (rw c.range.ensures.value at (c.put_text.ensures.adds.value end e s h.shows)))
 
-pub put_text-requires-clause-start : goal.put_text-requires-clause-start
-put_text-requires-clause-start c = omega (arith, c.requires.short, c.args.cursor.now.cut.0)
-
-pub put_text-requires-clause-end : goal.put_text-requires-clause-end
-put_text-requires-clause-end c = omega (arith, c.requires.short, c.skip_set-near.ensures.within)
+pub put_text-requires : goal.put_text-requires
+put_text-requires c = record {
+  ready = c.requires.ready;
+  apart = c.is_text_open.ensures c.if-is_text_open.false;
+  start = omega (arith, c.requires.short, c.args.cursor.now.cut.0);
+  end = omega (arith, c.requires.short, c.skip_set-near.ensures.within);
+}

@@ -11,6 +11,6 @@ returns-clause-value c = λ _ limit end s h.
     let j = c.comment.new.self.pos in
     let b = c.args.builder.now in
     let i : Item = Comment s.at j text in
-    let a = c.put_leaf.ensures.value end j s i h.shows (record { is = ap (λ (n : ℕ). tree.Comment n j text) h.here; within = refl; no_text = refl }) in
+    let a = c.put_leaf.ensures.adds.value end j s i h.shows (record { is = ap (λ (n : ℕ). tree.Comment n j text) h.here; within = refl; no_text = refl }) in
     rw (comment_is limit src s c.args.cursor.now.pos j text h.here c.in-Ok.ensures.value)
-    (item_stepped limit end s c.args.cursor.now c.comment.new.self b c.put_leaf.new.self (Ok tt) i h refl refl c.put_leaf.ensures.kept.tables c.put_leaf.ensures.kept.limit c.put_leaf.ensures.kept.openings_left a)
+    (item_stepped limit end s c.args.cursor.now c.comment.new.self b c.put_leaf.new.self (Ok tt) i h refl refl c.put_leaf.ensures.adds.kept.tables c.put_leaf.ensures.adds.kept.limit c.put_leaf.ensures.adds.kept.openings_left a)

@@ -11,10 +11,10 @@ returns-then-next-eq47-clause-value c = λ yes context end s around h.
 
 pub returns-then-next-le63-clause-value : goal.returns-then-next-le63-clause-value
 returns-then-next-le63-clause-value c = λ _ context end s around h.
-    c.plain_section-behind.ensures.value (omega (arith, c.if-behind-gt-MOST_BYTES.false)) context end s c.args.cursor.now _ refl refl h
+    c.plain_section-behind.ensures.reads.value (omega (arith, c.if-behind-gt-MOST_BYTES.false)) context end s c.args.cursor.now _ refl refl h
 
 pub returns-then-next-le63-clause-ready : goal.returns-then-next-le63-clause-ready
-returns-then-next-le63-clause-ready c = λ _ n h. c.plain_section-behind.ensures.ready (omega (arith, c.if-behind-gt-MOST_BYTES.false)) n h
+returns-then-next-le63-clause-ready c = λ _ n h. c.plain_section-behind.ensures.reads.ready (omega (arith, c.if-behind-gt-MOST_BYTES.false)) n h
 
 pub returns-then-behind-gt-MOST_BYTES-clause-other : goal.returns-then-behind-gt-MOST_BYTES-clause-other
 returns-then-behind-gt-MOST_BYTES-clause-other c = λ no context end s h.
@@ -59,3 +59,17 @@ returns-clause-ready c = λ _ n h.
       | then-bytes-near-lt58 w ↦ rw (w.builder-is) (w.plain_element-end.ensures.ready (omega (arith, c.if-end-gt-MOST_BYTES.false, w.end-is)) n ready)
       | else-bytes-near-lt58 w ↦ rw (w.builder-is) (w.other_element-end.ensures.ready (omega (arith, c.if-end-gt-MOST_BYTES.false, w.end-is)) n ready)
     ]
+
+pub plain_element-end-requires-clause-room : goal.plain_element-end-requires-clause-room
+plain_element-end-requires-clause-room c = record {
+  short = c.requires.room.short;
+  ready = rw (c.bare_element.ensures.other c.if-bare_element.false).1 c.requires.room.ready;
+  fine = c.bare_element.ensures.goes.fine;
+}
+
+pub other_element-end-requires-clause-room : goal.other_element-end-requires-clause-room
+other_element-end-requires-clause-room c = record {
+  short = c.requires.room.short;
+  ready = rw (c.bare_element.ensures.other c.if-bare_element.false).1 c.requires.room.ready;
+  fine = c.bare_element.ensures.goes.fine;
+}

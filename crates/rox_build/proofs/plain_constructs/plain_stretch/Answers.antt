@@ -1,4 +1,4 @@
-use Rattle.std.proofs.Common.{◌≡◌, ℕ, ◌+◌, ◌-◌, ◌<◌, ◌≤◌, false, length, refl, ap, subst, sym, ◌∙◌, arith}
+use Rattle.std.proofs.Common.{◌≡◌, ℕ, ◌+◌, ◌-◌, ◌^◌, ◌<◌, ◌≤◌, false, length, refl, ap, subst, sym, ◌∙◌, arith}
 use Rattle.rox_grammar.specs.State.{is_root}
 use Rattle.rox_scan.specs.declared.cursor.Cursor.{Cursor}
 use Rattle.rox_build.specs.BuilderState.{IsReady}
@@ -25,13 +25,23 @@ loop-left-init c = record {
       subst (λ (n : ℕ). Reads context end n here b src s) none (reads_none context end src s here b h);
 }
 
-pub plain_markup-requires-clause-ready : goal.plain_markup-requires-clause-ready
-plain_markup-requires-clause-ready c =
+pub plain_markup-requires-clause-room : goal.plain_markup-requires-clause-room
+plain_markup-requires-clause-room c =
     let some = c.loop-left-test.true in
     let ready = c.loop-left.invariant.ready (omega (arith, some)) in
+    let fine = c.loop-left.invariant.fine in
+    let short : length c.args.cursor.now.text.now < 2 ^ 32 = omega (arith, c.if-cursor-gt-MOST_BYTES.false) in
     elim c.if-bytes-here-ne60.branch [
-      | then-bytes-here-ne60+else-not-plain_character_data w ↦ rw w.builder-is (w.plain_character_data.ensures.ready w.if-not-plain_character_data.false 1 (ready_fewer c.loop-left.left 2 c.loop-left.builder (omega (arith, some)) ready))
-      | else-bytes-here-ne60 w ↦ rw w.builder-is (ready_fewer c.loop-left.left 1 c.loop-left.builder (omega (arith, some)) ready)
+      | then-bytes-here-ne60+else-not-plain_character_data w ↦ record {
+        short = rw (w.here-is, w.plain_character_data.ensures.source, c.loop-left.invariant.source) short;
+        ready = rw w.builder-is (w.plain_character_data.ensures.ready w.if-not-plain_character_data.false 1 (ready_fewer c.loop-left.left 2 c.loop-left.builder (omega (arith, some)) ready));
+        fine = rw (w.builder-is, w.plain_character_data.ensures.tables, w.plain_character_data.ensures.opened) fine;
+      }
+      | else-bytes-here-ne60 w ↦ record {
+        short = rw (w.here-is, c.loop-left.invariant.source) short;
+        ready = rw w.builder-is (ready_fewer c.loop-left.left 1 c.loop-left.builder (omega (arith, some)) ready);
+        fine = rw w.builder-is fine;
+      }
     ]
 
 pub loop-left-preserved : goal.loop-left-preserved

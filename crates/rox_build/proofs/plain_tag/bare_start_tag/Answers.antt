@@ -23,8 +23,8 @@ nothing : (xs : List ℕ) → (length xs == 0) ≡ true → xs ≡ []
 nothing [] h = refl
 nothing (x ∷ xs) h = absurd (omega (arith, eqb-true _ _ h))
 
-pub returns-clause-read : goal.returns-clause-read
-returns-clause-read c =
+pub returns : goal.returns
+returns c =
     let t = c.args.elements.now in
     let o = c.args.parent.now in
     let src = c.args.text.now in
@@ -58,21 +58,25 @@ returns-clause-read c =
     let bare : o.name.prefix.now ≡ [] = nothing o.name.prefix.now (sym c.is_empty.ensures ∙ c.if-not-is_empty.false) in
     let space : option_map (λ i. (namespace_at namespaces i).uri) o.namespace ≡ element_namespace above name = rw bare at within.3.is in
     record {
-      tag = record { name = name; name_end = n; declarations = []; attributes = x.written };
-      read = λ context cut. tag_made context cut above count namespaces src i c.args.openings name n j (holding x.written) false c.args.openings is refl (x.read context cut namespaces c.args.openings) fine;
-      tagged = record {
-        name = refl;
-        name_end = refl;
-        namespaces = refl;
-        few = c.requires.below.few;
-        more = [];
-        lists_more = sym (append-nil _);
-        places = c.requires.below.places;
-        scopes = c.requires.below.scopes;
-        kept = c.requires.below.kept;
-        once = within.1;
-        element = plain_element t t element above few src n j false name x finds refl from from most refl space within.3.within within.0 refl;
+      read = record {
+        tag = record { name = name; name_end = n; declarations = []; attributes = x.written };
+        read = λ context cut. tag_made context cut above count namespaces src i c.args.openings name n j (holding x.written) false c.args.openings is refl (x.read context cut namespaces c.args.openings) fine;
+        tagged = record {
+          name = refl;
+          name_end = refl;
+          namespaces = refl;
+          few = c.requires.below.few;
+          more = [];
+          lists_more = sym (append-nil _);
+          places = c.requires.below.places;
+          scopes = c.requires.below.scopes;
+          kept = c.requires.below.kept;
+          once = within.1;
+          element = plain_element t t element above few src n j false name x finds refl from from most refl space within.3.within within.0 refl;
+        };
+        starts = start;
+        cut = c.after_byte-end.ensures.cut;
       };
-      starts = start;
-      cut = c.after_byte-end.ensures.cut;
+      openings_left = refl;
+      opens = refl;
     }

@@ -14,19 +14,18 @@ returns c =
     let n = name.end in
     let s = c.after_byte-first.result in
     let q = c.quote_behind_equals-quote.result in
-    let quoted = c.quote_behind_equals-quote.ensures in
     let j = c.in_ok-close.close in
     let w = c.in_ok-close.ensures in
     let e = c.after_byte.result in
     let some : 0 < q = omega (arith, c.if-quote-eq0.false) in
-    let at_quote = quoted.some some in
+    let quoted = c.quote_behind_equals-quote.ensures some in
     let done = c.after_byte.ensures.place in
     let place : s ≡ n + 2 = omega (arith, c.after_byte-equals.ensures.place, c.after_byte-first.ensures.place) in
     let v : IsValueStart src n s = subst (IsValueStart src n) (sym place)
-    (value_starts src n c.utf8.text (quoted.within some) (quoted.equals some) (ap (λ (b : ℕ). b == 39 || b == 34) at_quote.0 ∙ at_quote.1)) in
-    let here : slice_index src (s - 1) ≡ q = ap (slice_index src) (omega (arith, place)) ∙ at_quote.0 in
+    (value_starts src n c.utf8.text quoted.within quoted.equals (ap (λ (b : ℕ). b == 39 || b == 34) quoted.here ∙ quoted.quote)) in
+    let here : slice_index src (s - 1) ≡ q = ap (slice_index src) (omega (arith, place)) ∙ quoted.here in
     let begins = begins_no_end src k c.utf8.text (sym c.begins.ensures ∙ c.if-not-begins.false) in
-    let read = attribute_reads src k (name_view name.name) n s q j e c.in_ok-name.ensures.value v here at_quote.1 some w.read w.here done in
+    let read = attribute_reads src k (name_view name.name) n s q j e c.in_ok-name.ensures.value v here quoted.quote some w.read w.here done in
     let onward1 = c.in_ok-name.ensures.onward in
     let onward2 = w.onward in
     let within = w.cut.0 in

@@ -12,15 +12,22 @@ use Rattle.rox_tables.specs.declared.rows.tables.ElementData.{ElementData}
 use Rattle.rox_tables.proofs.Listing.{listed-none}
 use Rattle.rox_build.specs.ElementRow.{scope_in_tables}
 use Rattle.rox_build.specs.PlainTag.{ArePlainAttributes, few_in, holding}
-use Rattle.rox_build.proofs.PlainTags.{scope_found, plain_element, plain_count}
+use Rattle.rox_build.proofs.PlainTags.{near_cut, scope_found, plain_element, plain_count}
 use Rattle.rox_build.proofs.Starting.{tag_made, tested_known, tested_passes}
 use Rattle.rox_build.proofs.plain_tag.near_start_tag.Goals as goal
 
-pub some_attributes-requires-clause-scope : goal.some_attributes-requires-clause-scope
-some_attributes-requires-clause-scope c = record { places = c.requires.below.places; scopes = c.requires.below.scopes; within = c.requires.below.parent.0; once = c.requires.below.parent.1 }
+pub some_attributes-requires : goal.some_attributes-requires
+some_attributes-requires c =
+    let below = c.requires.here.below in
+    let start = c.after_byte-name_at.ensures.place in
+    record {
+      cut = near_cut c.args.text.now (c.args.place.start + 1) c.args.place.part c.utf8.text (rw (← start) c.after_byte-name_at.ensures.cut) c.requires.near;
+      short = c.requires.here.short;
+      scope = record { places = below.places; scopes = below.scopes; within = below.parent.0; once = below.parent.1 };
+    }
 
-pub returns-clause-read : goal.returns-clause-read
-returns-clause-read c =
+pub returns : goal.returns
+returns c =
     let old = c.args.elements.now in
     let grown = c.in_ok-close.ensures.grown in
     let new : ElementTables = c.some_attributes.new.elements in
@@ -45,7 +52,7 @@ returns-clause-read c =
     let most : length (attribute_rows new.attributes) ≤ most_attributes = (let k = c.if-last-gt-MOST_ATTRIBUTES.false in omega arith) in
     let fits : count + length x.written ≤ most_attributes = omega arith in
     let bare : o.name.prefix.now ≡ [] = c.requires.bare in
-    let within = c.requires.below.parent in
+    let within = c.requires.here.below.parent in
     let space : option_map (λ i. (namespace_at namespaces i).uri) o.namespace ≡ element_namespace above name = rw bare at within.3.is in
     let is = rw start at c.near_name-local.ensures in
     let none = listed-none above in
@@ -53,21 +60,25 @@ returns-clause-read c =
     tested_passes (listed above []) count i name x.written (rw none (tested_known above count (i + 1) name x.written fits (x.tested above finds) refl)) in
     let element : ElementData = record { local = c.near_name-local.result; attributes_from = c.len-first.result; attributes_until = c.len-last.result; scope = scope; namespace = o.namespace } in
     record {
-      tag = record { name = name; name_end = n; declarations = []; attributes = x.written };
-      read = λ context cut. tag_made context cut above count namespaces src i c.args.openings name n j (holding x.written) empty c.args.openings is refl (x.read context cut namespaces c.args.openings) fine;
-      tagged = record {
-        name = refl;
-        name_end = refl;
-        namespaces = ap (λ (t : ElementTables). map namespace_view t.namespaces.items.items) grown.1;
-        few = rw (ap (λ (t : ElementTables). t.namespaces) grown.1) c.requires.below.few;
-        more = [];
-        lists_more = ap lists_in grown.1 ∙ sym (append-nil _);
-        places = rw grown.1 c.requires.below.places;
-        scopes = rw grown.1 c.requires.below.scopes;
-        kept = rw grown.1 c.requires.below.kept;
-        once = rw grown.1 within.1;
-        element = plain_element old new element above few src n j empty name x finds grown.1 c.len-first.ensures until most refl space within.3.within within.0 refl;
+      read = record {
+        tag = record { name = name; name_end = n; declarations = []; attributes = x.written };
+        read = λ context cut. tag_made context cut above count namespaces src i c.args.openings name n j (holding x.written) empty c.args.openings is refl (x.read context cut namespaces c.args.openings) fine;
+        tagged = record {
+          name = refl;
+          name_end = refl;
+          namespaces = ap (λ (t : ElementTables). map namespace_view t.namespaces.items.items) grown.others;
+          few = rw (ap (λ (t : ElementTables). t.namespaces) grown.others) c.requires.here.below.few;
+          more = [];
+          lists_more = ap lists_in grown.others ∙ sym (append-nil _);
+          places = rw grown.others c.requires.here.below.places;
+          scopes = rw grown.others c.requires.here.below.scopes;
+          kept = rw grown.others c.requires.here.below.kept;
+          once = rw grown.others within.1;
+          element = plain_element old new element above few src n j empty name x finds grown.others c.len-first.ensures until most refl space within.3.within within.0 refl;
+        };
+        starts = start;
+        cut = c.in_ok-close.ensures.cut;
       };
-      starts = start;
-      cut = c.in_ok-close.ensures.cut;
+      openings_left = refl;
+      grown = record { more = grown.more; others = grown.others; rows = grown.rows };
     }

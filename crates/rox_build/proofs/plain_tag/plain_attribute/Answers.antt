@@ -4,19 +4,18 @@ use Rattle.rox_reading.proofs.Stretches.{range_length}
 use Rattle.rox_build.proofs.PlainTags.{attribute_reads, value_is}
 use Rattle.rox_build.proofs.plain_tag.plain_attribute.Goals as goal
 
-pub quote_before-quote-requires-clause-within : goal.quote_before-quote-requires-clause-within
-quote_before-quote-requires-clause-within c =
+pub quote_before-quote-requires : goal.quote_before-quote-requires
+quote_before-quote-requires c =
+    let src = c.args.text.now in
     let v = c.value_start-value_start.ensures (omega arith) in
     let start = v.start in
     let within = v.within in
-    omega arith
-
-pub quote_before-quote-requires-clause-quote : goal.quote_before-quote-requires-clause-quote
-quote_before-quote-requires-clause-quote c =
-    let src = c.args.text.now in
-    let v = c.value_start-value_start.ensures (omega arith) in
-    let place : c.value_start-value_start.result - 1 ≡ v.before = omega (arith, v.start) in
-    subst (λ (k : ℕ). (slice_index src k == 39 || slice_index src k == 34) ≡ true) (sym place) v.quote
+    let place : c.value_start-value_start.result - 1 ≡ v.before = omega (arith, start) in
+    record {
+      some = omega arith;
+      within = omega arith;
+      quote = subst (λ (k : ℕ). (slice_index src k == 39 || slice_index src k == 34) ≡ true) (sym place) v.quote;
+    }
 
 pub returns-clause-read : goal.returns-clause-read
 returns-clause-read c =

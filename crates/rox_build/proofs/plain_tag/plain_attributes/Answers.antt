@@ -1,11 +1,12 @@
-use Rattle.std.proofs.Common.{map, arith}
+use Rattle.std.proofs.Common.{[], map, refl, sym, arith}
+use Rattle.std.proofs.lemmas.List.{append-nil}
 use Rattle.rox_tables.specs.Rows.{namespace_view, attribute_rows}
 use Rattle.rox_build.specs.PlainTag.{few_in}
 use Rattle.rox_build.proofs.PlainTags.{plain_starts, ends_or_not, no_space}
 use Rattle.rox_build.proofs.plain_tag.plain_attributes.Goals as goal
 
-pub returns-then-bytes-start-gt32-clause-read : goal.returns-then-bytes-start-gt32-clause-read
-returns-then-bytes-start-gt32-clause-read c =
+pub returns-then-bytes-start-gt32 : goal.returns-then-bytes-start-gt32
+returns-then-bytes-start-gt32 c =
     let src = c.args.text.now in
     let start = c.args.start in
     let t = c.args.elements.now in
@@ -17,4 +18,8 @@ returns-then-bytes-start-gt32-clause-read c =
     let within = rw bytes.value at c.if-start-bytes.true in
     let spaces = no_space src start c.utf8.text c.requires.cut (omega (arith, within)) (rw bytes.value at here) in
     let none = plain_starts namespaces few t.present src start rows in
-    ends_or_not namespaces few t.present src start rows start start rows c.tag_end.result none (omega arith) spaces c.tag_end.ensures.opens c.tag_end.ensures.closes
+    record {
+      read = ends_or_not namespaces few t.present src start rows start start rows c.tag_end.result none (omega arith) spaces c.tag_end.ensures.opens c.tag_end.ensures.closes;
+      cut = c.tag_end.ensures.cut;
+      grown = record { more = []; others = refl; rows = sym (append-nil rows) };
+    }

@@ -18,13 +18,19 @@ use Rattle.rox_build.proofs.Starting.{tag_made, tested_known, tested_passes}
 use Rattle.rox_build.proofs.plain_tag.plain_start_tag.Goals as goal
 
 pub tag_namespace-requires-clause-scope : goal.tag_namespace-requires-clause-scope
-tag_namespace-requires-clause-scope c = record { places = c.requires.below.places; scopes = c.requires.below.scopes; within = c.requires.below.parent.0; once = c.requires.below.parent.1 }
+tag_namespace-requires-clause-scope c = record { places = c.requires.here.below.places; scopes = c.requires.here.below.scopes; within = c.requires.here.below.parent.0; once = c.requires.here.below.parent.1 }
 
-pub plain_attributes-requires-clause-scope : goal.plain_attributes-requires-clause-scope
-plain_attributes-requires-clause-scope c = record { places = c.requires.below.places; scopes = c.requires.below.scopes; within = c.requires.below.parent.0; once = c.requires.below.parent.1 }
+pub plain_attributes-requires : goal.plain_attributes-requires
+plain_attributes-requires c =
+    let below = c.requires.here.below in
+    record {
+      cut = c.in_ok-name.ensures.cut;
+      short = c.requires.here.short;
+      scope = record { places = below.places; scopes = below.scopes; within = below.parent.0; once = below.parent.1 };
+    }
 
-pub returns-clause-read : goal.returns-clause-read
-returns-clause-read c =
+pub returns : goal.returns
+returns c =
     let old = c.args.elements.now in
     let grown = c.in_ok-end.ensures.grown in
     let new : ElementTables = c.plain_attributes.new.elements in
@@ -53,23 +59,27 @@ returns-clause-read c =
     let fine : tag_tested (listed above []) count i name x.written ≡ Ok tt =
     tested_passes (listed above []) count i name x.written (rw none (tested_known above count (i + 1) name x.written fits (x.tested above finds) named.known)) in
     let element : ElementData = record { local = c.in_ok-name.name.name.local; attributes_from = c.len-from.result; attributes_until = c.len-until.result; scope = scope; namespace = c.in_ok-namespace.namespace } in
-    let within = c.requires.below.parent in
+    let within = c.requires.here.below.parent in
     record {
-      tag = record { name = name; name_end = n; declarations = []; attributes = x.written };
-      read = λ context cut. tag_made context cut above count namespaces src i c.args.openings_left name n j (holding x.written) empty c.args.openings_left is other (x.read context cut namespaces c.args.openings_left) fine;
-      tagged = record {
-        name = refl;
-        name_end = refl;
-        namespaces = ap (λ (t : ElementTables). map namespace_view t.namespaces.items.items) grown.1;
-        few = rw (ap (λ (t : ElementTables). t.namespaces) grown.1) c.requires.below.few;
-        more = [];
-        lists_more = ap lists_in grown.1 ∙ sym (append-nil _);
-        places = rw grown.1 c.requires.below.places;
-        scopes = rw grown.1 c.requires.below.scopes;
-        kept = rw grown.1 c.requires.below.kept;
-        once = rw grown.1 within.1;
-        element = plain_element old new element above few src n j empty name x finds grown.1 c.len-from.ensures until most refl named.is.is named.is.within within.0 refl;
+      read = record {
+        tag = record { name = name; name_end = n; declarations = []; attributes = x.written };
+        read = λ context cut. tag_made context cut above count namespaces src i c.args.openings_left name n j (holding x.written) empty c.args.openings_left is other (x.read context cut namespaces c.args.openings_left) fine;
+        tagged = record {
+          name = refl;
+          name_end = refl;
+          namespaces = ap (λ (t : ElementTables). map namespace_view t.namespaces.items.items) grown.others;
+          few = rw (ap (λ (t : ElementTables). t.namespaces) grown.others) c.requires.here.below.few;
+          more = [];
+          lists_more = ap lists_in grown.others ∙ sym (append-nil _);
+          places = rw grown.others c.requires.here.below.places;
+          scopes = rw grown.others c.requires.here.below.scopes;
+          kept = rw grown.others c.requires.here.below.kept;
+          once = rw grown.others within.1;
+          element = plain_element old new element above few src n j empty name x finds grown.others c.len-from.ensures until most refl named.is.is named.is.within within.0 refl;
+        };
+        starts = start;
+        cut = c.in_ok-end.ensures.cut;
       };
-      starts = start;
-      cut = c.in_ok-end.ensures.cut;
+      openings_left = refl;
+      grown = record { more = grown.more; others = grown.others; rows = grown.rows };
     }

@@ -51,17 +51,17 @@ returns c =
     let apart : c.after_byte-local.result ≡ j → ⊥ = c.if-local-end.false in
     let more : k + 1 < j = omega arith in
     let letter : 65 ≤ slice_index src (k + 1) = rw (c.as_bytes.ensures.value, place) at c.if-as_bytes-local-lt65.false in
-    let is = c.quote_behind_equals.ensures.equals (omega arith) in
+    let quoted = c.quote_behind_equals.ensures (omega arith) in
+    let is = quoted.equals in
     let behind = part_stops src (k + 1) j c.utf8.text onward near.within all near.stops (λ _. omega (arith, is)) in
     let other = ne_eqb (slice_index src (k + 1)) 58 (λ h. absurd (omega (arith, h, letter))) in
     let long = range_length src (k + 1) j onward near.within in
     let size = ap length c.range-2.ensures.value in
-    let quote = c.quote_behind_equals.ensures in
     record {
       value = rw (c.range.ensures.value, c.range-2.ensures.value, place)
           (two_parts src i k j c.requires.begins c.requires.first c.requires.here (part_begins src (k + 1) j c.utf8.text more near.within all letter) other behind is);
       local = omega (arith, onward, c.requires.onward, long, rw place at size);
       equals = is;
-      quote = rw (quote.some (omega arith)).0 (quote.some (omega arith)).1;
-      inside = quote.within (omega arith);
+      quote = rw quoted.here quoted.quote;
+      inside = quoted.within;
     }

@@ -16,8 +16,8 @@ prefixed_name-requires-clause-begins c =
     let here : slice_index c.args.text.now c.args.part ≡ 58 = eqb-true _ _ (sym c.is_at.ensures ∙ c.if-not-is_at.false) in
     ascii_begins c.args.text.now c.args.start c.args.part c.utf8.text c.requires.part c.requires.put.begins (omega (arith, here))
 
-pub plain_value-requires-clause-cut : goal.plain_value-requires-clause-cut
-plain_value-requires-clause-cut c =
+pub plain_value-requires : goal.plain_value-requires
+plain_value-requires c =
     let named = c.in-Some.ensures in
     let v = value_starts c.args.text.now c.in-Some.name.end c.utf8.text named.inside named.equals named.quote in
-    v.cut
+    record { cut = v.cut; near = c.skip_set-near.ensures; quote = c.quote_before-quote.ensures.quote }

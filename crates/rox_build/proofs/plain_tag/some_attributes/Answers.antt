@@ -19,13 +19,17 @@ loop-at-init c =
       so_far = plain_starts (map namespace_view t.namespaces.items.items) (few_in t c.args.scope) t.present c.args.text.now c.args.start (attribute_rows t.attributes);
     }
 
-pub returns-then-not-next-clause-read : goal.returns-then-not-next-clause-read
-returns-then-not-next-clause-read c =
+pub returns-then-not-next : goal.returns-then-not-next
+returns-then-not-next c =
     let l = c.loop-at in
     let t = c.args.elements.now in
     let near = c.next_item-next in
-    ends_or_not (map namespace_view t.namespaces.items.items) (few_in t c.args.scope) t.present c.args.text.now c.args.start (attribute_rows t.attributes) l.at near.result.at (attribute_rows l.elements.attributes) c.tag_end.result
-    l.invariant.so_far near.ensures.end.onward near.ensures.end.place c.tag_end.ensures.opens c.tag_end.ensures.closes
+    record {
+      read = ends_or_not (map namespace_view t.namespaces.items.items) (few_in t c.args.scope) t.present c.args.text.now c.args.start (attribute_rows t.attributes) l.at near.result.at (attribute_rows l.elements.attributes) c.tag_end.result
+          l.invariant.so_far near.ensures.end.onward near.ensures.end.place c.tag_end.ensures.opens c.tag_end.ensures.closes;
+      cut = c.tag_end.ensures.cut;
+      grown = record { more = l.invariant.so_far.more; others = l.invariant.others; rows = l.invariant.so_far.rows };
+    }
 
 not_false : (b : Bool) → not b ≡ false → b ≡ true
 not_false true h = refl

@@ -9,7 +9,7 @@ returns c = λ _.
     let e = c.space_end-equals in
     let b = c.space_end-before in
     let some : 0 < c.quote_here-quote.result = omega arith in
-    let quoted = c.quote_here-quote.ensures.some some in
+    let quoted = c.quote_here-quote.ensures some in
     let order1 = e.ensures.onward in
     let order2 = b.ensures.onward in
     let place = c.after_byte.ensures.place in
@@ -19,9 +19,9 @@ returns c = λ _.
       spaces = e.ensures.place;
       is = eqb-true _ _ (sym c.is_at.ensures ∙ c.if-not-is_at.false);
       spaces_behind = b.ensures.place ∙ ap (spaces_end src) place;
-      quote = ap (λ n. n == 39 || n == 34) quoted.0 ∙ quoted.1;
+      quote = ap (λ n. n == 39 || n == 34) quoted.here ∙ quoted.quote;
       start = c.after_byte-2.ensures.place;
-      within = c.quote_here-quote.ensures.within some;
+      within = quoted.within;
       onward = omega arith;
       cut = c.after_byte-2.ensures.cut;
     }

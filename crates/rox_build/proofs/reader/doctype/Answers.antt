@@ -1,7 +1,8 @@
-use Rattle.std.proofs.Common.{◌≡◌, [], true, false, sym, ap, ◌∙◌}
+use Rattle.std.proofs.Common.{◌≡◌, [], true, false, sym, ap, ◌∙◌, rules}
 use Rattle.std.proofs.lemmas.Result.{err_from_is_err_and}
 use Rattle.rox_grammar.specs.declared.fault.Word.TheVariants as word
 use Rattle.rox_grammar.specs.FixedTexts.{at}
+use Rattle.rox_build.specs.Readiness.{MayRead}
 use Rattle.rox_reading.specs.Doctype.{with_state}
 use Rattle.rox_reading.proofs.Settling.{no_doctype_here, forbidden_stops, doctype_stops, doctype_read, doctype_run, step_run}
 use Rattle.rox_build.specs.Requests.{Allows}
@@ -72,3 +73,8 @@ returns-clause-value g c = λ limit end d sees declared.
         told = sym h;
       },
     )
+
+pub document_type-requires : goal.document_type-requires
+document_type-requires g c =
+    let start : MayRead word.DoctypeStart c.args.cursor.now c.args.builder.now = record { here = sym c.starts.ensures ∙ c.if-not-starts.false; fine = c.requires.fine } in
+    search (rules, start, c.requires.may)

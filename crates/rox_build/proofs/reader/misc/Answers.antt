@@ -115,3 +115,9 @@ returns c = record {
       misc_spent limit end src _ _ c.loop-turn.cursor c.loop-turn.builder (c.loop-turn.invariant.reads limit end s sees) none;
   goes = search rules;
 }
+
+pub comment-requires : goal.comment-requires
+comment-requires c = record { here = sym c.starts.ensures ∙ c.if-starts.true; fine = c.loop-turn.invariant.fine }
+
+pub instruction-requires : goal.instruction-requires
+instruction-requires c = record { here = sym c.starts-else-starts.ensures ∙ c.if-starts-2.true; fine = c.loop-turn.invariant.fine }

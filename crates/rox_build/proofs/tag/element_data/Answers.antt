@@ -15,21 +15,21 @@ use Rattle.rox_build.proofs.Starting.{tested_amiss, tested_unknown, tested_known
 use Rattle.rox_build.proofs.tag.element_data.Goals as goal
 
 pub few_places-few-requires : goal.few_places-few-requires
-few_places-few-requires c = rw (c.deref.ensures.value, c.deref-2.ensures.value) (record { scopes = c.requires.scopes; within = c.requires.within })
+few_places-few-requires c = rw (c.deref.ensures.value, c.deref-2.ensures.value) (record { scopes = c.requires.tables.scopes; within = c.requires.tables.within })
 
 pub resolve-requires : goal.resolve-requires
 resolve-requires c =
     let t = c.args.elements.now in
     record {
-      within = rw c.as_slice.ensures.value (looks_for t c.deref.result.now c.deref-2.result.now c.few_places-few.result c.args.scope c.deref.ensures.value c.deref-2.ensures.value c.requires.places
-          c.few_places-few.ensures.few c.few_places-few.ensures.many c.requires.present);
+      within = rw c.as_slice.ensures.value (looks_for t c.deref.result.now c.deref-2.result.now c.few_places-few.result c.args.scope c.deref.ensures.value c.deref-2.ensures.value c.requires.tables.places
+          c.few_places-few.ensures.few c.few_places-few.ensures.many c.requires.tables.present);
     }
 
 pub element_namespace-requires-clause-within : goal.element_namespace-requires-clause-within
 element_namespace-requires-clause-within c =
     let t = c.args.elements.now in
-    rw c.as_slice-2.ensures.value (looks_for t c.deref.result.now c.deref-2.result.now c.few_places-few.result c.args.scope c.deref.ensures.value c.deref-2.ensures.value c.requires.places
-    c.few_places-few.ensures.few c.few_places-few.ensures.many c.requires.present)
+    rw c.as_slice-2.ensures.value (looks_for t c.deref.result.now c.deref-2.result.now c.few_places-few.result c.args.scope c.deref.ensures.value c.deref-2.ensures.value c.requires.tables.places
+    c.few_places-few.ensures.few c.few_places-few.ensures.many c.requires.tables.present)
 
 pub returns-in_err-resolve-clause-err : goal.returns-in_err-resolve-clause-err
 returns-in_err-resolve-clause-err c =
@@ -40,8 +40,8 @@ returns-in_err-resolve-clause-err c =
     let count = length (attribute_rows t.attributes) in
     let name = name_view c.args.name in
     let few : count + length written ≤ most_attributes =
-    (let k = c.args.taken.now.ok.0 in let a = c.if-len-from.false in let b = c.len-from.ensures in let l = c.len.ensures in let most = c.requires.few in let m = length-map c.args.taken.now.items unresolved_view in omega arith) in
-    let finds = found_for t c.deref.result.now c.deref-2.result.now c.few_places-few.result c.args.scope c.deref.ensures.value c.deref-2.ensures.value c.few_places-few.ensures.few c.few_places-few.ensures.many c.requires.present in
+    (let k = c.args.taken.now.ok.0 in let a = c.if-len-from.false in let b = c.len-from.ensures in let l = c.len.ensures in let most = c.requires.tables.few in let m = length-map c.args.taken.now.items unresolved_view in omega arith) in
+    let finds = found_for t c.deref.result.now c.deref-2.result.now c.few_places-few.result c.args.scope c.deref.ensures.value c.deref-2.ensures.value c.few_places-few.ensures.few c.few_places-few.ensures.many c.requires.tables.present in
     let here = seen_by t c.as_slice.result.now (places_view c.few_places-few.result) scope c.as_slice.ensures.value finds in
     let e = c.in_err-resolve.field-0.0 in
     let p = err_from_is_err_and c.from_residual.result c.from_residual.ensures.1 in
@@ -56,8 +56,8 @@ returns-in_err-namespace-clause-err c =
     let count = length (attribute_rows t.attributes) in
     let name = name_view c.args.name in
     let few : count + length written ≤ most_attributes =
-    (let k = c.args.taken.now.ok.0 in let a = c.if-len-from.false in let b = c.len-from.ensures in let l = c.len.ensures in let most = c.requires.few in let m = length-map c.args.taken.now.items unresolved_view in omega arith) in
-    let finds = found_for t c.deref.result.now c.deref-2.result.now c.few_places-few.result c.args.scope c.deref.ensures.value c.deref-2.ensures.value c.few_places-few.ensures.few c.few_places-few.ensures.many c.requires.present in
+    (let k = c.args.taken.now.ok.0 in let a = c.if-len-from.false in let b = c.len-from.ensures in let l = c.len.ensures in let most = c.requires.tables.few in let m = length-map c.args.taken.now.items unresolved_view in omega arith) in
+    let finds = found_for t c.deref.result.now c.deref-2.result.now c.few_places-few.result c.args.scope c.deref.ensures.value c.deref-2.ensures.value c.few_places-few.ensures.few c.few_places-few.ensures.many c.requires.tables.present in
     let here = seen_by t c.as_slice.result.now (places_view c.few_places-few.result) scope c.as_slice.ensures.value finds in
     let here2 = seen_by t c.as_slice-2.result.now (places_view c.few_places-few.result) scope c.as_slice-2.ensures.value finds in
     let fine = (c.in_ok-resolve.ensures scope here).0 in
@@ -74,8 +74,8 @@ returns-clause-tested c =
     let count = length (attribute_rows t.attributes) in
     let name = name_view c.args.name in
     let few : count + length written ≤ most_attributes =
-    (let k = c.args.taken.now.ok.0 in let a = c.if-len-from.false in let b = c.len-from.ensures in let l = c.len.ensures in let most = c.requires.few in let m = length-map c.args.taken.now.items unresolved_view in omega arith) in
-    let finds = found_for t c.deref.result.now c.deref-2.result.now c.few_places-few.result c.args.scope c.deref.ensures.value c.deref-2.ensures.value c.few_places-few.ensures.few c.few_places-few.ensures.many c.requires.present in
+    (let k = c.args.taken.now.ok.0 in let a = c.if-len-from.false in let b = c.len-from.ensures in let l = c.len.ensures in let most = c.requires.tables.few in let m = length-map c.args.taken.now.items unresolved_view in omega arith) in
+    let finds = found_for t c.deref.result.now c.deref-2.result.now c.few_places-few.result c.args.scope c.deref.ensures.value c.deref-2.ensures.value c.few_places-few.ensures.few c.few_places-few.ensures.many c.requires.tables.present in
     let here = seen_by t c.as_slice.result.now (places_view c.few_places-few.result) scope c.as_slice.ensures.value finds in
     let here2 = seen_by t c.as_slice-2.result.now (places_view c.few_places-few.result) scope c.as_slice-2.ensures.value finds in
     tested_known scope count c.args.at name written few (c.in_ok-resolve.ensures scope here).0 (c.in_ok-namespace.ensures.ok scope here2).1
@@ -88,8 +88,8 @@ overflow_cast-result-2 c =
     let written = map unresolved_view c.args.taken.now.items in
     let count = length (attribute_rows t.attributes) in
     let few : count + length written ≤ most_attributes =
-    (let k = c.args.taken.now.ok.0 in let a = c.if-len-from.false in let b = c.len-from.ensures in let l = c.len.ensures in let most = c.requires.few in let m = length-map c.args.taken.now.items unresolved_view in omega arith) in
-    let finds = found_for t c.deref.result.now c.deref-2.result.now c.few_places-few.result c.args.scope c.deref.ensures.value c.deref-2.ensures.value c.few_places-few.ensures.few c.few_places-few.ensures.many c.requires.present in
+    (let k = c.args.taken.now.ok.0 in let a = c.if-len-from.false in let b = c.len-from.ensures in let l = c.len.ensures in let most = c.requires.tables.few in let m = length-map c.args.taken.now.items unresolved_view in omega arith) in
+    let finds = found_for t c.deref.result.now c.deref-2.result.now c.few_places-few.result c.args.scope c.deref.ensures.value c.deref-2.ensures.value c.few_places-few.ensures.few c.few_places-few.ensures.many c.requires.tables.present in
     let here = seen_by t c.as_slice.result.now (places_view c.few_places-few.result) scope c.as_slice.ensures.value finds in
     let moved = (c.in_ok-resolve.ensures scope here).1 in
     let grown = ap length moved.1 ∙ length-append (attribute_rows t.attributes) moved.0 in
@@ -108,8 +108,8 @@ returns-clause-element c =
     let count = length (attribute_rows t.attributes) in
     let name = name_view c.args.name in
     let few : count + length written ≤ most_attributes =
-    (let k = c.args.taken.now.ok.0 in let a = c.if-len-from.false in let b = c.len-from.ensures in let l = c.len.ensures in let most = c.requires.few in let m = length-map c.args.taken.now.items unresolved_view in omega arith) in
-    let finds = found_for t c.deref.result.now c.deref-2.result.now c.few_places-few.result c.args.scope c.deref.ensures.value c.deref-2.ensures.value c.few_places-few.ensures.few c.few_places-few.ensures.many c.requires.present in
+    (let k = c.args.taken.now.ok.0 in let a = c.if-len-from.false in let b = c.len-from.ensures in let l = c.len.ensures in let most = c.requires.tables.few in let m = length-map c.args.taken.now.items unresolved_view in omega arith) in
+    let finds = found_for t c.deref.result.now c.deref-2.result.now c.few_places-few.result c.args.scope c.deref.ensures.value c.deref-2.ensures.value c.few_places-few.ensures.few c.few_places-few.ensures.many c.requires.tables.present in
     let here = seen_by t c.as_slice.result.now (places_view c.few_places-few.result) scope c.as_slice.ensures.value finds in
     let here2 = seen_by t c.as_slice-2.result.now (places_view c.few_places-few.result) scope c.as_slice-2.ensures.value finds in
     let seen : map namespace_view c.as_slice.result.now ≡ namespaces = ap (map namespace_view) c.as_slice.ensures.value in
@@ -137,6 +137,6 @@ returns-clause-element c =
       local = refl;
       namespace = ap (λ ns. option_map (λ i. (namespace_at ns i).uri) o) (sym seen2) ∙ named.0;
       namespace_within = subst (λ (n : ℕ). OptionWithin n o) (ap length c.as_slice-2.ensures.value) c.in_ok-namespace.ensures.within;
-      scope_within = c.requires.within;
+      scope_within = c.requires.tables.within;
       lists = refl;
     }

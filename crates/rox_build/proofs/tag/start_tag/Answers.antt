@@ -27,13 +27,13 @@ attributes-requires c =
     let k = old.listed.ok.0 in
     let own : c.len-own.result ≡ length listed = omega arith in
     let tables : IsReadingTag old c.args.buffers.now.prefix_set.keys c.len-own.result = record {
-      places = c.requires.places;
+      places = c.requires.below.places;
       own_within = omega arith;
-      few = c.requires.few;
+      few = c.requires.below.few;
       prefixes = remembers_none namespaces listed c.len-own.result c.args.buffers.now.prefix_set.keys own;
       once = once_none namespaces listed c.len-own.result own;
-      scopes = subst (λ n. AreScopes n old.scopes.items) (sym own) c.requires.scopes;
-      kept = c.requires.kept;
+      scopes = subst (λ n. AreScopes n old.scopes.items) (sym own) c.requires.below.scopes;
+      kept = c.requires.below.kept;
     } in
     record { tables = tables }
 
@@ -45,8 +45,8 @@ scope_of_tag-requires c =
         places = t.places;
         own_within = t.own_within;
         scopes = t.scopes;
-        above_within = rw c.in_ok-xml.ensures.kept.scopes c.requires.above;
-        once = subst (λ ls. PrefixesOnce (scope_at ls c.args.around.above)) (sym c.in_ok-xml.ensures.kept.lists) c.requires.once;
+        above_within = rw c.in_ok-xml.ensures.kept.scopes c.requires.below.above;
+        once = subst (λ ls. PrefixesOnce (scope_at ls c.args.around.above)) (sym c.in_ok-xml.ensures.kept.lists) c.requires.below.once;
         own_once = t.once;
         kept = t.kept;
       };
@@ -68,7 +68,7 @@ returns-in_err-xml-clause-value c = λ es declared.
     let other : bytes_eq name.prefix (word_text Xmlns) ≡ false = sym c.same_text.ensures ∙ c.if-same_text.false in
     let k = old.listed.ok.0 in
     let own : c.len-own.result ≡ length old.listed.items = omega arith in
-    let few : length known ≤ most_pairs = rw (length-map old.namespaces.items.items namespace_view) c.requires.few in
+    let few : length known ≤ most_pairs = rw (length-map old.namespaces.items.items namespace_view) c.requires.below.few in
     let start : TagSoFar = record { own = []; attributes = [] } in
     let nothing = holds_nothing known old.listed.items _ few c.clear.ensures.items in
     let took = c.in_err-xml.ensures.took es known old.listed.items start declared own nothing in
@@ -90,7 +90,7 @@ returns-in_err-element-clause-value c = λ es declared.
     let other : bytes_eq name.prefix (word_text Xmlns) ≡ false = sym c.same_text.ensures ∙ c.if-same_text.false in
     let k = old.listed.ok.0 in
     let own : c.len-own.result ≡ length old.listed.items = omega arith in
-    let few : length known ≤ most_pairs = rw (length-map old.namespaces.items.items namespace_view) c.requires.few in
+    let few : length known ≤ most_pairs = rw (length-map old.namespaces.items.items namespace_view) c.requires.below.few in
     let start : TagSoFar = record { own = []; attributes = [] } in
     let nothing = holds_nothing known old.listed.items _ few c.clear.ensures.items in
     let took = c.in_ok-xml.ensures.took es known old.listed.items start declared own nothing in
@@ -123,7 +123,7 @@ returns-clause-value c = λ es declared.
     let other : bytes_eq name.prefix (word_text Xmlns) ≡ false = sym c.same_text.ensures ∙ c.if-same_text.false in
     let k = old.listed.ok.0 in
     let own : c.len-own.result ≡ length old.listed.items = omega arith in
-    let few : length known ≤ most_pairs = rw (length-map old.namespaces.items.items namespace_view) c.requires.few in
+    let few : length known ≤ most_pairs = rw (length-map old.namespaces.items.items namespace_view) c.requires.below.few in
     let start : TagSoFar = record { own = []; attributes = [] } in
     let nothing = holds_nothing known old.listed.items _ few c.clear.ensures.items in
     let took = c.in_ok-xml.ensures.took es known old.listed.items start declared own nothing in
@@ -144,3 +144,14 @@ returns-clause-value c = λ es declared.
           c.in_ok-xml.ensures.kept.attributes took.2 c.in_ok-xml.ensures.tables.few c.in_ok-scope.ensures.namespaces c.in_ok-scope.ensures.attributes c.in_ok-xml.ensures.kept.lists (c.in_ok-scope.ensures.more, c.in_ok-scope.ensures.lists_more) c.in_ok-scope.ensures.places
           c.in_ok-scope.ensures.scopes scopes (ap (λ (x : ElementTables). x.namespaces) c.in_ok-element.ensures.others) (ap (λ (x : ElementTables). x.listed) c.in_ok-element.ensures.others) (ap (λ (x : ElementTables). x.scopes) c.in_ok-element.ensures.others) c.in_ok-element.ensures.element c.in_ok-scope.ensures.kept (ap (λ (x : ElementTables). x.present) c.in_ok-element.ensures.others) c.in_ok-scope.ensures.once,
     )
+
+pub element_data-requires-clause-tables : goal.element_data-requires-clause-tables
+element_data-requires-clause-tables c =
+    let scope = c.in_ok-scope.ensures in
+    record {
+      places = scope.places;
+      scopes = scope.scopes;
+      within = scope.within;
+      present = scope.present;
+      few = rw (scope.attributes ∙ c.in_ok-xml.ensures.kept.attributes) c.requires.below.few_attributes;
+    }

@@ -1,4 +1,4 @@
-use Rattle.std.proofs.Common.{◌≡◌, ap, ◌∙◌, arith, Ok}
+use Rattle.std.proofs.Common.{◌≡◌, ap, ◌∙◌, arith, rules, Ok}
 use Rattle.rox_reading.specs.Markup.{tag_item_at, more}
 use Rattle.rox_scan.specs.Views.{attribute_view, tag_item_view}
 use Rattle.rox_scan.specs.declared.tag.TagItem.{TagItem as CodeTagItem}
@@ -12,18 +12,12 @@ returns-in-Some-clause-part c = λ es declared.
     let v = values_in es c.args.context in
     (n.raw, n.read, (_, n.value v.main v.entities v.opener c.args.openings_left, n.view))
 
-pub unresolved-requires-clause-placed : goal.unresolved-requires-clause-placed
-unresolved-requires-clause-placed c =
+pub unresolved-requires : goal.unresolved-requires
+unresolved-requires c =
     let src = c.args.cursor.now.text.now in
     let is : tag_item_at src c.args.cursor.now.pos ≡ Ok (more (attribute_view c.in-More.raw), c.tag_item.new.self.pos) =
     c.in_ok-raw.ensures.read.value ∙ ap (λ (t : CodeTagItem). Ok (tag_item_view t, c.tag_item.new.self.pos)) c.in-More.is in
-    let w = (turn_gives src c.args.cursor.now.pos (attribute_view c.in-More.raw) c.tag_item.new.self.pos is).within in
+    let turn = turn_gives src c.args.cursor.now.pos (attribute_view c.in-More.raw) c.tag_item.new.self.pos is in
+    let within = turn.within in
     let small = c.byte_count-small.ensures.small in
-    omega arith
-
-pub unresolved-requires-clause-end : goal.unresolved-requires-clause-end
-unresolved-requires-clause-end c =
-    let src = c.args.cursor.now.text.now in
-    let is : tag_item_at src c.args.cursor.now.pos ≡ Ok (more (attribute_view c.in-More.raw), c.tag_item.new.self.pos) =
-    c.in_ok-raw.ensures.read.value ∙ ap (λ (t : CodeTagItem). Ok (tag_item_view t, c.tag_item.new.self.pos)) c.in-More.is in
-    (turn_gives src c.args.cursor.now.pos (attribute_view c.in-More.raw) c.tag_item.new.self.pos is).end
+    record { value = search rules; placed = omega arith; end = turn.end }

@@ -15,42 +15,56 @@ use Rattle.rox_tables.specs.Rows.{node_rows}
 use Rattle.rox_tables.proofs.StoredNodes.{count_nodes}
 use Rattle.rox_build.proofs.builder.Builder.open_element.Goals as goal
 
-pub returns-clause-value : goal.returns-clause-value
-returns-clause-value c = λ total at openings_left s t sh here is.
-    let f = c.flush.new.self in
-    let tag = c.args.tag.now in
-    let st = c.in_ok-flush.ensures.ok total s.stack s.done sh in
-    let op : IsOpening f.tables (scope_of s.stack) s.at tag t = rw (c.flush.ensures.kept.tables, here) is in
-    let next : State = record { at = at; done = Nil; stack = inside s.at t s.done s.stack; openings_left = openings_left } in
-    let n = settled_count total s.stack s.done f st in
-    let m = open_count s.stack s.at t s.done in
-    let room = c.in_ok-room.ensures.ok in
-    let len = count_nodes f.nodes in
-    let limit = c.flush.ensures.kept.limit in
-    let empty = c.in_ok-flush.ensures.empty in
-    let k : NodeKind = kind.Element tag.element in
-    let x : OpenElement = record { row = c.len-row.result; name = tag.name; name_start = tag.name_start; name_end = tag.name_end; scope = tag.element.scope; namespace = tag.element.namespace; source = c.from_place-source.result } in
-    let place : c.len-row.result ≡ length (node_rows f.nodes) = omega (arith, c.len-row.ensures.nodes) in
-    let view : opened (lists_in f.tables) x ≡ record { row = x.row; name = t.name; name_start = s.at + 1; name_end = t.name_end; scope = listed (scope_of s.stack) t.declarations } =
-    rw (op.name, op.name_start, op.name_end, op.scope) refl in
-    let rows : node_rows c.push.new.self ≡ (node_rows f.nodes) ++ row_open f.tables 0 f.opened.items s.at k ∷ [] =
-    rw here (c.in_ok-push.ensures.rows ∙ ap (λ (r : NodeData). (node_rows f.nodes) ++ record r { subtree_end = 0 } ∷ []) c.row-opening.ensures) in (
-      next,
-      counted_ok c.args.self.now.nodes_limit next (omega arith),
-      open_shows total s.stack s.done f _ s.at k t x st op.node.is op.node.within place view rows refl c.in_ok-push_with_room.ensures.items refl,
-    )
+pub returns : goal.returns
+returns c = record {
+  value = λ total at openings_left s t sh here is.
+      let f = c.flush.new.self in
+      let tag = c.args.tag.now in
+      let st = c.in_ok-flush.ensures.ok total s.stack s.done sh in
+      let op : IsOpening f.tables (scope_of s.stack) s.at tag t = rw (c.flush.ensures.kept.tables, here) is in
+      let next : State = record { at = at; done = Nil; stack = inside s.at t s.done s.stack; openings_left = openings_left } in
+      let n = settled_count total s.stack s.done f st in
+      let m = open_count s.stack s.at t s.done in
+      let room = c.in_ok-room.ensures.ok in
+      let len = count_nodes f.nodes in
+      let limit = c.flush.ensures.kept.limit in
+      let empty = c.in_ok-flush.ensures.empty in
+      let k : NodeKind = kind.Element tag.element in
+      let x : OpenElement = record { row = c.len-row.result; name = tag.name; name_start = tag.name_start; name_end = tag.name_end; scope = tag.element.scope; namespace = tag.element.namespace; source = c.from_place-source.result } in
+      let place : c.len-row.result ≡ length (node_rows f.nodes) = omega (arith, c.len-row.ensures.nodes) in
+      let view : opened (lists_in f.tables) x ≡ record { row = x.row; name = t.name; name_start = s.at + 1; name_end = t.name_end; scope = listed (scope_of s.stack) t.declarations } =
+      rw (op.name, op.name_start, op.name_end, op.scope) refl in
+      let rows : node_rows c.push.new.self ≡ (node_rows f.nodes) ++ row_open f.tables 0 f.opened.items s.at k ∷ [] =
+      rw here (c.in_ok-push.ensures.rows ∙ ap (λ (r : NodeData). (node_rows f.nodes) ++ record r { subtree_end = 0 } ∷ []) c.row-opening.ensures) in (
+        next,
+        counted_ok c.args.self.now.nodes_limit next (omega arith),
+        open_shows total s.stack s.done f _ s.at k t x st op.node.is op.node.within place view rows refl c.in_ok-push_with_room.ensures.items refl,
+      );
+  kept = record { tables = c.flush.ensures.kept.tables; limit = c.flush.ensures.kept.limit; openings_left = c.flush.ensures.kept.openings_left };
+  opened =
+      let tag = c.args.tag.now in
+      let x : OpenElement = record { row = c.len-row.result; name = tag.name; name_start = tag.name_start; name_end = tag.name_end; scope = tag.element.scope; namespace = tag.element.namespace; source = c.from_place-source.result } in (
+        x,
+        c.in_ok-push_with_room.ensures.items ∙ ap (λ v. v.items ++ x ∷ []) c.flush.ensures.kept.opened,
+        record { name = refl; name_start = refl; name_end = refl; scope = refl; namespace = refl; source = c.from_place-source.ensures },
+      );
+}
 
-pub returns-in_err-room-clause-value : goal.returns-in_err-room-clause-value
-returns-in_err-room-clause-value c = λ total at openings_left s t sh here is.
-    let p = err_from_is_err_and c.from_residual-in_err-room.result c.from_residual-in_err-room.ensures.1 in
-    let f = c.flush.new.self in
-    let st = c.in_ok-flush.ensures.ok total s.stack s.done sh in
-    let next : State = record { at = at; done = Nil; stack = inside s.at t s.done s.stack; openings_left = openings_left } in
-    let n = settled_count total s.stack s.done f st in
-    let m = open_count s.stack s.at t s.done in
-    let e = c.in_err-room.ensures.err in
-    let over = e.1 in
-    let len = count_nodes f.nodes in
-    let limit = c.flush.ensures.kept.limit in
-    let empty = c.in_ok-flush.ensures.empty in
-    rw (p.1, p.2, e.0) (counted_err c.args.self.now.nodes_limit next (omega arith))
+pub returns-in_err-room : goal.returns-in_err-room
+returns-in_err-room c = record {
+  value = λ total at openings_left s t sh here is.
+      let p = err_from_is_err_and c.from_residual-in_err-room.result c.from_residual-in_err-room.ensures.1 in
+      let f = c.flush.new.self in
+      let st = c.in_ok-flush.ensures.ok total s.stack s.done sh in
+      let next : State = record { at = at; done = Nil; stack = inside s.at t s.done s.stack; openings_left = openings_left } in
+      let n = settled_count total s.stack s.done f st in
+      let m = open_count s.stack s.at t s.done in
+      let e = c.in_err-room.ensures.err in
+      let over = e.1 in
+      let len = count_nodes f.nodes in
+      let limit = c.flush.ensures.kept.limit in
+      let empty = c.in_ok-flush.ensures.empty in
+      rw (p.1, p.2, e.0) (counted_err c.args.self.now.nodes_limit next (omega arith));
+  kept = record { tables = c.flush.ensures.kept.tables; limit = c.flush.ensures.kept.limit; openings_left = c.flush.ensures.kept.openings_left };
+  opened = let p = err_from_is_err_and c.from_residual-in_err-room.result c.from_residual-in_err-room.ensures.1 in rw p.1 tt;
+}
