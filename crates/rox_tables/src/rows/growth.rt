@@ -42,8 +42,7 @@ fn grow_first<T: Drop>(to: &mut Vec<T>, first: usize) -> Result<(), AllocError>
         to.reserve_exact(first.max(1))?;
         return Ok(());
     }
-    to.reserve(1)?;
-    Ok(())
+    grow(to)
 }
 
 /// The same in a table that gets room for so many with its first.
