@@ -79,14 +79,6 @@ pub data Part (main : Bool) (src : List ℕ) (j : ℕ) : ℕ → List DataByte �
   as_written : (i : ℕ) (ss : List DataByte) → i < j → byte src i ≢ code "&" → Part main src j (i + 1) ss → Part main src j i (literal (byte src i) ∷ ss)
   from_reference : (i n c : ℕ) (ss : List DataByte) → IsCharacter src i c n → n ≤ j → Part main src j n ss → Part main src j i (data_bytes_of main (encode_utf8 c) ++ ss)
 
--- the parts of the run from start up to stop, from i on, which references to entities cut
-pub data Parts (main : Bool) (Includes : Inclusion) (src : List ℕ) (start stop : ℕ) : ℕ → ℕ → ℕ → Forest Item → Type 0 where
-  last_part : (i b : ℕ) (ss : List DataByte) → Part main src stop i ss
-      → Parts main Includes src start stop i b b (piece start stop (is_verbatim (slice src start stop)) ss)
-  then_entity : (i p n j b c d : ℕ) (ss : List DataByte) (items more : Forest Item) → Part main src p i ss → IsReference src p n j → predefined (slice src (p + 1) n) ≡ None
-      → Includes.content (slice src (p + 1) n) b items c → Parts main Includes src start stop j c d more
-      → Parts main Includes src start stop i b d (join (piece start stop false ss) (join items more))
-
 -- XML 2.4: a run reaches to the next `<` or the end
 pub record IsCharacterData (src : List ℕ) (i j : ℕ) : Type 0 where
   pub some : i < j
@@ -99,76 +91,78 @@ abbrev pub value_bytes : Bool → ℕ → List ℕ
 value_bytes true c = encode_utf8 c
 value_bytes false c = if c == code "\t" || (c == code "\n" || c == code "\r") then code " " ∷ [] else encode_utf8 c
 
--- XML 3.3.3: the value that stands from i up to j. Within a replacement text a reference may not give `<` (`a_character`), where
--- 3.1 and 4.6 let `&lt;` give one.
-pub data Value (main : Bool) (Includes : Inclusion) (src : List ℕ) (j : ℕ) : ℕ → ℕ → ℕ → List ℕ → Type 0 where
-  value_ends : (b : ℕ) → Value main Includes src j j b b []
-  line_end : (i b c : ℕ) (v : List ℕ) → i + 1 < j → byte src i ≡ code "\r" → byte src (i + 1) ≡ code "\n" → Value main Includes src j (i + 1) b c v
-      → Value main Includes src j i b c v
-  white : (i b c : ℕ) (v : List ℕ) → i < j → (byte src i ≡ code "\t") ⊎ ((byte src i ≡ code "\n") ⊎ ((byte src i ≡ code "\r") × ((j ≡ i + 1) ⊎ (byte src (i + 1) ≢ code "\n"))))
-      → Value main Includes src j (i + 1) b c v → Value main Includes src j i b c (code " " ∷ v)
-  other : (i b c : ℕ) (v : List ℕ) → i < j → byte src i ≢ code "&" → byte src i ≢ code "\t" → byte src i ≢ code "\n" → byte src i ≢ code "\r" → byte src i ≢ code "<"
-      → Value main Includes src j (i + 1) b c v → Value main Includes src j i b c (byte src i ∷ v)
-  a_character : (i n x b c : ℕ) (v : List ℕ) → IsCharacter src i x n → n ≤ j → (main ≡ true) ⊎ (x ≢ code "<") → Value main Includes src j n b c v
-      → Value main Includes src j i b c (value_bytes main x ++ v)
-  an_entity : (i n k b c d : ℕ) (w v : List ℕ) → IsReference src i n k → predefined (slice src (i + 1) n) ≡ None → k ≤ j → Includes.value (slice src (i + 1) n) b w c
-      → Value main Includes src j k c d v → Value main Includes src j i b d (w ++ v)
-
--- XML 3.1 [41] Attribute
-pub record IsAttribute (main : Bool) (Includes : Inclusion) (src : List ℕ) (i j b c : ℕ) (a : Attribute) : Type 0 where
-  pub starts : a.start ≡ i
-  pub is_name : IsQName src i a.name a.name_end
-  pub v : ℕ
-  pub eq : IsEq src a.name_end v
-  pub e : ℕ
-  pub literal : IsLiteral src v e j
-  pub value_start : a.value_start ≡ v + 1
-  pub end : a.end ≡ j
-  pub value : Value main Includes src e (v + 1) b c a.value
-  pub borrowed : a.borrowed ≡ is_verbatim_value (slice src (v + 1) e)
-
--- attributes, each after white space
-pub data Attributes (main : Bool) (Includes : Inclusion) (src : List ℕ) : ℕ → ℕ → ℕ → ℕ → List Attribute → Type 0 where
-  no_more : (i b : ℕ) → Attributes main Includes src i i b b []
-  one_more : (i j k b c d : ℕ) (a : Attribute) (as' : List Attribute) → i < spaces_end src i → IsAttribute main Includes src (spaces_end src i) j b c a
-      → Attributes main Includes src j k c d as' → Attributes main Includes src i k b d (a ∷ as')
-
 -- `>`, or `/>` where the element is empty, after white space
 pub data TagEnds (src : List ℕ) : ℕ → Bool → ℕ → Type 0 where
   opened : (i : ℕ) → byte src (spaces_end src i) ≡ code ">" → TagEnds src i false (spaces_end src i + 1)
   closed : (i : ℕ) → byte src (spaces_end src i) ≡ code "/" → byte src (spaces_end src i + 1) ≡ code ">" → TagEnds src i true (spaces_end src i + 2)
-
--- XML 3.1 [40] STag, [44] EmptyElemTag; the flag says that the element is empty
-pub record IsTag (main : Bool) (Includes : Inclusion) (src : List ℕ) (i j b c : ℕ) (empty : Bool) (t : Tag) : Type 0 where
-  pub begins : byte src i ≡ code "<"
-  pub is_name : IsQName src (i + 1) t.name t.name_end
-  pub written : List Attribute
-  pub last : ℕ
-  pub attributes : Attributes main Includes src t.name_end last b c written
-  pub ends : TagEnds src last empty j
-  pub declares : t.declarations ≡ namespace_decls_of written
-  pub has : t.attributes ≡ plain_attributes_of written
 
 -- a comment or a processing instruction, as an item. Unlike in 2.11 its carriage returns are kept.
 pub data IsMisc (src : List ℕ) : ℕ → ℕ → Item → Type 0 where
   comment : (i e j : ℕ) → IsComment src i e j → IsMisc src i j (Comment i j (slice src (i + 4) e))
   instruction : (i n e j : ℕ) → IsPI src i n e j → IsMisc src i j (PI i j (slice src (i + 2) n) (none_if_empty (slice src (spaces_end src n) e)))
 
-mutual
-  -- XML 3 [39] element: from i up to j
-  pub data IsElement (main : Bool) (Includes : Inclusion) (src : List ℕ) : ℕ → ℕ → ℕ → ℕ → Forest Item → Type 0 where
-    empty : (i j b c : ℕ) (t : Tag) → IsTag main Includes src i j b c true t → IsElement main Includes src i j b c (leaf (Element i j t))
-    nest : (i j m p e b c d : ℕ) (t : Tag) (kids : Forest Item) → IsTag main Includes src i j b c false t → Content main Includes src j m c d kids
-        → IsEnd src m t.name p e → IsElement main Includes src i e b d (Cons (Element i e t) (merge kids) Nil)
+-- What references to entities stand in: in the main text or a replacement text, with this meaning, in this source. The numbers b, c
+-- and d are how many openings are left.
+module _ (main : Bool) (Includes : Inclusion) (src : List ℕ) where
+  -- the parts of the run from start up to stop, from i on, which references to entities cut
+  pub data Parts (start stop : ℕ) : ℕ → ℕ → ℕ → Forest Item → Type 0 where
+    last_part : (i b : ℕ) (ss : List DataByte) → Part main src stop i ss → Parts start stop i b b (piece start stop (is_verbatim (slice src start stop)) ss)
+    then_entity : (i p n j b c d : ℕ) (ss : List DataByte) (items more : Forest Item) → Part main src p i ss → IsReference src p n j → predefined (slice src (p + 1) n) ≡ None
+        → Includes.content (slice src (p + 1) n) b items c → Parts start stop j c d more → Parts start stop i b d (join (piece start stop false ss) (join items more))
 
-  -- XML 3.1 [43] content: from i up to j
-  pub data Content (main : Bool) (Includes : Inclusion) (src : List ℕ) : ℕ → ℕ → ℕ → ℕ → Forest Item → Type 0 where
-    ends : (i b : ℕ) → Content main Includes src i i b b Nil
-    run : (i j l b c d : ℕ) (items more : Forest Item) → IsCharacterData src i j → Parts main Includes src i j i b c items → Content main Includes src j l c d more
-        → Content main Includes src i l b d (join items more)
-    cdata : (i e j l b c : ℕ) (more : Forest Item) → IsCData src i e j → Content main Includes src j l b c more
-        → Content main Includes src i l b c (join (leaf (section i j (slice src (i + 9) e))) more)
-    misc : (i j l b c : ℕ) (item : Item) (more : Forest Item) → IsMisc src i j item → Content main Includes src j l b c more
-        → Content main Includes src i l b c (join (leaf item) more)
-    node : (i j l b c d : ℕ) (one more : Forest Item) → IsElement main Includes src i j b c one → Content main Includes src j l c d more
-        → Content main Includes src i l b d (join one more)
+  -- XML 3.3.3: the value that stands from i up to j. Within a replacement text a reference may not give `<` (`a_character`), where
+  -- 3.1 and 4.6 let `&lt;` give one.
+  pub data Value (j : ℕ) : ℕ → ℕ → ℕ → List ℕ → Type 0 where
+    value_ends : (b : ℕ) → Value j j b b []
+    line_end : (i b c : ℕ) (v : List ℕ) → i + 1 < j → byte src i ≡ code "\r" → byte src (i + 1) ≡ code "\n" → Value j (i + 1) b c v → Value j i b c v
+    white : (i b c : ℕ) (v : List ℕ) → i < j → (byte src i ≡ code "\t") ⊎ ((byte src i ≡ code "\n") ⊎ ((byte src i ≡ code "\r") × ((j ≡ i + 1) ⊎ (byte src (i + 1) ≢ code "\n"))))
+        → Value j (i + 1) b c v → Value j i b c (code " " ∷ v)
+    other : (i b c : ℕ) (v : List ℕ) → i < j → byte src i ≢ code "&" → byte src i ≢ code "\t" → byte src i ≢ code "\n" → byte src i ≢ code "\r" → byte src i ≢ code "<"
+        → Value j (i + 1) b c v → Value j i b c (byte src i ∷ v)
+    a_character : (i n x b c : ℕ) (v : List ℕ) → IsCharacter src i x n → n ≤ j → (main ≡ true) ⊎ (x ≢ code "<") → Value j n b c v → Value j i b c (value_bytes main x ++ v)
+    an_entity : (i n k b c d : ℕ) (w v : List ℕ) → IsReference src i n k → predefined (slice src (i + 1) n) ≡ None → k ≤ j → Includes.value (slice src (i + 1) n) b w c
+        → Value j k c d v → Value j i b d (w ++ v)
+
+  -- XML 3.1 [41] Attribute
+  pub record IsAttribute (i j b c : ℕ) (a : Attribute) : Type 0 where
+    pub starts : a.start ≡ i
+    pub is_name : IsQName src i a.name a.name_end
+    pub v : ℕ
+    pub eq : IsEq src a.name_end v
+    pub e : ℕ
+    pub literal : IsLiteral src v e j
+    pub value_start : a.value_start ≡ v + 1
+    pub end : a.end ≡ j
+    pub value : Value e (v + 1) b c a.value
+    pub borrowed : a.borrowed ≡ is_verbatim_value (slice src (v + 1) e)
+
+  -- attributes, each after white space
+  pub data Attributes : ℕ → ℕ → ℕ → ℕ → List Attribute → Type 0 where
+    no_more : (i b : ℕ) → Attributes i i b b []
+    one_more : (i j k b c d : ℕ) (a : Attribute) (as' : List Attribute) → i < spaces_end src i → IsAttribute (spaces_end src i) j b c a → Attributes j k c d as' → Attributes i k b d (a ∷ as')
+
+  -- XML 3.1 [40] STag, [44] EmptyElemTag; the flag says that the element is empty
+  pub record IsTag (i j b c : ℕ) (empty : Bool) (t : Tag) : Type 0 where
+    pub begins : byte src i ≡ code "<"
+    pub is_name : IsQName src (i + 1) t.name t.name_end
+    pub written : List Attribute
+    pub last : ℕ
+    pub attributes : Attributes t.name_end last b c written
+    pub ends : TagEnds src last empty j
+    pub declares : t.declarations ≡ namespace_decls_of written
+    pub has : t.attributes ≡ plain_attributes_of written
+
+  mutual
+    -- XML 3 [39] element: from i up to j
+    pub data IsElement : ℕ → ℕ → ℕ → ℕ → Forest Item → Type 0 where
+      empty : (i j b c : ℕ) (t : Tag) → IsTag i j b c true t → IsElement i j b c (leaf (Element i j t))
+      nest : (i j m p e b c d : ℕ) (t : Tag) (kids : Forest Item) → IsTag i j b c false t → Content j m c d kids → IsEnd src m t.name p e
+          → IsElement i e b d (Cons (Element i e t) (merge kids) Nil)
+
+    -- XML 3.1 [43] content: from i up to j
+    pub data Content : ℕ → ℕ → ℕ → ℕ → Forest Item → Type 0 where
+      ends : (i b : ℕ) → Content i i b b Nil
+      run : (i j l b c d : ℕ) (items more : Forest Item) → IsCharacterData src i j → Parts i j i b c items → Content j l c d more → Content i l b d (join items more)
+      cdata : (i e j l b c : ℕ) (more : Forest Item) → IsCData src i e j → Content j l b c more → Content i l b c (join (leaf (section i j (slice src (i + 9) e))) more)
+      misc : (i j l b c : ℕ) (item : Item) (more : Forest Item) → IsMisc src i j item → Content j l b c more → Content i l b c (join (leaf item) more)
+      node : (i j l b c d : ℕ) (one more : Forest Item) → IsElement i j b c one → Content j l c d more → Content i l b d (join one more)

@@ -26,58 +26,10 @@ pub record Asked : Type 0 where
 abbrev pub Reply : Type 0
 Reply = Result (Option (List ℕ)) (List ℕ)
 
--- the white space between two things, one at least: from i up to j
-pub record IsSpace (src : List ℕ) (i j : ℕ) : Type 0 where
-  pub some : i < j
-  pub all : j ≡ spaces_end src i
-
--- XML 4.2.2 [75] ExternalID
-pub data IsExternalID (src : List ℕ) : ℕ → Request → ℕ → Type 0 where
-  system : (i s e j : ℕ) → text_at "SYSTEM" src i ≡ true → IsSpace src (i + 6) s → IsQuoted src s e j
-      → IsExternalID src i (record { public_id = None; uri = slice src (s + 1) e }) j
-  public : (i p d k s e j : ℕ) → text_at "PUBLIC" src i ≡ true → IsSpace src (i + 6) p → IsQuoted src p d k → IsSpace src k s → IsQuoted src s e j
-      → IsExternalID src i (record { public_id = Some (slice src (p + 1) d); uri = slice src (s + 1) e }) j
-
--- XML 4.2.2 [76] NDataDecl, of a general entity alone. White space before it may be none, where [76] wants some, and the name may
--- have a colon, which NS 7 forbids. The entity may be referred to, which 4.1 (Parsed Entity) forbids. Without it there is the white
--- space that 4.2 [71] GEDecl has before its `>`.
-pub data MayHaveNotation (src : List ℕ) : (parameter : Bool) → ℕ → ℕ → Type 0 where
-  notation : (i s j : ℕ) → text_at "NDATA" src (spaces_end src i) ≡ true → IsSpace src (spaces_end src i + 5) s → IsName src s j → MayHaveNotation src false i j
-  no_notation : (i : ℕ) → text_at "NDATA" src (spaces_end src i) ≡ false → MayHaveNotation src false i (spaces_end src i)
-  of_parameter : (i : ℕ) → MayHaveNotation src true i i
-
--- The text is cut off where the name of a notation should stand: what is asked stands before it.
-pub record CutsNotation (src : List ℕ) (parameter : Bool) (i j : ℕ) : Type 0 where
-  pub is_general : parameter ≡ false
-  pub opens : text_at "NDATA" src (spaces_end src i) ≡ true
-  pub space_behind : IsSpace src (spaces_end src i + 5) j
-  pub cut : length src ≤ j
-
 -- XML 4.3.1: an answer is a text, and its replacement text what follows a byte order mark and a declaration in it
 pub data GivesReplacement : Option (List ℕ) → Option Replacement → Type 0 where
   nothing : GivesReplacement None None
   the_rest : (text : List ℕ) (d : ℕ) → IsUtf8 text → MayHaveXmlDecl text (after_bom text) d → GivesReplacement (Some text) (Some (record { source = drop d text; start = 0 }))
-
--- XML 4.2 [73] EntityDef, [74] PEDef: from i up to j, with what is asked there and the text that is declared, if any
-pub data IsDefinition (src : List ℕ) (parameter : Bool) : ℕ → ℕ → List Asked → Option Replacement → Type 0 where
-  internal : (i e j : ℕ) → IsQuoted src i e j → IsDefinition src parameter i j [] (Some (record { source = take e src; start = i + 1 }))
-  external : (i n j : ℕ) (request : Request) (answer : Option (List ℕ)) (text : Option Replacement) → IsExternalID src i request n → MayHaveNotation src parameter n j
-      → GivesReplacement answer text → IsDefinition src parameter i j (record { request = request; answer = answer } ∷ []) text
-
--- `%` and white space before the name of a parameter entity
-pub data IsKind (src : List ℕ) : ℕ → (parameter : Bool) → ℕ → Type 0 where
-  of_parameter : (i j : ℕ) → byte src i ≡ code "%" → IsSpace src (i + 1) j → IsKind src i true j
-  general : (i : ℕ) → byte src i ≢ code "%" → IsKind src i false i
-
--- XML 4.2 [70] EntityDecl up to its definition, which begins at d; its name stands from n up to m, and may have a colon, which NS 7
--- forbids
-pub record BeginsEntity (src : List ℕ) (i : ℕ) (parameter : Bool) (n m d : ℕ) : Type 0 where
-  pub opens : text_at "<!ENTITY" src i ≡ true
-  pub k : ℕ
-  pub space_before : IsSpace src (i + 8) k
-  pub is_kind : IsKind src k parameter n
-  pub name : IsName src n m
-  pub space_behind : IsSpace src m d
 
 -- the entity of this name, or none where its request was not answered. Then a later declaration of the name is binding, where XML 4.2
 -- has the first; and without one a reference is to no entity, where 4.4.3 lets it be passed over.
@@ -85,69 +37,116 @@ abbrev pub entry : List ℕ → Option Replacement → List Entity
 entry name None = []
 entry name (Some text) = record { name = name; text = text } ∷ []
 
--- XML 4.2 [70] EntityDecl. A literal may hold any `&` and `%`, which 2.3 [9] forbids, and a reference to the entity itself, which
--- 4.1 (No Recursion) forbids: what it holds counts where the entity is referred to.
-pub record IsEntityDeclaration (src : List ℕ) (i j : ℕ) (asked : List Asked) (declared : List Entity) : Type 0 where
-  pub parameter : Bool
-  pub n : ℕ
-  pub m : ℕ
-  pub d : ℕ
-  pub begins : BeginsEntity src i parameter n m d
-  pub e : ℕ
-  pub text : Option Replacement
-  pub definition : IsDefinition src parameter d e asked text
-  pub declares : declared ≡ entry (slice src n m) text
-  pub closes : byte src (spaces_end src e) ≡ code ">"
-  pub next : j ≡ spaces_end src e + 1
+-- What stands between two places of a source.
+module _ (src : List ℕ) where
+  -- the white space between two things, one at least: from i up to j
+  pub record IsSpace (i j : ℕ) : Type 0 where
+    pub some : i < j
+    pub all : j ≡ spaces_end src i
 
--- XML 3.2 [45], 3.3 [52], 4.7 [82]: declarations that are passed over, to their first `>`, whatever they hold. So
--- attributes have no defaults (3.3.2) and no types (3.3.3).
-pub record IsPassedOver (src : List ℕ) (i j : ℕ) : Type 0 where
-  pub opens : (text_at "<!ELEMENT" src i ≡ true) ⊎ ((text_at "<!ATTLIST" src i ≡ true) ⊎ (text_at "<!NOTATION" src i ≡ true))
-  pub e : ℕ
-  pub end : e ≡ byte_from (λ c. c == code ">") src i
-  pub closes : e < length src
-  pub next : j ≡ e + 1
+  -- XML 4.2.2 [75] ExternalID
+  pub data IsExternalID : ℕ → Request → ℕ → Type 0 where
+    system : (i s e j : ℕ) → text_at "SYSTEM" src i ≡ true → IsSpace (i + 6) s → IsQuoted src s e j → IsExternalID i (record { public_id = None; uri = slice src (s + 1) e }) j
+    public : (i p d k s e j : ℕ) → text_at "PUBLIC" src i ≡ true → IsSpace (i + 6) p → IsQuoted src p d k → IsSpace k s → IsQuoted src s e j
+        → IsExternalID i (record { public_id = Some (slice src (p + 1) d); uri = slice src (s + 1) e }) j
 
--- XML 2.8 [28b] intSubset, but for the references to parameter entities of [28a]: its comments and processing instructions, what is
--- asked, and the entities that are declared, each in order
-pub data Subset (src : List ℕ) : ℕ → ℕ → Forest Item → List Asked → List Entity → Type 0 where
-  no_more : (i : ℕ) → Subset src i i Nil [] []
-  space : (i j : ℕ) (items : Forest Item) (asked : List Asked) (es : List Entity) → is_space (byte src i) ≡ true → Subset src (i + 1) j items asked es
-      → Subset src i j items asked es
-  an_item : (i j k : ℕ) (item : Item) (items : Forest Item) (asked : List Asked) (es : List Entity) → IsMisc src i j item → Subset src j k items asked es
-      → Subset src i k (join (leaf item) items) asked es
-  skipped_declaration : (i j k : ℕ) (items : Forest Item) (asked : List Asked) (es : List Entity) → IsPassedOver src i j → Subset src j k items asked es
-      → Subset src i k items asked es
-  an_entity : (i j k : ℕ) (items : Forest Item) (first asked : List Asked) (one es : List Entity) → IsEntityDeclaration src i j first one → Subset src j k items asked es
-      → Subset src i k items (first ++ asked) (one ++ es)
+  -- XML 4.2.2 [76] NDataDecl, of a general entity alone. White space before it may be none, where [76] wants some, and the name may
+  -- have a colon, which NS 7 forbids. The entity may be referred to, which 4.1 (Parsed Entity) forbids. Without it there is the white
+  -- space that 4.2 [71] GEDecl has before its `>`.
+  pub data MayHaveNotation : (parameter : Bool) → ℕ → ℕ → Type 0 where
+    notation : (i s j : ℕ) → text_at "NDATA" src (spaces_end src i) ≡ true → IsSpace (spaces_end src i + 5) s → IsName src s j → MayHaveNotation false i j
+    no_notation : (i : ℕ) → text_at "NDATA" src (spaces_end src i) ≡ false → MayHaveNotation false i (spaces_end src i)
+    of_parameter : (i : ℕ) → MayHaveNotation true i i
 
--- an external id where `SYSTEM` or `PUBLIC` stands, else nothing. Nothing is asked for it.
-pub data MayHaveExternalID (src : List ℕ) : ℕ → ℕ → Type 0 where
-  external_id : (i j : ℕ) (request : Request) → IsExternalID src i request j → MayHaveExternalID src i j
-  no_external_id : (i : ℕ) → text_at "SYSTEM" src i ≡ false → text_at "PUBLIC" src i ≡ false → MayHaveExternalID src i i
+  -- The text is cut off where the name of a notation should stand: what is asked stands before it.
+  pub record CutsNotation (parameter : Bool) (i j : ℕ) : Type 0 where
+    pub is_general : parameter ≡ false
+    pub opens : text_at "NDATA" src (spaces_end src i) ≡ true
+    pub space_behind : IsSpace (spaces_end src i + 5) j
+    pub cut : length src ≤ j
 
--- XML 2.8 [28] doctypedecl up to its `>` or `[`, which stands at s. The name may have any colons, where NS 4 [16] wants a QName.
-pub record BeginsDoctype (src : List ℕ) (i s : ℕ) : Type 0 where
-  pub opens : text_at "<!DOCTYPE" src i ≡ true
-  pub n : ℕ
-  pub space_before : IsSpace src (i + 9) n
-  pub m : ℕ
-  pub name : IsName src n m
-  pub x : ℕ
-  pub external : MayHaveExternalID src (spaces_end src m) x
-  pub next : s ≡ spaces_end src x
+  -- XML 4.2 [73] EntityDef, [74] PEDef: from i up to j, with what is asked there and the text that is declared, if any
+  pub data IsDefinition (parameter : Bool) : ℕ → ℕ → List Asked → Option Replacement → Type 0 where
+    internal : (i e j : ℕ) → IsQuoted src i e j → IsDefinition parameter i j [] (Some (record { source = take e src; start = i + 1 }))
+    external : (i n j : ℕ) (request : Request) (answer : Option (List ℕ)) (text : Option Replacement) → IsExternalID i request n → MayHaveNotation parameter n j
+        → GivesReplacement answer text → IsDefinition parameter i j (record { request = request; answer = answer } ∷ []) text
 
--- the document type declaration that begins at i is read up to p, within its subset: its nodes, and what is asked
-pub record SubsetTo (src : List ℕ) (i p : ℕ) (items : Forest Item) (asked : List Asked) : Type 0 where
-  pub s : ℕ
-  pub begins : BeginsDoctype src i s
-  pub opens : byte src s ≡ code "["
-  pub declared : List Entity
-  pub read : Subset src (s + 1) p items asked declared
+  -- `%` and white space before the name of a parameter entity
+  pub data IsKind : ℕ → (parameter : Bool) → ℕ → Type 0 where
+    of_parameter : (i j : ℕ) → byte src i ≡ code "%" → IsSpace (i + 1) j → IsKind i true j
+    general : (i : ℕ) → byte src i ≢ code "%" → IsKind i false i
 
--- XML 2.8 [28] doctypedecl. Its name need not be that of the root element, as 2.8 (Root Element Type) wants.
-pub data IsDoctype (src : List ℕ) : ℕ → ℕ → Forest Item → List Asked → List Entity → Type 0 where
-  no_subset : (i s : ℕ) → BeginsDoctype src i s → byte src s ≡ code ">" → IsDoctype src i (s + 1) Nil [] []
-  with_subset : (i s k : ℕ) (items : Forest Item) (asked : List Asked) (es : List Entity) → BeginsDoctype src i s → byte src s ≡ code "[" → Subset src (s + 1) k items asked es
-      → byte src k ≡ code "]" → byte src (spaces_end src (k + 1)) ≡ code ">" → IsDoctype src i (spaces_end src (k + 1) + 1) items asked es
+  -- XML 4.2 [70] EntityDecl up to its definition, which begins at d; its name stands from n up to m, and may have a colon, which NS 7
+  -- forbids
+  pub record BeginsEntity (i : ℕ) (parameter : Bool) (n m d : ℕ) : Type 0 where
+    pub opens : text_at "<!ENTITY" src i ≡ true
+    pub k : ℕ
+    pub space_before : IsSpace (i + 8) k
+    pub is_kind : IsKind k parameter n
+    pub name : IsName src n m
+    pub space_behind : IsSpace m d
+
+  -- XML 4.2 [70] EntityDecl. A literal may hold any `&` and `%`, which 2.3 [9] forbids, and a reference to the entity itself, which
+  -- 4.1 (No Recursion) forbids: what it holds counts where the entity is referred to.
+  pub record IsEntityDeclaration (i j : ℕ) (asked : List Asked) (declared : List Entity) : Type 0 where
+    pub parameter : Bool
+    pub n : ℕ
+    pub m : ℕ
+    pub d : ℕ
+    pub begins : BeginsEntity i parameter n m d
+    pub e : ℕ
+    pub text : Option Replacement
+    pub definition : IsDefinition parameter d e asked text
+    pub declares : declared ≡ entry (slice src n m) text
+    pub closes : byte src (spaces_end src e) ≡ code ">"
+    pub next : j ≡ spaces_end src e + 1
+
+  -- XML 3.2 [45], 3.3 [52], 4.7 [82]: declarations that are passed over, to their first `>`, whatever they hold. So
+  -- attributes have no defaults (3.3.2) and no types (3.3.3).
+  pub record IsPassedOver (i j : ℕ) : Type 0 where
+    pub opens : (text_at "<!ELEMENT" src i ≡ true) ⊎ ((text_at "<!ATTLIST" src i ≡ true) ⊎ (text_at "<!NOTATION" src i ≡ true))
+    pub e : ℕ
+    pub end : e ≡ byte_from (λ c. c == code ">") src i
+    pub closes : e < length src
+    pub next : j ≡ e + 1
+
+  -- XML 2.8 [28b] intSubset, but for the references to parameter entities of [28a]: its comments and processing instructions, what is
+  -- asked, and the entities that are declared, each in order
+  pub data Subset : ℕ → ℕ → Forest Item → List Asked → List Entity → Type 0 where
+    no_more : (i : ℕ) → Subset i i Nil [] []
+    space : (i j : ℕ) (items : Forest Item) (asked : List Asked) (es : List Entity) → is_space (byte src i) ≡ true → Subset (i + 1) j items asked es → Subset i j items asked es
+    an_item : (i j k : ℕ) (item : Item) (items : Forest Item) (asked : List Asked) (es : List Entity) → IsMisc src i j item → Subset j k items asked es
+        → Subset i k (join (leaf item) items) asked es
+    skipped_declaration : (i j k : ℕ) (items : Forest Item) (asked : List Asked) (es : List Entity) → IsPassedOver i j → Subset j k items asked es → Subset i k items asked es
+    an_entity : (i j k : ℕ) (items : Forest Item) (first asked : List Asked) (one es : List Entity) → IsEntityDeclaration i j first one → Subset j k items asked es
+        → Subset i k items (first ++ asked) (one ++ es)
+
+  -- an external id where `SYSTEM` or `PUBLIC` stands, else nothing. Nothing is asked for it.
+  pub data MayHaveExternalID : ℕ → ℕ → Type 0 where
+    external_id : (i j : ℕ) (request : Request) → IsExternalID i request j → MayHaveExternalID i j
+    no_external_id : (i : ℕ) → text_at "SYSTEM" src i ≡ false → text_at "PUBLIC" src i ≡ false → MayHaveExternalID i i
+
+  -- XML 2.8 [28] doctypedecl up to its `>` or `[`, which stands at s. The name may have any colons, where NS 4 [16] wants a QName.
+  pub record BeginsDoctype (i s : ℕ) : Type 0 where
+    pub opens : text_at "<!DOCTYPE" src i ≡ true
+    pub n : ℕ
+    pub space_before : IsSpace (i + 9) n
+    pub m : ℕ
+    pub name : IsName src n m
+    pub x : ℕ
+    pub external : MayHaveExternalID (spaces_end src m) x
+    pub next : s ≡ spaces_end src x
+
+  -- the document type declaration that begins at i is read up to p, within its subset: its nodes, and what is asked
+  pub record SubsetTo (i p : ℕ) (items : Forest Item) (asked : List Asked) : Type 0 where
+    pub s : ℕ
+    pub begins : BeginsDoctype i s
+    pub opens : byte src s ≡ code "["
+    pub declared : List Entity
+    pub read : Subset (s + 1) p items asked declared
+
+  -- XML 2.8 [28] doctypedecl. Its name need not be that of the root element, as 2.8 (Root Element Type) wants.
+  pub data IsDoctype : ℕ → ℕ → Forest Item → List Asked → List Entity → Type 0 where
+    no_subset : (i s : ℕ) → BeginsDoctype i s → byte src s ≡ code ">" → IsDoctype i (s + 1) Nil [] []
+    with_subset : (i s k : ℕ) (items : Forest Item) (asked : List Asked) (es : List Entity) → BeginsDoctype i s → byte src s ≡ code "[" → Subset (s + 1) k items asked es
+        → byte src k ≡ code "]" → byte src (spaces_end src (k + 1)) ≡ code ">" → IsDoctype i (spaces_end src (k + 1) + 1) items asked es
