@@ -39,19 +39,19 @@ pub data TagBegins (src : List ℕ) (i : ℕ) : Bool → Type 0 where
   in_content : byte src i ≡ code "<" → i + 1 < length src → byte src (i + 1) ≢ code "!" → byte src (i + 1) ≢ code "?" → byte src (i + 1) ≢ code "/" → TagBegins src i true
 
 -- One construct of content (XML 3.1 [43]) from one state to another, and the openings that are left before it and behind it.
-pub data StepsOver (k : ℕ) (Includes : Inclusion) (src : List ℕ) (s : State) : ℕ → State → ℕ → Type 0 where
-  a_run : (j b c : ℕ) (items : Forest Item) → is_content k s.stack ≡ true → IsCharacterData src s.at j → Parts (is_main k) Includes src s.at j s.at b c items
-      → AreWellNamed (scope_of s.stack) items → StepsOver k Includes src s b (record { at = j; done = join s.done items; stack = s.stack }) c
-  a_section : (e j b : ℕ) → is_content k s.stack ≡ true → IsCData src s.at e j
-      → StepsOver k Includes src s b (record { at = j; done = join s.done (leaf (section s.at j (slice src (s.at + 9) e))); stack = s.stack }) b
-  a_misc : (j b : ℕ) (item : Item) → is_content k s.stack ≡ true → IsMisc src s.at j item
-      → StepsOver k Includes src s b (record { at = j; done = join s.done (leaf item); stack = s.stack }) b
-  an_empty_tag : (j b c : ℕ) (t : Tag) → IsTag (is_main k) Includes src s.at j b c true t → IsWellNamed (listed (scope_of s.stack) t.declarations) t
-      → StepsOver k Includes src s b (record { at = j; done = join s.done (leaf (Element s.at j t)); stack = s.stack }) c
-  a_start_tag : (j b c : ℕ) (t : Tag) → IsTag (is_main k) Includes src s.at j b c false t → IsWellNamed (listed (scope_of s.stack) t.declarations) t
-      → StepsOver k Includes src s b (record { at = j; done = Nil; stack = inside s.at t s.done s.stack }) c
-  an_end_tag : (n j b start : ℕ) (t : Tag) (before : Forest Item) (up : Open) → s.stack ≡ inside start t before up → IsEnd src s.at t.name n j
-      → StepsOver k Includes src s b (record { at = j; done = join before (Cons (Element start j t) (merge s.done) Nil); stack = up }) b
+module _ (k : ℕ) (Includes : Inclusion) (src : List ℕ) (s : State) where
+  pub data StepsOver : ℕ → State → ℕ → Type 0 where
+    a_run : (j b c : ℕ) (items : Forest Item) → is_content k s.stack ≡ true → IsCharacterData src s.at j → Parts (is_main k) Includes src s.at j s.at b c items
+        → AreWellNamed (scope_of s.stack) items → StepsOver b (record { at = j; done = join s.done items; stack = s.stack }) c
+    a_section : (e j b : ℕ) → is_content k s.stack ≡ true → IsCData src s.at e j
+        → StepsOver b (record { at = j; done = join s.done (leaf (section s.at j (slice src (s.at + 9) e))); stack = s.stack }) b
+    a_misc : (j b : ℕ) (item : Item) → is_content k s.stack ≡ true → IsMisc src s.at j item → StepsOver b (record { at = j; done = join s.done (leaf item); stack = s.stack }) b
+    an_empty_tag : (j b c : ℕ) (t : Tag) → IsTag (is_main k) Includes src s.at j b c true t → IsWellNamed (listed (scope_of s.stack) t.declarations) t
+        → StepsOver b (record { at = j; done = join s.done (leaf (Element s.at j t)); stack = s.stack }) c
+    a_start_tag : (j b c : ℕ) (t : Tag) → IsTag (is_main k) Includes src s.at j b c false t → IsWellNamed (listed (scope_of s.stack) t.declarations) t
+        → StepsOver b (record { at = j; done = Nil; stack = inside s.at t s.done s.stack }) c
+    an_end_tag : (n j b start : ℕ) (t : Tag) (before : Forest Item) (up : Open) → s.stack ≡ inside start t before up → IsEnd src s.at t.name n j
+        → StepsOver b (record { at = j; done = join before (Cons (Element start j t) (merge s.done) Nil); stack = up }) b
 
 -- The run from start up to stop is read from i up to p, behind a reference to an entity or before one: the parts of it, and the
 -- openings that are left before them and behind.

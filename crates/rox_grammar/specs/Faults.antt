@@ -140,23 +140,23 @@ pub data InEnd (open_around : ℕ) (src : List ℕ) (s : State) : Fault → Type
   none_open : (n j : ℕ) (name : Name) → depth_of s.stack ≡ open_around → IsEnd src s.at name n j → InEnd open_around src s (fault.UnexpectedEntityCloseTag s.at)
 
 -- ---- at a place
-pub data Stands (limit : ℕ) (es : List Entity) (k open_around : ℕ) (Includes : Inclusion) (src : List ℕ) (s : State) (b : ℕ) : Fault → Type 0 where
-  in_run : (f : Fault) → is_content k s.stack ≡ true → s.at < length src → byte src s.at ≢ code "<" → InRun es k Includes src s.at b f → Stands limit es k open_around Includes src s b f
-  in_section : (p : ℕ) (t : DueItem) (f : Fault) → is_content k s.stack ≡ true → text_at "<![CDATA[" src s.at ≡ true → DueInText expected.CDataEnd src (s.at + 9) p t → IsMissing src p t f → Stands limit es k open_around Includes src s b f
-  in_misc : (f : Fault) → is_content k s.stack ≡ true → InMisc src s.at f → Stands limit es k open_around Includes src s b f
-  in_tag : (f : Fault) → TagBegins src s.at (is_content k s.stack) → InTag (is_main k) Includes src s b f → Stands limit es k open_around Includes src s b f
-  in_end : (f : Fault) → is_content k s.stack ≡ true → InEnd open_around src s f → Stands limit es k open_around Includes src s b f
-  -- `<` at the end, or `<!` of neither a comment nor a section
-  unknown : is_content k s.stack ≡ true → byte src s.at ≡ code "<"
-      → (length src ≡ s.at + 1) ⊎ ((byte src (s.at + 1) ≡ code "!") × (text_at "<!--" src s.at ≡ false) × (text_at "<![CDATA[" src s.at ≡ false)) → Stands limit es k open_around Includes src s b (fault.UnknownToken s.at)
-  unclosed : (start : ℕ) (tag : Tag) (before : Forest Item) (up : Open) → s.stack ≡ inside start tag before up → length src ≤ s.at → is_main k ≡ true → Stands limit es k open_around Includes src s b fault.UnclosedRootNode
-  unclosed_in_replacement : open_around < depth_of s.stack → length src ≤ s.at → is_main k ≡ false → Stands limit es k open_around Includes src s b fault.UnexpectedEndOfStream
-  -- behind the construct that begins here
-  too_many_nodes : (c : ℕ) (t : State) → StepsOver k Includes src s b t c → HasTooManyNodes limit t.stack t.done → Stands limit es k open_around Includes src s b fault.NodesLimitReached
-  -- behind the parts of a run up to a reference to an entity: a text is counted before the reference behind it is opened
-  too_many_pieces : (stop p j c : ℕ) (front : Forest Item) (t : Replacement) → is_content k s.stack ≡ true → IsCharacterData src s.at stop → PartsTo (is_main k) Includes src s.at stop s.at p b c front
-      → AreWellNamed (scope_of s.stack) front → p < stop → RefersTo es src p j t → HasTooManyNodes limit s.stack (join s.done front)
-      → Stands limit es k open_around Includes src s b fault.NodesLimitReached
+module _ (limit : ℕ) (es : List Entity) (k open_around : ℕ) (Includes : Inclusion) (src : List ℕ) (s : State) (b : ℕ) where
+  pub data Stands : Fault → Type 0 where
+    in_run : (f : Fault) → is_content k s.stack ≡ true → s.at < length src → byte src s.at ≢ code "<" → InRun es k Includes src s.at b f → Stands f
+    in_section : (p : ℕ) (t : DueItem) (f : Fault) → is_content k s.stack ≡ true → text_at "<![CDATA[" src s.at ≡ true → DueInText expected.CDataEnd src (s.at + 9) p t → IsMissing src p t f → Stands f
+    in_misc : (f : Fault) → is_content k s.stack ≡ true → InMisc src s.at f → Stands f
+    in_tag : (f : Fault) → TagBegins src s.at (is_content k s.stack) → InTag (is_main k) Includes src s b f → Stands f
+    in_end : (f : Fault) → is_content k s.stack ≡ true → InEnd open_around src s f → Stands f
+    -- `<` at the end, or `<!` of neither a comment nor a section
+    unknown : is_content k s.stack ≡ true → byte src s.at ≡ code "<"
+        → (length src ≡ s.at + 1) ⊎ ((byte src (s.at + 1) ≡ code "!") × (text_at "<!--" src s.at ≡ false) × (text_at "<![CDATA[" src s.at ≡ false)) → Stands (fault.UnknownToken s.at)
+    unclosed : (start : ℕ) (tag : Tag) (before : Forest Item) (up : Open) → s.stack ≡ inside start tag before up → length src ≤ s.at → is_main k ≡ true → Stands fault.UnclosedRootNode
+    unclosed_in_replacement : open_around < depth_of s.stack → length src ≤ s.at → is_main k ≡ false → Stands fault.UnexpectedEndOfStream
+    -- behind the construct that begins here
+    too_many_nodes : (c : ℕ) (t : State) → StepsOver k Includes src s b t c → HasTooManyNodes limit t.stack t.done → Stands fault.NodesLimitReached
+    -- behind the parts of a run up to a reference to an entity: a text is counted before the reference behind it is opened
+    too_many_pieces : (stop p j c : ℕ) (front : Forest Item) (t : Replacement) → is_content k s.stack ≡ true → IsCharacterData src s.at stop → PartsTo (is_main k) Includes src s.at stop s.at p b c front
+        → AreWellNamed (scope_of s.stack) front → p < stop → RefersTo es src p j t → HasTooManyNodes limit s.stack (join s.done front) → Stands fault.NodesLimitReached
 
 -- ---- at a point of content, where k replacement texts are open, around which `open_around` elements are open: in this source
 pub data AtPoint (opens : ℕ → Inclusion) (es : List Entity) (limit k open_around : ℕ) (src : List ℕ) (s : State) (b : ℕ) : List ℕ → Fault → Type 0 where
@@ -170,15 +170,15 @@ pub data AtPoint (opens : ℕ → Inclusion) (es : List Entity) (limit k open_ar
 -- Of this text, with at most `limit` nodes, the fault stands in this source, in the part that begins where `Front` says what
 -- stands before: before the root element, in it, or behind it. All before it is as the grammar wants and within the limits.
 -- Positions and names of the fault count in the source. The flag says that a document type declaration stands before.
-pub data FaultFrom (opens : ℕ → Inclusion) (es : List Entity) (limit : ℕ) (text : List ℕ) (declared : Bool) (Front : ℕ → Forest Item → Type 0) : List ℕ → Fault → Type 0 where
-  misc_around : (p : ℕ) (items : Forest Item) (f : Fault) → Front p items ⊎ Behind (opens 0) text Front p items → FitsLimits limit root items → InMiscs limit text p items f
-      → FaultFrom opens es limit text declared Front text f
-  no_root : (items : Forest Item) → Front (length text) items → FitsLimits limit root items → FaultFrom opens es limit text declared Front text fault.NoRootNode
-  unknown_ahead : (p : ℕ) (items : Forest Item) → Front p items → FitsLimits limit root items → p < length text → is_space (byte text p) ≡ false
-      → byte text p ≢ code "<" → FaultFrom opens es limit text declared Front text (fault.UnknownToken p)
-  at_point : (k open_around b : ℕ) (src : List ℕ) (s : State) (source : List ℕ) (f : Fault)
-      → ContentPoint opens es text (λ p items. Front p items × RootBegins declared text p) k open_around src b s → FitsLimits limit s.stack s.done
-      → AtPoint opens es limit k open_around src s b source f → FaultFrom opens es limit text declared Front source f
-  unknown_behind : (p : ℕ) (items : Forest Item) → Behind (opens 0) text Front p items → FitsLimits limit root items → p < length text
-      → is_space (byte text p) ≡ false → text_at "<!--" text p ≡ false → text_at "<?" text p ≡ false
-      → FaultFrom opens es limit text declared Front text (fault.UnknownToken p)
+module _ (opens : ℕ → Inclusion) (es : List Entity) (limit : ℕ) (text : List ℕ) (declared : Bool) (Front : ℕ → Forest Item → Type 0) where
+  pub data FaultFrom : List ℕ → Fault → Type 0 where
+    misc_around : (p : ℕ) (items : Forest Item) (f : Fault) → Front p items ⊎ Behind (opens 0) text Front p items → FitsLimits limit root items → InMiscs limit text p items f
+        → FaultFrom text f
+    no_root : (items : Forest Item) → Front (length text) items → FitsLimits limit root items → FaultFrom text fault.NoRootNode
+    unknown_ahead : (p : ℕ) (items : Forest Item) → Front p items → FitsLimits limit root items → p < length text → is_space (byte text p) ≡ false
+        → byte text p ≢ code "<" → FaultFrom text (fault.UnknownToken p)
+    at_point : (k open_around b : ℕ) (src : List ℕ) (s : State) (source : List ℕ) (f : Fault)
+        → ContentPoint opens es text (λ p items. Front p items × RootBegins declared text p) k open_around src b s → FitsLimits limit s.stack s.done
+        → AtPoint opens es limit k open_around src s b source f → FaultFrom source f
+    unknown_behind : (p : ℕ) (items : Forest Item) → Behind (opens 0) text Front p items → FitsLimits limit root items → p < length text
+        → is_space (byte text p) ≡ false → text_at "<!--" text p ≡ false → text_at "<?" text p ≡ false → FaultFrom text (fault.UnknownToken p)
