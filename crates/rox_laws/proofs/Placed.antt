@@ -7,11 +7,13 @@ use Rattle.std.proofs.lemmas.Bool.{cases_Bool}
 use Rattle.rox_grammar.specs.declared.fault.Word.{Word}
 use Rattle.rox_grammar.specs.declared.fault.Expected.{Expected}
 use Rattle.rox_grammar.specs.declared.fault.Word.TheVariants as word
+use Rattle.rox_grammar.specs.declared.fault.Expected.TheVariants as expected
 use Rattle.rox_grammar.specs.declared.fault.Due.TheVariants as kinds
 use Rattle.rox_grammar.specs.declared.fault.Fault.{Fault}
 use Rattle.rox_grammar.specs.Chars.{is_space, is_name_start, is_name_char}
 use Rattle.rox_grammar.specs.Runs.{StandsAt}
-use Rattle.rox_grammar.specs.FixedTexts.{word_text, at, first}
+use Rattle.rox_grammar.specs.FixedTexts.{word_text, at}
+use Rattle.rox_grammar.specs.ExpectedTexts.{expected_text}
 use Rattle.rox_grammar.specs.Search.{before_mark, mark_from}
 use Rattle.rox_grammar.specs.Written.{Name, Attribute, NamespaceDecl, is_namespace_decl, plain_attributes_of}
 use Rattle.rox_grammar.specs.Names.{byte, spaces_end, IsName, IsQName, unprefixed, prefixed, colon_first}
@@ -113,7 +115,7 @@ module _ (src : List ℕ) (utf8 : IsUtf8 src) where
 
   instruction_fits : (i p : ℕ) (t : DueItem) → at word.PIStart src i ≡ true → DueInPI src i p t → Fits src t p
   instruction_fits i p t opens due.DueInPI.its_target = stands_fits (word_text word.PIStart) src i (omega arith) opens
-  instruction_fits i p t opens (due.DueInPI.its_value n _ _ is value) = text_fits word.PIEnd (spaces_end src n) p t (spaces_inside i n opens is) value
+  instruction_fits i p t opens (due.DueInPI.its_value n _ _ is value) = text_fits expected.PIEnd (spaces_end src n) p t (spaces_inside i n opens is) value
 
   end_fits : (i p : ℕ) (t : DueItem) → DueInEnd src i p t → Fits src t p
   end_fits i p t (due.DueInEnd.its_name opens) = stands_fits (word_text word.EndTagStart) src i (omega arith) opens
@@ -172,7 +174,7 @@ module _ (src : List ℕ) (utf8 : IsUtf8 src) where
 
   misc_placed : (i : ℕ) (f : Fault) → InMisc src i f → IsPlaced src f
   misc_placed i f (rows.InMisc.comment_lacks p t _ opens is lacks) =
-      lacks_placed src p t f (text_fits word.CommentEnd (i + 4) p t (stands_fits (word_text word.CommentStart) src i (omega arith) opens) is) lacks
+      lacks_placed src p t f (text_fits expected.CommentEnd (i + 4) p t (stands_fits (word_text word.CommentStart) src i (omega arith) opens) is) lacks
   misc_placed i f (rows.InMisc.double_dashes e opens ends chars closes dashes) = let two = (comment_bytes src i opens).0 in omega arith
   misc_placed i f (rows.InMisc.a_declaration opens) = let two = (instruction_bytes src i (declaration_bytes src i opens)).0 in omega arith
   misc_placed i f (rows.InMisc.instruction_lacks p t _ opens none is lacks) = lacks_placed src p t f (instruction_fits i p t opens is) lacks
@@ -264,7 +266,7 @@ module _ (src : List ℕ) (utf8 : IsUtf8 src) where
   pub stands_placed : (limit : ℕ) (es : List Entity) (k open_around : ℕ) (O : Inclusion) (s : State) (b : ℕ) (f : Fault) → Stands limit es k open_around O src s b f → IsPlaced src f
   stands_placed limit es k open_around O s b f (rows.Stands.in_run _ inner before no_less ill) = run_placed es k O s.at b f before ill
   stands_placed limit es k open_around O s b f (rows.Stands.in_section p t _ inner opens is lacks) =
-      lacks_placed src p t f (text_fits word.CDataEnd (s.at + 9) p t (stands_fits (word_text word.CDataStart) src s.at (omega arith) opens) is) lacks
+      lacks_placed src p t f (text_fits expected.CDataEnd (s.at + 9) p t (stands_fits (word_text word.CDataStart) src s.at (omega arith) opens) is) lacks
   stands_placed limit es k open_around O s b f (rows.Stands.in_misc _ inner ill) = misc_placed s.at f ill
   stands_placed limit es k open_around O s b f (rows.Stands.in_tag _ begins ill) = tag_placed _ O s b f (begins_less s.at _ begins) ill
   stands_placed limit es k open_around O s b f (rows.Stands.in_end _ inner ill) = end_placed open_around s f ill
