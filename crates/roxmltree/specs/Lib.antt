@@ -12,6 +12,7 @@ pub mod NamespaceBound
 pub mod AttributeView
 pub mod ElementLists
 pub mod GivesNode
+pub mod Links
 pub mod NodeRows
 pub mod NodeRef
 pub mod Elements

@@ -3,6 +3,7 @@
 ghost use Rattle.std.specs.Prelude.{◌≡◌, ◌≤◌, ◌+◌, length, Some, None, bytes_eq, slice_range};
 ghost use Rattle.std.specs.Int.{w64, from_le_bytes, to_le_bytes};
 ghost use Rattle.std.specs.Option.{option_map};
+ghost use Rattle.rox_tables.specs.Words.{HasLength};
 ghost use Rattle.roxmltree.specs.ExpandedNames.{expanded, same_expanded_name};
 
 use rox_tables::compare::{Pair, WORD, same_bytes, same_words};
@@ -59,8 +60,7 @@ fn same_long_word(pair: Pair<'_, '_>, at: usize) -> bool
 /// Whether two stretches of eight to sixteen bytes, of one length, are the same: their first eight are, and their last eight.
 #[inline(always)]
 fn same_long_words(pair: Pair<'_, '_>) -> bool
-    requires least { 8 ≤ length pair.one.now }
-    requires most { length pair.one.now ≤ 16 }
+    requires { HasLength 8 16 pair.one.now }
     ensures { result ≡ bytes_eq pair.entry.one.now pair.entry.other.now }
 {
     let last = pair.one.len() - LONG_WORD;
@@ -143,8 +143,7 @@ fn same_front(pair: Pair<'_, '_>) -> bool
 /// sixteen. Where they have twenty-eight no byte is read twice, since the compiler reads words only of what is read once.
 #[inline(always)]
 fn same_short_uris(pair: Pair<'_, '_>) -> bool
-    requires least { 16 ≤ length pair.one.now }
-    requires most { length pair.one.now ≤ 28 }
+    requires { HasLength 16 28 pair.one.now }
     ensures { result ≡ bytes_eq pair.entry.one.now pair.entry.other.now }
 {
     let one = &pair.one[0..FRONT];

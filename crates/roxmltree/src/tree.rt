@@ -1,11 +1,11 @@
 //! A document: the tables of its nodes, seen by callers as the one tree that they hold.
 
-ghost use Rattle.std.specs.Prelude.{◌≡◌, ◌+◌, ◌^◌, ◌<◌, ◌≤◌, ℕ, List, length, Some, None, IfSome, IfNone};
+ghost use Rattle.std.specs.Prelude.{◌≡◌, ◌^◌, ◌<◌, ◌≤◌, ℕ, List, length, Some, None, IfSome, IfNone};
 ghost use Rattle.std.specs.Option.{option_map};
 ghost use Rattle.rox_grammar.specs.Forest.{Forest, size};
 ghost use Rattle.rox_grammar.specs.Tree.{uri_of};
 ghost use Rattle.rox_tables.specs.Rows.{namespace_view};
-ghost use Rattle.roxmltree.specs.Places.{place, parent, children};
+ghost use Rattle.roxmltree.specs.Places.{place, children};
 ghost use Rattle.roxmltree.specs.NodeParts.{node_at, is_element_node, is_text_node, start_of, end_of, content_of, namespace_of, listed_of, attributes_of};
 ghost use Rattle.roxmltree.specs.ExpandedNames.{first_prefix};
 
@@ -169,7 +169,8 @@ impl<'input> Document<'input> {
 /// What the tables say of a node, whose id is that of a row.
 impl<'a, 'input> Node<'a, 'input> {
     ghost use Rattle.rox_tables.specs.StoredNodes.{kind_of};
-    ghost use Rattle.roxmltree.specs.NodeRef.{id_of, tree_of, item_of};
+    ghost use Rattle.roxmltree.specs.Links.{HasLinks};
+    ghost use Rattle.roxmltree.specs.NodeRef.{id_of, item_of};
     ghost use Rattle.roxmltree.specs.Stripped.{stripped, stripped_row, content_in};
 
     /// The node of this id.
@@ -191,13 +192,7 @@ impl<'a, 'input> Node<'a, 'input> {
     /// The row of a node, for its links.
     #[inline(always)]
     pub(crate) fn row(&self) -> &'a StoredNode<'input>
-        ensures no_parent { id_of self.now ≡ 0 → parent (tree_of self.now) (id_of self.now) ≡ None }
-        ensures parent { 0 < id_of self.now
-            → parent (tree_of self.now) (id_of self.now) ≡ Some result.now.parent }
-        ensures subtree_end { result.now.subtree_end
-            ≡ id_of self.now + (place (tree_of self.now) (id_of self.now)).count }
-        ensures whole { id_of self.now ≡ 0 → result.now.subtree_end ≡ size (tree_of self.now) }
-        ensures few { size (tree_of self.now) < 2 ^ 32 }
+        ensures { HasLinks self.now result.now }
     {
         let document = self.document;
         document.whole();

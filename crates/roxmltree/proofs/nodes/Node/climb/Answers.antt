@@ -8,7 +8,7 @@ loop-parent-preserved c =
     let node = c.loop-parent.node in
     let same = c.loop-parent.invariant.document in
     let given = c.in-Some.ensures in
-    let step = up_to_parent node.document.now.tree node.id.0 c.in-Some.above.id.0 c.args.parent.0 c.row.result.now.parent node.in_tree given.0 c.row.ensures.no_parent c.row.ensures.parent c.loop-parent-test.true in
+    let step = up_to_parent node.document.now.tree node.id.0 c.in-Some.above.id.0 c.args.parent.0 c.row.result.now.parent node.in_tree given.0 c.row.ensures.no_parent c.row.ensures.parent_is c.loop-parent-test.true in
     record {
       document = given.1 ∙ same;
       toward =

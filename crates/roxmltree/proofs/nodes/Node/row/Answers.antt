@@ -4,31 +4,14 @@ use Rattle.roxmltree.proofs.Tops.{IsDocument, is_document}
 use Rattle.roxmltree.proofs.NodeRows.{row_data, row_here}
 use Rattle.roxmltree.proofs.nodes.Node.row.Goals as goal
 
--- the tree is that of a document
-document_in : (c : goal.After-whole) → IsDocument (length c.args.self.now.document.now.text) c.args.self.now.document.now.tree
-document_in c = is_document c.args.self.now.document.now.text 4294967295 c.args.self.now.document.now.tree c.whole.ensures.parsed.1
-
-pub returns-clause-no_parent : goal.returns-clause-no_parent
-returns-clause-no_parent c =
+pub returns : goal.returns
+returns c =
     let n = c.args.self.now in
-    row_no_parent _ n.document.now.tree _ (document_in c)
-
-pub returns-clause-parent : goal.returns-clause-parent
-returns-clause-parent c =
-    let n = c.args.self.now in
-    row_parent n.tables.now _ n.document.now.tree _ _ n.placed.holds (document_in c) n.in_tree (row_here n)
-
-pub returns-clause-subtree_end : goal.returns-clause-subtree_end
-returns-clause-subtree_end c =
-    let n = c.args.self.now in
-    row_next n.tables.now n.document.now.tree _ (row_data n) n.placed.holds n.in_tree (row_here n)
-
-pub returns-clause-whole : goal.returns-clause-whole
-returns-clause-whole c =
-    let n = c.args.self.now in
-    row_whole n.tables.now _ n.document.now.tree _ _ n.placed.holds (document_in c) n.in_tree (row_here n)
-
-pub returns-clause-few : goal.returns-clause-few
-returns-clause-few c =
-    let n = c.args.self.now in
-    omega (arith, n.placed.holds.few, row_count n.tables.now n.document.now.tree n.placed.holds)
+    let document : IsDocument (length n.document.now.text) n.document.now.tree = is_document n.document.now.text 4294967295 n.document.now.tree c.whole.ensures.parsed.1 in
+    record {
+      no_parent = row_no_parent _ n.document.now.tree _ document;
+      parent_is = row_parent n.tables.now _ n.document.now.tree _ _ n.placed.holds document n.in_tree (row_here n);
+      subtree_end = row_next n.tables.now n.document.now.tree _ (row_data n) n.placed.holds n.in_tree (row_here n);
+      whole = row_whole n.tables.now _ n.document.now.tree _ _ n.placed.holds document n.in_tree (row_here n);
+      few = omega (arith, n.placed.holds.few, row_count n.tables.now n.document.now.tree n.placed.holds);
+    }
