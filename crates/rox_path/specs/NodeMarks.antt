@@ -1,6 +1,6 @@
 -- Marks on the nodes of a subtree, in document order: the first is that of its top node, whose id is first. Words of private
 -- functions.
-use Rattle.std.specs.Prelude.{◌≡◌, ℕ, ◌+◌, ◌-◌, ◌<◌, ◌≤◌, ◌==◌, Bool, false, ◌&&◌, List, ◌∷◌, ◌++◌, map, Option, Some, None, nat_le, slice_index_or, if◌then◌else◌}
+use Rattle.std.specs.Prelude.{◌≡◌, ℕ, ◌+◌, ◌-◌, ◌<◌, ◌≤◌, ◌==◌, Bool, false, ◌&&◌, List, ◌∷◌, ◌++◌, map, Option, Some, None, length, nat_le, slice_index_or, if◌then◌else◌}
 use Rattle.std.specs.List.{list_any, range_with_len}
 use Rattle.rox_grammar.specs.Forest.{Forest, size}
 use Rattle.rox_grammar.specs.Tree as grammar
@@ -45,6 +45,12 @@ is_named name node_ref =
 -- a node above it is marked
 abbrev pub is_below : ℕ → List Bool → DocumentView × ℕ → Bool
 is_below first marks node_ref = list_any (is_marked first marks) (place node_ref.0.tree node_ref.1).above
+
+-- the next node of the subtree is this one, and of each before it these marks say whether a node above it is marked
+pub record MarksSoFar (start : Node) (marks below : List Bool) (next : Node) : Type 0 where
+  pub document : document_of next ≡ document_of start
+  pub place : id_of next ≡ id_of start + length below
+  pub so_far : below ≡ marks_by (is_below (id_of start) marks) (document_of start) (id_of start) (length below)
 
 -- it is of this name, and its parent is marked
 abbrev pub is_child : ℕ → List Bool → Expanded → DocumentView × ℕ → Bool

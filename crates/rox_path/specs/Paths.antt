@@ -1,5 +1,5 @@
 -- Paths as they are written: places in the bytes of a text, from 0.
-use Rattle.std.specs.Prelude.{◌≡◌, ◌≢◌, ◌⊎◌, ℕ, ◌+◌, ◌<◌, ◌==◌, ◌||◌, List, [], ◌∷◌, Some, None, length}
+use Rattle.std.specs.Prelude.{◌≡◌, ◌≢◌, ◌⊎◌, ℕ, ◌+◌, ◌<◌, ◌≤◌, ◌==◌, ◌||◌, List, [], ◌∷◌, Some, None, length}
 use Rattle.std.specs.Str.{IsCharBoundary}
 use Rattle.rox_grammar.specs.Search.{byte_from}
 use Rattle.rox_grammar.specs.Names.{byte, slice}
@@ -28,6 +28,29 @@ pub data IsStep (text : List ℕ) (i j : ℕ) : PathStep → Type 0 where
 pub record EndsBehind (text : List ℕ) (i j : ℕ) : Type 0 where
   pub onward : i < j
   pub cut : IsCharBoundary text j
+
+-- a local name from i up to where it ends
+pub record ReadsLocal (text : List ℕ) (i j : ℕ) (read : List ℕ) : Type 0 where
+  pub end : j ≡ local_end text i
+  pub local : read ≡ slice text i j
+  pub ends : EndsBehind text i j
+
+-- a name from i up to where it ends
+pub record ReadsName (text : List ℕ) (i j : ℕ) (read : Expanded) : Type 0 where
+  pub name : IsStepName text i j read
+  pub ends : EndsBehind text i j
+
+-- a step from i up to where it ends
+pub record ReadsStep (text : List ℕ) (i j : ℕ) (read : PathStep) : Type 0 where
+  pub step : IsStep text i j read
+  pub ends : EndsBehind text i j
+
+-- a URI that begins at i ends here: at a `}`, or at the end of the text
+pub record ReadsUri (text : List ℕ) (i j : ℕ) : Type 0 where
+  pub value : j ≡ uri_end text i
+  pub onward : i ≤ j
+  pub within : j ≤ length text
+  pub found : j < length text → byte text j ≡ 125
 
 -- one or more steps from i up to the end
 pub data IsPath (text : List ℕ) : ℕ → List PathStep → Type 0 where

@@ -2,10 +2,10 @@
 
 ghost use Rattle.std.specs.Prelude.{◌≡◌, ◌≢◌, ℕ, ◌+◌, ◌<◌, ◌≤◌, true, false, List, map, IfOk, IfErr, Err, Some, length};
 ghost use Rattle.std.specs.Str.{IsCharBoundary};
-ghost use Rattle.rox_grammar.specs.Names.{byte, slice};
+ghost use Rattle.rox_grammar.specs.Names.{byte};
 ghost use Rattle.roxmltree.specs.ExpandedNames.{expanded};
 ghost use Rattle.rox_path.specs.Steps.{PathStep, step_of};
-ghost use Rattle.rox_path.specs.Paths.{local_end, uri_end, EndsBehind, IsStepName, IsStep, IsPath, IsBadName, IsBadStep, IsBadAt};
+ghost use Rattle.rox_path.specs.Paths.{local_end, IsPath, IsBadName, IsBadStep, IsBadAt, ReadsLocal, ReadsName, ReadsStep, ReadsUri};
 ghost use Rattle.rox_path.specs.PathMessages.{ToldAt};
 ghost use Rattle.rox_path.specs.declared.parse.PathError.TheVariants.{OutOfMemory};
 
@@ -76,8 +76,7 @@ pub fn parse_path<'q>(alloc: Global, text: &'q str) -> Result<Vec<Step<'q>>, Pat
 /// The step that begins at this place, and where it ends.
 fn step_at<'q>(text: &'q str, at: usize) -> Result<(Step<'q>, usize), PathError>
     requires { IsCharBoundary text.now at }
-    ensures step { IfOk result (λ r. IsStep text.now at r.1 (step_of r.0)) }
-    ensures ends { IfOk result (λ r. EndsBehind text.now at r.1) }
+    ensures ok { IfOk result (λ r. ReadsStep text.now at r.1 (step_of r.0)) }
     ensures bad { IfErr result (ToldAt (IsBadStep text.now at)) }
 {
     if !is_at(text, at, b'/') {
@@ -95,8 +94,7 @@ fn step_at<'q>(text: &'q str, at: usize) -> Result<(Step<'q>, usize), PathError>
 /// The name that begins at this place, and where it ends.
 fn name_at<'q>(text: &'q str, at: usize) -> Result<(ExpandedName<'q, 'q>, usize), PathError>
     requires { IsCharBoundary text.now at }
-    ensures name { IfOk result (λ r. IsStepName text.now at r.1 (expanded r.0)) }
-    ensures ends { IfOk result (λ r. EndsBehind text.now at r.1) }
+    ensures ok { IfOk result (λ r. ReadsName text.now at r.1 (expanded r.0)) }
     ensures bad { IfErr result (ToldAt (IsBadName text.now at)) }
 {
     if !is_at(text, at, b'{') {
@@ -115,9 +113,7 @@ fn name_at<'q>(text: &'q str, at: usize) -> Result<(ExpandedName<'q, 'q>, usize)
 #[tactic(auto, unfolding(rox_grammar::specs::Search::byte_from))]
 fn local_at(text: &str, at: usize) -> Result<(&str, usize), PathError>
     requires { IsCharBoundary text.now at }
-    ensures end { IfOk result (λ r. r.1 ≡ local_end text.now at) }
-    ensures local { IfOk result (λ r. r.0.now ≡ slice text.now at r.1) }
-    ensures ends { IfOk result (λ r. EndsBehind text.now at r.1) }
+    ensures ok { IfOk result (λ r. ReadsLocal text.now at r.1 r.0.now) }
     ensures bad { IfErr result (ToldAt (λ k. (k ≡ at) × (local_end text.now at ≡ at))) }
 {
     let rest = text.as_bytes().split_at(at).1;
@@ -132,10 +128,7 @@ fn local_at(text: &str, at: usize) -> Result<(&str, usize), PathError>
 #[tactic(auto, unfolding(rox_grammar::specs::Search::byte_from))]
 fn uri_end(text: &str, at: usize) -> usize
     requires { at ≤ length text.now }
-    ensures value { result ≡ uri_end text.now at }
-    ensures onward { at ≤ result }
-    ensures within { result ≤ length text.now }
-    ensures found { result < length text.now → byte text.now result ≡ 125 }
+    ensures { ReadsUri text.now at result }
 {
     let rest = text.as_bytes().split_at(at).1;
     at + memchr(b'}', rest).unwrap_or(rest.len())

@@ -1,11 +1,11 @@
 //! The nodes that steps lead to.
 
-ghost use Rattle.std.specs.Prelude.{◌≡◌, ℕ, ◌+◌, List, map, filter, length, IfOk};
+ghost use Rattle.std.specs.Prelude.{◌≡◌, ℕ, List, map, filter, IfOk};
 ghost use Rattle.roxmltree.specs.ExpandedNames.{expanded};
 ghost use Rattle.roxmltree.specs.NodeRef.{id_of, document_of, tree_of, node_ref, node_refs};
 ghost use Rattle.rox_path.specs.Steps.{step_of};
 ghost use Rattle.rox_path.specs.Match.{Selects};
-ghost use Rattle.rox_path.specs.NodeMarks.{subtree_of, is_first, is_marked, is_marked_node, is_child, is_below, is_descendant, marks_by, Laws};
+ghost use Rattle.rox_path.specs.NodeMarks.{subtree_of, is_first, is_marked, is_marked_node, is_child, is_below, is_descendant, Laws, MarksSoFar};
 
 use crate::steps::Step;
 use roxmltree::laws::{
@@ -97,10 +97,7 @@ fn mark_descendants(
 
 /// Whether a node above this one is marked. Of each node before it, `below` says so.
 fn is_below(start: Node<'_, '_>, marks: &[bool], below: &[bool], node: Node<'_, '_>) -> bool
-    requires document { document_of node ≡ document_of start }
-    requires place { id_of node ≡ id_of start + length below.now }
-    requires so_far { below.now ≡ marks_by (is_below (id_of start) marks.now) (document_of start)
-        (id_of start) (length below.now) }
+    requires { MarksSoFar start marks.now below.now node }
     ensures { result ≡ is_below (id_of start.entry) marks.now (node_ref node.entry) }
 {
     laws(node);

@@ -1,4 +1,4 @@
-use Rattle.std.proofs.Common.{arith, refl, ℕ, List, ◌<◌, ◌≡◌, length, ap, ◌∙◌, Some, None}
+use Rattle.std.proofs.Common.{arith, rules, refl, ℕ, List, ◌<◌, ◌≡◌, length, ap, ◌∙◌, Some, None}
 use Rattle.std.proofs.lemmas.Result.{err_from_is_err_and}
 use Rattle.std.proofs.lemmas.Str.{IsCharBoundary-after_ascii}
 use Rattle.rox_path.specs.Steps.{Expanded}
@@ -11,9 +11,9 @@ returns-in_err-local-clause-bad c =
     let p = err_from_is_err_and c.from_residual.result c.from_residual.ensures.1 in
     rw (p.1, p.2) (ill_local _ _ c.in_err-local.field-0.0 (c.if-not-is_at.ensures.no refl) c.in_err-local.ensures.bad)
 
-pub returns-then-not-is_at-clause-name : goal.returns-then-not-is_at-clause-name
-returns-then-not-is_at-clause-name c =
-    name_alone _ _ _ _ c.in_ok-local.ensures.end c.in_ok-local.ensures.ends.onward (c.from.ensures ∙ ap (λ local. (None, local)) c.in_ok-local.ensures.local)
+pub returns-then-not-is_at-clause-ok : goal.returns-then-not-is_at-clause-ok
+returns-then-not-is_at-clause-ok c =
+    record { ends = c.in_ok-local.ensures.ok.ends; name = name_alone _ _ _ _ c.in_ok-local.ensures.ok.end c.in_ok-local.ensures.ok.ends.onward (c.from.ensures ∙ ap (λ local. (None, local)) c.in_ok-local.ensures.ok.local) }
 
 pub returns-then-close-text-clause-bad : goal.returns-then-close-text-clause-bad
 returns-then-close-text-clause-bad c =
@@ -41,7 +41,7 @@ range-requires-clause-start_boundary c some =
 same_expanded_name : (x : Expanded) (u v a b : List ℕ) → x ≡ (Some u, a) → u ≡ v → a ≡ b → x ≡ (Some v, b)
 same_expanded_name x u v a b is e f = cc
 
-pub returns-clause-name : goal.returns-clause-name
-returns-clause-name c =
+pub returns-clause-ok : goal.returns-clause-ok
+returns-clause-ok c =
     let within : c.uri_end-close.result < length c.args.text.now = omega (arith, c.uri_end-close.ensures.within, c.if-close-text.false) in
-    name_with _ _ _ _ _ (c.if-not-is_at.ensures.yes refl).1 c.uri_end-close.ensures.value within c.in_ok-local-2.ensures.end c.in_ok-local-2.ensures.ends.onward (same_expanded_name _ _ _ _ _ c.from-2.ensures c.range.ensures.value c.in_ok-local-2.ensures.local)
+    record { ends = search rules; name = name_with _ _ _ _ _ (c.if-not-is_at.ensures.yes refl).1 c.uri_end-close.ensures.value within c.in_ok-local-2.ensures.ok.end c.in_ok-local-2.ensures.ok.ends.onward (same_expanded_name _ _ _ _ _ c.from-2.ensures c.range.ensures.value c.in_ok-local-2.ensures.ok.local) }

@@ -18,7 +18,7 @@ pub returns-in_err-step-clause-no_path : goal.returns-in_err-step-clause-no_path
 returns-in_err-step-clause-no_path c k is steps = no_path _ k steps (returns-in_err-step-clause-bad c k is)
 
 pub loop-at-preserved : goal.loop-at-preserved
-loop-at-preserved c = record { read = read_more _ _ _ _ c.loop-at.steps.items _ c.loop-at.invariant.read c.in_ok-step.ensures.step c.in_ok-push.ensures.items; cut = c.in_ok-step.ensures.ends.cut }
+loop-at-preserved c = record { read = read_more _ _ _ _ c.loop-at.steps.items _ c.loop-at.invariant.read c.in_ok-step.ensures.ok.step c.in_ok-push.ensures.items; cut = c.in_ok-step.ensures.ok.ends.cut }
 
 pub returns-clause-ok : goal.returns-clause-ok
 returns-clause-ok c = is_path _ _ _ c.loop-at.invariant.read (omega (arith, c.if-at-text.false, c.loop-at.invariant.cut.0)) c.if-at-eq0.false

@@ -1,4 +1,4 @@
-use Rattle.std.proofs.Common.{arith, refl, ◌≡◌, ◌+◌}
+use Rattle.std.proofs.Common.{arith, rules, refl, ◌≡◌, ◌+◌}
 use Rattle.std.proofs.lemmas.Result.{err_from_is_err_and}
 use Rattle.std.proofs.lemmas.Str.{IsCharBoundary-after_ascii}
 use Rattle.rox_path.specs.Paths.{no_slash, behind_one, behind_two, one_slash, two_slashes}
@@ -30,8 +30,8 @@ returns-in_err-name-2-clause-bad c =
     let p = err_from_is_err_and c.from_residual-in_err-name-2.result c.from_residual-in_err-name-2.ensures.1 in
     rw (p.1, p.2) (ill_name _ _ _ c.in_err-name-2.field-0.0 (behind_one (c.if-not-is_at.ensures.yes refl).1 (c.if-is_at.ensures.no refl)) c.in_err-name-2.ensures.bad)
 
-pub returns-in_ok-name-clause-step : goal.returns-in_ok-name-clause-step
-returns-in_ok-name-clause-step c = two_slashes _ (c.if-not-is_at.ensures.yes refl).1 (c.if-is_at.ensures.yes refl).1 c.in_ok-name.ensures.name
+pub returns-in_ok-name-clause-ok : goal.returns-in_ok-name-clause-ok
+returns-in_ok-name-clause-ok c = record { ends = search rules; step = two_slashes _ (c.if-not-is_at.ensures.yes refl).1 (c.if-is_at.ensures.yes refl).1 c.in_ok-name.ensures.ok.name }
 
-pub returns-in_ok-name-2-clause-step : goal.returns-in_ok-name-2-clause-step
-returns-in_ok-name-2-clause-step c = one_slash _ (c.if-not-is_at.ensures.yes refl).1 c.in_ok-name-2.ensures.name
+pub returns-in_ok-name-2-clause-ok : goal.returns-in_ok-name-2-clause-ok
+returns-in_ok-name-2-clause-ok c = record { ends = search rules; step = one_slash _ (c.if-not-is_at.ensures.yes refl).1 c.in_ok-name-2.ensures.ok.name }

@@ -8,20 +8,15 @@ use Rattle.rox_path.proofs.MarkLemmas.{next_place, both_tests, no_test, mark_pus
 use Rattle.rox_path.proofs.selection.mark_descendants.Goals as goal
 use Rattle.rox_path.proofs.selection.mark_descendants.Goals.{then-reached, else-reached}
 
-pub is_below-reached-requires-clause-place : goal.is_below-reached-requires-clause-place
-is_below-reached-requires-clause-place c =
-    let next = next_place (document_of c.args.start) (id_of c.args.start) (length c.loop-node.below.items) (place (tree_of c.args.start) (id_of c.args.start)).count _ _ (sym c.in-Some.ensures.steps ∙ c.loop-node.invariant.left) in
-    ap (λ (s : DocumentView × ℕ). s.1) next.0 ∙ ap (λ (b : List Bool). id_of c.args.start + length b) (sym c.deref.ensures.value)
-
-pub is_below-reached-requires-clause-so_far : goal.is_below-reached-requires-clause-so_far
-is_below-reached-requires-clause-so_far c =
+pub is_below-reached-requires : goal.is_below-reached-requires
+is_below-reached-requires c =
     let top = id_of c.args.start in
-    subst (λ (b : List Bool). b ≡ marks_by (is_below top c.args.marks.now) (document_of c.args.start) top (length b)) (sym c.deref.ensures.value) c.loop-node.invariant.below
-
-pub is_below-reached-requires-clause-document : goal.is_below-reached-requires-clause-document
-is_below-reached-requires-clause-document c =
-    let next = next_place (document_of c.args.start) (id_of c.args.start) (length c.loop-node.below.items) (place (tree_of c.args.start) (id_of c.args.start)).count _ _ (sym c.in-Some.ensures.steps ∙ c.loop-node.invariant.left) in
-    ap (λ (s : DocumentView × ℕ). s.0) next.0
+    let next = next_place (document_of c.args.start) top (length c.loop-node.below.items) (place (tree_of c.args.start) top).count _ _ (sym c.in-Some.ensures.steps ∙ c.loop-node.invariant.left) in
+    record {
+      document = ap (λ (s : DocumentView × ℕ). s.0) next.0;
+      place = ap (λ (s : DocumentView × ℕ). s.1) next.0 ∙ ap (λ (b : List Bool). top + length b) (sym c.deref.ensures.value);
+      so_far = subst (λ (b : List Bool). b ≡ marks_by (is_below top c.args.marks.now) (document_of c.args.start) top (length b)) (sym c.deref.ensures.value) c.loop-node.invariant.below;
+    }
 
 pub loop-node-preserved : goal.loop-node-preserved
 loop-node-preserved c =
