@@ -10,7 +10,7 @@ use Rattle.rox_grammar.specs.Forest.{Nil, join}
 use Rattle.rox_grammar.specs.Written.{NamespaceDecl, Tag, Item, Element, leaf}
 use Rattle.rox_grammar.specs.Tree as tree
 use Rattle.rox_grammar.specs.Tree.{listed, attribute_in, element_namespace, node_in}
-use Rattle.rox_grammar.specs.Document.{listable, with_new, distinct_pairs}
+use Rattle.rox_grammar.specs.Counts.{listable, with_new, distinct_pairs}
 use Rattle.rox_reading.specs.Tags.{tag_at}
 use Rattle.rox_grammar.specs.State.{inside, scope_of, pairs_so_far, attributes_so_far}
 use Rattle.rox_reading.specs.State.{State}

@@ -16,7 +16,7 @@ use Rattle.rox_grammar.specs.declared.fault.Fault.TheVariants as fault
 use Rattle.rox_grammar.specs.Forest.{Forest, Nil, Cons, join, size}
 use Rattle.rox_grammar.specs.Written.{Name, Tag, Item, Element, Text, Comment, PI, NamespaceDecl, merge, leaf}
 use Rattle.rox_grammar.specs.NameParts.{same_qname}
-use Rattle.rox_grammar.specs.Document.{own_pairs, own_attributes, pairs, attribute_count, distinct_pairs, listable}
+use Rattle.rox_grammar.specs.Counts.{own_pairs, own_attributes, pairs, attribute_count, distinct_pairs, listable}
 use Rattle.rox_reading.specs.State.{State, depth_of}
 use Rattle.rox_reading.specs.Refusals as refusal
 use Rattle.rox_reading.specs.Refusals.{lifted}

@@ -8,7 +8,8 @@ use Rattle.rox_grammar.specs.declared.fault.Fault.{Fault}
 use Rattle.rox_grammar.specs.Forest.{Forest, Nil, join, size}
 use Rattle.rox_grammar.specs.Written.{Name, NamespaceDecl, Tag, Item, Element, Text, merge, leaf}
 use Rattle.rox_grammar.specs.Tree.{listed, scope_in, node_in, element_namespace}
-use Rattle.rox_grammar.specs.Document.{distinct_pairs, most_pairs, most_attributes}
+use Rattle.rox_grammar.specs.Document.{most_pairs, most_attributes}
+use Rattle.rox_grammar.specs.Counts.{distinct_pairs}
 use Rattle.rox_reading.specs.Lexical.{qname_at}
 use Rattle.rox_reading.specs.Refusals.{Refusal}
 use Rattle.rox_reading.specs.State.{State}

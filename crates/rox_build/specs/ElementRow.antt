@@ -4,7 +4,8 @@ use Rattle.std.specs.List.{AllByRecursion}
 use Rattle.std.specs.Option.{option_map}
 use Rattle.rox_grammar.specs.Written.{Attribute, Name, NamespaceDecl, Tag}
 use Rattle.rox_grammar.specs.Tree.{listed, attribute_in, element_namespace}
-use Rattle.rox_grammar.specs.Document.{listable, with_new, most_pairs, most_attributes}
+use Rattle.rox_grammar.specs.Document.{most_pairs, most_attributes}
+use Rattle.rox_grammar.specs.Counts.{listable, with_new}
 use Rattle.rox_reading.specs.Refusals.{Refusal}
 use Rattle.rox_reading.specs.Tags.{TagRead}
 use Rattle.rox_grammar.specs.Failures.{name_view}

@@ -118,13 +118,13 @@ module _ (mv : Move) (one : Forest Item) (s : ℕ) where
 module _ (mv : Move) (s x y : ℕ) (tag : Tag) (below : Forest Item) where
   -- a text in front of it
   exchanged_glue : (a z : ℕ) (v : List ℕ) (borrowed : Bool) (under f : Forest Item)
-      → exchanged_items mv (Cons (Element x y tag) below Nil) s (glue a z v borrowed under f) ≡ glue a z v borrowed under (exchanged_items mv (Cons (Element x y tag) below Nil) s f)
+      → exchanged_items mv (Cons (Element x y tag) below Nil) s (glue (Text a z v borrowed) under f) ≡ glue (Text a z v borrowed) under (exchanged_items mv (Cons (Element x y tag) below Nil) s f)
   exchanged_glue a z v borrowed under Nil = refl
   exchanged_glue a z v borrowed under (Cons (Text b w u p) children rest) = refl
   exchanged_glue a z v borrowed under (Cons (Element b w t) children rest) =
-      elim (cases_Bool (b == s)) as (λ q. exchanged_items mv (Cons (Element x y tag) below Nil) s (glue a z v borrowed under (Cons (Element b w t) children rest)) ≡ glue a z v borrowed under (exchanged_items mv (Cons (Element x y tag) below Nil) s (Cons (Element b w t) children rest))) [
+      elim (cases_Bool (b == s)) as (λ q. exchanged_items mv (Cons (Element x y tag) below Nil) s (glue (Text a z v borrowed) under (Cons (Element b w t) children rest)) ≡ glue (Text a z v borrowed) under (exchanged_items mv (Cons (Element x y tag) below Nil) s (Cons (Element b w t) children rest))) [
         | inl is ↦ rw is refl
-        | inr differs ↦ elim (cases_Bool (nat_lt s w)) as (λ q. exchanged_items mv (Cons (Element x y tag) below Nil) s (glue a z v borrowed under (Cons (Element b w t) children rest)) ≡ glue a z v borrowed under (exchanged_items mv (Cons (Element x y tag) below Nil) s (Cons (Element b w t) children rest))) [
+        | inr differs ↦ elim (cases_Bool (nat_lt s w)) as (λ q. exchanged_items mv (Cons (Element x y tag) below Nil) s (glue (Text a z v borrowed) under (Cons (Element b w t) children rest)) ≡ glue (Text a z v borrowed) under (exchanged_items mv (Cons (Element x y tag) below Nil) s (Cons (Element b w t) children rest))) [
           | inl within ↦ rw (differs, within) refl
           | inr behind ↦ rw (differs, behind) refl
         ]
@@ -135,7 +135,7 @@ module _ (mv : Move) (s x y : ℕ) (tag : Tag) (below : Forest Item) where
   -- texts that touch
   pub exchanged_merge : (f : Forest Item) → exchanged_items mv (Cons (Element x y tag) below Nil) s (merge f) ≡ merge (exchanged_items mv (Cons (Element x y tag) below Nil) s f)
   exchanged_merge Nil = refl
-  exchanged_merge (Cons (Text a z v borrowed) children rest) = exchanged_glue a z v borrowed children (merge rest) ∙ ap (glue a z v borrowed children) (exchanged_merge rest)
+  exchanged_merge (Cons (Text a z v borrowed) children rest) = exchanged_glue a z v borrowed children (merge rest) ∙ ap (glue (Text a z v borrowed) children) (exchanged_merge rest)
   exchanged_merge (Cons (Element a z t) children rest) =
       elim (cases_Bool (a == s)) as (λ q. exchanged_items mv (Cons (Element x y tag) below Nil) s (merge (Cons (Element a z t) children rest)) ≡ merge (exchanged_items mv (Cons (Element x y tag) below Nil) s (Cons (Element a z t) children rest))) [
         | inl is ↦ rw is (ap (Cons (Element x y tag) below) (moved_merge mv rest))

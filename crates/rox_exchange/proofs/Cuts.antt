@@ -15,7 +15,8 @@ use Rattle.rox_grammar.specs.Chars.{is_char}
 use Rattle.rox_grammar.specs.FixedTexts.{word_text}
 use Rattle.rox_grammar.specs.declared.fault.Word.TheVariants as word
 use Rattle.rox_grammar.specs.Names.{byte, slice, IsName}
-use Rattle.rox_grammar.specs.Constructs.{AreChars, has_mark, double_dash, IsComment, IsLiteral}
+use Rattle.rox_grammar.specs.Constructs.{AreChars, has_mark, IsComment, IsLiteral}
+use Rattle.rox_grammar.specs.FixedTexts.{double_dash}
 use Rattle.rox_grammar.specs.Content.{IsCharacterData}
 
 -- two lists with one front agree byte by byte

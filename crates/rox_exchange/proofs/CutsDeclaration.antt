@@ -9,7 +9,7 @@ use Rattle.rox_grammar.specs.FixedTexts.{word_text, at}
 use Rattle.rox_grammar.specs.Search.{stands}
 use Rattle.rox_grammar.specs.Chars.{is_space}
 use Rattle.rox_grammar.specs.Names.{byte, spaces_end}
-use Rattle.rox_grammar.specs.Constructs.{IsPair, IsGap, some_space, no_space, MayBePair, is_pair, no_pair, MayEndPair, is_last, no_last, IsXmlDecl}
+use Rattle.rox_grammar.specs.Constructs.{IsPair, IsGap, some_space, no_space, MayBePair, is_pair, no_pair, IsXmlDecl}
 use Rattle.rox_theory.proofs.Basics.{within as byte_within}
 use Rattle.rox_exchange.specs.Local.{Fronts}
 use Rattle.rox_exchange.proofs.Cuts.{heads, fronts, stands_cut, literal_cut}
@@ -74,10 +74,6 @@ module _ (src to : List ℕ) (m : ℕ) (f : Fronts src to m) where
   may_le w i j (is_pair _ k _ here is gap) = omega (arith, pair_lt i k is, gap_le k j gap)
   may_le w i j (no_pair _ none) = omega arith
 
-  last_le : (w : Word) (i j : ℕ) → MayEndPair (word_text w) src i j → i ≤ j
-  last_le w i j (is_last _ _ here is) = omega (arith, pair_lt i j is)
-  last_le w i j (no_last _ none) = omega arith
-
   -- a pair ends in its quote
   pair_cut : (i j : ℕ) → IsCharBoundary (take m src) i → j < m → IsPair src i j → IsPair to i j × IsCharBoundary (take m src) j
   pair_cut i j cut below is =
@@ -109,25 +105,16 @@ module _ (src to : List ℕ) (m : ℕ) (f : Fronts src to m) where
     may_cut w i j lacks cut le (no_pair _ none) =
         (no_pair i (sym (word_cut 62 (word_text w) i q (omega arith) lacks (omega arith) below is_end) ∙ none), cut)
 
-    last_cut : (w : Word) (i j : ℕ) → IsMissing 62 (word_text w) → IsCharBoundary (take m src) i → j + 1 ≤ q → MayEndPair (word_text w) src i j → MayEndPair (word_text w) to i j × IsCharBoundary (take m src) j
-    last_cut w i j lacks cut le (is_last _ _ here is) =
-        let lt = pair_lt i j is in
-        let p = pair_cut i j cut (omega arith) is in
-        (is_last i j (sym (word_cut 62 (word_text w) i q (omega arith) lacks (omega arith) below is_end) ∙ here) p.0, p.1)
-    last_cut w i j lacks cut le (no_last _ none) =
-        (no_last i (sym (word_cut 62 (word_text w) i q (omega arith) lacks (omega arith) below is_end) ∙ none), cut)
-
   -- the first and the last byte of the declaration
   pub declaration_cut : (i j : ℕ) → j ≤ m → IsXmlDecl src i j → IsXmlDecl to i j
   declaration_cut i j fits is =
       let next = is.next in
       let le_v = may_le word.Version (spaces_end src (i + 5)) is.v is.first_pair in
       let le_e = may_le word.Encoding is.v is.e is.encoding in
-      let le_s = last_le word.Standalone is.e is.s is.standalone in
+      let le_s = may_le word.Standalone is.e is.s is.standalone in
       let sp = run_le is_space src (i + 5) in
-      let sp' = run_le is_space src is.s in
-      let q = spaces_end src is.s + 1 in
-      let is_end : byte src q ≡ 62 = stands_reads (word_text word.PIEnd) src (spaces_end src is.s) 1 is.closes (omega arith) in
+      let q = is.s + 1 in
+      let is_end : byte src q ≡ 62 = stands_reads (word_text word.PIEnd) src is.s 1 is.closes (omega arith) in
       let inside : q < length src = byte_within src q (λ z. omega arith) in
       let l : byte src (i + 4) ≡ 108 = stands_reads (word_text word.XmlDeclStart) src i 4 is.opens (omega arith) in
       let e : i + 4 + 1 ≡ i + 5 = omega arith in
@@ -135,8 +122,7 @@ module _ (src to : List ℕ) (m : ℕ) (f : Fronts src to m) where
       let white = space_cut src to m f (i + 5) (spaces_end src (i + 5)) start (omega arith) refl in
       let one = may_cut q (omega arith) is_end inside word.Version (spaces_end src (i + 5)) is.v lacks_version white.1 (omega arith) is.first_pair in
       let two = may_cut q (omega arith) is_end inside word.Encoding is.v is.e lacks_encoding one.1 (omega arith) is.encoding in
-      let three = last_cut q (omega arith) is_end inside word.Standalone is.e is.s lacks_standalone two.1 (omega arith) is.standalone in
-      let tail = space_cut src to m f is.s (spaces_end src is.s) three.1 (omega arith) refl in
+      let three = may_cut q (omega arith) is_end inside word.Standalone is.e is.s lacks_standalone two.1 (omega arith) is.standalone in
       let version = sym (word_cut 62 (word_text word.Version) (spaces_end src (i + 5)) q (omega arith) lacks_version (omega arith) (omega arith) is_end) ∙ is.version in
       record {
         opens = sym (stands_cut src to m f.same (word_text word.XmlDeclStart) i (omega arith)) ∙ is.opens;
@@ -147,6 +133,6 @@ module _ (src to : List ℕ) (m : ℕ) (f : Fronts src to m) where
         encoding = two.0;
         s = is.s;
         standalone = three.0;
-        closes = subst (λ (k : ℕ). at word.PIEnd to k ≡ true) tail.0 (sym (stands_cut src to m f.same (word_text word.PIEnd) (spaces_end src is.s) (omega arith)) ∙ is.closes);
-        next = next ∙ ap (λ (k : ℕ). k + 2) tail.0;
+        closes = sym (stands_cut src to m f.same (word_text word.PIEnd) is.s (omega arith)) ∙ is.closes;
+        next = next;
       }

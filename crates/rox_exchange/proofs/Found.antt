@@ -31,7 +31,7 @@ module _ (s e : ℕ) (t : Tag) (kids : Forest Item) where
   past_text a z v borrowed under f (below _ _ _ is) = inl is
   past_text a z v borrowed under f (beside _ _ _ is) = inr is
 
-  stands_glue : (a z : ℕ) (v : List ℕ) (borrowed : Bool) (under f : Forest Item) → StandsInEach s e t kids (glue a z v borrowed under f) → StandsInEach s e t kids under ⊎ StandsInEach s e t kids f
+  stands_glue : (a z : ℕ) (v : List ℕ) (borrowed : Bool) (under f : Forest Item) → StandsInEach s e t kids (glue (Text a z v borrowed) under f) → StandsInEach s e t kids under ⊎ StandsInEach s e t kids f
   stands_glue a z v borrowed under Nil is = past_text a z v borrowed under Nil is
   stands_glue a z v borrowed under (Cons (Text x y w p) children rest) is =
       elim (past_text a z (v ++ w) false (join under children) rest is) as (λ q. StandsInEach s e t kids under ⊎ StandsInEach s e t kids (Cons (Text x y w p) children rest)) [

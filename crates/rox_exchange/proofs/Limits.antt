@@ -7,7 +7,9 @@ use Rattle.std.proofs.lemmas.Slice.Eq.{bytes_eq-Decides}
 use Rattle.rox_grammar.specs.Forest.{Forest, Nil, Cons, size}
 use Rattle.rox_grammar.specs.Written.{NamespaceDecl, Tag, Item, Element}
 use Rattle.rox_grammar.specs.Tree.{same_prefix}
-use Rattle.rox_grammar.specs.Document.{own_pairs, pairs, attribute_count, same_pair, has_pair, with_new, distinct_pairs, IsWithinLimits}
+use Rattle.rox_grammar.proofs.CountForms.{limits_counted, counts_limited}
+use Rattle.rox_grammar.specs.Document.{same_pair, IsWithinLimits}
+use Rattle.rox_grammar.specs.Counts.{own_pairs, pairs, attribute_count, has_pair, with_new, distinct_pairs}
 use Rattle.rox_theory.proofs.Standing.{distinct-append, distinct-grows}
 use Rattle.rox_exchange.specs.SourceKinds.{StandsInEach, first, below, beside}
 
@@ -117,13 +119,14 @@ module _ (s e : ℕ) (t : Tag) (kids : Forest Item) where
   pub part_within : (limit : ℕ) (f : Forest Item) → StandsInEach s e t kids f → IsWithinLimits limit f → IsWithinLimits limit one
   part_within limit f is within =
       let nodes = within.nodes in
-      let attributes = within.attributes in
-      let namespaces = within.namespaces in
+      let counts = limits_counted limit f within in
+      let attributes = counts.attributes in
+      let namespaces = counts.namespaces in
       let p = part_of_pairs f is in
       let n = distinct_part p.0 (pairs one) p.1 in
       let q = ap (λ (ds : List NamespaceDecl). length (distinct_pairs ds)) p.2 in
-      record {
+      counts_limited limit one (record {
         nodes = omega (arith, fewer_nodes f is);
         attributes = omega (arith, fewer_attributes f is);
         namespaces = omega arith;
-      }
+      })

@@ -7,7 +7,7 @@ use Rattle.rox_grammar.specs.Tree as tree
 use Rattle.rox_grammar.specs.Tree.{Node, attribute_in, scope_in, node_in, resolved}
 use Rattle.rox_grammar.specs.WellNamed.{same_expanded, ItemWellNamed, AreWellNamed}
 use Rattle.rox_grammar.proofs.NamesApart.{DistinctBehind, distinct_behind, are_distinct}
-use Rattle.rox_grammar.specs.Document.{own_pairs, pairs, own_attributes, attribute_count}
+use Rattle.rox_grammar.specs.Counts.{own_pairs, pairs, own_attributes, attribute_count}
 use Rattle.rox_grammar.specs.Exchange.{Move, moved, moved_attribute, moved_node, shifted}
 use Rattle.rox_exchange.specs.Local.{moved_written, moved_tag, moved_item, moved_items}
 
@@ -18,7 +18,7 @@ module _ (m : Move) where
   moved_join (Cons item children rest) g = ap (Cons (moved_item m item) (moved_items m children)) (moved_join rest g)
 
   -- a text in front
-  pub moved_glue : (a e : ℕ) (v : List ℕ) (borrowed : Bool) (below f : Forest Item) → moved_items m (glue a e v borrowed below f) ≡ glue (moved m a) (moved m e) v borrowed (moved_items m below) (moved_items m f)
+  pub moved_glue : (a e : ℕ) (v : List ℕ) (borrowed : Bool) (below f : Forest Item) → moved_items m (glue (Text a e v borrowed) below f) ≡ glue (Text (moved m a) (moved m e) v borrowed) (moved_items m below) (moved_items m f)
   moved_glue a e v borrowed below Nil = refl
   moved_glue a e v borrowed below (Cons (Text x y w p) children rest) = ap (λ (g : Forest Item). Cons (Text (moved m a) (moved m e) (v ++ w) false) g (moved_items m rest)) (moved_join below children)
   moved_glue a e v borrowed below (Cons (Element x y t) children rest) = refl
@@ -29,7 +29,7 @@ module _ (m : Move) where
   pub moved_merge : (f : Forest Item) → moved_items m (merge f) ≡ merge (moved_items m f)
   moved_merge Nil = refl
   moved_merge (Cons (Text a e v borrowed) children rest) =
-      moved_glue a e v borrowed children (merge rest) ∙ ap (glue (moved m a) (moved m e) v borrowed (moved_items m children)) (moved_merge rest)
+      moved_glue a e v borrowed children (merge rest) ∙ ap (glue (Text (moved m a) (moved m e) v borrowed) (moved_items m children)) (moved_merge rest)
   moved_merge (Cons (Element a e t) children rest) = ap (Cons (Element (moved m a) (moved m e) (moved_tag m t)) (moved_items m children)) (moved_merge rest)
   moved_merge (Cons (Comment a e t) children rest) = ap (Cons (Comment (moved m a) (moved m e) t) (moved_items m children)) (moved_merge rest)
   moved_merge (Cons (PI a e t o) children rest) = ap (Cons (PI (moved m a) (moved m e) t o) (moved_items m children)) (moved_merge rest)

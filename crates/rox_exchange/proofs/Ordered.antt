@@ -38,7 +38,7 @@ ordered_join i j k (Cons (Comment a z v) children rest) g (bare, beside) more = 
 ordered_join i j k (Cons (PI a z v o) children rest) g (bare, beside) more = (bare, ordered_join i j k rest g beside more)
 
 -- a text in front
-ordered_glue : (i j a z : ℕ) (v : List ℕ) (borrowed : Bool) (f : Forest Item) → Ordered i j f → Ordered i j (glue a z v borrowed Nil f)
+ordered_glue : (i j a z : ℕ) (v : List ℕ) (borrowed : Bool) (f : Forest Item) → Ordered i j f → Ordered i j (glue (Text a z v borrowed) Nil f)
 ordered_glue i j a z v borrowed Nil is = (refl, is)
 ordered_glue i j a z v borrowed (Cons (Text x y w p) children rest) is = is
 ordered_glue i j a z v borrowed (Cons (Element x y t) children rest) is = (refl, is)

@@ -10,7 +10,9 @@ use Rattle.rox_grammar.specs.Names.{slice}
 use Rattle.rox_grammar.specs.Content.{IsElement}
 use Rattle.rox_grammar.specs.WellNamed.{AreWellNamed}
 use Rattle.rox_grammar.specs.Entities.{no_entities}
-use Rattle.rox_grammar.specs.Document.{distinct_pairs, most_pairs, IsWithinLimits, IsTreeOf}
+use Rattle.rox_grammar.proofs.CountForms.{limits_counted, counts_limited}
+use Rattle.rox_grammar.specs.Document.{most_pairs, IsWithinLimits, IsTreeOf}
+use Rattle.rox_grammar.specs.Counts.{distinct_pairs}
 use Rattle.rox_grammar.specs.Exchange.{Move, moved, shifted, subtree, exchanged, self_contained, row_start, row_end, start_at, end_at, replaced, HasTree, with_other, text_with}
 use Rattle.rox_theory.specs.WithoutDoctype.{ParseWithout}
 use Rattle.rox_theory.proofs.Without.{parse_without, parse_with}
@@ -87,14 +89,14 @@ module _ (text : List ℕ) (tree : Forest Node) (id : ℕ) (utf8 : IsUtf8 text) 
   -- within the limits that the whole is within
   own_within : (limit : ℕ) → IsWithinLimits limit w.tops → IsWithinLimits limit (moved_items back own)
   own_within limit within =
-      let part = part_within w.found.start w.found.end w.found.tag w.found.kids limit w.tops w.found.stands within in
+      let part = limits_counted limit own (part_within w.found.start w.found.end w.found.tag w.found.kids limit w.tops w.found.stands within) in
       let nodes = part.nodes in
       let attributes = part.attributes in
-      record {
+      counts_limited limit (moved_items back own) (record {
         nodes = omega (arith, moved_size back own);
         attributes = omega (arith, moved_attributes back own);
         namespaces = subst (λ (ds : List NamespaceDecl). length (distinct_pairs ds) ≤ most_pairs) (sym (moved_pairs back own)) part.namespaces;
-      }
+      })
 
   pub reparse_within : (limit : ℕ) → IsTreeOf text false [] limit tree → IsTreeOf (slice text (start_at tree id) (end_at tree id)) false [] limit
       (Cons (Root (end_at tree id - start_at tree id)) (shifted (record { add = 0; sub = start_at tree id }) (subtree tree id)) Nil)

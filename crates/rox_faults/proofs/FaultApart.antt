@@ -12,7 +12,8 @@ use Rattle.rox_grammar.specs.Search.{stands, mark_from}
 use Rattle.rox_grammar.specs.Chars.{is_char, is_space, is_name_char}
 use Rattle.rox_grammar.specs.Written.{Name, Item}
 use Rattle.rox_grammar.specs.Names.{byte, slice, spaces_end, IsName, IsQName}
-use Rattle.rox_grammar.specs.Constructs.{double_dash, has_mark, AreChars, IsComment, IsPI}
+use Rattle.rox_grammar.specs.Constructs.{has_mark, AreChars, IsComment, IsPI}
+use Rattle.rox_grammar.specs.FixedTexts.{double_dash}
 use Rattle.rox_grammar.specs.Content.{IsMisc, comment, instruction}
 use Rattle.rox_grammar.specs.Due.{DueItem, a_name, a_qname, a_byte, a_text, chars_to, IsMissing, no_name, no_qname, other_byte, other_text, no_char, no_byte, none_left, DueInText, DueInPI, none_of}
 use Rattle.rox_faults.proofs.DueForms.{a_space}

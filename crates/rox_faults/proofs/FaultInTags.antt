@@ -20,7 +20,8 @@ use Rattle.rox_grammar.specs.Constructs.{IsEq, IsLiteral}
 use Rattle.rox_grammar.specs.Content.{Inclusion, Value, IsAttribute, Attributes, no_more, one_more, TagEnds, opened, closed, IsTag}
 use Rattle.rox_grammar.specs.WellNamed.{may_declare, is_known, same_expanded, IsWellNamed}
 use Rattle.rox_grammar.proofs.NamesApart.{DeclarableBehind, DistinctBehind, declarable_behind, distinct_behind}
-use Rattle.rox_grammar.specs.Document.{with_new, distinct_pairs, most_attributes, most_pairs}
+use Rattle.rox_grammar.specs.Document.{most_attributes, most_pairs}
+use Rattle.rox_grammar.specs.Counts.{with_new, distinct_pairs}
 use Rattle.rox_grammar.specs.State.{State, scope_of, attributes_so_far, pairs_so_far}
 use Rattle.rox_grammar.specs.Due.{DueItem, a_byte, IsMissing, DueInPair}
 use Rattle.rox_faults.proofs.DueForms.{a_space}

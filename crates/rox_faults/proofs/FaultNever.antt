@@ -14,6 +14,7 @@ use Rattle.rox_grammar.specs.Content.{Inclusion, IsElement}
 use Rattle.rox_grammar.specs.TextStart.{after_bom, MayHaveXmlDecl, declared, not_declared}
 use Rattle.rox_grammar.specs.Entities.{Entity, no_entities, most_deep}
 use Rattle.rox_grammar.specs.Doctype.{Asked}
+use Rattle.rox_grammar.proofs.CountForms.{limits_counted}
 use Rattle.rox_grammar.specs.Document.{Behind, Misc, no_misc, an_item, ParseOf, IsWithinLimits, PrologTo}
 use Rattle.rox_theory.specs.ParseParts.{no_doctype}
 use Rattle.rox_grammar.specs.State as grammar
@@ -202,10 +203,11 @@ module _ (src : List ℕ) (utf8 : IsUtf8 src) (limit : ℕ) (tree : Forest Item)
   -- which is within the limits where the parse is
   whole_fine : IsWithinLimits limit tree → IsValidState limit (state (length src) (join (join p.before p.one) p.after) root p.openings_left)
   whole_fine few =
+      let counts = limits_counted limit tree few in
       let merged : merge tree ≡ tree =
       ap merge p.is_tree ∙ tops_merged true no_entities src p.prolog.declared_to p.start p.start p.end (length src) 255 p.openings_left false p.before Nil p.one p.after [] [] p.prolog.misc (no_doctype p.start) p.element p.misc_after ∙ sym p.is_tree in
       let counted : 1 + size (merge tree) ≤ limit = rw merged (omega (arith, few.nodes)) in
-      let whole : IsValidState limit (state (length src) tree root p.openings_left) = record { nodes = counted; attributes = few.attributes; pairs = few.namespaces; named = p.well_named } in
+      let whole : IsValidState limit (state (length src) tree root p.openings_left) = record { nodes = counted; attributes = counts.attributes; pairs = counts.namespaces; named = p.well_named } in
       subst (λ (f : Forest Item). IsValidState limit (state (length src) f root p.openings_left)) same_whole whole
 
   -- a declaration has one end

@@ -1,5 +1,5 @@
 -- The same for a name, Eq and a literal, and for the declaration.
-use Rattle.std.proofs.Common.{◌≡◌, ℕ, ◌+◌, ◌⊎◌, Bool, true, List, refl, sym, ap, ◌∙◌, subst, arith, inl, inr}
+use Rattle.std.proofs.Common.{◌≡◌, ℕ, ◌+◌, ◌⊎◌, Bool, true, List, refl, sym, ap, ◌∙◌, subst, arith, inl, inr, false}
 use Rattle.std.specs.Str.{IsUtf8, IsCharBoundary}
 use Rattle.std.proofs.lemmas.Bool.{true≢false}
 use Rattle.rox_grammar.specs.declared.fault.Fault.{Fault}
@@ -10,9 +10,9 @@ use Rattle.rox_grammar.specs.Chars.{is_space}
 use Rattle.rox_grammar.specs.Written.{Name}
 use Rattle.rox_grammar.specs.Names.{byte, spaces_end, IsQName}
 use Rattle.rox_grammar.specs.FixedTexts.{word_text, at}
-use Rattle.rox_grammar.specs.Constructs.{AreChars, IsEq, IsLiteral, IsPair, IsGap, some_space, MayBePair, is_pair, no_pair, MayEndPair, is_last, no_last, IsXmlDecl}
+use Rattle.rox_grammar.specs.Constructs.{AreChars, IsEq, IsLiteral, IsPair, IsGap, some_space, MayBePair, is_pair, no_pair, IsXmlDecl}
 use Rattle.rox_grammar.specs.Constructs as constructs
-use Rattle.rox_grammar.specs.Due.{DueItem, a_byte, a_gap, a_text, chars_to, IsMissing, no_gap, none_left, DueInPair, its_name, equals, opening, its_value, closing, value_end, PairBegins, version, encoding, standalone, DueInXmlDecl, its_version, in_pair, behind_pair, none_of}
+use Rattle.rox_grammar.specs.Due.{DueItem, a_byte, a_gap, a_text, chars_to, IsMissing, no_gap, none_left, DueInPair, its_name, equals, opening, its_value, closing, value_end, PairBegins, version, encoding, standalone, DueInXmlDecl, its_version, in_pair, behind_pair, behind_last, none_of}
 use Rattle.rox_faults.proofs.DueForms.{a_quote, quote_is}
 use Rattle.rox_grammar.specs.Due as due
 use Rattle.rox_reading.specs.Lexical.{qname_at}
@@ -23,7 +23,7 @@ use Rattle.rox_faults.proofs.NameSpans.{cut_behind}
 use Rattle.rox_theory.proofs.CharLemmas.{begins_byte, some_run}
 use Rattle.rox_theory.proofs.Places.{space_ascii}
 use Rattle.rox_theory.proofs.LiteralLemmas.{quote_ascii, literal_closes, literal_complete}
-use Rattle.rox_theory.proofs.DeclarationLemmas.{pair_complete, pair_cut, pair_if_complete}
+use Rattle.rox_theory.proofs.DeclarationLemmas.{pair_complete, pair_cut, pair_if_complete, gap_before}
 use Rattle.rox_theory.proofs.FailedReadings.{ok_one}
 use Rattle.rox_faults.proofs.FaultTags.{value_cut}
 use Rattle.rox_faults.proofs.FaultApart.{qname_stands, byte_stands, word_stands, chars_stand}
@@ -77,13 +77,6 @@ module _ (src : List ℕ) (utf8 : IsUtf8 src) where
   one_may : (w : Word) (i j k : ℕ) → MayBePair (word_text w) src i j → MayBePair (word_text w) src i k → j ≡ k
   one_may w i j k a b = ap (λ (p : Unit {0} × ℕ). p.1) (ok_one (tt, j) (tt, k) (pair_if w src i) (pair_if_complete w src i j utf8 a) (pair_if_complete w src i k utf8 b))
 
-  -- and the last one
-  one_last : (w : Word) (i j k : ℕ) → MayEndPair (word_text w) src i j → MayEndPair (word_text w) src i k → j ≡ k
-  one_last w i j k (is_last _ _ here p) (is_last _ _ here' p') = one_pair i j k p p'
-  one_last w i j k (is_last _ _ here p) (no_last _ none) = absurd (true≢false (sym here ∙ none))
-  one_last w i j k (no_last _ none) (is_last _ _ here p) = absurd (true≢false (sym here ∙ none))
-  one_last w i j k (no_last _ none) (no_last _ none') = refl
-
   -- a gap that is due and stands there
   gap_stands : (i j : ℕ) (f : Fault) → IsCharBoundary src i → IsGap src i j → IsMissing src i a_gap f → ⊥
   gap_stands i j f cut (some_space _ some) (no_gap inside no_space no_end) =
@@ -96,21 +89,20 @@ module _ (src : List ℕ) (utf8 : IsUtf8 src) where
   may_is w i k here (is_pair _ j _ here' p gap) = (j, p, gap)
   may_is w i k here (no_pair _ none) = absurd (true≢false (sym here ∙ none))
 
-  -- likewise the last one
-  last_is : (w : Word) (i k : ℕ) → at w src i ≡ true → MayEndPair (word_text w) src i k → IsPair src i k
-  last_is w i k here (is_last _ _ here' p) = p
-  last_is w i k here (no_last _ none) = absurd (true≢false (sym here ∙ none))
+  may_not : (w : Word) (i k : ℕ) → at w src i ≡ false → MayBePair (word_text w) src i k → k ≡ i
+  may_not w i k fails (is_pair _ j _ here p gap) = absurd (true≢false (sym here ∙ fails))
+  may_not w i k fails (no_pair _ none) = refl
 
-  -- the pair that stands where one begins
-  pair_there : (i j p : ℕ) (gap : Bool) → IsXmlDecl src i j → PairBegins src i gap p → (k : ℕ) × IsPair src p k × (gap ≡ true → (l : ℕ) × IsGap src k l)
-  pair_there i j p gap is (version here) = let m = may_is word.Version (spaces_end src (i + 5)) is.v here is.first_pair in (m.0, m.1, λ g. (is.v, m.2))
+  -- the pair that stands where one begins, and the gap behind it: behind the last one all white space before the end
+  pair_there : (i j p : ℕ) (gap : Bool) → IsXmlDecl src i j → PairBegins src i gap p → (k : ℕ) × IsPair src p k × (l : ℕ) × IsGap src k l × (gap ≡ false → at word.PIEnd src l ≡ true)
+  pair_there i j p gap is (version here) = let m = may_is word.Version (spaces_end src (i + 5)) is.v here is.first_pair in (m.0, m.1, is.v, m.2, λ g. cc g)
   pair_there i j p gap is (encoding _ first may here) =
       let same : is.v ≡ p = one_may word.Version (spaces_end src (i + 5)) is.v p is.first_pair may in
-      let m = may_is word.Encoding p is.e here (subst (λ (v : ℕ). MayBePair (word_text word.Encoding) src v is.e) same is.encoding) in (m.0, m.1, λ g. (is.e, m.2))
+      let m = may_is word.Encoding p is.e here (subst (λ (v : ℕ). MayBePair (word_text word.Encoding) src v is.e) same is.encoding) in (m.0, m.1, is.e, m.2, λ g. cc g)
   pair_there i j p gap is (standalone v _ first may may' here) =
       let same : is.v ≡ v = one_may word.Version (spaces_end src (i + 5)) is.v v is.first_pair may in
       let same' : is.e ≡ p = one_may word.Encoding v is.e p (subst (λ (v : ℕ). MayBePair (word_text word.Encoding) src v is.e) same is.encoding) may' in
-      (is.s, last_is word.Standalone p is.s here (subst (λ (e : ℕ). MayEndPair (word_text word.Standalone) src e is.s) same' is.standalone), λ g. cc g)
+      let m = may_is word.Standalone p is.s here (subst (λ (e : ℕ). MayBePair (word_text word.Standalone) src e is.s) same' is.standalone) in (m.0, m.1, is.s, m.2, λ g. is.closes)
 
   -- in the declaration: rows 21 to 25
   pub declaration_apart : (i j q : ℕ) (t : DueItem) (f : Fault) → IsXmlDecl src i j → DueInXmlDecl src i q t → IsMissing src q t f → ⊥
@@ -122,10 +114,15 @@ module _ (src : List ℕ) (utf8 : IsUtf8 src) where
   declaration_apart i j q t f is (behind_pair p _ begins pair) lack =
       let there = pair_there i j p true is begins in
       let same : there.0 ≡ q = one_pair p there.0 q there.1 pair in
-      let gap = there.2 refl in
-      gap_stands q gap.0 f (pair_cut src p q utf8 pair) (subst (λ (k : ℕ). IsGap src k gap.0) same gap.1) lack
-  declaration_apart i j q t f is (due.DueInXmlDecl.its_end v e s here may may' last) lack =
+      gap_stands q there.2 f (pair_cut src p q utf8 pair) (subst (λ (k : ℕ). IsGap src k there.2) same there.3) lack
+  declaration_apart i j q t f is (behind_last p k begins pair) lack =
+      let there = pair_there i j p false is begins in
+      let same : there.0 ≡ k = one_pair p there.0 k there.1 pair in
+      let ends = there.4 refl in
+      let behind : spaces_end src k ≡ there.2 = ap (spaces_end src) (sym same) ∙ gap_before src there.0 there.2 there.3 ends in
+      word_stands src expected.PIEnd there.2 f ends (subst (λ (l : ℕ). IsMissing src l (a_text expected.PIEnd) f) behind lack)
+  declaration_apart i j q t f is (due.DueInXmlDecl.its_end v _ here may may' none) lack =
       let first : is.v ≡ v = one_may word.Version (spaces_end src (i + 5)) is.v v is.first_pair may in
-      let second : is.e ≡ e = one_may word.Encoding v is.e e (subst (λ (v : ℕ). MayBePair (word_text word.Encoding) src v is.e) first is.encoding) may' in
-      let third : is.s ≡ s = one_last word.Standalone e is.s s (subst (λ (e : ℕ). MayEndPair (word_text word.Standalone) src e is.s) second is.standalone) last in
-      word_stands src expected.PIEnd (spaces_end src is.s) f is.closes (subst (λ (s : ℕ). IsMissing src (spaces_end src s) (a_text expected.PIEnd) f) (sym third) lack)
+      let second : is.e ≡ q = one_may word.Encoding v is.e q (subst (λ (v : ℕ). MayBePair (word_text word.Encoding) src v is.e) first is.encoding) may' in
+      let third : is.s ≡ q = may_not word.Standalone q is.s none (subst (λ (e : ℕ). MayBePair (word_text word.Standalone) src e is.s) second is.standalone) in
+      word_stands src expected.PIEnd is.s f is.closes (subst (λ (l : ℕ). IsMissing src l (a_text expected.PIEnd) f) (sym third) lack)

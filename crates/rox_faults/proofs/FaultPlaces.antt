@@ -16,7 +16,8 @@ use Rattle.rox_grammar.specs.Names.{byte, spaces_end, IsQName}
 use Rattle.rox_grammar.specs.Constructs.{IsEq, IsLiteral, IsEnd}
 use Rattle.rox_grammar.specs.Content.{Inclusion, IsTag, literals, line_ends}
 use Rattle.rox_grammar.specs.Entities.{Entity, most_deep}
-use Rattle.rox_grammar.specs.Document.{listable, with_new, distinct_pairs, most_attributes, most_pairs}
+use Rattle.rox_grammar.specs.Document.{most_attributes, most_pairs}
+use Rattle.rox_grammar.specs.Counts.{listable, with_new, distinct_pairs}
 use Rattle.rox_grammar.specs.WellNamed.{IsWellNamed}
 use Rattle.rox_grammar.specs.State.{Open, root, inside, is_root, depth_of, scope_of, attributes_so_far, pairs_so_far, FitsLimits}
 use Rattle.rox_grammar.specs.ContentPoints.{TagTo, is_content, is_main, TagBegins, in_content, StepsOver, a_run as takes_run, a_section, a_misc, an_empty_tag, a_start_tag, an_end_tag, goes}

@@ -10,7 +10,8 @@ use Rattle.rox_grammar.specs.Written.{NamespaceDecl, Tag, Item, leaf}
 use Rattle.rox_grammar.specs.Tree.{listed}
 use Rattle.rox_grammar.specs.Content.{Inclusion}
 use Rattle.rox_grammar.specs.Entities.{Replacement, Entity, text_of, most_deep}
-use Rattle.rox_grammar.specs.Document.{listable, own_pairs, own_attributes, with_new, distinct_pairs, most_attributes, most_pairs}
+use Rattle.rox_grammar.specs.Document.{most_attributes, most_pairs}
+use Rattle.rox_grammar.specs.Counts.{listable, own_pairs, own_attributes, with_new, distinct_pairs}
 use Rattle.rox_grammar.specs.WellNamed.{AreWellNamed}
 use Rattle.rox_grammar.specs.State as grammar
 use Rattle.rox_grammar.specs.State.{Open, root, inside, scope_of, nodes_so_far, attributes_so_far, pairs_so_far, FitsLimits}
@@ -26,7 +27,7 @@ use Rattle.rox_theory.proofs.Standing.{AreNamed, IsValidState, distinct-append, 
 use Rattle.rox_theory.proofs.Steps.{after}
 use Rattle.rox_theory.proofs.FailedReadings.{no_fault}
 pub use Rattle.rox_faults.proofs.StateCounts.{AreFew}
-use Rattle.rox_faults.proofs.StateCounts.{nodes_are, attributes_are, pairs_are, fits_few, too_many_there}
+use Rattle.rox_faults.proofs.StateCounts.{nodes_are, attributes_are, distinct_are, fits_few, too_many_there}
 
 -- ---- refusals
 
@@ -79,7 +80,7 @@ fine_fits limit most s least fine =
     record {
       nodes = omega (arith, fine.nodes, nodes_are s.stack s.done);
       attributes = omega (arith, fine.attributes, attributes_are s.stack s.done);
-      namespaces = subst (λ (ds : List NamespaceDecl). length (distinct_pairs ds) ≤ most_pairs) (sym (pairs_are s.stack s.done)) fine.pairs;
+      namespaces = omega (arith, fine.pairs, distinct_are s.stack s.done);
     }
 
 -- ---- one node too many

@@ -15,6 +15,7 @@ use Rattle.rox_grammar.specs.FixedTexts.{at}
 use Rattle.rox_grammar.specs.Content.{Inclusion, Value, Content}
 use Rattle.rox_grammar.specs.Entities.{Replacement, Entity, text_of, Spends, no_entities, Includes, most_deep, included_in_main}
 use Rattle.rox_grammar.specs.Doctype.{Asked, IsDoctype}
+use Rattle.rox_grammar.proofs.CountForms.{limits_counted}
 use Rattle.rox_grammar.specs.Document.{Behind, Misc, no_misc, an_item, ParseOf, IsWithinLimits, Permits, PrologTo}
 use Rattle.rox_theory.specs.ParseParts.{MayHaveDoctype, doctype, no_doctype}
 use Rattle.rox_grammar.specs.State as grammar
@@ -225,8 +226,9 @@ module _ (limit : ℕ) (src : List ℕ) (utf8 : IsUtf8 src) (given : List Asked)
   -- which is within the limits where the parse is
   all_fine : IsWithinLimits limit tree → IsValidState limit (state (length src) (join (join before_root p.one) p.after) root p.openings_left)
   all_fine few =
+      let counts = limits_counted limit tree few in
       let whole : IsValidState limit (state (length src) tree root p.openings_left) =
-      record { nodes = few_nodes limit src utf8 given tree p few; attributes = few.attributes; pairs = few.namespaces; named = p.well_named } in
+      record { nodes = few_nodes limit src utf8 given tree p few; attributes = counts.attributes; pairs = counts.namespaces; named = p.well_named } in
       subst (λ (f : Forest Item). IsValidState limit (state (length src) f root p.openings_left)) same_whole whole
 
   -- the entities are text

@@ -20,12 +20,13 @@ use Rattle.rox_grammar.specs.Forest.{Forest, Nil, join}
 use Rattle.rox_grammar.specs.Written.{Name, Tag, Item, Element, Text, Comment, PI, leaf}
 use Rattle.rox_grammar.specs.NameParts.{local_span, same_qname}
 use Rattle.rox_grammar.specs.Names.{byte, spaces_end}
-use Rattle.rox_grammar.specs.Constructs.{double_dash, has_mark}
+use Rattle.rox_grammar.specs.Constructs.{has_mark}
+use Rattle.rox_grammar.specs.FixedTexts.{double_dash}
 use Rattle.rox_grammar.specs.Content.{is_verbatim, literals, line_ends}
 use Rattle.rox_grammar.specs.TextStart.{after_bom}
 use Rattle.rox_grammar.specs.Entities.{Replacement, Entity, most_deep}
 use Rattle.rox_grammar.specs.Doctype.{Request, Asked}
-use Rattle.rox_grammar.specs.Document.{distinct_pairs}
+use Rattle.rox_grammar.specs.Counts.{distinct_pairs}
 use Rattle.rox_grammar.specs.State.{Open, root, inside, is_root, scope_of, nodes_so_far, attributes_so_far, pairs_so_far}
 use Rattle.rox_reading.specs.Refusals.{Refusal, here, there, lifted, elsewhere}
 use Rattle.rox_reading.specs.State.{State, depth_of}

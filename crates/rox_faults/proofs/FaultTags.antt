@@ -22,7 +22,8 @@ use Rattle.rox_grammar.specs.Constructs.{AreChars, IsEq, IsLiteral}
 use Rattle.rox_grammar.specs.Content.{Inclusion, IsAttribute, Attributes, no_more, one_more}
 use Rattle.rox_grammar.specs.WellNamed.{may_declare, is_known, same_expanded, may_name}
 use Rattle.rox_grammar.proofs.NamesApart.{DeclarableBehind, DistinctBehind, declarable_behind, are_declarable, are_distinct}
-use Rattle.rox_grammar.specs.Document.{attribute_count, with_new, distinct_pairs, most_attributes, most_pairs}
+use Rattle.rox_grammar.specs.Document.{attributes_in, most_attributes, most_pairs}
+use Rattle.rox_grammar.specs.Counts.{with_new, distinct_pairs}
 use Rattle.rox_grammar.specs.Entities.{Entity, most_deep}
 use Rattle.rox_grammar.specs.State as grammar
 use Rattle.rox_grammar.specs.State.{Open, root, State, scope_of, attributes_so_far, pairs_so_far}
@@ -452,7 +453,7 @@ module _ (opens : ℕ → Inclusion) (es : List Entity) (agrees : (d l : ℕ) �
         (chosen (ltb most_attributes (count + length as')) _ _ _ bad'
         (λ many bad. let is : fault.AttributesLimitReached ≡ f = cc in subst Fails is (in_rest r.1 c r.0 _ to (too_many_attributes x.1 x.0.empty r.3 (omega (arith, attributes_are s.stack s.done, ltb-true _ _ many)))))
         (λ fits bad.
-        let fits' : attribute_count (tree_so_far s.stack s.done) + length as' ≤ most_attributes = omega (arith, attributes_are s.stack s.done, ltb-false _ _ fits) in
+        let fits' : attributes_in (tree_so_far s.stack s.done) + length as' ≤ most_attributes = omega (arith, attributes_are s.stack s.done, ltb-false _ _ fits) in
         bind_err (names_tested scope [] as') _ f bad
         (λ bad. in_rest r.1 c r.0 _ to (ill_named x.1 x.0.empty f r.3 fits' (names_fails src s.at scope name.0 as' [] as' f refl tt at_all bad)))
         (λ u names bad. chosen (may_name scope name.0) _ _ _ bad (λ may bad. no_fault _ f bad)

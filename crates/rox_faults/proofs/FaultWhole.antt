@@ -1,5 +1,5 @@
 -- The fault of a whole text.
-use Rattle.std.proofs.Common.{◌≡◌, ℕ, zero, suc, ◌+◌, ◌<◌, ◌≤◌, max, ◌==◌, ◌||◌, Bool, true, false, leb, nat_le, nat_lt, List, [], ◌∷◌, length, drop, refl, sym, ap, ◌∙◌, subst, arith, inl, inr}
+use Rattle.std.proofs.Common.{◌≡◌, ℕ, zero, suc, ◌+◌, ◌<◌, ◌≤◌, max, ◌==◌, ◌||◌, Bool, true, false, leb, nat_le, nat_lt, List, [], ◌∷◌, length, drop, refl, sym, ap, ◌∙◌, subst, arith, inl, inr, true≢false}
 use Rattle.std.specs.Prelude.{Result, Ok, Err}
 use Rattle.std.specs.Str.{chars, IsUtf8, IsCharBoundary}
 use Rattle.std.proofs.lemmas.Str.{IsUtf8-drop, chars-encodes}
@@ -28,7 +28,7 @@ use Rattle.rox_grammar.specs.Document.{Behind, Misc, no_misc, space, an_item, Pr
 use Rattle.rox_grammar.specs.State.{root, nodes_so_far, FitsLimits}
 use Rattle.rox_reading.specs.Refusals.{Refusal, here, there, refused, lifted}
 use Rattle.rox_reading.specs.State.{State}
-use Rattle.rox_grammar.specs.Due.{DueItem, a_byte, a_qname, a_gap, a_text, chars_to, IsMissing, no_gap, DueInPair, its_name, equals, opening, its_value, closing, value_end, PairBegins, version, encoding, standalone, DueInXmlDecl, its_version, in_pair, behind_pair}
+use Rattle.rox_grammar.specs.Due.{DueItem, a_byte, a_qname, a_gap, a_text, chars_to, IsMissing, no_gap, DueInPair, its_name, equals, opening, its_value, closing, value_end, PairBegins, version, encoding, standalone, DueInXmlDecl, its_version, in_pair, behind_pair, behind_last}
 use Rattle.rox_faults.proofs.DueForms.{a_quote}
 use Rattle.rox_grammar.specs.Due as dues
 use Rattle.rox_grammar.specs.ContentPoints.{is_main, begins, of_root}
@@ -45,7 +45,7 @@ use Rattle.rox_theory.proofs.Basics.{ok_same, bind_ok, bind_lifted, bind_lifted_
 use Rattle.rox_theory.proofs.NameLemmas.{chars_here, qname_sound}
 use Rattle.rox_faults.proofs.NameSpans.{run_cut, cut_behind}
 use Rattle.rox_theory.proofs.LiteralLemmas.{from_le, quote_sound, quote_ascii}
-use Rattle.rox_theory.proofs.DeclarationLemmas.{pair_sound, pair_if_sound, last_at, last_sound}
+use Rattle.rox_theory.proofs.DeclarationLemmas.{pair_sound, pair_if_sound, pair_if_ends, last_at}
 use Rattle.rox_theory.proofs.Places.{over_spaces, space_ascii, space_within}
 use Rattle.rox_theory.proofs.Constructions.{comment_bytes, instruction_bytes}
 use Rattle.rox_theory.proofs.Standing.{IsValidState}
@@ -163,7 +163,14 @@ module _ (src : List ℕ) (utf8 : IsUtf8 src) where
       (λ there bad. let x = pair_fails e.1 f bad in (x.0, x.1, in_pair false e.1 x.0 x.1 (standalone v.1 e.1 here first_pair second there) x.2, x.3))
       (λ none bad. cc))
       (λ s read'' h.
-      (spaces_end src s.1, a_text expected.PIEnd, dues.DueInXmlDecl.its_end v.1 e.1 s.1 here first_pair second (last_sound src utf8 e.1 s read''), string_fails expected.PIEnd src (spaces_end src s.1) f h)))))
+      let bad = string_fails expected.PIEnd src (spaces_end src s.1) f h in
+      chosen (stands (word_text word.Standalone) src e.1) _ _ _ read''
+      (λ there read''. (spaces_end src s.1, a_text expected.PIEnd, behind_last e.1 s.1 (standalone v.1 e.1 here first_pair second there) (pair_sound src utf8 e.1 s read''), bad))
+      (λ none same.
+      let behind_first = pair_if_ends word.Version src p v.1 utf8 (λ none. absurd (true≢false (sym here ∙ none))) first_pair in
+      let behind_second = pair_if_ends word.Encoding src v.1 e.1 utf8 (λ none. behind_first) second in
+      let is : spaces_end src s.1 ≡ e.1 = ap (λ (x : Unit {0} × ℕ). spaces_end src x.1) (sym (ok_same (tt, e.1) s same)) ∙ behind_second in
+      (e.1, a_text expected.PIEnd, dues.DueInXmlDecl.its_end v.1 e.1 here first_pair second none, subst (λ (k : ℕ). IsMissing src k (a_text expected.PIEnd) f) is bad))))))
       (λ none h.
       let is : fault.InvalidString expected.Version p ≡ f = cc in
       (p, a_text expected.Version, its_version, subst (IsMissing src p (a_text expected.Version)) is (dues.IsMissing.other_text expected.Version none)))

@@ -2,23 +2,27 @@
 use Rattle.std.proofs.Common.{◌≡◌, ℕ, ◌+◌, ◌<◌, ◌≤◌, List, ◌++◌, length, refl, sym, ap, ◌∙◌, subst, arith}
 use Rattle.rox_grammar.specs.Forest.{Forest, Nil, Cons, join, size}
 use Rattle.rox_grammar.specs.Written.{NamespaceDecl, Item, Element, merge}
-use Rattle.rox_grammar.specs.Document.{listable, pairs, with_new, distinct_pairs, attribute_count, most_attributes, most_pairs}
+use Rattle.rox_grammar.specs.Document.{attributes_in, pairs_in, distinct_count, most_attributes, most_pairs}
+use Rattle.rox_grammar.specs.Counts.{listable, pairs, with_new, distinct_pairs, attribute_count}
 use Rattle.rox_grammar.specs.Tree.{listable_of}
-use Rattle.rox_grammar.specs.ContentPoints.{pairs_with}
+use Rattle.rox_grammar.proofs.CountForms.{attributes_same, pairs_same, distinct_same, limits_counted}
 use Rattle.rox_grammar.specs.OpenElements.{Open, root, inside, tree_so_far, FitsLimits, HasTooManyNodes}
 use Rattle.rox_grammar.specs.State.{nodes_so_far, attributes_so_far, pairs_so_far}
 use Rattle.rox_reading.proofs.Forests.{pairs-merge, attribute_count-merge}
-use Rattle.rox_theory.proofs.Standing.{attributes-item, pairs-item, nodes-element}
+use Rattle.rox_theory.proofs.Standing.{distinct-append, attributes-item, pairs-item, nodes-element}
 
 pub nodes_are : (stack : Open) (done : Forest Item) → 1 + size (tree_so_far stack done) ≡ nodes_so_far stack done
 nodes_are root done = refl
 nodes_are (inside start tag before up) done =
     omega (arith, nodes_are up (join before (Cons (Element start start tag) (merge done) Nil)), nodes-element up before start start tag (merge done))
 
-pub attributes_are : (stack : Open) (done : Forest Item) → attribute_count (tree_so_far stack done) ≡ attributes_so_far stack done
-attributes_are root done = attribute_count-merge done
-attributes_are (inside start tag before up) done =
-    omega (arith, attributes_are up (join before (Cons (Element start start tag) (merge done) Nil)), attributes-item up before (Element start start tag) (merge done), attribute_count-merge done)
+counts_are : (stack : Open) (done : Forest Item) → attribute_count (tree_so_far stack done) ≡ attributes_so_far stack done
+counts_are root done = attribute_count-merge done
+counts_are (inside start tag before up) done =
+    omega (arith, counts_are up (join before (Cons (Element start start tag) (merge done) Nil)), attributes-item up before (Element start start tag) (merge done), attribute_count-merge done)
+
+pub attributes_are : (stack : Open) (done : Forest Item) → attributes_in (tree_so_far stack done) ≡ attributes_so_far stack done
+attributes_are stack done = attributes_same (tree_so_far stack done) ∙ counts_are stack done
 
 pub pairs_are : (stack : Open) (done : Forest Item) → pairs (tree_so_far stack done) ≡ pairs_so_far stack done
 pairs_are root done = pairs-merge done
@@ -30,15 +34,25 @@ pairs_are (inside start tag before up) done =
 abbrev pub AreFew : Open → Forest Item → Type 0
 AreFew stack done = (attributes_so_far stack done ≤ most_attributes) × (length (distinct_pairs (pairs_so_far stack done)) ≤ most_pairs)
 
+-- the pairs of the tree so far, and those of a tag
+with_tag : (stack : Open) (done : Forest Item) (own : List NamespaceDecl) → distinct_count (pairs_in (tree_so_far stack done) ++ own) ≡ length (with_new (distinct_pairs (pairs_so_far stack done)) own)
+with_tag stack done own =
+    distinct_same (pairs_in (tree_so_far stack done) ++ own)
+    ∙ ap (λ (ds : List NamespaceDecl). length (distinct_pairs (ds ++ own))) (pairs_same (tree_so_far stack done) ∙ pairs_are stack done)
+    ∙ ap length (distinct-append (pairs_so_far stack done) own)
+
+pub distinct_are : (stack : Open) (done : Forest Item) → distinct_count (pairs_in (tree_so_far stack done)) ≡ length (distinct_pairs (pairs_so_far stack done))
+distinct_are stack done =
+    distinct_same (pairs_in (tree_so_far stack done)) ∙ ap (λ (ds : List NamespaceDecl). length (distinct_pairs ds)) (pairs_same (tree_so_far stack done) ∙ pairs_are stack done)
+
 pub fits_few : (limit : ℕ) (stack : Open) (done : Forest Item) → FitsLimits limit stack done → AreFew stack done
-fits_few limit stack done fits =
-    (omega (arith, fits.attributes, attributes_are stack done), subst (λ (ds : List NamespaceDecl). length (distinct_pairs ds) ≤ most_pairs) (pairs_are stack done) fits.namespaces)
+fits_few limit stack done fits = (omega (arith, fits.attributes, attributes_are stack done), omega (arith, fits.namespaces, distinct_are stack done))
 
 pub too_many_there : (limit : ℕ) (stack : Open) (done : Forest Item) → AreFew stack done → limit < nodes_so_far stack done → HasTooManyNodes limit stack done
 too_many_there limit stack done few over =
     record {
       attributes = omega (arith, few.0, attributes_are stack done);
-      namespaces = subst (λ (ds : List NamespaceDecl). length (distinct_pairs ds) ≤ most_pairs) (sym (pairs_are stack done)) few.1;
+      namespaces = omega (arith, few.1, distinct_are stack done);
       nodes = omega (arith, over, nodes_are stack done);
     }
 
@@ -47,17 +61,17 @@ too_many_counted limit stack done over = omega (arith, over.nodes, nodes_are sta
 
 -- with the declarations of a tag
 pub pairs_there : (stack : Open) (done : Forest Item) (ds : List NamespaceDecl) → length (with_new (distinct_pairs (pairs_so_far stack done)) (listable_of ds)) ≤ most_pairs
-    → pairs_with (distinct_pairs (pairs (tree_so_far stack done))) ds ≤ most_pairs
-pairs_there stack done ds few = subst (λ (ps : List NamespaceDecl). length (with_new (distinct_pairs ps) (listable_of ds)) ≤ most_pairs) (sym (pairs_are stack done)) few
+    → distinct_count (pairs_in (tree_so_far stack done) ++ listable_of ds) ≤ most_pairs
+pairs_there stack done ds few = omega (arith, few, with_tag stack done (listable_of ds))
 
-pub pairs_counted : (stack : Open) (done : Forest Item) (ds : List NamespaceDecl) → pairs_with (distinct_pairs (pairs (tree_so_far stack done))) ds ≤ most_pairs
+pub pairs_counted : (stack : Open) (done : Forest Item) (ds : List NamespaceDecl) → distinct_count (pairs_in (tree_so_far stack done) ++ listable_of ds) ≤ most_pairs
     → length (with_new (distinct_pairs (pairs_so_far stack done)) (listable_of ds)) ≤ most_pairs
-pairs_counted stack done ds few = subst (λ (ps : List NamespaceDecl). length (with_new (distinct_pairs ps) (listable_of ds)) ≤ most_pairs) (pairs_are stack done) few
+pairs_counted stack done ds few = omega (arith, few, with_tag stack done (listable_of ds))
 
 pub more_pairs_there : (stack : Open) (done : Forest Item) (ds : List NamespaceDecl) → most_pairs < length (with_new (distinct_pairs (pairs_so_far stack done)) (listable_of ds))
-    → most_pairs < pairs_with (distinct_pairs (pairs (tree_so_far stack done))) ds
-more_pairs_there stack done ds over = subst (λ (ps : List NamespaceDecl). most_pairs < length (with_new (distinct_pairs ps) (listable_of ds))) (sym (pairs_are stack done)) over
+    → most_pairs < distinct_count (pairs_in (tree_so_far stack done) ++ listable_of ds)
+more_pairs_there stack done ds over = omega (arith, over, with_tag stack done (listable_of ds))
 
-pub more_pairs_counted : (stack : Open) (done : Forest Item) (ds : List NamespaceDecl) → most_pairs < pairs_with (distinct_pairs (pairs (tree_so_far stack done))) ds
+pub more_pairs_counted : (stack : Open) (done : Forest Item) (ds : List NamespaceDecl) → most_pairs < distinct_count (pairs_in (tree_so_far stack done) ++ listable_of ds)
     → most_pairs < length (with_new (distinct_pairs (pairs_so_far stack done)) (listable_of ds))
-more_pairs_counted stack done ds over = subst (λ (ps : List NamespaceDecl). most_pairs < length (with_new (distinct_pairs ps) (listable_of ds))) (pairs_are stack done) over
+more_pairs_counted stack done ds over = omega (arith, over, with_tag stack done (listable_of ds))

@@ -14,7 +14,8 @@ use Rattle.rox_grammar.specs.Written.{Name, Attribute, NamespaceDecl, is_namespa
 use Rattle.rox_grammar.specs.NameParts.{local_span, prefix_span}
 use Rattle.rox_grammar.specs.Tree.{xml_uri, xmlns_uri, is_declared, listed, listable_of}
 use Rattle.rox_grammar.specs.WellNamed.{is_known, same_expanded, may_name}
-use Rattle.rox_grammar.specs.Document.{with_new, most_pairs, most_attributes}
+use Rattle.rox_grammar.specs.Document.{most_pairs, most_attributes}
+use Rattle.rox_grammar.specs.Counts.{with_new}
 use Rattle.rox_grammar.specs.Names.{byte, spaces_end}
 use Rattle.rox_reading.specs.Refusals.{Refusal}
 use Rattle.rox_reading.specs.Lexical.{◌>>=◌, byte_at, quote_at, chars_up_to, qname_at}

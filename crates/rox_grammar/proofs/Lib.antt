@@ -1,1 +1,2 @@
+pub mod CountForms
 pub mod NamesApart

@@ -1,9 +1,9 @@
 -- The names of a tag, one behind the others: what loops over declarations and attributes know.
 use Rattle.std.proofs.Common.{◌≡◌, true, false, ◌||◌, ◌&&◌, Bool, List, [], ◌∷◌, ◌++◌, refl}
-use Rattle.std.specs.List.{list_any, list_all}
+use Rattle.std.specs.List.{list_any, list_all, IsDistinct, AllByRecursion}
 use Rattle.rox_grammar.specs.Written.{Attribute, NamespaceDecl}
 use Rattle.rox_grammar.specs.Tree.{same_prefix}
-use Rattle.rox_grammar.specs.WellNamed.{AreApart, may_declare, AreDeclarable, is_known, same_expanded, AreDistinct}
+use Rattle.rox_grammar.specs.WellNamed.{may_declare, AreDeclarable, is_known, same_expanded, AreDistinct}
 
 -- each passes, and none of these, nor one before it, is like it
 abbrev pub FineBehind : {A : Type 0} → (A → Bool) → (A → A → Bool) → List A → List A → Type 0
@@ -68,20 +68,30 @@ both_true : (a b : Bool) → (a && b) ≡ true → (a ≡ true) × (b ≡ true)
 both_true true b h = (refl, h)
 both_true false b h = (h, elim b as (λ b. b ≡ true) [ true ↦ refl | false ↦ h ])
 
+none_is : {A : Type 0} (p : A → Bool) (xs : List A) → list_any p xs ≡ false → AllByRecursion (λ x. p x ≡ false) xs
+none_is p [] h = tt
+none_is p (x ∷ xs) h = let n = neither (p x) (list_any p xs) h in (n.0, none_is p xs n.1)
+
+is_none : {A : Type 0} (p : A → Bool) (xs : List A) → AllByRecursion (λ x. p x ≡ false) xs → list_any p xs ≡ false
+is_none p [] h = refl
+is_none p (x ∷ xs) (one, more) = rw one (is_none p xs more)
+
 module _ {A : Type 0} (p : A → Bool) (same : A → A → Bool) where
-  behind : (before xs : List A) → list_all p xs ≡ true → AnyLike same before xs ≡ false → AreApart same xs → FineBehind p same before xs
+  behind : (before xs : List A) → list_all p xs ≡ true → AnyLike same before xs ≡ false → IsDistinct same xs → FineBehind p same before xs
+  unfolding IsDistinct
   behind before [] all none apart = tt
   behind before (x ∷ xs) all none (one, apart) =
       let a = both_true (p x) (list_all p xs) all in
       let n = first_like same before x xs none in
-      (a.0, n.0, behind (before ++ x ∷ []) xs a.1 (like_more same before x xs n.1 one) apart)
+      (a.0, n.0, behind (before ++ x ∷ []) xs a.1 (like_more same before x xs n.1 (is_none (same x) xs one)) apart)
 
-  fine : (before xs : List A) → FineBehind p same before xs → (list_all p xs ≡ true) × (AnyLike same before xs ≡ false) × AreApart same xs
+  fine : (before xs : List A) → FineBehind p same before xs → (list_all p xs ≡ true) × (AnyLike same before xs ≡ false) × IsDistinct same xs
+  unfolding IsDistinct
   fine before [] h = (refl, like_none same before, tt)
   fine before (x ∷ xs) (passes, new, more) =
       let r = fine (before ++ x ∷ []) xs more in
       let m = more_like same before x xs r.1 in
-      (rw passes r.0, like_first same before x xs new m.0, (m.1, r.2))
+      (rw passes r.0, like_first same before x xs new m.0, (none_is (same x) xs m.1, r.2))
 
 -- ---- none before them
 

@@ -24,17 +24,13 @@ AreChars src i j = run_end is_char (take j src) i ≡ j
 abbrev pub has_mark : List ℕ → List ℕ → Bool
 has_mark mark text = nat_lt (before_mark mark text) (length text)
 
--- two dashes, which the text of no comment may hold (XML 2.5)
-abbrev pub double_dash : List ℕ
-double_dash = codes "--"
-
--- XML 2.5 [15] Comment; its text ends at e
+-- XML 2.5 [15] Comment; its text ends at e, and holds no two dashes
 pub record IsComment (src : List ℕ) (i e j : ℕ) : Type 0 where
   pub opens : text_at "<!--" src i ≡ true
   pub end : e ≡ first_text "-->" src (i + 4)
   pub chars : AreChars src (i + 4) e
   pub closes : text_at "-->" src e ≡ true
-  pub no_dashes : has_mark double_dash (slice src (i + 4) e) ≡ false
+  pub no_dashes : has_mark (codes "--") (slice src (i + 4) e) ≡ false
   pub no_last : byte (slice src (i + 4) e) (length (slice src (i + 4) e) - 1) ≢ code "-"
   pub next : j ≡ e + 3
 
@@ -96,11 +92,6 @@ pub data MayBePair (text : List ℕ) (src : List ℕ) : ℕ → ℕ → Type 0 w
   is_pair : (i j k : ℕ) → stands text src i ≡ true → IsPair src i j → IsGap src j k → MayBePair text src i k
   no_pair : (i : ℕ) → stands text src i ≡ false → MayBePair text src i i
 
--- the last pair needs no gap
-pub data MayEndPair (text : List ℕ) (src : List ℕ) : ℕ → ℕ → Type 0 where
-  is_last : (i j : ℕ) → stands text src i ≡ true → IsPair src i j → MayEndPair text src i j
-  no_last : (i : ℕ) → stands text src i ≡ false → MayEndPair text src i i
-
 -- XML 2.8 [23] XMLDecl, but only where a space follows `<?xml`: with other white space there it is read as an instruction
 pub record IsXmlDecl (src : List ℕ) (i j : ℕ) : Type 0 where
   pub opens : text_at "<?xml " src i ≡ true
@@ -110,9 +101,9 @@ pub record IsXmlDecl (src : List ℕ) (i j : ℕ) : Type 0 where
   pub e : ℕ
   pub encoding : MayBePair (codes "encoding") src v e
   pub s : ℕ
-  pub standalone : MayEndPair (codes "standalone") src e s
-  pub closes : text_at "?>" src (spaces_end src s) ≡ true
-  pub next : j ≡ spaces_end src s + 2
+  pub standalone : MayBePair (codes "standalone") src e s
+  pub closes : text_at "?>" src s ≡ true
+  pub next : j ≡ s + 2
 
 -- XML 3.1 [42] ETag; its name ends at n
 pub record IsEnd (src : List ℕ) (i : ℕ) (name : Name) (n j : ℕ) : Type 0 where

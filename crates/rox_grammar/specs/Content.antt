@@ -1,8 +1,9 @@
 -- Character data, attribute values, tags, elements and content, each as a relation between two places of one source.
 use Prim.Native.Char.{code}
-use Rattle.std.specs.Prelude.{◌≡◌, ◌≢◌, ℕ, ◌+◌, ◌<◌, ◌≤◌, ◌⊎◌, ◌==◌, ◌||◌, Bool, true, false, not, List, [], ◌∷◌, ◌++◌, None, if◌then◌else◌, codes}
+use Rattle.std.specs.Prelude.{◌≡◌, ◌≢◌, ℕ, ◌+◌, ◌<◌, ◌≤◌, ◌⊎◌, ◌==◌, ◌||◌, Bool, true, false, not, List, [], ◌∷◌, ◌++◌, None, map, if◌then◌else◌, codes}
 use Rattle.std.specs.List.{list_any}
 use Rattle.std.specs.Char.{encode_utf8}
+use Rattle.rox_grammar.specs.Runs.{first_passes}
 use Rattle.rox_grammar.specs.Search.{byte_from}
 use Rattle.rox_grammar.specs.Forest.{Forest, Nil, Cons, join}
 use Rattle.rox_grammar.specs.Written.{Attribute, Tag, Item, Element, Text, Comment, PI, namespace_decls_of, plain_attributes_of, merge, leaf}
@@ -33,19 +34,12 @@ is_literal c (kept b) = false
 -- the bytes of a character from a reference, which is kept outside replacement texts alone; by XML 2.11 it is kept everywhere,
 -- since line ends are found before references are opened
 abbrev pub data_bytes_of : Bool → List ℕ → List DataByte
-data_bytes_of main [] = []
-data_bytes_of true (b ∷ bs) = kept b ∷ data_bytes_of true bs
-data_bytes_of false (b ∷ bs) = literal b ∷ data_bytes_of false bs
-
--- a literal LF stands in front
-abbrev pub begins_with_line_feed : List DataByte → Bool
-begins_with_line_feed [] = false
-begins_with_line_feed (s ∷ ss) = is_literal (code "\n") s
+data_bytes_of main bs = map (if main then kept else literal) bs
 
 -- XML 2.11: a literal CR right before a literal LF gives nothing, and any other literal CR gives LF
 abbrev pub line_ends : List DataByte → List ℕ
 line_ends [] = []
-line_ends (s ∷ ss) = if is_literal (code "\r") s then (if begins_with_line_feed ss then line_ends ss else code "\n" ∷ line_ends ss) else data_byte s ∷ line_ends ss
+line_ends (s ∷ ss) = if is_literal (code "\r") s then (if first_passes (is_literal (code "\n")) ss then line_ends ss else code "\n" ∷ line_ends ss) else data_byte s ∷ line_ends ss
 
 -- each byte as it stands
 abbrev pub literals : List ℕ → List DataByte

@@ -1,7 +1,7 @@
 -- The points of content that reading comes to, in the root element and in replacement texts. A construct is passed where it stands
 -- in the grammar and is well named; nothing else is.
 use Prim.Native.Char.{code}
-use Rattle.std.specs.Prelude.{◌≡◌, ◌≢◌, ℕ, zero, suc, ◌+◌, ◌<◌, ◌≤◌, Some, None, Bool, true, false, List, length, bytes_eq, codes}
+use Rattle.std.specs.Prelude.{◌≡◌, ◌≢◌, ℕ, zero, suc, ◌+◌, ◌<◌, ◌≤◌, Some, None, Bool, true, false, List, ◌++◌, length, bytes_eq, codes}
 use Rattle.rox_grammar.specs.Forest.{Forest, Nil, Cons, join}
 use Rattle.rox_grammar.specs.Written.{Name, Attribute, NamespaceDecl, Tag, Item, Element, namespace_decls_of, merge, leaf}
 use Rattle.rox_grammar.specs.Tree.{listed, listable_of}
@@ -11,7 +11,7 @@ use Rattle.rox_grammar.specs.Content.{Inclusion, DataByte, piece, section, Part,
 use Rattle.rox_grammar.specs.WellNamed.{AreDeclarable, IsWellNamed, AreWellNamed}
 use Rattle.rox_grammar.specs.References.{IsReference, predefined}
 use Rattle.rox_grammar.specs.Entities.{Replacement, Entity, text_of, most_within, most_deep}
-use Rattle.rox_grammar.specs.Document.{pairs, with_new, distinct_pairs, most_pairs}
+use Rattle.rox_grammar.specs.Document.{pairs_in, distinct_count, most_pairs}
 use Rattle.rox_grammar.specs.OpenElements.{Open, root, inside, State, depth_of, scope_of, tree_so_far}
 
 -- the `<` of the root element: of no comment, processing instruction or document type declaration. Behind a document type
@@ -97,10 +97,6 @@ pub data ValuePart (opens : ℕ → Inclusion) (es : List Entity) (k : ℕ) (src
       → Value (is_main l) (opens l) part p i d c front → p < stop → RefersTo es part p j t → MayOpen l c r
       → ValuePart opens es k src start end b (suc l) t.source t.start (length t.source) r
 
--- how many pairs there are, with those of these declarations that are listed
-abbrev pub pairs_with : List NamespaceDecl → List NamespaceDecl → ℕ
-pairs_with known ds = length (with_new known (listable_of ds))
-
 -- The start tag that begins at a place is read up to p, right behind its name or one of these attributes and declarations.
 -- No fault of the tag stands before p: each declaration may be there, and with their pairs the limit is kept.
 pub record TagTo (main : Bool) (Includes : Inclusion) (src : List ℕ) (s : State) (p b c : ℕ) (written : List Attribute) : Type 0 where
@@ -110,4 +106,4 @@ pub record TagTo (main : Bool) (Includes : Inclusion) (src : List ℕ) (s : Stat
   pub no_xmlns : bytes_eq name.prefix (codes "xmlns") ≡ false
   pub attributes : Attributes main Includes src name_end p b c written
   pub declarable : AreDeclarable (namespace_decls_of written)
-  pub few_pairs : pairs_with (distinct_pairs (pairs (tree_so_far s.stack s.done))) (namespace_decls_of written) ≤ most_pairs
+  pub few_pairs : distinct_count (pairs_in (tree_so_far s.stack s.done) ++ listable_of (namespace_decls_of written)) ≤ most_pairs

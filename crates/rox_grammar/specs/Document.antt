@@ -1,5 +1,5 @@
 -- Documents, and their limits.
-use Rattle.std.specs.Prelude.{◌≡◌, ℕ, ◌+◌, ◌-◌, ◌^◌, ◌≤◌, ◌⊎◌, Option, Bool, true, false, ◌&&◌, List, [], ◌∷◌, ◌++◌, length, if◌then◌else◌, bytes_eq}
+use Rattle.std.specs.Prelude.{◌≡◌, ℕ, ◌+◌, ◌-◌, ◌^◌, ◌≤◌, ◌⊎◌, Option, Bool, true, false, ◌&&◌, List, [], ◌∷◌, ◌++◌, length, if◌then◌else◌, bytes_eq, sum_by, flat_map}
 use Rattle.std.specs.List.{list_any}
 use Rattle.rox_grammar.specs.Chars.{is_space}
 use Rattle.rox_grammar.specs.Forest.{Forest, Nil, Cons, join, size}
@@ -50,42 +50,28 @@ pub record ParseOf (src : List ℕ) (dtd : Bool) (asked : List Asked) (tree : Fo
   pub entities : List Entity
   pub whole : Behind (included_in_main entities) src (λ p items. Prolog src p dtd items asked entities) (length src) tree
 
--- what a tag declares and its element lists
-abbrev pub listable : Tag → List NamespaceDecl
-listable t = listable_of t.declarations
+-- the tags of the elements, in document order
+abbrev pub tags : Forest Item → List Tag
+tags Nil = []
+tags (Cons (Element start end tag) children rest) = tag ∷ (tags children ++ tags rest)
+tags (Cons other children rest) = tags children ++ tags rest
 
-abbrev pub own_pairs : Item → List NamespaceDecl
-own_pairs (Element start end t) = listable t
-own_pairs other = []
+-- how many attributes there are
+abbrev pub attributes_in : Forest Item → ℕ
+attributes_in items = sum_by (λ t. length t.attributes) (tags items)
 
 -- all that is declared and listed, in document order
-abbrev pub pairs : Forest Item → List NamespaceDecl
-pairs Nil = []
-pairs (Cons item children rest) = own_pairs item ++ (pairs children ++ pairs rest)
+abbrev pub pairs_in : Forest Item → List NamespaceDecl
+pairs_in items = flat_map (λ t. listable_of t.declarations) (tags items)
 
+-- the same prefix, or both the default, and the same URI
 abbrev pub same_pair : NamespaceDecl → NamespaceDecl → Bool
 same_pair d e = same_prefix d.prefix e.prefix && bytes_eq d.uri e.uri
 
-abbrev pub has_pair : List NamespaceDecl → NamespaceDecl → Bool
-has_pair ds d = list_any (λ e. same_pair e d) ds
-
--- these, and of the others each one that is not there yet, once
-abbrev pub with_new : List NamespaceDecl → List NamespaceDecl → List NamespaceDecl
-with_new ds [] = ds
-with_new ds (e ∷ es) = if has_pair ds e then with_new ds es else with_new (ds ++ e ∷ []) es
-
--- each pair of a prefix, or the default, and a URI once
-abbrev pub distinct_pairs : List NamespaceDecl → List NamespaceDecl
-distinct_pairs ds = with_new [] ds
-
-abbrev pub own_attributes : Item → ℕ
-own_attributes (Element start end t) = length t.attributes
-own_attributes other = 0
-
--- how many attributes there are
-abbrev pub attribute_count : Forest Item → ℕ
-attribute_count Nil = 0
-attribute_count (Cons item children rest) = own_attributes item + attribute_count children + attribute_count rest
+-- how many of these differ
+abbrev pub distinct_count : List NamespaceDecl → ℕ
+distinct_count [] = 0
+distinct_count (d ∷ ds) = if list_any (same_pair d) ds then distinct_count ds else 1 + distinct_count ds
 
 abbrev pub most_attributes : ℕ
 most_attributes = 2 ^ 32 - 2
@@ -96,8 +82,8 @@ most_pairs = 2 ^ 16 - 1
 -- the limits of a tree, the root node counted; XML has none
 pub record IsWithinLimits (nodes_limit : ℕ) (tree : Forest Item) : Type 0 where
   pub nodes : size tree + 1 ≤ nodes_limit
-  pub attributes : attribute_count tree ≤ most_attributes
-  pub namespaces : length (distinct_pairs (pairs tree)) ≤ most_pairs
+  pub attributes : attributes_in tree ≤ most_attributes
+  pub namespaces : distinct_count (pairs_in tree) ≤ most_pairs
 
 -- The text has a parse within the limits, with these answers for its external entities, and this is its tree as readers see it.
 pub record IsTreeOf (src : List ℕ) (dtd : Bool) (asked : List Asked) (nodes_limit : ℕ) (tree : Forest Node) : Type 0 where
@@ -112,21 +98,9 @@ Permits allow dtd = dtd ≡ true → allow ≡ true
 
 -- After these were asked, in order, this is asked next: the declaration of an external entity is read up to p, where the
 -- request is made, and everything before it is as the grammar wants.
-pub record AsksNext (src : List ℕ) (asked : List Asked) (request : Request) (p : ℕ) : Type 0 where
-  pub begun : ℕ
-  pub before : Forest Item
-  pub prolog : PrologTo src begun before
-  pub i : ℕ
-  pub nodes : Forest Item
-  pub subset : SubsetTo src begun i nodes asked
-  pub parameter : Bool
-  pub n : ℕ
-  pub m : ℕ
-  pub d : ℕ
-  pub begins : BeginsEntity src i parameter n m d
-  pub e : ℕ
-  pub external : IsExternalID src d request e
-  pub notation : MayHaveNotation src parameter e p ⊎ CutsNotation src parameter e p
+pub data AsksNext (src : List ℕ) (asked : List Asked) (request : Request) (p : ℕ) : Type 0 where
+  at_entity : (begun i n m d e : ℕ) (before nodes : Forest Item) (parameter : Bool) → PrologTo src begun before → SubsetTo src begun i nodes asked
+      → BeginsEntity src i parameter n m d → IsExternalID src d request e → MayHaveNotation src parameter e p ⊎ CutsNotation src parameter e p → AsksNext src asked request p
 
 -- What was asked, in order, while the text was read: for each its declaration stands next, after those before it. Nothing is asked
 -- where no document type declaration may stand.

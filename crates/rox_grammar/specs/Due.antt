@@ -14,7 +14,7 @@ use Rattle.rox_grammar.specs.Search.{stands, mark_from, byte_from}
 use Rattle.rox_grammar.specs.Written.{Name}
 use Rattle.rox_grammar.specs.Names.{byte, spaces_end, IsName, IsQName}
 use Rattle.rox_grammar.specs.Doctype.{Request, IsQuoted, IsSpace, IsExternalID, IsKind, BeginsEntity, BeginsDoctype}
-use Rattle.rox_grammar.specs.Constructs.{text_at, AreChars, IsEq, IsPair, MayBePair, MayEndPair}
+use Rattle.rox_grammar.specs.Constructs.{text_at, AreChars, IsEq, IsPair, MayBePair}
 
 -- what a construct can go on with
 pub data DueItem : Type 0 where
@@ -97,8 +97,9 @@ pub data DueInXmlDecl (src : List ℕ) (i : ℕ) : ℕ → DueItem → Type 0 wh
   its_version : DueInXmlDecl src i (spaces_end src (i + 5)) (a_text expected.Version)
   in_pair : (gap : Bool) (j p : ℕ) (t : DueItem) → PairBegins src i gap j → DueInPair src j p t → DueInXmlDecl src i p t
   behind_pair : (j p : ℕ) → PairBegins src i true j → IsPair src j p → DueInXmlDecl src i p a_gap
-  its_end : (v e s : ℕ) → text_at "version" src (spaces_end src (i + 5)) ≡ true → MayBePair (codes "version") src (spaces_end src (i + 5)) v → MayBePair (codes "encoding") src v e
-      → MayEndPair (codes "standalone") src e s → DueInXmlDecl src i (spaces_end src s) (a_text expected.PIEnd)
+  behind_last : (j p : ℕ) → PairBegins src i false j → IsPair src j p → DueInXmlDecl src i (spaces_end src p) (a_text expected.PIEnd)
+  its_end : (v e : ℕ) → text_at "version" src (spaces_end src (i + 5)) ≡ true → MayBePair (codes "version") src (spaces_end src (i + 5)) v → MayBePair (codes "encoding") src v e
+      → text_at "standalone" src e ≡ false → DueInXmlDecl src i e (a_text expected.PIEnd)
 
 -- XML 2.3 [9], [11], [12]: in a literal of any characters but the quote, which begins at i
 pub data DueInLiteral (src : List ℕ) (i : ℕ) : ℕ → DueItem → Type 0 where

@@ -19,12 +19,7 @@ abbrev pub moved : Move → ℕ → ℕ
 moved m i = i + m.add - m.sub
 
 abbrev pub moved_attribute : Move → Attribute → Attribute
-moved_attribute m a = record a {
-  start = moved m a.start;
-  name_end = moved m a.name_end;
-  value_start = moved m a.value_start;
-  end = moved m a.end;
-}
+moved_attribute m a = record a { start = moved m a.start; name_end = moved m a.name_end; value_start = moved m a.value_start; end = moved m a.end }
 
 -- all places of a node move
 abbrev pub moved_node : Move → Node → Node

@@ -12,17 +12,17 @@ use Rattle.rox_grammar.specs.Runs.{StandsAt}
 use Rattle.rox_grammar.specs.Search.{byte_from}
 use Rattle.rox_grammar.specs.Forest.{Forest, join, size}
 use Rattle.rox_grammar.specs.Written.{Name, Attribute, NamespaceDecl, Tag, Item, is_namespace_decl, namespace_decl_of, namespace_decls_of, plain_attributes_of, leaf}
-use Rattle.rox_grammar.specs.Tree.{xml_uri, xmlns_uri, is_declared, listed, is_xml}
+use Rattle.rox_grammar.specs.Tree.{xml_uri, xmlns_uri, is_declared, listed, listable_of, is_xml}
 use Rattle.rox_grammar.specs.Names.{byte, slice, spaces_end, IsQName}
-use Rattle.rox_grammar.specs.Constructs.{text_at, first_text, double_dash, has_mark, AreChars, IsPair, IsEnd}
+use Rattle.rox_grammar.specs.Constructs.{text_at, first_text, has_mark, AreChars, IsPair, IsEnd}
 use Rattle.rox_grammar.specs.References.{IsReference, IsCharacter, predefined}
 use Rattle.rox_grammar.specs.Content.{Inclusion, IsCharacterData, Value, IsAttribute, TagEnds, IsMisc}
 use Rattle.rox_grammar.specs.WellNamed.{may_declare, is_known, same_expanded, AreDistinct, may_name, AreWellNamed}
 use Rattle.rox_grammar.specs.Entities.{Replacement, Entity, text_of}
-use Rattle.rox_grammar.specs.Document.{Behind, pairs, distinct_pairs, attribute_count, most_attributes, most_pairs}
+use Rattle.rox_grammar.specs.Document.{Behind, pairs_in, distinct_count, attributes_in, most_attributes, most_pairs}
 use Rattle.rox_grammar.specs.OpenElements.{Open, root, inside, State, depth_of, scope_of, tree_so_far, FitsLimits, HasTooManyNodes}
 use Rattle.rox_grammar.specs.Due.{DueItem, a_byte, a_qname, one_of, chars_to, IsMissing, DueInText, DueInPI, DueInEnd, DueInPair}
-use Rattle.rox_grammar.specs.ContentPoints.{RootBegins, is_content, is_main, TagBegins, StepsOver, PartsTo, RefersTo, IsSpent, ContentPoint, ValuePart, TagTo, pairs_with}
+use Rattle.rox_grammar.specs.ContentPoints.{RootBegins, is_content, is_main, TagBegins, StepsOver, PartsTo, RefersTo, IsSpent, ContentPoint, ValuePart, TagTo}
 
 -- the bytes of a name as it is written, without the colon if there is no prefix
 abbrev pub spelled : Name → List ℕ
@@ -37,7 +37,7 @@ pub data InMisc (src : List ℕ) (i : ℕ) : Fault → Type 0 where
   comment_lacks : (p : ℕ) (t : DueItem) (f : Fault) → text_at "<!--" src i ≡ true → DueInText expected.CommentEnd src (i + 4) p t → IsMissing src p t f → InMisc src i f
   -- two dashes in the text, or one at its end
   double_dashes : (e : ℕ) → text_at "<!--" src i ≡ true → e ≡ first_text "-->" src (i + 4) → AreChars src (i + 4) e → text_at "-->" src e ≡ true
-      → (has_mark double_dash (slice src (i + 4) e) ≡ true) ⊎ (byte (slice src (i + 4) e) (length (slice src (i + 4) e) - 1) ≡ code "-") → InMisc src i (fault.InvalidComment i)
+      → (has_mark (codes "--") (slice src (i + 4) e) ≡ true) ⊎ (byte (slice src (i + 4) e) (length (slice src (i + 4) e) - 1) ≡ code "-") → InMisc src i (fault.InvalidComment i)
   a_declaration : text_at "<?xml " src i ≡ true → InMisc src i (fault.UnexpectedDeclaration i)
   instruction_lacks : (p : ℕ) (t : DueItem) (f : Fault) → text_at "<?" src i ≡ true → text_at "<?xml " src i ≡ false → DueInPI src i p t → IsMissing src p t f → InMisc src i f
 
@@ -114,13 +114,13 @@ module _ (main : Bool) (Includes : Inclusion) (src : List ℕ) (s : State) (name
     -- with the next declaration, which may stand there
     too_many_pairs : (d j : ℕ) (a : Attribute) → p < spaces_end src p → IsAttribute main Includes src (spaces_end src p) j c d a → is_namespace_decl a.name ≡ true
         → may_declare (namespace_decl_of a) ≡ true → is_declared (namespace_decl_of a).prefix (namespace_decls_of as') ≡ false
-        → most_pairs < pairs_with (distinct_pairs (pairs (tree_so_far s.stack s.done))) (namespace_decls_of as' ++ namespace_decl_of a ∷ [])
+        → most_pairs < distinct_count (pairs_in (tree_so_far s.stack s.done) ++ listable_of (namespace_decls_of as' ++ namespace_decl_of a ∷ []))
         → InTagRest fault.NamespacesLimitReached
     -- with those of the whole tag
     too_many_attributes : (j : ℕ) (empty : Bool) → TagEnds src p empty j
-        → most_attributes < attribute_count (tree_so_far s.stack s.done) + length (plain_attributes_of as') → InTagRest fault.AttributesLimitReached
+        → most_attributes < attributes_in (tree_so_far s.stack s.done) + length (plain_attributes_of as') → InTagRest fault.AttributesLimitReached
     ill_named : (j : ℕ) (empty : Bool) (f : Fault) → TagEnds src p empty j
-        → attribute_count (tree_so_far s.stack s.done) + length (plain_attributes_of as') ≤ most_attributes
+        → attributes_in (tree_so_far s.stack s.done) + length (plain_attributes_of as') ≤ most_attributes
         → IllNamed src s.at (listed (scope_of s.stack) (namespace_decls_of as')) name (plain_attributes_of as') f → InTagRest f
 
 -- ---- in the start tag that begins at a place (XML 3.1 [40], [44]); up to p it is as it should be (ContentPoints: TagTo)

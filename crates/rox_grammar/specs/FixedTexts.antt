@@ -35,3 +35,7 @@ at w src i = stands (word_text w) src i
 -- the first place from i on where the fixed text stands, or the end
 abbrev pub first : Word → List ℕ → ℕ → ℕ
 first w src i = mark_from (word_text w) src i
+
+-- two dashes, which the text of no comment may hold (XML 2.5)
+abbrev pub double_dash : List ℕ
+double_dash = codes "--"

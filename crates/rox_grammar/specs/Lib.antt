@@ -19,6 +19,7 @@ pub mod Entities
 pub mod Doctype
 pub mod WellNamed
 pub mod Document
+pub mod Counts
 pub mod Expansion
 pub mod OpenElements
 pub mod State

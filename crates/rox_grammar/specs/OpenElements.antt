@@ -1,9 +1,9 @@
 -- Where reading stands: what is read so far, and which elements are open.
-use Rattle.std.specs.Prelude.{ℕ, ◌+◌, ◌<◌, ◌≤◌, max, List, [], length}
+use Rattle.std.specs.Prelude.{ℕ, ◌+◌, ◌<◌, ◌≤◌, max, List, []}
 use Rattle.rox_grammar.specs.Forest.{Forest, Nil, Cons, join, size}
 use Rattle.rox_grammar.specs.Written.{NamespaceDecl, Tag, Item, Element, merge}
 use Rattle.rox_grammar.specs.Tree.{listed}
-use Rattle.rox_grammar.specs.Document.{pairs, distinct_pairs, attribute_count, most_attributes, most_pairs, IsWithinLimits}
+use Rattle.rox_grammar.specs.Document.{pairs_in, distinct_count, attributes_in, most_attributes, most_pairs, IsWithinLimits}
 
 -- the open elements, innermost first: where each begins, its tag, and the siblings before it
 pub data Open : Type 0 where
@@ -38,6 +38,6 @@ FitsLimits nodes_limit stack done = IsWithinLimits (max nodes_limit 1) (tree_so_
 
 -- it has too many nodes alone, the root node counted: attributes and pairs are counted first
 pub record HasTooManyNodes (nodes_limit : ℕ) (stack : Open) (done : Forest Item) : Type 0 where
-  pub attributes : attribute_count (tree_so_far stack done) ≤ most_attributes
-  pub namespaces : length (distinct_pairs (pairs (tree_so_far stack done))) ≤ most_pairs
+  pub attributes : attributes_in (tree_so_far stack done) ≤ most_attributes
+  pub namespaces : distinct_count (pairs_in (tree_so_far stack done)) ≤ most_pairs
   pub nodes : nodes_limit < 1 + size (tree_so_far stack done)

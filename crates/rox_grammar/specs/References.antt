@@ -1,6 +1,6 @@
 -- References (XML 4.1).
 use Prim.Native.Char.{code}
-use Rattle.std.specs.Prelude.{◌≡◌, ℕ, ◌+◌, ◌*◌, ◌-◌, ◌^◌, ◌<◌, ◌||◌, Bool, true, List, [], ◌∷◌, Option, Some, None, nat_le, nat_lt, bytes_eq, if◌then◌else◌, drop, codes}
+use Rattle.std.specs.Prelude.{◌≡◌, ℕ, ◌+◌, ◌*◌, ◌-◌, ◌^◌, ◌<◌, ◌||◌, Bool, true, List, Option, Some, None, fold, nat_le, nat_lt, bytes_eq, if◌then◌else◌, drop, codes}
 use Rattle.std.specs.List.{prefix_len}
 use Rattle.rox_grammar.specs.Chars.{is_between, is_char}
 use Rattle.rox_grammar.specs.Names.{byte, slice, IsName}
@@ -15,13 +15,9 @@ is_hex_digit b = is_digit b || (is_between (code "a") (code "f") b || is_between
 abbrev pub digit_value : ℕ → ℕ
 digit_value b = if nat_le b (code "9") then b - code "0" else if nat_le b (code "F") then b - (code "A" - 10) else b - (code "a" - 10)
 
--- the number of digits, the first of which follow this one
-abbrev pub number_from : ℕ → ℕ → List ℕ → ℕ
-number_from base n [] = n
-number_from base n (d ∷ ds) = number_from base (n * base + digit_value d) ds
-
+-- the number of these digits
 abbrev pub number : ℕ → List ℕ → ℕ
-number base ds = number_from base 0 ds
+number base ds = fold (λ n d. n * base + digit_value d) 0 ds
 
 -- where the stretch of bytes that pass ends
 unfoldable pub bytes_end : (ℕ → Bool) → List ℕ → ℕ → ℕ

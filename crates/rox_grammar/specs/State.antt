@@ -2,7 +2,7 @@
 use Rattle.std.specs.Prelude.{ℕ, ◌+◌, Bool, true, false, List, ◌++◌, length}
 use Rattle.rox_grammar.specs.Forest.{Forest, size}
 use Rattle.rox_grammar.specs.Written.{NamespaceDecl, Item, merge}
-use Rattle.rox_grammar.specs.Document.{listable, pairs, attribute_count}
+use Rattle.rox_grammar.specs.Counts.{listable, pairs, attribute_count}
 pub use Rattle.rox_grammar.specs.OpenElements.{Open, root, inside, State, depth_of, scope_of, FitsLimits}
 
 abbrev pub is_root : Open → Bool

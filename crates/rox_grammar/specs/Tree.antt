@@ -1,6 +1,7 @@
 -- The tree of a document as its readers see it: each name with the namespace that it stands in (XML Information Set 2).
-use Rattle.std.specs.Prelude.{ℕ, Bool, true, false, not, List, [], ◌∷◌, ◌++◌, Option, Some, None, bytes_eq, filter, map, if◌then◌else◌, codes}
+use Rattle.std.specs.Prelude.{ℕ, Bool, not, List, [], ◌∷◌, ◌++◌, Option, Some, None, bytes_eq, filter, map, if◌then◌else◌, codes}
 use Rattle.std.specs.List.{list_any}
+use Rattle.std.specs.Option.{option_eq}
 use Rattle.rox_grammar.specs.Forest.{Forest, Nil, Cons}
 use Rattle.rox_grammar.specs.Written as written
 use Rattle.rox_grammar.specs.Written.{Name, NamespaceDecl, Item}
@@ -31,11 +32,9 @@ xml_uri = codes "http://www.w3.org/XML/1998/namespace"
 abbrev pub xmlns_uri : List ℕ
 xmlns_uri = codes "http://www.w3.org/2000/xmlns/"
 
+-- the same prefix, or both the default
 abbrev pub same_prefix : Option (List ℕ) → Option (List ℕ) → Bool
-same_prefix None None = true
-same_prefix None (Some p) = false
-same_prefix (Some p) None = false
-same_prefix (Some p) (Some q) = bytes_eq p q
+same_prefix p q = option_eq bytes_eq p q
 
 -- the prefix, or the default, is declared here
 abbrev pub is_declared : Option (List ℕ) → List NamespaceDecl → Bool
@@ -74,16 +73,8 @@ attribute_namespace scope name =
     else uri_of scope (Some name.prefix)
 
 abbrev pub attribute_in : List NamespaceDecl → written.Attribute → Attribute
-attribute_in scope a = record {
-  start = a.start;
-  name_end = a.name_end;
-  value_start = a.value_start;
-  end = a.end;
-  namespace = attribute_namespace scope a.name;
-  local = a.name.local;
-  value = a.value;
-  borrowed = a.borrowed;
-}
+attribute_in scope a =
+    record { start = a.start; name_end = a.name_end; value_start = a.value_start; end = a.end; namespace = attribute_namespace scope a.name; local = a.name.local; value = a.value; borrowed = a.borrowed }
 
 -- what an element lists, where its parent lists these
 abbrev pub scope_in : List NamespaceDecl → Item → List NamespaceDecl

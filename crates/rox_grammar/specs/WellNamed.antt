@@ -1,6 +1,6 @@
 -- Names in their namespaces (Namespaces in XML 1.0).
 use Rattle.std.specs.Prelude.{◌≡◌, ◌&&◌, ◌||◌, not, Bool, true, false, List, [], ◌∷◌, Some, bytes_eq, if◌then◌else◌, codes}
-use Rattle.std.specs.List.{list_any, list_all}
+use Rattle.std.specs.List.{list_all, IsDistinct}
 use Rattle.rox_grammar.specs.Forest.{Forest, Nil, Cons}
 use Rattle.rox_grammar.specs.Written.{Name, Attribute, NamespaceDecl, Tag, Item, Element}
 use Rattle.rox_grammar.specs.Tree.{xml_uri, xmlns_uri, same_prefix, is_xml, is_declared, scope_in, attribute_namespace}
@@ -10,15 +10,10 @@ use Rattle.rox_grammar.specs.Tree.{xml_uri, xmlns_uri, same_prefix, is_xml, is_d
 abbrev pub may_declare : NamespaceDecl → Bool
 may_declare d = not (bytes_eq d.uri xmlns_uri) && (if is_xml d.prefix then bytes_eq d.uri xml_uri else not (bytes_eq d.uri xml_uri))
 
--- no two of these are the same, by this test
-abbrev pub AreApart : {A : Type 0} → (A → A → Bool) → List A → Type 0
-AreApart same [] = Unit {0}
-AreApart same (x ∷ xs) = (list_any (same x) xs ≡ false) × AreApart same xs
-
 -- each may be declared, and no two declare one prefix
 pub record AreDeclarable (ds : List NamespaceDecl) : Type 0 where
   pub each : list_all may_declare ds ≡ true
-  pub apart : AreApart (λ d e. same_prefix d.prefix e.prefix) ds
+  pub apart : IsDistinct (λ d e. same_prefix d.prefix e.prefix) ds
 
 -- NS 5: the prefix of an attribute is empty, `xml` or listed
 abbrev pub is_known : List NamespaceDecl → Name → Bool
@@ -31,7 +26,7 @@ same_expanded scope m n = same_prefix (attribute_namespace scope m) (attribute_n
 -- each prefix is known, and no two have one expanded name
 pub record AreDistinct (scope : List NamespaceDecl) (as' : List Attribute) : Type 0 where
   pub known : list_all (λ a. is_known scope a.name) as' ≡ true
-  pub apart : AreApart (λ a b. same_expanded scope a.name b.name) as'
+  pub apart : IsDistinct (λ a b. same_expanded scope a.name b.name) as'
 
 -- NS 5: the prefix of an element is empty or listed. So `xml` is refused, which NS 3 declares everywhere.
 abbrev pub may_name : List NamespaceDecl → Name → Bool

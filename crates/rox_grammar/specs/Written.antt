@@ -53,18 +53,16 @@ namespace_decls_of as' = map namespace_decl_of (filter (λ a. is_namespace_decl 
 abbrev pub plain_attributes_of : List Attribute → List Attribute
 plain_attributes_of as' = filter (λ a. not (is_namespace_decl a.name)) as'
 
--- a text in front: it takes in one that it touches (nothing ever stands below a text)
-abbrev pub glue : ℕ → ℕ → List ℕ → Bool → Forest Item → Forest Item → Forest Item
-glue a e v borrowed below Nil = Cons (Text a e v borrowed) below Nil
-glue a e v borrowed below (Cons (Text x y w p) children rest) = Cons (Text a e (v ++ w) false) (join below children) rest
-glue a e v borrowed below (Cons other children rest) = Cons (Text a e v borrowed) below (Cons other children rest)
+-- an item in front: a text takes in one that it touches (nothing ever stands below a text)
+abbrev pub glue : Item → Forest Item → Forest Item → Forest Item
+glue (Text a e v borrowed) below (Cons (Text x y w p) children rest) = Cons (Text a e (v ++ w) false) (join below children) rest
+glue item below rest = Cons item below rest
 
 -- Each longest row of touching pieces becomes one text, with the range of its first piece. It is a slice of the
 -- source only where it is one such piece.
 abbrev pub merge : Forest Item → Forest Item
 merge Nil = Nil
-merge (Cons (Text a e v borrowed) children rest) = glue a e v borrowed children (merge rest)
-merge (Cons other children rest) = Cons other children (merge rest)
+merge (Cons item children rest) = glue item children (merge rest)
 
 -- a text or another item with nothing below it
 abbrev pub leaf : Item → Forest Item

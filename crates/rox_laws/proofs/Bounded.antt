@@ -9,7 +9,8 @@ use Rattle.rox_grammar.specs.Written as written
 use Rattle.rox_grammar.specs.Written.{NamespaceDecl, Item, Element, Text, Comment, PI}
 use Rattle.rox_grammar.specs.Tree.{Attribute, Node, attribute_in, scope_in, node_in, resolved, document_tree}
 use Rattle.rox_grammar.specs.Doctype.{Request, Asked}
-use Rattle.rox_grammar.specs.Document.{own_attributes, attribute_count, ParseOf}
+use Rattle.rox_grammar.specs.Document.{ParseOf}
+use Rattle.rox_grammar.specs.Counts.{own_attributes, attribute_count}
 use Rattle.rox_grammar.specs.Expansion.{longest}
 use Rattle.rox_theory.specs.ItemSize.{value_bytes_of, own_bytes, bytes_in}
 use Rattle.roxmltree.specs.NodeParts.{attributes_of}

@@ -12,7 +12,7 @@ each_join P (Cons i c r) g h k = (h.0, h.1, each_join P r g h.2 k)
 
 -- what holds of each text stays where texts are merged
 glue_each : (P : Item → Type 0) → ((a e : ℕ) (v : List ℕ) (b : Bool) → P (Text a e v b)) → (a e : ℕ) (v : List ℕ) (b : Bool) (c f : Forest Item) → EachNode P c → EachNode P f
-    → EachNode P (glue a e v b c f)
+    → EachNode P (glue (Text a e v b) c f)
 glue_each P texts a e v b c Nil h k = (texts a e v b, h, k)
 glue_each P texts a e v b c (Cons (Text x y w p) d r) h k = (texts a e _ _, each_join P c d h k.1, k.2)
 glue_each P texts a e v b c (Cons (Element x y t) d r) h k = (texts a e v b, h, k)

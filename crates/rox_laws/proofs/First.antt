@@ -21,7 +21,7 @@ module _ (text : List ℕ) (es : List Entity) where
   Begins (PI a e t o) = Unit {0}
 
   -- a text in front
-  glue_begins : (a e : ℕ) (v : List ℕ) (b : Bool) (c f : Forest Item) → Begins (Text a e v b) → EachNode Begins c → EachNode Begins f → EachNode Begins (glue a e v b c f)
+  glue_begins : (a e : ℕ) (v : List ℕ) (b : Bool) (c f : Forest Item) → Begins (Text a e v b) → EachNode Begins c → EachNode Begins f → EachNode Begins (glue (Text a e v b) c f)
   glue_begins a e v b c Nil own h k = (own, h, tt)
   glue_begins a e v b c (Cons (Text x y w p) d r) own h k = (λ none. own (both_empty v w none).0, each_join Begins c d h k.1, k.2)
   glue_begins a e v b c (Cons (Element x y t) d r) own h k = (own, h, k)

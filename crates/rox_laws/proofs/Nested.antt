@@ -48,7 +48,7 @@ to_after : (from to k : ℕ) (f : Forest Item) → to ≤ k → Nested from to f
 to_after from to k f le h = subst (λ (f : Forest Item). Nested from k f) (join-nil f) (nested_join from to k f Nil h le)
 
 -- a text in front, which takes in one that it touches, keeps its own range
-glue_nested : (from a e to : ℕ) (v : List ℕ) (b : Bool) (c f : Forest Item) → from ≤ a → a < e → c ≡ Nil → Nested e to f → Nested from to (glue a e v b c f)
+glue_nested : (from a e to : ℕ) (v : List ℕ) (b : Bool) (c f : Forest Item) → from ≤ a → a < e → c ≡ Nil → Nested e to f → Nested from to (glue (Text a e v b) c f)
 glue_nested from a e to v b c Nil before some n h = (before, some, n, h)
 glue_nested from a e to v b c (Cons (Text x y w p) d r) before some n h =
     (before, some, subst (λ (c : Forest Item). join c d ≡ Nil) (sym n) h.2, from_before e y to r (omega (arith, h.0, h.1)) h.3)

@@ -17,7 +17,7 @@ use Rattle.rox_grammar.specs.ExpectedTexts.{expected_text}
 use Rattle.rox_grammar.specs.Search.{before_mark, mark_from}
 use Rattle.rox_grammar.specs.Written.{Name, Attribute, NamespaceDecl, is_namespace_decl, plain_attributes_of}
 use Rattle.rox_grammar.specs.Names.{byte, spaces_end, IsName, IsQName, unprefixed, prefixed, colon_first}
-use Rattle.rox_grammar.specs.Constructs.{IsLiteral, IsPair, IsGap, MayBePair, MayEndPair}
+use Rattle.rox_grammar.specs.Constructs.{IsLiteral, IsPair, IsGap, MayBePair}
 use Rattle.rox_grammar.specs.Constructs as constructs
 use Rattle.rox_grammar.specs.References.{IsReference, IsCharacter, decimal, hexadecimal, named}
 use Rattle.rox_grammar.specs.Content.{Inclusion, Attributes}
@@ -143,10 +143,6 @@ module _ (src : List ℕ) (utf8 : IsUtf8 src) where
   may_cut w i k cut (constructs.MayBePair.is_pair _ j _ stands pair gap) = gap_cut j k (pair_cut i j pair) gap
   may_cut w i k cut (constructs.MayBePair.no_pair _ none) = cut
 
-  last_cut : (w : Word) (i k : ℕ) → IsCharBoundary src i → MayEndPair (word_text w) src i k → IsCharBoundary src k
-  last_cut w i k cut (constructs.MayEndPair.is_last _ _ stands pair) = pair_cut i k pair
-  last_cut w i k cut (constructs.MayEndPair.no_last _ none) = cut
-
   -- behind `<?xml` and white space
   version_cut : (i : ℕ) → at word.XmlDeclStart src i ≡ true → IsCharBoundary src (spaces_end src (i + 5))
   version_cut i opens =
@@ -163,9 +159,9 @@ module _ (src : List ℕ) (utf8 : IsUtf8 src) where
   declaration_fits i p t opens due.DueInXmlDecl.its_version = (version_cut i opens).0
   declaration_fits i p t opens (due.DueInXmlDecl.in_pair gap j _ _ begins is) = pair_fits j p t (begins_inside i gap j begins) is
   declaration_fits i p t opens (due.DueInXmlDecl.behind_pair j _ begins pair) = tt
-  declaration_fits i p t opens (due.DueInXmlDecl.its_end v e s version first_pair second third) =
-      let cut = last_cut word.Standalone e s (may_cut word.Encoding v e (may_cut word.Version (spaces_end src (i + 5)) v (version_cut i opens) first_pair) second) third in
-      (run_cut is_space src s utf8 cut).0
+  declaration_fits i p t opens (due.DueInXmlDecl.behind_last j k begins pair) = (run_cut is_space src k utf8 (pair_cut j k pair)).0
+  declaration_fits i p t opens (due.DueInXmlDecl.its_end v _ version first_pair second none) =
+      (may_cut word.Encoding v p (may_cut word.Version (spaces_end src (i + 5)) v (version_cut i opens) first_pair) second).0
 
   pub declaration_placed : (i p : ℕ) (t : DueItem) (f : Fault) → at word.XmlDeclStart src i ≡ true → DueInXmlDecl src i p t → IsMissing src p t f → IsPlaced src f
   declaration_placed i p t f opens is lacks = lacks_placed src p t f (declaration_fits i p t opens is) lacks

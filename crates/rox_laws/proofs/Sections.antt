@@ -82,13 +82,13 @@ one_more_section src a e x v w section touches rest none =
 
 -- a text in front
 glue_sound : (src : List ℕ) (a e : ℕ) (v : List ℕ) (b : Bool) (c f : Forest Item) → (v ≡ [] → IsEmpty src a e) → c ≡ Nil → Begins src e f → EachNode (Sound src) f
-    → EachNode (Sound src) (glue a e v b c f) × Begins src a (glue a e v b c f)
+    → EachNode (Sound src) (glue (Text a e v b) c f) × Begins src a (glue (Text a e v b) c f)
 glue_sound src a e v b c f section none begins h = glued f begins h
   where
     nothing : EachNode (Sound src) c
     nothing = subst (λ (c : Forest Item). EachNode (Sound src) c) (sym none) tt
 
-    glued : (f : Forest Item) → Begins src e f → EachNode (Sound src) f → EachNode (Sound src) (glue a e v b c f) × Begins src a (glue a e v b c f)
+    glued : (f : Forest Item) → Begins src e f → EachNode (Sound src) f → EachNode (Sound src) (glue (Text a e v b) c f) × Begins src a (glue (Text a e v b) c f)
     glued Nil markup h = ((one_section src a e v section markup, nothing, tt), refl)
     glued (Cons (Text x y w p) d r) touches h =
         ((one_more_section src a e x v w section touches h.0, each_join (Sound src) c d nothing h.1, h.2), refl)
@@ -100,7 +100,7 @@ merge_sound : (src : List ℕ) (from to : ℕ) (f : Forest Item) → IsMarkup sr
 merge_sound src from to Nil markup h = (tt, subst (λ (i : ℕ). IsMarkup src i) (sym h) markup)
 merge_sound src from to (Cons (Text a e v b) c r) markup h =
     let rest = merge_sound src e to r markup h.3 in
-    subst (λ (i : ℕ). EachNode (Sound src) (glue a e v b c (merge r)) × Begins src i (glue a e v b c (merge r))) h.0
+    subst (λ (i : ℕ). EachNode (Sound src) (glue (Text a e v b) c (merge r)) × Begins src i (glue (Text a e v b) c (merge r))) h.0
     (glue_sound src a e v b c (merge r) h.1 h.2 rest.1 rest.0)
 merge_sound src from to (Cons (Element a e t) c r) markup h =
     ((tt, h.2, (merge_sound src e to r markup h.3).0), subst (λ (i : ℕ). IsMarkup src i) h.0 h.1)

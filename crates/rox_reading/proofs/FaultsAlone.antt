@@ -8,7 +8,7 @@ use Rattle.rox_grammar.specs.Written.{NamespaceDecl}
 use Rattle.rox_grammar.specs.Tree.{listed}
 use Rattle.rox_grammar.specs.Names.{byte, slice}
 use Rattle.rox_grammar.specs.Content.{is_verbatim, is_verbatim_value}
-use Rattle.rox_grammar.specs.Document.{distinct_pairs}
+use Rattle.rox_grammar.specs.Counts.{distinct_pairs}
 use Rattle.rox_grammar.specs.Entities.{Replacement, Entity, most_deep}
 use Rattle.rox_grammar.specs.State.{is_root, scope_of, attributes_so_far, pairs_so_far}
 use Rattle.rox_reading.specs.Lexical.{◌>>=◌, qname_at}

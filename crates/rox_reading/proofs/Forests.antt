@@ -4,7 +4,7 @@ use Rattle.rox_grammar.specs.Forest.{Forest, Nil, Cons, join, size}
 use Rattle.rox_grammar.specs.Written.{Tag, Item, Element, Text, Comment, PI, NamespaceDecl, glue, merge, leaf}
 use Rattle.rox_grammar.specs.Tree.{scope_in, node_in, resolved}
 use Rattle.rox_grammar.specs.WellNamed.{AreWellNamed}
-use Rattle.rox_grammar.specs.Document.{own_pairs, pairs, attribute_count}
+use Rattle.rox_grammar.specs.Counts.{own_pairs, pairs, attribute_count}
 
 pub join-nil : {I : Type 0} (f : Forest I) → join f Nil ≡ f
 join-nil Nil = refl
@@ -59,7 +59,7 @@ add a e v b (Cons (Comment x y t) c Nil) = Cons (Comment x y t) c (leaf (Text a 
 add a e v b (Cons (PI x y t o) c Nil) = Cons (PI x y t o) c (leaf (Text a e v b))
 add a e v b (Cons i c (Cons j d r)) = Cons i c (add a e v b (Cons j d r))
 
-glue-add : (x y : ℕ) (w : List ℕ) (p : Bool) (d : Forest Item) (a e : ℕ) (v : List ℕ) (b : Bool) (f : Forest Item) → glue x y w p d (add a e v b f) ≡ add a e v b (glue x y w p d f)
+glue-add : (x y : ℕ) (w : List ℕ) (p : Bool) (d : Forest Item) (a e : ℕ) (v : List ℕ) (b : Bool) (f : Forest Item) → glue (Text x y w p) d (add a e v b f) ≡ add a e v b (glue (Text x y w p) d f)
 glue-add x y w p d a e v b Nil = ap (λ (k : Forest Item). Cons (Text x y (w ++ v) false) k Nil) (join-nil d)
 glue-add x y w p d a e v b (Cons (Text x' y' w' p') c Nil) = ap (λ (v : List ℕ). Cons (Text x y v false) (join d c) Nil) (sym (append_assoc w w' v))
 glue-add x y w p d a e v b (Cons (Text x' y' w' p') c (Cons j k r)) = refl
@@ -72,7 +72,7 @@ glue-add x y w p d a e v b (Cons (PI x' y' t o) c (Cons j k r)) = refl
 
 pub merge-piece : (done : Forest Item) (a e : ℕ) (v : List ℕ) (b : Bool) → merge (join done (leaf (Text a e v b))) ≡ add a e v b (merge done)
 merge-piece Nil a e v b = refl
-merge-piece (Cons (Text x y w p) c f) a e v b = ap (glue x y w p c) (merge-piece f a e v b) ∙ glue-add x y w p c a e v b (merge f)
+merge-piece (Cons (Text x y w p) c f) a e v b = ap (glue (Text x y w p) c) (merge-piece f a e v b) ∙ glue-add x y w p c a e v b (merge f)
 merge-piece (Cons (Element x y t) c f) a e v b = ap (Cons (Element x y t) c) (merge-piece f a e v b) ∙ add-element x y t c a e v b (merge f)
   where
     add-element : (x y : ℕ) (t : Tag) (c : Forest Item) (a e : ℕ) (v : List ℕ) (b : Bool) (f : Forest Item) → Cons (Element x y t) c (add a e v b f) ≡ add a e v b (Cons (Element x y t) c f)
@@ -104,7 +104,7 @@ add_clean (Cons (Comment x y t) c Nil) a e v b h = refl
 add_clean (Cons (PI x y t o) c Nil) a e v b h = refl
 add_clean (Cons i c (Cons j d r)) a e v b h = ap (Cons i c) (add_clean (Cons j d r) a e v b h)
 
-glue-item : (x y : ℕ) (w : List ℕ) (p : Bool) (b f : Forest Item) (i : Item) (c : Forest Item) → is_text i ≡ false → glue x y w p b (join f (Cons i c Nil)) ≡ join (glue x y w p b f) (Cons i c Nil)
+glue-item : (x y : ℕ) (w : List ℕ) (p : Bool) (b f : Forest Item) (i : Item) (c : Forest Item) → is_text i ≡ false → glue (Text x y w p) b (join f (Cons i c Nil)) ≡ join (glue (Text x y w p) b f) (Cons i c Nil)
 glue-item x y w p b Nil (Element a e t) c h = refl
 glue-item x y w p b Nil (Text a e v q) c h = cc h
 glue-item x y w p b Nil (Comment a e t) c h = refl
@@ -120,7 +120,7 @@ merge-item Nil (Element a e t) c h = refl
 merge-item Nil (Text a e v b) c h = cc h
 merge-item Nil (Comment a e t) c h = refl
 merge-item Nil (PI a e t o) c h = refl
-merge-item (Cons (Text x y w p) d f) i c h = ap (glue x y w p d) (merge-item f i c h) ∙ glue-item x y w p d (merge f) i c h
+merge-item (Cons (Text x y w p) d f) i c h = ap (glue (Text x y w p) d) (merge-item f i c h) ∙ glue-item x y w p d (merge f) i c h
 merge-item (Cons (Element x y t) d f) i c h = ap (Cons (Element x y t) d) (merge-item f i c h)
 merge-item (Cons (Comment x y t) d f) i c h = ap (Cons (Comment x y t) d) (merge-item f i c h)
 merge-item (Cons (PI x y t o) d f) i c h = ap (Cons (PI x y t o) d) (merge-item f i c h)
@@ -132,7 +132,7 @@ clean-item (Cons j d (Cons k e r)) i c h = clean-item (Cons k e r) i c h
 
 -- ---- what merging keeps
 
-glue-pairs : (x y : ℕ) (w : List ℕ) (p : Bool) (b f : Forest Item) → pairs (glue x y w p b f) ≡ pairs b ++ pairs f
+glue-pairs : (x y : ℕ) (w : List ℕ) (p : Bool) (b f : Forest Item) → pairs (glue (Text x y w p) b f) ≡ pairs b ++ pairs f
 glue-pairs x y w p b Nil = refl
 glue-pairs x y w p b (Cons (Text x' y' w' p') d r) = ap (λ xs. xs ++ pairs r) (pairs-join b d) ∙ append_assoc (pairs b) (pairs d) (pairs r)
 glue-pairs x y w p b (Cons (Element x' y' t) d r) = refl
@@ -146,7 +146,7 @@ pairs-merge (Cons (Element x y t) c r) = ap (λ xs. own_pairs (Element x y t) ++
 pairs-merge (Cons (Comment x y t) c r) = ap (λ xs. pairs c ++ xs) (pairs-merge r)
 pairs-merge (Cons (PI x y t o) c r) = ap (λ xs. pairs c ++ xs) (pairs-merge r)
 
-glue-attribute_count : (x y : ℕ) (w : List ℕ) (p : Bool) (b f : Forest Item) → attribute_count (glue x y w p b f) ≡ attribute_count b + attribute_count f
+glue-attribute_count : (x y : ℕ) (w : List ℕ) (p : Bool) (b f : Forest Item) → attribute_count (glue (Text x y w p) b f) ≡ attribute_count b + attribute_count f
 glue-attribute_count x y w p b Nil = omega arith
 glue-attribute_count x y w p b (Cons (Text x' y' w' p') d r) = omega (arith, attribute_count-join b d)
 glue-attribute_count x y w p b (Cons (Element x' y' t) d r) = omega arith
@@ -173,7 +173,7 @@ pub named-right : (above : List NamespaceDecl) (f g : Forest Item) → AreWellNa
 named-right above Nil g h = h
 named-right above (Cons i c r) g (a, b, h) = named-right above r g h
 
-named-glue : (above : List NamespaceDecl) (x y : ℕ) (w : List ℕ) (p : Bool) (b f : Forest Item) → AreWellNamed above b → AreWellNamed above f → AreWellNamed above (glue x y w p b f)
+named-glue : (above : List NamespaceDecl) (x y : ℕ) (w : List ℕ) (p : Bool) (b f : Forest Item) → AreWellNamed above b → AreWellNamed above f → AreWellNamed above (glue (Text x y w p) b f)
 named-glue above x y w p b Nil h k = (tt, h, k)
 named-glue above x y w p b (Cons (Text x' y' w' p') d r) h (u, k, l) = (tt, named-join above b d h k, l)
 named-glue above x y w p b (Cons (Element x' y' t) d r) h k = (tt, h, k)
@@ -187,7 +187,7 @@ named-merge above (Cons (Element x y t) c r) (u, h, k) = (u, h, named-merge abov
 named-merge above (Cons (Comment x y t) c r) (u, h, k) = (u, h, named-merge above r k)
 named-merge above (Cons (PI x y t o) c r) (u, h, k) = (u, h, named-merge above r k)
 
-glue-named : (above : List NamespaceDecl) (x y : ℕ) (w : List ℕ) (p : Bool) (b f : Forest Item) → AreWellNamed above (glue x y w p b f) → AreWellNamed above b × AreWellNamed above f
+glue-named : (above : List NamespaceDecl) (x y : ℕ) (w : List ℕ) (p : Bool) (b f : Forest Item) → AreWellNamed above (glue (Text x y w p) b f) → AreWellNamed above b × AreWellNamed above f
 glue-named above x y w p b Nil (u, h, k) = (h, k)
 glue-named above x y w p b (Cons (Text x' y' w' p') d r) (u, h, k) = (named-left above b d h, (tt, named-right above b d h, k))
 glue-named above x y w p b (Cons (Element x' y' t) d r) (u, h, k) = (h, k)
@@ -211,14 +211,14 @@ fresh_text (Cons (Element x y t) c r) = 1
 fresh_text (Cons (Comment x y t) c r) = 1
 fresh_text (Cons (PI x y t o) c r) = 1
 
-size-glue : (x y : ℕ) (w : List ℕ) (p : Bool) (b f : Forest Item) → size (glue x y w p b f) ≡ size b + size f + fresh_text f
+size-glue : (x y : ℕ) (w : List ℕ) (p : Bool) (b f : Forest Item) → size (glue (Text x y w p) b f) ≡ size b + size f + fresh_text f
 size-glue x y w p b Nil = omega arith
 size-glue x y w p b (Cons (Text x' y' w' p') d r) = omega (arith, size-join b d)
 size-glue x y w p b (Cons (Element x' y' t) d r) = omega arith
 size-glue x y w p b (Cons (Comment x' y' t) d r) = omega arith
 size-glue x y w p b (Cons (PI x' y' t o) d r) = omega arith
 
-fresh-glue : (x y : ℕ) (w : List ℕ) (p : Bool) (b f : Forest Item) → fresh_text (glue x y w p b f) ≡ 0
+fresh-glue : (x y : ℕ) (w : List ℕ) (p : Bool) (b f : Forest Item) → fresh_text (glue (Text x y w p) b f) ≡ 0
 fresh-glue x y w p b Nil = refl
 fresh-glue x y w p b (Cons (Text x' y' w' p') d r) = refl
 fresh-glue x y w p b (Cons (Element x' y' t) d r) = refl

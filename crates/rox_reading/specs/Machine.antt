@@ -11,7 +11,7 @@ use Rattle.rox_grammar.specs.Written.{Name, Tag, Item, Element, Text, Comment, P
 use Rattle.rox_grammar.specs.NameParts.{same_qname, local_span}
 use Rattle.rox_grammar.specs.FixedTexts.{at}
 use Rattle.rox_grammar.specs.Content.{is_verbatim, section}
-use Rattle.rox_grammar.specs.Document.{distinct_pairs}
+use Rattle.rox_grammar.specs.Counts.{distinct_pairs}
 use Rattle.rox_grammar.specs.Entities.{Replacement, Entity, most_within, most_deep}
 use Rattle.rox_reading.specs.Lexical.{◌>>=◌}
 use Rattle.rox_reading.specs.Refusals.{Refusal, here, lifted, elsewhere}

@@ -9,7 +9,8 @@ use Rattle.rox_grammar.specs.Written.{Name, Attribute, NamespaceDecl, Tag, is_na
 use Rattle.rox_grammar.specs.NameParts.{local_span, prefix_span}
 use Rattle.rox_grammar.specs.Tree.{xml_uri, xmlns_uri, is_declared, listed, listable_of}
 use Rattle.rox_grammar.specs.WellNamed.{is_known, same_expanded, may_name}
-use Rattle.rox_grammar.specs.Document.{with_new, most_pairs, most_attributes}
+use Rattle.rox_grammar.specs.Document.{most_pairs, most_attributes}
+use Rattle.rox_grammar.specs.Counts.{with_new}
 use Rattle.rox_reading.specs.Lexical.{◌>>=◌, qname_at}
 use Rattle.rox_reading.specs.Markup.{RawAttribute, TagItem, more, opened, closed, tag_item_at}
 use Rattle.rox_grammar.specs.Entities.{Entity}

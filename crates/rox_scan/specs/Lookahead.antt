@@ -9,7 +9,8 @@ use Rattle.rox_grammar.specs.Chars.{is_char}
 use Rattle.rox_grammar.specs.Runs.{begins}
 use Rattle.rox_grammar.specs.Content.{is_verbatim}
 use Rattle.rox_reading.specs.Values.{is_special, raw_character_data_at}
-use Rattle.rox_grammar.specs.Constructs.{AreChars, double_dash}
+use Rattle.rox_grammar.specs.Constructs.{AreChars}
+use Rattle.rox_grammar.specs.FixedTexts.{double_dash}
 
 -- from i up to j there are Chars alone, it ends at no place among them, and whether they stand for themselves
 pub record IsLookahead (ends : ℕ → Bool) (changes : ℕ → Bool) (src : List ℕ) (i j : ℕ) (verbatim : Bool) : Type 0 where

@@ -9,7 +9,8 @@ use Rattle.rox_grammar.specs.declared.fault.Fault.TheVariants as fault
 use Rattle.rox_grammar.specs.Written.{Attribute, NamespaceDecl, namespace_decl_of}
 use Rattle.rox_grammar.specs.NameParts.{local_span}
 use Rattle.rox_grammar.specs.Tree.{is_declared, listed, is_xml, listable_of}
-use Rattle.rox_grammar.specs.Document.{with_new, most_pairs}
+use Rattle.rox_grammar.specs.Document.{most_pairs}
+use Rattle.rox_grammar.specs.Counts.{with_new}
 use Rattle.rox_reading.specs.Tags.{TagSoFar, uri_tested, declared}
 use Rattle.rox_grammar.specs.Failures.{Fails}
 use Rattle.rox_grammar.specs.declared.failure.Failure.{Failure}

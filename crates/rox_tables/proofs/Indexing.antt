@@ -13,7 +13,8 @@ use Rattle.std.proofs.lemmas.List.{length-map, length-drop, map-append, take-map
 use Rattle.std.proofs.lemmas.Bool.{cases_lt}
 use Rattle.rox_grammar.specs.Written.{NamespaceDecl}
 use Rattle.rox_grammar.specs.Tree.{same_prefix}
-use Rattle.rox_grammar.specs.Document.{same_pair, has_pair}
+use Rattle.rox_grammar.specs.Document.{same_pair}
+use Rattle.rox_grammar.specs.Counts.{has_pair}
 use Rattle.rox_tables.specs.declared.namespaces.namespace_table.Key.{Key}
 use Rattle.rox_tables.specs.declared.rows.tables.Namespace.{Namespace}
 use Rattle.rox_tables.specs.Rows.{namespace_view, namespace_at}

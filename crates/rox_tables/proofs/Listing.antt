@@ -4,7 +4,7 @@ use Rattle.std.specs.List.{list_any}
 use Rattle.std.proofs.lemmas.Slice.Eq.{bytes_eq-Decides}
 use Rattle.rox_grammar.specs.Written.{NamespaceDecl}
 use Rattle.rox_grammar.specs.Tree.{same_prefix, is_declared, listed, is_xml, listable_of}
-use Rattle.rox_grammar.specs.Document.{has_pair, with_new}
+use Rattle.rox_grammar.specs.Counts.{has_pair, with_new}
 use Rattle.rox_tables.specs.Scopes.{others}
 use Rattle.rox_tables.proofs.Pairs.{same_prefix-true}
 

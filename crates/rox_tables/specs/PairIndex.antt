@@ -7,7 +7,8 @@ use Rattle.std.specs.Cmp.{IsTotalOrder, then_total, on_total, nat_cmp_total}
 use Rattle.std.specs.Cmp.Lexicographic.{slice_cmp, lists_total, options_total}
 use Rattle.std.specs.Map.{lookup}
 use Rattle.rox_grammar.specs.Written.{NamespaceDecl}
-use Rattle.rox_grammar.specs.Document.{most_pairs, same_pair, with_new}
+use Rattle.rox_grammar.specs.Document.{most_pairs, same_pair}
+use Rattle.rox_grammar.specs.Counts.{with_new}
 use Rattle.rox_tables.specs.Rows.{namespace_at, namespace_view}
 use Rattle.rox_tables.specs.declared.namespaces.namespace_table.Key.{Key}
 use Rattle.rox_tables.specs.declared.rows.tables.Namespace.{Namespace}

@@ -4,7 +4,8 @@ use Rattle.std.specs.Borrow.{Bor}
 use Rattle.std.specs.List.{list_any}
 use Rattle.rox_grammar.specs.declared.failure.Failure.{Failure}
 use Rattle.rox_grammar.specs.declared.fault.Fault.{Fault}
-use Rattle.rox_grammar.specs.Document.{with_new, most_pairs}
+use Rattle.rox_grammar.specs.Document.{most_pairs}
+use Rattle.rox_grammar.specs.Counts.{with_new}
 use Rattle.rox_grammar.specs.Failures.{Fails, name_view}
 use Rattle.rox_grammar.specs.Tree.{is_xml, listable_of}
 use Rattle.rox_grammar.specs.Written.{Attribute, NamespaceDecl}

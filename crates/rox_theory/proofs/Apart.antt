@@ -32,7 +32,7 @@ nothing_apart : (c : Forest Item) → c ≡ Nil → Apart c
 nothing_apart c n = subst (λ (c : Forest Item). Apart c) (sym n) tt
 
 -- a text in front takes in the one that it touches
-glue_apart : (a e : ℕ) (v : List ℕ) (b : Bool) (c f : Forest Item) → c ≡ Nil → Apart f → Apart (glue a e v b c f)
+glue_apart : (a e : ℕ) (v : List ℕ) (b : Bool) (c f : Forest Item) → c ≡ Nil → Apart f → Apart (glue (Text a e v b) c f)
 glue_apart a e v b c Nil n h = (refl, nothing_apart c n, tt)
 glue_apart a e v b c (Cons (Text x y w p) d r) n h = (h.0, subst (λ (c : Forest Item). Apart (join c d)) (sym n) h.1, h.2)
 glue_apart a e v b c (Cons (Element x y t) d r) n h = (refl, nothing_apart c n, h)

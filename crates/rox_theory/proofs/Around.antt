@@ -18,7 +18,8 @@ use Rattle.rox_grammar.specs.Content.{Inclusion, IsMisc, comment, instruction, I
 use Rattle.rox_grammar.specs.TextStart.{bom, after_bom, MayHaveXmlDecl, declared, not_declared}
 use Rattle.rox_grammar.specs.Entities.{Entity}
 use Rattle.rox_grammar.specs.Doctype.{Asked, IsDoctype, no_subset, with_subset}
-use Rattle.rox_grammar.specs.Document.{Permits, Misc, no_misc, space, an_item, own_attributes, own_pairs}
+use Rattle.rox_grammar.specs.Document.{Permits, Misc, no_misc, space, an_item}
+use Rattle.rox_grammar.specs.Counts.{own_attributes, own_pairs}
 use Rattle.rox_theory.specs.ParseParts.{MayHaveDoctype, doctype, no_doctype}
 use Rattle.rox_grammar.specs.WellNamed.{ItemWellNamed}
 use Rattle.rox_reading.specs.Markup.{comment_at, Instruction, instruction_at, xml_decl_at}
@@ -75,7 +76,7 @@ element_ends main O src i j b c one (nest _ k m p _ _ d _ t kids tag inner end) 
 -- the declaration does
 pub declaration_ends : (src : List ℕ) (i j : ℕ) → IsXmlDecl src i j → Ends src j
 declaration_ends src i j is =
-    ends_by src j (spaces_end src is.s + 1) 62 (omega (arith, is.next)) (stands_reads (word_text word.PIEnd) src (spaces_end src is.s) 1 is.closes (omega arith)) (omega arith) (omega arith)
+    ends_by src j (is.s + 1) 62 (omega (arith, is.next)) (stands_reads (word_text word.PIEnd) src is.s 1 is.closes (omega arith)) (omega arith) (omega arith)
 
 -- a character begins behind the byte order mark
 pub bom_cut : (src : List ℕ) → IsUtf8 src → IsCharBoundary src (after_bom src)

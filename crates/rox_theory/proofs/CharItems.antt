@@ -60,7 +60,7 @@ declared_text a h =
 -- ---- items
 
 -- with a text in front
-items_glued : (a e : ℕ) (v : List ℕ) (b : Bool) (c f : Forest Item) → IsCharText v → ItemsChars c → ItemsChars f → ItemsChars (glue a e v b c f)
+items_glued : (a e : ℕ) (v : List ℕ) (b : Bool) (c f : Forest Item) → IsCharText v → ItemsChars c → ItemsChars f → ItemsChars (glue (Text a e v b) c f)
 items_glued a e v b c Nil one below h = (one, below, tt)
 items_glued a e v b c (Cons (Text x y w p) d r) one below h = (texts_joined v w one h.0, items_joined c d below h.1, h.2)
 items_glued a e v b c (Cons (Element x y t) d r) one below h = (one, below, h)

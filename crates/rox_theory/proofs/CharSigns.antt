@@ -15,7 +15,8 @@ use Rattle.rox_grammar.specs.Written.{Item}
 use Rattle.rox_grammar.specs.Names.{byte, slice}
 use Rattle.rox_grammar.specs.Constructs.{AreChars}
 use Rattle.rox_grammar.specs.References.{number, character, predefined, IsNumber, IsCharacter, decimal, hexadecimal, named}
-use Rattle.rox_grammar.specs.Content.{Inclusion, DataByte, literal, data_bytes_of, literals, begins_with_line_feed, line_ends, piece, Part, part_ends, as_written, from_reference, Parts, last_part, then_entity, value_bytes, Value, value_ends, line_end, white, other, a_character, an_entity}
+use Rattle.rox_grammar.specs.Runs.{first_passes}
+use Rattle.rox_grammar.specs.Content.{is_literal, Inclusion, DataByte, literal, data_bytes_of, literals, line_ends, piece, Part, part_ends, as_written, from_reference, Parts, last_part, then_entity, value_bytes, Value, value_ends, line_end, white, other, a_character, an_entity}
 use Rattle.rox_theory.specs.CharItems.{ItemsChars}
 use Rattle.rox_theory.proofs.Basics.{chosen}
 use Rattle.rox_theory.proofs.NameLemmas.{slice_nil}
@@ -116,7 +117,7 @@ chars_front (c ∷ cs) ss s h rest =
     subst SignChars (sym split)
     (elim (cases_eq c 13) as (λ s. SignChars (literals (encode_utf8 c) ++ all)) [
       | inl cr ↦ rw (cr, encode_ascii 13 (omega arith))
-          (cond_both (begins_with_line_feed all) (line_ends all) (10 ∷ line_ends all) (λ (v : List ℕ). IsCharText v) (λ lf. more) (λ no_lf. feed))
+          (cond_both (first_passes (is_literal 10) all) (line_ends all) (10 ∷ line_ends all) (λ (v : List ℕ). IsCharText v) (λ lf. more) (λ no_lf. feed))
       | inr no_cr ↦ (
           let stay = bytes_stay (encode_utf8 c) all (λ k below. no_return c k no_cr below) in
           rw stay (texts_joined (encode_utf8 c) (line_ends all) (char_text c s'.0 h'.0) more))

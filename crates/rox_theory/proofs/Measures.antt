@@ -5,7 +5,7 @@ use Rattle.std.proofs.lemmas.List.{length-append}
 use Rattle.std.specs.Prelude.{◌≡◌, ℕ, ◌+◌, ◌≤◌, not, Bool, true, false, List, [], ◌∷◌, Option, length, if◌then◌else◌, refl}
 use Rattle.rox_grammar.specs.Forest.{Forest, Nil, Cons, join, size}
 use Rattle.rox_grammar.specs.Written.{Item, Element, Text, Comment, PI, Attribute, Tag, leaf, merge, glue, is_namespace_decl, plain_attributes_of}
-use Rattle.rox_grammar.specs.Document.{attribute_count}
+use Rattle.rox_grammar.specs.Counts.{attribute_count}
 use Rattle.rox_theory.specs.ItemSize.{bytes_in, value_bytes_of}
 
 -- an attribute is no more than its value and one byte
@@ -41,7 +41,7 @@ bytes_join : (f g : Forest Item) → bytes_in (join f g) ≡ bytes_in f + bytes_
 bytes_join Nil g = omega arith
 bytes_join (Cons item kids rest) g = let h = bytes_join rest g in omega (arith, h)
 
-bytes_glue : (a e : ℕ) (v : List ℕ) (borrowed : Bool) (below f : Forest Item) → bytes_in (glue a e v borrowed below f) ≡ length v + (bytes_in below + bytes_in f)
+bytes_glue : (a e : ℕ) (v : List ℕ) (borrowed : Bool) (below f : Forest Item) → bytes_in (glue (Text a e v borrowed) below f) ≡ length v + (bytes_in below + bytes_in f)
 bytes_glue a e v borrowed below Nil = refl
 bytes_glue a e v borrowed below (Cons (Text x y w p) kids rest) =
     let l = length-append v w in
@@ -86,7 +86,7 @@ attributes_most : (as' : List Attribute) → length as' ≤ most_of as'
 attributes_most [] = omega arith
 attributes_most (a ∷ as') = let h = attributes_most as' in omega (arith, h)
 
-count_glue : (a e : ℕ) (v : List ℕ) (borrowed : Bool) (below f : Forest Item) → count_in (glue a e v borrowed below f) ≤ 1 + (count_in below + count_in f)
+count_glue : (a e : ℕ) (v : List ℕ) (borrowed : Bool) (below f : Forest Item) → count_in (glue (Text a e v borrowed) below f) ≤ 1 + (count_in below + count_in f)
 count_glue a e v borrowed below Nil = omega arith
 count_glue a e v borrowed below (Cons (Text x y w p) kids rest) = let j = count_join below kids in omega (arith, j)
 count_glue a e v borrowed below (Cons (Element x y t) kids rest) = omega arith

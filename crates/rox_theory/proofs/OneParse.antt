@@ -12,7 +12,8 @@ use Rattle.rox_grammar.specs.TextStart.{after_bom}
 use Rattle.rox_grammar.specs.Entities.{Entity, included_in_main}
 use Rattle.rox_grammar.specs.Doctype.{Asked, Subset, IsDoctype, no_subset, with_subset, no_more, skipped_declaration, an_entity}
 use Rattle.rox_grammar.specs.Doctype as dtd
-use Rattle.rox_grammar.specs.Document.{Misc, no_misc, space, an_item, ParseOf, IsTreeOf, Permits, attribute_count, pairs}
+use Rattle.rox_grammar.specs.Document.{Misc, no_misc, space, an_item, ParseOf, IsTreeOf, Permits}
+use Rattle.rox_grammar.specs.Counts.{attribute_count, pairs}
 use Rattle.rox_theory.specs.ParseParts.{MayHaveDoctype, doctype, no_doctype}
 use Rattle.rox_grammar.specs.Tree.{Node, document_tree}
 use Rattle.rox_grammar.specs.WellNamed.{AreWellNamed}

@@ -14,7 +14,8 @@ use Rattle.rox_grammar.specs.FixedTexts.{word_text}
 use Rattle.rox_grammar.specs.Names.{slice, spaces_end, IsQName, unprefixed, prefixed, colon_first}
 use Rattle.rox_grammar.specs.Constructs.{IsCData, IsEnd, IsEq}
 use Rattle.rox_grammar.specs.References.{IsReference, IsCharacter, decimal, hexadecimal, named, predefined}
-use Rattle.rox_grammar.specs.Content.{DataByte, is_literal, data_bytes_of, begins_with_line_feed, line_ends, value_bytes, Part, part_ends, as_written, from_reference, TagEnds, opened, closed, IsMisc, comment, instruction}
+use Rattle.rox_grammar.specs.Runs.{first_passes}
+use Rattle.rox_grammar.specs.Content.{DataByte, is_literal, data_bytes_of, line_ends, value_bytes, Part, part_ends, as_written, from_reference, TagEnds, opened, closed, IsMisc, comment, instruction}
 
 -- ---- characters
 
@@ -32,7 +33,7 @@ ends_shorten [] = omega arith
 ends_shorten (s ∷ ss) =
     let h = ends_shorten ss in
     cond_both (is_literal 13 s) _ _ (λ (bs : List ℕ). length bs ≤ length (s ∷ ss))
-    (λ _. cond_both (begins_with_line_feed ss) _ _ (λ (bs : List ℕ). length bs ≤ length (s ∷ ss)) (λ _. omega (arith, h)) (λ _. omega (arith, h)))
+    (λ _. cond_both (first_passes (is_literal 10) ss) _ _ (λ (bs : List ℕ). length bs ≤ length (s ∷ ss)) (λ _. omega (arith, h)) (λ _. omega (arith, h)))
     (λ _. omega (arith, h))
 
 pub signs_length : (main : Bool) (bs : List ℕ) → length (data_bytes_of main bs) ≡ length bs

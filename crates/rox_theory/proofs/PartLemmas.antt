@@ -9,7 +9,8 @@ use Rattle.std.proofs.lemmas.Bool.{eqb-true, eqb-false, eq-eqb, ne_eqb, lt-ltb, 
 use Rattle.rox_grammar.specs.declared.fault.Fault.{Fault}
 use Rattle.rox_grammar.specs.Names.{byte, slice}
 use Rattle.rox_grammar.specs.References.{IsReference, IsCharacter, predefined}
-use Rattle.rox_grammar.specs.Content.{DataByte, literal, data_bytes_of, begins_with_line_feed, line_ends, literals, Part, part_ends, as_written, from_reference}
+use Rattle.rox_grammar.specs.Runs.{first_passes}
+use Rattle.rox_grammar.specs.Content.{is_literal, DataByte, literal, data_bytes_of, line_ends, literals, Part, part_ends, as_written, from_reference}
 use Rattle.rox_grammar.specs.Entities.{Replacement, Entity, text_of}
 use Rattle.rox_reading.specs.Values.{Reference, reference_at, Bit, bytes_of, opens, reference_bit, expansion_at, data_bit_at, Next, at_end, opening, after_bit, data_part, part_text}
 use Rattle.rox_theory.specs.Openers.{IsStop}
@@ -29,7 +30,7 @@ kept_ends [] ss = refl
 kept_ends (b ∷ bs) ss = ap (λ (r : List ℕ). b ∷ r) (kept_ends bs ss)
 
 -- and is no literal LF
-kept_after : (bs : List ℕ) (ss : List DataByte) → 0 < length bs → begins_with_line_feed (data_bytes_of true bs ++ ss) ≡ false
+kept_after : (bs : List ℕ) (ss : List DataByte) → 0 < length bs → first_passes (is_literal 10) (data_bytes_of true bs ++ ss) ≡ false
 kept_after [] ss some = absurd (omega arith)
 kept_after (b ∷ bs) ss some = refl
 
@@ -42,7 +43,7 @@ crlf_ends : (a b : ℕ) (ss : List DataByte) → a ≡ 13 → b ≡ 10 → line_
 crlf_ends a b ss cr lf = rw (cr, lf) refl
 
 -- another CR gives LF
-cr_ends : (a : ℕ) (ss : List DataByte) → a ≡ 13 → begins_with_line_feed ss ≡ false → line_ends (literal a ∷ ss) ≡ 10 ∷ line_ends ss
+cr_ends : (a : ℕ) (ss : List DataByte) → a ≡ 13 → first_passes (is_literal 10) ss ≡ false → line_ends (literal a ∷ ss) ≡ 10 ∷ line_ends ss
 cr_ends a ss cr after = rw (cr, after) refl
 
 -- the signs of two texts in a row
@@ -145,7 +146,7 @@ module _ (es : List Entity) (src : List ℕ) (utf8 : IsUtf8 src) (stop : ℕ) (l
   next_part main p i ss below other (from_reference _ n c rest r inside q) = absurd (other (character_opens src i c n r).0)
 
   -- where no LF stands
-  no_line_feed : (p i : ℕ) (ss : List DataByte) → (i < p → byte src i ≢ 10) → Part true src p i ss → begins_with_line_feed ss ≡ false
+  no_line_feed : (p i : ℕ) (ss : List DataByte) → (i < p → byte src i ≢ 10) → Part true src p i ss → first_passes (is_literal 10) ss ≡ false
   no_line_feed p i ss none part_ends = refl
   no_line_feed p i ss none (as_written _ rest lt no_amp q) = ne_eqb (byte src i) 10 (none lt)
   no_line_feed p i ss none (from_reference _ n c rest r inside q) = kept_after (encode_utf8 c) rest (encode_some c)

@@ -6,7 +6,7 @@ use Rattle.rox_grammar.specs.Forest.{Forest, Nil, Cons, join, size}
 use Rattle.rox_grammar.specs.Written.{Tag, Item, Element, NamespaceDecl, merge}
 use Rattle.rox_grammar.specs.Tree.{scope_in, listed}
 use Rattle.rox_grammar.specs.WellNamed.{ItemWellNamed, AreWellNamed}
-use Rattle.rox_grammar.specs.Document.{own_pairs, pairs, own_attributes, attribute_count, has_pair, with_new, distinct_pairs}
+use Rattle.rox_grammar.specs.Counts.{own_pairs, pairs, own_attributes, attribute_count, has_pair, with_new, distinct_pairs}
 use Rattle.rox_grammar.specs.State.{Open, root, inside, scope_of, nodes_so_far, attributes_so_far, pairs_so_far}
 use Rattle.rox_reading.proofs.Forests.{size-join, merge-item, merge-more, pairs-join, attribute_count-join, named-join, named-left, named-right}
 pub use Rattle.rox_theory.specs.ValidState.{AreNamed, IsValidState}

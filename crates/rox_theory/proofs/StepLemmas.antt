@@ -13,7 +13,7 @@ use Rattle.rox_grammar.specs.Names.{byte, slice, spaces_end}
 use Rattle.rox_grammar.specs.Constructs.{IsEnd}
 use Rattle.rox_grammar.specs.Content.{Inclusion, IsTag, TagEnds, IsMisc, comment, instruction, literals, line_ends}
 use Rattle.rox_grammar.specs.Content as content
-use Rattle.rox_grammar.specs.Document.{distinct_pairs}
+use Rattle.rox_grammar.specs.Counts.{distinct_pairs}
 use Rattle.rox_reading.specs.Markup.{comment_at, Instruction, instruction_at, cdata_at, end_tag_at}
 use Rattle.rox_reading.specs.Tags.{tag_at}
 use Rattle.rox_grammar.specs.State.{Open, root, inside, scope_of, attributes_so_far, pairs_so_far}

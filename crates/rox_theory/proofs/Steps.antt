@@ -7,7 +7,8 @@ use Rattle.rox_grammar.specs.Forest.{Forest, Nil, Cons, join}
 use Rattle.rox_grammar.specs.Written.{Name, Tag, Item, Element, NamespaceDecl, merge, leaf}
 use Rattle.rox_grammar.specs.NameParts.{same_qname}
 use Rattle.rox_grammar.specs.Tree.{listed}
-use Rattle.rox_grammar.specs.Document.{listable, own_pairs, distinct_pairs, most_pairs}
+use Rattle.rox_grammar.specs.Document.{most_pairs}
+use Rattle.rox_grammar.specs.Counts.{listable, own_pairs, distinct_pairs}
 use Rattle.rox_grammar.specs.State.{Open, inside, scope_of, nodes_so_far, pairs_so_far}
 use Rattle.rox_reading.specs.State.{State}
 use Rattle.rox_reading.proofs.Forests.{attribute_count-merge, pairs-merge, named-merge, merge-named}

@@ -14,7 +14,8 @@ use Rattle.rox_grammar.specs.Content.{Inclusion, IsAttribute, Attributes, no_mor
 use Rattle.rox_grammar.specs.Content as content
 use Rattle.rox_grammar.specs.WellNamed.{IsWellNamed, may_name}
 use Rattle.rox_grammar.proofs.NamesApart.{DistinctBehind, declarable_behind, distinct_behind, are_declarable, are_distinct}
-use Rattle.rox_grammar.specs.Document.{listable, with_new, most_attributes, most_pairs}
+use Rattle.rox_grammar.specs.Document.{most_attributes, most_pairs}
+use Rattle.rox_grammar.specs.Counts.{listable, with_new}
 use Rattle.rox_reading.specs.Lexical.{qname_at}
 use Rattle.rox_reading.specs.Markup.{TagItem, more, opened, closed, tag_item_at}
 use Rattle.rox_reading.specs.Values.{value_at}

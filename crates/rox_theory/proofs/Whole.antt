@@ -13,6 +13,7 @@ use Rattle.rox_grammar.specs.Content.{IsElement, empty, nest}
 use Rattle.rox_grammar.specs.TextStart.{after_bom}
 use Rattle.rox_grammar.specs.Entities.{Entity, most_deep, included_in_main}
 use Rattle.rox_grammar.specs.Doctype.{Asked}
+use Rattle.rox_grammar.proofs.CountForms.{limits_counted, counts_limited}
 use Rattle.rox_grammar.specs.Document.{Misc, ParseOf, IsWithinLimits, Permits}
 use Rattle.rox_theory.specs.ParseParts.{MayHaveDoctype}
 use Rattle.rox_grammar.specs.Document as document
@@ -174,7 +175,7 @@ module _ (src : List ℕ) (utf8 : IsUtf8 src) where
             is_tree = tree;
             well_named = found.fine.named;
           }),
-          record { nodes = omega arith; attributes = found.fine.attributes; namespaces = found.fine.pairs },
+          counts_limited limit t (record { nodes = omega arith; attributes = found.fine.attributes; namespaces = found.fine.pairs }),
           dtd.3,
         )))))
 
@@ -209,7 +210,8 @@ module _ (src : List ℕ) (utf8 : IsUtf8 src) where
       p.is_tree ∙ ap (join p.before) (sym (join_assoc p.nodes p.one p.after)) ∙ sym (join_assoc p.before (join p.nodes p.one) p.after) ∙ ap (λ (f : Forest Item). join f p.after) (sym (join_assoc p.before p.nodes p.one)) in
       let merged = parse_merged src dtd asked t (parsed src dtd asked t p) in
       let counted : 1 + size (merge t) ≤ limit = rw merged (omega (arith, within.nodes)) in
-      let whole : IsValidState limit (state (length src) t root p.openings_left) = record { nodes = counted; attributes = within.attributes; pairs = within.namespaces; named = p.well_named } in
+      let counts = limits_counted limit t within in
+      let whole : IsValidState limit (state (length src) t root p.openings_left) = record { nodes = counted; attributes = counts.attributes; pairs = counts.namespaces; named = p.well_named } in
       (subst (λ (f : Forest Item). IsValidState limit (state (length src) f root p.openings_left)) tree whole, tree)
 
   -- what comes before a document type declaration is read, and one begins behind it, if there is one

@@ -4,7 +4,7 @@ use Rattle.std.specs.Prelude.{ℕ, ◌+◌, ◌*◌, ◌≤◌, ◌==◌, List, 
 use Rattle.rox_grammar.specs.Forest.{Forest, Nil, Cons, size}
 use Rattle.rox_grammar.specs.Written.{Attribute, Item, Element, Text}
 use Rattle.rox_grammar.specs.Entities.{Entity, most_within}
-use Rattle.rox_grammar.specs.Document.{attribute_count}
+use Rattle.rox_grammar.specs.Counts.{attribute_count}
 use Rattle.rox_grammar.specs.Expansion.{longest}
 
 abbrev pub value_bytes_of : List Attribute → ℕ

@@ -4,7 +4,8 @@ use Rattle.rox_grammar.specs.Forest.{Forest}
 use Rattle.rox_grammar.specs.Written.{Item}
 use Rattle.rox_grammar.specs.Tree.{listed}
 use Rattle.rox_grammar.specs.WellNamed.{IsWellNamed, AreWellNamed}
-use Rattle.rox_grammar.specs.Document.{distinct_pairs, most_attributes, most_pairs}
+use Rattle.rox_grammar.specs.Document.{most_attributes, most_pairs}
+use Rattle.rox_grammar.specs.Counts.{distinct_pairs}
 use Rattle.rox_grammar.specs.State.{Open, root, inside, scope_of, nodes_so_far, attributes_so_far, pairs_so_far}
 use Rattle.rox_reading.specs.State.{State}
 

@@ -3,8 +3,9 @@ use Rattle.std.proofs.Common.{◌≡◌, ℕ, ◌+◌, ◌*◌, ◌<◌, ◌≤�
 use Rattle.std.specs.List.{prefix_len, slice_range}
 use Rattle.std.proofs.lemmas.List.{drop_more, drop_all}
 use Rattle.std.proofs.lemmas.Bool.{cases_lt}
+use Rattle.std.proofs.lemmas.Grind.{fold-append}
 use Rattle.std.proofs.Math.Nat.{mul-le-mul_left, mul-le-mul_right}
-use Rattle.rox_grammar.specs.References.{bytes_end, number, number_from, digit_value}
+use Rattle.rox_grammar.specs.References.{bytes_end, number, digit_value}
 use Rattle.rox_reading.proofs.Stretches.{slice-more}
 
 pub bytes_on : (p : ℕ → Bool) (src : List ℕ) (i : ℕ) → i < length src → p (get_or src i 0) ≡ true → bytes_end p src (i + 1) ≡ bytes_end p src i
@@ -21,9 +22,8 @@ bytes_past p src i past = rw (drop_all i src past) (add-zero i)
 
 pub ruleset digit_steps = (bytes_on, bytes_stop, bytes_past)
 
-number_append : (base n d : ℕ) (digits : List ℕ) → number_from base n (digits ++ d ∷ []) ≡ number_from base n digits * base + digit_value d
-number_append base n d [] = refl
-number_append base n d (e ∷ digits) = number_append base (n * base + digit_value e) d digits
+number_append : (base d : ℕ) (digits : List ℕ) → number base (digits ++ d ∷ []) ≡ number base digits * base + digit_value d
+number_append base d digits = fold-append (λ n d. n * base + digit_value d) 0 digits (d ∷ [])
 
 -- a number goes on from where it was stopped
 stopped : (base n d limit : ℕ) → 0 < base → min (min n limit * base + d) limit ≡ min (n * base + d) limit
@@ -41,4 +41,4 @@ stopped base n d limit some =
 pub one_more_digit : (base : ℕ) (src : List ℕ) (at e limit : ℕ) → 0 < base → at ≤ e → e < length src
     → min (number base (slice_range src at (e + 1))) limit ≡ min (min (number base (slice_range src at e)) limit * base + digit_value (get_or src e 0)) limit
 one_more_digit base src at e limit some le lt =
-    rw (slice-more src at e 0 le lt, number_append base 0 (get_or src e 0) (slice_range src at e)) (sym (stopped base (number base (slice_range src at e)) (digit_value (get_or src e 0)) limit some))
+    rw (slice-more src at e 0 le lt, number_append base (get_or src e 0) (slice_range src at e)) (sym (stopped base (number base (slice_range src at e)) (digit_value (get_or src e 0)) limit some))

@@ -5,7 +5,8 @@ use Rattle.std.proofs.lemmas.Bool.{ne_eqb}
 use Rattle.std.proofs.lemmas.Bool.Decides.{eqb_tells}
 use Rattle.std.proofs.lemmas.List.{drop_more, drop_all, take_all, drop-drop}
 use Rattle.rox_grammar.specs.Search.{byte_from}
-use Rattle.rox_grammar.specs.Content.{literals, begins_with_line_feed, line_ends}
+use Rattle.rox_grammar.specs.Runs.{first_passes}
+use Rattle.rox_grammar.specs.Content.{is_literal, literals, line_ends}
 use Rattle.rox_values.specs.Values.{section_rest, section_text}
 
 -- up to the next CR all stays as it is
@@ -21,7 +22,7 @@ stretch (x ∷ xs) n is =
     ]
 
 -- no LF is in front
-apart : (xs : List ℕ) → get_or xs 0 0 ≢ 10 → begins_with_line_feed (literals xs) ≡ false
+apart : (xs : List ℕ) → get_or xs 0 0 ≢ 10 → first_passes (is_literal 10) (literals xs) ≡ false
 apart [] h = refl
 apart (x ∷ xs) h = ne_eqb x 10 h
 

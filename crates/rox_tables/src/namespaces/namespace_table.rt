@@ -3,7 +3,8 @@
 
 ghost use Rattle.std.specs.Prelude.{◌≡◌, ◌<◌, ◌≤◌, ◌∷◌, [], length, map, true, false, IfSome, IfNone, IfOk, Err};
 ghost use Rattle.rox_grammar.specs.Written.{NamespaceDecl};
-ghost use Rattle.rox_grammar.specs.Document.{has_pair, same_pair, with_new, most_pairs};
+ghost use Rattle.rox_grammar.specs.Document.{same_pair, most_pairs};
+ghost use Rattle.rox_grammar.specs.Counts.{has_pair, with_new};
 ghost use Rattle.rox_grammar.specs.declared.fault.Fault.{Fault};
 ghost use Rattle.rox_tables.specs.Storage.{storage_bytes};
 ghost use Rattle.rox_tables.specs.Rows.{namespace_view, namespace_at};

@@ -7,7 +7,8 @@ use Rattle.rox_grammar.specs.declared.fault.Fault.{Fault}
 use Rattle.rox_grammar.specs.declared.fault.Span.{Span}
 use Rattle.rox_grammar.specs.Written.{NamespaceDecl, namespace_decl_of}
 use Rattle.rox_grammar.specs.Tree.{is_declared, is_xml}
-use Rattle.rox_grammar.specs.Document.{with_new, most_pairs}
+use Rattle.rox_grammar.specs.Document.{most_pairs}
+use Rattle.rox_grammar.specs.Counts.{with_new}
 use Rattle.rox_reading.specs.Tags.{uri_tested, declared}
 use Rattle.std.specs.List.{slice_range}
 use Rattle.rox_tables.specs.Rows.{namespace_view, namespace_at}
