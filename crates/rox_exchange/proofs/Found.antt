@@ -5,7 +5,8 @@ use Rattle.rox_grammar.specs.Written.{Tag, Item, Element, Text, Comment, PI, glu
 use Rattle.rox_grammar.specs.Entities.{no_entities}
 use Rattle.std.specs.List.{list_any}
 use Rattle.rox_grammar.specs.Names.{slice}
-use Rattle.rox_grammar.specs.Content.{DataByte, literals, line_ends, piece, Parts, last_part, then_entity, IsMisc, comment, instruction, IsElement, empty, nest, Content, ends, run, cdata, misc, node}
+use Rattle.rox_grammar.specs.Content.{DataByte, literals, line_ends, piece, last_part, then_entity, IsMisc, comment, instruction, IsElement, empty, nest, Content, ends, run, cdata, misc, node}
+use Rattle.rox_grammar.specs.RunParts.{Parts}
 use Rattle.rox_theory.proofs.Following.{tag_free}
 use Rattle.rox_exchange.specs.ElementWith.{ElementWith, here, inside, ContentWith, between}
 use Rattle.rox_exchange.proofs.Context.{join_assoc, join_nil, content_join}

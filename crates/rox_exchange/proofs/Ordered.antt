@@ -2,7 +2,8 @@
 use Rattle.std.proofs.Common.{◌≡◌, ℕ, ◌+◌, ◌<◌, ◌≤◌, Bool, true, false, List, [], ◌∷◌, refl, arith}
 use Rattle.rox_grammar.specs.Forest.{Forest, Nil, Cons, join}
 use Rattle.rox_grammar.specs.Written.{Item, Element, Text, Comment, PI, glue, merge}
-use Rattle.rox_grammar.specs.Content.{DataByte, piece, Parts, last_part, then_entity, IsMisc, comment, instruction, IsElement, empty, nest, Content, ends, run, cdata, misc, node}
+use Rattle.rox_grammar.specs.Content.{DataByte, piece, last_part, then_entity, IsMisc, comment, instruction, IsElement, empty, nest, Content, ends, run, cdata, misc, node}
+use Rattle.rox_grammar.specs.RunParts.{Parts}
 use Rattle.rox_grammar.specs.Entities.{no_entities}
 use Rattle.rox_grammar.specs.Document.{Misc, no_misc, space, an_item}
 use Rattle.rox_exchange.proofs.Order.{tag_lt, end_lt, misc_lt, content_le, cdata_le}

@@ -6,7 +6,8 @@ ghost use Rattle.rox_grammar.specs.Written.{Name, Attribute, Tag, Item, Element}
 ghost use Rattle.rox_grammar.specs.Names.{IsName, IsNCName, IsQName};
 ghost use Rattle.rox_grammar.specs.References.{IsNumber, IsReference, IsCharacter};
 ghost use Rattle.rox_grammar.specs.Constructs.{IsEq, IsComment, IsPI, IsCData, IsLiteral, IsEnd};
-ghost use Rattle.rox_grammar.specs.Content.{DataByte, IsCharacterData, Part, Parts, Value, IsAttribute, Attributes, TagEnds, IsTag, IsMisc, Content, IsElement};
+ghost use Rattle.rox_grammar.specs.Content.{DataByte, IsCharacterData, Part, Value, IsAttribute, Attributes, TagEnds, IsTag, IsMisc, Content, IsElement};
+ghost use Rattle.rox_grammar.specs.RunParts.{Parts};
 ghost use Rattle.rox_grammar.specs.Entities.{no_entities};
 ghost use Rattle.rox_grammar.specs.Exchange.{Move, moved};
 ghost use Rattle.rox_exchange.specs.Local.{Follows, Fronts, moved_written, moved_tag, moved_item, moved_items};

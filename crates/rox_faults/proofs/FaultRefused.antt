@@ -1,5 +1,5 @@
 -- The refusal of a whole text, with a document type declaration or without.
-use Rattle.std.proofs.Common.{◌≡◌, ℕ, zero, suc, ◌+◌, ◌-◌, ◌≤◌, max, ◌==◌, Bool, true, false, nat_lt, List, [], ◌++◌, length, refl, sym, ap, ◌∙◌, subst, arith, inl, inr}
+use Rattle.std.proofs.Common.{◌≡◌, ℕ, zero, suc, ◌+◌, ◌-◌, ◌≤◌, max, ◌==◌, Bool, true, false, nat_lt, List, [], ◌++◌, length, refl, sym, ap, ◌∙◌, subst, arith, inl}
 use Rattle.std.specs.Prelude.{Result, Ok, Err}
 use Rattle.std.specs.Str.{IsUtf8, IsCharBoundary}
 use Rattle.std.proofs.lemmas.List.{append-nil}
@@ -18,7 +18,6 @@ use Rattle.rox_grammar.specs.Entities.{Entity, no_entities, Includes, most_deep,
 use Rattle.rox_grammar.specs.Doctype.{Asked, IsDoctype}
 use Rattle.rox_grammar.specs.Document.{Misc, no_misc, PrologTo}
 use Rattle.rox_theory.specs.ParseParts.{MayHaveDoctype}
-use Rattle.rox_grammar.specs.Document as document
 use Rattle.rox_grammar.specs.State.{root, FitsLimits}
 use Rattle.rox_grammar.specs.ContentPoints.{is_main}
 use Rattle.rox_grammar.specs.Faults.{in_one, misc_around, one_too_many}

@@ -13,12 +13,14 @@ use Rattle.rox_grammar.specs.Written.{Item, Text, leaf}
 use Rattle.rox_grammar.specs.Names.{byte, slice}
 use Rattle.rox_grammar.specs.Constructs.{has_mark}
 use Rattle.rox_grammar.specs.References.{IsReference, predefined}
-use Rattle.rox_grammar.specs.Content.{Inclusion, DataByte, is_verbatim, line_ends, piece, Part, Parts, last_part, IsCharacterData}
+use Rattle.rox_grammar.specs.Content.{Inclusion, DataByte, is_verbatim, line_ends, piece, Part, last_part, IsCharacterData}
+use Rattle.rox_grammar.specs.RunParts.{Parts}
 use Rattle.rox_grammar.specs.Content as content
 use Rattle.rox_grammar.specs.Entities.{Replacement, Entity, text_of}
 use Rattle.rox_grammar.specs.WellNamed.{AreWellNamed}
 use Rattle.rox_grammar.specs.State.{Open, scope_of, depth_of, nodes_so_far, FitsLimits}
-use Rattle.rox_grammar.specs.ContentPoints.{is_content, is_main, a_run, PartsTo, one_part, then_entity, RefersTo, MayOpen, IsSpent, enters}
+use Rattle.rox_grammar.specs.ContentPoints.{is_content, is_main, a_run, RefersTo, MayOpen, IsSpent, enters}
+use Rattle.rox_grammar.specs.RunParts.{PartsTo}
 use Rattle.rox_grammar.specs.Faults.{InReferences, InRun, no_char, end_mark, in_reference, too_many, in_run, too_many_nodes, too_many_pieces}
 use Rattle.rox_reading.specs.Lexical.{chars_up_to}
 use Rattle.rox_reading.specs.Refusals.{Refusal}
@@ -116,7 +118,7 @@ module _ (opens : ℕ → Inclusion) (es : List Entity) (limit : ℕ) (text : Li
             stack = stack ∙ b.stack;
             to = λ p e more p'.
                 subst (λ (f : Forest Item). PartsTo (is_main k) (opens k) src s.at stop s.at p s.openings_left e f) (whole more)
-                (b.to p e (join one (join items more)) (then_entity u.at q n j p u.openings_left c e ss items more part ref none opened
+                (b.to p e (join one (join items more)) (content.Parts.then_entity u.at q n j u.openings_left c e ss items more part ref none opened
                 (subst (λ (i : ℕ). PartsTo (is_main k) (opens k) src s.at stop i p c e more) at (subst (λ (l : ℕ). PartsTo (is_main k) (opens k) src s.at stop v.at p l e more) openings_left p'))));
             all = λ e more p'.
                 subst (λ (f : Forest Item). Parts (is_main k) (opens k) src s.at stop s.at s.openings_left e f) (whole more)
@@ -141,7 +143,7 @@ module _ (opens : ℕ → Inclusion) (es : List Entity) (limit : ℕ) (text : Li
       by_end u b q ss next part (ends_entity _ n j t ref none to found) named few many =
           let moves = reference_opens src q n j ref in
           stand opens es limit text declared Front k open_around src s fault.NodesLimitReached place fits
-          (too_many_pieces stop q j u.openings_left (join b.front (piece s.at stop false ss)) t inner run (b.to q u.openings_left (piece s.at stop false ss) (one_part u.at q u.openings_left ss part)) named (omega (arith, moves.2))
+          (too_many_pieces stop q j u.openings_left (join b.front (piece s.at stop false ss)) t inner run (b.to q u.openings_left (piece s.at stop false ss) (last_part u.at u.openings_left ss part)) named (omega (arith, moves.2))
           (record { n = n; is_reference = ref; no_character = none; found = found }) (too_many_there limit s.stack (join s.done (join b.front (piece s.at stop false ss))) few many))
 
       -- a text that is one node too many
@@ -175,7 +177,7 @@ module _ (opens : ℕ → Inclusion) (es : List Entity) (limit : ℕ) (text : Li
           let t_stack : t.stack ≡ s.stack = is.stack ∙ b.stack in
           let refers : RefersTo es src q j r = record { n = n; is_reference = ref; no_character = none; found = found } in
           let to' : PartsTo (is_main k) (opens k) src s.at stop s.at q s.openings_left t.openings_left (join b.front one) =
-          subst (λ (c : ℕ). PartsTo (is_main k) (opens k) src s.at stop s.at q s.openings_left c (join b.front one)) (sym is.openings_left) (b.to q u.openings_left one (one_part u.at q u.openings_left ss part)) in
+          subst (λ (c : ℕ). PartsTo (is_main k) (opens k) src s.at stop s.at q s.openings_left c (join b.front one)) (sym is.openings_left) (b.to q u.openings_left one (last_part u.at u.openings_left ss part)) in
           let named : AreWellNamed (scope_of s.stack) (join b.front one) =
           named_last s.stack s.done (join b.front one) (subst (λ (o : Open). AreNamed o (join s.done (join b.front one))) t_stack (subst (AreNamed t.stack) t_done fine'.named)) in
           let below : q < stop = omega (arith, moves.2) in

@@ -20,7 +20,7 @@ use Rattle.rox_grammar.specs.Entities.{Replacement, Entity}
 use Rattle.rox_grammar.specs.Doctype.{Request, Asked, IsDefinition, internal, external, IsPassedOver, Subset, no_more, space, an_item, skipped_declaration, an_entity, BeginsDoctype, IsDoctype, no_subset, with_subset, entry, SubsetTo}
 use Rattle.rox_grammar.specs.State.{root, nodes_so_far, FitsLimits}
 use Rattle.rox_grammar.specs.Due.{DueItem, a_byte, IsMissing, none_left, DueInXmlDecl}
-use Rattle.rox_faults.proofs.DueForms.{doctype_end, subset_or_end, no_end, no_subset_or_end}
+use Rattle.rox_faults.proofs.DueForms.{subset_or_end, no_end, no_subset_or_end}
 use Rattle.rox_grammar.specs.Due as dues
 use Rattle.rox_grammar.specs.Faults.{in_one, one_too_many}
 use Rattle.rox_grammar.specs.FaultsWithDoctype.{IsPassed, InDoctype, head_lacks, no_name, not_passed, in_entity, entity_open, entity_cut, in_answer, end_lacks, unknown, in_subset, in_miscs}

@@ -9,11 +9,13 @@ use Rattle.rox_grammar.specs.Tree.{listed}
 use Rattle.rox_grammar.specs.Names.{byte, slice}
 use Rattle.rox_grammar.specs.Constructs.{AreChars, IsCData, IsEnd}
 use Rattle.rox_grammar.specs.FixedTexts.{at}
-use Rattle.rox_grammar.specs.Content.{Inclusion, Parts, IsCharacterData, IsMisc, comment, instruction, Value, Content}
+use Rattle.rox_grammar.specs.Content.{Inclusion, IsCharacterData, IsMisc, comment, instruction, Value, Content}
+use Rattle.rox_grammar.specs.RunParts.{Parts}
 use Rattle.rox_grammar.specs.Entities.{Replacement, Entity, text_of, most_deep}
 use Rattle.rox_grammar.specs.State as grammar
 use Rattle.rox_grammar.specs.State.{Open, root, inside, is_root, depth_of, scope_of}
-use Rattle.rox_grammar.specs.ContentPoints.{is_main, is_content, StepsOver, a_run as takes_run, a_section, a_misc, an_empty_tag, a_start_tag, an_end_tag, PartsTo, RefersTo, MayOpen, ContentPoint, begins, goes, enters}
+use Rattle.rox_grammar.specs.ContentPoints.{is_main, is_content, StepsOver, a_run as takes_run, a_section, a_misc, an_empty_tag, a_start_tag, an_end_tag, RefersTo, MayOpen, ContentPoint, begins, goes, enters}
+use Rattle.rox_grammar.specs.RunParts.{PartsTo}
 use Rattle.rox_reading.specs.State.{State}
 use Rattle.rox_reading.specs.Machine.{value_opener, opener}
 use Rattle.rox_reading.proofs.Forests.{join_assoc, merge-named}
@@ -272,7 +274,7 @@ module _ (opens : ℕ → Inclusion) (es : List Entity) (all : OpensAt opens es)
         let inside = run_within src s.at stop is in
         let there = run_there inside.0 inside.1 in
         let run : RunThere stop = subst RunThere (there.1.end ∙ sym is.end) there.2 in
-        (run, parts_front (is_main k) (opens k) (all.once k) src s.at stop s.at p refers.n j b c run.openings_left front run.items to run.parts below refers.is_reference refers.no_character)
+        (run, parts_front (is_main k) (opens k) (all.once k) src s.at stop p s.at refers.n j b c run.openings_left front run.items to run.parts below refers.is_reference refers.no_character)
 
     -- so the way leads into that text
     enters_reached : (stop p c j q : ℕ) (front : Forest Item) (t : Replacement) → IsCharacterData src s.at stop → PartsTo (is_main k) (opens k) src s.at stop s.at p b c front → p < stop → RefersTo es src p j t → MayOpen k c q

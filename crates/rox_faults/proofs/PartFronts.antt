@@ -5,9 +5,9 @@ use Rattle.rox_grammar.specs.Forest.{Forest, join}
 use Rattle.rox_grammar.specs.Written.{Item}
 use Rattle.rox_grammar.specs.Names.{byte, slice}
 use Rattle.rox_grammar.specs.References.{IsReference, IsCharacter, predefined}
-use Rattle.rox_grammar.specs.Content.{Inclusion, DataByte, Parts, last_part, then_entity, piece, Value, value_ends, line_end, white, other, a_character, an_entity}
-use Rattle.rox_grammar.specs.ContentPoints.{PartsTo, one_part}
-use Rattle.rox_grammar.specs.ContentPoints as places
+use Rattle.rox_grammar.specs.Content.{Inclusion, DataByte, last_part, then_entity, piece, Value, value_ends, line_end, white, other, a_character, an_entity}
+use Rattle.rox_grammar.specs.RunParts.{Parts}
+use Rattle.rox_grammar.specs.RunParts.{PartsTo}
 use Rattle.rox_reading.proofs.Forests.{join_assoc}
 use Rattle.rox_theory.proofs.ReferenceLemmas.{character_opens, reference_opens}
 use Rattle.rox_theory.proofs.PartLemmas.{part_le}
@@ -17,10 +17,10 @@ use Rattle.rox_theory.proofs.PartOnce.{no_entity_here, character_ends, entity_en
 
 module _ (main : Bool) (O : Inclusion) (once : OpensOnce O) (src : List ℕ) (start stop : ℕ) where
   -- what is read does not go back
-  parts_to_le : (i p b c : ℕ) (front : Forest Item) → PartsTo main O src start stop i p b c front → i ≤ p
-  parts_to_le i p b c front (one_part _ _ _ ss part) = part_le main src p i ss part
-  parts_to_le i p b d front (places.PartsTo.then_entity _ q n j _ _ c _ ss one more part r none opens to) =
-      omega (arith, part_le main src q i ss part, reference_opens src q n j r, parts_to_le j p c d more to)
+  parts_to_le : (p i b c : ℕ) (front : Forest Item) → PartsTo main O src start stop i p b c front → i ≤ p
+  parts_to_le p i b c front (last_part _ _ ss part) = part_le main src p i ss part
+  parts_to_le p i b d front (then_entity _ q n j _ c _ ss one more part r none opens to) =
+      omega (arith, part_le main src q i ss part, reference_opens src q n j r, parts_to_le p j c d more to)
 
   -- the reference at p opens these items there, behind those in front
   pub record OpenedThere (p n j c d : ℕ) (front items : Forest Item) : Type 0 where
@@ -31,11 +31,11 @@ module _ (main : Bool) (O : Inclusion) (once : OpensOnce O) (src : List ℕ) (st
     pub parts : Parts main O src start stop j openings_left d rest
     pub all : items ≡ join front (join opened rest)
 
-  pub parts_front : (i p n j b c d : ℕ) (front items : Forest Item) → PartsTo main O src start stop i p b c front → Parts main O src start stop i b d items → p < stop → IsReference src p n j
+  pub parts_front : (p i n j b c d : ℕ) (front items : Forest Item) → PartsTo main O src start stop i p b c front → Parts main O src start stop i b d items → p < stop → IsReference src p n j
       → predefined (slice src (p + 1) n) ≡ None → OpenedThere p n j c d front items
-  parts_front i p n j b c d front items (one_part _ _ _ ss part) (last_part _ _ rs part') below r none =
+  parts_front p i n j b c d front items (last_part _ _ ss part) (last_part _ _ rs part') below r none =
       let same = part_once main src stop p stop i ss rs part part' (inr (n, j, r, none)) (inl refl) (omega arith) (omega arith) in absurd (omega (arith, same.0))
-  parts_front i p n j b c d front items (one_part _ _ _ ss part) (then_entity _ q m k _ e _ rs one more part' r' none' opens rest) below r none =
+  parts_front p i n j b c d front items (last_part _ _ ss part) (then_entity _ q m k _ e _ rs one more part' r' none' opens rest) below r none =
       let inside : q ≤ stop = omega (arith, reference_opens src q m k r', parts_le main O src start stop k e d more rest) in
       let same = part_once main src stop p q i ss rs part part' (inr (n, j, r, none)) (inr (m, k, r', none')) (omega arith) inside in
       let ends = entity_ends src p m n k j (subst (λ (q : ℕ). IsReference src q m k) (sym same.0) r') r in
@@ -47,13 +47,13 @@ module _ (main : Bool) (O : Inclusion) (once : OpensOnce O) (src : List ℕ) (st
         parts = subst (λ (k : ℕ). Parts main O src start stop k e d more) ends.1 rest;
         all = ap (λ (ss : List DataByte). join (piece start stop false ss) (join one more)) (sym same.1);
       }
-  parts_front i p n j b c d front items (places.PartsTo.then_entity _ q m k _ _ e _ ss one more part r' none' opens to) (last_part _ _ rs part') below r none =
-      let le = parts_to_le k p e c more to in
+  parts_front p i n j b c d front items (then_entity _ q m k _ e _ ss one more part r' none' opens to) (last_part _ _ rs part') below r none =
+      let le = parts_to_le p k e c more to in
       let some = reference_opens src q m k r' in
       let same = part_once main src stop q stop i ss rs part part' (inr (m, k, r', none')) (inl refl) (omega arith) (omega arith) in
       absurd (omega (arith, same.0))
-  parts_front i p n j b c d front items (places.PartsTo.then_entity _ q m k _ _ e _ ss one more part r' none' opens to) (then_entity _ q' m' k' _ e' _ rs one' more' part' r'' none'' opens' rest) below r none =
-      let le = parts_to_le k p e c more to in
+  parts_front p i n j b c d front items (then_entity _ q m k _ e _ ss one more part r' none' opens to) (then_entity _ q' m' k' _ e' _ rs one' more' part' r'' none'' opens' rest) below r none =
+      let le = parts_to_le p k e c more to in
       let some = reference_opens src q m k r' in
       let inside : q' ≤ stop = omega (arith, reference_opens src q' m' k' r'', parts_le main O src start stop k' e' d more' rest) in
       let same = part_once main src stop q q' i ss rs part part' (inr (m, k, r', none')) (inr (m', k', r'', none'')) (omega arith) inside in
@@ -61,7 +61,7 @@ module _ (main : Bool) (O : Inclusion) (once : OpensOnce O) (src : List ℕ) (st
       let opens'' : O.content (slice src (q + 1) m) b one' e' = subst (λ (m : ℕ). O.content (slice src (q + 1) m) b one' e') ends.0 (subst (λ (q : ℕ). O.content (slice src (q + 1) m') b one' e') (sym same.0) opens') in
       let text = once (slice src (q + 1) m) b e' e one' one opens'' opens in
       let rest' : Parts main O src start stop k e d more' = subst (λ (e : ℕ). Parts main O src start stop k e d more') text.1 (subst (λ (k : ℕ). Parts main O src start stop k e' d more') ends.1 rest) in
-      let next = parts_front k p n j e c d more more' to rest' below r none in
+      let next = parts_front p k n j e c d more more' to rest' below r none in
       record {
         opened = next.opened;
         openings_left = next.openings_left;

@@ -1,11 +1,11 @@
 -- What is counted of the tree so far is what reading has counted.
-use Rattle.std.proofs.Common.{◌≡◌, ℕ, ◌+◌, ◌<◌, ◌≤◌, List, ◌++◌, length, refl, sym, ap, ◌∙◌, subst, arith}
+use Rattle.std.proofs.Common.{◌≡◌, ℕ, ◌+◌, ◌<◌, ◌≤◌, List, ◌++◌, length, refl, ap, ◌∙◌, arith}
 use Rattle.rox_grammar.specs.Forest.{Forest, Nil, Cons, join, size}
 use Rattle.rox_grammar.specs.Written.{NamespaceDecl, Item, Element, merge}
 use Rattle.rox_grammar.specs.Document.{attributes_in, pairs_in, distinct_count, most_attributes, most_pairs}
 use Rattle.rox_grammar.specs.Counts.{listable, pairs, with_new, distinct_pairs, attribute_count}
 use Rattle.rox_grammar.specs.Tree.{listable_of}
-use Rattle.rox_grammar.proofs.CountForms.{attributes_same, pairs_same, distinct_same, limits_counted}
+use Rattle.rox_grammar.proofs.CountForms.{attributes_same, pairs_same, distinct_same}
 use Rattle.rox_grammar.specs.OpenElements.{Open, root, inside, tree_so_far, FitsLimits, HasTooManyNodes}
 use Rattle.rox_grammar.specs.State.{nodes_so_far, attributes_so_far, pairs_so_far}
 use Rattle.rox_reading.proofs.Forests.{pairs-merge, attribute_count-merge}

@@ -1,5 +1,5 @@
 -- The attributes and the namespaces of a forest by its tags and item by item: they are the same, and as many.
-use Rattle.std.proofs.Common.{◌≡◌, ℕ, ◌+◌, ◌≤◌, ◌||◌, Bool, true, false, cond, List, [], ◌∷◌, ◌++◌, length, Option, None, Some, refl, sym, ap, ◌∙◌, arith, inl, inr, length-append, append_assoc}
+use Rattle.std.proofs.Common.{◌≡◌, ℕ, ◌+◌, ◌||◌, Bool, true, false, cond, List, [], ◌∷◌, ◌++◌, length, Option, None, Some, refl, sym, ap, ◌∙◌, arith, inl, inr, length-append}
 use Rattle.std.specs.Prelude.{bytes_eq, sum_by, flat_map}
 use Rattle.std.specs.List.{list_any}
 use Rattle.std.proofs.lemmas.Bool.{cases_Bool, and_parts}
@@ -10,7 +10,7 @@ use Rattle.rox_grammar.specs.Forest.{Forest, Nil, Cons}
 use Rattle.rox_grammar.specs.Written.{NamespaceDecl, Tag, Item, Element, Text, Comment, PI}
 use Rattle.rox_grammar.specs.Tree.{same_prefix, listable_of}
 use Rattle.rox_grammar.specs.Document.{tags, attributes_in, pairs_in, same_pair, distinct_count, IsWithinLimits}
-use Rattle.rox_grammar.specs.Counts.{pairs, has_pair, with_new, distinct_pairs, pairs_with, attribute_count, IsWithinCounts}
+use Rattle.rox_grammar.specs.Counts.{pairs, has_pair, with_new, distinct_pairs, attribute_count, IsWithinCounts}
 
 -- ---- what is there
 

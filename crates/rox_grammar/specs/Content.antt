@@ -98,11 +98,12 @@ pub data IsMisc (src : List ℕ) : ℕ → ℕ → Item → Type 0 where
 -- What references to entities stand in: in the main text or a replacement text, with this meaning, in this source. The numbers b, c
 -- and d are how many openings are left.
 module _ (main : Bool) (Includes : Inclusion) (src : List ℕ) where
-  -- the parts of the run from start up to stop, from i on, which references to entities cut
-  pub data Parts (start stop : ℕ) : ℕ → ℕ → ℕ → Forest Item → Type 0 where
-    last_part : (i b : ℕ) (ss : List DataByte) → Part main src stop i ss → Parts start stop i b b (piece start stop (is_verbatim (slice src start stop)) ss)
-    then_entity : (i p n j b c d : ℕ) (ss : List DataByte) (items more : Forest Item) → Part main src p i ss → IsReference src p n j → predefined (slice src (p + 1) n) ≡ None
-        → Includes.content (slice src (p + 1) n) b items c → Parts start stop j c d more → Parts start stop i b d (join (piece start stop false ss) (join items more))
+  -- the parts of the run from start up to stop, which references to entities cut, from i on up to p; the flag says whether the last
+  -- one is a slice of the source
+  pub data Parts (borrowed : Bool) (start stop p : ℕ) : ℕ → ℕ → ℕ → Forest Item → Type 0 where
+    last_part : (i b : ℕ) (ss : List DataByte) → Part main src p i ss → Parts borrowed start stop p i b b (piece start stop borrowed ss)
+    then_entity : (i q n j b c d : ℕ) (ss : List DataByte) (items more : Forest Item) → Part main src q i ss → IsReference src q n j → predefined (slice src (q + 1) n) ≡ None
+        → Includes.content (slice src (q + 1) n) b items c → Parts borrowed start stop p j c d more → Parts borrowed start stop p i b d (join (piece start stop false ss) (join items more))
 
   -- XML 3.3.3: the value that stands from i up to j. Within a replacement text a reference may not give `<` (`a_character`), where
   -- 3.1 and 4.6 let `&lt;` give one.
@@ -156,7 +157,7 @@ module _ (main : Bool) (Includes : Inclusion) (src : List ℕ) where
     -- XML 3.1 [43] content: from i up to j
     pub data Content : ℕ → ℕ → ℕ → ℕ → Forest Item → Type 0 where
       ends : (i b : ℕ) → Content i i b b Nil
-      run : (i j l b c d : ℕ) (items more : Forest Item) → IsCharacterData src i j → Parts i j i b c items → Content j l c d more → Content i l b d (join items more)
+      run : (i j l b c d : ℕ) (items more : Forest Item) → IsCharacterData src i j → Parts (is_verbatim (slice src i j)) i j j i b c items → Content j l c d more → Content i l b d (join items more)
       cdata : (i e j l b c : ℕ) (more : Forest Item) → IsCData src i e j → Content j l b c more → Content i l b c (join (leaf (section i j (slice src (i + 9) e))) more)
       misc : (i j l b c : ℕ) (item : Item) (more : Forest Item) → IsMisc src i j item → Content j l b c more → Content i l b c (join (leaf item) more)
       node : (i j l b c d : ℕ) (one more : Forest Item) → IsElement i j b c one → Content j l c d more → Content i l b d (join one more)

@@ -3,11 +3,11 @@
 use Prim.Native.Char.{code}
 use Rattle.std.specs.Prelude.{◌≡◌, ◌≢◌, ℕ, zero, suc, ◌+◌, ◌<◌, ◌≤◌, Some, None, Bool, true, false, List, ◌++◌, length, bytes_eq, codes}
 use Rattle.rox_grammar.specs.Forest.{Forest, Nil, Cons, join}
-use Rattle.rox_grammar.specs.Written.{Name, Attribute, NamespaceDecl, Tag, Item, Element, namespace_decls_of, merge, leaf}
+use Rattle.rox_grammar.specs.Written.{Name, Attribute, Tag, Item, Element, namespace_decls_of, merge, leaf}
 use Rattle.rox_grammar.specs.Tree.{listed, listable_of}
 use Rattle.rox_grammar.specs.Names.{byte, slice, IsQName}
 use Rattle.rox_grammar.specs.Constructs.{text_at, IsCData, IsEnd}
-use Rattle.rox_grammar.specs.Content.{Inclusion, DataByte, piece, section, Part, Parts, IsCharacterData, Value, Attributes, IsTag, IsMisc}
+use Rattle.rox_grammar.specs.Content.{Inclusion, is_verbatim, section, Parts, IsCharacterData, Value, Attributes, IsTag, IsMisc}
 use Rattle.rox_grammar.specs.WellNamed.{AreDeclarable, IsWellNamed, AreWellNamed}
 use Rattle.rox_grammar.specs.References.{IsReference, predefined}
 use Rattle.rox_grammar.specs.Entities.{Replacement, Entity, text_of, most_within, most_deep}
@@ -41,7 +41,7 @@ pub data TagBegins (src : List ℕ) (i : ℕ) : Bool → Type 0 where
 -- One construct of content (XML 3.1 [43]) from one state to another, and the openings that are left before it and behind it.
 module _ (k : ℕ) (Includes : Inclusion) (src : List ℕ) (s : State) where
   pub data StepsOver : ℕ → State → ℕ → Type 0 where
-    a_run : (j b c : ℕ) (items : Forest Item) → is_content k s.stack ≡ true → IsCharacterData src s.at j → Parts (is_main k) Includes src s.at j s.at b c items
+    a_run : (j b c : ℕ) (items : Forest Item) → is_content k s.stack ≡ true → IsCharacterData src s.at j → Parts (is_main k) Includes src (is_verbatim (slice src s.at j)) s.at j j s.at b c items
         → AreWellNamed (scope_of s.stack) items → StepsOver b (record { at = j; done = join s.done items; stack = s.stack }) c
     a_section : (e j b : ℕ) → is_content k s.stack ≡ true → IsCData src s.at e j
         → StepsOver b (record { at = j; done = join s.done (leaf (section s.at j (slice src (s.at + 9) e))); stack = s.stack }) b
@@ -52,13 +52,6 @@ module _ (k : ℕ) (Includes : Inclusion) (src : List ℕ) (s : State) where
         → StepsOver b (record { at = j; done = Nil; stack = inside s.at t s.done s.stack }) c
     an_end_tag : (n j b start : ℕ) (t : Tag) (before : Forest Item) (up : Open) → s.stack ≡ inside start t before up → IsEnd src s.at t.name n j
         → StepsOver b (record { at = j; done = join before (Cons (Element start j t) (merge s.done) Nil); stack = up }) b
-
--- The run from start up to stop is read from i up to p, behind a reference to an entity or before one: the parts of it, and the
--- openings that are left before them and behind.
-pub data PartsTo (main : Bool) (Includes : Inclusion) (src : List ℕ) (start stop : ℕ) : ℕ → ℕ → ℕ → ℕ → Forest Item → Type 0 where
-  one_part : (i p b : ℕ) (ss : List DataByte) → Part main src p i ss → PartsTo main Includes src start stop i p b b (piece start stop false ss)
-  then_entity : (i q n j p b c d : ℕ) (ss : List DataByte) (items more : Forest Item) → Part main src q i ss → IsReference src q n j → predefined (slice src (q + 1) n) ≡ None
-      → Includes.content (slice src (q + 1) n) b items c → PartsTo main Includes src start stop j p c d more → PartsTo main Includes src start stop i p b d (join (piece start stop false ss) (join items more))
 
 -- a reference to an entity stands at p and ends at j: its replacement text
 pub record RefersTo (es : List Entity) (src : List ℕ) (p j : ℕ) (t : Replacement) : Type 0 where
@@ -85,7 +78,7 @@ pub data ContentPoint (opens : ℕ → Inclusion) (es : List Entity) (text : Lis
       → ContentPoint opens es text Root k open_around src c t
   -- the run at a place is read up to a reference, whose replacement text is opened
   enters : (k open_around b c r stop p j : ℕ) (src : List ℕ) (s : State) (front : Forest Item) (t : Replacement) → ContentPoint opens es text Root k open_around src b s → is_content k s.stack ≡ true → IsCharacterData src s.at stop
-      → PartsTo (is_main k) (opens k) src s.at stop s.at p b c front → AreWellNamed (scope_of s.stack) front → p < stop → RefersTo es src p j t → MayOpen k c r
+      → Parts (is_main k) (opens k) src false s.at stop p s.at b c front → AreWellNamed (scope_of s.stack) front → p < stop → RefersTo es src p j t → MayOpen k c r
       → ContentPoint opens es text Root (suc k) (depth_of s.stack) t.source r (record { at = t.start; done = join s.done front; stack = s.stack })
 
 -- A part of a value: from i up to stop of a source, where l replacement texts are open and d openings are left. It is the value

@@ -16,13 +16,13 @@ use Rattle.rox_grammar.specs.Tree.{xml_uri, xmlns_uri, is_declared, listed, list
 use Rattle.rox_grammar.specs.Names.{byte, slice, spaces_end, IsQName}
 use Rattle.rox_grammar.specs.Constructs.{text_at, first_text, has_mark, AreChars, IsPair, IsEnd}
 use Rattle.rox_grammar.specs.References.{IsReference, IsCharacter, predefined}
-use Rattle.rox_grammar.specs.Content.{Inclusion, IsCharacterData, Value, IsAttribute, TagEnds, IsMisc}
+use Rattle.rox_grammar.specs.Content.{Inclusion, Parts, IsCharacterData, Value, IsAttribute, TagEnds, IsMisc}
 use Rattle.rox_grammar.specs.WellNamed.{may_declare, is_known, same_expanded, AreDistinct, may_name, AreWellNamed}
 use Rattle.rox_grammar.specs.Entities.{Replacement, Entity, text_of}
 use Rattle.rox_grammar.specs.Document.{Behind, pairs_in, distinct_count, attributes_in, most_attributes, most_pairs}
 use Rattle.rox_grammar.specs.OpenElements.{Open, root, inside, State, depth_of, scope_of, tree_so_far, FitsLimits, HasTooManyNodes}
 use Rattle.rox_grammar.specs.Due.{DueItem, a_byte, a_qname, one_of, chars_to, IsMissing, DueInText, DueInPI, DueInEnd, DueInPair}
-use Rattle.rox_grammar.specs.ContentPoints.{RootBegins, is_content, is_main, TagBegins, StepsOver, PartsTo, RefersTo, IsSpent, ContentPoint, ValuePart, TagTo}
+use Rattle.rox_grammar.specs.ContentPoints.{RootBegins, is_content, is_main, TagBegins, StepsOver, RefersTo, IsSpent, ContentPoint, ValuePart, TagTo}
 
 -- the bytes of a name as it is written, without the colon if there is no prefix
 abbrev pub spelled : Name → List ℕ
@@ -60,7 +60,7 @@ pub data InRun (es : List Entity) (k : ℕ) (Includes : Inclusion) (src : List �
   in_reference : (e p : ℕ) (f : Fault) → e ≡ byte_from (λ c. c == code "<") src i → AreChars src i e → has_mark (codes "]]>") (slice src i e) ≡ false
       → i ≤ p → p < e → InReferences es src p f → InRun es k Includes src i b f
   -- the first one that may open none
-  too_many : (stop p j c : ℕ) (front : Forest Item) (t : Replacement) → IsCharacterData src i stop → PartsTo (is_main k) Includes src i stop i p b c front → p < stop → RefersTo es src p j t → IsSpent k c
+  too_many : (stop p j c : ℕ) (front : Forest Item) (t : Replacement) → IsCharacterData src i stop → Parts (is_main k) Includes src false i stop p i b c front → p < stop → RefersTo es src p j t → IsSpent k c
       → InRun es k Includes src i b (fault.EntityReferenceLoop j)
 
 -- ---- in a part of a value, from i up to stop (XML 3.3.3), where k replacement texts are open and b openings are left
@@ -155,7 +155,7 @@ module _ (limit : ℕ) (es : List Entity) (k open_around : ℕ) (Includes : Incl
     -- behind the construct that begins here
     too_many_nodes : (c : ℕ) (t : State) → StepsOver k Includes src s b t c → HasTooManyNodes limit t.stack t.done → Stands fault.NodesLimitReached
     -- behind the parts of a run up to a reference to an entity: a text is counted before the reference behind it is opened
-    too_many_pieces : (stop p j c : ℕ) (front : Forest Item) (t : Replacement) → is_content k s.stack ≡ true → IsCharacterData src s.at stop → PartsTo (is_main k) Includes src s.at stop s.at p b c front
+    too_many_pieces : (stop p j c : ℕ) (front : Forest Item) (t : Replacement) → is_content k s.stack ≡ true → IsCharacterData src s.at stop → Parts (is_main k) Includes src false s.at stop p s.at b c front
         → AreWellNamed (scope_of s.stack) front → p < stop → RefersTo es src p j t → HasTooManyNodes limit s.stack (join s.done front) → Stands fault.NodesLimitReached
 
 -- ---- at a point of content, where k replacement texts are open, around which `open_around` elements are open: in this source

@@ -9,7 +9,8 @@ use Rattle.rox_grammar.specs.Written.{Name, NamespaceDecl, Tag, Item, Element, T
 use Rattle.rox_grammar.specs.Tree.{Node, node_in}
 use Rattle.rox_grammar.specs.Names.{byte, slice}
 use Rattle.rox_grammar.specs.Constructs.{IsCData, IsEnd}
-use Rattle.rox_grammar.specs.Content.{DataByte, literal, kept, is_literal, data_bytes_of, literals, line_ends, piece, Part, part_ends, as_written, from_reference, Parts, last_part, then_entity, IsTag, IsMisc, comment, instruction, IsElement, empty, nest, Content, ends, run, cdata, misc, node}
+use Rattle.rox_grammar.specs.Content.{DataByte, literal, kept, is_literal, data_bytes_of, literals, line_ends, piece, Part, part_ends, as_written, from_reference, last_part, then_entity, IsTag, IsMisc, comment, instruction, IsElement, empty, nest, Content, ends, run, cdata, misc, node}
+use Rattle.rox_grammar.specs.RunParts.{Parts}
 use Rattle.rox_grammar.specs.Document.{Misc, no_misc, space, an_item, ParseOf, IsTreeOf}
 use Rattle.rox_theory.proofs.Without.{parse_without}
 use Rattle.rox_grammar.specs.Entities.{no_entities}

@@ -16,7 +16,8 @@ use Rattle.rox_grammar.specs.Names.{byte, slice}
 use Rattle.rox_grammar.specs.Constructs.{AreChars}
 use Rattle.rox_grammar.specs.References.{number, character, predefined, IsNumber, IsCharacter, decimal, hexadecimal, named}
 use Rattle.rox_grammar.specs.Runs.{first_passes}
-use Rattle.rox_grammar.specs.Content.{is_literal, Inclusion, DataByte, literal, data_bytes_of, literals, line_ends, piece, Part, part_ends, as_written, from_reference, Parts, last_part, then_entity, value_bytes, Value, value_ends, line_end, white, other, a_character, an_entity}
+use Rattle.rox_grammar.specs.Content.{is_literal, Inclusion, DataByte, literal, data_bytes_of, literals, line_ends, piece, Part, part_ends, as_written, from_reference, last_part, then_entity, value_bytes, Value, value_ends, line_end, white, other, a_character, an_entity}
+use Rattle.rox_grammar.specs.RunParts.{Parts}
 use Rattle.rox_theory.specs.CharItems.{ItemsChars}
 use Rattle.rox_theory.proofs.Basics.{chosen}
 use Rattle.rox_theory.proofs.NameLemmas.{slice_nil}

@@ -13,7 +13,8 @@ use Rattle.rox_grammar.specs.Written.{Item, Text, leaf}
 use Rattle.rox_grammar.specs.Names.{byte, slice}
 use Rattle.rox_grammar.specs.Constructs.{has_mark}
 use Rattle.rox_grammar.specs.References.{IsReference, predefined}
-use Rattle.rox_grammar.specs.Content.{Inclusion, DataByte, is_literal, data_byte, line_ends, literals, is_verbatim, piece, Part, part_ends, as_written, from_reference, Parts, last_part, then_entity, IsCharacterData}
+use Rattle.rox_grammar.specs.Content.{Inclusion, DataByte, is_literal, data_byte, line_ends, literals, is_verbatim, piece, Part, part_ends, as_written, from_reference, last_part, then_entity, IsCharacterData}
+use Rattle.rox_grammar.specs.RunParts.{Parts}
 use Rattle.rox_grammar.specs.Entities.{Replacement}
 use Rattle.rox_reading.specs.Lexical.{chars_up_to}
 use Rattle.rox_reading.specs.Refusals.{Refusal}

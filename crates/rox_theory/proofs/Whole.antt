@@ -16,7 +16,6 @@ use Rattle.rox_grammar.specs.Doctype.{Asked}
 use Rattle.rox_grammar.proofs.CountForms.{limits_counted, counts_limited}
 use Rattle.rox_grammar.specs.Document.{Misc, ParseOf, IsWithinLimits, Permits}
 use Rattle.rox_theory.specs.ParseParts.{MayHaveDoctype}
-use Rattle.rox_grammar.specs.Document as document
 use Rattle.rox_grammar.specs.State.{root}
 use Rattle.rox_reading.specs.Refusals.{Refusal, here, there, refused, IsTextRefusal}
 use Rattle.rox_reading.specs.State.{State}

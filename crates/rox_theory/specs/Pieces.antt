@@ -6,7 +6,8 @@ use Rattle.rox_grammar.specs.Forest.{Forest, Nil, Cons, join}
 use Rattle.rox_grammar.specs.Written.{Item, Element, Text, Comment, PI, leaf, merge}
 use Rattle.rox_grammar.specs.Names.{slice}
 use Rattle.rox_grammar.specs.Constructs.{IsCData}
-use Rattle.rox_grammar.specs.Content.{Inclusion, line_ends, literals, is_verbatim, piece, Parts, last_part, then_entity, IsElement, empty, nest, Content, ends, run, cdata, misc, node}
+use Rattle.rox_grammar.specs.Content.{Inclusion, line_ends, literals, is_verbatim, piece, last_part, then_entity, IsElement, empty, nest, Content, ends, run, cdata, misc, node}
+use Rattle.rox_grammar.specs.RunParts.{Parts}
 use Rattle.rox_grammar.specs.Entities.{Replacement, Entity, text_of, Includes, most_deep, included_in_main}
 use Rattle.rox_grammar.specs.Doctype.{Asked}
 use Rattle.rox_grammar.specs.Document.{ParseOf}
