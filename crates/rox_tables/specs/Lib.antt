@@ -17,3 +17,4 @@ pub mod TagDeclarations
 pub mod TagScopes
 pub mod NodeChanges
 pub mod Puts
+pub mod AttributeChanges
