@@ -18,3 +18,4 @@ pub mod TagScopes
 pub mod NodeChanges
 pub mod Puts
 pub mod AttributeChanges
+pub mod TagNames
