@@ -11,9 +11,9 @@ ghost use Rattle.rox_scan.specs.ByteSets.{EndsSet, is_part_byte};
 ghost use Rattle.rox_scan.specs.Windows.{IsSeen};
 ghost use Rattle.rox_scan.specs.ScanResults.{Finds};
 
-use crate::chars;
+use crate::chars::{Class, PartChar};
 use crate::nibbles::classes;
-use crate::runs::{PartChar, run_end};
+use crate::runs::run_end;
 use std::simd::prelude::*;
 
 /// A set of bytes, to find a run of them.
@@ -28,8 +28,20 @@ pub trait ByteSet {
         ensures { result ≡ mask_l (map (λ b. not (test b)) block) };
 }
 
-/// The bytes of an attribute's value that stand for themselves.
+/// The bytes of an attribute's value that stand for themselves and end no value: no control, no quote, no `&` and no `<`, and not 239,
+/// which begins characters that are no Chars.
 pub struct ValueByte;
+
+// A `#` at the place of each byte of an attribute's value that stands for itself: all but controls, quotes, `&`, `<` and 239.
+static VALUE_BYTES: [u8; 256] = *b"\
+    ................................\
+    ##.###..####################.###\
+    ################################\
+    ################################\
+    ################################\
+    ################################\
+    ################################\
+    ###############.################";
 
 // Classes that each byte of the set has one of, and no other.
 const VALUE_LOW: [u8; 16] = [
@@ -43,7 +55,7 @@ impl ByteSet for ValueByte {
 
     #[inline(always)]
     fn has(byte: u8) -> bool {
-        chars::is_value_byte(byte)
+        VALUE_BYTES[byte as usize] == b'#'
     }
 
     #[inline(always)]
@@ -54,8 +66,19 @@ impl ByteSet for ValueByte {
     }
 }
 
-/// The bytes of a comment that stand for themselves.
+/// The bytes of a comment that stand for themselves: no `-`, not 239, and no control but TAB, LF and CR.
 pub struct CommentByte;
+
+// A `#` at the place of each byte of a comment that stands for itself: all but `-`, 239 and the controls except TAB, LF and CR.
+static COMMENT_BYTES: [u8; 256] = *b"\
+    .........##..#..................\
+    #############.##################\
+    ################################\
+    ################################\
+    ################################\
+    ################################\
+    ################################\
+    ###############.################";
 
 // Classes that a byte of the set has none of, and any other has one.
 const COMMENT_LOW: [u8; 16] = [3, 3, 3, 3, 3, 3, 3, 3, 3, 2, 2, 3, 3, 6, 3, 11];
@@ -67,7 +90,7 @@ impl ByteSet for CommentByte {
 
     #[inline(always)]
     fn has(byte: u8) -> bool {
-        chars::is_comment_byte(byte)
+        COMMENT_BYTES[byte as usize] == b'#'
     }
 
     #[inline(always)]
@@ -91,7 +114,7 @@ impl ByteSet for CharByte {
 
     #[inline(always)]
     fn has(byte: u8) -> bool {
-        chars::is_plain_byte(byte)
+        ((byte >= 32) & (byte != 239)) | (byte == 9) | (byte == 10) | (byte == 13)
     }
 
     #[inline(always)]
@@ -115,7 +138,7 @@ impl ByteSet for PartByte {
 
     #[inline(always)]
     fn has(byte: u8) -> bool {
-        byte < 128 && chars::is_part_byte(byte)
+        byte < 128 && PartChar::has_byte(byte)
     }
 
     #[inline(always)]
@@ -139,7 +162,8 @@ impl ByteSet for SpaceByte {
 
     #[inline(always)]
     fn has(byte: u8) -> bool {
-        chars::is_space(byte)
+        // One comparison tells most bytes.
+        byte <= b' ' && matches!(byte, b' ' | b'\t' | b'\n' | b'\r')
     }
 
     #[inline(always)]

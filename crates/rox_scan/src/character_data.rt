@@ -15,7 +15,6 @@ ghost use Rattle.rox_scan.specs.Views.{ReadsRun};
 ghost use Rattle.rox_scan.specs.ScanResults.{HasCharAt};
 
 use crate::byte_set::{ByteSet, skip_set};
-use crate::chars;
 use crate::cursor::Cursor;
 use crate::lookahead::{Lookahead, after_char, is_mark_at};
 use crate::nibbles::classes;
@@ -24,8 +23,20 @@ use crate::search::{before_either, byte_from, has_mark};
 use rox_grammar::fault::Fault;
 use std::simd::prelude::*;
 
-/// The bytes of character data that stand for themselves.
+/// The bytes of character data that stand for themselves: no `&`, `<` or `]`, not 239, and no control but TAB and LF.
 pub struct TextByte;
+
+// A `#` at the place of each byte of character data that stands for itself: all but `&`, `<`, `]`, 239 and the controls except
+// TAB and LF.
+static TEXT_BYTES: [u8; 256] = *b"\
+    .........##.....................\
+    ######.#####################.###\
+    #############################.##\
+    ################################\
+    ################################\
+    ################################\
+    ################################\
+    ###############.################";
 
 // Classes that a byte of the set has none of, and any other has one.
 const TEXT_LOW: [u8; 16] = [3, 3, 3, 3, 3, 3, 7, 3, 3, 2, 2, 3, 11, 19, 3, 35];
@@ -37,7 +48,7 @@ impl ByteSet for TextByte {
 
     #[inline(always)]
     fn has(byte: u8) -> bool {
-        chars::is_text_byte(byte)
+        TEXT_BYTES[byte as usize] == b'#'
     }
 
     #[inline(always)]

@@ -4,10 +4,10 @@ ghost use Rattle.std.specs.Prelude.{◌≡◌, ◌==◌, ◌||◌, IfOk, ◌+◌
 ghost use Rattle.std.specs.Str.{IsCharBoundary, IsUtf8};
 ghost use Rattle.std.proofs.Props.{props};
 
-use crate::byte_set::part_end;
-use crate::chars::is_space;
+use crate::byte_set::{ByteSet, SpaceByte, part_end};
+use crate::chars::{NameChar, NameStart};
 use crate::lookahead::chars_end;
-use crate::runs::{NameChar, NameStart, after_byte, begins, char_at, is_at, run_end, space_end};
+use crate::runs::{after_byte, begins, char_at, is_at, run_end, space_end};
 use rox_grammar::fault::{Due, Expected, Fault, Word};
 use rox_grammar::name::QName;
 
@@ -100,7 +100,7 @@ impl<'input> Cursor<'input> {
             return Err(Fault::UnexpectedEndOfStream);
         }
         let here = self.text.as_bytes()[self.pos];
-        if !is_space(here) {
+        if !SpaceByte::has(here) {
             return Err(Fault::InvalidChar2(Due::Space, here, self.pos));
         }
         self.spaces();

@@ -15,9 +15,10 @@ ghost use Rattle.rox_scan.specs.Lookahead.{IsAfterChar, LooksAhead, LooksAtValue
 ghost use Rattle.rox_scan.specs.ScanResults.{Finds, HasCharAt};
 
 use crate::byte_set::{ByteSet, CharByte, CommentByte, ValueByte, skip_set};
+use crate::chars::{Class, XmlChar};
 use crate::cursor::Quote;
 use crate::nibbles::classes;
-use crate::runs::{Class, XmlChar, char_at};
+use crate::runs::char_at;
 use std::simd::prelude::*;
 
 /// What a longer look tells: up to `end` all is in order, and whether it stands for itself.

@@ -6,7 +6,7 @@ ghost use Rattle.std.specs.String.{string_bytes};
 ghost use Rattle.std.specs.Str.{IsCharBoundary};
 ghost use Rattle.rox_reading.specs.Values as spec;
 ghost use Rattle.rox_scan.specs.ScanResults.{Finds};
-ghost use Rattle.rox_values.specs.Values.{AppendsFrom, AppendsBitFrom, AppendsPartFrom, BeginsData, StopsAt};
+ghost use Rattle.rox_values.specs.Values.{AppendsFrom, AppendsBitFrom, AppendsPartFrom, BeginsData, BeginsMainData, StopsAt};
 
 use crate::context::Context;
 use crate::line_ends::line_end;
@@ -56,8 +56,7 @@ fn change_from(text: &str, at: usize) -> usize
 #[tactic(auto, unfolding(rox_reading::specs::Values::data_bit_at))]
 #[inline(always)]
 fn main_data(cursor: &mut Cursor<'_>, stop: usize, out: &mut String) -> Result<(), Failure>
-    requires begins { BeginsData cursor.old.text.now cursor.old.pos stop }
-    requires no_line_end { slice_index cursor.old.text.now cursor.old.pos ≢ 13 }
+    requires { BeginsMainData cursor.old.text.now cursor.old.pos stop }
     ensures { AppendsFrom (string_bytes out.old) (string_bytes out.new) cursor.old cursor.new result
         (λ es src at. spec.data_bit_at true es src stop at) }
 {
