@@ -9,9 +9,10 @@ ghost use Rattle.rox_grammar.specs.Runs.{run_end};
 ghost use Rattle.rox_scan.specs.ByteSets as near;
 ghost use Rattle.rox_scan.specs.ByteSets.{EndsSet, is_part_byte};
 ghost use Rattle.rox_scan.specs.Windows.{IsSeen};
-ghost use Rattle.rox_scan.specs.ScanResults.{Finds};
+ghost use Rattle.rox_scan.specs.ScanResults.{EndsNear, Finds, TellsAscii};
 
 use crate::chars::{Class, PartChar};
+use crate::cursor::Cursor;
 use crate::nibbles::classes;
 use crate::runs::run_end;
 use std::simd::prelude::*;
@@ -225,8 +226,7 @@ pub fn skip_set<C: ByteSet>(text: &str, at: usize) -> usize
 /// Whether an ASCII byte stands at `at`, or nothing.
 #[inline(always)]
 fn is_ascii_at(text: &str, at: usize) -> bool
-    ensures ascii { result ≡ true → at < length text.now → slice_index text.now at < 128 }
-    ensures wide { result ≡ false → (at < length text.now) × (128 ≤ slice_index text.now at) }
+    ensures { TellsAscii text.now at result }
 {
     let bytes = text.as_bytes();
     at >= bytes.len() || bytes[at] < 128
@@ -245,8 +245,7 @@ pub fn part_end(text: &str, at: usize) -> usize
 /// The same where its first ASCII bytes end at `near`.
 #[inline(always)]
 pub fn near_part_end(text: &str, at: usize, near: usize) -> usize
-    requires cut { IsCharBoundary text.now at }
-    requires near { EndsSet is_part_byte text.now at near }
+    requires { EndsNear text.now at near }
     ensures { Finds text.now at result (run_end spec.is_part_char text.now at) }
 {
     if is_ascii_at(text, near) {
@@ -255,11 +254,11 @@ pub fn near_part_end(text: &str, at: usize, near: usize) -> usize
     run_end::<PartChar>(text, at)
 }
 
-/// Where the white space that begins at `at` ends.
+/// Where the white space ends that begins here.
 #[inline(always)]
-pub fn far_space_end(text: &str, at: usize) -> usize
-    requires { IsCharBoundary text.now at }
-    ensures { Finds text.now at result (run_end spec.is_space text.now at) }
+pub fn far_space_end(from: Cursor<'_>) -> usize
+    ensures { Finds from.entry.text.now from.entry.pos result
+        (run_end spec.is_space from.entry.text.now from.entry.pos) }
 {
-    skip_set::<SpaceByte>(text, at)
+    skip_set::<SpaceByte>(from.text, from.pos)
 }

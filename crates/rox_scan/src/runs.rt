@@ -3,10 +3,11 @@ ghost use Rattle.std.specs.Prelude.{◌≡◌, ◌==◌, ◌+◌, ◌<◌, ◌�
 ghost use Rattle.std.specs.Str.{IsCharBoundary, chars};
 ghost use Rattle.rox_grammar.specs.Chars as spec;
 ghost use Rattle.rox_grammar.specs.Runs.{run_end, begins};
-ghost use Rattle.rox_scan.specs.ScanResults.{Finds, HasCharAt, IsCharAt};
+ghost use Rattle.rox_scan.specs.ScanResults.{Finds, HasByteAt, HasCharAt, IsCharAt};
 
 use crate::byte_set::{ByteSet, SpaceByte};
 use crate::chars::Class;
+use crate::cursor::Cursor;
 
 /// The character that begins at `at`.
 #[inline]
@@ -47,15 +48,16 @@ pub fn run_end<C: Class>(text: &str, at: usize) -> usize
     i
 }
 
-/// Where the white space that begins at `at` ends.
+/// Where the white space ends that begins here.
 #[inline(always)]
 #[tactic(auto, using(crate::proofs::RunLemmas::space_steps))]
-pub fn space_end(text: &str, at: usize) -> usize
-    requires { IsCharBoundary text.now at }
-    ensures { Finds text.now at result (run_end spec.is_space text.now at) }
+pub fn space_end(from: Cursor<'_>) -> usize
+    ensures { Finds from.entry.text.now from.entry.pos result
+        (run_end spec.is_space from.entry.text.now from.entry.pos) }
 {
+    let text = from.text;
     let bytes = text.as_bytes();
-    let mut end = at;
+    let mut end = from.pos;
     while end < bytes.len() && SpaceByte::has(bytes[end]) {
         end += 1;
     }
@@ -91,9 +93,7 @@ pub fn is_at(text: &str, at: usize, byte: u8) -> bool
 /// The place after a byte that stands at `at`.
 #[inline(always)]
 pub fn after_byte(text: &str, at: usize, byte: u8) -> usize
-    requires some { 0 < byte }
-    requires ascii { byte < 128 }
-    requires here { slice_index text.now at ≡ byte }
+    requires { HasByteAt text.now at byte }
     ensures { Finds text.now at result (at + 1) }
 {
     at + 1
