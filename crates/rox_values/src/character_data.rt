@@ -43,13 +43,13 @@ fn expand<'input>(
     }
 }
 
-/// The first place from `at` on of a `&` or a CR, or the end.
+/// The first place from here on of a `&` or a CR, or the end.
 #[inline(always)]
-fn change_from(text: &str, at: usize) -> usize
-    requires { IsCharBoundary text.now at }
-    ensures { Finds text.now at result (byte_from (λ c. c == 38 || c == 13) text.now at) }
+fn change_from(from: Cursor<'_>) -> usize
+    ensures { Finds from.entry.text.now from.entry.pos result
+        (byte_from (λ c. c == 38 || c == 13) from.entry.text.now from.entry.pos) }
 {
-    skip_set::<RunByte>(text, at)
+    skip_set::<RunByte>(from.text, from.pos)
 }
 
 /// Appends all of a run up to the next `&` or CR.
@@ -62,7 +62,10 @@ fn main_data(cursor: &mut Cursor<'_>, stop: usize, out: &mut String) -> Result<(
 {
     let start = cursor.pos;
     let text = cursor.text;
-    let end = change_from(&text[..stop], start);
+    let end = change_from(Cursor {
+        text: &text[..stop],
+        pos: start,
+    });
     out.push_str(&text[start..end])?;
     cursor.pos = end;
     Ok(())

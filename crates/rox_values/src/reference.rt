@@ -138,13 +138,14 @@ fn predefined(name: &str) -> Option<char>
     }
 }
 
-/// Where the name that begins at `at` ends. Its first ASCII bytes but colons, most often all, are passed over by vectors.
+/// Where the name ends that begins here. Its first ASCII bytes but colons, most often all, are passed over by vectors.
 #[inline(always)]
-fn name_end(text: &str, at: usize) -> usize
-    requires { IsCharBoundary text.now at }
-    ensures { Finds text.now at result (grammar.run_end is_name_char text.now at) }
+fn name_end(from: Cursor<'_>) -> usize
+    ensures { Finds from.entry.text.now from.entry.pos result
+        (grammar.run_end is_name_char from.entry.text.now from.entry.pos) }
 {
-    run_end::<NameChar>(text, skip_set::<PartByte>(text, at))
+    let text = from.text;
+    run_end::<NameChar>(text, skip_set::<PartByte>(text, from.pos))
 }
 
 /// The name and the `;` of a reference that stands here, with its `&`.
@@ -160,7 +161,7 @@ fn name_reference<'input>(cursor: &mut Cursor<'input>) -> Result<Reference<'inpu
     if !begins::<NameStart>(text, start) {
         return Err(Fault::MalformedEntityReference(reference));
     }
-    let end = name_end(text, start);
+    let end = name_end(Cursor { text, pos: start });
     if !is_at(text, end, b';') {
         return Err(Fault::MalformedEntityReference(reference));
     }
