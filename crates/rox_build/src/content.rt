@@ -50,7 +50,7 @@ fn slow_character_data<'input>(
     let start = cursor.pos;
     let text = cursor.text;
     if context.main {
-        if let Some(end) = line_run_end(text, start) {
+        if let Some(end) = line_run_end(*cursor) {
             cursor.pos = end;
             builder.owned_piece(alloc, start, end, &text[start + 1..end])?;
             return Ok(());
@@ -99,7 +99,7 @@ fn character_data<'input>(
 {
     let start = cursor.pos;
     let text = cursor.text;
-    let near = plain_run_end(text, start);
+    let near = plain_run_end(*cursor);
     if ends_character_data(text, near) {
         cursor.pos = near;
         builder.slice_piece(start, near, &text[start..near])?;
@@ -242,7 +242,7 @@ fn joins<'input>(
     if source.as_bytes()[start] == b'<' {
         return Ok(false);
     }
-    if !is_plain_to_end(source, start) {
+    if !is_plain_to_end(text) {
         return Ok(false);
     }
     if builder.is_joining() {

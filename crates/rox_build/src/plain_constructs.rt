@@ -94,7 +94,7 @@ fn plain_line<'input>(
     if text.len() > MOST_BYTES || builder.is_text_open() || builder.rows_left() == 0 {
         return false;
     }
-    let Some(stop) = line_run_end(text, start) else {
+    let Some(stop) = line_run_end(*cursor) else {
         return false;
     };
     if !builder.put_owned(alloc, start, stop, &text[start + 1..stop]) {

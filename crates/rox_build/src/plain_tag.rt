@@ -29,9 +29,10 @@ use crate::spaced_value::{spaced_value, spaced_value_ends};
 use crate::tag::{MOST_ATTRIBUTES, StartTag, byte_count};
 use rox_grammar::name::QName;
 use rox_scan::byte_set::{PartByte, ValueByte, far_space_end, part_end, skip_set};
-use rox_scan::cursor::Quote;
+use rox_scan::chars::NameStart;
+use rox_scan::cursor::{Cursor, Quote};
 use rox_scan::lookahead::{changes, scan_value};
-use rox_scan::runs::{NameStart, after_byte, begins, is_at, space_end};
+use rox_scan::runs::{after_byte, begins, is_at, space_end};
 use rox_scan::window::{WIDTH, Window};
 use rox_tables::compare::same_text;
 use rox_tables::namespaces::bindings::PrefixBindings;
@@ -108,7 +109,7 @@ fn verbatim_value_end(text: &str, start: usize, quote: u8) -> usize
     ensures { 0 < result → HasPlainValue text.now start quote result
         (slice_range text.now start result) }
 {
-    let look = scan_value(text, start, Quote { byte: quote });
+    let look = scan_value(Cursor { text, pos: start }, Quote { byte: quote });
     if look.is_verbatim && is_at(text, look.end, quote) {
         look.end
     } else {
@@ -173,11 +174,14 @@ fn value_start(text: &str, at: usize) -> usize
     requires { IsCharBoundary text.now at }
     ensures { 0 < result → IsValueStart text.now at result }
 {
-    let equals = space_end(text, at);
+    let equals = space_end(Cursor { text, pos: at });
     if !is_at(text, equals, b'=') {
         return 0;
     }
-    let before = space_end(text, after_byte(text, equals, b'='));
+    let before = space_end(Cursor {
+        text,
+        pos: after_byte(text, equals, b'='),
+    });
     let quote = quote_here(text, before);
     if quote == 0 {
         return 0;
@@ -730,7 +734,7 @@ fn near_space_end(text: &str, at: usize) -> usize
     if bytes[at] > b' ' {
         return at;
     }
-    far_space_end(text, at)
+    far_space_end(Cursor { text, pos: at })
 }
 
 /// What stands behind white space: where, and whether it may be an attribute.

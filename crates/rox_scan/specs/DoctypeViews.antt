@@ -1,6 +1,6 @@
 -- The parts of a document type declaration, without where they lie in memory, and how a resolver's answer begins.
 use Prim.Native.Char.{code}
-use Rattle.std.specs.Prelude.{◌≡◌, ℕ, ◌+◌, ◌==◌, ◌||◌, Bool, List, Option, Some, Result, Ok, Err, IfOk, length, take, slice_index, slice_range, nat_lt, nat_le, if◌then◌else◌}
+use Rattle.std.specs.Prelude.{◌≡◌, ℕ, ◌+◌, ◌==◌, ◌||◌, Bool, List, Option, Some, Result, Ok, Err, IfOk, length, take, slice_index, slice_range, nat_lt, nat_le, if◌then◌else◌, IsUtf8}
 use Rattle.rox_grammar.specs.declared.fault.Fault.{Fault}
 use Rattle.rox_grammar.specs.declared.fault.Fault.TheVariants as fault
 use Rattle.rox_grammar.specs.declared.fault.Due.TheVariants as due
@@ -80,3 +80,8 @@ xml_decl_if src i = if at word.XmlDeclStart src i then xml_decl_at src i else Ok
 abbrev pub IsReplacement : (answer : List ℕ) → Result Cursor Fault → Result (Option Replacement) Refusal → Type 0
 IsReplacement answer (Ok text) read = read ≡ Ok (Some (replacement_view text))
 IsReplacement answer (Err f) read = read ≡ Err (there answer f)
+
+-- the replacement text of a resolver's answer, which is text
+pub record IsReplacementOf (answer : List ℕ) (result : Result Cursor Fault) : Type 0 where
+  pub value : IsReplacement answer result (reading.answer_text (Some answer))
+  pub text : IsUtf8 answer

@@ -1,13 +1,15 @@
 -- How the result of a step stands to what is read.
-use Rattle.std.specs.Prelude.{◌≡◌, ◌+◌, ◌≤◌, ◌<◌, ℕ, Bool, true, List, length, take, drop, slice_index, Result, Ok, Err}
+use Rattle.std.specs.Prelude.{◌≡◌, ◌==◌, ◌+◌, ◌≤◌, ◌<◌, ℕ, Bool, true, false, List, length, take, drop, slice_index, slice_range, Result, Ok, Err, IfOk}
 use Rattle.std.specs.Borrow.{Bor}
 use Rattle.std.specs.List.{position_or_len}
 use Rattle.std.specs.Char.{len_utf8}
 use Rattle.std.specs.Str.{IsCharBoundary, chars}
 use Rattle.rox_grammar.specs.Runs.{StandsAt}
+use Rattle.rox_grammar.specs.Search.{byte_from}
+use Rattle.rox_scan.specs.ByteSets.{EndsSet, is_part_byte}
 use Rattle.rox_grammar.specs.declared.fault.Fault.{Fault}
 use Rattle.rox_grammar.specs.Failures.{Fails}
-use Rattle.rox_reading.specs.Lexical.{Read}
+use Rattle.rox_reading.specs.Lexical.{Read, chars_up_to}
 use Rattle.rox_scan.specs.declared.cursor.Cursor.{Cursor}
 use Rattle.rox_grammar.specs.declared.failure.Failure.{Failure}
 
@@ -76,3 +78,55 @@ pub record FindsByte (test : ℕ → Bool) (bytes : List ℕ) (count : ℕ) : Ty
   pub value : count ≡ position_or_len test bytes
   pub within : count ≤ length bytes
   pub found : count < length bytes → test (slice_index bytes count) ≡ true
+
+-- up to this place bytes of a part of a name stand
+pub record EndsNear (text : List ℕ) (at end : ℕ) : Type 0 where
+  pub cut : IsCharBoundary text at
+  pub near : EndsSet is_part_byte text at end
+
+-- it is told whether an ASCII byte stands at this place, or nothing
+pub record TellsAscii (text : List ℕ) (at : ℕ) (result : Bool) : Type 0 where
+  pub ascii : result ≡ true → at < length text → slice_index text at < 128
+  pub wide : result ≡ false → (at < length text) × (128 ≤ slice_index text at)
+
+-- a character that begins with 239 begins at this place
+pub record HasWideAt (text : List ℕ) (at : ℕ) : Type 0 where
+  pub char : HasCharAt text at
+  pub here : slice_index text at ≡ 239
+
+-- a place between two characters that is not before this one
+pub record IsBoundaryFrom (text : List ℕ) (at end : ℕ) : Type 0 where
+  pub onward : at ≤ end
+  pub cut : IsCharBoundary text end
+
+-- the text up to a place is read, where all its characters are Chars
+pub record ReadsChars (end : ℕ) (old new : Cursor) (result : Result (Bor (List ℕ)) Fault) : Type 0 where
+  pub read : Steps (λ x. x.now) old new result (chars_up_to end)
+  pub text : IfOk result (λ x. (x.now ≡ slice_range old.text.now old.pos end) × (new.pos ≡ end))
+
+-- a place where a mark may stand, which is some bytes
+pub record MayHaveMark (text : List ℕ) (at : ℕ) (mark : List ℕ) : Type 0 where
+  pub within : at < length text
+  pub some : 0 < length mark
+
+-- an ASCII byte that is not 0 stands at this place
+pub record HasByteAt (text : List ℕ) (at byte : ℕ) : Type 0 where
+  pub some : 0 < byte
+  pub ascii : byte < 128
+  pub here : slice_index text at ≡ byte
+
+-- a place from which on an ASCII byte can be looked for
+pub record MaySeek (text : List ℕ) (at byte : ℕ) : Type 0 where
+  pub cut : IsCharBoundary text at
+  pub ascii : byte < 128
+
+-- the same of either of two
+pub record MaySeekEither (text : List ℕ) (at byte other_byte : ℕ) : Type 0 where
+  pub cut : IsCharBoundary text at
+  pub one : byte < 128
+  pub other : other_byte < 128
+
+-- the first place of an ASCII byte is found: behind it a character begins, or the text ends
+pub record FindsAscii (text : List ℕ) (at byte found : ℕ) : Type 0 where
+  pub finds : Finds text at found (byte_from (λ c. c == byte) text at)
+  pub after : found < length text → IsCharBoundary text (found + 1)

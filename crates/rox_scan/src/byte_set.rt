@@ -9,11 +9,12 @@ ghost use Rattle.rox_grammar.specs.Runs.{run_end};
 ghost use Rattle.rox_scan.specs.ByteSets as near;
 ghost use Rattle.rox_scan.specs.ByteSets.{EndsSet, is_part_byte};
 ghost use Rattle.rox_scan.specs.Windows.{IsSeen};
-ghost use Rattle.rox_scan.specs.ScanResults.{Finds};
+ghost use Rattle.rox_scan.specs.ScanResults.{EndsNear, Finds, TellsAscii};
 
-use crate::chars;
+use crate::chars::{Class, PartChar};
+use crate::cursor::Cursor;
 use crate::nibbles::classes;
-use crate::runs::{PartChar, run_end};
+use crate::runs::run_end;
 use std::simd::prelude::*;
 
 /// A set of bytes, to find a run of them.
@@ -28,8 +29,20 @@ pub trait ByteSet {
         ensures { result ≡ mask_l (map (λ b. not (test b)) block) };
 }
 
-/// The bytes of an attribute's value that stand for themselves.
+/// The bytes of an attribute's value that stand for themselves and end no value: no control, no quote, no `&` and no `<`, and not 239,
+/// which begins characters that are no Chars.
 pub struct ValueByte;
+
+// A `#` at the place of each byte of an attribute's value that stands for itself: all but controls, quotes, `&`, `<` and 239.
+static VALUE_BYTES: [u8; 256] = *b"\
+    ................................\
+    ##.###..####################.###\
+    ################################\
+    ################################\
+    ################################\
+    ################################\
+    ################################\
+    ###############.################";
 
 // Classes that each byte of the set has one of, and no other.
 const VALUE_LOW: [u8; 16] = [
@@ -43,7 +56,7 @@ impl ByteSet for ValueByte {
 
     #[inline(always)]
     fn has(byte: u8) -> bool {
-        chars::is_value_byte(byte)
+        VALUE_BYTES[byte as usize] == b'#'
     }
 
     #[inline(always)]
@@ -54,8 +67,19 @@ impl ByteSet for ValueByte {
     }
 }
 
-/// The bytes of a comment that stand for themselves.
+/// The bytes of a comment that stand for themselves: no `-`, not 239, and no control but TAB, LF and CR.
 pub struct CommentByte;
+
+// A `#` at the place of each byte of a comment that stands for itself: all but `-`, 239 and the controls except TAB, LF and CR.
+static COMMENT_BYTES: [u8; 256] = *b"\
+    .........##..#..................\
+    #############.##################\
+    ################################\
+    ################################\
+    ################################\
+    ################################\
+    ################################\
+    ###############.################";
 
 // Classes that a byte of the set has none of, and any other has one.
 const COMMENT_LOW: [u8; 16] = [3, 3, 3, 3, 3, 3, 3, 3, 3, 2, 2, 3, 3, 6, 3, 11];
@@ -67,7 +91,7 @@ impl ByteSet for CommentByte {
 
     #[inline(always)]
     fn has(byte: u8) -> bool {
-        chars::is_comment_byte(byte)
+        COMMENT_BYTES[byte as usize] == b'#'
     }
 
     #[inline(always)]
@@ -91,7 +115,7 @@ impl ByteSet for CharByte {
 
     #[inline(always)]
     fn has(byte: u8) -> bool {
-        chars::is_plain_byte(byte)
+        ((byte >= 32) & (byte != 239)) | (byte == 9) | (byte == 10) | (byte == 13)
     }
 
     #[inline(always)]
@@ -115,7 +139,7 @@ impl ByteSet for PartByte {
 
     #[inline(always)]
     fn has(byte: u8) -> bool {
-        byte < 128 && chars::is_part_byte(byte)
+        byte < 128 && PartChar::has_byte(byte)
     }
 
     #[inline(always)]
@@ -139,7 +163,8 @@ impl ByteSet for SpaceByte {
 
     #[inline(always)]
     fn has(byte: u8) -> bool {
-        chars::is_space(byte)
+        // One comparison tells most bytes.
+        byte <= b' ' && matches!(byte, b' ' | b'\t' | b'\n' | b'\r')
     }
 
     #[inline(always)]
@@ -201,8 +226,7 @@ pub fn skip_set<C: ByteSet>(text: &str, at: usize) -> usize
 /// Whether an ASCII byte stands at `at`, or nothing.
 #[inline(always)]
 fn is_ascii_at(text: &str, at: usize) -> bool
-    ensures ascii { result ≡ true → at < length text.now → slice_index text.now at < 128 }
-    ensures wide { result ≡ false → (at < length text.now) × (128 ≤ slice_index text.now at) }
+    ensures { TellsAscii text.now at result }
 {
     let bytes = text.as_bytes();
     at >= bytes.len() || bytes[at] < 128
@@ -221,8 +245,7 @@ pub fn part_end(text: &str, at: usize) -> usize
 /// The same where its first ASCII bytes end at `near`.
 #[inline(always)]
 pub fn near_part_end(text: &str, at: usize, near: usize) -> usize
-    requires cut { IsCharBoundary text.now at }
-    requires near { EndsSet is_part_byte text.now at near }
+    requires { EndsNear text.now at near }
     ensures { Finds text.now at result (run_end spec.is_part_char text.now at) }
 {
     if is_ascii_at(text, near) {
@@ -231,11 +254,11 @@ pub fn near_part_end(text: &str, at: usize, near: usize) -> usize
     run_end::<PartChar>(text, at)
 }
 
-/// Where the white space that begins at `at` ends.
+/// Where the white space ends that begins here.
 #[inline(always)]
-pub fn far_space_end(text: &str, at: usize) -> usize
-    requires { IsCharBoundary text.now at }
-    ensures { Finds text.now at result (run_end spec.is_space text.now at) }
+pub fn far_space_end(from: Cursor<'_>) -> usize
+    ensures { Finds from.entry.text.now from.entry.pos result
+        (run_end spec.is_space from.entry.text.now from.entry.pos) }
 {
-    skip_set::<SpaceByte>(text, at)
+    skip_set::<SpaceByte>(from.text, from.pos)
 }

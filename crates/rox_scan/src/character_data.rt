@@ -12,10 +12,9 @@ ghost use Rattle.rox_scan.specs.ByteSets as near;
 ghost use Rattle.rox_scan.specs.Lookahead as longer;
 ghost use Rattle.rox_scan.specs.Lookahead.{IsLineRun, IsLookahead, IsStep, LooksAhead};
 ghost use Rattle.rox_scan.specs.Views.{ReadsRun};
-ghost use Rattle.rox_scan.specs.ScanResults.{HasCharAt};
+ghost use Rattle.rox_scan.specs.ScanResults.{HasWideAt};
 
 use crate::byte_set::{ByteSet, skip_set};
-use crate::chars;
 use crate::cursor::Cursor;
 use crate::lookahead::{Lookahead, after_char, is_mark_at};
 use crate::nibbles::classes;
@@ -24,8 +23,20 @@ use crate::search::{before_either, byte_from, has_mark};
 use rox_grammar::fault::Fault;
 use std::simd::prelude::*;
 
-/// The bytes of character data that stand for themselves.
+/// The bytes of character data that stand for themselves: no `&`, `<` or `]`, not 239, and no control but TAB and LF.
 pub struct TextByte;
+
+// A `#` at the place of each byte of character data that stands for itself: all but `&`, `<`, `]`, 239 and the controls except
+// TAB and LF.
+static TEXT_BYTES: [u8; 256] = *b"\
+    .........##.....................\
+    ######.#####################.###\
+    #############################.##\
+    ################################\
+    ################################\
+    ################################\
+    ################################\
+    ###############.################";
 
 // Classes that a byte of the set has none of, and any other has one.
 const TEXT_LOW: [u8; 16] = [3, 3, 3, 3, 3, 3, 7, 3, 3, 2, 2, 3, 11, 19, 3, 35];
@@ -37,7 +48,7 @@ impl ByteSet for TextByte {
 
     #[inline(always)]
     fn has(byte: u8) -> bool {
-        chars::is_text_byte(byte)
+        TEXT_BYTES[byte as usize] == b'#'
     }
 
     #[inline(always)]
@@ -66,14 +77,14 @@ fn changes_run(byte: u8) -> bool
 }
 
 /// A run of character data as far as it is in order, up to a `<`, a `]]>` or the end.
-pub fn scan_character_data(text: &str, at: usize) -> Lookahead
-    requires { IsCharBoundary text.now at }
-    ensures { LooksAhead (longer.ends_run text.now) longer.changes_run text.now at result.end
-        result.is_verbatim }
+pub fn scan_character_data(from: Cursor<'_>) -> Lookahead
+    ensures { LooksAhead (longer.ends_run from.entry.text.now) longer.changes_run
+        from.entry.text.now from.entry.pos result.end result.is_verbatim }
 {
+    let text = from.text;
     let bytes = text.as_bytes();
     let mut is_verbatim = true;
-    let mut end = skip_set::<TextByte>(text, at);
+    let mut end = skip_set::<TextByte>(text, from.pos);
     while end < bytes.len() {
         let here = bytes[end];
         if here == b'<' || is_mark_at(text, end, b"]]>") {
@@ -102,8 +113,7 @@ fn begins_no_char(text: &str, at: usize) -> bool
 /// The place behind the Char that begins with 239 at `at`, or `at` where U+FFFE or U+FFFF begins.
 #[inline(always)]
 fn after_wide(text: &str, at: usize) -> usize
-    requires char { HasCharAt text.now at }
-    requires here { slice_index text.now at ≡ 239 }
+    requires { HasWideAt text.now at }
     ensures { IsStep text.now at result }
 {
     if begins_no_char(text, at) {
@@ -112,27 +122,29 @@ fn after_wide(text: &str, at: usize) -> usize
     at + 3
 }
 
-/// Where character data from `at` on ends that stands for itself, or goes on with another byte.
+/// Where character data from here on ends that stands for itself, or goes on with another byte.
 #[inline(always)]
-pub fn plain_run_end(text: &str, at: usize) -> usize
-    requires { IsCharBoundary text.now at }
-    ensures { IsLookahead (longer.ends_run text.now) longer.changes_run text.now at result true }
+pub fn plain_run_end(from: Cursor<'_>) -> usize
+    ensures { IsLookahead (longer.ends_run from.entry.text.now) longer.changes_run
+        from.entry.text.now from.entry.pos result true }
 {
-    let near = skip_set::<TextByte>(text, at);
+    let text = from.text;
+    let near = skip_set::<TextByte>(text, from.pos);
     if is_at(text, near, 239) {
-        return wide_run_end(text, near);
+        return wide_run_end(Cursor { text, pos: near });
     }
     near
 }
 
 /// The same where a character may begin with 239, as full-width forms do: all but U+FFFE and U+FFFF are Chars.
 #[inline(never)]
-fn wide_run_end(text: &str, at: usize) -> usize
-    requires { IsCharBoundary text.now at }
-    ensures { IsLookahead (longer.ends_run text.now) longer.changes_run text.now at result true }
+fn wide_run_end(from: Cursor<'_>) -> usize
+    ensures { IsLookahead (longer.ends_run from.entry.text.now) longer.changes_run
+        from.entry.text.now from.entry.pos result true }
 {
+    let text = from.text;
     let bytes = text.as_bytes();
-    let mut end = at;
+    let mut end = from.pos;
     while end < bytes.len() {
         let here = bytes[end];
         if here != 239 {
@@ -149,10 +161,11 @@ fn wide_run_end(text: &str, at: usize) -> usize
 
 /// Where a run ends that is a line end, a CR and a LF, and behind it bytes that stand for themselves. None where it is another.
 #[inline(always)]
-pub fn line_run_end(text: &str, start: usize) -> Option<usize>
-    requires { IsCharBoundary text.now start }
-    ensures { IfSome result (λ end. IsLineRun text.now start end) }
+pub fn line_run_end(from: Cursor<'_>) -> Option<usize>
+    ensures { IfSome result (IsLineRun from.entry.text.now from.entry.pos) }
 {
+    let text = from.text;
+    let start = from.pos;
     if !is_at(text, start, b'\r') {
         return None;
     }
@@ -191,7 +204,7 @@ pub fn raw_character_data<'input>(
 {
     let start = cursor.pos;
     let text = cursor.text;
-    let look = scan_character_data(text, start);
+    let look = scan_character_data(*cursor);
     if ends_character_data(text, look.end) {
         cursor.pos = look.end;
         return Ok(RawCharacterData {

@@ -4,10 +4,10 @@ ghost use Rattle.std.specs.Prelude.{◌≡◌, ◌==◌, ◌||◌, IfOk, ◌+◌
 ghost use Rattle.std.specs.Str.{IsCharBoundary, IsUtf8};
 ghost use Rattle.std.proofs.Props.{props};
 
-use crate::byte_set::part_end;
-use crate::chars::is_space;
+use crate::byte_set::{ByteSet, SpaceByte, part_end};
+use crate::chars::{NameChar, NameStart};
 use crate::lookahead::chars_end;
-use crate::runs::{NameChar, NameStart, after_byte, begins, char_at, is_at, run_end, space_end};
+use crate::runs::{after_byte, begins, char_at, is_at, run_end, space_end};
 use rox_grammar::fault::{Due, Expected, Fault, Word};
 use rox_grammar::name::QName;
 
@@ -29,7 +29,7 @@ pub struct Quote {
 
 impl<'input> Cursor<'input> {
     ghost use Rattle.rox_grammar.specs.Failures.{name_view};
-    ghost use Rattle.rox_scan.specs.ScanResults.{AreBoundaries, HasAsciiAt, IsAt, MovesTo, StandsWithin, Steps};
+    ghost use Rattle.rox_scan.specs.ScanResults.{AreBoundaries, HasAsciiAt, IsAt, IsBoundaryFrom, MovesTo, ReadsChars, StandsWithin, Steps};
     ghost use Rattle.rox_grammar.specs.Search.{stands};
     ghost use Rattle.rox_grammar.specs.FixedTexts.{word_text};
     ghost use Rattle.rox_grammar.specs.Names.{spaces_end};
@@ -87,7 +87,7 @@ impl<'input> Cursor<'input> {
     pub fn spaces(&mut self)
         ensures { MovesTo (spaces_end self.old.text.now self.old.pos) self.old self.new }
     {
-        self.pos = space_end(self.text, self.pos);
+        self.pos = space_end(*self);
     }
 
     /// One or more white space. Any other byte is a fault, and so is the end.
@@ -100,7 +100,7 @@ impl<'input> Cursor<'input> {
             return Err(Fault::UnexpectedEndOfStream);
         }
         let here = self.text.as_bytes()[self.pos];
-        if !is_space(here) {
+        if !SpaceByte::has(here) {
             return Err(Fault::InvalidChar2(Due::Space, here, self.pos));
         }
         self.spaces();
@@ -227,14 +227,14 @@ impl<'input> Cursor<'input> {
     #[inline]
     #[tactic(auto, unfolding(rox_reading::specs::Lexical::chars_up_to))]
     pub fn chars_up_to(&mut self, end: usize) -> Result<&'input str, Fault>
-        requires onward { self.old.pos ≤ end }
-        requires cut { IsCharBoundary self.old.text.now end }
-        ensures read { Steps (λ x. x.now) self.old self.new result (spec.chars_up_to end) }
-        ensures text { IfOk result (λ x.
-            (x.now ≡ slice_range self.old.text.now self.old.pos end) × (self.new.pos ≡ end)) }
+        requires { IsBoundaryFrom self.old.text.now self.old.pos end }
+        ensures { ReadsChars end self.old self.new result }
     {
         let start = self.pos;
-        let ill = chars_end(&self.text[..end], start);
+        let ill = chars_end(Cursor {
+            text: &self.text[..end],
+            pos: start,
+        });
         if ill < end {
             return Err(Fault::NonXmlChar(char_at(self.text, ill), ill));
         }

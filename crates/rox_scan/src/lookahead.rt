@@ -12,12 +12,13 @@ ghost use Rattle.rox_reading.specs.Values as reading;
 ghost use Rattle.rox_scan.specs.ByteSets as near;
 ghost use Rattle.rox_scan.specs.Lookahead as longer;
 ghost use Rattle.rox_scan.specs.Lookahead.{IsAfterChar, LooksAhead, LooksAtValue};
-ghost use Rattle.rox_scan.specs.ScanResults.{Finds, HasCharAt};
+ghost use Rattle.rox_scan.specs.ScanResults.{Finds, HasCharAt, MayHaveMark};
 
 use crate::byte_set::{ByteSet, CharByte, CommentByte, ValueByte, skip_set};
-use crate::cursor::Quote;
+use crate::chars::{Class, XmlChar};
+use crate::cursor::{Cursor, Quote};
 use crate::nibbles::classes;
-use crate::runs::{Class, XmlChar, char_at};
+use crate::runs::char_at;
 use std::simd::prelude::*;
 
 /// What a longer look tells: up to `end` all is in order, and whether it stands for itself.
@@ -47,12 +48,13 @@ pub fn after_char(text: &str, at: usize) -> usize
 
 /// Where the Chars from `at` on end.
 #[inline]
-pub fn chars_end(text: &str, at: usize) -> usize
-    requires { IsCharBoundary text.now at }
-    ensures { Finds text.now at result (run_end is_char text.now at) }
+pub fn chars_end(from: Cursor<'_>) -> usize
+    ensures { Finds from.entry.text.now from.entry.pos result
+        (run_end is_char from.entry.text.now from.entry.pos) }
 {
+    let text = from.text;
     let bytes = text.as_bytes();
-    let mut end = skip_set::<CharByte>(text, at);
+    let mut end = skip_set::<CharByte>(text, from.pos);
     while end < bytes.len() {
         let next = after_char(text, end);
         if next == end {
@@ -67,8 +69,7 @@ pub fn chars_end(text: &str, at: usize) -> usize
 #[inline(always)]
 #[tactic(auto, using(crate::proofs::LongerLemmas::apart_from), unfolding(rox_grammar::specs::Search::stands))]
 pub(crate) fn is_mark_at(text: &str, at: usize, mark: &[u8]) -> bool
-    requires within { at < length text.now }
-    requires some { 0 < length mark.now }
+    requires { MayHaveMark text.now at mark.now }
     ensures { result ≡ stands mark.now text.now at }
 {
     let bytes = text.as_bytes();
@@ -144,13 +145,14 @@ impl ByteSet for RunByte {
 
 /// A value as far as it is in order, up to its quote, a `<` or a `&`: where there is one reference there are often many, and a search
 /// for the quote is quicker then.
-pub fn scan_value(text: &str, at: usize, quote: Quote) -> Lookahead
-    requires { IsCharBoundary text.now at }
-    ensures { LooksAtValue quote.byte text.now at result.end result.is_verbatim }
+pub fn scan_value(from: Cursor<'_>, quote: Quote) -> Lookahead
+    ensures { LooksAtValue quote.byte from.entry.text.now from.entry.pos result.end
+        result.is_verbatim }
 {
+    let text = from.text;
     let bytes = text.as_bytes();
     let mut is_verbatim = true;
-    let mut end = skip_set::<ValueByte>(text, at);
+    let mut end = skip_set::<ValueByte>(text, from.pos);
     while end < bytes.len() {
         let here = bytes[end];
         if here == quote.byte || here == b'<' || here == b'&' {
@@ -167,13 +169,13 @@ pub fn scan_value(text: &str, at: usize, quote: Quote) -> Lookahead
 }
 
 /// A comment as far as it is in order, up to two dashes or the end.
-pub fn comment_end(text: &str, at: usize) -> usize
-    requires { IsCharBoundary text.now at }
-    ensures { LooksAhead (longer.ends_comment text.now) longer.changes_comment text.now at result
-        true }
+pub fn comment_end(from: Cursor<'_>) -> usize
+    ensures { LooksAhead (longer.ends_comment from.entry.text.now) longer.changes_comment
+        from.entry.text.now from.entry.pos result true }
 {
+    let text = from.text;
     let bytes = text.as_bytes();
-    let mut end = skip_set::<CommentByte>(text, at);
+    let mut end = skip_set::<CommentByte>(text, from.pos);
     while end < bytes.len() {
         if is_mark_at(text, end, b"--") {
             break;

@@ -37,7 +37,7 @@ impl<'input> Cursor<'input> {
     fn text_to(&mut self, mark: Expected) -> Result<&'input str, Fault>
         ensures { Steps (λ x. x.now) self.old self.new result (lexical.text_to mark) }
     {
-        let end = mark_from(self.text, self.pos, mark);
+        let end = mark_from(*self, mark);
         let text = self.chars_up_to(end)?;
         self.string(mark)?;
         Ok(text)
@@ -54,7 +54,7 @@ impl<'input> Cursor<'input> {
         self.skip(Word::CommentStart);
         let text = self.text;
         let from = self.pos;
-        let end = comment_end(text, from);
+        let end = comment_end(*self);
         let mut behind = Cursor::at(text, end);
         if !behind.starts(Word::CommentEnd) {
             return self.slow_comment(start);

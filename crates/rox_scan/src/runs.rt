@@ -1,92 +1,13 @@
 //! Runs of characters.
-ghost use Rattle.std.specs.Prelude.{◌≡◌, ◌==◌, ◌+◌, ◌<◌, ◌≤◌, ℕ, Bool, true, length, slice_index};
+ghost use Rattle.std.specs.Prelude.{◌≡◌, ◌==◌, ◌+◌, ◌<◌, ◌≤◌, true, length, slice_index};
 ghost use Rattle.std.specs.Str.{IsCharBoundary, chars};
 ghost use Rattle.rox_grammar.specs.Chars as spec;
 ghost use Rattle.rox_grammar.specs.Runs.{run_end, begins};
-ghost use Rattle.rox_scan.specs.ScanResults.{Finds, HasCharAt, IsCharAt};
+ghost use Rattle.rox_scan.specs.ScanResults.{Finds, HasByteAt, HasCharAt, IsCharAt};
 
-use crate::chars;
-
-/// A set of characters, to find a run of them.
-pub trait Class {
-    ghost test: { ℕ → Bool };
-
-    fn has(c: char) -> bool
-        ensures { result ≡ test c };
-
-    /// The same of an ASCII byte.
-    fn has_byte(b: u8) -> bool
-        requires { b < 128 }
-        ensures { result ≡ test b };
-}
-
-/// The characters of a name.
-pub struct NameChar;
-
-impl Class for NameChar {
-    ghost test = { spec.is_name_char };
-
-    #[inline]
-    fn has(c: char) -> bool {
-        chars::is_name_char(c)
-    }
-
-    #[inline(always)]
-    fn has_byte(b: u8) -> bool {
-        chars::is_name_byte(b)
-    }
-}
-
-/// The characters that begin a name.
-pub struct NameStart;
-
-impl Class for NameStart {
-    ghost test = { spec.is_name_start };
-
-    #[inline]
-    fn has(c: char) -> bool {
-        chars::is_name_start(c)
-    }
-
-    #[inline(always)]
-    fn has_byte(b: u8) -> bool {
-        chars::is_start_byte(b)
-    }
-}
-
-/// The characters of a name, but for the colon.
-pub struct PartChar;
-
-impl Class for PartChar {
-    ghost test = { spec.is_part_char };
-
-    #[inline]
-    fn has(c: char) -> bool {
-        chars::is_part_char(c)
-    }
-
-    #[inline(always)]
-    fn has_byte(b: u8) -> bool {
-        chars::is_part_byte(b)
-    }
-}
-
-/// The characters of XML.
-pub struct XmlChar;
-
-impl Class for XmlChar {
-    ghost test = { spec.is_char };
-
-    #[inline]
-    fn has(c: char) -> bool {
-        chars::is_char(c)
-    }
-
-    #[inline]
-    fn has_byte(b: u8) -> bool {
-        chars::is_char(char::from(b))
-    }
-}
+use crate::byte_set::{ByteSet, SpaceByte};
+use crate::chars::Class;
+use crate::cursor::Cursor;
 
 /// The character that begins at `at`.
 #[inline]
@@ -127,16 +48,17 @@ pub fn run_end<C: Class>(text: &str, at: usize) -> usize
     i
 }
 
-/// Where the white space that begins at `at` ends.
+/// Where the white space ends that begins here.
 #[inline(always)]
 #[tactic(auto, using(crate::proofs::RunLemmas::space_steps))]
-pub fn space_end(text: &str, at: usize) -> usize
-    requires { IsCharBoundary text.now at }
-    ensures { Finds text.now at result (run_end spec.is_space text.now at) }
+pub fn space_end(from: Cursor<'_>) -> usize
+    ensures { Finds from.entry.text.now from.entry.pos result
+        (run_end spec.is_space from.entry.text.now from.entry.pos) }
 {
+    let text = from.text;
     let bytes = text.as_bytes();
-    let mut end = at;
-    while end < bytes.len() && chars::is_space(bytes[end]) {
+    let mut end = from.pos;
+    while end < bytes.len() && SpaceByte::has(bytes[end]) {
         end += 1;
     }
     end
@@ -171,9 +93,7 @@ pub fn is_at(text: &str, at: usize, byte: u8) -> bool
 /// The place after a byte that stands at `at`.
 #[inline(always)]
 pub fn after_byte(text: &str, at: usize, byte: u8) -> usize
-    requires some { 0 < byte }
-    requires ascii { byte < 128 }
-    requires here { slice_index text.now at ≡ byte }
+    requires { HasByteAt text.now at byte }
     ensures { Finds text.now at result (at + 1) }
 {
     at + 1

@@ -5,8 +5,9 @@ ghost use Rattle.rox_grammar.specs.Search as spec;
 ghost use Rattle.rox_grammar.specs.Constructs.{has_mark};
 ghost use Rattle.rox_grammar.specs.ExpectedTexts.{expected_text};
 ghost use Rattle.rox_scan.specs.ByteSets.{EndsSet};
-ghost use Rattle.rox_scan.specs.ScanResults.{Finds, FindsByte};
+ghost use Rattle.rox_scan.specs.ScanResults.{Finds, FindsAscii, FindsByte, MaySeek, MaySeekEither};
 
+use crate::cursor::Cursor;
 use memchr::{memchr, memchr2, memmem};
 use rox_grammar::fault::Expected;
 
@@ -68,24 +69,22 @@ pub fn has_mark(bytes: &[u8], mark: &[u8]) -> bool
     before_mark(bytes, mark) < bytes.len()
 }
 
-/// The first place from `at` on of the fixed text, or the end, in time that grows as the text does, whatever it holds.
+/// The first place from here on of the fixed text, or the end, in time that grows as the text does, whatever it holds.
 #[inline]
-pub fn mark_from(text: &str, at: usize, mark: Expected) -> usize
-    requires { IsCharBoundary text.now at }
-    ensures { Finds text.now at result (spec.mark_from (expected_text mark) text.now at) }
+pub fn mark_from(from: Cursor<'_>, mark: Expected) -> usize
+    ensures { Finds from.entry.text.now from.entry.pos result
+        (spec.mark_from (expected_text mark) from.entry.text.now from.entry.pos) }
 {
-    let rest = text[at..].as_bytes();
-    at + memmem::find(rest, mark.text()).unwrap_or(rest.len())
+    let rest = from.text[from.pos..].as_bytes();
+    from.pos + memmem::find(rest, mark.text()).unwrap_or(rest.len())
 }
 
 /// The first place from `at` on of the byte, or the end.
 #[inline]
 #[tactic(auto, unfolding(rox_grammar::specs::Search::byte_from))]
 pub fn byte_from(text: &str, at: usize, byte: u8) -> usize
-    requires cut { IsCharBoundary text.now at }
-    requires ascii { byte < 128 }
-    ensures finds { Finds text.now at result (spec.byte_from (λ c. c == byte) text.now at) }
-    ensures after { result < length text.now → IsCharBoundary text.now (result + 1) }
+    requires { MaySeek text.now at byte }
+    ensures { FindsAscii text.now at byte result }
 {
     at + before_byte(text[at..].as_bytes(), byte)
 }
@@ -94,9 +93,7 @@ pub fn byte_from(text: &str, at: usize, byte: u8) -> usize
 #[inline]
 #[tactic(auto, unfolding(rox_grammar::specs::Search::byte_from))]
 pub fn either_from(text: &str, at: usize, one: u8, other: u8) -> usize
-    requires cut { IsCharBoundary text.now at }
-    requires one { one < 128 }
-    requires other { other < 128 }
+    requires { MaySeekEither text.now at one other }
     ensures { Finds text.now at result
         (spec.byte_from (λ c. c == one || c == other) text.now at) }
 {

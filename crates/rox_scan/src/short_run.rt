@@ -1,13 +1,13 @@
 //! Character data up to the end of its source, as most replacement texts are: what has sixteen bytes at most is seen at one look.
 
 ghost use Rattle.std.specs.Prelude.{◌≡◌, length, true};
-ghost use Rattle.std.specs.Str.{IsCharBoundary};
 ghost use Rattle.rox_scan.specs.ByteSets.{AllPass, EndsInBlock};
 ghost use Rattle.rox_scan.specs.Lookahead as longer;
 ghost use Rattle.rox_scan.specs.Lookahead.{IsLookahead};
 
 use crate::byte_set::ByteSet;
 use crate::character_data::{TextByte, plain_run_end};
+use crate::cursor::Cursor;
 use std::simd::prelude::*;
 
 /// Whether the bytes from `at` up to the end, sixteen at most, are all in the set. They are seen among the last sixteen.
@@ -22,19 +22,18 @@ fn passes_to_end<C: ByteSet>(bytes: &[u8], at: usize) -> bool
     rest == 0
 }
 
-/// Whether character data from `at` up to the end of its source stands for itself.
+/// Whether character data from here up to the end of its source stands for itself.
 #[inline(always)]
-pub fn is_plain_to_end(text: &str, at: usize) -> bool
-    requires { IsCharBoundary text.now at }
+pub fn is_plain_to_end(from: Cursor<'_>) -> bool
     ensures { result ≡ true
-        → IsLookahead (longer.ends_run text.now) longer.changes_run text.now at
-        (length text.now) true }
+        → IsLookahead (longer.ends_run from.entry.text.now) longer.changes_run
+        from.entry.text.now from.entry.pos (length from.entry.text.now) true }
 {
-    let bytes = text.as_bytes();
+    let bytes = from.text.as_bytes();
     let end = bytes.len();
-    if end < 16 || end - at > 16 {
-        let found = plain_run_end(text, at);
+    if end < 16 || end - from.pos > 16 {
+        let found = plain_run_end(from);
         return found == end;
     }
-    passes_to_end::<TextByte>(bytes, at)
+    passes_to_end::<TextByte>(bytes, from.pos)
 }

@@ -1,11 +1,10 @@
 //! Where a text begins, behind its byte order mark, and where a resolver's answer does, behind its declaration too (XML 1.0
 //! sections 4.3.1 and 4.3.3).
 
-ghost use Rattle.std.specs.Prelude.{◌≡◌, ◌==◌, Some, IsUtf8};
+ghost use Rattle.std.specs.Prelude.{◌≡◌, ◌==◌};
 ghost use Rattle.std.specs.List.{starts_with};
 ghost use Rattle.rox_grammar.specs.TextStart.{after_bom, bom};
-ghost use Rattle.rox_reading.specs.Doctype as spec;
-ghost use Rattle.rox_scan.specs.DoctypeViews.{IsReplacement};
+ghost use Rattle.rox_scan.specs.DoctypeViews.{IsReplacementOf};
 ghost use Rattle.rox_scan.specs.ScanResults.{IsAt};
 
 use crate::cursor::Cursor;
@@ -33,9 +32,7 @@ pub fn start_of(text: &str) -> Cursor<'_>
 /// 4.3.1). It counts its places from its own start.
 #[tactic(auto, unfolding(rox_reading::specs::Doctype::answer_text))]
 pub fn replacement_in<'input>(answer: &'input str) -> Result<Cursor<'input>, Fault>
-    ensures value { IsReplacement answer.entry.now result
-        (spec.answer_text (Some answer.entry.now)) }
-    ensures text { IsUtf8 answer.entry.now }
+    ensures { IsReplacementOf answer.entry.now result }
 {
     let mut cursor = start_of(answer);
     cursor.xml_decl_if()?;

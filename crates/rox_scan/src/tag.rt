@@ -96,7 +96,7 @@ impl<'input> Cursor<'input> {
     fn value_by_characters(&mut self, quote: Quote) -> Result<bool, Fault>
         ensures { PassesValue quote.byte self.old self.new result }
     {
-        let look = scan_value(self.text, self.pos, quote);
+        let look = scan_value(*self, quote);
         if is_at(self.text, look.end, quote.byte) {
             self.pos = look.end;
             return Ok(look.is_verbatim);

@@ -8,10 +8,10 @@ ghost use Rattle.rox_reading.specs.Markup as spec;
 ghost use Rattle.rox_scan.specs.ScanResults.{MovesTo, Steps};
 ghost use Rattle.rox_scan.specs.DoctypeViews.{up_to_quote, xml_decl_if};
 
-use crate::byte_set::{ValueByte, part_end, skip_set};
-use crate::chars::is_space;
+use crate::byte_set::{ByteSet, SpaceByte, ValueByte, part_end, skip_set};
+use crate::chars::NameStart;
 use crate::cursor::{Cursor, Quote};
-use crate::runs::{NameStart, after_byte, begins, is_at};
+use crate::runs::{after_byte, begins, is_at};
 use crate::search::either_from;
 use rox_grammar::fault::{Due, Expected, Fault, Word};
 
@@ -54,7 +54,7 @@ impl<'input> Cursor<'input> {
             return Ok(());
         }
         let here = self.text.as_bytes()[self.pos];
-        if is_space(here) {
+        if SpaceByte::has(here) {
             self.spaces();
             return Ok(());
         }
@@ -110,7 +110,7 @@ impl<'input> Cursor<'input> {
         if self.pos >= self.text.len() {
             return false;
         }
-        if is_space(self.text.as_bytes()[self.pos]) {
+        if SpaceByte::has(self.text.as_bytes()[self.pos]) {
             self.spaces();
             return true;
         }

@@ -1,5 +1,5 @@
 -- The place that each prefix, or the default, stands for in the innermost of some scopes, and what takes it back to those around it.
-use Rattle.std.specs.Prelude.{◌≡◌, ◌==◌, ◌&&◌, ℕ, ◌≤◌, ◌<◌, Bool, true, false, List, [], ◌∷◌, ◌++◌, Option, Some, None, length, map, drop, slice_index, if◌then◌else◌}
+use Rattle.std.specs.Prelude.{◌≡◌, ◌==◌, ◌&&◌, ℕ, ◌≤◌, ◌<◌, Bool, true, false, List, [], ◌∷◌, ◌++◌, Option, Some, None, Result, OnOk, ◌-◌, ◌⊎◌, take, length, map, drop, slice_index, if◌then◌else◌}
 use Rattle.std.specs.Option.{option_map}
 use Rattle.std.specs.Borrow.{Bor}
 use Rattle.std.specs.BTreeMap.{BTreeMap, get_by}
@@ -8,7 +8,7 @@ use Rattle.std.specs.Ordering.{nat_cmp}
 use Rattle.rox_grammar.specs.Written.{NamespaceDecl}
 use Rattle.rox_grammar.specs.Tree.{same_prefix, is_declared, uri_of}
 use Rattle.rox_tables.specs.Rows.{namespace_view, namespace_at, scope_at, OptionWithin}
-use Rattle.rox_tables.specs.Scopes.{prefix_view, entries, others, ArePlaces}
+use Rattle.rox_tables.specs.Scopes.{prefix_view, entries, others, ArePlaces, PrefixesOnce}
 use Rattle.rox_tables.specs.declared.rows.tables.Namespace.{Namespace}
 use Rattle.rox_tables.specs.declared.namespaces.bindings.Binding.{Binding}
 use Rattle.rox_tables.specs.declared.namespaces.bindings.PrefixBindings.{PrefixBindings}
@@ -58,11 +58,64 @@ pub record AreBindingsOf (namespaces : List NamespaceDecl) (lists : List (List N
 abbrev pub KeepsBindings : (old new : PrefixBindings) → Type 0
 KeepsBindings old new = (namespaces : List NamespaceDecl) (lists : List (List NamespaceDecl)) → AreBindingsOf namespaces lists old → AreBindingsOf namespaces lists new
 
+-- a prefix, or the default, has this place now, unless memory ran out
+pub record SetsPlace {E : Type 0} (prefix : Option (List ℕ)) (place : Option Binding) (old new : PrefixBindings) (result : Result (Unit {0}) E) : Type 0 where
+  pub present : OnOk result ((p : Option (List ℕ)) → place_in new p ≡ (if same_prefix prefix p then place else place_in old p))
+  pub replaced : new.replaced ≡ old.replaced
+  pub layers : new.layers ≡ old.layers
+
+-- it has, and this can be taken back
+pub record PutsPlace (prefix : Option (List ℕ)) (place : Option Binding) (old new : PrefixBindings) : Type 0 where
+  pub present : (p : Option (List ℕ)) → place_in new p ≡ (if same_prefix prefix p then place else place_in old p)
+  pub keeps : KeepsBindings old new
+
+-- the innermost scope is left
+pub record LeavesScope (old new : PrefixBindings) : Type 0 where
+  pub layers : new.layers.items ≡ take (length old.layers.items - 1) old.layers.items
+  pub back : (ls : List ScopeFrame) (l : ScopeFrame) → new.layers.items ≡ ls ++ l ∷ [] → l.count ≤ length old.replaced.items → length new.replaced.items ≡ l.count
+  pub keeps : KeepsBindings old new
+
+-- the prefix that is listed at this position has its place
+pub record BindsListed (namespaces : List NamespaceDecl) (listed : List ℕ) (position : ℕ) (old new : PrefixBindings) : Type 0 where
+  pub bound : (ds : List NamespaceDecl) → IsBound namespaces (bound_place old) ds → IsBound namespaces (bound_place new) (namespace_at namespaces (slice_index listed position) ∷ ds)
+  pub keeps : KeepsBindings old new
+
+-- no prefix has a place
+pub record IsCleared (x : PrefixBindings) : Type 0 where
+  pub bound : (namespaces : List NamespaceDecl) → IsBound namespaces (bound_place x) []
+  pub keeps : (namespaces : List NamespaceDecl) (lists : List (List NamespaceDecl)) → AreBindingsOf namespaces lists x
+
 -- whether the innermost of these scopes is this one, and so many places were replaced up to it
 abbrev pub is_innermost : List ScopeFrame → (count scope : ℕ) → Bool
 is_innermost [] count scope = false
 is_innermost (l ∷ []) count scope = l.count == count && l.scope == scope
 is_innermost (l ∷ m ∷ ls) count scope = is_innermost (m ∷ ls) count scope
+
+-- whether this is the innermost scope is told: then the places are those of what it lists
+pub record TellsInnermost (scope : ℕ) (x : PrefixBindings) (result : Bool) : Type 0 where
+  pub value : result ≡ is_innermost x.layers.items (length x.replaced.items) scope
+  pub bound : result ≡ true → (namespaces : List NamespaceDecl) (lists : List (List NamespaceDecl)) → AreBindingsOf namespaces lists x → IsBound namespaces (bound_place x) (scope_at lists scope)
+
+-- the scopes inside this one are left, or all, unless memory ran out
+pub record LeavesInner {E : Type 0} (scope : ℕ) (old new : PrefixBindings) (result : Result (Unit {0}) E) : Type 0 where
+  pub innermost : OnOk result ((new.layers.items ≡ []) ⊎ (is_innermost new.layers.items (length new.replaced.items) scope ≡ true))
+  pub same : is_innermost old.layers.items (length old.replaced.items) scope ≡ true → new ≡ old
+  pub keeps : OnOk result (KeepsBindings old new)
+
+-- the places are those of what this scope lists, unless memory ran out: nothing changes if it was the innermost
+pub record MakesInnermost {E : Type 0} (namespaces : List NamespaceDecl) (lists : List (List NamespaceDecl)) (scope : ℕ) (old new : PrefixBindings) (result : Result (Unit {0}) E) : Type 0 where
+  pub value : OnOk result (AreBindingsOf namespaces lists old → AreBindingsOf namespaces lists new × IsBound namespaces (bound_place new) (scope_at lists scope))
+  pub same : is_innermost old.layers.items (length old.replaced.items) scope ≡ true → new ≡ old
+
+-- each is a place of a table of this length, and one is listed at this position
+pub record IsPosition (n : ℕ) (listed : List ℕ) (position : ℕ) : Type 0 where
+  pub places : ArePlaces n listed
+  pub within : position < length listed
+
+-- so is each, and from this position on some are listed
+pub record IsStretchFrom (n : ℕ) (listed : List ℕ) (from : ℕ) : Type 0 where
+  pub places : ArePlaces n listed
+  pub stretch : from ≤ length listed
 
 -- A scope lists these of its own, and the others of what is listed above.
 pub record IsEntered (own : List NamespaceDecl) (xml : Bool) (above : List NamespaceDecl) (lists : List (List NamespaceDecl)) (scope : ℕ) : Type 0 where
@@ -101,3 +154,8 @@ pub record LooksUp (table : List Namespace) (few : Option (List ℕ)) (x : Prefi
 -- it is the one that is listed
 pub record FindsBinding (namespaces : List NamespaceDecl) (few : Option (List ℕ)) (x : PrefixBindings) (listed : List NamespaceDecl) : Type 0 where
   pub uris : (prefix : Option (List ℕ)) → looked_up namespaces few x prefix ≡ uri_of listed prefix
+
+-- each of these is a place of the table, and each prefix is listed once there
+pub record AreOnce (table : List Namespace) (places : List ℕ) : Type 0 where
+  pub within : ArePlaces (length table) places
+  pub once : PrefixesOnce (entries (map namespace_view table) places)

@@ -1,5 +1,5 @@
 -- The expanded names of the attributes of a tag, as a set of keys: a local name, and a URI or none.
-use Rattle.std.specs.Prelude.{◌≡◌, ℕ, ◌&&◌, Bool, List, Option, bytes_eq}
+use Rattle.std.specs.Prelude.{◌≡◌, ℕ, ◌&&◌, ◌||◌, false, Bool, List, Option, bytes_eq}
 use Rattle.std.specs.List.{list_any}
 use Rattle.std.specs.Borrow.{Bor}
 use Rattle.rox_grammar.specs.Written.{NamespaceDecl}
@@ -32,3 +32,8 @@ HasExpandedNames namespaces keys done = (local : List ℕ) (uri : Option (List �
 abbrev pub TestedOr : List NamespaceDecl → List Attribute → Attribute → List Attribute → Result AttributeNamespace Failure → Type 0
 TestedOr scope before a rest (Ok s) = names_tested scope before (a ∷ rest) ≡ names_tested scope (before ++ a ∷ []) rest
 TestedOr scope before a rest (Err e) = Fails e (names_tested scope before (a ∷ rest))
+
+-- it is told whether this name is among the keys; if not, it is put there
+pub record PutsKey (name : Key) (old new : List Key) (again : Bool) : Type 0 where
+  pub value : again ≡ has_key name.0.now (prefix_view name.1) old
+  pub more : again ≡ false → (l : List ℕ) (u : Option (List ℕ)) → has_key l u new ≡ (has_key l u old || is_key l u name)

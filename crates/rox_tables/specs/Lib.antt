@@ -17,3 +17,5 @@ pub mod TagDeclarations
 pub mod TagScopes
 pub mod NodeChanges
 pub mod Puts
+pub mod AttributeChanges
+pub mod TagNames

@@ -1,5 +1,6 @@
 -- How the table of nodes changes.
-use Rattle.std.specs.Prelude.{◌≡◌, ◌+◌, ◌^◌, ◌<◌, ◌≤◌, ◌∷◌, ◌++◌, [], ℕ, Bool, length, take, set, get_or, vec_len, vec_capacity, if◌then◌else◌}
+use Rattle.std.specs.Prelude.{◌≡◌, ◌+◌, ◌^◌, ◌<◌, ◌≤◌, ◌∷◌, ◌++◌, [], ℕ, Bool, Result, OnOk, OnErr, length, take, set, get_or, vec_len, vec_capacity, if◌then◌else◌}
+use Rattle.rox_tables.specs.StoredNodes.{IsSmallKind}
 use Rattle.rox_tables.specs.Rows.{node_rows}
 use Rattle.rox_tables.specs.declared.rows.node_table.NodeTable.{NodeTable}
 use Rattle.rox_tables.specs.declared.rows.tables.NodeData.{NodeData}
@@ -20,6 +21,21 @@ pub record FitsNode (row : NodeData) (t : NodeTable) : Type 0 where
   pub room : vec_len t.rows < vec_capacity t.rows
   pub start : row.start < 2 ^ 32
   pub end : row.end < 2 ^ 32
+
+-- so it is for a node that needs no other table
+pub record FitsSmallNode (row : NodeData) (t : NodeTable) : Type 0 where
+  pub fits : FitsNode row t
+  pub small : IsSmallKind row.kind
+
+-- so many nodes there are
+pub record CountsNodes (t : NodeTable) (count : ℕ) : Type 0 where
+  pub rows : count ≡ vec_len t.rows
+  pub nodes : count ≡ length (node_rows t)
+
+-- the nodes stay, and there is room for one more, unless memory ran out
+pub record MakesNodeRoom {E : Type 0} (old new : NodeTable) (result : Result (Unit {0}) E) : Type 0 where
+  pub rows : KeepsNodes old new
+  pub ok : OnOk result (vec_len new.rows < vec_capacity new.rows)
 
 -- a node is put at the end, in the room that there was
 pub record PutsNode (row : NodeData) (old new : NodeTable) : Type 0 where
@@ -47,3 +63,18 @@ pub record EndsNode (row end : ℕ) (old new : NodeTable) : Type 0 where
   pub rows : (d : NodeData) → node_rows new ≡ set (node_rows old) row (record (get_or (node_rows old) row d) { end = end; subtree_end = length (node_rows old) })
   pub len : vec_len new.rows ≡ vec_len old.rows
   pub capacity : vec_capacity new.rows ≡ vec_capacity old.rows
+
+-- there is room for this end, where it has an upper half
+pub record HasRoomForEnd (end : ℕ) (t : NodeTable) : Type 0 where
+  pub few : vec_len t.rows < 2 ^ 32
+  pub room : vec_len t.high < vec_len t.rows → end < 2 ^ 32
+
+-- so does it end, or memory ran out and the nodes stay
+pub record EndsRow {E : Type 0} (row end : ℕ) (old new : NodeTable) (result : Result (Unit {0}) E) : Type 0 where
+  pub ends : OnOk result (EndsNode row end old new)
+  pub same : OnErr result (KeepsNodes old new)
+
+-- one node at most is behind the first so many
+pub record MayTakeLast (count : ℕ) (t : NodeTable) : Type 0 where
+  pub last : vec_len t.rows ≤ count + 1
+  pub few : vec_len t.rows < 2 ^ 32

@@ -1,14 +1,18 @@
 -- Where pairs stand in a table, and in a map of them.
-use Rattle.std.specs.Prelude.{◌≡◌, ◌<◌, ◌≤◌, ℕ, suc, ◌+◌, List, [], ◌∷◌, ◌++◌, drop, length, map, Option, Some, None, if◌then◌else◌}
+use Rattle.std.specs.Prelude.{◌≡◌, ◌<◌, ◌≤◌, ℕ, suc, ◌+◌, List, [], ◌∷◌, ◌++◌, drop, length, map, Option, Some, None, Result, Err, IfOk, IfSome, IfNone, true, false, if◌then◌else◌}
 use Rattle.std.specs.Option.{option_map, option_cmp}
 use Rattle.std.specs.declared.cmp.Ordering.{Ordering}
 use Rattle.std.specs.Ordering.{ordering_then, nat_cmp}
 use Rattle.std.specs.Cmp.{IsTotalOrder, then_total, on_total, nat_cmp_total}
 use Rattle.std.specs.Cmp.Lexicographic.{slice_cmp, lists_total, options_total}
 use Rattle.std.specs.Map.{lookup}
+use Rattle.rox_grammar.specs.declared.failure.Failure.{Failure}
+use Rattle.rox_grammar.specs.declared.failure.Failure.TheVariants as failure
+use Rattle.rox_grammar.specs.declared.fault.Fault.{Fault}
+use Rattle.rox_grammar.specs.declared.fault.Fault.TheVariants as fault
 use Rattle.rox_grammar.specs.Written.{NamespaceDecl}
 use Rattle.rox_grammar.specs.Document.{most_pairs, same_pair}
-use Rattle.rox_grammar.specs.Counts.{with_new}
+use Rattle.rox_grammar.specs.Counts.{has_pair, with_new}
 use Rattle.rox_tables.specs.Rows.{namespace_at, namespace_view}
 use Rattle.rox_tables.specs.declared.namespaces.namespace_table.Key.{Key}
 use Rattle.rox_tables.specs.declared.rows.tables.Namespace.{Namespace}
@@ -54,3 +58,18 @@ place_behind namespaces d = option_map (λ i. few_pairs + i) (place_of (drop few
 -- the place that the entries of a map give a pair
 abbrev pub place_among : List (Key × ℕ) → NamespaceDecl → Option ℕ
 place_among es d = lookup (λ k. same_pair d (namespace_view k.namespace)) es
+
+-- a pair is found at this place of a table, or is not there
+pub record FindsPair (table : List Namespace) (d : NamespaceDecl) (found : Option ℕ) : Type 0 where
+  pub there : IfSome found (λ i. (i < length table) × (namespace_at (map namespace_view table) i ≡ d) × (has_pair (map namespace_view table) d ≡ true))
+  pub absent : IfNone found (has_pair (map namespace_view table) d ≡ false)
+
+-- there is room for a pair, which is not there
+pub record IsNewPair (table : List Namespace) (d : NamespaceDecl) : Type 0 where
+  pub few : length table < most_pairs
+  pub absent : has_pair (map namespace_view table) d ≡ false
+
+-- a pair has its place, or is the one too many, unless memory ran out
+pub record PlacesOrRefuses (d : NamespaceDecl) (old new : List Namespace) (result : Result ℕ Failure) : Type 0 where
+  pub placed : IfOk result (λ i. PlacesPair d i old new)
+  pub fault : (f : Fault) → result ≡ Err (failure.Fault f) → (f ≡ fault.NamespacesLimitReached) × (most_pairs < length (with_new (map namespace_view old) (d ∷ [])))

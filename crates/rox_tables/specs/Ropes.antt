@@ -1,9 +1,9 @@
 -- What rows of scopes list that were made from others.
-use Rattle.std.specs.Prelude.{◌≡◌, ℕ, ◌-◌, ◌<◌, ◌≤◌, false, List, [], ◌∷◌, ◌++◌, Option, IfSome, IfNone, length}
+use Rattle.std.specs.Prelude.{◌≡◌, ℕ, ◌-◌, ◌<◌, ◌≤◌, false, List, [], ◌∷◌, ◌++◌, Option, IfSome, IfNone, length, slice_index}
 use Rattle.std.specs.Borrow.{Bor}
 use Rattle.std.specs.List.{AllByRecursion}
 use Rattle.rox_grammar.specs.Written.{NamespaceDecl}
-use Rattle.rox_tables.specs.Rows.{AreRows, AreScopes, EndsWithin}
+use Rattle.rox_tables.specs.Rows.{AreRows, AreScopes, EndsWithin, count_at}
 use Rattle.rox_tables.specs.Scopes.{entries, is_few_at, places_in, ArePlaces}
 use Rattle.rox_tables.specs.declared.rows.tables.Scope.{Scope}
 use Rattle.rox_tables.specs.declared.rows.tables.Stretch.{Stretch}
@@ -79,3 +79,18 @@ pub record IsListed (namespaces : List NamespaceDecl) (listed : List ℕ) (scope
   pub scopes_are : AreScopes (length after) rows
   pub within : scope < length rows
   pub lists : entries namespaces (places_in after rows scope) ≡ ds
+
+-- the position among the listed places of the one at this index of what a row lists
+pub record IsPositionOf (listed : List ℕ) (table : List Scope) (row i position : ℕ) : Type 0 where
+  pub within : position < length listed
+  pub value : slice_index listed position ≡ slice_index (places_in listed table row) i
+
+-- the place at this index of what a row lists
+pub record IsPlaceOf (listed : List ℕ) (table : List Scope) (row i found : ℕ) : Type 0 where
+  pub value : found ≡ slice_index (places_in listed table row) i
+  pub place : (n : ℕ) → ArePlaces n listed → found < n
+
+-- a row of these lists one at this index
+pub record IsAmongRow (table : List Scope) (scope i : ℕ) : Type 0 where
+  pub row : IsRow table scope
+  pub index : i < count_at table scope

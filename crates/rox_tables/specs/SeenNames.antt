@@ -1,7 +1,9 @@
 -- The codes of local names, and which were seen.
-use Rattle.std.specs.Prelude.{◌≡◌, ◌<◌, ◌≤◌, ℕ, ◌+◌, ◌*◌, ◌-◌, ◌/◌, ◌%◌, ◌^◌, Bool, true, false, List, get_or, if◌then◌else◌, drop, leb, eqb, length, slice_index, slice_range}
-use Rattle.std.specs.List.{AllByRecursion}
+use Rattle.std.specs.Prelude.{◌≡◌, ◌<◌, ◌≤◌, ℕ, ◌+◌, ◌*◌, ◌-◌, ◌/◌, ◌%◌, ◌^◌, Bool, true, false, List, [], ◌∷◌, ◌++◌, get_or, if◌then◌else◌, drop, leb, eqb, length, slice_index, slice_range}
+use Rattle.std.specs.List.{AllByRecursion, list_any}
 use Rattle.std.specs.Int.{w32, from_le_bytes, bit_at}
+use Rattle.rox_grammar.specs.Written.{NamespaceDecl}
+use Rattle.rox_tables.specs.ResolvedNames.{has_expanded}
 use Rattle.rox_tables.specs.Rows.{AttributeRow, NamespaceWithin}
 use Rattle.rox_tables.specs.declared.namespaces.seen_names.SeenNames.{SeenNames}
 use Rattle.rox_tables.specs.declared.rows.tables.AttributeData.{AttributeData}
@@ -55,6 +57,22 @@ pub record SeesName (old new : SeenNames) (local : List ℕ) : Type 0 where
   pub from : new.from ≡ old.from
   pub kept : (code : ℕ) → HasCode old.codes code → HasCode new.codes code
   pub put : HasCode new.codes (name_code local)
+
+-- a name is put there, and it is told whether its code was
+pub record PutsCode (old new : SeenNames) (local : List ℕ) (result : Bool) : Type 0 where
+  pub fresh : result ≡ false → HasCode old.codes (name_code local) → ⊥
+  pub sees : SeesName old new local
+
+-- two attributes of the tag at most are the last of these rows
+pub record AreFirst (seen : SeenNames) (rows : List AttributeRow) : Type 0 where
+  pub from : seen.from ≤ length rows
+  pub few : length rows ≤ seen.from + 2
+
+-- it is told whether an attribute of the tag may have a name, which is seen behind them
+pub record TellsSeen (old new : SeenNames) (rows : List AttributeRow) (local : List ℕ) (result : Bool) : Type 0 where
+  pub first : result ≡ false → (namespaces : List NamespaceDecl) (s : AttributeNamespace) → list_any (λ r. has_expanded namespaces s local r.0) (drop old.from rows) ≡ false
+  pub seen : (row : AttributeRow) → row.0.local.now ≡ local → AreSeen new (rows ++ row ∷ [])
+  pub from : new.from ≡ old.from
 
 -- the attributes of the tag were seen, and the namespace of each is one of so many
 pub record HoldsSeen (namespaces : ℕ) (seen : SeenNames) (rows : List AttributeRow) : Type 0 where

@@ -1,5 +1,6 @@
 -- Attributes as their table stores them: most tell where they stand by their start, others by a place in a table of places.
-use Rattle.std.specs.Prelude.{◌≡◌, ◌==◌, true, ℕ, ◌+◌, List, [], ◌∷◌, ◌++◌, length, get_or, take, if◌then◌else◌}
+use Rattle.std.specs.Prelude.{◌≡◌, ◌==◌, ◌<◌, ◌-◌, Bool, true, false, ℕ, ◌+◌, Vec, vec_len, List, [], ◌∷◌, ◌++◌, length, get_or, take, if◌then◌else◌}
+use Rattle.std.specs.declared.alloc.Global.{Global}
 use Rattle.std.specs.Mem.{manually_drop_value}
 use Rattle.std.specs.Coded.{×_prop, →_prop, Unit-prop, Coded-set, coded_ℕ}
 use Rattle.rox_tables.specs.Storage.{storage_bytes, is_borrowed}
@@ -68,3 +69,13 @@ owned_places i (r ∷ rs) = own_place (manually_drop_value r.value) i ++ owned_p
 pub record TakesBack (count : ℕ) (old new : List StoredAttribute) (owned left : List ℕ) : Type 0 where
   pub rows : new ≡ take count old
   pub listed : owned_places 0 old ≡ owned → owned_places 0 new ≡ left
+
+-- a row's places do not follow from its start, or it tells how many bytes are before the local part
+pub record TellsUnusual (r : StoredAttribute) (result : Bool) : Type 0 where
+  pub unusual : result ≡ (r.before == 255)
+  pub usual : result ≡ false → r.before < 255
+
+-- the last row is taken back
+pub record TakesLastRow (old new : Vec StoredAttribute Global) (owned left : List ℕ) : Type 0 where
+  pub taken : TakesBack (vec_len old - 1) old.items new.items owned left
+  pub count : vec_len new ≡ vec_len old - 1

@@ -1,5 +1,5 @@
 -- What the tables hold of the declarations of a start tag, against what is read of it.
-use Rattle.std.specs.Prelude.{◌≡◌, ℕ, ◌≤◌, Bool, List, ◌++◌, Option, drop, length, map, Result, Ok, Err}
+use Rattle.std.specs.Prelude.{◌≡◌, ℕ, ◌≤◌, Bool, List, ◌++◌, Option, drop, length, map, Result, Ok, Err, OnOk}
 use Rattle.std.specs.Borrow.{Bor}
 use Rattle.std.specs.List.{list_any}
 use Rattle.rox_grammar.specs.declared.failure.Failure.{Failure}
@@ -9,11 +9,14 @@ use Rattle.rox_grammar.specs.Counts.{with_new}
 use Rattle.rox_grammar.specs.Failures.{Fails, name_view}
 use Rattle.rox_grammar.specs.Tree.{is_xml, listable_of}
 use Rattle.rox_grammar.specs.Written.{Attribute, NamespaceDecl}
-use Rattle.rox_reading.specs.Tags.{TagSoFar}
+use Rattle.rox_reading.specs.Tags.{TagSoFar, declared}
 use Rattle.rox_tables.specs.Scopes.{entries, ArePlaces, PrefixesOnce}
 use Rattle.rox_tables.specs.PrefixSet.{IsPrefixSet}
-use Rattle.rox_tables.specs.Rows.{namespace_view}
+use Rattle.rox_tables.specs.Rows.{AreScopes, lists_of, namespace_view}
 use Rattle.rox_tables.specs.declared.rows.tables.Namespace.{Namespace}
+use Rattle.rox_tables.specs.Bindings.{AreBindingsOf}
+use Rattle.rox_tables.specs.declared.namespaces.bindings.PrefixBindings.{PrefixBindings}
+use Rattle.rox_tables.specs.declared.rows.tables.Scope.{Scope}
 use Rattle.rox_tables.specs.Storage.{storage_bytes, is_borrowed}
 use Rattle.rox_tables.specs.declared.namespaces.unresolved_attribute.UnresolvedAttribute.{UnresolvedAttribute}
 
@@ -56,3 +59,12 @@ pub record Declares (known : List NamespaceDecl) (before : List ℕ) (namespaces
 abbrev pub Declared : (known : List NamespaceDecl) (before : List ℕ) (namespaces : List NamespaceDecl) (listed : List ℕ) → Result Bool Failure → TagSoFar → Result TagSoFar Fault → Type 0
 Declared known before namespaces listed (Ok xml) h read = (own : List NamespaceDecl) × (read ≡ Ok (record { own = own; attributes = h.attributes })) × Declares known before namespaces listed xml own
 Declared known before namespaces listed (Err e) h read = Fails e read
+
+-- A declaration is read: what the tag declares is listed, other scopes list what they did, and what was said of places holds.
+pub record DeclaresOne (old : List Namespace) (listed : List ℕ) (new : List Namespace) (after : List ℕ) (keys : List (Option (Bor (List ℕ)))) (from : ℕ) (xml : Bool) (taken : UnresolvedAttribute) (result : Result Bool Failure) : Type 0 where
+  pub own : OnOk result (HasOwn new after keys from)
+  pub lists : OnOk result ((scopes : List Scope) → AreScopes from scopes → lists_of (map namespace_view new) after scopes ≡ lists_of (map namespace_view old) listed scopes)
+  pub grown : OnOk result ((lists : List (List NamespaceDecl)) (x : PrefixBindings) → AreBindingsOf (map namespace_view old) lists x → AreBindingsOf (map namespace_view new) lists x)
+  pub value : (known : List NamespaceDecl) (before : List ℕ) (h : TagSoFar)
+      → from ≡ length before → Declares known before (map namespace_view old) listed xml h.own
+      → Declared known before (map namespace_view new) after result h (declared known (unresolved_view taken) h)

@@ -1,16 +1,19 @@
 -- The scope of an element, in the tables.
-use Rattle.std.specs.Prelude.{◌≡◌, ℕ, ◌<◌, ◌≤◌, Bool, false, List, ◌++◌, Option, length, map, drop}
+use Rattle.std.specs.Prelude.{◌≡◌, ℕ, ◌<◌, ◌≤◌, Bool, false, List, ◌++◌, Option, None, length, map, drop, reverse, slice_index_or}
 use Rattle.std.specs.Borrow.{Bor}
+use Rattle.rox_grammar.specs.Tree.{is_declared}
 use Rattle.rox_grammar.specs.Written.{NamespaceDecl}
 use Rattle.rox_tables.specs.Rows.{namespace_view, lists_of, scope_at, AreScopes}
 use Rattle.rox_tables.specs.Bindings.{AreBindingsOf, IsBound, bound_place}
 use Rattle.rox_tables.specs.Scopes.{entries, places_in, ArePlaces, PrefixesOnce, others, is_few_at}
-use Rattle.rox_tables.specs.PrefixSet.{IsPrefixSet}
-use Rattle.rox_tables.specs.Ropes.{IsScopeOf}
+use Rattle.rox_tables.specs.PrefixSet.{IsBelowFew, IsPrefixSet}
+use Rattle.rox_tables.specs.Ropes.{IsListed, IsScopeOf}
 use Rattle.rox_tables.specs.declared.namespaces.bindings.PrefixBindings.{PrefixBindings}
 use Rattle.rox_tables.specs.declared.rows.tables.ElementTables.{ElementTables}
 use Rattle.rox_tables.specs.declared.rows.tables.Namespace.{Namespace}
 use Rattle.rox_tables.specs.declared.rows.tables.Scope.{Scope}
+use Rattle.rox_tables.specs.declared.rows.tables.Scope.TheVariants as row
+use Rattle.rox_tables.specs.declared.rows.tables.Stretch.{Stretch}
 
 -- what each scope lists
 abbrev pub lists_in : ElementTables → List (List NamespaceDecl)
@@ -63,3 +66,35 @@ pub record HasScope (old new : ElementTables) (above own : ℕ) (xml : Bool) (sc
   pub once : PrefixesOnce (scope_at (lists_in new) scope)
   pub kept : HasBindings new
   pub present : HasBindingsOf new scope
+
+-- these are more rows of what is listed, which is listed from this place on too
+pub record IsTurnable (listed : List ℕ) (rows : List Scope) (first : ℕ) : Type 0 where
+  pub from : first ≤ length listed
+  pub scopes : AreScopes (length listed) rows
+
+-- what is listed from this place on is listed once more, from its back
+pub record AddsBack (listed : List ℕ) (scopes : List Scope) (after : List ℕ) (rows : List Scope) (first scope : ℕ) : Type 0 where
+  pub value : (namespaces : List NamespaceDecl) → IsListed namespaces listed scopes after rows scope (entries namespaces (drop first listed))
+  pub own : after ≡ listed ++ reverse (drop first listed)
+
+-- a tag is read below a scope of few, and these rows are of what is listed
+pub record IsBelowRows (table : List Namespace) (listed : List ℕ) (rows : List Scope) (keys : List (Option (Bor (List ℕ)))) (above : Stretch) (from : ℕ) : Type 0 where
+  pub below : IsBelowFew table listed keys above.from above.until from
+  pub scopes : AreScopes (length listed) rows
+
+-- a scope lists each prefix once, and not one that has no place
+pub record MayHide (table : List Namespace) (listed : List ℕ) (scopes : List Scope) (present : PrefixBindings) (i : ℕ) (prefix : Option (List ℕ)) : Type 0 where
+  pub scope : IsScopeOf (length table) listed scopes i
+  pub once : PrefixesOnce (entries (map namespace_view table) (places_in listed scopes i))
+  pub absent : bound_place present prefix ≡ None → is_declared prefix (entries (map namespace_view table) (places_in listed scopes i)) ≡ false
+
+-- what is declared is listed once more from its back, and behind it the others of the scope above
+pub record ListsBelowMany (namespaces : List NamespaceDecl) (listed : List ℕ) (scopes : List Scope) (after : List ℕ) (rows : List Scope) (above from : ℕ) (xml : Bool) (scope : ℕ) : Type 0 where
+  pub value : IsListed namespaces listed scopes after rows scope
+      (entries namespaces (drop from listed) ++ others (entries namespaces (drop from listed)) xml (entries namespaces (places_in listed scopes above)))
+  pub own : after ≡ listed ++ reverse (drop from listed)
+
+-- the scope above is this stretch of few
+pub record HasFewAbove (t : ElementTables) (keys : List (Option (Bor (List ℕ)))) (above own : ℕ) (stretch : Stretch) : Type 0 where
+  pub prefixes : HasTagPrefixes t keys above own
+  pub few : row.Few stretch ≡ slice_index_or t.scopes.items above (row.Few stretch)

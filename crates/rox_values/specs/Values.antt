@@ -4,7 +4,7 @@ use Rattle.std.specs.List.{list_any}
 use Rattle.std.specs.Str.{IsCharBoundary}
 use Rattle.rox_grammar.specs.declared.fault.Fault.{Fault}
 use Rattle.rox_grammar.specs.Content.{literals, line_ends}
-use Rattle.rox_grammar.specs.References.{bytes_end, is_digit, is_hex_digit, number}
+use Rattle.rox_grammar.specs.References.{bytes_end, digit_value, is_digit, is_hex_digit, number}
 use Rattle.rox_reading.specs.Lexical.{Read, ◌>>=◌}
 use Rattle.rox_reading.specs.Refusals.{Refusal}
 use Rattle.rox_reading.specs.Values as reading
@@ -101,6 +101,21 @@ pub record BeginsWhiteSpace (text : List ℕ) (at stop : ℕ) : Type 0 where
 pub record BeginsData (text : List ℕ) (at stop : ℕ) : Type 0 where
   pub stop_is : StopsAt text at stop
   pub no_reference : slice_index text at ≢ 38
+
+-- it is no line end either
+pub record BeginsMainData (text : List ℕ) (at stop : ℕ) : Type 0 where
+  pub begins : BeginsData text at stop
+  pub no_line_end : slice_index text at ≢ 13
+
+-- the number that a digit stands for, which is small whatever the byte is
+pub record IsDigitValue (byte number_of : ℕ) : Type 0 where
+  pub value : number_of ≡ digit_value byte
+  pub small : number_of < 256
+
+-- a place of a text that is not before this one
+pub record IsOnward (text : List ℕ) (at place : ℕ) : Type 0 where
+  pub onward : at ≤ place
+  pub within : place ≤ length text
 
 -- a CR stands here
 pub record BeginsLineEnd (text : List ℕ) (at stop : ℕ) : Type 0 where

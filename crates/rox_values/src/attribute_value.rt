@@ -30,13 +30,13 @@ use rox_scan::runs::is_at;
 use rox_scan::tag::RawAttribute;
 use std::simd::prelude::*;
 
-/// The first place from `at` on of a special byte of a value, or the end.
+/// The first place from here on of a special byte of a value, or the end.
 #[inline(always)]
-fn special_from(text: &str, at: usize) -> usize
-    requires { IsCharBoundary text.now at }
-    ensures { Finds text.now at result (byte_from spec.is_special text.now at) }
+fn special_from(from: Cursor<'_>) -> usize
+    ensures { Finds from.entry.text.now from.entry.pos result
+        (byte_from spec.is_special from.entry.text.now from.entry.pos) }
 {
-    skip_set::<StretchByte>(text, at)
+    skip_set::<StretchByte>(from.text, from.pos)
 }
 
 /// Appends a space for the white space byte that stands here, and nothing for a CR right before a LF.
@@ -135,13 +135,13 @@ impl ByteSet for InnerByte {
     }
 }
 
-/// The first place from `at` on of a special byte of a value or a `<`, or the end.
+/// The first place from here on of a special byte of a value or a `<`, or the end.
 #[inline(always)]
-fn stretch_end(text: &str, at: usize) -> usize
-    requires { IsCharBoundary text.now at }
-    ensures { Finds text.now at result (byte_from ends_stretch text.now at) }
+fn stretch_end(from: Cursor<'_>) -> usize
+    ensures { Finds from.entry.text.now from.entry.pos result
+        (byte_from ends_stretch from.entry.text.now from.entry.pos) }
 {
-    skip_set::<InnerByte>(text, at)
+    skip_set::<InnerByte>(from.text, from.pos)
 }
 
 /// Appends all of a value in a replacement text up to the next special byte. A character that is no Char, and a `<`, is a fault.
@@ -154,7 +154,10 @@ fn inner_stretch(cursor: &mut Cursor<'_>, stop: usize, out: &mut String) -> Resu
         (λ es src at. spec.value_bit_at false es src stop at) }
 {
     let text = cursor.text;
-    let end = stretch_end(&text[..stop], cursor.pos);
+    let end = stretch_end(Cursor {
+        text: &text[..stop],
+        pos: cursor.pos,
+    });
     let raw = cursor.chars_up_to(end)?;
     if is_at(&text[..stop], end, b'<') {
         return Err(Failure::Fault(Fault::InvalidAttributeValue(end)));
@@ -172,7 +175,10 @@ fn main_stretch(cursor: &mut Cursor<'_>, stop: usize, out: &mut String) -> Resul
 {
     let start = cursor.pos;
     let text = cursor.text;
-    let end = special_from(&text[..stop], start);
+    let end = special_from(Cursor {
+        text: &text[..stop],
+        pos: start,
+    });
     out.push_str(&text[start..end])?;
     cursor.pos = end;
     Ok(())

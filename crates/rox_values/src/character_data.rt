@@ -6,7 +6,7 @@ ghost use Rattle.std.specs.String.{string_bytes};
 ghost use Rattle.std.specs.Str.{IsCharBoundary};
 ghost use Rattle.rox_reading.specs.Values as spec;
 ghost use Rattle.rox_scan.specs.ScanResults.{Finds};
-ghost use Rattle.rox_values.specs.Values.{AppendsFrom, AppendsBitFrom, AppendsPartFrom, BeginsData, StopsAt};
+ghost use Rattle.rox_values.specs.Values.{AppendsFrom, AppendsBitFrom, AppendsPartFrom, BeginsData, BeginsMainData, StopsAt};
 
 use crate::context::Context;
 use crate::line_ends::line_end;
@@ -43,27 +43,29 @@ fn expand<'input>(
     }
 }
 
-/// The first place from `at` on of a `&` or a CR, or the end.
+/// The first place from here on of a `&` or a CR, or the end.
 #[inline(always)]
-fn change_from(text: &str, at: usize) -> usize
-    requires { IsCharBoundary text.now at }
-    ensures { Finds text.now at result (byte_from (λ c. c == 38 || c == 13) text.now at) }
+fn change_from(from: Cursor<'_>) -> usize
+    ensures { Finds from.entry.text.now from.entry.pos result
+        (byte_from (λ c. c == 38 || c == 13) from.entry.text.now from.entry.pos) }
 {
-    skip_set::<RunByte>(text, at)
+    skip_set::<RunByte>(from.text, from.pos)
 }
 
 /// Appends all of a run up to the next `&` or CR.
 #[tactic(auto, unfolding(rox_reading::specs::Values::data_bit_at))]
 #[inline(always)]
 fn main_data(cursor: &mut Cursor<'_>, stop: usize, out: &mut String) -> Result<(), Failure>
-    requires begins { BeginsData cursor.old.text.now cursor.old.pos stop }
-    requires no_line_end { slice_index cursor.old.text.now cursor.old.pos ≢ 13 }
+    requires { BeginsMainData cursor.old.text.now cursor.old.pos stop }
     ensures { AppendsFrom (string_bytes out.old) (string_bytes out.new) cursor.old cursor.new result
         (λ es src at. spec.data_bit_at true es src stop at) }
 {
     let start = cursor.pos;
     let text = cursor.text;
-    let end = change_from(&text[..stop], start);
+    let end = change_from(Cursor {
+        text: &text[..stop],
+        pos: start,
+    });
     out.push_str(&text[start..end])?;
     cursor.pos = end;
     Ok(())

@@ -2,7 +2,7 @@
 
 ghost use Rattle.std.specs.Prelude.{◌≡◌, ◌-◌, ◌<◌, IfOk, false, true};
 ghost use Rattle.rox_reading.specs.Machine.{left_behind};
-ghost use Rattle.rox_values.specs.DeclaredEntities.{Opens, opened_at};
+ghost use Rattle.rox_values.specs.DeclaredEntities.{OpensWithin};
 
 use crate::entities::Entities;
 use rox_grammar::fault::Fault;
@@ -51,15 +51,7 @@ impl<'e, 'input> Context<'e, 'input> {
         openings_left: u32,
         open_around: usize,
     ) -> Result<(Context<'e, 'input>, u32), Fault>
-        ensures value { Opens result
-            (opened_at self.entry.depth_left self.entry.main after openings_left) }
-        ensures context { IfOk result (λ x. x.0 ≡ record {
-          main = false;
-          depth_left = self.entry.depth_left - 1;
-          open_around = open_around;
-          entities = self.entry.entities;
-        }) }
-        ensures deeper { IfOk result (λ x. x.0.depth_left < self.entry.depth_left) }
+        ensures { OpensWithin self.entry after openings_left open_around result }
     {
         if self.depth_left == 0 {
             return Err(Fault::EntityReferenceLoop(after));

@@ -9,14 +9,14 @@ ghost use Rattle.rox_grammar.specs.Runs as grammar;
 ghost use Rattle.rox_reading.specs.Values as reading;
 ghost use Rattle.rox_scan.specs.ScanResults.{Finds};
 ghost use Rattle.rox_values.specs.DeclaredEntities.{AreDeclared};
-ghost use Rattle.rox_values.specs.Values.{AreDigits, FindsEntity, ReadsReference, base_of, is_digit_of};
+ghost use Rattle.rox_values.specs.Values.{AreDigits, FindsEntity, IsDigitValue, IsOnward, ReadsReference, base_of, is_digit_of};
 
 use crate::context::Context;
 use rox_grammar::fault::{Fault, Span};
 use rox_scan::byte_set::{PartByte, skip_set};
-use rox_scan::chars::is_char;
+use rox_scan::chars::{Class, NameChar, NameStart, XmlChar};
 use rox_scan::cursor::Cursor;
-use rox_scan::runs::{NameChar, NameStart, after_byte, begins, is_at, run_end};
+use rox_scan::runs::{after_byte, begins, is_at, run_end};
 
 /// What a reference names: a character, or an entity, by its name and where that stands.
 #[derive(Clone, Copy)]
@@ -50,8 +50,7 @@ fn is_digit(byte: u8, hexadecimal: bool) -> bool
 /// The number that a digit stands for.
 #[inline]
 fn digit_value(byte: u8) -> u64
-    ensures value { result ≡ spec.digit_value byte }
-    ensures small { result < 256 }
+    ensures { IsDigitValue byte result }
 {
     let value = if byte <= b'9' {
         byte.saturating_sub(48)
@@ -94,7 +93,7 @@ fn character(number: u32) -> char
 fn may_stand(character: char) -> bool
     ensures { result ≡ is_char character }
 {
-    matches!(character, ' '..='\u{D7FF}') || is_char(character)
+    matches!(character, ' '..='\u{D7FF}') || XmlChar::has(character)
 }
 
 /// The digits from `digits` on and the `;` of a reference that stands here. It is a fault where there is no digit, where the
@@ -106,8 +105,7 @@ fn number<'input>(
     digits: usize,
     hexadecimal: bool,
 ) -> Result<Reference<'input>, Fault>
-    requires onward { cursor.old.pos ≤ digits }
-    requires within { digits ≤ length cursor.old.text.now }
+    requires { IsOnward cursor.old.text.now cursor.old.pos digits }
     ensures { ReadsReference cursor.old cursor.new result (λ src at. reading.number_at
         (base_of hexadecimal) (is_digit_of hexadecimal) src at digits) }
 {
@@ -140,13 +138,14 @@ fn predefined(name: &str) -> Option<char>
     }
 }
 
-/// Where the name that begins at `at` ends. Its first ASCII bytes but colons, most often all, are passed over by vectors.
+/// Where the name ends that begins here. Its first ASCII bytes but colons, most often all, are passed over by vectors.
 #[inline(always)]
-fn name_end(text: &str, at: usize) -> usize
-    requires { IsCharBoundary text.now at }
-    ensures { Finds text.now at result (grammar.run_end is_name_char text.now at) }
+fn name_end(from: Cursor<'_>) -> usize
+    ensures { Finds from.entry.text.now from.entry.pos result
+        (grammar.run_end is_name_char from.entry.text.now from.entry.pos) }
 {
-    run_end::<NameChar>(text, skip_set::<PartByte>(text, at))
+    let text = from.text;
+    run_end::<NameChar>(text, skip_set::<PartByte>(text, from.pos))
 }
 
 /// The name and the `;` of a reference that stands here, with its `&`.
@@ -162,7 +161,7 @@ fn name_reference<'input>(cursor: &mut Cursor<'input>) -> Result<Reference<'inpu
     if !begins::<NameStart>(text, start) {
         return Err(Fault::MalformedEntityReference(reference));
     }
-    let end = name_end(text, start);
+    let end = name_end(Cursor { text, pos: start });
     if !is_at(text, end, b';') {
         return Err(Fault::MalformedEntityReference(reference));
     }

@@ -51,7 +51,7 @@ pub struct PrefixBindings<'input> {
 
 impl<'input> PrefixBindings<'input> {
     ghost use Rattle.std.specs.Prelude.{◌∷◌, [], ◌&&◌};
-    ghost use Rattle.rox_tables.specs.Bindings.{bound_place, place_in, AreBindingsOf, KeepsBindings, IsBound, IsEntered, is_innermost};
+    ghost use Rattle.rox_tables.specs.Bindings.{bound_place, place_in, AreBindingsOf, BindsListed, IsBound, IsCleared, IsEntered, IsPosition, IsStretchFrom, LeavesInner, LeavesScope, MakesInnermost, PutsPlace, SetsPlace, TellsInnermost};
     ghost use Rattle.rox_tables.specs.declared.namespaces.bindings.ScopeFrame.{ScopeFrame};
 
     /// Of no scope.
@@ -94,11 +94,7 @@ impl<'input> PrefixBindings<'input> {
 
     /// Gives a prefix, or the default, this place. The only error is want of memory.
     fn set(&mut self, prefix: Option<&'input str>, place: Option<Binding>) -> Result<(), AllocError>
-        ensures present { OnOk result ((p : Option (List ℕ))
-            → place_in self.new p ≡ (if same_prefix (prefix_view prefix.entry) p then place
-            else place_in self.old p)) }
-        ensures replaced { self.new.replaced ≡ self.old.replaced }
-        ensures layers { self.new.layers ≡ self.old.layers }
+        ensures { SetsPlace (prefix_view prefix.entry) place self.old self.new result }
     {
         match prefix {
             None => {
@@ -114,10 +110,7 @@ impl<'input> PrefixBindings<'input> {
 
     /// The same, so that it can be taken back.
     fn put(&mut self, prefix: Option<&'input str>, place: Option<Binding>) -> Result<(), AllocError>
-        ensures present { OnOk result ((p : Option (List ℕ))
-            → place_in self.new p ≡ (if same_prefix (prefix_view prefix.entry) p then place
-            else place_in self.old p)) }
-        ensures keeps { OnOk result (KeepsBindings self.old self.new) }
+        ensures { OnOk result (PutsPlace (prefix_view prefix.entry) place self.old self.new) }
     {
         let before = self.get(prefix);
         push(&mut self.replaced, ShadowedBinding { prefix, before })?;
@@ -127,12 +120,7 @@ impl<'input> PrefixBindings<'input> {
 
     /// Leaves the innermost scope.
     fn leave(&mut self) -> Result<(), AllocError>
-        ensures layers { OnOk result (self.new.layers.items
-            ≡ take (length self.old.layers.items - 1) self.old.layers.items) }
-        ensures back { OnOk result ((ls : List ScopeFrame) (l : ScopeFrame)
-            → self.new.layers.items ≡ ls ++ l ∷ [] → l.count ≤ length self.old.replaced.items
-            → length self.new.replaced.items ≡ l.count) }
-        ensures keeps { OnOk result (KeepsBindings self.old self.new) }
+        ensures { OnOk result (LeavesScope self.old self.new) }
     {
         let _ = self.layers.pop();
         let Some(around) = self.layers.last() else {
@@ -149,13 +137,7 @@ impl<'input> PrefixBindings<'input> {
 
     /// Leaves scopes until the innermost is this one, or there is none.
     fn leave_inner(&mut self, scope: u32) -> Result<(), AllocError>
-        ensures innermost { OnOk result
-            ((self.new.layers.items
-            ≡ []) ⊎ (is_innermost self.new.layers.items (length self.new.replaced.items) scope
-            ≡ true)) }
-        ensures same { is_innermost self.old.layers.items (length self.old.replaced.items) scope
-            ≡ true → self.new ≡ self.old }
-        ensures keeps { OnOk result (KeepsBindings self.old self.new) }
+        ensures { LeavesInner scope self.old self.new result }
     {
         for _turn in 0..self.layers.len() {
             if self.is_in(scope) {
@@ -168,12 +150,7 @@ impl<'input> PrefixBindings<'input> {
 
     /// Whether this is the innermost scope.
     fn is_in(&self, scope: u32) -> bool
-        ensures value { result
-            ≡ is_innermost self.now.layers.items (length self.now.replaced.items) scope }
-        ensures bound { result ≡ true
-            → (namespaces : List NamespaceDecl) (lists : List (List NamespaceDecl))
-            → AreBindingsOf namespaces lists self.now
-            → IsBound namespaces (bound_place self.now) (scope_at lists scope) }
+        ensures { TellsInnermost scope self.now result }
     {
         match self.layers.last() {
             Some(layer) => layer.count == self.replaced.len() && layer.scope == scope,
@@ -188,14 +165,9 @@ impl<'input> PrefixBindings<'input> {
         listed: &[u16],
         position: usize,
     ) -> Result<(), AllocError>
-        requires places { ArePlaces (length namespaces.now) listed.now }
-        requires within { position < length listed.now }
-        ensures bound { OnOk result ((ds : List NamespaceDecl)
-            → IsBound (map namespace_view namespaces.now) (bound_place self.old) ds
-            → IsBound (map namespace_view namespaces.now) (bound_place self.new)
-            (namespace_at (map namespace_view namespaces.now) (slice_index listed.now position)
-            ∷ ds)) }
-        ensures keeps { OnOk result (KeepsBindings self.old self.new) }
+        requires { IsPosition (length namespaces.now) listed.now position }
+        ensures { OnOk result (BindsListed (map namespace_view namespaces.now) listed.now position
+            self.old self.new) }
     {
         let namespace = listed[position];
         let place = Binding {
@@ -208,10 +180,7 @@ impl<'input> PrefixBindings<'input> {
 
     /// Leaves all scopes.
     fn clear(&mut self)
-        ensures bound { (namespaces : List NamespaceDecl)
-            → IsBound namespaces (bound_place self.new) [] }
-        ensures keeps { (namespaces : List NamespaceDecl) (lists : List (List NamespaceDecl))
-            → AreBindingsOf namespaces lists self.new }
+        ensures { IsCleared self.new }
     {
         self.default = None;
         self.prefixes.clear();
@@ -229,14 +198,9 @@ impl<'input> PrefixBindings<'input> {
         scope: u32,
     ) -> Result<(), AllocError>
         requires { IsScopeOf (length namespaces.now) listed.now scopes.now scope }
-        ensures value { OnOk result (AreBindingsOf (map namespace_view namespaces.now)
-            (lists_of (map namespace_view namespaces.now) listed.now scopes.now) self.old
-            → AreBindingsOf (map namespace_view namespaces.now)
-            (lists_of (map namespace_view namespaces.now) listed.now scopes.now) self.new
-            × IsBound (map namespace_view namespaces.now) (bound_place self.new)
-            (scope_at (lists_of (map namespace_view namespaces.now) listed.now scopes.now) scope)) }
-        ensures same { is_innermost self.old.layers.items (length self.old.replaced.items) scope
-            ≡ true → self.new ≡ self.old }
+        ensures { MakesInnermost (map namespace_view namespaces.now)
+            (lists_of (map namespace_view namespaces.now) listed.now scopes.now) scope
+            self.old self.new result }
     {
         self.leave_inner(scope)?;
         if self.is_in(scope) {
@@ -263,8 +227,7 @@ impl<'input> PrefixBindings<'input> {
         xml: bool,
         scope: u32,
     ) -> Result<(), AllocError>
-        requires places { ArePlaces (length namespaces.now) listed.now }
-        requires stretch { from ≤ length listed.now }
+        requires { IsStretchFrom (length namespaces.now) listed.now from }
         ensures { OnOk result ((lists : List (List NamespaceDecl)) (above : List NamespaceDecl)
             → AreBindingsOf (map namespace_view namespaces.now) lists self.old
             → IsBound (map namespace_view namespaces.now) (bound_place self.old) above

@@ -2,7 +2,7 @@
 
 ghost use Rattle.std.specs.Prelude.{◌≡◌, ℕ, List, Option, IfOk, false, ◌||◌};
 ghost use Rattle.rox_tables.specs.Scopes.{prefix_view};
-ghost use Rattle.rox_tables.specs.ExpandedNames.{has_key, is_key};
+ghost use Rattle.rox_tables.specs.ExpandedNames.{PutsKey};
 
 use std::alloc::AllocError;
 use std::collections::BTreeSet;
@@ -13,11 +13,7 @@ pub fn is_repeated_name<'a>(
     local: &'a str,
     uri: Option<&'a str>,
 ) -> Result<bool, AllocError>
-    ensures value { IfOk result
-        (λ again. again ≡ has_key local.entry.now (prefix_view uri.entry) seen.old.keys) }
-    ensures more { IfOk result (λ again. again ≡ false → (l : List ℕ) (u : Option (List ℕ))
-        → has_key l u seen.new.keys
-        ≡ (has_key l u seen.old.keys || is_key l u (local.entry, uri.entry))) }
+    ensures { IfOk result (PutsKey (local.entry, uri.entry) seen.old.keys seen.new.keys) }
 {
     match seen.insert((local, uri)) {
         Ok(added) => Ok(!added),

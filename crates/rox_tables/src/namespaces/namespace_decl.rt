@@ -5,13 +5,8 @@ ghost use Rattle.rox_grammar.specs.Written.{Attribute, NamespaceDecl, Name, is_n
 ghost use Rattle.rox_grammar.specs.NameParts.{local_span, prefix_span};
 ghost use Rattle.rox_reading.specs.Tags as spec;
 ghost use Rattle.rox_grammar.specs.Failures.{name_view};
-ghost use Rattle.rox_tables.specs.Rows.{namespace_view, lists_of, AreScopes};
 ghost use Rattle.rox_tables.specs.Scopes.{prefix_view};
-ghost use Rattle.rox_tables.specs.Bindings.{AreBindingsOf};
-ghost use Rattle.rox_tables.specs.declared.namespaces.bindings.PrefixBindings.{PrefixBindings};
-ghost use Rattle.rox_tables.specs.declared.rows.tables.Scope.{Scope};
-ghost use Rattle.rox_tables.specs.TagDeclarations.{unresolved_view, Declares, Declared, HasOwn};
-ghost use Rattle.rox_reading.specs.Tags.{TagSoFar};
+ghost use Rattle.rox_tables.specs.TagDeclarations.{unresolved_view, DeclaresOne, HasOwn};
 
 use crate::compare::same_text;
 use crate::namespaces::namespace_table::{FIRST_ROOM, NamespaceTable};
@@ -133,20 +128,8 @@ pub fn declare_namespace<'input>(
     taken: UnresolvedAttribute<'input>,
 ) -> Result<bool, Failure>
     requires { HasOwn namespaces.old.items.items listed.old.items prefix_set.old.keys own }
-    ensures own { OnOk result
-        (HasOwn namespaces.new.items.items listed.new.items prefix_set.new.keys own) }
-    ensures lists { OnOk result ((scopes : List Scope) → AreScopes own scopes
-        → lists_of (map namespace_view namespaces.new.items.items) listed.new.items scopes
-        ≡ lists_of (map namespace_view namespaces.old.items.items) listed.old.items scopes) }
-    ensures grown { OnOk result ((lists : List (List NamespaceDecl)) (x : PrefixBindings)
-        → AreBindingsOf (map namespace_view namespaces.old.items.items) lists x
-        → AreBindingsOf (map namespace_view namespaces.new.items.items) lists x) }
-    ensures value { (known : List NamespaceDecl) (before : List ℕ) (h : TagSoFar)
-        → own ≡ length before
-        → Declares known before (map namespace_view namespaces.old.items.items) listed.old.items xml
-        h.own
-        → Declared known before (map namespace_view namespaces.new.items.items) listed.new.items
-        result h (spec.declared known (unresolved_view taken.entry) h) }
+    ensures { DeclaresOne namespaces.old.items.items listed.old.items namespaces.new.items.items
+        listed.new.items prefix_set.new.keys own xml taken.entry result }
 {
     taken.test_uri()?;
     let prefix = taken.declared_prefix();

@@ -9,7 +9,7 @@ ghost use Rattle.rox_grammar.specs.declared.fault.Fault.{Fault};
 ghost use Rattle.rox_tables.specs.Storage.{storage_bytes};
 ghost use Rattle.rox_tables.specs.Rows.{namespace_view, namespace_at};
 ghost use Rattle.rox_tables.specs.Scopes.{prefix_view, pair};
-ghost use Rattle.rox_tables.specs.PairIndex.{AddsPair, PlacesPair, few_pairs, key_cmp, key_total, pair_cmp, place_among, place_behind, place_of};
+ghost use Rattle.rox_tables.specs.PairIndex.{AddsPair, FindsPair, IsNewPair, PlacesOrRefuses, few_pairs, key_cmp, key_total, pair_cmp, place_among, place_behind, place_of};
 
 use crate::compare::same_text;
 use crate::namespaces::scope::same_prefix;
@@ -160,13 +160,7 @@ impl<'input> NamespaceTable<'input> {
 
     /// The place of a pair.
     fn find(&self, key: &Key<'input>) -> Option<u16>
-        ensures there { IfSome result (λ i. (i < length self.now.items.items)
-            × (namespace_at (map namespace_view self.now.items.items) i
-            ≡ namespace_view key.now.namespace)
-            × (has_pair (map namespace_view self.now.items.items) (namespace_view key.now.namespace)
-            ≡ true)) }
-        ensures absent { IfNone result (has_pair (map namespace_view self.now.items.items)
-            (namespace_view key.now.namespace) ≡ false) }
+        ensures { FindsPair self.now.items.items (namespace_view key.now.namespace) result }
     {
         let few = self.items.len().min(FEW);
         match place_in(&self.items[..few], &key.namespace) {
@@ -177,9 +171,7 @@ impl<'input> NamespaceTable<'input> {
 
     /// Puts a new pair at the end of the table. The only error is want of memory.
     fn add(&mut self, key: Key<'input>) -> Result<u16, AllocError>
-        requires few { length self.old.items.items < most_pairs }
-        requires absent { has_pair (map namespace_view self.old.items.items)
-            (namespace_view key.namespace) ≡ false }
+        requires { IsNewPair self.old.items.items (namespace_view key.namespace) }
         ensures { IfOk result (λ i. AddsPair (namespace_view key.entry.namespace) i
             self.old.items.items self.new.items.items) }
     {
@@ -204,14 +196,8 @@ impl<'input> NamespaceTable<'input> {
         uri: StringStorage<'input>,
     ) -> Result<u16, Failure>
         requires { length self.old.items.items ≤ most_pairs }
-        ensures placed { IfOk result
-            (λ i. PlacesPair (pair (prefix_view prefix.entry) (storage_bytes uri.entry)) i
-            self.old.items.items self.new.items.items) }
-        ensures fault { (f : Fault) → result ≡ Err (Failure.Fault f)
-            → (f ≡ Fault.NamespacesLimitReached)
-            × (most_pairs
-            < length (with_new (map namespace_view self.old.items.items)
-            (pair (prefix_view prefix.entry) (storage_bytes uri.entry) ∷ []))) }
+        ensures { PlacesOrRefuses (pair (prefix_view prefix.entry) (storage_bytes uri.entry))
+            self.old.items.items self.new.items.items result }
     {
         let namespace = Namespace { name: prefix, uri };
         let key = Key { namespace };

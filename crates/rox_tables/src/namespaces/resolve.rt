@@ -1,24 +1,17 @@
 //! The names of a start tag in their namespaces (Namespaces in XML 1.0, sections 5, 6.2 and 6.3). They are resolved at the
 //! end of the tag, since a declaration holds for the whole of it.
 
-ghost use Rattle.std.specs.Prelude.{◌≡◌, ◌<◌, ◌≤◌, ◌+◌, ◌^◌, ◌++◌, ◌∷◌, [], drop, List, length, map, true, false, IfOk, IfErr, IfSome, IfNone, Ok};
-ghost use Rattle.std.specs.List.{AllByRecursion, list_any};
-ghost use Rattle.std.specs.Option.{option_map};
-ghost use Rattle.rox_grammar.specs.declared.fault.Fault.TheVariants as fault;
-ghost use Rattle.rox_grammar.specs.Written.{Attribute, NamespaceDecl};
-ghost use Rattle.rox_grammar.specs.NameParts.{prefix_span};
-ghost use Rattle.rox_grammar.specs.Tree as tree;
-ghost use Rattle.rox_grammar.specs.Tree.{attribute_in};
-ghost use Rattle.rox_grammar.specs.WellNamed.{is_known, may_name};
+ghost use Rattle.std.specs.Prelude.{◌≡◌, List, length, map};
+ghost use Rattle.std.specs.List.{list_any};
+ghost use Rattle.rox_grammar.specs.Written.{NamespaceDecl};
 ghost use Rattle.rox_grammar.specs.Failures.{name_view};
-ghost use Rattle.rox_tables.specs.Rows.{AttributeRow, namespace_view, namespace_at, attribute, attribute_rows, attribute_uri, NamespaceWithin, OptionWithin};
+ghost use Rattle.rox_tables.specs.Rows.{namespace_view, attribute_rows, attribute_uri, NamespaceWithin};
 ghost use Rattle.rox_tables.specs.StoredAttributes.{data_of};
 ghost use Rattle.rox_tables.specs.Scopes.{prefix_view};
 ghost use Rattle.rox_tables.specs.Bindings.{FindsBinding, LooksWithin, places_view};
-ghost use Rattle.rox_tables.specs.TagDeclarations.{unresolved_view};
-ghost use Rattle.rox_tables.specs.ResolvedNames.{row_of_unresolved, row_of_usual, has_expanded, Tested, AddsResolved, AddsNew, IsNamespaceOf, Resolves, StandsInOrder};
-ghost use Rattle.rox_tables.specs.ExpandedNames.{HasExpandedNames, TestedOr};
-ghost use Rattle.rox_tables.specs.SeenNames.{HasNameOf, HoldsSeen, KeepsCodes, PutsSeen, SeesName, TakesOneMore};
+ghost use Rattle.rox_tables.specs.ResolvedNames.{row_of_unresolved, row_of_usual, has_expanded, Resolves};
+ghost use Rattle.rox_tables.specs.SeenNames.{TakesOneMore};
+ghost use Rattle.rox_tables.specs.TagNames.{AreAmong, FindsElement, FindsNamespace, MayLookUp, MayPut, MayRefuse, MayTest, PutsNew, PutsResolved, TellsRefused, TestsKey, TestsName};
 
 use crate::compare::same_text;
 use crate::namespaces::bindings::PrefixBindings;
@@ -53,12 +46,9 @@ pub fn attribute_namespace(
     present: &PrefixBindings<'_>,
     name: QName<'_>,
 ) -> Option<AttributeNamespace>
-    requires within { LooksWithin (length namespaces.now) (places_view few) present.now }
-    ensures found { IfSome result (IsNamespaceOf namespaces.now (places_view few.entry) present.now
-        (name_view name.entry)) }
-    ensures unknown { (ds : List NamespaceDecl)
-        → FindsBinding (map namespace_view namespaces.now) (places_view few.entry) present.now ds
-        → IfNone result (is_known ds (name_view name.entry) ≡ false) }
+    requires { LooksWithin (length namespaces.now) (places_view few) present.now }
+    ensures { FindsNamespace namespaces.now (places_view few.entry) present.now
+        (name_view name.entry) result }
 {
     if name.prefix.is_empty() {
         return Some(AttributeNamespace::None);
@@ -96,9 +86,7 @@ fn is_among(
     namespace: AttributeNamespace,
     local: &str,
 ) -> bool
-    requires done { AllByRecursion
-        (λ a. NamespaceWithin (length namespaces.now) (data_of a).namespace) done.now }
-    requires other { NamespaceWithin (length namespaces.now) namespace }
+    requires { AreAmong (length namespaces.now) done.now namespace }
     ensures { result ≡ list_any
         (λ a. has_expanded (map namespace_view namespaces.now) namespace local.now
         (data_of a)) done.now }
@@ -127,20 +115,10 @@ fn tested_namespace(
     seen: &mut SeenNames,
     taken: &UnresolvedAttribute<'_>,
 ) -> Result<AttributeNamespace, Fault>
-    requires within { LooksWithin (length namespaces.now) (places_view few) present.now }
-    requires done { AllByRecursion
-        (λ a. NamespaceWithin (length namespaces.now) (data_of a).namespace) done.now }
-    requires seen { AllByRecursion (λ a. HasNameOf seen.old.codes (data_of a)) done.now }
-    ensures found { IfOk result (IsNamespaceOf namespaces.now (places_view few.entry) present.now
-        (name_view taken.now.name)) }
-    ensures tested { (ds : List NamespaceDecl) (rows : List AttributeRow)
-        (before rest : List Attribute)
-        → FindsBinding (map namespace_view namespaces.now) (places_view few.entry) present.now ds
-        → map (λ r. r.0) rows ≡ map data_of done.now
-        → map (attribute (map namespace_view namespaces.now)) rows ≡ map (attribute_in ds) before
-        → Tested ds before (unresolved_view taken.now) rest result }
-    ensures sees { IfOk result (λ _. SeesName seen.old seen.new taken.now.name.local.now) }
-    ensures from { seen.new.from ≡ seen.old.from }
+    requires { MayTest (length namespaces.now) (places_view few) present.now done.now
+        seen.old.codes }
+    ensures { TestsName namespaces.now (places_view few.entry) present.now done.now
+        seen.old seen.new taken.now result }
 {
     let name = taken.name;
     let Some(namespace) = attribute_namespace(namespaces, few, present, name) else {
@@ -164,19 +142,9 @@ fn seen_namespace<'a>(
     seen: &mut BTreeSet<(&'a str, Option<&'a str>)>,
     taken: &UnresolvedAttribute<'a>,
 ) -> Result<AttributeNamespace, Failure>
-    requires within { LooksWithin (length namespaces.now) (places_view few) present.now }
-    ensures found { IfOk result (IsNamespaceOf namespaces.now (places_view few.entry) present.now
-        (name_view taken.now.name)) }
-    ensures tested { (ds : List NamespaceDecl) (rows : List AttributeRow)
-        (before rest : List Attribute)
-        → FindsBinding (map namespace_view namespaces.now) (places_view few.entry) present.now ds
-        → HasExpandedNames (map namespace_view namespaces.now) seen.old.keys (map (λ r. r.0) rows)
-        → map (attribute (map namespace_view namespaces.now)) rows ≡ map (attribute_in ds) before
-        → TestedOr ds before (unresolved_view taken.now) rest result }
-    ensures more { IfOk result (λ s. (done : List AttributeData) (a : AttributeData)
-        → HasExpandedNames (map namespace_view namespaces.now) seen.old.keys done → a.namespace ≡ s
-        → a.local ≡ taken.now.name.local
-        → HasExpandedNames (map namespace_view namespaces.now) seen.new.keys (done ++ a ∷ [])) }
+    requires { LooksWithin (length namespaces.now) (places_view few) present.now }
+    ensures { TestsKey namespaces.now (places_view few.entry) present.now seen.old.keys
+        seen.new.keys taken.now result }
 {
     let name = taken.name;
     let Some(namespace) = attribute_namespace(namespaces, few, present, name) else {
@@ -229,14 +197,11 @@ pub fn put_resolved<'input>(
     seen: &mut SeenNames,
     one: UnresolvedAttribute<'input>,
 ) -> bool
-    requires within { LooksWithin (length namespaces.now) (places_view few) present.now }
-    requires places { StandsInOrder one }
-    requires tag { HoldsSeen (length namespaces.now) seen.old (attribute_rows attributes.old) }
-    ensures puts { PutsSeen seen.old seen.new (attribute_rows attributes.old)
-        (attribute_rows attributes.new) result }
-    ensures added { result ≡ true
-        → AddsResolved (map namespace_view namespaces.now) (places_view few.entry) present.now
-        seen.old.from (attribute_rows attributes.old) (attribute_rows attributes.new) one.entry }
+    requires { MayPut (length namespaces.now) (places_view few) present.now seen.old
+        (attribute_rows attributes.old) one }
+    ensures { PutsResolved (map namespace_view namespaces.now) (places_view few.entry) present.now
+        seen.old seen.new (attribute_rows attributes.old) (attribute_rows attributes.new)
+        one.entry result }
 {
     if seen.are_many_again() {
         return false;
@@ -284,15 +249,10 @@ fn is_refused(
     namespace: AttributeNamespace,
     local: &str,
 ) -> bool
-    requires from { seen.old.from ≤ length (attribute_rows attributes.now) }
-    requires done { AllByRecursion
-        (λ a. NamespaceWithin (length namespaces.now.items.items) a.0.namespace)
-        (drop seen.old.from (attribute_rows attributes.now)) }
-    requires other { NamespaceWithin (length namespaces.now.items.items) namespace }
-    ensures first { result ≡ false → list_any
-        (λ r. has_expanded (map namespace_view namespaces.now.items.items) namespace local.now r.0)
-        (drop seen.old.from (attribute_rows attributes.now)) ≡ false }
-    ensures kept { KeepsCodes seen.old seen.new }
+    requires { MayRefuse (length namespaces.now.items.items) seen.old
+        (attribute_rows attributes.now) namespace }
+    ensures { TellsRefused (map namespace_view namespaces.now.items.items) seen.old seen.new
+        (attribute_rows attributes.now) namespace local.now result }
 {
     if seen.are_many_again() {
         return true;
@@ -314,12 +274,9 @@ pub fn put_usual_attribute<'input>(
 ) -> bool
     requires { TakesOneMore (length namespaces.now.items.items) seen.old
         (attribute_rows attributes.old) namespace }
-    ensures puts { PutsSeen seen.old seen.new (attribute_rows attributes.old)
-        (attribute_rows attributes.new) result }
-    ensures added { result ≡ true
-        → AddsNew (map namespace_view namespaces.now.items.items) seen.old.from
+    ensures { PutsNew (map namespace_view namespaces.now.items.items) seen.old seen.new
         (attribute_rows attributes.old) (attribute_rows attributes.new)
-        (row_of_usual one.entry namespace) }
+        (row_of_usual one.entry namespace) result }
 {
     let repeats = seen.may_have(attributes, one.local);
     if repeats && is_refused(namespaces, attributes, seen, namespace, one.local) {
@@ -348,12 +305,9 @@ pub fn put_changed<'input>(
 ) -> bool
     requires { TakesOneMore (length namespaces.now.items.items) seen.old
         (attribute_rows attributes.old) namespace }
-    ensures puts { PutsSeen seen.old seen.new (attribute_rows attributes.old)
-        (attribute_rows attributes.new) result }
-    ensures added { result ≡ true
-        → AddsNew (map namespace_view namespaces.now.items.items) seen.old.from
+    ensures { PutsNew (map namespace_view namespaces.now.items.items) seen.old seen.new
         (attribute_rows attributes.old) (attribute_rows attributes.new)
-        (row_of_unresolved own.entry namespace) }
+        (row_of_unresolved own.entry namespace) result }
 {
     let local = own.name.local;
     let repeats = seen.may_have(attributes, local);
@@ -385,7 +339,7 @@ fn resolve_many<'input>(
     taken: &mut Vec<UnresolvedAttribute<'input>>,
     attributes: &mut AttributeTable<'input>,
 ) -> Result<(), Failure>
-    requires within { LooksWithin (length namespaces.now) (places_view few) present.now }
+    requires { LooksWithin (length namespaces.now) (places_view few) present.now }
     ensures { (ds : List NamespaceDecl)
         → FindsBinding (map namespace_view namespaces.now) (places_view few.entry) present.now ds
         → Resolves namespaces.now ds taken.old.items (attribute_rows attributes.old)
@@ -426,7 +380,7 @@ pub fn resolve<'input>(
     taken: &mut Vec<UnresolvedAttribute<'input>>,
     attributes: &mut AttributeTable<'input>,
 ) -> Result<(), Failure>
-    requires within { LooksWithin (length namespaces.now) (places_view few) present.now }
+    requires { LooksWithin (length namespaces.now) (places_view few) present.now }
     ensures { (ds : List NamespaceDecl)
         → FindsBinding (map namespace_view namespaces.now) (places_view few.entry) present.now ds
         → Resolves namespaces.now ds taken.old.items (attribute_rows attributes.old)
@@ -463,19 +417,9 @@ pub fn element_namespace(
     name: QName<'_>,
     at: usize,
 ) -> Result<Option<u16>, Fault>
-    requires within { LooksWithin (length namespaces.now) (places_view few) present.now }
-    requires small { at < 2 ^ 63 }
-    ensures within { IfOk result (λ o. OptionWithin (length namespaces.now) o) }
-    ensures ok { (ds : List NamespaceDecl)
-        → FindsBinding (map namespace_view namespaces.now) (places_view few.entry) present.now ds
-        → IfOk result (λ o. (option_map
-        (λ i. (namespace_at (map namespace_view namespaces.now) i).uri) o
-        ≡ tree.element_namespace ds (name_view name.entry))
-        × (may_name ds (name_view name.entry) ≡ true)) }
-    ensures err { (ds : List NamespaceDecl)
-        → FindsBinding (map namespace_view namespaces.now) (places_view few.entry) present.now ds
-        → IfErr result (λ f. (f ≡ fault.UnknownNamespace (prefix_span (name_view name.entry) at) at)
-        × (may_name ds (name_view name.entry) ≡ false)) }
+    requires { MayLookUp (length namespaces.now) (places_view few) present.now at }
+    ensures { FindsElement namespaces.now (places_view few.entry) present.now
+        (name_view name.entry) at result }
 {
     if name.prefix.is_empty() {
         return Ok(find_default(namespaces, few, present));

@@ -6,7 +6,7 @@ ghost use Rattle.rox_grammar.specs.Tree.{same_prefix};
 ghost use Rattle.rox_tables.specs.Rows.{count_at};
 ghost use Rattle.rox_tables.specs.Scopes.{prefix_view, places_in, ArePlaces};
 ghost use Rattle.rox_tables.specs.Bindings.{FindsIndex};
-ghost use Rattle.rox_tables.specs.Ropes.{AddsRow, AreJoinable, IsAmongScope, IsAmongStretch, IsRope, IsRow, IsScopeOf, Joins};
+ghost use Rattle.rox_tables.specs.Ropes.{AddsRow, AreJoinable, IsAmongRow, IsAmongScope, IsAmongStretch, IsPlaceOf, IsPositionOf, IsRope, IsRow, IsScopeOf, Joins};
 
 use crate::namespaces::scope::same_prefix;
 use crate::rows::growth::push;
@@ -59,9 +59,7 @@ fn low(scopes: &[Scope], scope: u32) -> usize
 /// The position among the listed places of the one at this index of what a scope lists.
 pub fn position_at(scopes: &[Scope], listed: &[u16], scope: u32, index: usize) -> usize
     requires { IsAmongScope listed.now scopes.now scope index }
-    ensures within { result < length listed.now }
-    ensures value { slice_index listed.now result
-        ≡ slice_index (places_in listed.now scopes.now scope) index }
+    ensures { IsPositionOf listed.now scopes.now scope index result }
 {
     match scopes[scope as usize] {
         Scope::Few(stretch) => stretch.from as usize + index,
@@ -80,8 +78,7 @@ pub fn position_at(scopes: &[Scope], listed: &[u16], scope: u32, index: usize) -
 #[inline]
 pub fn place_at(scopes: &[Scope], listed: &[u16], scope: u32, index: usize) -> u16
     requires { IsAmongScope listed.now scopes.now scope index }
-    ensures value { result ≡ slice_index (places_in listed.now scopes.now scope) index }
-    ensures place { (n : ℕ) → ArePlaces n listed.now → result < n }
+    ensures { IsPlaceOf listed.now scopes.now scope index result }
 {
     listed[position_at(scopes, listed, scope, index)]
 }
@@ -260,8 +257,7 @@ fn without_back(scopes: &mut Vec<Scope>, stretch: Stretch, index: usize) -> Resu
 
 /// A row of what a scope lists but for the one at this index.
 pub fn without(scopes: &mut Vec<Scope>, scope: u32, index: usize) -> Result<u32, AllocError>
-    requires row { IsRow scopes.old.items scope }
-    requires index { index < count_at scopes.old.items scope }
+    requires { IsAmongRow scopes.old.items scope index }
     ensures { IfOk result (λ s. IsRope scopes.old.items scopes.new.items s
         (λ listed. take index (places_in listed scopes.old.items scope)
         ++ drop (index + 1) (places_in listed scopes.old.items scope))) }

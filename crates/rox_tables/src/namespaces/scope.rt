@@ -7,7 +7,7 @@ ghost use Rattle.rox_tables.specs.Rows.{namespace_view};
 ghost use Rattle.rox_tables.specs.Scopes.{prefix_view, entries, ArePlaces, PrefixesOnce, others};
 ghost use Rattle.rox_tables.specs.PrefixSet.{HasPrefixes, IsBelowFew};
 ghost use Rattle.rox_tables.specs.Ropes.{GivesFew, IsScope};
-ghost use Rattle.rox_tables.specs.Bindings.{FindsPlace, LooksUp, LooksWithin, places_view};
+ghost use Rattle.rox_tables.specs.Bindings.{AreOnce, FindsPlace, LooksUp, LooksWithin, places_view};
 
 use crate::compare::{LONG, Pair, same_short, same_text};
 use crate::namespaces::bindings::PrefixBindings;
@@ -149,8 +149,7 @@ pub fn find_near(
     prefix: &str,
     near: &mut usize,
 ) -> Option<u16>
-    requires within { ArePlaces (length namespaces.now) places.now }
-    requires once { PrefixesOnce (entries (map namespace_view namespaces.now) places.now) }
+    requires { AreOnce namespaces.now places.now }
     ensures { FindsPlace namespaces.now places.now (Some prefix.now) result }
 {
     let guess = *near;

@@ -6,7 +6,7 @@ ghost use Rattle.rox_grammar.specs.Written.{NamespaceDecl};
 ghost use Rattle.rox_tables.specs.Rows.{AttributeRow, attribute_rows};
 ghost use Rattle.rox_tables.specs.ResolvedNames.{has_expanded};
 ghost use Rattle.rox_tables.specs.declared.rows.tables.AttributeNamespace.{AttributeNamespace};
-ghost use Rattle.rox_tables.specs.SeenNames.{name_sum, name_code, AreSeen, HasCode, IsNameCode, KeepsCodes, SeesAll, SeesName};
+ghost use Rattle.rox_tables.specs.SeenNames.{name_sum, AreFirst, AreSeen, IsNameCode, KeepsCodes, PutsCode, SeesAll, TellsSeen};
 
 use crate::compare::{WORD, same_text, word_at};
 use crate::rows::attributes::AttributeTable;
@@ -97,8 +97,7 @@ impl SeenNames {
     /// Puts a name there. Answers whether one with its code was there before.
     #[inline(always)]
     pub(crate) fn put(&mut self, local: &str) -> bool
-        ensures fresh { result ≡ false → HasCode self.old.codes (name_code local.now) → ⊥ }
-        ensures sees { SeesName self.old self.new local.now }
+        ensures { PutsCode self.old self.new local.now result }
     {
         let code = name_code(local);
         let bits = self.codes[code / WIDTH];
@@ -111,8 +110,7 @@ impl SeenNames {
     #[cold]
     #[inline(never)]
     fn put_first(&mut self, attributes: &AttributeTable<'_>)
-        requires from { self.old.from ≤ length (attribute_rows attributes.now) }
-        requires few { length (attribute_rows attributes.now) ≤ self.old.from + 2 }
+        requires { AreFirst self.old (attribute_rows attributes.now) }
         ensures { SeesAll self.old self.new (attribute_rows attributes.now) }
     {
         let count = attributes.items.len() - self.from;
@@ -142,12 +140,7 @@ impl SeenNames {
     #[inline(always)]
     pub(crate) fn may_have(&mut self, attributes: &AttributeTable<'_>, local: &str) -> bool
         requires { AreSeen self.old (attribute_rows attributes.now) }
-        ensures first { result ≡ false → (namespaces : List NamespaceDecl) (s : AttributeNamespace)
-            → list_any (λ r. has_expanded namespaces s local.now r.0)
-            (drop self.old.from (attribute_rows attributes.now)) ≡ false }
-        ensures seen { (row : AttributeRow) → row.0.local.now ≡ local.now
-            → AreSeen self.new (attribute_rows attributes.now ++ row ∷ []) }
-        ensures from { self.new.from ≡ self.old.from }
+        ensures { TellsSeen self.old self.new (attribute_rows attributes.now) local.now result }
     {
         let count = attributes.items.len() - self.from;
         if count == 0 {

@@ -9,7 +9,7 @@ ghost use Rattle.rox_tables.specs.Scopes.{prefix_view, entries, places_in, Prefi
 ghost use Rattle.rox_tables.specs.PrefixSet.{IsBelowFew};
 ghost use Rattle.rox_tables.specs.Bindings.{bound_place};
 ghost use Rattle.rox_tables.specs.Ropes.{IsListed, IsScopeOf};
-ghost use Rattle.rox_tables.specs.TagScopes.{HasOpenTag, HasScope, HasTagPrefixes, IsBelowMany};
+ghost use Rattle.rox_tables.specs.TagScopes.{AddsBack, HasFewAbove, HasOpenTag, HasScope, HasTagPrefixes, IsBelowMany, IsBelowRows, IsTurnable, ListsBelowMany, MayHide};
 
 use crate::namespaces::bindings::PrefixBindings;
 use crate::namespaces::prefix_set::FEW;
@@ -21,13 +21,9 @@ use std::collections::BTreeSet;
 
 /// Lists once more, in reverse order, what is listed from `from` on: a row that reads it from its back.
 fn add_back(listed: &mut Vec<u16>, scopes: &mut Vec<Scope>, from: usize) -> Result<u32, AllocError>
-    requires from { from ≤ length listed.old.items }
-    requires scopes { AreScopes (length listed.old.items) scopes.old.items }
-    ensures value { IfOk result (λ s. (namespaces : List NamespaceDecl)
-        → IsListed namespaces listed.old.items scopes.old.items listed.new.items scopes.new.items s
-        (entries namespaces (drop from listed.old.items))) }
-    ensures own { OnOk result (listed.new.items
-        ≡ listed.old.items ++ reverse (drop from listed.old.items)) }
+    requires { IsTurnable listed.old.items scopes.old.items from }
+    ensures { IfOk result (AddsBack listed.old.items scopes.old.items listed.new.items
+        scopes.new.items from) }
 {
     let end = listed.len();
     for turn in 0..end - from {
@@ -49,9 +45,8 @@ pub fn listed_below_few<'input>(
     above: Stretch,
     own: OwnDeclarations,
 ) -> Result<u32, AllocError>
-    requires below { IsBelowFew namespaces.now listed.old.items prefix_set.now.keys above.from
-        above.until own.from }
-    requires scopes { AreScopes (length listed.old.items) scopes.old.items }
+    requires { IsBelowRows namespaces.now listed.old.items scopes.old.items prefix_set.now.keys
+        above own.from }
     ensures { IfOk result
         (λ s. IsListed (map namespace_view namespaces.now) listed.old.items scopes.old.items
         listed.new.items scopes.new.items s
@@ -82,12 +77,8 @@ fn hide<'input>(
     scope: u32,
     prefix: Option<&str>,
 ) -> Result<u32, AllocError>
-    requires scope { IsScopeOf (length namespaces.now) listed.now scopes.old.items scope }
-    requires once { PrefixesOnce (entries (map namespace_view namespaces.now)
-        (places_in listed.now scopes.old.items scope)) }
-    requires absent { bound_place present.now (prefix_view prefix) ≡ None
-        → is_declared (prefix_view prefix) (entries (map namespace_view namespaces.now)
-        (places_in listed.now scopes.old.items scope)) ≡ false }
+    requires { MayHide namespaces.now listed.now scopes.old.items present.now scope
+        (prefix_view prefix) }
     ensures { IfOk result
         (λ s. IsListed (map namespace_view namespaces.now) listed.now scopes.old.items listed.now
         scopes.new.items s
@@ -147,15 +138,8 @@ pub fn listed_below_many<'input>(
 ) -> Result<u32, AllocError>
     requires { IsBelowMany namespaces.now listed.old.items scopes.old.items present.now
         above own.from }
-    ensures value { IfOk result
-        (λ s. IsListed (map namespace_view namespaces.now) listed.old.items scopes.old.items
-        listed.new.items scopes.new.items s
-        (entries (map namespace_view namespaces.now) (drop own.from listed.old.items)
-        ++ others (entries (map namespace_view namespaces.now) (drop own.from listed.old.items))
-        own.xml (entries (map namespace_view namespaces.now)
-        (places_in listed.old.items scopes.old.items above)))) }
-    ensures own { OnOk result (listed.new.items
-        ≡ listed.old.items ++ reverse (drop own.from listed.old.items)) }
+    ensures { IfOk result (ListsBelowMany (map namespace_view namespaces.now) listed.old.items
+        scopes.old.items listed.new.items scopes.new.items above own.from own.xml) }
 {
     let rest = hide_own(namespaces, listed, scopes, present, above, own)?;
     let first = add_back(listed, scopes, own.from)?;
@@ -171,9 +155,7 @@ fn scope_below_few<'input>(
     stretch: Stretch,
     own: OwnDeclarations,
 ) -> Result<u32, AllocError>
-    requires prefixes { HasTagPrefixes elements.old prefix_set.now.keys above own.from }
-    requires few { Scope.Few stretch
-        ≡ slice_index_or elements.old.scopes.items above (Scope.Few stretch) }
+    requires { HasFewAbove elements.old prefix_set.now.keys above own.from stretch }
     ensures { IfOk result (λ s. HasScope elements.old elements.new above own.from own.xml s) }
 {
     let scope = listed_below_few(

@@ -1,7 +1,7 @@
 //! The table of attributes.
 
 ghost use Rattle.std.specs.Prelude.{◌≡◌, ◌<◌, ◌≤◌, ◌+◌, ◌-◌, ◌^◌, ◌/◌, ◌∷◌, [], true, false, length, take, min, vec_len, vec_capacity, if◌then◌else◌, is_ok, IfOk, OnOk};
-ghost use Rattle.rox_tables.specs.StoredAttributes.{AreNumbered, AreNumbered-prop, TakesBack, unusual_count, own_place, owned_places};
+ghost use Rattle.rox_tables.specs.StoredAttributes.{AreNumbered, AreNumbered-prop, TakesBack, TakesLastRow, unusual_count, own_place, owned_places};
 ghost use Rattle.std.proofs.Props.{props};
 ghost use Rattle.rox_tables.specs.Puts.{Puts};
 
@@ -66,9 +66,7 @@ fn note(owned: &mut Vec<usize>, value: &StringStorage<'_>, count: usize) -> bool
 
 /// Takes back the last row, and frees its value.
 fn take_last(items: &mut Vec<StoredAttribute<'_>>, owned: &mut Vec<usize>)
-    ensures taken { TakesBack (vec_len items.old - 1) items.old.items items.new.items
-        owned.old.items owned.new.items }
-    ensures count { vec_len items.new ≡ vec_len items.old - 1 }
+    ensures { TakesLastRow items.old items.new owned.old.items owned.new.items }
 {
     if let Some(row) = items.pop() {
         let value = ManuallyDrop::into_inner(row.value);
@@ -109,7 +107,7 @@ impl Drop for AttributeTable<'_> {
 impl<'input> AttributeTable<'input> {
     ghost use Rattle.rox_tables.specs.Rows.{attribute_rows};
     ghost use Rattle.rox_tables.specs.StoredAttributes.{places_in, place_bound};
-    ghost use Rattle.rox_tables.specs.UsualPlaces.{IsUsual};
+    ghost use Rattle.rox_tables.specs.AttributeChanges.{FitsUsual, MakesAttributeRoom, TellsRoom};
 
     /// The table of a text of so many bytes, without attributes, with room for so many.
     pub fn of_text(alloc: Global, bytes: usize, room: usize) -> AttributeTable<'input>
@@ -151,9 +149,7 @@ impl<'input> AttributeTable<'input> {
     #[cold]
     #[inline(never)]
     fn make_room(&mut self, place: usize) -> Result<(), AllocError>
-        ensures items { self.new.items.items ≡ self.old.items.items }
-        ensures unusual { self.new.unusual ≡ self.old.unusual }
-        ensures room { OnOk result (vec_len self.new.items < vec_capacity self.new.items) }
+        ensures { MakesAttributeRoom self.old self.new result }
     {
         if self.refused {
             return Err(AllocError);
@@ -170,8 +166,7 @@ impl<'input> AttributeTable<'input> {
     /// Whether there is room for one more, which ends at `place`. Where there was none it is made, if there is memory.
     #[inline(always)]
     pub(crate) fn has_room(&mut self, place: usize) -> bool
-        ensures rows { attribute_rows self.new ≡ attribute_rows self.old }
-        ensures room { result ≡ true → vec_len self.new.items < vec_capacity self.new.items }
+        ensures { TellsRoom self.old self.new result }
     {
         if !self.is_full() {
             return true;
@@ -188,8 +183,7 @@ impl<'input> AttributeTable<'input> {
         places: AttributePlaces,
         before: u8,
     ) -> bool
-        requires room { vec_len self.old.items < vec_capacity self.old.items }
-        requires usual { IsUsual item places before }
+        requires { FitsUsual item places before self.old }
         ensures { Puts ((item.entry, places) ∷ []) result (attribute_rows self.old)
             (attribute_rows self.new) }
     {

@@ -1,6 +1,7 @@
 //! How many rows a text gives, foretold from its length, and where it is long from a sample of its bytes.
 
-ghost use Rattle.std.specs.Prelude.{◌≤◌, ◌+◌, ◌/◌, length};
+ghost use Rattle.std.specs.Prelude.{◌≤◌, length};
+ghost use Rattle.rox_tables.specs.Growth.{IsFirstRoom};
 
 use std::simd::prelude::*;
 
@@ -110,8 +111,7 @@ fn by_length(len: usize) -> RowCounts {
 /// How many rows a text is to have room for at first: what is foretold, and some more.
 #[inline(always)]
 pub fn first_rows(text: &str) -> RowCounts
-    ensures nodes { result.nodes ≤ length text.now / 12 + 16 }
-    ensures attributes { result.attributes ≤ length text.now / 12 + 10 }
+    ensures { IsFirstRoom (length text.now) result }
 {
     let len = text.len();
     let rows = if len < SAMPLED {

@@ -1,8 +1,7 @@
 //! Growth of tables.
 
-ghost use Rattle.std.specs.Prelude.{◌≡◌, ◌<◌, ◌≤◌, ◌+◌, ◌/◌, ◌^◌, [], if◌then◌else◌, is_ok, min, vec_len, vec_capacity, IfOk, OnOk};
-ghost use Rattle.std.specs.Vec.{VecUnchanged};
-ghost use Rattle.rox_tables.specs.Growth as room;
+ghost use Rattle.std.specs.Prelude.{◌<◌, ◌^◌, is_ok, IfOk};
+ghost use Rattle.rox_tables.specs.Growth as growth;
 ghost use Rattle.rox_tables.specs.Puts.{Pushes};
 
 use std::alloc::{AllocError, Global};
@@ -11,8 +10,7 @@ use std::alloc::{AllocError, Global};
 #[cold]
 #[inline(never)]
 fn grow<T: Drop>(to: &mut Vec<T>) -> Result<(), AllocError>
-    ensures items { VecUnchanged to.old to.new }
-    ensures ok { OnOk result (vec_len to.new < vec_capacity to.new) }
+    ensures { growth.GrowsByOne to.old to.new result }
 {
     to.reserve(1)?;
     Ok(())
@@ -35,8 +33,7 @@ pub fn push<T: Drop>(to: &mut Vec<T>, value: T) -> Result<(), AllocError>
 #[cold]
 #[inline(never)]
 fn grow_first<T: Drop>(to: &mut Vec<T>, first: usize) -> Result<(), AllocError>
-    ensures items { VecUnchanged to.old to.new }
-    ensures ok { OnOk result (vec_len to.new < vec_capacity to.new) }
+    ensures { growth.GrowsByOne to.old to.new result }
 {
     if to.is_empty() {
         to.reserve_exact(first.max(1))?;
@@ -64,10 +61,7 @@ const SMALL: usize = 204;
 /// is want of memory.
 #[inline(always)]
 pub fn reserve<T: Drop>(to: &mut Vec<T>, more: usize, fewer: usize) -> Result<(), AllocError>
-    ensures items { VecUnchanged to.old to.new }
-    ensures ok { OnOk result (vec_len to.new + min more fewer ≤ vec_capacity to.new) }
-    ensures small { OnOk result (vec_len to.old + more ≤ 204
-        → vec_len to.new + more ≤ vec_capacity to.new) }
+    ensures { growth.Reserves more fewer to.old to.new result }
 {
     if to.reserve_exact(more).is_ok() {
         return Ok(());
@@ -83,9 +77,7 @@ pub fn reserve<T: Drop>(to: &mut Vec<T>, more: usize, fewer: usize) -> Result<()
 /// already, or none where there is no memory for it: it is then asked for as the table grows.
 #[inline(always)]
 pub fn with_room<T: Drop>(alloc: Global, room: usize) -> Vec<T>
-    ensures items { result.items ≡ [] }
-    ensures room { vec_capacity result ≤ room }
-    ensures small { room ≤ 204 → vec_capacity result ≡ 0 }
+    ensures { growth.IsEmptyWith room result }
 {
     if room <= SMALL {
         return Vec::new(alloc);
@@ -104,8 +96,7 @@ pub(crate) fn first_room<T: Drop>(
     room: usize,
     fewer: usize,
 ) -> Result<Vec<T>, AllocError>
-    ensures items { IfOk result (λ table. table.items ≡ []) }
-    ensures room { IfOk result (λ table. min room fewer ≤ vec_capacity table) }
+    ensures { IfOk result (growth.HasFirstRoom room fewer) }
 {
     if let Ok(table) = Vec::with_capacity(alloc, room) {
         return Ok(table);
@@ -122,8 +113,7 @@ pub(crate) fn first_room<T: Drop>(
 /// than there are, so that a table is seldom moved, and at most eight times as many, since a dense head tells little of the rest.
 fn foreseen(len: usize, place: usize, end: usize) -> usize
     requires { len < 2 ^ 63 }
-    ensures value { result ≡ room.foreseen len place end }
-    ensures more { len + len / 8 < result }
+    ensures { growth.IsForeseen len place end result }
 {
     let rest = len.saturating_mul(end.saturating_sub(place)) / place.max(1);
     let foretold = len.saturating_add(rest).saturating_add(rest / 8);
@@ -136,10 +126,7 @@ fn foreseen(len: usize, place: usize, end: usize) -> usize
 #[cold]
 #[inline(never)]
 pub fn make_room<T: Drop>(to: &mut Vec<T>, place: usize, end: usize) -> Result<(), AllocError>
-    ensures items { VecUnchanged to.old to.new }
-    ensures eighth { OnOk result (vec_len to.new + vec_len to.new / 8 < vec_capacity to.new) }
-    ensures small { OnOk result (room.foreseen (vec_len to.old) place end ≤ 204
-        → room.foreseen (vec_len to.old) place end ≤ vec_capacity to.new) }
+    ensures { growth.MakesRoom place end to.old to.new result }
 {
     let len = to.len();
     let more = foreseen(len, place, end) - len;
@@ -152,10 +139,7 @@ const SPARE: usize = 65536;
 /// Gives back the room that a whole table does not need, where it is large.
 #[inline]
 pub fn trim<T: Drop>(table: &mut Vec<T>)
-    ensures items { VecUnchanged table.old table.new }
-    ensures room { vec_capacity table.new ≤ vec_capacity table.old }
-    ensures none { vec_len table.old ≡ 0 → 65536 < vec_capacity table.old
-        → vec_capacity table.new ≡ 0 }
+    ensures { growth.GivesBack table.old table.new }
 {
     let len = table.len();
     let spare = table.capacity() - len;

@@ -142,7 +142,7 @@ impl Drop for NodeTable<'_> {
 
 impl<'input> NodeTable<'input> {
     ghost use Rattle.rox_tables.specs.Rows.{node_rows};
-    ghost use Rattle.rox_tables.specs.NodeChanges.{EndsNode, EndsRoot, FitsNode, IsRootAlone, KeepsNodes, PushesNode, PutsNode, TakesNodes};
+    ghost use Rattle.rox_tables.specs.NodeChanges.{CountsNodes, EndsNode, EndsRoot, EndsRow, FitsNode, FitsSmallNode, HasRoomForEnd, IsRootAlone, KeepsNodes, MakesNodeRoom, MayTakeLast, PushesNode, PutsNode, TakesNodes};
 
     /// The root node of a text of so many bytes, with room for so many rows. The only error is want of memory.
     #[inline(always)]
@@ -173,8 +173,7 @@ impl<'input> NodeTable<'input> {
     /// How many nodes there are.
     #[inline(always)]
     pub fn len(&self) -> usize
-        ensures rows { result ≡ vec_len self.now.rows }
-        ensures nodes { result ≡ length (node_rows self.now) }
+        ensures { CountsNodes self.now result }
     {
         self.rows.len()
     }
@@ -227,8 +226,7 @@ impl<'input> NodeTable<'input> {
     #[cold]
     #[inline(never)]
     fn make_room(&mut self, start: usize, end: usize) -> Result<(), AllocError>
-        ensures rows { KeepsNodes self.old self.new }
-        ensures ok { OnOk result (vec_len self.new.rows < vec_capacity self.new.rows) }
+        ensures { MakesNodeRoom self.old self.new result }
     {
         let text_end = self.text_end();
         growth::make_room(&mut self.rows, start.max(end), text_end)
@@ -237,8 +235,7 @@ impl<'input> NodeTable<'input> {
     /// Puts a node at the end, where there is room for its row and the row holds it alone.
     #[inline(always)]
     pub fn put(&mut self, row: NodeData<'input>)
-        requires fits { FitsNode row self.old }
-        requires small { stored.IsSmallKind row.kind }
+        requires { FitsSmallNode row self.old }
         ensures { PutsNode row.entry self.old self.new }
     {
         let owns = owns_text(&row.kind);
@@ -315,8 +312,7 @@ impl<'input> NodeTable<'input> {
     /// half there is room for it.
     #[inline(always)]
     pub fn put_end(&mut self, row: u32, end: usize)
-        requires few { vec_len self.old.rows < 2 ^ 32 }
-        requires room { vec_len self.old.high < vec_len self.old.rows → end < 2 ^ 32 }
+        requires { HasRoomForEnd end self.old }
         ensures { EndsNode row end self.old self.new }
     {
         let subtree_end = self.rows.len() as u32;
@@ -328,8 +324,7 @@ impl<'input> NodeTable<'input> {
     #[inline(always)]
     pub fn end_row(&mut self, row: u32, end: usize) -> Result<(), AllocError>
         requires { vec_len self.old.rows < 2 ^ 32 }
-        ensures ends { OnOk result (EndsNode row end self.old self.new) }
-        ensures same { OnErr result (KeepsNodes self.old self.new) }
+        ensures { EndsRow row end self.old self.new result }
     {
         if end >= FIRST_HIGH {
             fill(&mut self.high, self.rows.len())?;
@@ -347,8 +342,7 @@ impl<'input> NodeTable<'input> {
 
     /// Takes back the last node, if there is one behind the first so many.
     pub fn truncate(&mut self, count: usize)
-        requires last { vec_len self.old.rows ≤ count + 1 }
-        requires few { vec_len self.old.rows < 2 ^ 32 }
+        requires { MayTakeLast count self.old }
         ensures { TakesNodes count self.old self.new }
     {
         if self.rows.len() <= count {

@@ -2,7 +2,7 @@
 
 ghost use Rattle.std.specs.Prelude.{◌≡◌, IfOk, not, false};
 ghost use Rattle.std.specs.Rc.{rc_str_bytes};
-ghost use Rattle.rox_tables.specs.Storage.{storage_bytes, is_borrowed};
+ghost use Rattle.rox_tables.specs.Storage.{IsOwnText, storage_bytes, is_borrowed};
 
 use std::alloc::{AllocError, Global};
 use std::fmt;
@@ -27,8 +27,7 @@ fn owned_text(text: &RcStr) -> &str
 impl<'input> StringStorage<'input> {
     /// A text of its own. The only error is want of memory.
     pub fn new_owned(alloc: Global, s: &str) -> Result<Self, AllocError>
-        ensures bytes { IfOk result (λ t. storage_bytes t ≡ s.now) }
-        ensures owned { IfOk result (λ t. is_borrowed t ≡ false) }
+        ensures { IfOk result (IsOwnText s.now) }
     {
         let text = RcStr::from_str(alloc, s)?;
         Ok(StringStorage::Owned(text))

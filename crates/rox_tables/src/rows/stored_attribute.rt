@@ -39,7 +39,7 @@ pub struct StoredAttribute<'input> {
 pub const UNUSUAL: u8 = 255;
 
 impl<'input> StoredAttribute<'input> {
-    ghost use Rattle.rox_tables.specs.StoredAttributes.{StoresAttribute, data_of};
+    ghost use Rattle.rox_tables.specs.StoredAttributes.{StoresAttribute, TellsUnusual, data_of};
 
     /// The row of an attribute.
     #[inline(always)]
@@ -83,8 +83,7 @@ impl<'input> StoredAttribute<'input> {
     /// Whether its places do not follow from its start.
     #[inline]
     pub(crate) fn is_unusual(&self) -> bool
-        ensures unusual { result ≡ (self.now.before == 255) }
-        ensures usual { result ≡ false → self.now.before < 255 }
+        ensures { TellsUnusual self.now result }
     {
         self.before == UNUSUAL
     }

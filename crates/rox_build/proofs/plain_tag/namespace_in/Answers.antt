@@ -6,11 +6,11 @@ use Rattle.rox_tables.proofs.NameTests.{known_some}
 use Rattle.rox_build.proofs.PlainTags.{few_within, few_once, few_is}
 use Rattle.rox_build.proofs.plain_tag.namespace_in.Goals as goal
 
-pub find_near-requires-clause-within : goal.find_near-requires-clause-within
-find_near-requires-clause-within c = few_within c.args.elements.now c.as_slice-namespaces.result.now c.deref.result.now c.deref-2.result.now c.in_ok-places.places.now c.args.scope c.as_slice-namespaces.ensures.value c.deref.ensures.value c.deref-2.ensures.value c.requires.scope.places c.in_ok-places.ensures.few
-
-pub find_near-requires-clause-once : goal.find_near-requires-clause-once
-find_near-requires-clause-once c = few_once c.args.elements.now c.as_slice-namespaces.result.now c.deref.result.now c.deref-2.result.now c.in_ok-places.places.now c.args.scope c.as_slice-namespaces.ensures.value c.deref.ensures.value c.deref-2.ensures.value c.requires.scope.once c.in_ok-places.ensures.few
+pub find_near-requires : goal.find_near-requires
+find_near-requires c = record {
+  within = few_within c.args.elements.now c.as_slice-namespaces.result.now c.deref.result.now c.deref-2.result.now c.in_ok-places.places.now c.args.scope c.as_slice-namespaces.ensures.value c.deref.ensures.value c.deref-2.ensures.value c.requires.scope.places c.in_ok-places.ensures.few;
+  once = few_once c.args.elements.now c.as_slice-namespaces.result.now c.deref.result.now c.deref-2.result.now c.in_ok-places.places.now c.args.scope c.as_slice-namespaces.ensures.value c.deref.ensures.value c.deref-2.ensures.value c.requires.scope.once c.in_ok-places.ensures.few;
+}
 
 pub returns-in-Some-clause-known : goal.returns-in-Some-clause-known
 returns-in-Some-clause-known c = λ ds h.

@@ -1,9 +1,13 @@
+use Rattle.std.proofs.Common.{rules}
 use Rattle.rox_build.proofs.PlainTags.{few_within, few_found}
 use Rattle.rox_build.proofs.plain_tag.other_namespace.Goals as goal
 
-pub element_namespace-requires-clause-within : goal.element_namespace-requires-clause-within
-element_namespace-requires-clause-within c =
-    few_within c.args.elements.now c.as_slice-namespaces.result.now c.deref.result.now c.deref-2.result.now c.in_ok-places.places.now c.args.scope c.as_slice-namespaces.ensures.value c.deref.ensures.value c.deref-2.ensures.value c.requires.scope.places c.in_ok-places.ensures.few
+pub element_namespace-requires : goal.element_namespace-requires
+element_namespace-requires c = record {
+  within =
+      few_within c.args.elements.now c.as_slice-namespaces.result.now c.deref.result.now c.deref-2.result.now c.in_ok-places.places.now c.args.scope c.as_slice-namespaces.ensures.value c.deref.ensures.value c.deref-2.ensures.value c.requires.scope.places c.in_ok-places.ensures.few;
+  small = search rules;
+}
 
 pub returns-in-Ok-clause-is : goal.returns-in-Ok-clause-is
 returns-in-Ok-clause-is c =

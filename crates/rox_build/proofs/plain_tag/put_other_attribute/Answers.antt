@@ -1,10 +1,14 @@
-use Rattle.std.proofs.Common.{refl, sym, ◌∙◌, arith}
+use Rattle.std.proofs.Common.{rules, refl, sym, ◌∙◌, arith}
 use Rattle.rox_build.proofs.PlainTags.{few_within, few_is}
 use Rattle.rox_build.proofs.plain_tag.put_other_attribute.Goals as goal
 
-pub put_resolved-requires-clause-within : goal.put_resolved-requires-clause-within
-put_resolved-requires-clause-within c =
-    few_within c.args.elements.now c.as_slice-namespaces.result.now c.deref.result.now c.deref-2.result.now c.in-Some-few_places.places.now c.args.scope c.as_slice-namespaces.ensures.value c.deref.ensures.value c.deref-2.ensures.value c.requires.holds.scope.places c.in-Some-few_places.ensures.few
+pub put_resolved-requires : goal.put_resolved-requires
+put_resolved-requires c = record {
+  within =
+      few_within c.args.elements.now c.as_slice-namespaces.result.now c.deref.result.now c.deref-2.result.now c.in-Some-few_places.places.now c.args.scope c.as_slice-namespaces.ensures.value c.deref.ensures.value c.deref-2.ensures.value c.requires.holds.scope.places c.in-Some-few_places.ensures.few;
+  places = search rules;
+  tag = record { are_seen = c.requires.holds.seen; within = rw c.as_slice-namespaces.ensures.value c.requires.holds.done };
+}
 
 pub returns : goal.returns
 returns c =

@@ -1,4 +1,4 @@
-use Rattle.std.proofs.Common.{◌≡◌, ◌≤◌, ◌+◌, length, map, refl, sym, ap, subst, ◌∙◌, arith, ℕ, length-append}
+use Rattle.std.proofs.Common.{rules, ◌≡◌, ◌≤◌, ◌+◌, length, map, refl, sym, ap, subst, ◌∙◌, arith, ℕ, length-append}
 use Rattle.std.specs.List.{AllByRecursion}
 use Rattle.std.specs.Option.{option_map}
 use Rattle.std.proofs.lemmas.List.{length-map}
@@ -20,16 +20,17 @@ few_places-few-requires c = rw (c.deref.ensures.value, c.deref-2.ensures.value) 
 pub resolve-requires : goal.resolve-requires
 resolve-requires c =
     let t = c.args.elements.now in
-    record {
-      within = rw c.as_slice.ensures.value (looks_for t c.deref.result.now c.deref-2.result.now c.few_places-few.result c.args.scope c.deref.ensures.value c.deref-2.ensures.value c.requires.tables.places
-          c.few_places-few.ensures.few c.few_places-few.ensures.many c.requires.tables.present);
-    }
-
-pub element_namespace-requires-clause-within : goal.element_namespace-requires-clause-within
-element_namespace-requires-clause-within c =
-    let t = c.args.elements.now in
-    rw c.as_slice-2.ensures.value (looks_for t c.deref.result.now c.deref-2.result.now c.few_places-few.result c.args.scope c.deref.ensures.value c.deref-2.ensures.value c.requires.tables.places
+    rw c.as_slice.ensures.value (looks_for t c.deref.result.now c.deref-2.result.now c.few_places-few.result c.args.scope c.deref.ensures.value c.deref-2.ensures.value c.requires.tables.places
     c.few_places-few.ensures.few c.few_places-few.ensures.many c.requires.tables.present)
+
+pub element_namespace-requires : goal.element_namespace-requires
+element_namespace-requires c = record {
+  within =
+      let t = c.args.elements.now in
+      rw c.as_slice-2.ensures.value (looks_for t c.deref.result.now c.deref-2.result.now c.few_places-few.result c.args.scope c.deref.ensures.value c.deref-2.ensures.value c.requires.tables.places
+      c.few_places-few.ensures.few c.few_places-few.ensures.many c.requires.tables.present);
+  small = search rules;
+}
 
 pub returns-in_err-resolve-clause-err : goal.returns-in_err-resolve-clause-err
 returns-in_err-resolve-clause-err c =

@@ -5,7 +5,7 @@ pub returns : goal.returns
 returns c =
     let set = c.skip_set.ensures in
     record {
-      place = spaces_end_there c.args.text.now c.args.at _ c.utf8.text c.requires set.onward set.within set.passes set.stops;
+      place = spaces_end_there c.args.from.text.now c.args.from.pos _ c.args.from.utf8 c.args.from.cut set.onward set.within set.passes set.stops;
       onward = set.onward;
-      cut = spaces_cut c.args.text.now c.args.at _ c.utf8.text c.requires set.onward set.within set.passes;
+      cut = spaces_cut c.args.from.text.now c.args.from.pos _ c.args.from.utf8 c.args.from.cut set.onward set.within set.passes;
     }

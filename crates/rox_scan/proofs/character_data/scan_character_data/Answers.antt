@@ -7,11 +7,11 @@ use Rattle.rox_scan.proofs.character_data.scan_character_data.Goals as goal
 pub loop-end-init : goal.loop-end-init
 loop-end-init c =
     let n = c.skip_set-end.ensures in
-    record { looked = run_near c.args.text.now c.args.at _ c.utf8.text c.requires n.onward n.within n.passes n.stops }
+    record { looked = run_near c.args.from.text.now c.args.from.pos _ c.args.from.utf8 c.args.from.cut n.onward n.within n.passes n.stops }
 
 pub loop-end-preserved : goal.loop-end-preserved
 loop-end-preserved c =
-    let src = c.args.text.now in
+    let src = c.args.from.text.now in
     let j = c.loop-end.end in
     let a = c.after_char-next.ensures.step in
     let n = c.skip_set-end-in-loop-end.ensures in
@@ -20,4 +20,4 @@ loop-end-preserved c =
     let here : ends_run src j ≡ false = rw (no_tag, ← c.is_mark_at.ensures, c.if-is_mark_at.false) refl in
     let some : j < c.after_char-next.result = omega (arith, a.onward, c.if-next-end.false) in
     let changed : c.changes_run.result ≡ changes_run (get_or src j 0) = c.changes_run.ensures ∙ ap changes_run read in
-    record { looked = rw changed (run_on src c.args.at j _ _ c.loop-end.is_verbatim c.utf8.text c.requires c.loop-end.invariant.looked some a.cut a.chars a.wide here n.onward n.within n.passes n.stops) }
+    record { looked = rw changed (run_on src c.args.from.pos j _ _ c.loop-end.is_verbatim c.args.from.utf8 c.args.from.cut c.loop-end.invariant.looked some a.cut a.chars a.wide here n.onward n.within n.passes n.stops) }

@@ -4,11 +4,11 @@ use Rattle.rox_scan.proofs.LongerLemmas.{run_none, run_on, wide_no_run_end}
 use Rattle.rox_scan.proofs.character_data.wide_run_end.Goals as goal
 
 pub loop-end-init : goal.loop-end-init
-loop-end-init c = record { looked = run_none c.args.text.now c.args.at c.utf8.text c.requires }
+loop-end-init c = record { looked = run_none c.args.from.text.now c.args.from.pos c.args.from.utf8 c.args.from.cut }
 
 pub loop-end-preserved : goal.loop-end-preserved
 loop-end-preserved c =
-    let src = c.args.text.now in
+    let src = c.args.from.text.now in
     let j = c.loop-end.end in
     let a = c.after_wide-next.ensures in
     let n = c.skip_set-end.ensures in
@@ -16,5 +16,5 @@ loop-end-preserved c =
     let wide : get_or src j 0 ≡ 239 = omega (arith, read, c.if-here.false) in
     let here : ends_run src j ≡ false = wide_no_run_end src j (omega (arith, wide)) in
     let some : j < c.after_wide-next.result = omega (arith, a.onward, c.if-next-end.false) in
-    let look = run_on src c.args.at j _ _ true c.utf8.text c.requires c.loop-end.invariant.looked some a.cut a.chars a.wide here n.onward n.within n.passes n.stops in
+    let look = run_on src c.args.from.pos j _ _ true c.args.from.utf8 c.args.from.cut c.loop-end.invariant.looked some a.cut a.chars a.wide here n.onward n.within n.passes n.stops in
     record { looked = rw wide at look }

@@ -4,7 +4,7 @@ use Rattle.rox_scan.proofs.character_data.wide_run_end.Given as goal
 
 abbrev pub invariant-loop-end : goal.invariant-loop-end
 invariant-loop-end l = record {
-  looked : IsLookahead (ends_run l.text) changes_run l.text l.at l.end true;
+  looked : IsLookahead (ends_run l.text) changes_run l.text l.fn.from.pos l.end true;
 }
 
 abbrev pub decreases-loop-end : goal.decreases-loop-end

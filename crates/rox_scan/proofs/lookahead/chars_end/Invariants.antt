@@ -5,9 +5,9 @@ use Rattle.rox_scan.proofs.lookahead.chars_end.Given as goal
 
 abbrev pub invariant-loop-end : goal.invariant-loop-end
 invariant-loop-end l = record {
-  onward : l.at ≤ l.end;
+  onward : l.fn.from.pos ≤ l.end;
   cut : IsCharBoundary l.text l.end;
-  chars : AreChars l.text l.at l.end;
+  chars : AreChars l.text l.fn.from.pos l.end;
 }
 
 abbrev pub decreases-loop-end : goal.decreases-loop-end

@@ -4,7 +4,7 @@ use Rattle.rox_scan.proofs.lookahead.comment_end.Given as goal
 
 abbrev pub invariant-loop-end : goal.invariant-loop-end
 invariant-loop-end l = record {
-  looked : IsLookahead (ends_comment l.text) changes_comment l.text l.at l.end true;
+  looked : IsLookahead (ends_comment l.text) changes_comment l.text l.fn.from.pos l.end true;
 }
 
 abbrev pub decreases-loop-end : goal.decreases-loop-end

@@ -8,14 +8,14 @@ use Rattle.rox_scan.proofs.lookahead.scan_value.Goals as goal
 pub loop-end-init : goal.loop-end-init
 loop-end-init c =
     let n = c.skip_set-end.ensures in
-    record { looked = value_near c.args.text.now c.args.quote.byte c.args.at _ c.utf8.text c.args.quote.is c.requires n.onward n.within n.passes n.stops }
+    record { looked = value_near c.args.from.text.now c.args.quote.byte c.args.from.pos _ c.args.from.utf8 c.args.quote.is c.args.from.cut n.onward n.within n.passes n.stops }
 
 pub after_char-next-requires : goal.after_char-next-requires
 after_char-next-requires c = record { cut = c.loop-end.invariant.looked.cut; within = search rules }
 
 pub loop-end-preserved : goal.loop-end-preserved
 loop-end-preserved c =
-    let src = c.args.text.now in
+    let src = c.args.from.text.now in
     let j = c.loop-end.end in
     let a = c.after_char-next.ensures.step in
     let n = c.skip_set-end-in-loop-end.ensures in
@@ -25,7 +25,7 @@ loop-end-preserved c =
     let here : ends_value c.args.quote.byte src j ≡ false = rw (other, no_tag) refl in
     let some : j < c.after_char-next.result = omega (arith, a.onward, c.if-next-end.false) in
     let changed : c.is_special.result ≡ is_special (get_or src j 0) = c.is_special.ensures ∙ ap is_special read in
-    record { looked = rw changed (value_on src c.args.quote.byte c.args.at j _ _ c.loop-end.is_verbatim c.utf8.text c.args.quote.is c.requires c.loop-end.invariant.looked some a.cut a.chars a.wide here n.onward n.within n.passes n.stops) }
+    record { looked = rw changed (value_on src c.args.quote.byte c.args.from.pos j _ _ c.loop-end.is_verbatim c.args.from.utf8 c.args.quote.is c.args.from.cut c.loop-end.invariant.looked some a.cut a.chars a.wide here n.onward n.within n.passes n.stops) }
 
 pub returns-after-loop-end : goal.returns-after-loop-end
 returns-after-loop-end c = record { looked = c.loop-end.invariant.looked; stops = search rules }

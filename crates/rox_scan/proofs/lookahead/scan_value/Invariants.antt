@@ -5,7 +5,7 @@ use Rattle.rox_scan.proofs.lookahead.scan_value.Given as goal
 
 abbrev pub invariant-loop-end : goal.invariant-loop-end
 invariant-loop-end l = record {
-  looked : IsLookahead (ends_value l.quote.byte l.text) is_special l.text l.at l.end l.is_verbatim;
+  looked : IsLookahead (ends_value l.quote.byte l.text) is_special l.text l.fn.from.pos l.end l.is_verbatim;
 }
 
 abbrev pub decreases-loop-end : goal.decreases-loop-end

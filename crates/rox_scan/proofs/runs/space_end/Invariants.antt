@@ -5,7 +5,7 @@ use Rattle.rox_grammar.specs.Runs.{run_end}
 use Rattle.rox_scan.proofs.runs.space_end.Given as goal
 
 abbrev pub invariant-loop-end : goal.invariant-loop-end
-invariant-loop-end l = IsCharBoundary l.text l.end × (l.at ≤ l.end) × (run_end is_space l.text l.end ≡ run_end is_space l.text l.at)
+invariant-loop-end l = IsCharBoundary l.from.text.now l.end × (l.from.pos ≤ l.end) × (run_end is_space l.from.text.now l.end ≡ run_end is_space l.from.text.now l.from.pos)
 
 abbrev pub decreases-loop-end : goal.decreases-loop-end
-decreases-loop-end l = length l.text - l.end
+decreases-loop-end l = length l.from.text.now - l.end

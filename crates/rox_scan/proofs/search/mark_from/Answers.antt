@@ -7,4 +7,4 @@ returns c =
     let hay = c.as_bytes-rest.ensures.value ∙ c.range_from.ensures.value in
     let first = word_first c.args.mark in
     let found = rw (hay, c.text.ensures) at c.find.ensures in
-    rw (c.unwrap_or.ensures, hay) (mark_found _ c.args.text.now c.args.at c.find.result c.requires first.0 first.1 found)
+    rw (c.unwrap_or.ensures, hay) (mark_found _ c.args.from.text.now c.args.from.pos c.find.result c.args.from.cut first.0 first.1 found)

@@ -6,7 +6,7 @@ pub returns : goal.returns
 returns c =
     let n = c.skip_set.ensures in
     record {
-      place = sym (inner_stops c.args.text.now c.args.at c.skip_set.result n.onward n.within n.passes n.stops);
+      place = sym (inner_stops c.args.from.text.now c.args.from.pos c.skip_set.result n.onward n.within n.passes n.stops);
       onward = n.onward;
-      cut = inner_cut c.args.text.now c.skip_set.result n.within n.stops;
+      cut = inner_cut c.args.from.text.now c.skip_set.result n.within n.stops;
     }

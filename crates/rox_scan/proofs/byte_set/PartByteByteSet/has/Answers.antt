@@ -5,7 +5,7 @@ use Rattle.rox_scan.proofs.byte_set.PartByteByteSet.has.Goals as goal
 
 pub returns-then-byte-lt128 : goal.returns-then-byte-lt128
 unfolding is_part_byte
-returns-then-byte-lt128 c = grind (arith, nat_tests, c.is_part_byte.ensures)
+returns-then-byte-lt128 c = grind (arith, nat_tests, c.has_byte.ensures)
 
 pub returns-else-byte-lt128 : goal.returns-else-byte-lt128
 unfolding is_part_byte

@@ -7,11 +7,11 @@ not_not : (b : Bool) → not (not b) ≡ b
 not_not true = refl
 not_not false = refl
 
-pub returns-in-Ok-clause-value : goal.returns-in-Ok-clause-value
-returns-in-Ok-clause-value c =
-    ap not c.in-Ok.ensures.added ∙ not_not _ ∙ sym (has_is c.args.seen.now.keys (c.args.local, c.args.uri))
-
-pub returns-in-Ok-clause-more : goal.returns-in-Ok-clause-more
-returns-in-Ok-clause-more c = λ new l u.
-    let absent = sym (ap not c.in-Ok.ensures.added ∙ not_not _) ∙ new in
-    ap (λ ks. Rattle.std.specs.List.list_any (is_key l u) ks) c.in-Ok.ensures.keys ∙ any_inserted key_cmp (is_key l u) c.args.seen.now.keys (c.args.local, c.args.uri) absent
+pub returns-in-Ok : goal.returns-in-Ok
+returns-in-Ok c = record {
+  value =
+      ap not c.in-Ok.ensures.added ∙ not_not _ ∙ sym (has_is c.args.seen.now.keys (c.args.local, c.args.uri));
+  more = λ new l u.
+      let absent = sym (ap not c.in-Ok.ensures.added ∙ not_not _) ∙ new in
+      ap (λ ks. Rattle.std.specs.List.list_any (is_key l u) ks) c.in-Ok.ensures.keys ∙ any_inserted key_cmp (is_key l u) c.args.seen.now.keys (c.args.local, c.args.uri) absent;
+}

@@ -1,4 +1,4 @@
-use Rattle.std.proofs.Common.{◌≤◌, List, ◌++◌, ◌∷◌, [], ◌∙◌, length, drop, sym, ap, arith, subst}
+use Rattle.std.proofs.Common.{rules, ◌≤◌, List, ◌++◌, ◌∷◌, [], ◌∙◌, length, drop, sym, ap, arith, subst}
 use Rattle.std.proofs.lemmas.List.{length-map}
 use Rattle.rox_tables.specs.Rows.{AttributeRow, namespace_view, attribute_rows, NamespaceWithin}
 use Rattle.rox_tables.specs.ResolvedNames.{row_of_unresolved}
@@ -34,51 +34,52 @@ offset_bounds-deref-seen c =
     let small = c.deref.type_inv.1 in
     omega (arith, within, small)
 
-pub tested_namespace-requires-clause-done : goal.tested_namespace-requires-clause-done
-tested_namespace-requires-clause-done c =
-    all_column (λ d. NamespaceWithin (length c.args.namespaces.now) d.namespace) c.args.attributes.now c.deref.result.now c.put_few.new.self.from c.deref.ensures.value (rw c.put_few.ensures.from c.requires.tag.within)
-
-pub returns-clause-added : goal.returns-clause-added
-returns-clause-added c = λ done.
-    let old = attribute_rows c.args.attributes.now in
-    let column = column_behind c.args.attributes.now c.deref.result.now c.put_few.new.self.from c.deref.ensures.value in
-    record {
-      namespace = c.in-Ok.namespace;
-      rows = c.put_usual.ensures.put done ∙ ap (λ (xs : List AttributeRow). xs ++ row_of_unresolved c.args.one c.in-Ok.namespace ∷ []) c.has_room.ensures.rows;
-      within = subst (λ n. NamespaceWithin n c.in-Ok.namespace) (sym (length-map c.args.namespaces.now namespace_view)) c.in-Ok.ensures.found.within;
-      there = λ ds h. c.in-Ok.ensures.found.there ds h;
-      tested = λ ds before rest h shown. c.in-Ok.ensures.tested ds (drop c.put_few.new.self.from old) before rest h column (rw c.put_few.ensures.from shown);
-    }
-
-pub returns-then-before-clause-added : goal.returns-then-before-clause-added
-returns-then-before-clause-added c = λ done.
-    let old = attribute_rows c.args.attributes.now in
-    let column = column_behind c.args.attributes.now c.deref.result.now c.put_few.new.self.from c.deref.ensures.value in
-    record {
-      namespace = c.in-Ok.namespace;
-      rows = c.put_unusual.ensures.put done;
-      within = subst (λ n. NamespaceWithin n c.in-Ok.namespace) (sym (length-map c.args.namespaces.now namespace_view)) c.in-Ok.ensures.found.within;
-      there = λ ds h. c.in-Ok.ensures.found.there ds h;
-      tested = λ ds before rest h shown. c.in-Ok.ensures.tested ds (drop c.put_few.new.self.from old) before rest h column (rw c.put_few.ensures.from shown);
-    }
-
-pub tested_namespace-requires-clause-seen : goal.tested_namespace-requires-clause-seen
-tested_namespace-requires-clause-seen c =
-    all_column (λ d. HasNameOf c.put_few.new.self.codes d) c.args.attributes.now c.deref.result.now c.put_few.new.self.from c.deref.ensures.value c.put_few.ensures.coded
-
-pub returns-clause-puts : goal.returns-clause-puts
-returns-clause-puts c = record {
-  from = search;
-  refused = λ no. c.put_usual.ensures.none no ∙ c.has_room.ensures.rows;
-  are_seen = λ done. are_more c.put_few.new.self c.tested_namespace.new.seen (attribute_rows c.args.attributes.now) _ _
-      (c.put_usual.ensures.put done ∙ ap (λ (xs : List AttributeRow). xs ++ row_of_unresolved c.args.one c.in-Ok.namespace ∷ []) c.has_room.ensures.rows)
-      (rw c.put_few.ensures.from c.requires.tag.are_seen.from) c.in-Ok.ensures.sees c.put_few.ensures.coded;
+pub tested_namespace-requires : goal.tested_namespace-requires
+tested_namespace-requires c = record {
+  within = search rules;
+  done =
+      all_column (λ d. NamespaceWithin (length c.args.namespaces.now) d.namespace) c.args.attributes.now c.deref.result.now c.put_few.new.self.from c.deref.ensures.value (rw c.put_few.ensures.from c.requires.tag.within);
+  seen =
+      all_column (λ d. HasNameOf c.put_few.new.self.codes d) c.args.attributes.now c.deref.result.now c.put_few.new.self.from c.deref.ensures.value c.put_few.ensures.coded;
 }
 
-pub returns-then-before-clause-puts : goal.returns-then-before-clause-puts
-returns-then-before-clause-puts c = record {
-  from = search;
-  refused = search;
-  are_seen = λ done. are_more c.put_few.new.self c.tested_namespace.new.seen (attribute_rows c.args.attributes.now) _ _ (c.put_unusual.ensures.put done)
-      (rw c.put_few.ensures.from c.requires.tag.are_seen.from) c.in-Ok.ensures.sees c.put_few.ensures.coded;
+pub returns : goal.returns
+returns c = record {
+  puts = record {
+    from = search;
+    refused = λ no. c.put_usual.ensures.none no ∙ c.has_room.ensures.rows;
+    are_seen = λ done. are_more c.put_few.new.self c.tested_namespace.new.seen (attribute_rows c.args.attributes.now) _ _
+        (c.put_usual.ensures.put done ∙ ap (λ (xs : List AttributeRow). xs ++ row_of_unresolved c.args.one c.in-Ok.namespace ∷ []) c.has_room.ensures.rows)
+        (rw c.put_few.ensures.from c.requires.tag.are_seen.from) c.in-Ok.ensures.sees c.put_few.ensures.coded;
+  };
+  added = λ done.
+      let old = attribute_rows c.args.attributes.now in
+      let column = column_behind c.args.attributes.now c.deref.result.now c.put_few.new.self.from c.deref.ensures.value in
+      record {
+        namespace = c.in-Ok.namespace;
+        rows = c.put_usual.ensures.put done ∙ ap (λ (xs : List AttributeRow). xs ++ row_of_unresolved c.args.one c.in-Ok.namespace ∷ []) c.has_room.ensures.rows;
+        within = subst (λ n. NamespaceWithin n c.in-Ok.namespace) (sym (length-map c.args.namespaces.now namespace_view)) c.in-Ok.ensures.found.within;
+        there = λ ds h. c.in-Ok.ensures.found.there ds h;
+        tested = λ ds before rest h shown. c.in-Ok.ensures.tested ds (drop c.put_few.new.self.from old) before rest h column (rw c.put_few.ensures.from shown);
+      };
+}
+
+pub returns-then-before : goal.returns-then-before
+returns-then-before c = record {
+  puts = record {
+    from = search;
+    refused = search;
+    are_seen = λ done. are_more c.put_few.new.self c.tested_namespace.new.seen (attribute_rows c.args.attributes.now) _ _ (c.put_unusual.ensures.put done)
+        (rw c.put_few.ensures.from c.requires.tag.are_seen.from) c.in-Ok.ensures.sees c.put_few.ensures.coded;
+  };
+  added = λ done.
+      let old = attribute_rows c.args.attributes.now in
+      let column = column_behind c.args.attributes.now c.deref.result.now c.put_few.new.self.from c.deref.ensures.value in
+      record {
+        namespace = c.in-Ok.namespace;
+        rows = c.put_unusual.ensures.put done;
+        within = subst (λ n. NamespaceWithin n c.in-Ok.namespace) (sym (length-map c.args.namespaces.now namespace_view)) c.in-Ok.ensures.found.within;
+        there = λ ds h. c.in-Ok.ensures.found.there ds h;
+        tested = λ ds before rest h shown. c.in-Ok.ensures.tested ds (drop c.put_few.new.self.from old) before rest h column (rw c.put_few.ensures.from shown);
+      };
 }

@@ -1,4 +1,4 @@
-use Rattle.std.proofs.Common.{◌≡◌, ◌<◌, ◌≤◌, length, length-append, map, drop, sym, ap, ◌∙◌, subst, arith}
+use Rattle.std.proofs.Common.{rules, ◌≡◌, ◌<◌, ◌≤◌, length, length-append, map, drop, sym, ap, ◌∙◌, subst, arith}
 use Rattle.std.proofs.lemmas.Result.{err_from_is_err_and}
 use Rattle.rox_tables.specs.Rows.{AttributeRow, namespace_view, attribute_rows, NamespaceWithin}
 use Rattle.rox_tables.specs.ResolvedNames.{row_of_unresolved}
@@ -28,17 +28,6 @@ offset_bounds-deref-seen c =
     old_within l.attributes c.deref.result.now _ m.done l.seen.from c.deref.ensures.value m.table_is l.invariant.from in
     let small = c.deref.type_inv.1 in
     omega (arith, within, small)
-
-pub tested_namespace-requires-clause-done : goal.tested_namespace-requires-clause-done
-tested_namespace-requires-clause-done c =
-    let l = c.loop-turn in
-    let m = l.invariant.moving in
-    all_behind (λ d. NamespaceWithin (length c.args.namespaces.now) d.namespace) l.attributes c.deref.result.now _ m.done l.seen.from c.deref.ensures.value m.table_is l.invariant.from m.within
-
-pub tested_namespace-requires-clause-seen : goal.tested_namespace-requires-clause-seen
-tested_namespace-requires-clause-seen c =
-    let l = c.loop-turn in
-    all_column (λ d. HasNameOf l.seen.codes d) l.attributes c.deref.result.now l.seen.from c.deref.ensures.value l.invariant.seen
 
 pub loop-turn-init : goal.loop-turn-init
 loop-turn-init c = record {
@@ -89,3 +78,15 @@ returns c = λ ds h.
     let l = c.loop-turn in
     ends (length c.args.namespaces.now) (map namespace_view c.args.namespaces.now) ds c.args.taken.now.items (attribute_rows c.args.attributes.now) l.turn l.taken.items (attribute_rows l.attributes)
     l.invariant.moving (l.invariant.resolving ds h) (omega arith)
+
+pub tested_namespace-requires : goal.tested_namespace-requires
+tested_namespace-requires c = record {
+  within = search rules;
+  done =
+      let l = c.loop-turn in
+      let m = l.invariant.moving in
+      all_behind (λ d. NamespaceWithin (length c.args.namespaces.now) d.namespace) l.attributes c.deref.result.now _ m.done l.seen.from c.deref.ensures.value m.table_is l.invariant.from m.within;
+  seen =
+      let l = c.loop-turn in
+      all_column (λ d. HasNameOf l.seen.codes d) l.attributes c.deref.result.now l.seen.from c.deref.ensures.value l.invariant.seen;
+}

@@ -1,4 +1,4 @@
-use Rattle.std.proofs.Common.{◌≡◌, ◌+◌, ◌-◌, ◌<◌, ◌≤◌, length, get_or, sym, ap, ◌∙◌, arith, length-append}
+use Rattle.std.proofs.Common.{rules, ◌≡◌, ◌+◌, ◌-◌, ◌<◌, ◌≤◌, length, get_or, sym, ap, ◌∙◌, arith, length-append}
 use Rattle.rox_tables.specs.Rows.{count_at}
 use Rattle.rox_tables.specs.Scopes.{places_in}
 use Rattle.rox_tables.proofs.Leaves.{get_front, get_behind}
@@ -23,26 +23,6 @@ overflow_sub-result-in-Back t c =
     let f = back_at _ _ _ _ c.args.index c.requires.scope.scopes c.requires.scope.within c.in-Back.is c.requires.index in
     let a = f.0 in
     omega arith
-
-pub returns-in-Few-clause-within : goal.returns-in-Few-clause-within
-returns-in-Few-clause-within t c =
-    let f = few_at _ _ _ _ c.args.index c.requires.scope.scopes c.requires.scope.within c.in-Few.is c.requires.index in
-    let a = f.0 in
-    let b = f.1 in
-    omega arith
-
-pub returns-in-Few-clause-value : goal.returns-in-Few-clause-value
-returns-in-Few-clause-value t c = (few_at _ _ _ _ c.args.index c.requires.scope.scopes c.requires.scope.within c.in-Few.is c.requires.index).2
-
-pub returns-in-Back-clause-within : goal.returns-in-Back-clause-within
-returns-in-Back-clause-within t c =
-    let f = back_at _ _ _ _ c.args.index c.requires.scope.scopes c.requires.scope.within c.in-Back.is c.requires.index in
-    let a = f.0 in
-    let b = f.1 in
-    omega arith
-
-pub returns-in-Back-clause-value : goal.returns-in-Back-clause-value
-returns-in-Back-clause-value t c = (back_at _ _ _ _ c.args.index c.requires.scope.scopes c.requires.scope.within c.in-Back.is c.requires.index).2
 
 pub position_at-requires : goal.position_at-requires
 position_at-requires t c =
@@ -71,24 +51,50 @@ position_at-requires-in-Concat t c =
     let d = c.decreases in
     (omega arith, record { scope = record { scopes = c.requires.scope.scopes; within = omega arith }; index = omega arith })
 
-pub returns-then-index-before-clause-value : goal.returns-then-index-before-clause-value
-returns-then-index-before-clause-value t c =
-    let ls = c.args.listed.now in
-    let rows = c.args.scopes.now in
-    let f = both_at ls rows c.args.scope _ c.requires.scope.scopes c.requires.scope.within c.in-Concat.is in
-    let m : count_at rows c.in-Concat.parts.first ≡ length (places_in ls rows c.in-Concat.parts.first) = f.2 in
-    let n : c.count-before.result ≡ count_at rows c.in-Concat.parts.first = c.count-before.ensures in
-    let lt : c.args.index < length (places_in ls rows c.in-Concat.parts.first) = omega arith in
-    c.position_at.ensures.value ∙ sym (ap (λ xs. get_or xs c.args.index 0) f.3 ∙ get_front (places_in ls rows c.in-Concat.parts.first) (places_in ls rows c.in-Concat.parts.rest) c.args.index 0 lt)
+pub returns-in-Few : goal.returns-in-Few
+returns-in-Few t c = record {
+  within =
+      let f = few_at _ _ _ _ c.args.index c.requires.scope.scopes c.requires.scope.within c.in-Few.is c.requires.index in
+      let a = f.0 in
+      let b = f.1 in
+      omega arith;
+  value = (few_at _ _ _ _ c.args.index c.requires.scope.scopes c.requires.scope.within c.in-Few.is c.requires.index).2;
+}
 
-pub returns-else-index-before-clause-value : goal.returns-else-index-before-clause-value
-returns-else-index-before-clause-value t c =
-    let ls = c.args.listed.now in
-    let rows = c.args.scopes.now in
-    let f = both_at ls rows c.args.scope _ c.requires.scope.scopes c.requires.scope.within c.in-Concat.is in
-    let m : count_at rows c.in-Concat.parts.first ≡ length (places_in ls rows c.in-Concat.parts.first) = f.2 in
-    let n : c.count-before.result ≡ count_at rows c.in-Concat.parts.first = c.count-before.ensures in
-    let le : length (places_in ls rows c.in-Concat.parts.first) ≤ c.args.index = omega arith in
-    let e : c.args.index - c.count-before.result ≡ c.args.index - length (places_in ls rows c.in-Concat.parts.first) = omega arith in
-    c.position_at-in-Concat.ensures.value ∙ ap (λ k. get_or (places_in ls rows c.in-Concat.parts.rest) k 0) e
-    ∙ sym (ap (λ xs. get_or xs c.args.index 0) f.3 ∙ get_behind (places_in ls rows c.in-Concat.parts.first) (places_in ls rows c.in-Concat.parts.rest) c.args.index 0 le)
+pub returns-in-Back : goal.returns-in-Back
+returns-in-Back t c = record {
+  within =
+      let f = back_at _ _ _ _ c.args.index c.requires.scope.scopes c.requires.scope.within c.in-Back.is c.requires.index in
+      let a = f.0 in
+      let b = f.1 in
+      omega arith;
+  value = (back_at _ _ _ _ c.args.index c.requires.scope.scopes c.requires.scope.within c.in-Back.is c.requires.index).2;
+}
+
+pub returns-then-index-before : goal.returns-then-index-before
+returns-then-index-before t c = record {
+  within = search rules;
+  value =
+      let ls = c.args.listed.now in
+      let rows = c.args.scopes.now in
+      let f = both_at ls rows c.args.scope _ c.requires.scope.scopes c.requires.scope.within c.in-Concat.is in
+      let m : count_at rows c.in-Concat.parts.first ≡ length (places_in ls rows c.in-Concat.parts.first) = f.2 in
+      let n : c.count-before.result ≡ count_at rows c.in-Concat.parts.first = c.count-before.ensures in
+      let lt : c.args.index < length (places_in ls rows c.in-Concat.parts.first) = omega arith in
+      c.position_at.ensures.value ∙ sym (ap (λ xs. get_or xs c.args.index 0) f.3 ∙ get_front (places_in ls rows c.in-Concat.parts.first) (places_in ls rows c.in-Concat.parts.rest) c.args.index 0 lt);
+}
+
+pub returns-else-index-before : goal.returns-else-index-before
+returns-else-index-before t c = record {
+  within = search rules;
+  value =
+      let ls = c.args.listed.now in
+      let rows = c.args.scopes.now in
+      let f = both_at ls rows c.args.scope _ c.requires.scope.scopes c.requires.scope.within c.in-Concat.is in
+      let m : count_at rows c.in-Concat.parts.first ≡ length (places_in ls rows c.in-Concat.parts.first) = f.2 in
+      let n : c.count-before.result ≡ count_at rows c.in-Concat.parts.first = c.count-before.ensures in
+      let le : length (places_in ls rows c.in-Concat.parts.first) ≤ c.args.index = omega arith in
+      let e : c.args.index - c.count-before.result ≡ c.args.index - length (places_in ls rows c.in-Concat.parts.first) = omega arith in
+      c.position_at-in-Concat.ensures.value ∙ ap (λ k. get_or (places_in ls rows c.in-Concat.parts.rest) k 0) e
+      ∙ sym (ap (λ xs. get_or xs c.args.index 0) f.3 ∙ get_behind (places_in ls rows c.in-Concat.parts.first) (places_in ls rows c.in-Concat.parts.rest) c.args.index 0 le);
+}

@@ -1,4 +1,4 @@
-use Rattle.std.proofs.Common.{◌≡◌, ◌<◌, true, false, length, map, get_or, sym, ap, subst, arith}
+use Rattle.std.proofs.Common.{rules, ◌≡◌, ◌<◌, true, false, length, map, get_or, sym, ap, subst, arith}
 use Rattle.rox_grammar.specs.Tree.{same_prefix, is_declared}
 use Rattle.rox_tables.specs.Rows.{namespace_view, namespace_at}
 use Rattle.rox_tables.specs.Scopes.{prefix_view, entries, places_in}
@@ -26,12 +26,12 @@ returns-in_default-index_of c =
     subst (λ ss. is_declared p (entries namespaces (places_in c.args.listed.now ss c.args.scope)) ≡ false) c.deref.ensures.value c.in_default-index_of.ensures in
     same_listed namespaces c.args.listed.now c.args.scopes.now.items c.args.scope _ c.requires.scope.scopes c.requires.scope.within (sym (unlisted_none p ds absent))
 
-pub without-requires-clause-index : goal.without-requires-clause-index
-without-requires-clause-index c =
+pub without-requires : goal.without-requires
+without-requires c =
     let n = count_places c.args.listed.now c.args.scopes.now.items c.args.scope c.requires.scope.scopes c.requires.scope.within in
     let k : c.in-Some-index_of.index < length (places_in c.args.listed.now c.args.scopes.now.items c.args.scope) =
     subst (λ ss. c.in-Some-index_of.index < length (places_in c.args.listed.now ss c.args.scope)) c.deref.ensures.value c.in-Some-index_of.ensures.0 in
-    omega arith
+    record { row = search rules; index = omega arith }
 
 pub returns : goal.returns
 returns c =

@@ -1,4 +1,4 @@
-use Rattle.std.proofs.Common.{◌<◌, ◌≤◌, false, Some, length, map, get_or, refl, sym, subst, arith}
+use Rattle.std.proofs.Common.{rules, ◌<◌, ◌≤◌, false, Some, length, map, get_or, refl, sym, subst, arith}
 use Rattle.std.specs.List.{slice_range}
 use Rattle.rox_grammar.specs.declared.fault.Word.TheVariants.{Xml}
 use Rattle.rox_grammar.specs.FixedTexts.{word_text}
@@ -19,18 +19,19 @@ bounds-namespaces-place c = let lt : c.loop-turn.turn < length c.args.listed.now
 pub bounds-namespaces-place-in-loop-turn : goal.bounds-namespaces-place-in-loop-turn
 bounds-namespaces-place-in-loop-turn c = let lt : c.loop-turn.turn < length c.args.listed.now = omega arith in place_at (length c.args.namespaces.now) c.args.listed.now c.loop-turn.turn 0 c.requires.scope.places lt
 
-pub hide-requires-clause-once : goal.hide-requires-clause-once
-hide-requires-clause-once c =
-    let namespaces = map namespace_view c.args.namespaces.now in
-    subst PrefixesOnce (sym c.loop-turn.invariant.lists)
-    (once_others (entries namespaces (slice_range c.args.listed.now c.args.own.from c.loop-turn.turn)) false (entries namespaces (places_in c.args.listed.now c.args.scopes.now.items c.args.scope)) c.requires.once)
-
-pub hide-requires-clause-absent : goal.hide-requires-clause-absent
-hide-requires-clause-absent c = λ none.
-    let namespaces = map namespace_view c.args.namespaces.now in
-    let p = prefix_view (get_or c.args.namespaces.now (get_or c.args.listed.now c.loop-turn.turn 0) c.index-namespaces-place.result).name in
-    absent_bound namespaces (bound_place c.args.present.now) (entries namespaces (slice_range c.args.listed.now c.args.own.from c.loop-turn.turn)) (entries namespaces (places_in c.args.listed.now c.args.scopes.now.items c.args.scope))
-    (entries namespaces (places_in c.args.listed.now c.loop-turn.scopes.items c.loop-turn.left)) false p c.requires.bound c.loop-turn.invariant.lists none
+pub hide-requires : goal.hide-requires
+hide-requires c = record {
+  scope = search rules;
+  once =
+      let namespaces = map namespace_view c.args.namespaces.now in
+      subst PrefixesOnce (sym c.loop-turn.invariant.lists)
+      (once_others (entries namespaces (slice_range c.args.listed.now c.args.own.from c.loop-turn.turn)) false (entries namespaces (places_in c.args.listed.now c.args.scopes.now.items c.args.scope)) c.requires.once);
+  absent = λ none.
+      let namespaces = map namespace_view c.args.namespaces.now in
+      let p = prefix_view (get_or c.args.namespaces.now (get_or c.args.listed.now c.loop-turn.turn 0) c.index-namespaces-place.result).name in
+      absent_bound namespaces (bound_place c.args.present.now) (entries namespaces (slice_range c.args.listed.now c.args.own.from c.loop-turn.turn)) (entries namespaces (places_in c.args.listed.now c.args.scopes.now.items c.args.scope))
+      (entries namespaces (places_in c.args.listed.now c.loop-turn.scopes.items c.loop-turn.left)) false p c.requires.bound c.loop-turn.invariant.lists none;
+}
 
 pub loop-turn-preserved : goal.loop-turn-preserved
 loop-turn-preserved c =
@@ -43,17 +44,18 @@ loop-turn-preserved c =
     hides_more rows c.args.listed.now c.args.scopes.now.items c.loop-turn.scopes.items c.hide.new.scopes.items c.args.own.from c.loop-turn.turn place c.loop-turn.left c.in_ok-left.left c.index-namespaces-place.result p ds
     low lt c.requires.scope.places refl refl c.loop-turn.invariant c.in_ok-left.ensures
 
-pub hide-requires-then-own-clause-once : goal.hide-requires-then-own-clause-once
-hide-requires-then-own-clause-once c =
-    let namespaces = map namespace_view c.args.namespaces.now in
-    subst PrefixesOnce (sym c.loop-turn.invariant.lists)
-    (once_others (entries namespaces (slice_range c.args.listed.now c.args.own.from c.loop-turn.turn)) false (entries namespaces (places_in c.args.listed.now c.args.scopes.now.items c.args.scope)) c.requires.once)
-
-pub hide-requires-then-own-clause-absent : goal.hide-requires-then-own-clause-absent
-hide-requires-then-own-clause-absent c = λ none.
-    let namespaces = map namespace_view c.args.namespaces.now in
-    absent_bound namespaces (bound_place c.args.present.now) (entries namespaces (slice_range c.args.listed.now c.args.own.from c.loop-turn.turn)) (entries namespaces (places_in c.args.listed.now c.args.scopes.now.items c.args.scope))
-    (entries namespaces (places_in c.args.listed.now c.loop-turn.scopes.items c.loop-turn.left)) false (Some (word_text Xml)) c.requires.bound c.loop-turn.invariant.lists none
+pub hide-requires-then-own : goal.hide-requires-then-own
+hide-requires-then-own c = record {
+  scope = search rules;
+  once =
+      let namespaces = map namespace_view c.args.namespaces.now in
+      subst PrefixesOnce (sym c.loop-turn.invariant.lists)
+      (once_others (entries namespaces (slice_range c.args.listed.now c.args.own.from c.loop-turn.turn)) false (entries namespaces (places_in c.args.listed.now c.args.scopes.now.items c.args.scope)) c.requires.once);
+  absent = λ none.
+      let namespaces = map namespace_view c.args.namespaces.now in
+      absent_bound namespaces (bound_place c.args.present.now) (entries namespaces (slice_range c.args.listed.now c.args.own.from c.loop-turn.turn)) (entries namespaces (places_in c.args.listed.now c.args.scopes.now.items c.args.scope))
+      (entries namespaces (places_in c.args.listed.now c.loop-turn.scopes.items c.loop-turn.left)) false (Some (word_text Xml)) c.requires.bound c.loop-turn.invariant.lists none;
+}
 
 pub returns-in_ok-left-2 : goal.returns-in_ok-left-2
 returns-in_ok-left-2 c =

@@ -7,11 +7,11 @@ use Rattle.rox_tables.specs.Ropes.{IsListed}
 use Rattle.rox_tables.proofs.Sharing.{inherits_listed, places_behind, scopes_behind, within_behind, few_listed}
 use Rattle.rox_tables.proofs.namespaces.tag_scope.listed_below_few.Goals as goal
 
-pub add_back-requires-clause-from : goal.add_back-requires-clause-from
-add_back-requires-clause-from c = within_behind c.args.listed.now.items _ _ c.args.own.from c.in_ok-inherit.ensures.1 c.requires.below.own
-
-pub add_back-requires-clause-scopes : goal.add_back-requires-clause-scopes
-add_back-requires-clause-scopes c = scopes_behind c.args.listed.now.items _ _ c.args.scopes.now.items c.in_ok-inherit.ensures.1 c.requires.scopes
+pub add_back-requires : goal.add_back-requires
+add_back-requires c = record {
+  from = within_behind c.args.listed.now.items _ _ c.args.own.from c.in_ok-inherit.ensures.1 c.requires.below.own;
+  scopes = scopes_behind c.args.listed.now.items _ _ c.args.scopes.now.items c.in_ok-inherit.ensures.1 c.requires.scopes;
+}
 
 pub returns-then-end-own-gt-FEW : goal.returns-then-end-own-gt-FEW
 returns-then-end-own-gt-FEW c =

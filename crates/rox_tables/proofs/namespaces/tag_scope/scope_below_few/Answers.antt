@@ -1,4 +1,5 @@
-use Rattle.std.proofs.Common.{◌++◌, length, map, drop, refl, sym, ap, subst, ◌∙◌}
+use Rattle.std.proofs.Common.{arith, ◌++◌, length, map, drop, refl, sym, ap, subst, ◌∙◌}
+use Rattle.std.proofs.lemmas.Grind.{common_steps}
 use Rattle.std.specs.List.{slice_range}
 use Rattle.rox_tables.specs.declared.rows.tables.ElementTables.{ElementTables}
 use Rattle.rox_tables.specs.Rows.{namespace_view, scope_at}
@@ -10,8 +11,8 @@ use Rattle.rox_tables.proofs.Ropes.{scopes_more}
 use Rattle.rox_tables.proofs.Below.{listed_is, kept_then, few_here, few_lists, stood_in, has_scope}
 use Rattle.rox_tables.proofs.namespaces.tag_scope.scope_below_few.Goals as goal
 
-pub listed_below_few-requires-clause-scopes : goal.listed_below_few-requires-clause-scopes
-listed_below_few-requires-clause-scopes c = scopes_more c.args.own.from (length c.args.elements.now.listed.items) c.args.elements.now.scopes.items c.requires.prefixes.tag.own_within c.requires.prefixes.tag.scopes
+pub listed_below_few-requires : goal.listed_below_few-requires
+listed_below_few-requires c = record { below = grind (arith, common_steps); scopes = scopes_more c.args.own.from (length c.args.elements.now.listed.items) c.args.elements.now.scopes.items c.requires.prefixes.tag.own_within c.requires.prefixes.tag.scopes }
 
 pub returns-in-Few : goal.returns-in-Few
 returns-in-Few c =

@@ -1,4 +1,4 @@
-use Rattle.std.proofs.Common.{rules, ◌≡◌, ◌++◌, sym, ap, ◌∙◌, arith}
+use Rattle.std.proofs.Common.{rules, ◌++◌, sym, ap, ◌∙◌, arith}
 use Rattle.std.specs.Option.{option_to_list}
 use Rattle.std.specs.Prelude.{Option, not}
 use Rattle.rox_tables.specs.Storage.{is_borrowed}
@@ -6,20 +6,26 @@ use Rattle.rox_tables.specs.declared.rows.stored_attribute.StoredAttribute.{Stor
 use Rattle.rox_tables.proofs.AttributeRows.{owned_cut, lent_cut}
 use Rattle.rox_tables.proofs.rows.attributes.take_last.Goals as goal
 
-pub returns-in-Some-clause-taken : goal.returns-in-Some-clause-taken
-returns-in-Some-clause-taken c = record {
-  rows = search rules;
-  listed =
-      lent_cut c.args.items.now.items c.pop.new.self.items c.in-Some.row c.args.owned.now.items
-      (c.pop.ensures.items ∙ ap (λ (o : Option StoredAttribute). c.pop.new.self.items ++ option_to_list o) c.in-Some.is)
-      (ap is_borrowed (sym c.into_inner-value.ensures) ∙ c.is_owned.ensures ∙ ap not c.if-is_owned.false);
+pub returns-in-Some : goal.returns-in-Some
+returns-in-Some c = record {
+  count = search rules;
+  taken = record {
+    rows = search rules;
+    listed =
+        lent_cut c.args.items.now.items c.pop.new.self.items c.in-Some.row c.args.owned.now.items
+        (c.pop.ensures.items ∙ ap (λ (o : Option StoredAttribute). c.pop.new.self.items ++ option_to_list o) c.in-Some.is)
+        (ap is_borrowed (sym c.into_inner-value.ensures) ∙ c.is_owned.ensures ∙ ap not c.if-is_owned.false);
+  };
 }
 
-pub returns-then-is_owned-clause-taken : goal.returns-then-is_owned-clause-taken
-returns-then-is_owned-clause-taken c = record {
-  rows = search rules;
-  listed =
-      owned_cut c.args.items.now.items c.pop.new.self.items c.in-Some.row c.args.owned.now.items c.pop-place.new.self.items _
-      (c.pop.ensures.items ∙ ap (λ (o : Option StoredAttribute). c.pop.new.self.items ++ option_to_list o) c.in-Some.is)
-      (ap is_borrowed (sym c.into_inner-value.ensures) ∙ c.is_owned.ensures ∙ ap not c.if-is_owned.true) (omega (arith, c.args.owned.now.ok.0)) c.pop-place.ensures.rest;
+pub returns-then-is_owned : goal.returns-then-is_owned
+returns-then-is_owned c = record {
+  count = search rules;
+  taken = record {
+    rows = search rules;
+    listed =
+        owned_cut c.args.items.now.items c.pop.new.self.items c.in-Some.row c.args.owned.now.items c.pop-place.new.self.items _
+        (c.pop.ensures.items ∙ ap (λ (o : Option StoredAttribute). c.pop.new.self.items ++ option_to_list o) c.in-Some.is)
+        (ap is_borrowed (sym c.into_inner-value.ensures) ∙ c.is_owned.ensures ∙ ap not c.if-is_owned.true) (omega (arith, c.args.owned.now.ok.0)) c.pop-place.ensures.rest;
+  };
 }

@@ -1,10 +1,14 @@
+use Rattle.std.proofs.Common.{rules}
 use Rattle.rox_tables.specs.Bindings.{bound_place}
 use Rattle.rox_tables.proofs.Presenting.{bound_here, found_put}
 use Rattle.rox_tables.proofs.namespaces.bindings.PrefixBindings.bind.Goals as goal
 
-pub returns-clause-bound : goal.returns-clause-bound
-returns-clause-bound c = λ ds h.
-    let old = c.args.self.now in
-    let new = c.put.new.self in
-    bound_here c.args.namespaces.now c.args.listed.now c.args.position c.index-namespaces-namespace.result ds (bound_place old) (bound_place new) c.requires.places c.requires.within
-    (found_put old new _ _ c.in_ok-put.ensures.present) h
+pub returns : goal.returns
+returns c = record {
+  keeps = search rules;
+  bound = λ ds h.
+      let old = c.args.self.now in
+      let new = c.put.new.self in
+      bound_here c.args.namespaces.now c.args.listed.now c.args.position c.index-namespaces-namespace.result ds (bound_place old) (bound_place new) c.requires.places c.requires.within
+      (found_put old new _ _ c.in_ok-put.ensures.present) h;
+}

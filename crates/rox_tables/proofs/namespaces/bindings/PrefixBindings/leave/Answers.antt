@@ -1,4 +1,4 @@
-use Rattle.std.proofs.Common.{◌≡◌, ◌≤◌, ◌<◌, ◌+◌, ◌-◌, ◌++◌, ◌∷◌, [], length, length-append, take, refl, sym, ap, subst, ◌∙◌, arith}
+use Rattle.std.proofs.Common.{rules, ◌≡◌, ◌≤◌, ◌<◌, ◌+◌, ◌-◌, ◌++◌, ◌∷◌, [], length, length-append, take, refl, sym, ap, subst, ◌∙◌, arith}
 use Rattle.rox_tables.specs.Bindings.{bound_place, Stacked}
 use Rattle.rox_tables.specs.declared.namespaces.bindings.ScopeFrame.{ScopeFrame}
 use Rattle.rox_tables.proofs.Presenting.{stacked_popped, takes_back, last_split, last_same}
@@ -49,12 +49,16 @@ loop-turn-preserved c =
       | in_default-pop w ↦ absurd (grind (arith, some, w.in_default-pop.ensures))
     ]
 
-pub returns-clause-back : goal.returns-clause-back
-returns-clause-back c = λ ls x is few.
-    let l = c.loop-turn in
-    let inner = l.invariant.inner in
-    let same : x.count ≡ c.in-Some.around.now.count = ap (λ (y : ScopeFrame). y.count) (last_same ls inner.0 x inner.1 (sym is ∙ inner.2)) ∙ inner.3 in
-    let enough : c.in-Some.around.now.count ≤ length c.args.self.now.replaced.items = omega arith in
-    let was = l.invariant.back enough in
-    let len = c.args.self.now.replaced.ok.0 in
-    omega arith
+pub returns : goal.returns
+returns c = record {
+  layers = search rules;
+  keeps = search rules;
+  back = λ ls x is few.
+      let l = c.loop-turn in
+      let inner = l.invariant.inner in
+      let same : x.count ≡ c.in-Some.around.now.count = ap (λ (y : ScopeFrame). y.count) (last_same ls inner.0 x inner.1 (sym is ∙ inner.2)) ∙ inner.3 in
+      let enough : c.in-Some.around.now.count ≤ length c.args.self.now.replaced.items = omega arith in
+      let was = l.invariant.back enough in
+      let len = c.args.self.now.replaced.ok.0 in
+      omega arith;
+}

@@ -7,12 +7,15 @@ use Rattle.rox_tables.proofs.Ropes.{count_places, scope_places, length-lists}
 use Rattle.rox_tables.proofs.Presenting.{stacked_push, keeps_by, bound_from, bound_all, bound_none}
 use Rattle.rox_tables.proofs.namespaces.bindings.PrefixBindings.make_innermost.Goals as goal
 
-pub returns-then-is_in-clause-value : goal.returns-then-is_in-clause-value
-returns-then-is_in-clause-value c = λ h.
-    let namespaces = map namespace_view c.args.namespaces.now in
-    let lists = lists_of namespaces c.args.listed.now c.args.scopes.now in
-    let left = c.in_ok-leave_inner.ensures.keeps namespaces lists h in
-    (left, c.is_in.ensures.bound c.if-is_in.true namespaces lists left)
+pub returns-then-is_in : goal.returns-then-is_in
+returns-then-is_in c = record {
+  same = search rules;
+  value = λ h.
+      let namespaces = map namespace_view c.args.namespaces.now in
+      let lists = lists_of namespaces c.args.listed.now c.args.scopes.now in
+      let left = c.in_ok-leave_inner.ensures.keeps namespaces lists h in
+      (left, c.is_in.ensures.bound c.if-is_in.true namespaces lists left);
+}
 
 pub position_at-position-requires : goal.position_at-position-requires
 position_at-position-requires c =
@@ -39,23 +42,26 @@ loop-turn-preserved c =
       keeps = λ namespaces lists. c.in_ok-bind.ensures.keeps namespaces lists (l.invariant.keeps namespaces lists);
     }
 
-pub returns-clause-value : goal.returns-clause-value
-returns-clause-value c = λ h.
-    let namespaces = map namespace_view c.args.namespaces.now in
-    let lists = lists_of namespaces c.args.listed.now c.args.scopes.now in
-    let places = places_in c.args.listed.now c.args.scopes.now c.args.scope in
-    let x = c.loop-turn.self in
-    let many : c.count-many.result ≡ length places = c.count-many.ensures ∙ count_places c.args.listed.now c.args.scopes.now c.args.scope c.requires.scopes c.requires.within in
-    let bound = bound_all namespaces places c.loop-turn.turn (bound_place x) (omega arith) c.loop-turn.invariant.bound in
-    let here : IsBound namespaces (bound_place x) (scope_at lists c.args.scope) = subst (IsBound namespaces (bound_place x)) (sym (scope_places namespaces c.args.listed.now c.args.scopes.now c.args.scope)) bound in
-    let kept = c.loop-turn.invariant.keeps namespaces lists in
-    let l : ScopeFrame = record { scope = c.args.scope; count = c.len-count.result } in
-    let k = x.replaced.ok.0 in
-    let count : c.len-count.result ≡ length x.replaced.items = omega arith in
-    let low : 0 ≤ length x.replaced.items = omega arith in
-    let n = length-lists namespaces c.args.listed.now c.args.scopes.now in
-    let within : c.args.scope < length lists = omega arith in (
-      keeps_by namespaces lists _ x.replaced.items (x.layers.items ++ l ∷ []) refl c.in_ok-push.ensures.items
-          (stacked_push namespaces lists x.replaced.items (bound_place x) 0 x.layers.items l count low within here kept.stacked),
-      here,
-    )
+pub returns : goal.returns
+returns c = record {
+  same = search rules;
+  value = λ h.
+      let namespaces = map namespace_view c.args.namespaces.now in
+      let lists = lists_of namespaces c.args.listed.now c.args.scopes.now in
+      let places = places_in c.args.listed.now c.args.scopes.now c.args.scope in
+      let x = c.loop-turn.self in
+      let many : c.count-many.result ≡ length places = c.count-many.ensures ∙ count_places c.args.listed.now c.args.scopes.now c.args.scope c.requires.scopes c.requires.within in
+      let bound = bound_all namespaces places c.loop-turn.turn (bound_place x) (omega arith) c.loop-turn.invariant.bound in
+      let here : IsBound namespaces (bound_place x) (scope_at lists c.args.scope) = subst (IsBound namespaces (bound_place x)) (sym (scope_places namespaces c.args.listed.now c.args.scopes.now c.args.scope)) bound in
+      let kept = c.loop-turn.invariant.keeps namespaces lists in
+      let l : ScopeFrame = record { scope = c.args.scope; count = c.len-count.result } in
+      let k = x.replaced.ok.0 in
+      let count : c.len-count.result ≡ length x.replaced.items = omega arith in
+      let low : 0 ≤ length x.replaced.items = omega arith in
+      let n = length-lists namespaces c.args.listed.now c.args.scopes.now in
+      let within : c.args.scope < length lists = omega arith in (
+        keeps_by namespaces lists _ x.replaced.items (x.layers.items ++ l ∷ []) refl c.in_ok-push.ensures.items
+            (stacked_push namespaces lists x.replaced.items (bound_place x) 0 x.layers.items l count low within here kept.stacked),
+        here,
+      );
+}

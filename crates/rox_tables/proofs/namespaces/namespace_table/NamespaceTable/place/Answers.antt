@@ -6,8 +6,8 @@ use Rattle.rox_tables.specs.Rows.{namespace_view}
 use Rattle.rox_tables.proofs.Indexing.{row_last}
 use Rattle.rox_tables.proofs.namespaces.namespace_table.NamespaceTable.place.Goals as goal
 
-pub returns-clause-placed : goal.returns-clause-placed
-returns-clause-placed c =
+pub returns : goal.returns
+returns c =
     let row : Namespace = record { name = c.args.prefix; uri = c.args.uri } in
     let old = c.args.self.now.items.items in
     let new = c.add.new.self.items.items in
@@ -16,4 +16,4 @@ returns-clause-placed c =
     let before = length-map old namespace_view in
     let after = length-map new namespace_view in
     let both = length-append (map namespace_view old) (namespace_view row ∷ []) in
-    record { there = there; table = search rules; few = omega (arith, one, before, after, both) }
+    record { fault = search rules; placed = record { there = there; table = search rules; few = omega (arith, one, before, after, both) } }

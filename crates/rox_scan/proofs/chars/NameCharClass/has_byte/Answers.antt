@@ -3,7 +3,7 @@ use Rattle.std.proofs.Common.{get_or, nat_eq, refl, arith}
 use Rattle.rox_scan.specs.declared.chars.TheConstants.{NAME_BYTES}
 use Rattle.rox_grammar.specs.Chars.{is_name_char, is_name_start}
 use Rattle.rox_scan.proofs.TableLemmas.{agree_below, agree_at}
-use Rattle.rox_scan.proofs.chars.is_name_byte.Goals as goal
+use Rattle.rox_scan.proofs.chars.NameCharClass.has_byte.Goals as goal
 
 pub returns : goal.returns
 unfolding agree_below is_name_char is_name_start

@@ -1,9 +1,9 @@
 -- The table is held against the definition at each of the 256 bytes, by computing.
 use Rattle.std.proofs.Common.{get_or, nat_eq, refl, arith}
-use Rattle.rox_scan.specs.declared.chars.TheConstants.{VALUE_BYTES}
+use Rattle.rox_scan.specs.declared.byte_set.TheConstants.{VALUE_BYTES}
 use Rattle.rox_scan.specs.ByteSets.{is_value_byte}
 use Rattle.rox_scan.proofs.TableLemmas.{agree_below, agree_at}
-use Rattle.rox_scan.proofs.chars.is_value_byte.Goals as goal
+use Rattle.rox_scan.proofs.byte_set.ValueByteByteSet.has.Goals as goal
 
 pub returns : goal.returns
 unfolding agree_below is_value_byte
