@@ -20,6 +20,7 @@ pub mod Asking
 pub mod Items
 pub mod SpacedValues
 pub mod SpacedEnds
+pub mod PlainReads
 pub mod PlainTags
 pub mod SameBytes
 pub mod SameNames

@@ -1,11 +1,15 @@
 -- The bytes of a value that has a reference, or white space which is no space.
-use Rattle.std.specs.Prelude.{◌≡◌, ◌≤◌, ◌<◌, ◌==◌, ℕ, Bool, List, Ok, false, ◌||◌, slice_index}
+use Rattle.std.specs.Prelude.{◌≡◌, ◌≤◌, ◌<◌, ◌==◌, ◌-◌, ℕ, Bool, List, Option, Ok, IfSome, true, false, ◌||◌, length, slice_index}
 use Rattle.std.specs.Str.{IsCharBoundary}
 use Rattle.rox_grammar.specs.Constructs.{AreChars}
 use Rattle.rox_scan.specs.ByteSets.{EndsSet, is_stretch_byte, is_value_byte}
 use Rattle.rox_grammar.specs.Entities.{Entity}
-use Rattle.rox_reading.specs.Values.{bytes_of, is_special, value_bit_at}
+use Rattle.rox_reading.specs.Values.{ValueInclusion, bytes_of, is_special, value_bit_at, value_text}
+use Rattle.rox_scan.specs.Lookahead.{IsLookahead, ends_value}
+use Rattle.rox_tables.specs.Storage.{storage_bytes, is_borrowed}
+use Rattle.rox_tables.specs.declared.rows.storage.StringStorage.{StringStorage}
 use Rattle.rox_values.specs.Values.{behind}
+use Rattle.rox_build.specs.declared.spaced_value.SpacedEnds.{SpacedEnds}
 
 -- one that stands for itself, or changes a value
 unfoldable pub is_spaced_byte : ℕ → Bool
@@ -37,3 +41,31 @@ pub record PutsBit (src : List ℕ) (i stop : ℕ) (old new : List ℕ) (j : ℕ
   pub value : (main : Bool) (es : List Entity) → behind old (value_bit_at main es src stop i) ≡ Ok (bytes_of new, j)
   pub place : (i < j) × (j ≤ stop)
   pub cut : IsCharBoundary src j
+
+-- the value that begins at i, behind this quote, ends at such a place, and does not stand for itself
+pub record FindsSpacedEnds (src : List ℕ) (i q : ℕ) (result : Option SpacedEnds) : Type 0 where
+  pub looked : IfSome result (λ e. IsLookahead (ends_value q src) is_special src i e.end false)
+  pub here : IfSome result (λ e. (slice_index src e.end == q) ≡ true)
+  pub value : IfSome result (λ e. IsSpacedValue src i e.first e.end)
+
+-- more of a value stands at i
+pub record IsMoreOfValue (src : List ℕ) (i j : ℕ) : Type 0 where
+  pub rest : IsValueRest src i j
+  pub before : i < j
+
+-- a LF or TAB of a value stands at i
+pub record IsSpaceOfValue (src : List ℕ) (i j : ℕ) : Type 0 where
+  pub here : (slice_index src i == 10 || slice_index src i == 9) ≡ true
+  pub before : i < j
+  pub within : j ≤ length src
+
+-- this byte of a value stands at i
+pub record IsByteOfValue (src : List ℕ) (i j b : ℕ) : Type 0 where
+  pub here : slice_index src i ≡ b
+  pub before : i < j
+  pub stop : IsCharBoundary src j
+
+-- what the value from i up to j stands for, whatever reads it, as a text of its own
+pub record IsSpacedText (src : List ℕ) (i j : ℕ) (result : Option StringStorage) : Type 0 where
+  pub value : IfSome result (λ s. (main : Bool) (es : List Entity) (opener : ValueInclusion) (openings_left : ℕ) → value_text main es opener (j - i) src j i openings_left ≡ Ok (storage_bytes s, openings_left))
+  pub owned : IfSome result (λ s. is_borrowed s ≡ false)

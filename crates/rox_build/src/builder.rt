@@ -7,6 +7,7 @@ ghost use Rattle.rox_tables.specs.declared.rows.tables.Scope.TheVariants as scop
 ghost use Rattle.rox_tables.specs.StoredNodes.{kind_of};
 ghost use Rattle.rox_tables.specs.declared.rows.tables.NodeKind.TheVariants as kind;
 ghost use Rattle.rox_grammar.specs.declared.failure.Failure.TheVariants as failure;
+ghost use Rattle.rox_build.specs.TakenText.{TakesLast};
 ghost use Rattle.rox_build.specs.PendingText.{waiting, written, text_of, IsItsSlice};
 ghost use Rattle.rox_tables.specs.Storage.{storage_bytes, is_borrowed};
 ghost use Rattle.rox_build.specs.declared.pending.Pending.TheVariants as pending;
@@ -135,12 +136,7 @@ fn join_last(
 ) -> Result<TextRange, AllocError>
     requires some { 0 < vec_len nodes.old.rows }
     requires few { vec_len nodes.old.rows < 2 ^ 32 }
-    ensures taken { IfOk result (λ r. (last : NodeData)
-        × (node_rows nodes.old ≡ node_rows nodes.new ++ last ∷ [])
-        × (r ≡ record { start = last.start; end = last.end })
-        × (string_bytes joined.new ≡ text_of last.kind ++ text.now)) }
-    ensures count { OnOk result (vec_len nodes.old.rows ≡ vec_len nodes.new.rows + 1) }
-    ensures same { IfErr result (λ e. nodes.new ≡ nodes.old) }
+    ensures { TakesLast nodes.old nodes.new (string_bytes joined.new) text.now result }
 {
     let last = nodes.len() - 1;
     let row = nodes.row(last);
@@ -184,7 +180,8 @@ impl<'input> Builder<'input> {
     ghost use Rattle.rox_values.specs.Values.{piece_view};
     ghost use Rattle.rox_build.specs.BuilderState.{Represents, RepresentsFlushed, AreSound, Adds, IsConsistent, IsReady, KeepsOpen, KeepsState, KeepsTables, names_in, opened_in, last_row, tables_of};
     ghost use Rattle.rox_build.specs.Outcomes.{AddsNode, AddsText, Flushes, OpensElement};
-    ghost use Rattle.rox_build.specs.Readiness.{MayPutRow, MayPutText};
+    ghost use Rattle.rox_build.specs.Putting.{Closes, EndsRun, IsInnermostScope, IsOfRoot, JoinsText, MayHaveMore, MayPutClose, MayPutLeaf, MayPutOpen, PutsClose, PutsLeaf, PutsOpen, PutsOwned, PutsText, Settles, WaitsForMore};
+    ghost use Rattle.rox_build.specs.Readiness.{MayPutText};
     ghost use Rattle.rox_tables.specs.Rows.{HoldsTree};
     ghost use Rattle.rox_tables.specs.StoredNodes.{IsSmallKind};
     ghost use Rattle.rox_tables.specs.Scopes.{PrefixesOnce};
@@ -195,18 +192,7 @@ impl<'input> Builder<'input> {
     /// The tables with the root node alone. No error comes with them, so that they are made where they stay.
     #[inline(always)]
     pub fn of_root(alloc: Global, first: FirstTables<'input>, nodes_limit: u32) -> Builder<'input>
-        ensures empty { (names_in result.tables ≡ [])
-            × (length (attribute_rows result.tables.attributes) ≡ 0) }
-        ensures fine { IsConsistent result.tables result.opened.items }
-        ensures shows { (bytes : ℕ) → node_rows first.entry.nodes ≡ record {
-          start = 0;
-          end = bytes;
-          parent = 0;
-          subtree_end = 0;
-          kind = kind.Root;
-        } ∷ [] → Represents bytes root Nil result }
-        ensures limit { result.nodes_limit ≡ nodes_limit }
-        ensures openings_left { result.openings_left ≡ 255 }
+        ensures { IsOfRoot first.entry nodes_limit result }
     {
         let FirstTables {
             attributes,
@@ -266,13 +252,7 @@ impl<'input> Builder<'input> {
     /// The scope of the innermost open element, or of the root node.
     #[inline]
     pub fn scope(&self) -> u32
-        ensures value { IsConsistent self.now.tables self.now.opened.items
-            → (end : ℕ) (stack : Open) (done : Forest Item) → Represents end stack done self.now
-            → scope_in_tables self.now.tables result ≡ scope_of stack }
-        ensures within { IsConsistent self.now.tables self.now.opened.items
-            → result < length self.now.tables.scopes.items }
-        ensures once { IsConsistent self.now.tables self.now.opened.items
-            → PrefixesOnce (scope_in_tables self.now.tables result) }
+        ensures { IsInnermostScope self.now result }
     {
         match self.opened.last() {
             Some(element) => element.scope,
@@ -306,12 +286,7 @@ impl<'input> Builder<'input> {
     /// The only fault is that one more node would be too many.
     #[inline(always)]
     fn room(&self) -> Result<(), Failure>
-        ensures ok { OnOk result (vec_len self.now.nodes.rows + waiting self.now.pending
-            < self.now.nodes_limit) }
-        ensures few { OnOk result (vec_len self.now.nodes.rows + waiting self.now.pending + 1
-            < 2 ^ 32) }
-        ensures err { IfErr result (λ e. (e ≡ failure.Fault fault.NodesLimitReached)
-            × (self.now.nodes_limit ≤ vec_len self.now.nodes.rows + waiting self.now.pending)) }
+        ensures { MayHaveMore self.now result }
     {
         if self.count() >= self.nodes_limit as usize {
             return Err(Failure::Fault(Fault::NodesLimitReached));
@@ -398,9 +373,7 @@ impl<'input> Builder<'input> {
     #[inline(always)]
     pub fn end_run(&mut self, alloc: Global, text: &str, at: usize) -> Result<(), AllocError>
         requires { at ≤ length text.now }
-        ensures ok { OnOk result ((end : ℕ) (stack : Open) (done : Forest Item)
-            → Represents end stack done self.old → Represents end stack done self.new) }
-        ensures kept { KeepsOpen self.old self.new }
+        ensures { EndsRun self.old self.new result }
     {
         if !self.is_joining() {
             return Ok(());
@@ -468,10 +441,7 @@ impl<'input> Builder<'input> {
     #[inline(always)]
     pub fn join_piece(&mut self, start: usize, end: usize, piece: &str) -> Result<(), AllocError>
         requires { self.old.pending ≡ pending.Joined }
-        ensures value { OnOk result ((total at : ℕ) (s : State)
-            → Represents total s.stack s.done self.old → Adds total (Ok tt) self.new
-            (with_item self.old.nodes_limit s at (Text start end piece.now true))) }
-        ensures kept { KeepsOpen self.old self.new }
+        ensures { JoinsText self.old self.new result (Text start end piece.now true) }
     {
         self.joined.text.push_str(piece)?;
         self.joined.slice = None;
@@ -488,11 +458,7 @@ impl<'input> Builder<'input> {
         slice: &'input str,
     ) -> Result<bool, AllocError>
         requires { self.old.pending ≡ pending.None }
-        ensures value { IfOk result (λ yes. yes ≡ true → (total at : ℕ) (s : State)
-            → Represents total s.stack s.done self.old → Adds total (Ok tt) self.new
-            (with_item self.old.nodes_limit s at (Text start end slice.now true))) }
-        ensures other { IfOk result (λ yes. yes ≡ false → self.new ≡ self.old) }
-        ensures kept { KeepsOpen self.old self.new }
+        ensures { WaitsForMore self.old self.new result (Text start end slice.now true) }
     {
         if self.nodes.len() >= self.nodes_limit as usize {
             return Ok(false);
@@ -662,13 +628,7 @@ impl<'input> Builder<'input> {
     /// The innermost open element ends. The only error is want of memory.
     #[inline(always)]
     pub fn close(&mut self, alloc: Global, end: usize) -> Result<(), AllocError>
-        ensures ok { OnOk result ((total start : ℕ) (t : Tag) (before : Forest Item) (up : Open)
-            (done : Forest Item) → Represents total (inside start t before up) done self.old
-            → Represents total up (join before (Cons (Element start end t) (merge done) Nil))
-            self.new) }
-        ensures kept { KeepsTables self.old self.new }
-        ensures opened { OnOk result (self.new.opened.items
-            ≡ take (length self.old.opened.items - 1) self.old.opened.items) }
+        ensures { Closes self.old self.new result end }
     {
         self.flush(alloc)?;
         if let Some(element) = self.opened.pop() {
@@ -734,11 +694,7 @@ impl<'input> Builder<'input> {
     #[inline(always)]
     fn settle(&mut self)
         requires { waiting self.old.pending ≡ 0 }
-        ensures ok { (end : ℕ) (stack : Open) (done : Forest Item)
-            → Represents end stack done self.old → RepresentsFlushed end stack done self.new }
-        ensures nodes { self.new.nodes ≡ self.old.nodes }
-        ensures kept { KeepsOpen self.old self.new }
-        ensures empty { self.new.pending ≡ pending.None }
+        ensures { Settles self.old self.new }
     {
         self.pending = Pending::None;
     }
@@ -747,8 +703,7 @@ impl<'input> Builder<'input> {
     #[inline(always)]
     pub fn put_text(&mut self, start: usize, end: usize, text: &'input str)
         requires { MayPutText self.old start end }
-        ensures adds { AddsText self.old self.new (Ok tt) (Text start end text.now true) }
-        ensures ready { (n : ℕ) → IsReady (n + 1) self.old → IsReady n self.new }
+        ensures { PutsText self.old self.new (Text start end text.now true) }
     {
         let row = self.row(start, end, NodeKind::Text(StringStorage::Borrowed(text)));
         self.nodes.put(row);
@@ -759,11 +714,7 @@ impl<'input> Builder<'input> {
     #[inline(always)]
     pub fn put_owned(&mut self, alloc: Global, start: usize, end: usize, changed: &str) -> bool
         requires { MayPutText self.old start end }
-        ensures value { result ≡ true → (total at : ℕ) (s : State)
-            → Represents total s.stack s.done self.old → Adds total (Ok tt) self.new
-            (with_item self.old.nodes_limit s at (Text start end changed.now false)) }
-        ensures other { result ≡ false → KeepsState self.old self.new }
-        ensures kept { KeepsOpen self.old self.new }
+        ensures { PutsOwned self.old self.new result (Text start end changed.now false) }
     {
         let Ok(owned) = self.recent.owned(alloc, changed) else {
             return false;
@@ -778,11 +729,8 @@ impl<'input> Builder<'input> {
     /// row this is.
     #[inline(always)]
     pub fn put_leaf(&mut self, parent: u32, start: usize, end: usize, kind: NodeKind<'input>)
-        requires row { MayPutRow self.old parent start }
-        requires end { end < 2 ^ 32 }
-        requires small { IsSmallKind kind }
-        ensures adds { AddsNode self.old self.new (Ok tt) start end kind.entry }
-        ensures ready { (n : ℕ) → IsReady (n + 1) self.old → IsReady n self.new }
+        requires { MayPutLeaf self.old parent start end kind }
+        ensures { PutsLeaf self.old self.new start end kind.entry }
     {
         self.settle();
         let row = self.row_below(parent, start, end, kind);
@@ -792,11 +740,8 @@ impl<'input> Builder<'input> {
     /// An element opens at `start`, where there is room for it, below the innermost open one, whose row this is.
     #[inline(always)]
     pub fn put_open(&mut self, parent: u32, text: &'input str, start: usize, tag: &StartTag<'input>)
-        requires row { MayPutRow self.old parent start }
-        requires depth { vec_len self.old.opened < vec_capacity self.old.opened }
-        requires within { tag.now.name_start ≤ length text.now }
-        ensures adds { OpensElement self.old self.new (Ok tt) text.now start tag.now }
-        ensures ready { (n : ℕ) → IsReady (n + 1) self.old → IsReady n self.new }
+        requires { MayPutOpen self.old parent text.now start tag.now }
+        ensures { PutsOpen self.old self.new text.now start tag.now }
     {
         self.settle();
         let row = self.nodes.len() as u32;
@@ -818,16 +763,8 @@ impl<'input> Builder<'input> {
     /// The innermost open element ends, where no text waits for its row.
     #[inline(always)]
     pub fn put_close(&mut self, end: usize)
-        requires settled { waiting self.old.pending ≡ 0 }
-        requires short { end < 2 ^ 32 }
-        ensures ok { (total start : ℕ) (t : Tag) (before : Forest Item) (up : Open)
-            (done : Forest Item) → Represents total (inside start t before up) done self.old
-            → Represents total up (join before (Cons (Element start end t) (merge done) Nil))
-            self.new }
-        ensures ready { (n : ℕ) → IsReady n self.old → IsReady n self.new }
-        ensures kept { KeepsTables self.old self.new }
-        ensures opened { self.new.opened.items
-            ≡ take (length self.old.opened.items - 1) self.old.opened.items }
+        requires { MayPutClose self.old end }
+        ensures { PutsClose self.old self.new end }
     {
         self.settle();
         if let Some(element) = self.opened.pop() {

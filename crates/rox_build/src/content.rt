@@ -1,19 +1,14 @@
 //! Content: character data and replacement texts, one construct after another (XML 1.0 sections 2.4, 3.1, 4.3.2, 4.4.2).
 
-ghost use Rattle.std.specs.Prelude.{◌≡◌, ◌<◌, ◌-◌, ℕ, List, Ok, IfOk, OnOk, length, true, false};
+ghost use Rattle.std.specs.Prelude.{ℕ, List, length};
 ghost use Rattle.std.specs.Str.{IsCharBoundary};
 ghost use Rattle.std.specs.String.{string_bytes};
 ghost use Rattle.rox_reading.specs.State.{State};
-ghost use Rattle.rox_grammar.specs.Written.{Text};
 ghost use Rattle.rox_reading.specs.Machine as machine;
-ghost use Rattle.rox_reading.specs.Machine.{with_item};
 ghost use Rattle.rox_grammar.specs.Entities.{Entity};
-ghost use Rattle.rox_reading.specs.Values as spec;
-ghost use Rattle.rox_scan.specs.DoctypeViews.{replacement_view};
-ghost use Rattle.rox_values.specs.DeclaredEntities.{AreDeclared};
 ghost use Rattle.rox_values.specs.Contexts.{context_of};
-ghost use Rattle.rox_build.specs.BuilderState.{GoesOn, IsConsistent, IsInState, ParsesTo, HoldsState, ParsesToHeld, GivesPart, Adds, Represents};
-ghost use Rattle.rox_build.specs.DataParts.{GivesDataPart, next_part};
+ghost use Rattle.rox_build.specs.BuilderState.{IsConsistent, HoldsState, ParsesToHeld};
+ghost use Rattle.rox_build.specs.OpenedTexts.{GivesPiece, JoinsWhole, OpensText, ReadsPart, ReadsText};
 ghost use Rattle.rox_build.specs.Outcomes.{MayStep, ParsesAs};
 ghost use Rattle.rox_build.specs.Readiness.{MayReadTo};
 
@@ -143,11 +138,8 @@ fn part<'input>(
     stop: usize,
 ) -> Result<Option<Cursor<'input>>, Failure>
     requires { IsCharBoundary cursor.old.text.now stop }
-    ensures value { (es : List Entity) → AreDeclared es context.entry.entities.now
-        → GivesPart context.entry.main (string_bytes buffers.new.scratch) cursor.new result
-        (spec.data_part context.entry.main es
-        (stop - cursor.old.pos) cursor.old.text.now stop cursor.old.pos) }
-    ensures source { cursor.new.text ≡ cursor.old.text }
+    ensures { ReadsPart context.entry stop cursor.old cursor.new (string_bytes buffers.new.scratch)
+        result }
 {
     buffers.scratch.clear();
     buffers.raw.clear();
@@ -172,11 +164,8 @@ fn other_part_piece<'input>(
     stop: usize,
 ) -> Result<Option<Cursor<'input>>, Failure>
     requires { MayReadTo stop cursor.old builder.old }
-    ensures value { (limit end : ℕ) (es : List Entity) (s : State)
-        → AreDeclared es context.entry.entities.now → IsInState limit end s cursor.old builder.old
-        → GivesDataPart limit end result cursor.new builder.new
-        (next_part (context_of limit es context.entry) cursor.old.text.now start stop s) }
-    ensures goes { OnOk result (GoesOn cursor.old cursor.new builder.new) }
+    ensures { GivesPiece context.entry start stop cursor.old cursor.new builder.old builder.new
+        result }
 {
     let next = part(cursor, &mut builder.buffers, context, stop)?;
     if builder.buffers.scratch.is_empty() {
@@ -198,11 +187,8 @@ fn part_piece<'input>(
     stop: usize,
 ) -> Result<Option<Cursor<'input>>, Failure>
     requires { MayReadTo stop cursor.old builder.old }
-    ensures value { (limit end : ℕ) (es : List Entity) (s : State)
-        → AreDeclared es context.entry.entities.now → IsInState limit end s cursor.old builder.old
-        → GivesDataPart limit end result cursor.new builder.new
-        (next_part (context_of limit es context.entry) cursor.old.text.now start stop s) }
-    ensures goes { OnOk result (GoesOn cursor.old cursor.new builder.new) }
+    ensures { GivesPiece context.entry start stop cursor.old cursor.new builder.old builder.new
+        result }
 {
     if context.main && !builder.is_written() {
         let before = builder.begin_part();
@@ -222,14 +208,7 @@ fn joins<'input>(
     context: Context<'_, 'input>,
     text: Cursor<'input>,
 ) -> Result<bool, AllocError>
-    ensures value { IfOk result (λ yes. yes ≡ true → (limit end after : ℕ) (es : List Entity)
-        (s : State) → HoldsState limit end s builder.old
-        → ParsesToHeld limit end (Ok tt) builder.new
-        (machine.opener limit es context.entry.depth_left context.entry.main
-        (replacement_view text.entry) after s)) }
-    ensures other { IfOk result (λ yes. yes ≡ false → builder.new ≡ builder.old) }
-    ensures tables { builder.new.tables ≡ builder.old.tables }
-    ensures opened { builder.new.opened ≡ builder.old.opened }
+    ensures { JoinsWhole context.entry text.entry builder.old builder.new result }
 {
     if !context.main || context.depth_left == 0 {
         return Ok(false);
@@ -266,12 +245,7 @@ fn open_text<'input>(
     text: Cursor<'input>,
 ) -> Result<(), ParseError<'input>>
     requires fine { IsConsistent builder.old.tables builder.old.opened.items }
-    ensures value { (limit end : ℕ) (es : List Entity) (s : State)
-        → AreDeclared es context.entry.entities.now → HoldsState limit end s builder.old
-        → ParsesToHeld limit end result builder.new
-        (machine.opener limit es context.entry.depth_left context.entry.main
-        (replacement_view text.entry) after s) }
-    ensures fine { OnOk result (IsConsistent builder.new.tables builder.new.opened.items) }
+    ensures { OpensText context.entry after text.entry builder.old builder.new result }
 {
     let joined = joins(builder, context, text)?;
     if joined {
@@ -292,12 +266,7 @@ fn open_other_text<'input>(
     text: Cursor<'input>,
 ) -> Result<(), ParseError<'input>>
     requires fine { IsConsistent builder.old.tables builder.old.opened.items }
-    ensures value { (limit end : ℕ) (es : List Entity) (s : State)
-        → AreDeclared es context.entry.entities.now → HoldsState limit end s builder.old
-        → ParsesToHeld limit end result builder.new
-        (machine.opener limit es context.entry.depth_left context.entry.main
-        (replacement_view text.entry) after s) }
-    ensures fine { OnOk result (IsConsistent builder.new.tables builder.new.opened.items) }
+    ensures { OpensText context.entry after text.entry builder.old builder.new result }
 {
     let before = builder.openings_left;
     let (within, inner) = context.opened(after, before, builder.opened.len())?;
@@ -320,13 +289,7 @@ fn content_text<'input>(
     text: Cursor<'input>,
 ) -> Result<(), ParseError<'input>>
     requires fine { IsConsistent builder.old.tables builder.old.opened.items }
-    ensures value { (limit end : ℕ) (es : List Entity) (s : State)
-        → AreDeclared es context.entry.entities.now → HoldsState limit end s builder.old
-        → s.at ≡ text.entry.pos
-        → ParsesToHeld limit end result builder.new
-        (machine.drive_text (context_of limit es context.entry)
-        (length text.entry.text.now) text.entry.text.now s) }
-    ensures fine { OnOk result (IsConsistent builder.new.tables builder.new.opened.items) }
+    ensures { ReadsText context.entry text.entry builder.old builder.new result }
 {
     let mut cursor = text;
     for _turn in 0..text.text.len() {

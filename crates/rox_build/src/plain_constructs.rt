@@ -2,25 +2,15 @@
 //! start tag. Nothing fails here: what is not plain, or finds no room, is left to the general step, which reads that one
 //! construct from the same place.
 
-ghost use Rattle.std.specs.Prelude.{◌≡◌, ◌≢◌, ◌<◌, ◌≤◌, ◌+◌, ◌-◌, ◌*◌, ◌^◌, ℕ, Ok, length, take, slice_index, true, false};
+ghost use Rattle.std.specs.Prelude.{◌≡◌, ◌≤◌, ◌+◌, ◌^◌, ℕ, true};
 ghost use Rattle.std.specs.Str.{IsCharBoundary};
-ghost use Rattle.rox_grammar.specs.Chars.{is_part_char};
-ghost use Rattle.rox_grammar.specs.Runs.{run_end};
-ghost use Rattle.rox_grammar.specs.Search.{stands};
-ghost use Rattle.rox_grammar.specs.FixedTexts.{word_text};
 ghost use Rattle.rox_grammar.specs.declared.fault.Word.TheVariants as word;
 ghost use Rattle.rox_reading.specs.Machine as machine;
 ghost use Rattle.rox_reading.specs.Refusals.{lifted};
-ghost use Rattle.rox_reading.specs.State.{State};
-ghost use Rattle.rox_build.specs.BuilderState.{GoesOn, IsConsistent, IsInState, IsReady, KeepsState, ScansTo};
-ghost use Rattle.rox_build.specs.PlainSteps.{Reads};
-ghost use Rattle.rox_build.specs.PendingText.{waiting};
+ghost use Rattle.rox_build.specs.BuilderState.{IsConsistent, IsReady};
 ghost use Rattle.rox_build.specs.Outcomes.{MayStep, ReadsAt};
-ghost use Rattle.rox_build.specs.PlainTag.{EndsNear};
+ghost use Rattle.rox_build.specs.PlainOutcomes.{MayReadBare, MayReadEnd, MayReadNear, MayReadPart, MayReadPlain, MayReadRows, MayReadWord, ReadsIf, ReadsRows, ReadsRun, ReadsStep, any_context};
 ghost use Rattle.rox_build.specs.Readiness.{HasRoom};
-ghost use Rattle.rox_scan.specs.ByteSets.{EndsSet, is_part_byte};
-ghost use Rattle.rox_scan.specs.ScanResults.{Finds};
-ghost use Rattle.rox_scan.specs.declared.cursor.Cursor.{Cursor};
 
 use crate::builder::Builder;
 use crate::plain_tag::{TagPlace, bare_start_tag, near_start_tag, plain_start_tag};
@@ -43,19 +33,8 @@ const NOT_READ: usize = usize::MAX;
 /// Character data, up to the next `<`, if it is a slice of the source, and no text is open that it goes on with.
 #[inline(always)]
 fn plain_character_data<'input>(cursor: &mut Cursor<'input>, builder: &mut Builder<'input>) -> bool
-    requires short { length cursor.old.text.now < 2 ^ 32 }
-    requires ready { IsReady 1 builder.old }
-    ensures value { result ≡ true → (context : machine.Context) (end : ℕ) (s : State)
-        → IsInState context.limit end s cursor.old builder.old
-        → ScansTo context.limit end (Ok tt) cursor.new builder.new
-        (machine.character_data_step context cursor.old.text.now s) }
-    ensures other { result ≡ false → (cursor.new ≡ cursor.old) × (builder.new ≡ builder.old) }
-    ensures tables { builder.new.tables ≡ builder.old.tables }
-    ensures opened { builder.new.opened ≡ builder.old.opened }
-    ensures source { cursor.new.text ≡ cursor.old.text }
-    ensures behind { result ≡ true → slice_index cursor.old.text.now cursor.new.pos ≡ 60 }
-    ensures ready { result ≡ true → (n : ℕ) → IsReady (n + 1) builder.old
-        → IsReady n builder.new }
+    requires { HasRoom cursor.old.text.now builder.old }
+    ensures { ReadsRun cursor.old cursor.new builder.old builder.new result }
 {
     if builder.is_text_open() {
         return false;
@@ -79,15 +58,9 @@ fn plain_line<'input>(
     cursor: &mut Cursor<'input>,
     builder: &mut Builder<'input>,
 ) -> bool
-    ensures value { result ≡ true → (context : machine.Context) (end : ℕ) (s : State)
-        → context.values.main ≡ true → IsInState context.limit end s cursor.old builder.old
-        → ScansTo context.limit end (Ok tt) cursor.new builder.new
-        (machine.step context cursor.old.text.now s) }
-    ensures other { result ≡ false → (cursor.new ≡ cursor.old)
-        × KeepsState builder.old builder.new }
-    ensures tables { builder.new.tables ≡ builder.old.tables }
-    ensures opened { builder.new.opened ≡ builder.old.opened }
-    ensures source { cursor.new.text ≡ cursor.old.text }
+    requires { IsConsistent builder.old.tables builder.old.opened.items }
+    ensures { ReadsStep (λ k. k.values.main ≡ true) cursor.old cursor.new builder.old builder.new
+        result }
 {
     let start = cursor.pos;
     let text = cursor.text;
@@ -112,16 +85,9 @@ pub fn plain_main_line<'input>(
     builder: &mut Builder<'input>,
     main: bool,
 ) -> bool
-    requires fine { IsConsistent builder.old.tables builder.old.opened.items }
-    ensures value { result ≡ true → (context : machine.Context) (end : ℕ) (s : State)
-        → context.values.main ≡ main → IsInState context.limit end s cursor.old builder.old
-        → ScansTo context.limit end (Ok tt) cursor.new builder.new
-        (machine.step context cursor.old.text.now s) }
-    ensures other { result ≡ false → (context : machine.Context) (end : ℕ) (s : State)
-        → IsInState context.limit end s cursor.old builder.old
-        → IsInState context.limit end s cursor.new builder.new }
-    ensures place { result ≡ false → cursor.new ≡ cursor.old }
-    ensures goes { GoesOn cursor.old cursor.new builder.new }
+    requires { IsConsistent builder.old.tables builder.old.opened.items }
+    ensures { ReadsStep (λ k. k.values.main ≡ main) cursor.old cursor.new builder.old builder.new
+        result }
 {
     if !main {
         return false;
@@ -136,19 +102,10 @@ pub fn plain_main_line<'input>(
 /// and more elements are open than the `open_around` ones around the text.
 #[inline(always)]
 fn plain_end_tag(cursor: &mut Cursor<'_>, builder: &mut Builder<'_>, open_around: usize) -> bool
-    requires here { slice_index cursor.old.text.now cursor.old.pos ≡ 60 }
-    requires next { slice_index cursor.old.text.now (cursor.old.pos + 1) ≡ 47 }
-    requires short { length cursor.old.text.now < 2 ^ 32 }
-    requires settled { waiting builder.old.pending ≡ 0 }
-    requires fine { IsConsistent builder.old.tables builder.old.opened.items }
-    ensures value { result ≡ true → (context : machine.Context) (end : ℕ) (s : State)
-        → context.open_around ≡ open_around → IsInState context.limit end s cursor.old builder.old
-        → ScansTo context.limit end (Ok tt) cursor.new builder.new
-        (lifted (machine.end_step context cursor.old.text.now s)) }
-    ensures other { result ≡ false → (cursor.new ≡ cursor.old) × (builder.new ≡ builder.old) }
-    ensures ready { result ≡ true → (n : ℕ) → IsReady (n + 1) builder.old
-        → IsReady n builder.new }
-    ensures goes { GoesOn cursor.old cursor.new builder.new }
+    requires { MayReadEnd cursor.old builder.old }
+    ensures { ReadsIf (λ k. k.open_around ≡ open_around)
+        (λ k src s. lifted (machine.end_step k src s)) cursor.old cursor.new builder.old
+        builder.new result }
 {
     if builder.opened.len() <= open_around {
         return false;
@@ -181,18 +138,9 @@ fn bare_element<'input>(
     builder: &mut Builder<'input>,
     near: usize,
 ) -> bool
-    requires here { slice_index cursor.old.text.now cursor.old.pos ≡ 60 }
-    requires near { EndsSet is_part_byte cursor.old.text.now (cursor.old.pos + 1) near }
-    requires letter { 63 < slice_index cursor.old.text.now (cursor.old.pos + 1) }
-    requires room { HasRoom cursor.old.text.now builder.old }
-    ensures value { result ≡ true → (context : machine.Context) (end : ℕ) (s : State)
-        → IsInState context.limit end s cursor.old builder.old
-        → ScansTo context.limit end (Ok tt) cursor.new builder.new
-        (machine.tag_step context cursor.old.text.now s) }
-    ensures other { result ≡ false → (cursor.new ≡ cursor.old) × (builder.new ≡ builder.old) }
-    ensures ready { result ≡ true → (n : ℕ) → IsReady (n + 1) builder.old
-        → IsReady n builder.new }
-    ensures goes { GoesOn cursor.old cursor.new builder.new }
+    requires { MayReadBare cursor.old near builder.old }
+    ensures { ReadsIf any_context machine.tag_step cursor.old cursor.new builder.old builder.new
+        result }
 {
     // Most tags have more than a name, which is seen first.
     if !is_at(cursor.text, near, b'>') || !builder.has_room_to_open() {
@@ -227,11 +175,7 @@ fn other_element<'input>(
     builder: &mut Builder<'input>,
     part: usize,
 ) -> usize
-    requires here { slice_index text.now start ≡ 60 }
-    requires start { IsCharBoundary text.now start }
-    requires part { Finds text.now (start + 1) part
-        (run_end is_part_char text.now (start + 1)) }
-    requires room { HasRoom text.now builder.old }
+    requires { MayReadPart text.now start part builder.old }
     ensures { ReadsAt machine.tag_step text.entry.now start result builder.old builder.new }
 {
     if !builder.has_room_to_open() {
@@ -273,10 +217,7 @@ fn plain_element<'input>(
     builder: &mut Builder<'input>,
     near: usize,
 ) -> usize
-    requires here { slice_index text.now start ≡ 60 }
-    requires start { IsCharBoundary text.now start }
-    requires near { EndsNear text.now (start + 1) near }
-    requires room { HasRoom text.now builder.old }
+    requires { MayReadNear text.now start near builder.old }
     ensures { ReadsAt machine.tag_step text.entry.now start result builder.old builder.new }
 {
     if !builder.has_room_to_open() {
@@ -315,16 +256,9 @@ fn plain_element<'input>(
 /// A comment, from `<!--`, if it is in order.
 #[inline(always)]
 fn plain_comment<'input>(cursor: &mut Cursor<'input>, builder: &mut Builder<'input>) -> bool
-    requires here { stands (word_text word.CommentStart) cursor.old.text.now cursor.old.pos ≡ true }
-    requires room { HasRoom cursor.old.text.now builder.old }
-    ensures value { result ≡ true → (limit end : ℕ) (s : State)
-        → IsInState limit end s cursor.old builder.old
-        → ScansTo limit end (Ok tt) cursor.new builder.new
-        (lifted (machine.comment_step limit cursor.old.text.now s)) }
-    ensures other { result ≡ false → (cursor.new ≡ cursor.old) × (builder.new ≡ builder.old) }
-    ensures ready { result ≡ true → (n : ℕ) → IsReady (n + 1) builder.old
-        → IsReady n builder.new }
-    ensures goes { GoesOn cursor.old cursor.new builder.new }
+    requires { MayReadWord word.CommentStart cursor.old builder.old }
+    ensures { ReadsIf any_context (λ k src s. lifted (machine.comment_step k.limit src s))
+        cursor.old cursor.new builder.old builder.new result }
 {
     let start = cursor.pos;
     let mut behind = *cursor;
@@ -365,19 +299,11 @@ fn plain_markup<'input>(
     builder: &mut Builder<'input>,
     open_around: usize,
 ) -> bool
-    requires here { slice_index cursor.old.text.now cursor.old.pos ≡ 60 }
-    requires room { HasRoom cursor.old.text.now builder.old }
-    ensures value { result ≡ true → (context : machine.Context) (end : ℕ) (s : State)
-        → context.open_around ≡ open_around → IsInState context.limit end s cursor.old builder.old
-        → ScansTo context.limit end (Ok tt) cursor.new builder.new
-        (machine.step context cursor.old.text.now s) }
-    ensures other { result ≡ false → (context : machine.Context) (end : ℕ) (s : State)
-        → IsInState context.limit end s cursor.old builder.old
-        → IsInState context.limit end s cursor.new builder.new }
-    ensures place { result ≡ false → cursor.new ≡ cursor.old }
+    requires { MayReadPlain cursor.old builder.old }
+    ensures reads { ReadsStep (λ k. k.open_around ≡ open_around) cursor.old cursor.new builder.old
+        builder.new result }
     ensures ready { result ≡ true → (n : ℕ) → IsReady (n + 1) builder.old
         → IsReady n builder.new }
-    ensures goes { GoesOn cursor.old cursor.new builder.new }
 {
     let bytes = cursor.text.as_bytes();
     if cursor.pos + 1 >= bytes.len() {
@@ -427,13 +353,8 @@ pub fn plain_stretch<'input>(
     open_around: usize,
     rows: usize,
 ) -> usize
-    requires ready { 0 < rows → IsReady rows builder.old }
-    requires fine { IsConsistent builder.old.tables builder.old.opened.items }
-    ensures value { (context : machine.Context) (end : ℕ) (s : State)
-        → context.open_around ≡ open_around → IsInState context.limit end s cursor.old builder.old
-        → Reads context end result cursor.new builder.new cursor.old.text.now s }
-    ensures count { result ≤ rows }
-    ensures goes { GoesOn cursor.old cursor.new builder.new }
+    requires { MayReadRows rows builder.old }
+    ensures { ReadsRows open_around rows cursor.old cursor.new builder.old builder.new result }
 {
     let mut here = *cursor;
     if cursor.text.len() > MOST_BYTES {
@@ -472,15 +393,8 @@ pub fn plain_step<'input>(
     open_around: usize,
 ) -> bool
     requires { MayStep cursor.old builder.old }
-    ensures value { result ≡ true → (context : machine.Context) (end : ℕ) (s : State)
-        → context.open_around ≡ open_around → IsInState context.limit end s cursor.old builder.old
-        → ScansTo context.limit end (Ok tt) cursor.new builder.new
-        (machine.step context cursor.old.text.now s) }
-    ensures other { result ≡ false → (context : machine.Context) (end : ℕ) (s : State)
-        → IsInState context.limit end s cursor.old builder.old
-        → IsInState context.limit end s cursor.new builder.new }
-    ensures place { result ≡ false → cursor.new ≡ cursor.old }
-    ensures goes { GoesOn cursor.old cursor.new builder.new }
+    ensures { ReadsStep (λ k. k.open_around ≡ open_around) cursor.old cursor.new builder.old
+        builder.new result }
 {
     let bytes = cursor.text.as_bytes();
     if bytes.len() > MOST_BYTES || builder.rows_left() == 0 {

@@ -22,6 +22,7 @@ ghost use Rattle.std.specs.List.{AllByRecursion};
 ghost use Rattle.rox_tables.specs.SeenNames.{AreSeen};
 ghost use Rattle.rox_build.specs.ElementRow.{scope_in_tables};
 ghost use Rattle.rox_build.specs.BuilderState.{IsNamespaceOf};
+ghost use Rattle.rox_build.specs.PlainParts.{EndsEmpty, EndsFirstPart, EndsTag, FindsAttributeNamespace, FindsElementNamespace, IsNextItem, IsSomePlace, IsWholeName, MayNameBelow, MayNameIn, MayPutNamed, MayReadBareTag, MayReadNearTag, MayReadPlainTag, PutsSome, SeesStart};
 ghost use Rattle.rox_build.specs.PlainTag.{BeginsValue, EndsNear, HasPlainValue, HasQuoteBefore, HasScope, HoldsTag, IsAttributeName, IsBareTag, IsBeforeLast, IsFirstPart, IsNearAttribute, IsPlainAttribute, IsPlainName, IsQuoteAt, IsQuoteBehindEquals, IsValueStart, MayOpenAt, MayOpenBelow, MayPut, MayReadAttributes, PutsPlain, ReadsAttributes, ReadsTag, SeesValue, few_in};
 
 use crate::builder::OpenElement;
@@ -85,8 +86,7 @@ fn plain_name<'input>(text: &'input str, start: usize, colon: usize) -> Option<P
 #[inline(always)]
 #[tactic(auto, unfolding(rox_reading::specs::Lexical::qname_at))]
 fn second_part<'input>(text: &'input str, start: usize, colon: usize) -> Option<PlainName<'input>>
-    requires first { IsFirstPart text.now start colon }
-    requires here { slice_index text.now colon ≡ 58 }
+    requires { EndsFirstPart text.now start colon 58 }
     ensures { IfSome result (λ n. IsPlainName text.entry.now start n) }
 {
     let local = after_byte(text, colon, b':');
@@ -265,18 +265,7 @@ fn namespace_in(
     near: &mut usize,
 ) -> Option<AttributeNamespace>
     requires scope { HasScope elements.now scope }
-    ensures within { IfSome result
-        (λ s. NamespaceWithin (length elements.entry.now.namespaces.items.items) s) }
-    ensures there { (ds : List NamespaceDecl)
-        → FindsBinding (map namespace_view elements.entry.now.namespaces.items.items)
-        (few_in elements.entry.now scope) elements.entry.now.present ds
-        → IfSome result
-        (λ s. attribute_uri (map namespace_view elements.entry.now.namespaces.items.items) s
-        ≡ tree.attribute_namespace ds (name_view name.entry)) }
-    ensures known { (ds : List NamespaceDecl)
-        → FindsBinding (map namespace_view elements.entry.now.namespaces.items.items)
-        (few_in elements.entry.now scope) elements.entry.now.present ds
-        → IfSome result (λ _. is_known ds (name_view name.entry) ≡ true) }
+    ensures { FindsAttributeNamespace elements.entry.now scope (name_view name.entry) result }
 {
     if name.prefix.is_empty() {
         return Some(AttributeNamespace::None);
@@ -466,9 +455,7 @@ fn seen_value<'input>(
     before: usize,
     quote: u8,
 ) -> Option<PlainValue<'input>>
-    requires sees { Sees text.now window }
-    requires few { before ≤ 16 }
-    requires begins { BeginsValue text.now (window.at + before) quote }
+    requires { SeesStart text.now window before quote }
     ensures { IfSome result
         (λ v. HasPlainValue text.entry.now (window.at + before) quote v.end v.text.now) }
 {
@@ -505,17 +492,9 @@ fn put_named_attribute<'input>(
     scope: u32,
     seen: &mut SeenNames,
 ) -> Option<usize>
-    requires put { MayPut text.now read.start elements.old scope seen.old }
-    requires named { IsAttributeName text.now read.start read.name }
-    requires value { HasPlainValue text.now (read.name.end + 2)
-        (slice_index text.now (read.name.end + 1)) read.value.end read.value.text.now }
-    ensures put { IfSome result
-        (λ j. PutsPlain elements.old elements.new scope seen.old seen.new text.entry.now
-        read.entry.start j) }
-    ensures place { IfSome result (λ j. 0 < j) }
-    ensures none { IfNone result
-        (PutsPlain elements.old elements.new scope seen.old seen.new text.entry.now
-        read.entry.start 0) }
+    requires { MayPutNamed text.now read elements.old scope seen.old }
+    ensures { PutsSome elements.old elements.new scope seen.old seen.new text.entry.now
+        read.entry.start result }
 {
     let start = read.start;
     let name = read.name.name;
@@ -550,8 +529,7 @@ fn put_named_attribute<'input>(
 /// The place that was answered by itself, which is 0 where nothing was put.
 #[inline(always)]
 fn some_place(place: usize) -> Option<usize>
-    ensures some { IfSome result (λ j. (j ≡ place) × (0 < j)) }
-    ensures none { IfNone result (place ≡ 0) }
+    ensures { IsSomePlace place result }
 {
     if place == 0 {
         return None;
@@ -564,11 +542,7 @@ fn some_place(place: usize) -> Option<usize>
 #[inline(always)]
 #[tactic(auto, unfolding(rox_reading::specs::Lexical::qname_at))]
 fn prefixed_name<'input>(text: &'input str, start: usize, part: usize) -> Option<PlainName<'input>>
-    requires start { IsCharBoundary text.now start }
-    requires onward { start ≤ part }
-    requires first { part ≡ run_end is_part_char text.now start }
-    requires begins { begins is_name_start text.now start ≡ true }
-    requires here { slice_index text.now part ≡ 58 }
+    requires { EndsFirstPart text.now start part 58 }
     ensures { IfSome result (λ n. IsAttributeName text.entry.now start n) }
 {
     let local = after_byte(text, part, b':');
@@ -644,11 +618,8 @@ fn put_far_attribute<'input>(
 #[inline(always)]
 #[tactic(auto, unfolding(rox_reading::specs::Lexical::qname_at))]
 fn whole_name<'input>(text: &'input str, start: usize, part: usize) -> PlainName<'input>
-    requires first { IsFirstPart text.now start part }
-    requires here { slice_index text.now part ≡ 61 }
-    ensures value { qname_at text.entry.now start ≡ Ok (name_view result.name, result.end) }
-    ensures local { start + length result.name.local.now ≤ result.end }
-    ensures end { result.end ≡ part }
+    requires { EndsFirstPart text.now start part 61 }
+    ensures { IsWholeName text.entry.now start part result }
 {
     let name = QName {
         prefix: "",
@@ -666,14 +637,9 @@ fn put_attribute<'input>(
     scope: u32,
     seen: &mut SeenNames,
 ) -> Option<usize>
-    requires put { MayPut text.now start elements.old scope seen.old }
-    requires within { start ≤ length text.now }
-    ensures put { IfSome result
-        (λ j. PutsPlain elements.old elements.new scope seen.old seen.new text.entry.now
-        start j) }
-    ensures place { IfSome result (λ j. 0 < j) }
-    ensures none { IfNone result
-        (PutsPlain elements.old elements.new scope seen.old seen.new text.entry.now start 0) }
+    requires { MayPut text.now start elements.old scope seen.old }
+    ensures { PutsSome elements.old elements.new scope seen.old seen.new text.entry.now
+        start result }
 {
     if text.len() - start < WIDTH {
         return some_place(put_far_attribute(text, start, elements, scope, seen));
@@ -707,9 +673,7 @@ struct TagEnd {
 #[inline(always)]
 fn empty_end(text: &str, at: usize) -> Option<TagEnd>
     requires { slice_index text.now at ≡ 47 }
-    ensures here { IfSome result (λ e. slice_index text.now (at + 1) ≡ 62) }
-    ensures place { IfSome result (λ e. (e.at ≡ at + 2) × (e.empty ≡ true)) }
-    ensures cut { IfSome result (λ e. IsCharBoundary text.now e.at) }
+    ensures { EndsEmpty text.now at result }
 {
     let behind = after_byte(text, at, b'/');
     if !is_at(text, behind, b'>') {
@@ -748,9 +712,7 @@ struct NextItem {
 #[inline(always)]
 fn next_item(text: &str, at: usize) -> NextItem
     requires { IsBeforeLast text.now at }
-    ensures end { Finds text.now at result.at (run_end is_space text.now at) }
-    ensures begins { result.may_begin ≡ true
-        → (at < result.at) × (62 < slice_index text.now result.at) }
+    ensures { IsNextItem text.now at result }
 {
     let bytes = text.as_bytes();
     if bytes[at] == b' ' && bytes[at + 1] > b'>' {
@@ -769,11 +731,7 @@ fn next_item(text: &str, at: usize) -> NextItem
 /// The end of a start tag, if it stands at `at`.
 #[inline(always)]
 fn tag_end(text: &str, at: usize) -> Option<TagEnd>
-    ensures opens { IfSome result (λ e. e.empty ≡ false
-        → (slice_index text.now at ≡ 62) × (e.at ≡ at + 1)) }
-    ensures closes { IfSome result (λ e. e.empty ≡ true → (slice_index text.now at ≡ 47)
-        × ((slice_index text.now (at + 1) ≡ 62) × (e.at ≡ at + 2))) }
-    ensures cut { IfSome result (λ e. IsCharBoundary text.now e.at) }
+    ensures { EndsTag text.now at result }
 {
     if is_at(text, at, b'>') {
         return Some(TagEnd {
@@ -862,10 +820,7 @@ pub fn bare_start_tag<'input>(
     openings: u32,
     near: usize,
 ) -> Option<PlainTag<'input>>
-    requires here { slice_index text.now start ≡ 60 }
-    requires near { EndsNear text.now (start + 1) near }
-    requires closed { slice_index text.now near ≡ 62 }
-    requires below { MayOpenBelow elements.now parent.now }
+    requires { MayReadBareTag text.now start near elements.now parent.now }
     ensures { IfSome result (λ t. IsBareTag elements.entry.now parent.entry.now text.entry.now start
         openings t) }
 {
@@ -905,12 +860,8 @@ fn other_namespace(
     at: usize,
     scope: u32,
 ) -> Option<Option<u16>>
-    requires scope { HasScope elements.now scope }
-    requires small { at < 2 ^ 63 }
-    ensures is { IfSome result
-        (λ s. IsNamespaceOf elements.entry.now scope (name_view name.entry) s) }
-    ensures known { IfSome result
-        (λ _. may_name (scope_in_tables elements.entry.now scope) (name_view name.entry) ≡ true) }
+    requires { MayNameIn elements.now scope at }
+    ensures { FindsElementNamespace elements.entry.now scope (name_view name.entry) result }
 {
     let places = few_places(&elements.scopes, &elements.listed, scope)?;
     let namespaces = elements.namespaces.as_slice();
@@ -929,15 +880,9 @@ fn tag_namespace(
     at: usize,
     parent: &OpenElement<'_>,
 ) -> Option<Option<u16>>
-    requires scope { HasScope elements.now parent.now.scope }
-    requires parent { IsNamespaceOf elements.now parent.now.scope (name_view parent.now.name)
-        parent.now.namespace }
-    requires small { at < 2 ^ 63 }
-    ensures is { IfSome result
-        (λ s. IsNamespaceOf elements.entry.now parent.entry.now.scope (name_view name.entry) s) }
-    ensures known { IfSome result
-        (λ _. may_name (scope_in_tables elements.entry.now parent.entry.now.scope)
-        (name_view name.entry) ≡ true) }
+    requires { MayNameBelow elements.now parent.now at }
+    ensures { FindsElementNamespace elements.entry.now parent.entry.now.scope
+        (name_view name.entry) result }
 {
     if name.prefix.is_empty() && parent.name.prefix.is_empty() {
         return Some(parent.namespace);
@@ -966,9 +911,7 @@ pub fn plain_start_tag<'input>(
     openings_left: u32,
     seen: &mut SeenNames,
 ) -> Option<PlainTag<'input>>
-    requires here { MayOpenAt text.now place.start elements.old parent.now }
-    requires part { Finds text.now (place.start + 1) place.part
-        (run_end is_part_char text.now (place.start + 1)) }
+    requires { MayReadPlainTag text.now place elements.old parent.now }
     ensures { ReadsTag elements.old elements.new parent.entry.now text.entry.now place.start
         openings_left result }
 {
@@ -1013,9 +956,7 @@ pub fn near_start_tag<'input>(
     openings: u32,
     seen: &mut SeenNames,
 ) -> Option<PlainTag<'input>>
-    requires here { MayOpenAt text.now place.start elements.old above.now }
-    requires near { EndsNear text.now (place.start + 1) place.part }
-    requires bare { above.now.name.prefix.now ≡ [] }
+    requires { MayReadNearTag text.now place elements.old above.now }
     ensures { ReadsTag elements.old elements.new above.entry.now text.entry.now place.start openings
         result }
 {

@@ -1,17 +1,16 @@
 //! Values of attributes with references to characters, or white space that is no space: what they stand for, whatever reads them
 //! (XML 1.0 sections 3.3.3, 4.1 and 4.6). A predefined entity stands for its character whether or not it is declared too.
 
-ghost use Rattle.std.specs.Prelude.{◌≡◌, ◌==◌, ◌<◌, ◌≤◌, ◌-◌, ℕ, Bool, List, Ok, IfSome, true, false, ◌||◌, length, slice_index};
-ghost use Rattle.std.specs.Str.{IsCharBoundary};
+ghost use Rattle.std.specs.Prelude.{◌≡◌, ◌==◌, ◌<◌, ◌≤◌, ◌-◌, ℕ, Bool, List, Ok, IfSome, true, false, ◌||◌, length};
 ghost use Rattle.std.specs.String.{string_bytes};
 ghost use Rattle.rox_grammar.specs.Entities.{Entity};
 ghost use Rattle.rox_reading.specs.Values as reading;
 ghost use Rattle.rox_scan.specs.ByteSets.{EndsSet, is_stretch_byte};
 ghost use Rattle.rox_scan.specs.Lookahead as longer;
 ghost use Rattle.rox_scan.specs.Lookahead.{IsLookahead};
-ghost use Rattle.rox_tables.specs.Storage.{storage_bytes, is_borrowed};
 ghost use Rattle.rox_values.specs.Values.{text_behind};
-ghost use Rattle.rox_build.specs.SpacedBytes.{IsSpacedValue, IsValueRest, PutsBit, is_spaced_byte, none_changes};
+ghost use Rattle.rox_build.specs.SpacedBytes.{FindsSpacedEnds, IsByteOfValue, IsMoreOfValue, IsSpaceOfValue, IsSpacedText, IsSpacedValue, IsValueRest, PutsBit, is_spaced_byte, none_changes};
+ghost use Rattle.rox_build.specs.PlainTag.{BeginsValue};
 
 use rox_scan::byte_set::{ByteSet, ValueByte, skip_set};
 use rox_scan::cursor::Cursor;
@@ -52,8 +51,7 @@ impl ByteSet for SpacedByte {
 /// Where the Chars from `start` on end that are not this quote and no `<`.
 #[inline(always)]
 fn changed_end(text: &str, start: usize, quote: u8) -> usize
-    requires cut { IsCharBoundary text.now start }
-    requires quote { (quote == 39 || quote == 34) ≡ true }
+    requires { BeginsValue text.now start quote }
     ensures { IsLookahead (longer.ends_value quote text.now) none_changes text.now start
         result true }
 {
@@ -95,14 +93,8 @@ pub struct SpacedEnds {
 /// Where the value ends that begins at `start`, behind this quote, if it is in order, and does not stand for itself.
 #[inline(always)]
 pub fn spaced_value_ends(text: &str, start: usize, quote: u8) -> Option<SpacedEnds>
-    requires cut { IsCharBoundary text.now start }
-    requires quote { (quote == 39 || quote == 34) ≡ true }
-    ensures looked { IfSome result (λ e. IsLookahead (longer.ends_value quote text.entry.now)
-        reading.is_special text.entry.now start e.end false) }
-    ensures here { IfSome result
-        (λ e. (slice_index text.entry.now e.end == quote) ≡ true) }
-    ensures value { IfSome result
-        (λ e. IsSpacedValue text.entry.now start e.first e.end) }
+    requires { BeginsValue text.now start quote }
+    ensures { FindsSpacedEnds text.entry.now start quote result }
 {
     let near = skip_set::<ValueByte>(text, start);
     let end = changed_end(text, near, quote);
@@ -119,9 +111,7 @@ pub fn spaced_value_ends(text: &str, start: usize, quote: u8) -> Option<SpacedEn
 /// Appends a space for the LF or TAB that stands at `at`. Answers the place behind it, or 0 where there is no memory.
 #[inline(always)]
 fn put_space(text: &str, at: usize, stop: usize, out: &mut String) -> usize
-    requires here { (slice_index text.now at == 10 || slice_index text.now at == 9) ≡ true }
-    requires before { at < stop }
-    requires within { stop ≤ length text.now }
+    requires { IsSpaceOfValue text.now at stop }
     ensures { 0 < result → PutsBit text.now at stop (string_bytes out.old)
         (string_bytes out.new) result }
 {
@@ -135,9 +125,7 @@ fn put_space(text: &str, at: usize, stop: usize, out: &mut String) -> usize
 /// there is no memory.
 #[inline(always)]
 fn put_return(text: &str, at: usize, stop: usize, out: &mut String) -> usize
-    requires here { slice_index text.now at ≡ 13 }
-    requires before { at < stop }
-    requires stop { IsCharBoundary text.now stop }
+    requires { IsByteOfValue text.now at stop 13 }
     ensures { 0 < result → PutsBit text.now at stop (string_bytes out.old)
         (string_bytes out.new) result }
 {
@@ -155,8 +143,7 @@ fn put_return(text: &str, at: usize, stop: usize, out: &mut String) -> usize
 /// nothing, or there is no memory.
 #[inline(always)]
 fn put_stretch(text: &str, at: usize, stop: usize, out: &mut String) -> usize
-    requires rest { IsValueRest text.now at stop }
-    requires before { at < stop }
+    requires { IsMoreOfValue text.now at stop }
     ensures { 0 < result → PutsBit text.now at stop (string_bytes out.old)
         (string_bytes out.new) result }
 {
@@ -181,9 +168,7 @@ fn is_given(character: char) -> bool
 /// Answers the place behind it, or 0 where it is another, or there is no memory.
 #[inline(always)]
 fn put_reference(text: &str, at: usize, stop: usize, out: &mut String) -> usize
-    requires here { slice_index text.now at ≡ 38 }
-    requires before { at < stop }
-    requires within { stop ≤ length text.now }
+    requires { IsByteOfValue text.now at stop 38 }
     ensures { 0 < result → PutsBit text.now at stop (string_bytes out.old)
         (string_bytes out.new) result }
 {
@@ -204,8 +189,7 @@ fn put_reference(text: &str, at: usize, stop: usize, out: &mut String) -> usize
 /// the place behind that, or 0 where a reference stands that not all read alike, or there is no memory.
 #[inline(always)]
 fn put_bit(text: &str, at: usize, stop: usize, out: &mut String) -> usize
-    requires rest { IsValueRest text.now at stop }
-    requires before { at < stop }
+    requires { IsMoreOfValue text.now at stop }
     ensures { 0 < result → PutsBit text.now at stop (string_bytes out.old)
         (string_bytes out.new) result }
 {
@@ -279,11 +263,7 @@ pub fn spaced_value<'input>(
     recent: &mut Option<Box<Recent>>,
 ) -> Option<StringStorage<'input>>
     requires { IsSpacedValue text.now start ends.first ends.end }
-    ensures value { IfSome result (λ s. (main : Bool) (es : List Entity)
-        (opener : reading.ValueInclusion) (openings_left : ℕ)
-        → reading.value_text main es opener (ends.end - start) text.now ends.end start openings_left
-        ≡ Ok (storage_bytes s, openings_left)) }
-    ensures owned { IfSome result (λ s. is_borrowed s ≡ false) }
+    ensures { IsSpacedText text.now start ends.end result }
 {
     let out = spaced_text(alloc, text, start, ends.first, ends.end)?;
     owned_value(alloc, recent, out)

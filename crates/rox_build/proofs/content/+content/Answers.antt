@@ -1,4 +1,5 @@
 use Rattle.std.proofs.Common.{◌≡◌, ◌<◌, ◌≤◌, ◌+◌, ◌-◌, suc, ℕ, true, false, List, Ok, Err, length, slice_index, slice_range, refl, sym, ap, ◌∙◌, arith, rules}
+use Rattle.std.proofs.lemmas.Grind.{common_steps}
 use Rattle.std.proofs.lemmas.Bool.{leb-true, leb-false}
 use Rattle.std.proofs.lemmas.Result.{err_from_is_err_and}
 use Rattle.rox_grammar.specs.Content.{is_verbatim}
@@ -7,7 +8,7 @@ use Rattle.rox_reading.specs.Values.{ReadText}
 use Rattle.rox_scan.specs.DoctypeViews.{replacement_view}
 use Rattle.rox_values.specs.Contexts.{context_of}
 use Rattle.rox_build.proofs.Lifting.{refused_too}
-use Rattle.rox_build.proofs.Stepping.{two_stand, step_is_run, step_is_markup, plain_run, parted_run, run_fails, text_stepped, same_shows}
+use Rattle.rox_build.proofs.Stepping.{state_kept, two_stand, step_is_run, step_is_markup, plain_run, parted_run, run_fails, text_stepped, same_shows}
 use Rattle.rox_scan.proofs.ShortLemmas.{longer_run}
 use Rattle.rox_build.proofs.Parting.{rests_of, parting_ends, parting_on, parting_fails, parting_stops, parting_out}
 use Rattle.rox_build.proofs.TextLooping.{opened_depth, text_on, text_fails, text_at_end, text_spent}
@@ -243,71 +244,92 @@ data_parts-returns t c = record {
 
 -- ---- a replacement text
 
-pub open_text-returns-then-joined-clause-value : goal.open_text-returns-then-joined-clause-value
-open_text-returns-then-joined-clause-value t c = λ limit end es s declared h. c.in_ok-joined.ensures.value c.if-joined.true limit end c.args.after es s h
+pub open_text-returns-then-joined : goal.open_text-returns-then-joined
+open_text-returns-then-joined t c = record {
+  value = λ limit end es s declared h. c.in_ok-joined.ensures.value c.if-joined.true limit end c.args.after es s h;
+  fine = rw (c.joins.ensures.tables, c.joins.ensures.opened) c.requires.fine;
+}
 
-pub open_text-returns-clause-value : goal.open_text-returns-clause-value
-open_text-returns-clause-value t c = λ limit end es s declared h.
-    c.open_other_text.ensures.value limit end es s declared (rw (c.in_ok-joined.ensures.other c.if-joined.false) h)
+pub open_text-returns : goal.open_text-returns
+open_text-returns t c = record {
+  value = λ limit end es s declared h.
+      c.open_other_text.ensures.value limit end es s declared (rw (c.in_ok-joined.ensures.other c.if-joined.false) h);
+  fine = c.open_other_text.ensures.fine;
+}
 
-pub open_other_text-returns-in_err-within-clause-value : goal.open_other_text-returns-in_err-within-clause-value
-open_other_text-returns-in_err-within-clause-value t c = λ limit end es s declared h.
-    let p = err_from_is_err_and c.from_residual.result c.from_residual.ensures.1 in
-    rw (p.1, p.2) (opens_err limit es c.args.context.depth_left c.args.context.main (replacement_view c.args.text) c.args.after s c.in_err-within.field-0.0 (rw h.openings_left_is at c.in_err-within.ensures.value))
+pub open_other_text-returns-in_err-within : goal.open_other_text-returns-in_err-within
+open_other_text-returns-in_err-within t c = record {
+  value = λ limit end es s declared h.
+      let p = err_from_is_err_and c.from_residual.result c.from_residual.ensures.1 in
+      rw (p.1, p.2) (opens_err limit es c.args.context.depth_left c.args.context.main (replacement_view c.args.text) c.args.after s c.in_err-within.field-0.0 (rw h.openings_left_is at c.in_err-within.ensures.value));
+  fine = let p = err_from_is_err_and c.from_residual.result c.from_residual.ensures.1 in rw p.1 tt;
+}
 
-pub open_other_text-returns-in-Ok-clause-value : goal.open_other_text-returns-in-Ok-clause-value
-open_other_text-returns-in-Ok-clause-value t c = λ limit end es s declared h.
-    let b = c.args.builder.now in
-    let w = c.in_ok-within.ensures.context in
-    let k = b.opened.ok.0 in
-    let deep = opened_depth limit end s b h in
-    let base : c.len.result ≡ depth_of s.stack = omega arith in
-    let text = replacement_view c.args.text in
-    let read = rw (w, base) at (c.in-Ok.ensures.value limit end es (inner_state text s c.in_ok-within.inner) (rw w declared)
-    (record { limit_is = h.limit_is; shows = same_shows end s.stack s.done b _ h.shows refl refl refl refl refl; namespaces = h.namespaces; attributes = h.attributes; openings_left_is = refl }) refl) in
-    let u = read.0 in (
-      outer_state c.args.context.main c.args.after s u,
-      opens_reads limit es c.args.context.depth_left (c.args.context.depth_left - 1) c.args.context.main text c.args.after s u c.in_ok-within.inner refl (rw h.openings_left_is at c.in_ok-within.ensures.value) read.1,
-      record {
-        limit_is = read.2.limit_is;
-        shows = same_shows end u.stack u.done c.content_text.new.builder _ read.2.shows refl refl refl refl refl;
-        namespaces = read.2.namespaces;
-        attributes = read.2.attributes;
-        openings_left_is = rw (h.openings_left_is, read.2.openings_left_is) at c.left_behind-builder.ensures;
-      },
-    )
+pub open_other_text-returns-in-Ok : goal.open_other_text-returns-in-Ok
+open_other_text-returns-in-Ok t c = record {
+  value = λ limit end es s declared h.
+      let b = c.args.builder.now in
+      let w = c.in_ok-within.ensures.context in
+      let k = b.opened.ok.0 in
+      let deep = opened_depth limit end s b h in
+      let base : c.len.result ≡ depth_of s.stack = omega arith in
+      let text = replacement_view c.args.text in
+      let read = rw (w, base) at (c.in-Ok.ensures.value limit end es (inner_state text s c.in_ok-within.inner) (rw w declared)
+      (record { limit_is = h.limit_is; shows = same_shows end s.stack s.done b _ h.shows refl refl refl refl refl; namespaces = h.namespaces; attributes = h.attributes; openings_left_is = refl }) refl) in
+      let u = read.0 in (
+        outer_state c.args.context.main c.args.after s u,
+        opens_reads limit es c.args.context.depth_left (c.args.context.depth_left - 1) c.args.context.main text c.args.after s u c.in_ok-within.inner refl (rw h.openings_left_is at c.in_ok-within.ensures.value) read.1,
+        record {
+          limit_is = read.2.limit_is;
+          shows = same_shows end u.stack u.done c.content_text.new.builder _ read.2.shows refl refl refl refl refl;
+          namespaces = read.2.namespaces;
+          attributes = read.2.attributes;
+          openings_left_is = rw (h.openings_left_is, read.2.openings_left_is) at c.left_behind-builder.ensures;
+        },
+      );
+  fine = c.in-Ok.ensures.fine;
+}
 
-pub open_other_text-returns-in-Err-clause-value : goal.open_other_text-returns-in-Err-clause-value
-open_other_text-returns-in-Err-clause-value t c = λ limit end es s declared h.
-    let b = c.args.builder.now in
-    let w = c.in_ok-within.ensures.context in
-    let k = b.opened.ok.0 in
-    let deep = opened_depth limit end s b h in
-    let base : c.len.result ≡ depth_of s.stack = omega arith in
-    let text = replacement_view c.args.text in
-    let read = rw (w, base) at (c.in-Err.ensures.value limit end es (inner_state text s c.in_ok-within.inner) (rw w declared)
-    (record { limit_is = h.limit_is; shows = same_shows end s.stack s.done b _ h.shows refl refl refl refl refl; namespaces = h.namespaces; attributes = h.attributes; openings_left_is = refl }) refl) in
-    rw c.within.ensures
-    (opens_refuses limit es c.args.context.depth_left (c.args.context.depth_left - 1) c.args.context.main c.args.text.text c.args.text.pos c.args.after s c.in_ok-within.inner c.in-Err.refused refl (rw h.openings_left_is at c.in_ok-within.ensures.value) read)
+pub open_other_text-returns-in-Err : goal.open_other_text-returns-in-Err
+open_other_text-returns-in-Err t c = record {
+  value = λ limit end es s declared h.
+      let b = c.args.builder.now in
+      let w = c.in_ok-within.ensures.context in
+      let k = b.opened.ok.0 in
+      let deep = opened_depth limit end s b h in
+      let base : c.len.result ≡ depth_of s.stack = omega arith in
+      let text = replacement_view c.args.text in
+      let read = rw (w, base) at (c.in-Err.ensures.value limit end es (inner_state text s c.in_ok-within.inner) (rw w declared)
+      (record { limit_is = h.limit_is; shows = same_shows end s.stack s.done b _ h.shows refl refl refl refl refl; namespaces = h.namespaces; attributes = h.attributes; openings_left_is = refl }) refl) in
+      rw c.within.ensures
+      (opens_refuses limit es c.args.context.depth_left (c.args.context.depth_left - 1) c.args.context.main c.args.text.text c.args.text.pos c.args.after s c.in_ok-within.inner c.in-Err.refused refl (rw h.openings_left_is at c.in_ok-within.ensures.value) read);
+  fine = tt;
+}
 
-pub content_text-returns-then-is_at_end-clause-value : goal.content_text-returns-then-is_at_end-clause-value
-content_text-returns-then-is_at_end-clause-value t c = λ limit end es s declared h at.
-    let src = c.args.text.text.now in
-    let s0 = ap (λ t. t.now) c.loop-turn.invariant.source in
-    let g = c.loop-turn.invariant.reads limit end es s declared h at in
-    let past : length src ≤ g.s.at = rw (s0, g.sees.here) at (leb-true _ _ (sym c.is_at_end.ensures ∙ c.if-is_at_end.true)) in
-    text_at_end (context_of limit es c.args.context) end src _ _ c.loop-turn.cursor c.loop-turn.builder c.text_end.result g past (c.text_end.ensures limit end es g.s (rests_of limit end g.s c.loop-turn.cursor c.loop-turn.builder g.sees))
+pub content_text-returns-then-is_at_end : goal.content_text-returns-then-is_at_end
+content_text-returns-then-is_at_end t c = record {
+  value = λ limit end es s declared h at.
+      let src = c.args.text.text.now in
+      let s0 = ap (λ t. t.now) c.loop-turn.invariant.source in
+      let g = c.loop-turn.invariant.reads limit end es s declared h at in
+      let past : length src ≤ g.s.at = rw (s0, g.sees.here) at (leb-true _ _ (sym c.is_at_end.ensures ∙ c.if-is_at_end.true)) in
+      text_at_end (context_of limit es c.args.context) end src _ _ c.loop-turn.cursor c.loop-turn.builder c.text_end.result g past (c.text_end.ensures limit end es g.s (rests_of limit end g.s c.loop-turn.cursor c.loop-turn.builder g.sees));
+  fine = first_of (search rules, grind (arith, common_steps));
+}
 
-pub content_text-returns-in_err-inner_step-clause-value : goal.content_text-returns-in_err-inner_step-clause-value
-content_text-returns-in_err-inner_step-clause-value t c = λ limit end es s declared h at.
-    let src = c.args.text.text.now in
-    let n = length src - c.loop-turn._turn in
-    let one : n ≡ suc (n - 1) = omega arith in
-    let s0 = ap (λ t. t.now) c.loop-turn.invariant.source in
-    let g = c.loop-turn.invariant.reads limit end es s declared h at in
-    let more : g.s.at < length src = rw (s0, g.sees.here) at (leb-false _ _ (sym c.is_at_end.ensures ∙ c.if-is_at_end.false)) in
-    let p = err_from_is_err_and c.from_residual.result c.from_residual.ensures.1 in
-    rw (p.1, p.2) (text_fails (context_of limit es c.args.context) end src _ n (n - 1) c.loop-turn.cursor c.loop-turn.builder c.in_err-inner_step.field-0.0 g one more (rw s0 at (c.in_err-inner_step.ensures.value limit end es g.s declared g.sees)))
+pub content_text-returns-in_err-inner_step : goal.content_text-returns-in_err-inner_step
+content_text-returns-in_err-inner_step t c = record {
+  value = λ limit end es s declared h at.
+      let src = c.args.text.text.now in
+      let n = length src - c.loop-turn._turn in
+      let one : n ≡ suc (n - 1) = omega arith in
+      let s0 = ap (λ t. t.now) c.loop-turn.invariant.source in
+      let g = c.loop-turn.invariant.reads limit end es s declared h at in
+      let more : g.s.at < length src = rw (s0, g.sees.here) at (leb-false _ _ (sym c.is_at_end.ensures ∙ c.if-is_at_end.false)) in
+      let p = err_from_is_err_and c.from_residual.result c.from_residual.ensures.1 in
+      rw (p.1, p.2) (text_fails (context_of limit es c.args.context) end src _ n (n - 1) c.loop-turn.cursor c.loop-turn.builder c.in_err-inner_step.field-0.0 g one more (rw s0 at (c.in_err-inner_step.ensures.value limit end es g.s declared g.sees)));
+  fine = let p = err_from_is_err_and c.from_residual.result c.from_residual.ensures.1 in rw p.1 tt;
+}
 
 pub content_text-loop-turn-preserved : goal.content_text-loop-turn-preserved
 content_text-loop-turn-preserved t c = record {
@@ -324,13 +346,16 @@ content_text-loop-turn-preserved t c = record {
       text_on (context_of limit es c.args.context) end src _ n (length src - (c.loop-turn._turn + 1)) c.loop-turn.cursor _ c.loop-turn.builder _ _ g one more went;
 }
 
-pub content_text-returns-clause-value : goal.content_text-returns-clause-value
-content_text-returns-clause-value t c = λ limit end es s declared h at.
-    let src = c.args.text.text.now in
-    let g = c.loop-turn.invariant.reads limit end es s declared h at in
-    let over = c.loop-turn-test.false in
-    let none : length src - c.loop-turn._turn ≡ 0 = omega arith in
-    text_spent (context_of limit es c.args.context) end src _ _ c.loop-turn.cursor c.loop-turn.builder c.text_end-2.result g none (c.text_end-2.ensures limit end es g.s (rests_of limit end g.s c.loop-turn.cursor c.loop-turn.builder g.sees))
+pub content_text-returns : goal.content_text-returns
+content_text-returns t c = record {
+  value = λ limit end es s declared h at.
+      let src = c.args.text.text.now in
+      let g = c.loop-turn.invariant.reads limit end es s declared h at in
+      let over = c.loop-turn-test.false in
+      let none : length src - c.loop-turn._turn ≡ 0 = omega arith in
+      text_spent (context_of limit es c.args.context) end src _ _ c.loop-turn.cursor c.loop-turn.builder c.text_end-2.result g none (c.text_end-2.ensures limit end es g.s (rests_of limit end g.s c.loop-turn.cursor c.loop-turn.builder g.sees));
+  fine = first_of (search rules, grind (arith, common_steps));
+}
 
 -- ---- one construct
 
@@ -344,8 +369,8 @@ pub step-returns : goal.step-returns
 step-returns t c = record {
   value = λ limit end es s declared h.
       let no = c.if-plain_step.false in
-      let same = ap (λ t. t.text.now) (c.plain_step.ensures.place no) in
-      rw same at (c.in_ok-general_step.ensures.value limit end es s declared (c.plain_step.ensures.other no (context_of limit es c.args.context) end s h));
+      let same = ap (λ t. t.text.now) (c.plain_step.ensures.other no).0 in
+      rw same at (c.in_ok-general_step.ensures.value limit end es s declared (state_kept limit end s _ _ _ _ h (c.plain_step.ensures.other no).0 (c.plain_step.ensures.other no).1));
   goes = search rules;
 }
 
@@ -353,9 +378,9 @@ pub step-returns-in_err-general_step : goal.step-returns-in_err-general_step
 step-returns-in_err-general_step t c = record {
   value = λ limit end es s declared h.
       let no = c.if-plain_step.false in
-      let same = ap (λ t. t.text.now) (c.plain_step.ensures.place no) in
+      let same = ap (λ t. t.text.now) (c.plain_step.ensures.other no).0 in
       let p = err_from_is_err_and c.from_residual.result c.from_residual.ensures.1 in
-      rw (p.1, p.2) (rw same at (c.in_err-general_step.ensures.value limit end es s declared (c.plain_step.ensures.other no (context_of limit es c.args.context) end s h)));
+      rw (p.1, p.2) (rw same at (c.in_err-general_step.ensures.value limit end es s declared (state_kept limit end s _ _ _ _ h (c.plain_step.ensures.other no).0 (c.plain_step.ensures.other no).1)));
   goes = let p = err_from_is_err_and c.from_residual.result c.from_residual.ensures.1 in rw p.1 tt;
 }
 

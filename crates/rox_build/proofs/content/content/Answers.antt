@@ -8,6 +8,7 @@ use Rattle.rox_values.specs.Contexts.{context_of}
 use Rattle.rox_build.proofs.Looping.{drives_on, drive_fails, drive_done, drive_cut, drive_spent}
 use Rattle.rox_build.specs.BuilderState.{ScansTo}
 use Rattle.rox_build.proofs.Twice.{drives_past}
+use Rattle.rox_build.proofs.Stepping.{state_kept}
 use Rattle.rox_build.proofs.content.content.Goals as goal
 
 pub returns-then-is_at_root : goal.returns-then-is_at_root
@@ -110,7 +111,7 @@ loop-left-preserved c = record {
       let g = drives_past context end src _ c.loop-left.left k _ _ _ _ g0 few (rw s0 at (c.plain_stretch-read.ensures.value context end g0.s refl g0.sees)) in
       let inner : is_root g.s.stack ≡ false = sym (c.is_at_root.ensures end g.s.stack g.s.done g.sees.shows) ∙ c.if-is_at_root.false in
       let inside : g.s.at < length src = rw (s1, g.sees.here) at (leb-false _ _ (sym c.is_at_end.ensures ∙ c.if-is_at_end.false)) in
-      let still = c.plain_main_line.ensures.other c.if-plain_main_line.false context end g.s g.sees in
+      let still = (let o = c.plain_main_line.ensures.other c.if-plain_main_line.false in state_kept limit end g.s _ _ _ _ g.sees o.0 o.1) in
       let stepped = rw s2 at (c.in_ok-general_step.ensures.value limit end es g.s declared still) in
       drives_on context end src _ n (n - 1) _ _ _ _ _ g one inner inside stepped;
 }
@@ -131,7 +132,7 @@ returns-in_err-general_step c = record {
       let g = drives_past context end src _ c.loop-left.left k _ _ _ _ g0 few (rw s0 at (c.plain_stretch-read.ensures.value context end g0.s refl g0.sees)) in
       let inner : is_root g.s.stack ≡ false = sym (c.is_at_root.ensures end g.s.stack g.s.done g.sees.shows) ∙ c.if-is_at_root.false in
       let inside : g.s.at < length src = rw (s1, g.sees.here) at (leb-false _ _ (sym c.is_at_end.ensures ∙ c.if-is_at_end.false)) in
-      let still = c.plain_main_line.ensures.other c.if-plain_main_line.false context end g.s g.sees in
+      let still = (let o = c.plain_main_line.ensures.other c.if-plain_main_line.false in state_kept limit end g.s _ _ _ _ g.sees o.0 o.1) in
       let q = err_from_is_err_and c.from_residual.result c.from_residual.ensures.1 in
       let fails : IsRefusal c.in_err-general_step.field-0.0 (step context src g.s) = rw s2 at (c.in_err-general_step.ensures.value limit end es g.s declared still) in
       rw (q.1, q.2) (drive_fails context end src _ n (n - 1) _ _ c.in_err-general_step.field-0.0 g one inner inside fails);

@@ -12,10 +12,15 @@ if_ok : {A E : Type 0} {P Q : A → Type 0} (r : Result A E) → IfOk r P → ((
 if_ok (Ok a) h f = f a h
 if_ok (Err e) h f = tt
 
-pub returns-then-start-end-clause-value : goal.returns-then-start-end-clause-value
-returns-then-start-end-clause-value c = λ yes limit end after es s h.
-    let past : length c.args.text.text.now ≤ c.args.text.pos = omega arith in
-    nothing_opened limit end es c.args.context.depth_left c.args.context.main (replacement_view c.args.text) after s c.args.builder.now c.if-not-context.false c.if-context-eq0.false h past
+pub returns-then-start-end : goal.returns-then-start-end
+returns-then-start-end c = record {
+  value = λ yes limit end after es s h.
+      let past : length c.args.text.text.now ≤ c.args.text.pos = omega arith in
+      nothing_opened limit end es c.args.context.depth_left c.args.context.main (replacement_view c.args.text) after s c.args.builder.now c.if-not-context.false c.if-context-eq0.false h past;
+  other = λ no. absurd (cc no);
+  tables = refl;
+  opened = refl;
+}
 
 -- a run that stands for itself, up to the end of its source
 read_to_end : (src : List ℕ) (i : ℕ) → IsLookahead (ends_run src) changes_run src i (length src) true
@@ -25,26 +30,36 @@ read_to_end src i look =
     let k = eq-eqb n n refl in
     (longer_run src i n true look (rw k refl), sym look.verbatim_is)
 
-pub returns-then-is_joining-clause-value : goal.returns-then-is_joining-clause-value
-returns-then-is_joining-clause-value c = λ yes limit end after es s h.
-    let src = c.args.text.text.now in
-    let i = c.args.text.pos in
-    let n = length src in
-    let more : i < n = omega (arith, c.if-start-end.false) in
-    let read = read_to_end src i (c.if-not-is_plain_to_end.ensures refl) in
-    run_opened limit end es c.args.context.depth_left c.args.context.main (replacement_view c.args.text) after s c.args.builder.now _ c.if-not-context.false c.if-context-eq0.false h
-    c.join_piece.ensures.kept.tables c.join_piece.ensures.kept.limit c.join_piece.ensures.kept.openings_left
-    (rw c.range.ensures.value at (c.in_ok-join_piece.ensures.value end n s h.shows)) more
-    (λ is. c.if-as_bytes-start-eq60.false (ap (λ xs. slice_index xs i) c.as_bytes.ensures.value ∙ is)) read.0 read.1
+pub returns-then-is_joining : goal.returns-then-is_joining
+returns-then-is_joining c = record {
+  value = λ yes limit end after es s h.
+      let src = c.args.text.text.now in
+      let i = c.args.text.pos in
+      let n = length src in
+      let more : i < n = omega (arith, c.if-start-end.false) in
+      let read = read_to_end src i (c.if-not-is_plain_to_end.ensures refl) in
+      run_opened limit end es c.args.context.depth_left c.args.context.main (replacement_view c.args.text) after s c.args.builder.now _ c.if-not-context.false c.if-context-eq0.false h
+      c.join_piece.ensures.kept.tables c.join_piece.ensures.kept.limit c.join_piece.ensures.kept.openings_left
+      (rw c.range.ensures.value at (c.in_ok-join_piece.ensures.value end n s h.shows)) more
+      (λ is. c.if-as_bytes-start-eq60.false (ap (λ xs. slice_index xs i) c.as_bytes.ensures.value ∙ is)) read.0 read.1;
+  other = λ no. absurd (cc no);
+  tables = c.join_piece.ensures.kept.tables;
+  opened = c.join_piece.ensures.kept.opened;
+}
 
-pub returns-clause-value : goal.returns-clause-value
-returns-clause-value c = if_ok c.wait_for_more.result c.wait_for_more.ensures.value (λ yes adds is limit end after es s h.
-    let src = c.args.text.text.now in
-    let i = c.args.text.pos in
-    let n = length src in
-    let more : i < n = omega (arith, c.if-start-end.false) in
-    let read = read_to_end src i (c.if-not-is_plain_to_end.ensures refl) in
-    run_opened limit end es c.args.context.depth_left c.args.context.main (replacement_view c.args.text) after s c.args.builder.now _ c.if-not-context.false c.if-context-eq0.false h
-    c.wait_for_more.ensures.kept.tables c.wait_for_more.ensures.kept.limit c.wait_for_more.ensures.kept.openings_left
-    (rw c.range-2.ensures.value at (adds is end n s h.shows)) more
-    (λ is. c.if-as_bytes-start-eq60.false (ap (λ xs. slice_index xs i) c.as_bytes.ensures.value ∙ is)) read.0 read.1)
+pub returns : goal.returns
+returns c = record {
+  value = if_ok c.wait_for_more.result c.wait_for_more.ensures.value (λ yes adds is limit end after es s h.
+      let src = c.args.text.text.now in
+      let i = c.args.text.pos in
+      let n = length src in
+      let more : i < n = omega (arith, c.if-start-end.false) in
+      let read = read_to_end src i (c.if-not-is_plain_to_end.ensures refl) in
+      run_opened limit end es c.args.context.depth_left c.args.context.main (replacement_view c.args.text) after s c.args.builder.now _ c.if-not-context.false c.if-context-eq0.false h
+      c.wait_for_more.ensures.kept.tables c.wait_for_more.ensures.kept.limit c.wait_for_more.ensures.kept.openings_left
+      (rw c.range-2.ensures.value at (adds is end n s h.shows)) more
+      (λ is. c.if-as_bytes-start-eq60.false (ap (λ xs. slice_index xs i) c.as_bytes.ensures.value ∙ is)) read.0 read.1);
+  other = c.wait_for_more.ensures.other;
+  tables = c.wait_for_more.ensures.kept.tables;
+  opened = c.wait_for_more.ensures.kept.opened;
+}

@@ -17,53 +17,58 @@ use Rattle.rox_build.proofs.Growing.{grown_shows}
 use Rattle.rox_build.proofs.Opening.{cut_back, grown_by, is_node, is_opening, fine_by, fine_kept, fine_more, fine_same, namespace_by, tag_is, empty_stepped, open_stepped}
 use Rattle.rox_build.proofs.plain_constructs.other_element.Goals as goal
 
-pub plain_start_tag-requires-clause-here : goal.plain_start_tag-requires-clause-here
-plain_start_tag-requires-clause-here c =
-    let b = c.args.builder.now in
-    let os = b.opened.items in
-    let o = c.index-above.result.now in
-    record {
-      here = c.requires.here;
-      short = c.requires.room.short;
-      below = below_last b.tables os (take (c.len-depth.result - 1) os) o c.requires.room.fine (split_at os c.len-depth.result o (omega arith) (omega arith) c.index-above.ensures);
-    }
+pub plain_start_tag-requires : goal.plain_start_tag-requires
+plain_start_tag-requires c = record {
+  here =
+      let b = c.args.builder.now in
+      let os = b.opened.items in
+      let o = c.index-above.result.now in
+      record {
+        here = c.requires.here;
+        short = c.requires.room.short;
+        below = below_last b.tables os (take (c.len-depth.result - 1) os) o c.requires.room.fine (split_at os c.len-depth.result o (omega arith) (omega arith) c.index-above.ensures);
+      };
+  part = c.requires.part;
+}
 
-pub put_open-requires-clause-within : goal.put_open-requires-clause-within
-put_open-requires-clause-within c =
-    let src = c.args.text.now in
-    let x = c.in-Some.ensures.read in
-    let within = stands_within src c.args.start 60 c.requires.here (omega arith) in
-    let starts = x.starts in
-    omega arith
+pub put_open-requires : goal.put_open-requires
+put_open-requires c = record {
+  row =
+      let b = c.args.builder.now in
+      let os = b.opened.items in
+      let o = c.index-above.result.now in
+      let split : os ≡ take (c.len-depth.result - 1) os ++ o ∷ [] = split_at os c.len-depth.result o (omega arith) (omega arith) c.index-above.ensures in
+      let ready = c.requires.room.ready in
+      record {
+        ready = record { room = ready.room; few = ready.few; small = ready.small; settled = ready.settled };
+        parent = sym (innermost_row c.plain_start_tag.new.elements os _ o split);
+        start = omega (arith, c.requires.room.short, c.requires.start.0);
+      };
+  depth = c.has_room_to_open.ensures c.if-not-has_room_to_open.false;
+  within =
+      let src = c.args.text.now in
+      let x = c.in-Some.ensures.read in
+      let within = stands_within src c.args.start 60 c.requires.here (omega arith) in
+      let starts = x.starts in
+      omega arith;
+}
 
-pub put_leaf-requires-clause-end : goal.put_leaf-requires-clause-end
-put_leaf-requires-clause-end c = omega (arith, c.requires.room.short, c.in-Some.ensures.read.cut.0)
-
-pub put_leaf-requires-clause-row : goal.put_leaf-requires-clause-row
-put_leaf-requires-clause-row c =
-    let b = c.args.builder.now in
-    let os = b.opened.items in
-    let o = c.index-above.result.now in
-    let split : os ≡ take (c.len-depth.result - 1) os ++ o ∷ [] = split_at os c.len-depth.result o (omega arith) (omega arith) c.index-above.ensures in
-    let ready = c.requires.room.ready in
-    record {
-      ready = record { room = ready.room; few = ready.few; small = ready.small; settled = ready.settled };
-      parent = sym (innermost_row c.plain_start_tag.new.elements os _ o split);
-      start = omega (arith, c.requires.room.short, c.requires.start.0);
-    }
-
-pub put_open-requires-clause-row : goal.put_open-requires-clause-row
-put_open-requires-clause-row c =
-    let b = c.args.builder.now in
-    let os = b.opened.items in
-    let o = c.index-above.result.now in
-    let split : os ≡ take (c.len-depth.result - 1) os ++ o ∷ [] = split_at os c.len-depth.result o (omega arith) (omega arith) c.index-above.ensures in
-    let ready = c.requires.room.ready in
-    record {
-      ready = record { room = ready.room; few = ready.few; small = ready.small; settled = ready.settled };
-      parent = sym (innermost_row c.plain_start_tag.new.elements os _ o split);
-      start = omega (arith, c.requires.room.short, c.requires.start.0);
-    }
+pub put_leaf-requires : goal.put_leaf-requires
+put_leaf-requires c = record {
+  row =
+      let b = c.args.builder.now in
+      let os = b.opened.items in
+      let o = c.index-above.result.now in
+      let split : os ≡ take (c.len-depth.result - 1) os ++ o ∷ [] = split_at os c.len-depth.result o (omega arith) (omega arith) c.index-above.ensures in
+      let ready = c.requires.room.ready in
+      record {
+        ready = record { room = ready.room; few = ready.few; small = ready.small; settled = ready.settled };
+        parent = sym (innermost_row c.plain_start_tag.new.elements os _ o split);
+        start = omega (arith, c.requires.room.short, c.requires.start.0);
+      };
+  end = omega (arith, c.requires.room.short, c.in-Some.ensures.read.cut.0);
+  small = tt;
+}
 
 pub returns-then-other : goal.returns-then-other
 returns-then-other c = record {

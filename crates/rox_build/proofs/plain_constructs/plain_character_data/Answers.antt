@@ -1,25 +1,36 @@
-use Rattle.std.proofs.Common.{◌≡◌, ◌<◌, true, Ok, get_or, length, slice_range, sym, ◌∙◌, arith}
+use Rattle.std.proofs.Common.{◌≡◌, ◌<◌, true, Ok, get_or, length, refl, slice_range, sym, ◌∙◌, arith}
 use Rattle.std.proofs.lemmas.Bool.{eqb-true}
 use Rattle.rox_reading.specs.Values.{ReadText}
 use Rattle.rox_scan.proofs.NearLemmas.{text_cut}
 use Rattle.rox_scan.proofs.ShortLemmas.{short_run}
 use Rattle.rox_build.proofs.Stepping.{plain_run, text_stepped}
+use Rattle.rox_build.proofs.PlainReads.{fine_same}
 use Rattle.rox_build.proofs.plain_constructs.plain_character_data.Goals as goal
 
-pub returns-clause-value : goal.returns-clause-value
-returns-clause-value c = λ _ context end s h.
-    let cursor = c.args.cursor.now in
-    let src = cursor.text.now in
-    let b = c.args.builder.now in
-    let i = cursor.pos in
-    let e = c.skip_set-near.result in
-    let n = c.skip_set-near.ensures in
-    let cut = text_cut src e n.within n.stops in
-    let here : e < length src → get_or src e 0 ≡ 60 = λ more. eqb-true _ _ (sym c.is_at.ensures ∙ c.if-not-is_at.false) in
-    let r = short_run src i e cursor.utf8 cursor.cut n.onward cut n.passes here in
-    let text : ReadText = record { value = slice_range src i e; borrowed = true } in
-    rw (plain_run context src s i e (slice_range src i e) h.here r.0 r.1)
-    (text_stepped context.limit end s cursor _ b c.put_text.new.self (Ok tt) text h c.put_text.ensures.adds.kept.tables c.put_text.ensures.adds.kept.limit c.put_text.ensures.adds.kept.openings_left (rw c.range.ensures.value at (c.put_text.ensures.adds.value end e s h.shows)))
+pub returns : goal.returns
+returns c = record {
+  reads = record {
+    value = λ _ context end s _ h.
+        let cursor = c.args.cursor.now in
+        let src = cursor.text.now in
+        let b = c.args.builder.now in
+        let i = cursor.pos in
+        let e = c.skip_set-near.result in
+        let n = c.skip_set-near.ensures in
+        let cut = text_cut src e n.within n.stops in
+        let here : e < length src → get_or src e 0 ≡ 60 = λ more. eqb-true _ _ (sym c.is_at.ensures ∙ c.if-not-is_at.false) in
+        let r = short_run src i e cursor.utf8 cursor.cut n.onward cut n.passes here in
+        let text : ReadText = record { value = slice_range src i e; borrowed = true } in
+        rw (plain_run context src s i e (slice_range src i e) h.here r.0 r.1)
+        (text_stepped context.limit end s cursor _ b c.put_text.new.self (Ok tt) text h c.put_text.ensures.adds.kept.tables c.put_text.ensures.adds.kept.limit c.put_text.ensures.adds.kept.openings_left (rw c.range.ensures.value at (c.put_text.ensures.adds.value end e s h.shows)));
+    other = λ no. absurd (cc no);
+    ready = λ _. c.put_text.ensures.ready;
+    goes = record { source = refl; fine = fine_same c.args.builder.now c.put_text.new.self c.requires.fine c.put_text.ensures.adds.kept.tables c.put_text.ensures.adds.kept.opened };
+  };
+  tables = c.put_text.ensures.adds.kept.tables;
+  opened = c.put_text.ensures.adds.kept.opened;
+  behind = λ _. eqb-true _ _ (sym c.is_at.ensures ∙ c.if-not-is_at.false);
+}
 
 pub put_text-requires : goal.put_text-requires
 put_text-requires c = record {

@@ -1,4 +1,5 @@
-use Rattle.std.proofs.Common.{◌≡◌, ◌-◌, ◌++◌, ◌∷◌, ℕ, Bool, true, false, [], Ok, take, arith, refl, sym, ap, subst, ◌∙◌, List}
+use Rattle.std.proofs.Common.{◌≡◌, ◌-◌, ◌++◌, ◌∷◌, ℕ, Bool, true, false, [], Ok, take, arith, refl, sym, ap, subst, ◌∙◌, List, rules}
+use Rattle.std.proofs.lemmas.Grind.{common_steps}
 use Rattle.rox_grammar.specs.Written.{Element, NamespaceDecl}
 use Rattle.rox_grammar.specs.State.{scope_of}
 use Rattle.rox_reading.specs.Machine.{opened_by, cut_off_fault}
@@ -20,73 +21,81 @@ use Rattle.rox_build.proofs.PlainTags.{near_cut, near_ends}
 use Rattle.std.proofs.Common.{◌+◌}
 use Rattle.rox_build.proofs.plain_constructs.plain_element.Goals as goal
 
-pub near_start_tag-requires-clause-here : goal.near_start_tag-requires-clause-here
-near_start_tag-requires-clause-here c =
-    let b = c.args.builder.now in
-    let os = b.opened.items in
-    let o = c.index-parent.result.now in
-    record {
-      here = c.requires.here;
-      short = c.requires.room.short;
-      below = below_last b.tables os (take (c.len-depth.result - 1) os) o c.requires.room.fine (split_at os c.len-depth.result o (omega arith) (omega arith) c.index-parent.ensures);
-    }
+pub near_start_tag-requires : goal.near_start_tag-requires
+near_start_tag-requires c = record {
+  here =
+      let b = c.args.builder.now in
+      let os = b.opened.items in
+      let o = c.index-parent.result.now in
+      record {
+        here = c.requires.here;
+        short = c.requires.room.short;
+        below = below_last b.tables os (take (c.len-depth.result - 1) os) o c.requires.room.fine (split_at os c.len-depth.result o (omega arith) (omega arith) c.index-parent.ensures);
+      };
+  near = c.requires.near;
+  bare = first_of (search rules, grind (arith, common_steps));
+}
 
-pub other_element-requires-clause-part : goal.other_element-requires-clause-part
-other_element-requires-clause-part c =
-    let src = c.args.text.now in
-    let i = c.args.start in
-    let within = stands_within src i 60 c.requires.here (omega arith) in
-    record {
-      place = near_ends src (i + 1) c.args.near c.utf8.text c.requires.near;
-      onward = c.requires.near.ends.onward;
-      cut = near_cut src (i + 1) c.args.near c.utf8.text (IsCharBoundary-after_ascii src i c.utf8.text within (omega (arith, c.requires.here))) c.requires.near;
-    }
+pub other_element-requires : goal.other_element-requires
+other_element-requires c = record {
+  here = c.requires.here;
+  start = c.requires.start;
+  part =
+      let src = c.args.text.now in
+      let i = c.args.start in
+      let within = stands_within src i 60 c.requires.here (omega arith) in
+      record {
+        place = near_ends src (i + 1) c.args.near c.utf8.text c.requires.near;
+        onward = c.requires.near.ends.onward;
+        cut = near_cut src (i + 1) c.args.near c.utf8.text (IsCharBoundary-after_ascii src i c.utf8.text within (omega (arith, c.requires.here))) c.requires.near;
+      };
+  room =
+      let ready = c.requires.room.ready in
+      record {
+        short = c.requires.room.short;
+        ready = record { room = ready.room; few = ready.few; small = ready.small; settled = ready.settled };
+        fine = c.requires.room.fine;
+      };
+}
 
-pub other_element-requires-clause-room : goal.other_element-requires-clause-room
-other_element-requires-clause-room c =
-    let ready = c.requires.room.ready in
-    record {
-      short = c.requires.room.short;
-      ready = record { room = ready.room; few = ready.few; small = ready.small; settled = ready.settled };
-      fine = c.requires.room.fine;
-    }
+pub put_open-requires : goal.put_open-requires
+put_open-requires c = record {
+  row =
+      let b = c.args.builder.now in
+      let os = b.opened.items in
+      let o = c.index-parent.result.now in
+      let split : os ≡ take (c.len-depth.result - 1) os ++ o ∷ [] = split_at os c.len-depth.result o (omega arith) (omega arith) c.index-parent.ensures in
+      let ready = c.requires.room.ready in
+      record {
+        ready = record { room = ready.room; few = ready.few; small = ready.small; settled = ready.settled };
+        parent = sym (innermost_row c.near_start_tag.new.elements os _ o split);
+        start = omega (arith, c.requires.room.short, c.requires.start.0);
+      };
+  depth = c.has_room_to_open.ensures c.if-not-has_room_to_open.false;
+  within =
+      let src = c.args.text.now in
+      let x = c.in-Some.ensures.read in
+      let within = stands_within src c.args.start 60 c.requires.here (omega arith) in
+      let starts = x.starts in
+      omega arith;
+}
 
-pub put_open-requires-clause-within : goal.put_open-requires-clause-within
-put_open-requires-clause-within c =
-    let src = c.args.text.now in
-    let x = c.in-Some.ensures.read in
-    let within = stands_within src c.args.start 60 c.requires.here (omega arith) in
-    let starts = x.starts in
-    omega arith
-
-pub put_leaf-requires-clause-end : goal.put_leaf-requires-clause-end
-put_leaf-requires-clause-end c = omega (arith, c.requires.room.short, c.in-Some.ensures.read.cut.0)
-
-pub put_leaf-requires-clause-row : goal.put_leaf-requires-clause-row
-put_leaf-requires-clause-row c =
-    let b = c.args.builder.now in
-    let os = b.opened.items in
-    let o = c.index-parent.result.now in
-    let split : os ≡ take (c.len-depth.result - 1) os ++ o ∷ [] = split_at os c.len-depth.result o (omega arith) (omega arith) c.index-parent.ensures in
-    let ready = c.requires.room.ready in
-    record {
-      ready = record { room = ready.room; few = ready.few; small = ready.small; settled = ready.settled };
-      parent = sym (innermost_row c.near_start_tag.new.elements os _ o split);
-      start = omega (arith, c.requires.room.short, c.requires.start.0);
-    }
-
-pub put_open-requires-clause-row : goal.put_open-requires-clause-row
-put_open-requires-clause-row c =
-    let b = c.args.builder.now in
-    let os = b.opened.items in
-    let o = c.index-parent.result.now in
-    let split : os ≡ take (c.len-depth.result - 1) os ++ o ∷ [] = split_at os c.len-depth.result o (omega arith) (omega arith) c.index-parent.ensures in
-    let ready = c.requires.room.ready in
-    record {
-      ready = record { room = ready.room; few = ready.few; small = ready.small; settled = ready.settled };
-      parent = sym (innermost_row c.near_start_tag.new.elements os _ o split);
-      start = omega (arith, c.requires.room.short, c.requires.start.0);
-    }
+pub put_leaf-requires : goal.put_leaf-requires
+put_leaf-requires c = record {
+  row =
+      let b = c.args.builder.now in
+      let os = b.opened.items in
+      let o = c.index-parent.result.now in
+      let split : os ≡ take (c.len-depth.result - 1) os ++ o ∷ [] = split_at os c.len-depth.result o (omega arith) (omega arith) c.index-parent.ensures in
+      let ready = c.requires.room.ready in
+      record {
+        ready = record { room = ready.room; few = ready.few; small = ready.small; settled = ready.settled };
+        parent = sym (innermost_row c.near_start_tag.new.elements os _ o split);
+        start = omega (arith, c.requires.room.short, c.requires.start.0);
+      };
+  end = omega (arith, c.requires.room.short, c.in-Some.ensures.read.cut.0);
+  small = tt;
+}
 
 pub returns-then-read : goal.returns-then-read
 returns-then-read c = record {

@@ -15,44 +15,46 @@ use Rattle.rox_build.proofs.SameNames.{all_last, same_itself, end_tag_close}
 use Rattle.rox_build.proofs.Twice.{ready_fewer}
 use Rattle.rox_build.proofs.plain_constructs.plain_end_tag.Goals as goal
 
-pub returns-clause-value : goal.returns-clause-value
-returns-clause-value c = λ _ context end s around h.
-    let cursor = c.args.cursor.now in
-    let src = cursor.text.now in
-    let b = c.args.builder.now in
-    let pos = cursor.pos in
-    let k = c.in-Some.ensures.item in
-    let os = c.deref.result.now in
-    let o = c.in-Some.open.now in
-    let outer = take (length os - 1) os in
-    let split : b.opened.items ≡ outer ++ o ∷ [] = sym c.deref.ensures.value ∙ last_split os o k.3.0 (k.3.1 o) in
-    let named : HasName o = (all_last (IsOpenWithin b.tables) outer o (subst (AllByRecursion (IsOpenWithin b.tables)) split c.requires.fine.elements)).2 in
-    let start : c.after_byte-name.result ≡ pos + 2 = omega (arith, c.after_byte-slash.ensures.place, c.after_byte-name.ensures.place) in
-    let closes : slice_index src (c.after_byte-name.result + name_count o) ≡ 62 = eqb-true _ _ (sym c.is_at.ensures ∙ c.if-not-is_at.false) in
-    let j = c.after_byte-end.result in
-    let same : take (name_count o) o.source.now ≡ take (name_count o) (drop (pos + 2) src) =
-    rw (← start) (c.same_front.ensures.same c.if-not-same_front.false ∙ ap (take (name_count o)) (take_rest c.as_bytes.result.now c.after_byte-name.result ∙ ap (drop c.after_byte-name.result) c.as_bytes.ensures.value)) in
-    let tag : end_tag_at src pos ≡ Ok (record { name = name_view o.name; name_end = pos + 2 + name_count o }, j) =
-    end_tag_close src pos j o named cursor.utf8 same (rw (← start) closes) (rw (← start) c.after_byte-end.ensures.place) in
-    let within : leb (depth_of s.stack) context.open_around ≡ false = (let d = opened_deep end s.stack s.done b h.shows in let l = c.len.ensures in let m = c.if-len-open_around.false in lt-leb _ _ (omega arith)) in
-    rw (end_is context src s pos j _ h.here tag within)
-    (closed_stepped context.limit end s cursor _ b c.put_close.new.self outer o pos (pos + 2 + name_count o) (name_view o.name) h split (same_itself (name_view o.name)) c.put_close.ensures.kept.tables c.put_close.ensures.kept.limit c.put_close.ensures.kept.openings_left c.put_close.ensures.ok)
+pub returns : goal.returns
+returns c = record {
+  value = λ _ context end s around h.
+      let cursor = c.args.cursor.now in
+      let src = cursor.text.now in
+      let b = c.args.builder.now in
+      let pos = cursor.pos in
+      let k = c.in-Some.ensures.item in
+      let os = c.deref.result.now in
+      let o = c.in-Some.open.now in
+      let outer = take (length os - 1) os in
+      let split : b.opened.items ≡ outer ++ o ∷ [] = sym c.deref.ensures.value ∙ last_split os o k.3.0 (k.3.1 o) in
+      let named : HasName o = (all_last (IsOpenWithin b.tables) outer o (subst (AllByRecursion (IsOpenWithin b.tables)) split c.requires.fine.elements)).2 in
+      let start : c.after_byte-name.result ≡ pos + 2 = omega (arith, c.after_byte-slash.ensures.place, c.after_byte-name.ensures.place) in
+      let closes : slice_index src (c.after_byte-name.result + name_count o) ≡ 62 = eqb-true _ _ (sym c.is_at.ensures ∙ c.if-not-is_at.false) in
+      let j = c.after_byte-end.result in
+      let same : take (name_count o) o.source.now ≡ take (name_count o) (drop (pos + 2) src) =
+      rw (← start) (c.same_front.ensures.same c.if-not-same_front.false ∙ ap (take (name_count o)) (take_rest c.as_bytes.result.now c.after_byte-name.result ∙ ap (drop c.after_byte-name.result) c.as_bytes.ensures.value)) in
+      let tag : end_tag_at src pos ≡ Ok (record { name = name_view o.name; name_end = pos + 2 + name_count o }, j) =
+      end_tag_close src pos j o named cursor.utf8 same (rw (← start) closes) (rw (← start) c.after_byte-end.ensures.place) in
+      let within : leb (depth_of s.stack) context.open_around ≡ false = (let d = opened_deep end s.stack s.done b h.shows in let l = c.len.ensures in let m = c.if-len-open_around.false in lt-leb _ _ (omega arith)) in
+      rw (end_is context src s pos j _ h.here tag within)
+      (closed_stepped context.limit end s cursor _ b c.put_close.new.self outer o pos (pos + 2 + name_count o) (name_view o.name) h split (same_itself (name_view o.name)) c.put_close.ensures.closes.kept.tables c.put_close.ensures.closes.kept.limit c.put_close.ensures.closes.kept.openings_left c.put_close.ensures.closes.ok);
+  other = λ no. absurd (cc no);
+  ready = λ _ n h. c.put_close.ensures.ready n (ready_fewer (n + 1) n c.args.builder.now (omega arith) h);
+  goes =
+      let b = c.args.builder.now in
+      let f = c.requires.fine in
+      let n = length b.opened.items - 1 in
+      let taken : IsConsistent b.tables (take n b.opened.items) =
+      record { sound = f.sound; elements = all_take (IsOpenWithin b.tables) n b.opened.items f.elements; empty = f.empty; kept = f.kept; few_names = f.few_names; few_attributes = f.few_attributes } in
+      record {
+        source = refl;
+        fine = subst (λ (qs : List OpenElement). IsConsistent c.put_close.new.self.tables qs) (sym c.put_close.ensures.closes.opened)
+            (subst (λ (t : ElementTables). IsConsistent t (take n b.opened.items)) (sym c.put_close.ensures.closes.kept.tables) taken);
+      };
+}
 
-pub put_close-requires-clause-short : goal.put_close-requires-clause-short
-put_close-requires-clause-short c = omega (arith, c.requires.short, c.after_byte-end.ensures.cut.0)
-
-pub returns-clause-goes : goal.returns-clause-goes
-returns-clause-goes c =
-    let b = c.args.builder.now in
-    let f = c.requires.fine in
-    let n = length b.opened.items - 1 in
-    let taken : IsConsistent b.tables (take n b.opened.items) =
-    record { sound = f.sound; elements = all_take (IsOpenWithin b.tables) n b.opened.items f.elements; empty = f.empty; kept = f.kept; few_names = f.few_names; few_attributes = f.few_attributes } in
-    record {
-      source = refl;
-      fine = subst (λ (qs : List OpenElement). IsConsistent c.put_close.new.self.tables qs) (sym c.put_close.ensures.opened)
-          (subst (λ (t : ElementTables). IsConsistent t (take n b.opened.items)) (sym c.put_close.ensures.kept.tables) taken);
-    }
-
-pub returns-clause-ready : goal.returns-clause-ready
-returns-clause-ready c = λ _ n h. c.put_close.ensures.ready n (ready_fewer (n + 1) n c.args.builder.now (omega arith) h)
+pub put_close-requires : goal.put_close-requires
+put_close-requires c = record {
+  settled = c.requires.settled;
+  short = omega (arith, c.requires.short, c.after_byte-end.ensures.cut.0);
+}

@@ -8,7 +8,7 @@ returns-clause-reads c = record {
   value = λ _ context end s here behind start stop h.
       rw (step_is_comment context c.args.text.now s c.args.start (sym start ∙ h.here) (sym c.starts.ensures ∙ c.if-not-starts.false))
       (scans_there context.limit end c.plain_comment.new.cursor behind c.plain_comment.new.builder _ stop
-      (c.plain_comment.ensures.value c.if-not-plain_comment.false context.limit end s (stands_there context.limit end s here _ c.args.builder.now (sym start) h)));
+      (c.plain_comment.ensures.value c.if-not-plain_comment.false context end s tt (stands_there context.limit end s here _ c.args.builder.now (sym start) h)));
   other = λ no. absurd (omega (arith, no, c.requires.room.short, c.plain_comment.new.cursor.cut.0, ap (λ t. length t.now) c.plain_comment.ensures.goes.source));
   cut = λ _. rw (ap (λ t. t.now) c.plain_comment.ensures.goes.source) at c.plain_comment.new.cursor.cut;
   ready = λ _ n h. c.plain_comment.ensures.ready c.if-not-plain_comment.false n h;

@@ -1,4 +1,5 @@
-use Rattle.std.proofs.Common.{sym, ◌∙◌, map, Some}
+use Rattle.std.proofs.Common.{sym, ◌∙◌, map, Some, rules, arith}
+use Rattle.std.proofs.lemmas.Grind.{common_steps}
 use Rattle.rox_tables.specs.Bindings.{FindsBinding}
 use Rattle.rox_tables.specs.Rows.{namespace_view}
 use Rattle.rox_grammar.specs.Failures.{name_view}
@@ -12,8 +13,12 @@ find_near-requires c = record {
   once = few_once c.args.elements.now c.as_slice-namespaces.result.now c.deref.result.now c.deref-2.result.now c.in_ok-places.places.now c.args.scope c.as_slice-namespaces.ensures.value c.deref.ensures.value c.deref-2.ensures.value c.requires.scope.once c.in_ok-places.ensures.few;
 }
 
-pub returns-in-Some-clause-known : goal.returns-in-Some-clause-known
-returns-in-Some-clause-known c = λ ds h.
-    let few = few_is c.args.elements.now c.deref.result.now c.deref-2.result.now c.in_ok-places.places.now c.args.scope c.deref.ensures.value c.deref-2.ensures.value c.in_ok-places.ensures.few in
-    let found : FindsBinding (map namespace_view c.as_slice-namespaces.result.now) (Some c.in_ok-places.places.now) c.args.elements.now.present ds = rw (c.as_slice-namespaces.ensures.value, few) h in
-    known_some ds (name_view c.args.name) _ (sym (found.uris _) ∙ c.in-Some.ensures.1)
+pub returns-in-Some : goal.returns-in-Some
+returns-in-Some c = record {
+  within = first_of (search rules, grind (arith, common_steps));
+  there = first_of (search rules, grind (arith, common_steps));
+  known = λ ds h.
+      let few = few_is c.args.elements.now c.deref.result.now c.deref-2.result.now c.in_ok-places.places.now c.args.scope c.deref.ensures.value c.deref-2.ensures.value c.in_ok-places.ensures.few in
+      let found : FindsBinding (map namespace_view c.as_slice-namespaces.result.now) (Some c.in_ok-places.places.now) c.args.elements.now.present ds = rw (c.as_slice-namespaces.ensures.value, few) h in
+      known_some ds (name_view c.args.name) _ (sym (found.uris _) ∙ c.in-Some.ensures.1);
+}

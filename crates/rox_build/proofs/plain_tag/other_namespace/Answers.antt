@@ -9,15 +9,15 @@ element_namespace-requires c = record {
   small = search rules;
 }
 
-pub returns-in-Ok-clause-is : goal.returns-in-Ok-clause-is
-returns-in-Ok-clause-is c =
-    let here = few_found c.args.elements.now c.as_slice-namespaces.result.now c.deref.result.now c.deref-2.result.now c.in_ok-places.places.now c.args.scope c.as_slice-namespaces.ensures.value c.deref.ensures.value c.deref-2.ensures.value c.in_ok-places.ensures.few in
-    record {
-      within = rw c.as_slice-namespaces.ensures.value at c.in-Ok.ensures.within;
-      is = rw c.as_slice-namespaces.ensures.value at (c.in-Ok.ensures.ok _ here).0;
-    }
-
-pub returns-in-Ok-clause-known : goal.returns-in-Ok-clause-known
-returns-in-Ok-clause-known c =
-    let here = few_found c.args.elements.now c.as_slice-namespaces.result.now c.deref.result.now c.deref-2.result.now c.in_ok-places.places.now c.args.scope c.as_slice-namespaces.ensures.value c.deref.ensures.value c.deref-2.ensures.value c.in_ok-places.ensures.few in
-    (c.in-Ok.ensures.ok _ here).1
+pub returns-in-Ok : goal.returns-in-Ok
+returns-in-Ok c = record {
+  is =
+      let here = few_found c.args.elements.now c.as_slice-namespaces.result.now c.deref.result.now c.deref-2.result.now c.in_ok-places.places.now c.args.scope c.as_slice-namespaces.ensures.value c.deref.ensures.value c.deref-2.ensures.value c.in_ok-places.ensures.few in
+      record {
+        within = rw c.as_slice-namespaces.ensures.value at c.in-Ok.ensures.within;
+        is = rw c.as_slice-namespaces.ensures.value at (c.in-Ok.ensures.ok _ here).0;
+      };
+  known =
+      let here = few_found c.args.elements.now c.as_slice-namespaces.result.now c.deref.result.now c.deref-2.result.now c.in_ok-places.places.now c.args.scope c.as_slice-namespaces.ensures.value c.deref.ensures.value c.deref-2.ensures.value c.in_ok-places.ensures.few in
+      (c.in-Ok.ensures.ok _ here).1;
+}

@@ -1,4 +1,5 @@
-use Rattle.std.proofs.Common.{◌≡◌, ◌≤◌, ◌+◌, [], false, length, map, bytes_eq, refl, sym, ap, ◌∙◌, arith, Ok}
+use Rattle.std.proofs.Common.{◌≡◌, ◌≤◌, ◌+◌, [], false, length, map, bytes_eq, refl, sym, ap, ◌∙◌, arith, Ok, rules}
+use Rattle.std.proofs.lemmas.Grind.{common_steps}
 use Rattle.std.proofs.lemmas.List.{append-nil}
 use Rattle.rox_grammar.specs.declared.fault.Word.TheVariants.{Xmlns}
 use Rattle.rox_grammar.specs.FixedTexts.{word_text}
@@ -17,8 +18,12 @@ use Rattle.rox_build.proofs.PlainTags.{scope_found, plain_element, plain_count}
 use Rattle.rox_build.proofs.Starting.{tag_made, tested_known, tested_passes}
 use Rattle.rox_build.proofs.plain_tag.plain_start_tag.Goals as goal
 
-pub tag_namespace-requires-clause-scope : goal.tag_namespace-requires-clause-scope
-tag_namespace-requires-clause-scope c = record { places = c.requires.here.below.places; scopes = c.requires.here.below.scopes; within = c.requires.here.below.parent.0; once = c.requires.here.below.parent.1 }
+pub tag_namespace-requires : goal.tag_namespace-requires
+tag_namespace-requires c = record {
+  scope = record { places = c.requires.here.below.places; scopes = c.requires.here.below.scopes; within = c.requires.here.below.parent.0; once = c.requires.here.below.parent.1 };
+  parent = c.requires.here.below.parent.3;
+  small = first_of (search rules, grind (arith, common_steps));
+}
 
 pub plain_attributes-requires : goal.plain_attributes-requires
 plain_attributes-requires c =

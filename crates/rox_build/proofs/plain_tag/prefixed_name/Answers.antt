@@ -59,8 +59,8 @@ returns c =
     let size = ap length c.range-2.ensures.value in
     record {
       value = rw (c.range.ensures.value, c.range-2.ensures.value, place)
-          (two_parts src i k j c.requires.begins c.requires.first c.requires.here (part_begins src (k + 1) j c.utf8.text more near.within all letter) other behind is);
-      local = omega (arith, onward, c.requires.onward, long, rw place at size);
+          (two_parts src i k j c.requires.first.begins c.requires.first.part.place c.requires.here (part_begins src (k + 1) j c.utf8.text more near.within all letter) other behind is);
+      local = omega (arith, onward, c.requires.first.part.onward, long, rw place at size);
       equals = is;
       quote = rw quoted.here quoted.quote;
       inside = quoted.within;

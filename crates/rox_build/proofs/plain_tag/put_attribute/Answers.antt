@@ -5,8 +5,8 @@ use Rattle.rox_scan.proofs.NearLemmas.{part_cut, part_stops}
 use Rattle.rox_build.proofs.PlainTags.{behind_quote, ascii_begins}
 use Rattle.rox_build.proofs.plain_tag.put_attribute.Goals as goal
 
-pub whole_name-name-requires-clause-first : goal.whole_name-name-requires-clause-first
-whole_name-name-requires-clause-first c =
+pub whole_name-name-requires : goal.whole_name-name-requires
+whole_name-name-requires c =
     let src = c.args.text.now in
     let i = c.args.start in
     let window = c.new-window.ensures in
@@ -14,22 +14,29 @@ whole_name-name-requires-clause-first c =
     let near : EndsSet is_part_byte src i (i + c.part_count-count.result) = rw window.place at seen in
     let here = (c.seen_quote-quote.ensures (omega arith)).equals in
     record {
-      start = c.requires.put.cut;
-      part = record {
-        place = part_stops src i _ c.utf8.text near.onward near.within near.passes near.stops (λ _. omega (arith, here));
-        onward = near.onward;
-        cut = part_cut src i _ c.utf8.text c.requires.put.cut near.onward near.within near.passes;
+      first = record {
+        start = c.requires.cut;
+        part = record {
+          place = part_stops src i _ c.utf8.text near.onward near.within near.passes near.stops (λ _. omega (arith, here));
+          onward = near.onward;
+          cut = part_cut src i _ c.utf8.text c.requires.cut near.onward near.within near.passes;
+        };
+        begins = ascii_begins src i (i + c.part_count-count.result) c.utf8.text near c.requires.begins (omega (arith, here));
       };
-      begins = ascii_begins src i (i + c.part_count-count.result) c.utf8.text near c.requires.put.begins (omega (arith, here));
+      here = here;
     }
 
-pub seen_value-requires-clause-begins : goal.seen_value-requires-clause-begins
-seen_value-requires-clause-begins c =
+pub seen_value-requires : goal.seen_value-requires
+seen_value-requires c =
     let src = c.args.text.now in
     let n = c.args.start + c.part_count-count.result in
     let place = c.new-window.ensures.place in
     let seen = c.seen_quote-quote.ensures (omega arith) in
     record {
-      cut = subst (IsCharBoundary src) (omega (arith, place)) (behind_quote src n c.seen_quote-quote.result c.utf8.text seen.within seen.here seen.quote);
-      quote = seen.quote;
+      sees = c.new-window.ensures.sees;
+      few = omega (arith, c.if-count-gt-MOST_NAME.false);
+      begins = record {
+        cut = subst (IsCharBoundary src) (omega (arith, place)) (behind_quote src n c.seen_quote-quote.result c.utf8.text seen.within seen.here seen.quote);
+        quote = seen.quote;
+      };
     }

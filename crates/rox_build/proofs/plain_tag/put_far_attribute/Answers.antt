@@ -3,18 +3,21 @@ use Rattle.rox_scan.proofs.NearLemmas.{part_cut, part_stops}
 use Rattle.rox_build.proofs.PlainTags.{ascii_begins, behind_quote}
 use Rattle.rox_build.proofs.plain_tag.put_far_attribute.Goals as goal
 
-pub whole_name-name-requires-clause-first : goal.whole_name-name-requires-clause-first
-whole_name-name-requires-clause-first c =
+pub whole_name-name-requires : goal.whole_name-name-requires
+whole_name-name-requires c =
     let near = c.skip_set-part.ensures in
     let here = (c.quote_behind_equals-quote.ensures (omega arith)).equals in
     record {
-      start = c.requires.cut;
-      part = record {
-        place = part_stops c.args.text.now c.args.start _ c.utf8.text near.onward near.within near.passes near.stops (λ _. omega (arith, here));
-        onward = near.onward;
-        cut = part_cut c.args.text.now c.args.start _ c.utf8.text c.requires.cut near.onward near.within near.passes;
+      first = record {
+        start = c.requires.cut;
+        part = record {
+          place = part_stops c.args.text.now c.args.start _ c.utf8.text near.onward near.within near.passes near.stops (λ _. omega (arith, here));
+          onward = near.onward;
+          cut = part_cut c.args.text.now c.args.start _ c.utf8.text c.requires.cut near.onward near.within near.passes;
+        };
+        begins = ascii_begins c.args.text.now c.args.start c.skip_set-part.result c.utf8.text near c.requires.begins (omega (arith, here));
       };
-      begins = ascii_begins c.args.text.now c.args.start c.skip_set-part.result c.utf8.text near c.requires.begins (omega (arith, here));
+      here = here;
     }
 
 pub plain_value-requires : goal.plain_value-requires

@@ -12,8 +12,8 @@ use Rattle.rox_build.specs.PlainTag.{few_in, IsValueStart, IsPlainAttribute}
 use Rattle.rox_build.proofs.PlainTags.{attribute_reads, value_is, value_starts, usual_are, quote_is_some}
 use Rattle.rox_build.proofs.plain_tag.put_named_attribute.Goals as goal
 
-pub returns-clause-put : goal.returns-clause-put
-returns-clause-put c =
+pub returns : goal.returns
+returns c =
     let src = c.args.text.now in
     let i = c.args.read.start in
     let name = c.args.read.name.name in
@@ -73,18 +73,22 @@ returns-clause-put c =
     let true = c.if-not-put_usual_attribute.false in
     let places = usual_are i (n - i - length name.local.now) (length name.local.now) (length value.now) n s e (omega arith) refl (omega (arith, done, long, size)) in
     record {
-      added = λ _. record {
-        one = one;
-        plain = plain;
-        other = sym c.is_namespace_decl.ensures ∙ c.if-is_namespace_decl.false;
-        added = adds_usual namespaces (few_in t c.args.scope) t.present c.args.seen.now.from (attribute_rows t.attributes) _ one usual space
-            (ap (λ (p : AttributePlaces). (record { local = name.local; value = Borrowed value; namespace = space }, p)) (sym places))
-            (put.added true).rows (subst (λ m. NamespaceWithin m space) (sym (length-map t.namespaces.items.items namespace_view)) found.within)
-            (λ scope h. found.there scope h) (λ scope h. found.known scope h) (put.added true).first;
-        end = refl;
+      put = record {
+        added = λ _. record {
+          one = one;
+          plain = plain;
+          other = sym c.is_namespace_decl.ensures ∙ c.if-is_namespace_decl.false;
+          added = adds_usual namespaces (few_in t c.args.scope) t.present c.args.seen.now.from (attribute_rows t.attributes) _ one usual space
+              (ap (λ (p : AttributePlaces). (record { local = name.local; value = Borrowed value; namespace = space }, p)) (sym places))
+              (put.added true).rows (subst (λ m. NamespaceWithin m space) (sym (length-map t.namespaces.items.items namespace_view)) found.within)
+              (λ scope h. found.there scope h) (λ scope h. found.known scope h) (put.added true).first;
+          end = refl;
+        };
+        others = search;
+        from = search;
+        seen = λ _. put.puts.are_seen true;
+        refused = λ none. absurd (omega (arith, none, done));
       };
-      others = search;
-      from = search;
-      seen = λ _. put.puts.are_seen true;
-      refused = λ none. absurd (omega (arith, none, done));
+      place = omega (arith, done);
+      none = tt;
     }

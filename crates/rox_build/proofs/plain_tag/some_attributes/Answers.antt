@@ -35,8 +35,8 @@ not_false : (b : Bool) → not b ≡ false → b ≡ true
 not_false true h = refl
 not_false false h = cc
 
-pub put_attribute-requires-clause-put : goal.put_attribute-requires-clause-put
-put_attribute-requires-clause-put c =
+pub put_attribute-requires : goal.put_attribute-requires
+put_attribute-requires c =
     let l = c.loop-at in
     let t = c.args.elements.now in
     record {

@@ -1,4 +1,5 @@
-use Rattle.std.proofs.Common.{◌≡◌, sym, ◌∙◌, map}
+use Rattle.std.proofs.Common.{◌≡◌, sym, ◌∙◌, map, rules, arith}
+use Rattle.std.proofs.lemmas.Grind.{common_steps}
 use Rattle.std.proofs.lemmas.Slice.Eq.{bytes_eq-Decides}
 use Rattle.rox_grammar.specs.Failures.{name_view}
 use Rattle.rox_tables.specs.Rows.{namespace_view}
@@ -6,10 +7,13 @@ use Rattle.rox_build.specs.ElementRow.{scope_in_tables}
 use Rattle.rox_build.proofs.PlainTags.{named_by}
 use Rattle.rox_build.proofs.plain_tag.tag_namespace.Goals as goal
 
-pub returns-then-same_text-clause-known : goal.returns-then-same_text-clause-known
-returns-then-same_text-clause-known c =
-    let t = c.args.elements.now in
-    let o = c.args.parent.now in
-    let name = c.args.name in
-    let same : o.name.prefix.now ≡ name.prefix.now = sym ((bytes_eq-Decides name.prefix.now o.name.prefix.now).0 (sym c.same_text.ensures ∙ c.if-same_text.true)) in
-    named_by (map namespace_view t.namespaces.items.items) (scope_in_tables t o.scope) (name_view name) o.namespace (sym c.is_some.ensures ∙ c.if-is_some.true) (rw same at c.requires.parent.is)
+pub returns-then-same_text : goal.returns-then-same_text
+returns-then-same_text c = record {
+  is = first_of (search rules, grind (arith, common_steps));
+  known =
+      let t = c.args.elements.now in
+      let o = c.args.parent.now in
+      let name = c.args.name in
+      let same : o.name.prefix.now ≡ name.prefix.now = sym ((bytes_eq-Decides name.prefix.now o.name.prefix.now).0 (sym c.same_text.ensures ∙ c.if-same_text.true)) in
+      named_by (map namespace_view t.namespaces.items.items) (scope_in_tables t o.scope) (name_view name) o.namespace (sym c.is_some.ensures ∙ c.if-is_some.true) (rw same at c.requires.parent.is);
+}

@@ -13,17 +13,20 @@ bits-init c = record {
   reads = λ bits enough. (bits, (enough, λ main es opener openings_left. refl));
 }
 
-pub put_bit-behind-requires-clause-rest : goal.put_bit-behind-requires-clause-rest
-put_bit-behind-requires-clause-rest c =
-    let v = c.bits.invariant in
-    let from = v.onward in
-    record {
-      start = v.cut;
-      stop = c.requires.stop;
-      onward = v.within;
-      chars = v.chars;
-      apart = λ k low high. c.requires.apart k (omega arith) high;
-    }
+pub put_bit-behind-requires : goal.put_bit-behind-requires
+put_bit-behind-requires c = record {
+  rest =
+      let v = c.bits.invariant in
+      let from = v.onward in
+      record {
+        start = v.cut;
+        stop = c.requires.stop;
+        onward = v.within;
+        chars = v.chars;
+        apart = λ k low high. c.requires.apart k (omega arith) high;
+      };
+  before = c.bits-test.true;
+}
 
 pub returns : goal.returns
 returns c = λ done main es opener openings_left bits enough.

@@ -1,4 +1,5 @@
-use Rattle.std.proofs.Common.{◌≡◌, ◌++◌, ◌∷◌, [], ◌+◌, refl, ap, ◌∙◌, arith, length}
+use Rattle.std.proofs.Common.{◌≡◌, ◌++◌, ◌∷◌, [], ◌+◌, refl, ap, ◌∙◌, arith, length, rules}
+use Rattle.std.proofs.lemmas.Grind.{common_steps}
 use Rattle.rox_grammar.specs.Forest.{Nil}
 use Rattle.rox_grammar.specs.Tree.{listed}
 use Rattle.rox_grammar.specs.State.{inside, scope_of}
@@ -17,39 +18,42 @@ use Rattle.rox_build.proofs.builder.Builder.put_open.Goals as goal
 pub row_below-opening-requires-clause-small : goal.row_below-opening-requires-clause-small
 row_below-opening-requires-clause-small c = let small = c.requires.row.ready.small in let same = ap (λ v. v.rows.len) c.settle.ensures.nodes in omega arith
 
-pub returns-clause-adds : goal.returns-clause-adds
-returns-clause-adds c = record {
-  value = λ total at openings_left s t sh here is.
-      let f = c.settle.new.self in
-      let tag = c.args.tag.now in
-      let st = c.settle.ensures.ok total s.stack s.done sh in
-      let op : IsOpening f.tables (scope_of s.stack) s.at tag t = rw (c.settle.ensures.kept.tables, here) is in
-      let next : State = record { at = at; done = Nil; stack = inside s.at t s.done s.stack; openings_left = openings_left } in
-      let n = settled_count total s.stack s.done f st in
-      let m = open_count s.stack s.at t s.done in
-      let few = c.requires.row.ready.few in
-      let len = count_nodes f.nodes in
-      let old = count_nodes c.args.self.now.nodes in
-      let same = ap (λ v. v.rows.len) c.settle.ensures.nodes in
-      let k : NodeKind = kind.Element tag.element in
-      let x : OpenElement = record { row = c.len-row.result; name = tag.name; name_start = tag.name_start; name_end = tag.name_end; scope = tag.element.scope; namespace = tag.element.namespace; source = c.from_place-source.result } in
-      let place : c.len-row.result ≡ length (node_rows f.nodes) = omega (arith, c.len-row.ensures.nodes) in
-      let view : opened (lists_in f.tables) x ≡ record { row = x.row; name = t.name; name_start = s.at + 1; name_end = t.name_end; scope = listed (scope_of s.stack) t.declarations } =
-      rw (op.name, op.name_start, op.name_end, op.scope) refl in
-      let rows : node_rows c.put.new.self ≡ (node_rows f.nodes) ++ row_open f.tables 0 f.opened.items s.at k ∷ [] =
-      rw here (c.put.ensures.rows ∙ ap (λ (r : NodeData). (node_rows f.nodes) ++ record r { subtree_end = 0 } ∷ []) c.row_below-opening.ensures) in (
-        next,
-        counted_ok c.args.self.now.nodes_limit next (omega arith),
-        open_shows total s.stack s.done f _ s.at k t x st op.node.is op.node.within place view rows refl c.push_reserved.ensures.items refl,
-      );
-  kept = record { tables = c.settle.ensures.kept.tables; limit = c.settle.ensures.kept.limit; openings_left = c.settle.ensures.kept.openings_left };
-  opened =
-      let tag = c.args.tag.now in
-      let x : OpenElement = record { row = c.len-row.result; name = tag.name; name_start = tag.name_start; name_end = tag.name_end; scope = tag.element.scope; namespace = tag.element.namespace; source = c.from_place-source.result } in (
-        x,
-        c.push_reserved.ensures.items ∙ ap (λ v. v.items ++ x ∷ []) c.settle.ensures.kept.opened,
-        record { name = refl; name_start = refl; name_end = refl; scope = refl; namespace = refl; source = c.from_place-source.ensures },
-      );
+pub returns : goal.returns
+returns c = record {
+  adds = record {
+    value = λ total at openings_left s t sh here is.
+        let f = c.settle.new.self in
+        let tag = c.args.tag.now in
+        let st = c.settle.ensures.ok total s.stack s.done sh in
+        let op : IsOpening f.tables (scope_of s.stack) s.at tag t = rw (c.settle.ensures.kept.tables, here) is in
+        let next : State = record { at = at; done = Nil; stack = inside s.at t s.done s.stack; openings_left = openings_left } in
+        let n = settled_count total s.stack s.done f st in
+        let m = open_count s.stack s.at t s.done in
+        let few = c.requires.row.ready.few in
+        let len = count_nodes f.nodes in
+        let old = count_nodes c.args.self.now.nodes in
+        let same = ap (λ v. v.rows.len) c.settle.ensures.nodes in
+        let k : NodeKind = kind.Element tag.element in
+        let x : OpenElement = record { row = c.len-row.result; name = tag.name; name_start = tag.name_start; name_end = tag.name_end; scope = tag.element.scope; namespace = tag.element.namespace; source = c.from_place-source.result } in
+        let place : c.len-row.result ≡ length (node_rows f.nodes) = omega (arith, c.len-row.ensures.nodes) in
+        let view : opened (lists_in f.tables) x ≡ record { row = x.row; name = t.name; name_start = s.at + 1; name_end = t.name_end; scope = listed (scope_of s.stack) t.declarations } =
+        rw (op.name, op.name_start, op.name_end, op.scope) refl in
+        let rows : node_rows c.put.new.self ≡ (node_rows f.nodes) ++ row_open f.tables 0 f.opened.items s.at k ∷ [] =
+        rw here (c.put.ensures.rows ∙ ap (λ (r : NodeData). (node_rows f.nodes) ++ record r { subtree_end = 0 } ∷ []) c.row_below-opening.ensures) in (
+          next,
+          counted_ok c.args.self.now.nodes_limit next (omega arith),
+          open_shows total s.stack s.done f _ s.at k t x st op.node.is op.node.within place view rows refl c.push_reserved.ensures.items refl,
+        );
+    kept = record { tables = c.settle.ensures.kept.tables; limit = c.settle.ensures.kept.limit; openings_left = c.settle.ensures.kept.openings_left };
+    opened =
+        let tag = c.args.tag.now in
+        let x : OpenElement = record { row = c.len-row.result; name = tag.name; name_start = tag.name_start; name_end = tag.name_end; scope = tag.element.scope; namespace = tag.element.namespace; source = c.from_place-source.result } in (
+          x,
+          c.push_reserved.ensures.items ∙ ap (λ v. v.items ++ x ∷ []) c.settle.ensures.kept.opened,
+          record { name = refl; name_start = refl; name_end = refl; scope = refl; namespace = refl; source = c.from_place-source.ensures },
+        );
+  };
+  ready = first_of (search rules, grind (arith, common_steps));
 }
 
 pub row_below-opening-requires-clause-parent : goal.row_below-opening-requires-clause-parent

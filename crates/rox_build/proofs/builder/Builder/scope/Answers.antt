@@ -16,40 +16,39 @@ all_last : {X : Type 0} (P : X → Type 0) (xs : List X) (x : X) → AllByRecurs
 all_last P [] x h = h.0
 all_last P (y ∷ ys) x h = all_last P ys x h.1
 
-pub returns-in-Some-clause-value : goal.returns-in-Some-clause-value
-returns-in-Some-clause-value c = λ fine end o done sh.
-    let b = c.args.self.now in
-    let k = c.in-Some.ensures.item in
-    let os = c.deref.result.now in
-    let x = c.in-Some.element.now in
-    let outer = take (length os - 1) os in
-    let split : b.opened.items ≡ outer ++ x ∷ [] = sym c.deref.ensures.value ∙ last_split os x k.3.0 (k.3.1 x) in
-    top_scope b.tables o outer x (sym (ap (opened_in b.tables) split) ∙ sh.open_rows)
+pub returns-in-Some : goal.returns-in-Some
+returns-in-Some c = record {
+  value = λ fine end o done sh.
+      let b = c.args.self.now in
+      let k = c.in-Some.ensures.item in
+      let os = c.deref.result.now in
+      let x = c.in-Some.element.now in
+      let outer = take (length os - 1) os in
+      let split : b.opened.items ≡ outer ++ x ∷ [] = sym c.deref.ensures.value ∙ last_split os x k.3.0 (k.3.1 x) in
+      top_scope b.tables o outer x (sym (ap (opened_in b.tables) split) ∙ sh.open_rows);
+  within = λ fine.
+      let b = c.args.self.now in
+      let k = c.in-Some.ensures.item in
+      let os = c.deref.result.now in
+      let x = c.in-Some.element.now in
+      let split : b.opened.items ≡ take (length os - 1) os ++ x ∷ [] = sym c.deref.ensures.value ∙ last_split os x k.3.0 (k.3.1 x) in
+      (all_last (IsOpenWithin b.tables) (take (length os - 1) os) x (subst (AllByRecursion (IsOpenWithin b.tables)) split fine.elements)).0;
+  once = λ fine.
+      let b = c.args.self.now in
+      let k = c.in-Some.ensures.item in
+      let os = c.deref.result.now in
+      let x = c.in-Some.element.now in
+      let split : b.opened.items ≡ take (length os - 1) os ++ x ∷ [] = sym c.deref.ensures.value ∙ last_split os x k.3.0 (k.3.1 x) in
+      (all_last (IsOpenWithin b.tables) (take (length os - 1) os) x (subst (AllByRecursion (IsOpenWithin b.tables)) split fine.elements)).1;
+}
 
-pub returns-in-None-clause-value : goal.returns-in-None-clause-value
-returns-in-None-clause-value c = λ fine end o done sh.
-    let b = c.args.self.now in
-    let os = c.deref.result.now in
-    let e : b.opened.items ≡ [] = sym c.deref.ensures.value ∙ nothing_last os (sym c.in-None.ensures.value) in
-    fine.empty.none ∙ no_scope b.tables o (sym (ap (opened_in b.tables) e) ∙ sh.open_rows)
-
-pub returns-in-Some-clause-within : goal.returns-in-Some-clause-within
-returns-in-Some-clause-within c = λ fine.
-    let b = c.args.self.now in
-    let k = c.in-Some.ensures.item in
-    let os = c.deref.result.now in
-    let x = c.in-Some.element.now in
-    let split : b.opened.items ≡ take (length os - 1) os ++ x ∷ [] = sym c.deref.ensures.value ∙ last_split os x k.3.0 (k.3.1 x) in
-    (all_last (IsOpenWithin b.tables) (take (length os - 1) os) x (subst (AllByRecursion (IsOpenWithin b.tables)) split fine.elements)).0
-
-pub returns-in-Some-clause-once : goal.returns-in-Some-clause-once
-returns-in-Some-clause-once c = λ fine.
-    let b = c.args.self.now in
-    let k = c.in-Some.ensures.item in
-    let os = c.deref.result.now in
-    let x = c.in-Some.element.now in
-    let split : b.opened.items ≡ take (length os - 1) os ++ x ∷ [] = sym c.deref.ensures.value ∙ last_split os x k.3.0 (k.3.1 x) in
-    (all_last (IsOpenWithin b.tables) (take (length os - 1) os) x (subst (AllByRecursion (IsOpenWithin b.tables)) split fine.elements)).1
-
-pub returns-in-None-clause-once : goal.returns-in-None-clause-once
-returns-in-None-clause-once c = λ fine. subst PrefixesOnce (sym fine.empty.none) tt
+pub returns-in-None : goal.returns-in-None
+returns-in-None c = record {
+  value = λ fine end o done sh.
+      let b = c.args.self.now in
+      let os = c.deref.result.now in
+      let e : b.opened.items ≡ [] = sym c.deref.ensures.value ∙ nothing_last os (sym c.in-None.ensures.value) in
+      fine.empty.none ∙ no_scope b.tables o (sym (ap (opened_in b.tables) e) ∙ sh.open_rows);
+  within = λ fine. fine.empty.there;
+  once = λ fine. subst PrefixesOnce (sym fine.empty.none) tt;
+}

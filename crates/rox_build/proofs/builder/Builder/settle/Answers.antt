@@ -2,5 +2,10 @@ use Rattle.std.proofs.Common.{refl}
 use Rattle.rox_build.proofs.Showing.{settled}
 use Rattle.rox_build.proofs.builder.Builder.settle.Goals as goal
 
-pub returns-clause-ok : goal.returns-clause-ok
-returns-clause-ok c = λ end stack done sh. settled end stack done c.args.self.now _ sh c.requires refl refl refl refl
+pub returns : goal.returns
+returns c = record {
+  ok = λ end stack done sh. settled end stack done c.args.self.now _ sh c.requires refl refl refl refl;
+  nodes = refl;
+  kept = record { opened = refl; tables = refl; limit = refl; openings_left = refl };
+  empty = refl;
+}

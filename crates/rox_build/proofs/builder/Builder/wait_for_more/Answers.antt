@@ -6,12 +6,16 @@ use Rattle.rox_build.proofs.Showing.{waiting_first, first_count, counted_ok}
 use Rattle.rox_tables.proofs.StoredNodes.{count_nodes}
 use Rattle.rox_build.proofs.builder.Builder.wait_for_more.Goals as goal
 
-pub returns-clause-value : goal.returns-clause-value
-returns-clause-value c = λ yes total at s sh.
-    let b = c.args.self.now in
-    let v : List ℕ = c.args.slice.now in
-    let t : State = record { at = at; done = join s.done (leaf (Text c.args.start c.args.end v true)); stack = s.stack; openings_left = s.openings_left } in
-    let n = first_count total s.stack s.done b c.args.start c.args.end v true sh c.requires in
-    let len = count_nodes b.nodes in
-    let bytes = c.in_ok-push_str.ensures.bytes ∙ ap (λ (x : List ℕ). x ++ v) c.clear.ensures.bytes in
-    (t, counted_ok b.nodes_limit t (omega arith), waiting_first total s.stack s.done b _ c.args.start c.args.end v (Some c.args.slice) sh c.requires refl refl refl refl refl refl bytes refl refl)
+pub returns : goal.returns
+returns c = record {
+  value = λ yes total at s sh.
+      let b = c.args.self.now in
+      let v : List ℕ = c.args.slice.now in
+      let t : State = record { at = at; done = join s.done (leaf (Text c.args.start c.args.end v true)); stack = s.stack; openings_left = s.openings_left } in
+      let n = first_count total s.stack s.done b c.args.start c.args.end v true sh c.requires in
+      let len = count_nodes b.nodes in
+      let bytes = c.in_ok-push_str.ensures.bytes ∙ ap (λ (x : List ℕ). x ++ v) c.clear.ensures.bytes in
+      (t, counted_ok b.nodes_limit t (omega arith), waiting_first total s.stack s.done b _ c.args.start c.args.end v (Some c.args.slice) sh c.requires refl refl refl refl refl refl bytes refl refl);
+  other = λ no. absurd (cc no);
+  kept = record { opened = refl; tables = refl; limit = refl; openings_left = refl };
+}

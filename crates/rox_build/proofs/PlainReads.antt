@@ -1,0 +1,41 @@
+-- What a look answers that reads nothing.
+use Rattle.std.proofs.Common.{◌≡◌, ℕ, true, false, List, Result, refl}
+use Rattle.rox_reading.specs.Machine as machine
+use Rattle.rox_reading.specs.Refusals.{Refusal}
+use Rattle.rox_reading.specs.State.{State}
+use Rattle.rox_scan.specs.declared.cursor.Cursor.{Cursor}
+use Rattle.rox_build.specs.BuilderState.{IsConsistent, KeepsState}
+use Rattle.rox_build.specs.PlainOutcomes.{ReadsIf, ReadsRun, ReadsStep}
+use Rattle.rox_build.specs.declared.builder.Builder.{Builder}
+
+pub keeps_all : (b : Builder) → KeepsState b b
+keeps_all b = record { nodes = refl; opened = refl; pending = refl; joined = refl; limit = refl; openings_left = refl; others = refl; attributes = refl }
+
+pub reads_not : (such : machine.Context → Type 0) (read : machine.Context → List ℕ → State → Result State Refusal) (c : Cursor) (b : Builder) → IsConsistent b.tables b.opened.items → ReadsIf such read c c b b false
+reads_not such read c b fine = record {
+  value = λ yes. absurd (cc yes);
+  other = λ _. (refl, refl);
+  ready = λ yes. absurd (cc yes);
+  goes = record { source = refl; fine = fine };
+}
+
+pub runs_not : (c : Cursor) (b : Builder) → IsConsistent b.tables b.opened.items → ReadsRun c c b b false
+runs_not c b fine = record {
+  reads = reads_not _ _ c b fine;
+  tables = refl;
+  opened = refl;
+  behind = λ yes. absurd (cc yes);
+}
+
+pub steps_not : (such : machine.Context → Type 0) (c : Cursor) (b u : Builder) → KeepsState b u → IsConsistent u.tables u.opened.items → ReadsStep such c c b u false
+steps_not such c b u kept fine = record {
+  value = λ yes. absurd (cc yes);
+  other = λ _. (refl, kept);
+  goes = record { source = refl; fine = fine };
+}
+
+pub fine_same : (b u : Builder) → IsConsistent b.tables b.opened.items → u.tables ≡ b.tables → u.opened ≡ b.opened → IsConsistent u.tables u.opened.items
+fine_same b u fine tables opens = rw (tables, opens) fine
+
+pub keeps_same : (b u : Builder) → u ≡ b → KeepsState b u
+keeps_same b u same = rw same (keeps_all b)

@@ -1,0 +1,119 @@
+-- What the parts of a plain tag need, and what is read of them.
+use Rattle.std.specs.Prelude.{◌≡◌, ℕ, ◌+◌, ◌<◌, ◌≤◌, ◌^◌, true, false, List, [], Option, Ok, IfSome, IfNone, length, map, slice_index}
+use Rattle.std.specs.Str.{IsCharBoundary}
+use Rattle.rox_grammar.specs.Chars.{is_part_char, is_space}
+use Rattle.rox_grammar.specs.Failures.{name_view}
+use Rattle.rox_grammar.specs.Runs.{run_end}
+use Rattle.rox_grammar.specs.Tree as tree
+use Rattle.rox_grammar.specs.WellNamed.{is_known, may_name}
+use Rattle.rox_grammar.specs.Written.{Name, NamespaceDecl}
+use Rattle.rox_reading.specs.Lexical.{qname_at}
+use Rattle.rox_scan.specs.ScanResults.{Finds}
+use Rattle.rox_scan.specs.Windows.{Sees}
+use Rattle.rox_scan.specs.declared.window.Window.{Window}
+use Rattle.rox_tables.specs.Bindings.{FindsBinding}
+use Rattle.rox_tables.specs.Rows.{NamespaceWithin, attribute_uri, namespace_view}
+use Rattle.rox_tables.specs.declared.namespaces.seen_names.SeenNames.{SeenNames}
+use Rattle.rox_tables.specs.declared.rows.tables.AttributeNamespace.{AttributeNamespace}
+use Rattle.rox_tables.specs.declared.rows.tables.ElementTables.{ElementTables}
+use Rattle.rox_build.specs.BuilderState.{IsNamespaceOf}
+use Rattle.rox_build.specs.ElementRow.{scope_in_tables}
+use Rattle.rox_build.specs.PlainTag.{BeginsValue, EndsNear, HasPlainValue, HasScope, IsAttributeName, IsFirstPart, MayOpenAt, MayOpenBelow, MayPut, PutsPlain, few_in}
+use Rattle.rox_build.specs.declared.builder.OpenElement.{OpenElement}
+use Rattle.rox_build.specs.declared.plain_tag.NamedAttribute.{NamedAttribute}
+use Rattle.rox_build.specs.declared.plain_tag.NextItem.{NextItem}
+use Rattle.rox_build.specs.declared.plain_tag.PlainName.{PlainName}
+use Rattle.rox_build.specs.declared.plain_tag.TagEnd.{TagEnd}
+use Rattle.rox_build.specs.declared.plain_tag.TagPlace.{TagPlace}
+
+-- a name begins here, whose first part ends at this place, before this byte
+pub record EndsFirstPart (src : List ℕ) (i j b : ℕ) : Type 0 where
+  pub first : IsFirstPart src i j
+  pub here : slice_index src j ≡ b
+
+-- a name of one part was read, which ends at this place
+pub record IsWholeName (src : List ℕ) (i j : ℕ) (n : PlainName) : Type 0 where
+  pub value : qname_at src i ≡ Ok (name_view n.name, n.end)
+  pub local : i + length n.name.local.now ≤ n.end
+  pub end : n.end ≡ j
+
+-- a value may begin so many bytes behind those that are seen
+pub record SeesStart (src : List ℕ) (w : Window) (before q : ℕ) : Type 0 where
+  pub sees : Sees src w
+  pub few : before ≤ 16
+  pub begins : BeginsValue src (w.at + before) q
+
+-- the attribute whose name and value were read may be put behind those that were seen
+pub record MayPutNamed (src : List ℕ) (a : NamedAttribute) (t : ElementTables) (n : ℕ) (s : SeenNames) : Type 0 where
+  pub put : MayPut src a.start t n s
+  pub named : IsAttributeName src a.start a.name
+  pub value : HasPlainValue src (a.name.end + 2) (slice_index src (a.name.end + 1)) a.value.end a.value.text.now
+
+-- the place by itself, which is 0 where there is none
+pub record IsSomePlace (i : ℕ) (result : Option ℕ) : Type 0 where
+  pub some : IfSome result (λ j. (j ≡ i) × (0 < j))
+  pub none : IfNone result (i ≡ 0)
+
+-- the attribute from i was put up to the place that is answered, or none
+pub record PutsSome (old new : ElementTables) (n : ℕ) (s after : SeenNames) (src : List ℕ) (i : ℕ) (result : Option ℕ) : Type 0 where
+  pub put : IfSome result (λ j. PutsPlain old new n s after src i j)
+  pub place : IfSome result (λ j. 0 < j)
+  pub none : IfNone result (PutsPlain old new n s after src i 0)
+
+-- the namespace of an attribute of this name in this scope, if its prefix is known
+pub record FindsAttributeNamespace (t : ElementTables) (n : ℕ) (name : Name) (result : Option AttributeNamespace) : Type 0 where
+  pub within : IfSome result (λ s. NamespaceWithin (length t.namespaces.items.items) s)
+  pub there : (ds : List NamespaceDecl) → FindsBinding (map namespace_view t.namespaces.items.items) (few_in t n) t.present ds
+      → IfSome result (λ s. attribute_uri (map namespace_view t.namespaces.items.items) s ≡ tree.attribute_namespace ds name)
+  pub known : (ds : List NamespaceDecl) → FindsBinding (map namespace_view t.namespaces.items.items) (few_in t n) t.present ds → IfSome result (λ _. is_known ds name ≡ true)
+
+-- the same of an element
+pub record FindsElementNamespace (t : ElementTables) (n : ℕ) (name : Name) (result : Option (Option ℕ)) : Type 0 where
+  pub is : IfSome result (λ s. IsNamespaceOf t n name s)
+  pub known : IfSome result (λ _. may_name (scope_in_tables t n) name ≡ true)
+
+-- a name that stands at i may be resolved in this scope
+pub record MayNameIn (t : ElementTables) (n i : ℕ) : Type 0 where
+  pub scope : HasScope t n
+  pub small : i < 2 ^ 63
+
+-- the same below this open element
+pub record MayNameBelow (t : ElementTables) (o : OpenElement) (i : ℕ) : Type 0 where
+  pub scope : HasScope t o.scope
+  pub parent : IsNamespaceOf t o.scope (name_view o.name) o.namespace
+  pub small : i < 2 ^ 63
+
+-- a tag of a name alone stands here, whose name ends at this place
+pub record MayReadBareTag (src : List ℕ) (i j : ℕ) (t : ElementTables) (o : OpenElement) : Type 0 where
+  pub here : slice_index src i ≡ 60
+  pub near : EndsNear src (i + 1) j
+  pub closed : slice_index src j ≡ 62
+  pub below : MayOpenBelow t o
+
+-- a start tag may stand here, of a name of ASCII bytes without prefix, below an element of such a name
+pub record MayReadNearTag (src : List ℕ) (p : TagPlace) (t : ElementTables) (o : OpenElement) : Type 0 where
+  pub here : MayOpenAt src p.start t o
+  pub near : EndsNear src (p.start + 1) p.part
+  pub bare : o.name.prefix.now ≡ []
+
+-- the same of a name whose first part ends there
+pub record MayReadPlainTag (src : List ℕ) (p : TagPlace) (t : ElementTables) (o : OpenElement) : Type 0 where
+  pub here : MayOpenAt src p.start t o
+  pub part : Finds src (p.start + 1) p.part (run_end is_part_char src (p.start + 1))
+
+-- `/>` stands here, if an end is answered
+pub record EndsEmpty (src : List ℕ) (i : ℕ) (result : Option TagEnd) : Type 0 where
+  pub here : IfSome result (λ e. slice_index src (i + 1) ≡ 62)
+  pub place : IfSome result (λ e. (e.at ≡ i + 2) × (e.empty ≡ true))
+  pub cut : IfSome result (λ e. IsCharBoundary src e.at)
+
+-- the same, or `>`
+pub record EndsTag (src : List ℕ) (i : ℕ) (result : Option TagEnd) : Type 0 where
+  pub opens : IfSome result (λ e. e.empty ≡ false → (slice_index src i ≡ 62) × (e.at ≡ i + 1))
+  pub closes : IfSome result (λ e. e.empty ≡ true → (slice_index src i ≡ 47) × ((slice_index src (i + 1) ≡ 62) × (e.at ≡ i + 2)))
+  pub cut : IfSome result (λ e. IsCharBoundary src e.at)
+
+-- what stands behind the white space at i
+pub record IsNextItem (src : List ℕ) (i : ℕ) (x : NextItem) : Type 0 where
+  pub end : Finds src i x.at (run_end is_space src i)
+  pub begins : x.may_begin ≡ true → (i < x.at) × (62 < slice_index src x.at)

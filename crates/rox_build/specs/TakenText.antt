@@ -1,0 +1,14 @@
+-- A text whose row is taken back, as another joins it.
+use Rattle.std.specs.Prelude.{◌≡◌, ℕ, ◌+◌, ◌++◌, ◌∷◌, [], List, OnOk, IfOk, IfErr, Result, vec_len}
+use Rattle.std.specs.declared.alloc.AllocError.{AllocError}
+use Rattle.rox_tables.specs.Rows.{node_rows}
+use Rattle.rox_tables.specs.declared.rows.node_table.NodeTable.{NodeTable}
+use Rattle.rox_tables.specs.declared.rows.tables.NodeData.{NodeData}
+use Rattle.rox_build.specs.PendingText.{text_of}
+use Rattle.rox_build.specs.declared.builder.TextRange.{TextRange}
+
+-- the last row, of a text, was taken back: its text, and this one behind it, is what was joined
+pub record TakesLast (old new : NodeTable) (joined text : List ℕ) (result : Result TextRange AllocError) : Type 0 where
+  pub taken : IfOk result (λ r. (last : NodeData) × (node_rows old ≡ node_rows new ++ last ∷ []) × (r ≡ record { start = last.start; end = last.end }) × (joined ≡ text_of last.kind ++ text))
+  pub count : OnOk result (vec_len old.rows ≡ vec_len new.rows + 1)
+  pub same : IfErr result (λ e. new ≡ old)
