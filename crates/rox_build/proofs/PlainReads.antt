@@ -1,5 +1,5 @@
 -- What a look answers that reads nothing.
-use Rattle.std.proofs.Common.{◌≡◌, ℕ, true, false, List, Result, refl}
+use Rattle.std.proofs.Common.{◌≡◌, ℕ, false, List, Result, refl}
 use Rattle.rox_reading.specs.Machine as machine
 use Rattle.rox_reading.specs.Refusals.{Refusal}
 use Rattle.rox_reading.specs.State.{State}

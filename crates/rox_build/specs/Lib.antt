@@ -17,4 +17,5 @@ pub mod PlainParts
 pub mod Asking
 pub mod Built
 pub mod WholeTexts
+pub mod TextParts
 pub mod SpacedBytes

@@ -8,6 +8,7 @@ use Rattle.rox_grammar.specs.Tree as tree
 use Rattle.rox_grammar.specs.WellNamed.{is_known, may_name}
 use Rattle.rox_grammar.specs.Written.{Name, NamespaceDecl}
 use Rattle.rox_reading.specs.Lexical.{qname_at}
+use Rattle.rox_scan.specs.ByteSets.{EndsSet, is_part_byte}
 use Rattle.rox_scan.specs.ScanResults.{Finds}
 use Rattle.rox_scan.specs.Windows.{Sees}
 use Rattle.rox_scan.specs.declared.window.Window.{Window}
@@ -18,7 +19,7 @@ use Rattle.rox_tables.specs.declared.rows.tables.AttributeNamespace.{AttributeNa
 use Rattle.rox_tables.specs.declared.rows.tables.ElementTables.{ElementTables}
 use Rattle.rox_build.specs.BuilderState.{IsNamespaceOf}
 use Rattle.rox_build.specs.ElementRow.{scope_in_tables}
-use Rattle.rox_build.specs.PlainTag.{BeginsValue, EndsNear, HasPlainValue, HasScope, IsAttributeName, IsFirstPart, MayOpenAt, MayOpenBelow, MayPut, PutsPlain, few_in}
+use Rattle.rox_build.specs.PlainTag.{BeginsValue, EndsNear, HasPlainValue, HasScope, IsAttributeName, IsFirstPart, MayOpenAt, MayOpenBelow, MayPut, PutsPlain, SeesValue, few_in}
 use Rattle.rox_build.specs.declared.builder.OpenElement.{OpenElement}
 use Rattle.rox_build.specs.declared.plain_tag.NamedAttribute.{NamedAttribute}
 use Rattle.rox_build.specs.declared.plain_tag.NextItem.{NextItem}
@@ -31,6 +32,16 @@ pub record EndsFirstPart (src : List ℕ) (i j b : ℕ) : Type 0 where
   pub first : IsFirstPart src i j
   pub here : slice_index src j ≡ b
 
+-- a name may begin here, whose first part ends at this place
+pub record EndsPart (src : List ℕ) (i j : ℕ) : Type 0 where
+  pub start : IsCharBoundary src i
+  pub part : Finds src i j (run_end is_part_char src i)
+
+-- the same of one whose part is of ASCII bytes
+pub record EndsNearPart (src : List ℕ) (i j : ℕ) : Type 0 where
+  pub start : IsCharBoundary src i
+  pub near : EndsNear src i j
+
 -- a name of one part was read, which ends at this place
 pub record IsWholeName (src : List ℕ) (i j : ℕ) (n : PlainName) : Type 0 where
   pub value : qname_at src i ≡ Ok (name_view n.name, n.end)
@@ -42,6 +53,16 @@ pub record SeesStart (src : List ℕ) (w : Window) (before q : ℕ) : Type 0 whe
   pub sees : Sees src w
   pub few : before ≤ 16
   pub begins : BeginsValue src (w.at + before) q
+
+-- a value may begin at i, behind this quote, of whose bytes up to j, before the end, each stands for itself
+pub record SeesEnd (src : List ℕ) (i q j : ℕ) : Type 0 where
+  pub sees : SeesValue src i q j
+  pub within : j < length src
+
+-- an attribute may be put, whose first bytes that may be of a name end at j
+pub record MayPutPart (src : List ℕ) (i j : ℕ) (t : ElementTables) (n : ℕ) (s : SeenNames) : Type 0 where
+  pub put : MayPut src i t n s
+  pub part : EndsSet is_part_byte src i j
 
 -- the attribute whose name and value were read may be put behind those that were seen
 pub record MayPutNamed (src : List ℕ) (a : NamedAttribute) (t : ElementTables) (n : ℕ) (s : SeenNames) : Type 0 where

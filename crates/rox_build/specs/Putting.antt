@@ -1,5 +1,5 @@
 -- What the calls of the builder need, and what they make of it.
-use Rattle.std.specs.Prelude.{◌≡◌, ℕ, ◌+◌, ◌-◌, ◌++◌, ◌∷◌, [], ◌<◌, ◌≤◌, ◌^◌, true, false, Bool, List, OnOk, IfOk, IfErr, Result, Ok, length, take, vec_len, vec_capacity}
+use Rattle.std.specs.Prelude.{◌≡◌, ℕ, ◌+◌, ◌-◌, ◌∷◌, [], ◌<◌, ◌≤◌, ◌^◌, true, false, Bool, List, OnOk, IfOk, IfErr, Result, Ok, length, take, vec_len, vec_capacity}
 use Rattle.std.specs.declared.alloc.AllocError.{AllocError}
 use Rattle.rox_grammar.specs.Forest.{Forest, Nil, Cons, join}
 use Rattle.rox_grammar.specs.State.{Open, inside, root, scope_of}

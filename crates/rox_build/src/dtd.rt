@@ -1,20 +1,17 @@
 //! Document type declarations (XML 1.0 section 2.8): their entities, and the comments and processing instructions of their
 //! internal subsets, which are children of the root node. A resolver is asked for each external entity, at its declaration.
 
-ghost use Rattle.std.specs.Prelude.{◌≡◌, ◌<◌, ◌++◌, ℕ, suc, Bool, List, OnOk, length, slice_index, true};
+ghost use Rattle.std.specs.Prelude.{◌≡◌, length, true};
 ghost use Rattle.rox_grammar.specs.Search.{stands};
 ghost use Rattle.rox_grammar.specs.FixedTexts.{word_text};
 ghost use Rattle.rox_grammar.specs.declared.fault.Word.TheVariants as word;
 ghost use Rattle.rox_reading.specs.Doctype as reading;
-ghost use Rattle.rox_reading.specs.Doctype.{Asks, Dtd};
-ghost use Rattle.rox_reading.specs.Answering.{left_with};
-ghost use Rattle.rox_build.specs.Requests.{Reply, Allows, MayAsk};
+ghost use Rattle.rox_build.specs.Requests.{Allows, MayAsk};
 ghost use Rattle.rox_scan.specs.DoctypeViews.{definition_view, request_view};
-ghost use Rattle.rox_build.specs.Asking.{AskOutcome, IsDefined, IsEntityRead, IsSubsetSoFar, IsDoctypeRead, ItemOutcome};
-ghost use Rattle.rox_values.specs.DeclaredEntities.{AreDeclared};
-ghost use Rattle.rox_build.specs.BuilderState.{GoesOn, IsInState};
+ghost use Rattle.rox_build.specs.Asking.{AskOutcome, IsDefined};
 ghost use Rattle.rox_build.specs.Outcomes.{MayStep};
 ghost use Rattle.rox_build.specs.Readiness.{MayRead, MayReadAsking};
+ghost use Rattle.rox_build.specs.TextParts.{ReadsDeclaration, ReadsEntity, ReadsItem};
 
 use crate::builder::Builder;
 use crate::constructs::{comment, instruction};
@@ -74,13 +71,8 @@ fn entity<'input, R: EntityResolver<'input>>(
 ) -> Result<(), ParseError<'input>>
     requires here { stands (word_text word.EntityStart) cursor.old.text.now cursor.old.pos ≡ true }
     requires may { MayAsk R.can_resolve resolver.now }
-    ensures value { (d : Dtd) → cursor.old.pos ≡ d.state.at → AreDeclared d.entities entities.old
-        → AskOutcome (Allows R.allows resolver.now)
-        (λ replies. reading.entity_step cursor.old.text.now (left_with replies d))
-        (λ asked x. IsEntityRead
-        (λ replies. reading.entity_step cursor.old.text.now (left_with replies d)) d cursor.new
-        entities.new asked) result }
-    ensures source { cursor.new.text ≡ cursor.old.text }
+    ensures { ReadsEntity (Allows R.allows resolver.now) cursor.old cursor.new entities.old
+        entities.new result }
 {
     let head = cursor.entity_head()?;
     let definition = cursor.definition(head.parameter)?;
@@ -105,12 +97,8 @@ fn item<'input, R: EntityResolver<'input>>(
 ) -> Result<bool, ParseError<'input>>
     requires here { MayStep cursor.old builder.old }
     requires may { MayAsk R.can_resolve resolver.now }
-    ensures value { (limit end n m : ℕ) (run : List Reply → Asks Dtd) → n ≡ suc m
-        → IsSubsetSoFar limit end start n cursor.old.text.now
-        (Allows R.allows resolver.now) run cursor.old builder.old entities.old
-        → ItemOutcome limit end start m cursor.old.text.now
-        (Allows R.allows resolver.now) run cursor.new builder.new entities.new result }
-    ensures goes { OnOk result (GoesOn cursor.old cursor.new builder.new) }
+    ensures { ReadsItem (Allows R.allows resolver.now) start cursor.old cursor.new builder.old
+        builder.new entities.old entities.new result }
 {
     cursor.spaces();
     if cursor.starts(Word::EntityStart) {
@@ -147,15 +135,9 @@ fn subset<'input, R: EntityResolver<'input>>(
     start: usize,
 ) -> Result<(), ParseError<'input>>
     requires { MayReadAsking R.can_resolve resolver.now builder.old }
-    ensures value { (limit end : ℕ) (d : Dtd) → IsInState limit end d.state cursor.old builder.old
-        → AreDeclared d.entities entities.old
-        → AskOutcome (Allows R.allows resolver.now)
-        (λ replies. reading.subset limit start (length cursor.old.text.now) cursor.old.text.now
-        (left_with replies d))
-        (λ asked x. IsDoctypeRead limit end
-        (λ replies. reading.subset limit start (length cursor.old.text.now) cursor.old.text.now
-        (left_with replies d)) cursor.new builder.new entities.new asked) result }
-    ensures goes { OnOk result (GoesOn cursor.old cursor.new builder.new) }
+    ensures { ReadsDeclaration (Allows R.allows resolver.now)
+        (λ limit. reading.subset limit start (length cursor.old.text.now) cursor.old.text.now)
+        cursor.old cursor.new builder.old builder.new entities.old entities.new result }
 {
     for _turn in 0..cursor.text.len() {
         if cursor.is_at_end() {
@@ -178,14 +160,9 @@ pub fn document_type<'input, R: EntityResolver<'input>>(
 ) -> Result<(), ParseError<'input>>
     requires start { MayRead word.DoctypeStart cursor.old builder.old }
     requires may { MayAsk R.can_resolve resolver.now }
-    ensures value { (limit end : ℕ) (d : Dtd) → IsInState limit end d.state cursor.old builder.old
-        → AreDeclared d.entities entities.old
-        → AskOutcome (Allows R.allows resolver.now)
-        (λ replies. reading.doctype_step limit cursor.old.text.now (left_with replies d))
-        (λ asked x. IsDoctypeRead limit end
-        (λ replies. reading.doctype_step limit cursor.old.text.now (left_with replies d)) cursor.new
-        builder.new entities.new asked) result }
-    ensures goes { OnOk result (GoesOn cursor.old cursor.new builder.new) }
+    ensures { ReadsDeclaration (Allows R.allows resolver.now)
+        (λ limit. reading.doctype_step limit cursor.old.text.now)
+        cursor.old cursor.new builder.old builder.new entities.old entities.new result }
 {
     let start = cursor.pos;
     cursor.doctype_head()?;

@@ -22,7 +22,7 @@ ghost use Rattle.std.specs.List.{AllByRecursion};
 ghost use Rattle.rox_tables.specs.SeenNames.{AreSeen};
 ghost use Rattle.rox_build.specs.ElementRow.{scope_in_tables};
 ghost use Rattle.rox_build.specs.BuilderState.{IsNamespaceOf};
-ghost use Rattle.rox_build.specs.PlainParts.{EndsEmpty, EndsFirstPart, EndsTag, FindsAttributeNamespace, FindsElementNamespace, IsNextItem, IsSomePlace, IsWholeName, MayNameBelow, MayNameIn, MayPutNamed, MayReadBareTag, MayReadNearTag, MayReadPlainTag, PutsSome, SeesStart};
+ghost use Rattle.rox_build.specs.PlainParts.{EndsEmpty, EndsFirstPart, EndsNearPart, EndsPart, EndsTag, FindsAttributeNamespace, FindsElementNamespace, IsNextItem, IsSomePlace, IsWholeName, MayNameBelow, MayNameIn, MayPutNamed, MayPutPart, MayReadBareTag, MayReadNearTag, MayReadPlainTag, PutsSome, SeesEnd, SeesStart};
 ghost use Rattle.rox_build.specs.PlainTag.{BeginsValue, EndsNear, HasPlainValue, HasQuoteBefore, HasScope, HoldsTag, IsAttributeName, IsBareTag, IsBeforeLast, IsFirstPart, IsNearAttribute, IsPlainAttribute, IsPlainName, IsQuoteAt, IsQuoteBehindEquals, IsValueStart, MayOpenAt, MayOpenBelow, MayPut, MayReadAttributes, PutsPlain, ReadsAttributes, ReadsTag, SeesValue, few_in};
 
 use crate::builder::OpenElement;
@@ -65,8 +65,7 @@ pub struct PlainName<'input> {
 #[inline(always)]
 #[tactic(auto, unfolding(rox_reading::specs::Lexical::qname_at))]
 fn plain_name<'input>(text: &'input str, start: usize, colon: usize) -> Option<PlainName<'input>>
-    requires start { IsCharBoundary text.now start }
-    requires part { Finds text.now start colon (run_end is_part_char text.now start) }
+    requires { EndsPart text.now start colon }
     ensures { IfSome result (λ n. IsPlainName text.entry.now start n) }
 {
     if !begins::<NameStart>(text, start) {
@@ -142,8 +141,7 @@ fn plain_value_end(text: &str, start: usize, quote: u8, near: usize) -> Option<u
 #[inline(always)]
 #[tactic(auto, using(rox_scan::proofs::NearLemmas::near_plain, rox_scan::proofs::NearLemmas::value_cut))]
 fn closes_value(text: &str, start: usize, quote: u8, near: usize) -> bool
-    requires sees { SeesValue text.now start quote near }
-    requires within { near < length text.now }
+    requires { SeesEnd text.now start quote near }
     ensures { result ≡ true → HasPlainValue text.now start quote near
         (slice_range text.now start near) }
 {
@@ -292,8 +290,7 @@ fn put_spaced_attribute<'input>(
     scope: u32,
     seen: &mut SeenNames,
 ) -> usize
-    requires cut { IsCharBoundary text.now start }
-    requires holds { HoldsTag elements.old scope seen.old }
+    requires { MayPut text.now start elements.old scope seen.old }
     ensures { PutsPlain elements.old elements.new scope seen.old seen.new text.entry.now
         start result }
 {
@@ -567,8 +564,7 @@ fn put_prefixed_attribute<'input>(
     scope: u32,
     seen: &mut SeenNames,
 ) -> usize
-    requires put { MayPut text.now start elements.old scope seen.old }
-    requires part { EndsSet is_part_byte text.now start part }
+    requires { MayPutPart text.now start part elements.old scope seen.old }
     ensures { PutsPlain elements.old elements.new scope seen.old seen.new text.entry.now
         start result }
 {
@@ -800,8 +796,7 @@ pub struct PlainTag<'input> {
 /// begins with no digit or sign, as the byte there shows.
 #[inline(always)]
 fn near_name<'input>(text: &'input str, start: usize, near: usize) -> &'input str
-    requires start { IsCharBoundary text.now start }
-    requires near { EndsNear text.now start near }
+    requires { EndsNearPart text.now start near }
     ensures { qname_at text.entry.now start
         ≡ Ok (record { prefix = []; local = result.now }, near) }
 {

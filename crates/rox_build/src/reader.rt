@@ -1,24 +1,17 @@
 //! Reading of a text from its start to its end (XML 1.0 sections 2.1, 2.8).
 
-ghost use Rattle.std.specs.Prelude.{◌≡◌, ◌∷◌, [], ℕ, List, OnOk, IfOk, IfErr, length};
-ghost use Rattle.rox_reading.specs.State.{State};
-ghost use Rattle.rox_grammar.specs.TextStart.{after_bom};
-ghost use Rattle.rox_grammar.specs.State.{root};
-ghost use Rattle.rox_grammar.specs.Entities.{Entity};
+ghost use Rattle.std.specs.Prelude.{◌≡◌, ◌∷◌, [], IfOk, IfErr, length};
 ghost use Rattle.rox_reading.specs.Refusals.{lifted};
 ghost use Rattle.rox_reading.specs.WholeText as whole;
-ghost use Rattle.rox_values.specs.DeclaredEntities.{AreDeclared};
-ghost use Rattle.rox_build.specs.BuilderState.{GoesOn, IsConsistent, IsInState, ScansTo, ParsesToWith, tables_of};
+ghost use Rattle.rox_build.specs.BuilderState.{IsConsistent, tables_of};
 ghost use Rattle.rox_tables.specs.Rows.{node_rows};
 ghost use Rattle.rox_tables.specs.declared.rows.tables.NodeKind.TheVariants as kind;
 ghost use Rattle.rox_build.specs.Outcomes.{ScansAs};
 ghost use Rattle.rox_build.specs.Readiness.{MayReadAsking};
-ghost use Rattle.rox_reading.specs.Doctype.{Dtd};
-ghost use Rattle.rox_reading.specs.Answering.{left_with};
 ghost use Rattle.rox_build.specs.Requests.{Allows, MayAsk};
-ghost use Rattle.rox_build.specs.Asking.{AskOutcome};
 ghost use Rattle.rox_build.specs.Built.{Built, BuiltRefusal};
-ghost use Rattle.rox_build.specs.WholeTexts.{Finishes, IsDoctypeReadTo, IsBegun, IsWholeRead, beginning, root_read, start_state};
+ghost use Rattle.rox_build.specs.TextParts.{ReadsBody, ReadsDoctype, ReadsDocument, ReadsRest, ReadsStart};
+ghost use Rattle.rox_build.specs.WholeTexts.{IsBegun};
 
 use crate::builder::{Builder, FirstTables, empty_scope};
 use crate::constructs::{comment, element, instruction};
@@ -70,11 +63,7 @@ fn body<'input>(
     entities: &Entities<'input>,
 ) -> Result<bool, ParseError<'input>>
     requires fine { IsConsistent builder.old.tables builder.old.opened.items }
-    ensures value { (limit end : ℕ) (es : List Entity) (s : State) → AreDeclared es entities.now
-        → IsInState limit end s cursor.old builder.old
-        → ParsesToWith limit end result cursor.new builder.new
-        (whole.body limit es cursor.old.text.now s) }
-    ensures goes { OnOk result (GoesOn cursor.old cursor.new builder.new) }
+    ensures { ReadsBody entities.now cursor.old cursor.new builder.old builder.new result }
 {
     if cursor.is_at_end() || cursor.text.as_bytes()[cursor.pos] != b'<' {
         return Ok(false);
@@ -93,11 +82,7 @@ fn prolog_start<'input>(
     builder: &mut Builder<'input>,
 ) -> Result<(), Failure>
     requires fine { IsConsistent builder.old.tables builder.old.opened.items }
-    ensures value { (limit end : ℕ) → cursor.old.pos ≡ after_bom cursor.old.text.now
-        → IsInState limit end (start_state cursor.old.pos) cursor.old builder.old
-        → ScansTo limit end result cursor.new builder.new
-        (lifted (beginning limit cursor.old.text.now)) }
-    ensures goes { OnOk result (GoesOn cursor.old cursor.new builder.new) }
+    ensures { ReadsStart cursor.old cursor.new builder.old builder.new result }
 {
     cursor.xml_decl_if()?;
     misc(alloc, cursor, builder)
@@ -114,13 +99,8 @@ fn doctype<'input, R: EntityResolver<'input>>(
     resolver: &Option<R>,
 ) -> Result<bool, ParseError<'input>>
     requires { MayReadAsking R.can_resolve resolver.now builder.old }
-    ensures value { (limit end : ℕ) (d : Dtd) → IsInState limit end d.state cursor.old builder.old
-        → AreDeclared d.entities entities.old
-        → AskOutcome (Allows R.allows resolver.now)
-        (λ replies. whole.doctype limit allow cursor.old.text.now (left_with replies d))
-        (λ asked some. IsDoctypeReadTo limit end allow cursor.old.text.now d cursor.new builder.new
-        entities.new asked some) result }
-    ensures goes { OnOk result (GoesOn cursor.old cursor.new builder.new) }
+    ensures { ReadsDoctype (Allows R.allows resolver.now) allow cursor.old cursor.new builder.old
+        builder.new entities.old entities.new result }
 {
     if !cursor.starts(Word::DoctypeStart) {
         return Ok(false);
@@ -142,10 +122,7 @@ fn rest<'input>(
     entities: &Entities<'input>,
 ) -> Result<(), ParseError<'input>>
     requires fine { IsConsistent builder.old.tables builder.old.opened.items }
-    ensures value { (limit end : ℕ) (es : List Entity) (s : State) → AreDeclared es entities.now
-        → IsInState limit end s cursor.old builder.old → s.stack ≡ root
-        → Finishes end result builder.new (root_read limit es cursor.old.text.now s) }
-    ensures goes { OnOk result (GoesOn cursor.old cursor.new builder.new) }
+    ensures { ReadsRest entities.now cursor.old cursor.new builder.old builder.new result }
 {
     let some = body(alloc, cursor, builder, entities)?;
     if !cursor.is_at_end() {
@@ -167,13 +144,8 @@ fn document<'input, R: EntityResolver<'input>>(
     resolver: &Option<R>,
 ) -> Result<bool, ParseError<'input>>
     requires { MayReadAsking R.can_resolve resolver.now builder.old }
-    ensures value { (limit end : ℕ) → cursor.old.pos ≡ after_bom cursor.old.text.now
-        → IsInState limit end (start_state cursor.old.pos) cursor.old builder.old
-        → AskOutcome (Allows R.allows resolver.now)
-        (λ replies. whole.reading limit allow replies cursor.old.text.now)
-        (λ asked dtd. IsWholeRead limit end allow cursor.old.text.now builder.new asked dtd)
+    ensures { ReadsDocument (Allows R.allows resolver.now) allow cursor.old builder.old builder.new
         result }
-    ensures fine { OnOk result (IsConsistent builder.new.tables builder.new.opened.items) }
 {
     let mut entities: Entities<'input> = Entities::new(alloc);
     prolog_start(alloc, cursor, builder)?;

@@ -1,4 +1,5 @@
-use Rattle.std.proofs.Common.{◌≡◌, ℕ, suc, ◌+◌, ◌-◌, ◌≤◌, List, Bool, Ok, Err, Result, sym, ap, ◌∙◌, subst, refl, length, arith}
+use Rattle.std.proofs.Common.{◌≡◌, ℕ, suc, ◌+◌, ◌-◌, ◌≤◌, List, Bool, Ok, Err, Result, sym, ap, ◌∙◌, subst, refl, length, arith, rules}
+use Rattle.std.proofs.lemmas.Grind.{common_steps}
 use Rattle.std.proofs.lemmas.Result.{err_from_is_err_and}
 use Rattle.std.proofs.lemmas.Bool.{leb-true, leb-false}
 use Rattle.rox_reading.specs.Doctype as reading
@@ -24,15 +25,18 @@ loop-turn-init g c = record {
       none_yet limit end c.args.start (length src - 0) src (Allows g.R.EntityResolver.allows c.args.resolver.now) d c.args.cursor.now c.args.builder.now c.args.entities.now all sees declared;
 }
 
-pub returns-then-is_at_end-clause-value : goal.returns-then-is_at_end-clause-value
-returns-then-is_at_end-clause-value g c = λ limit end d sees declared.
-    let src = c.args.cursor.now.text.now in
-    let n = length src - c.loop-turn._turn in
-    let one : n ≡ suc (n - 1) = omega arith in
-    let k = c.loop-turn.invariant.reads limit end d sees declared in
-    let out : length c.loop-turn.cursor.text.now ≤ c.loop-turn.cursor.pos = leb-true _ _ (sym c.is_at_end.ensures ∙ c.if-is_at_end.true) in
-    let outside : length src ≤ c.loop-turn.cursor.pos = rw (ap (λ t. t.now) c.loop-turn.invariant.source) at out in
-    (k.asked, k.given, text_ends limit end c.args.start n src _ _ c.loop-turn.cursor c.loop-turn.builder c.loop-turn.entities k (n - 1) one outside)
+pub returns-then-is_at_end : goal.returns-then-is_at_end
+returns-then-is_at_end g c = record {
+  value = λ limit end d sees declared.
+      let src = c.args.cursor.now.text.now in
+      let n = length src - c.loop-turn._turn in
+      let one : n ≡ suc (n - 1) = omega arith in
+      let k = c.loop-turn.invariant.reads limit end d sees declared in
+      let out : length c.loop-turn.cursor.text.now ≤ c.loop-turn.cursor.pos = leb-true _ _ (sym c.is_at_end.ensures ∙ c.if-is_at_end.true) in
+      let outside : length src ≤ c.loop-turn.cursor.pos = rw (ap (λ t. t.now) c.loop-turn.invariant.source) at out in
+      (k.asked, k.given, text_ends limit end c.args.start n src _ _ c.loop-turn.cursor c.loop-turn.builder c.loop-turn.entities k (n - 1) one outside);
+  goes = first_of (search rules, grind (arith, common_steps));
+}
 
 -- the item's turn, over the text as it was at the start
 turned : (limit end i n m : ℕ) (src text : List ℕ) (allows : _) (run : List Reply → Asks Dtd) (c e : Cursor) (b u : Builder) (es fs : Entities) (r : Result Bool ParseError) → text ≡ src
@@ -40,28 +44,34 @@ turned : (limit end i n m : ℕ) (src text : List ℕ) (allows : _) (run : List 
 turned limit end i n m src text allows run c e b u es fs r same item going =
     subst (λ (t : List ℕ). ItemOutcome limit end i m t allows run e u fs r) same (item (subst (λ (t : List ℕ). IsSubsetSoFar limit end i n t allows run c b es) (sym same) going))
 
-pub returns-in_err-item-clause-value : goal.returns-in_err-item-clause-value
-returns-in_err-item-clause-value g c = λ limit end d sees declared.
-    let q = err_from_is_err_and c.from_residual.result c.from_residual.ensures.1 in
-    let src = c.args.cursor.now.text.now in
-    let n = length src - c.loop-turn._turn in
-    let one : n ≡ suc (n - 1) = omega arith in
-    let k = c.loop-turn.invariant.reads limit end d sees declared in
-    let run : List Reply → Asks Dtd = λ replies. reading.subset limit c.args.start (length src) src (left_with replies d) in
-    rw (q.1, q.2)
-    (turned limit end c.args.start n (n - 1) src c.loop-turn.cursor.text.now (Allows g.R.EntityResolver.allows c.args.resolver.now) run c.loop-turn.cursor c.item.new.cursor c.loop-turn.builder
-    c.item.new.builder c.loop-turn.entities c.item.new.entities (Err c.in_err-item.field-0.0) (ap (λ t. t.now) c.loop-turn.invariant.source) (c.in_err-item.ensures.value limit end n (n - 1) run one) k)
+pub returns-in_err-item : goal.returns-in_err-item
+returns-in_err-item g c = record {
+  value = λ limit end d sees declared.
+      let q = err_from_is_err_and c.from_residual.result c.from_residual.ensures.1 in
+      let src = c.args.cursor.now.text.now in
+      let n = length src - c.loop-turn._turn in
+      let one : n ≡ suc (n - 1) = omega arith in
+      let k = c.loop-turn.invariant.reads limit end d sees declared in
+      let run : List Reply → Asks Dtd = λ replies. reading.subset limit c.args.start (length src) src (left_with replies d) in
+      rw (q.1, q.2)
+      (turned limit end c.args.start n (n - 1) src c.loop-turn.cursor.text.now (Allows g.R.EntityResolver.allows c.args.resolver.now) run c.loop-turn.cursor c.item.new.cursor c.loop-turn.builder
+      c.item.new.builder c.loop-turn.entities c.item.new.entities (Err c.in_err-item.field-0.0) (ap (λ t. t.now) c.loop-turn.invariant.source) (c.in_err-item.ensures.value limit end n (n - 1) run one) k);
+  goes = let p = err_from_is_err_and c.from_residual.result c.from_residual.ensures.1 in rw p.1 tt;
+}
 
-pub returns-then-branch-clause-value : goal.returns-then-branch-clause-value
-returns-then-branch-clause-value g c = λ limit end d sees declared.
-    let src = c.args.cursor.now.text.now in
-    let n = length src - c.loop-turn._turn in
-    let one : n ≡ suc (n - 1) = omega arith in
-    let k = c.loop-turn.invariant.reads limit end d sees declared in
-    let run : List Reply → Asks Dtd = λ replies. reading.subset limit c.args.start (length src) src (left_with replies d) in
-    rw c.if-branch.true at
-    (turned limit end c.args.start n (n - 1) src c.loop-turn.cursor.text.now (Allows g.R.EntityResolver.allows c.args.resolver.now) run c.loop-turn.cursor c.item.new.cursor c.loop-turn.builder
-    c.item.new.builder c.loop-turn.entities c.item.new.entities (Ok c.in_ok-item.field-0) (ap (λ t. t.now) c.loop-turn.invariant.source) (c.in_ok-item.ensures.value limit end n (n - 1) run one) k)
+pub returns-then-branch : goal.returns-then-branch
+returns-then-branch g c = record {
+  value = λ limit end d sees declared.
+      let src = c.args.cursor.now.text.now in
+      let n = length src - c.loop-turn._turn in
+      let one : n ≡ suc (n - 1) = omega arith in
+      let k = c.loop-turn.invariant.reads limit end d sees declared in
+      let run : List Reply → Asks Dtd = λ replies. reading.subset limit c.args.start (length src) src (left_with replies d) in
+      rw c.if-branch.true at
+      (turned limit end c.args.start n (n - 1) src c.loop-turn.cursor.text.now (Allows g.R.EntityResolver.allows c.args.resolver.now) run c.loop-turn.cursor c.item.new.cursor c.loop-turn.builder
+      c.item.new.builder c.loop-turn.entities c.item.new.entities (Ok c.in_ok-item.field-0) (ap (λ t. t.now) c.loop-turn.invariant.source) (c.in_ok-item.ensures.value limit end n (n - 1) run one) k);
+  goes = first_of (search rules, grind (arith, common_steps));
+}
 
 pub loop-turn-preserved : goal.loop-turn-preserved
 loop-turn-preserved g c = record {
@@ -79,14 +89,17 @@ loop-turn-preserved g c = record {
       c.item.new.builder c.loop-turn.entities c.item.new.entities (Ok c.in_ok-item.field-0) (ap (λ t. t.now) c.loop-turn.invariant.source) (c.in_ok-item.ensures.value limit end n m run one) k);
 }
 
-pub returns-clause-value : goal.returns-clause-value
-returns-clause-value g c = λ limit end d sees declared.
-    let src = c.args.cursor.now.text.now in
-    let n = length src - c.loop-turn._turn in
-    let t = c.loop-turn-test.false in
-    let none : n ≡ 0 = omega arith in
-    let k = c.loop-turn.invariant.reads limit end d sees declared in
-    (k.asked, k.given, turns_end limit end c.args.start n src _ _ c.loop-turn.cursor c.loop-turn.builder c.loop-turn.entities k none)
+pub returns : goal.returns
+returns g c = record {
+  value = λ limit end d sees declared.
+      let src = c.args.cursor.now.text.now in
+      let n = length src - c.loop-turn._turn in
+      let t = c.loop-turn-test.false in
+      let none : n ≡ 0 = omega arith in
+      let k = c.loop-turn.invariant.reads limit end d sees declared in
+      (k.asked, k.given, turns_end limit end c.args.start n src _ _ c.loop-turn.cursor c.loop-turn.builder c.loop-turn.entities k none);
+  goes = first_of (search rules, grind (arith, common_steps));
+}
 
 pub item-requires : goal.item-requires
 item-requires g c =

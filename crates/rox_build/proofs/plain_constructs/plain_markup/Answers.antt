@@ -1,6 +1,6 @@
 use Rattle.std.proofs.Common.{ℕ, List, ◌+◌, slice_index, ne_eqb, refl, ap, ◌∙◌, arith, rules}
 use Rattle.std.proofs.lemmas.Grind.{common_steps}
-use Rattle.rox_build.specs.BuilderState.{IsConsistent, IsInState, IsReady, KeepsState}
+use Rattle.rox_build.specs.BuilderState.{IsInState, IsReady}
 use Rattle.rox_build.proofs.Stepping.{step_is_markup}
 use Rattle.rox_build.proofs.PlainReads.{keeps_same, steps_not}
 use Rattle.rox_build.proofs.plain_constructs.plain_markup.Goals as goal
