@@ -1,9 +1,13 @@
 -- Where a character and a line begin.
-use Rattle.std.proofs.Common.{◌≡◌, ℕ, zero, suc, ◌+◌, ◌-◌, ◌<◌, ◌≤◌, ◌==◌, Bool, true, false, List, length, get_or, refl, sym, ap, ◌∙◌, arith, add-zero, add-one, add-suc, sub-one}
+use Rattle.std.proofs.Common.{◌≡◌, ℕ, zero, suc, ◌+◌, ◌-◌, ◌<◌, ◌≤◌, ◌==◌, Bool, true, false, not, cond, List, length, take, drop, get_or, inl, inr, refl, sym, ap, ◌∙◌, arith, add-zero, add-one, add-suc, sub-one}
 use Rattle.std.specs.Str.{IsUtf8, IsCharBoundary}
 use Rattle.std.proofs.lemmas.Bool.Decides.{nat_tests}
 use Rattle.std.proofs.lemmas.Str.{IsCharBoundary-start}
-use Rattle.rox_grammar.specs.Positions.{is_cut, round_from, line_start}
+use Rattle.std.proofs.lemmas.Bool.{cases_Bool}
+use Rattle.std.proofs.lemmas.List.{take_all}
+use Rattle.std.proofs.lemmas.List.Sums.{suffix_len-take_yes, suffix_len-take_no}
+use Rattle.std.specs.List.{suffix_len, after_last}
+use Rattle.rox_grammar.specs.Positions.{is_cut, round_from}
 
 pub cut_of : (src : List ℕ) (i : ℕ) → i ≤ length src → is_cut src i ≡ true → IsCharBoundary src i
 cut_of src i within h = (within, λ more wide. grind (arith, nat_tests))
@@ -36,6 +40,32 @@ round_back src zero some within none = absurd (omega arith)
 round_back src (suc n) some within none =
     let missing = not_cut src (suc n) within none _ refl in
     rw (missing, sub-one) refl
+
+-- the nearest place at or before n that begins a line
+abbrev pub line_start : List ℕ → ℕ → ℕ
+line_start src zero = 0
+line_start src (suc n) = cond (get_or src n 0 == 10) (suc n) (line_start src n)
+
+line_start_is : (src : List ℕ) (n : ℕ) → n ≤ length src → n - suffix_len (λ b. not (b == 10)) (take n src) ≡ line_start src n
+line_start_is src zero within = omega arith
+line_start_is src (suc n) within =
+    let at : suc n - 1 ≡ n = omega arith in
+    elim (cases_Bool (get_or src n 0 == 10)) as (λ q. suc n - suffix_len (λ b. not (b == 10)) (take (suc n) src) ≡ line_start src (suc n)) [
+      | inl here ↦ (
+          let feed : not (get_or src (suc n - 1) 0 == 10) ≡ false = rw (at, here) refl in
+          let none = suffix_len-take_no (λ b. not (b == 10)) src (suc n) 0 (omega arith) within feed in
+          rw (none, here) (omega arith))
+      | inr other ↦ (
+          let no_feed : not (get_or src (suc n - 1) 0 == 10) ≡ true = rw (at, other) refl in
+          let more : suffix_len (λ b. not (b == 10)) (take (suc n) src) ≡ 1 + suffix_len (λ b. not (b == 10)) (take n src) =
+          suffix_len-take_yes (λ b. not (b == 10)) src (suc n) 0 (omega arith) within no_feed ∙ ap (λ (k : ℕ). 1 + suffix_len (λ b. not (b == 10)) (take k src)) at in
+          rw other (omega (arith, more, line_start_is src n (omega arith))))
+    ]
+
+pub last_line_is : (src : List ℕ) → after_last (λ b. b == 10) src ≡ drop (line_start src (length src)) src
+last_line_is src =
+    let whole : take (length src) src ≡ src = take_all (length src) src (omega arith) in
+    ap (λ (n : ℕ). drop n src) (ap (λ (xs : List ℕ). length src - suffix_len (λ b. not (b == 10)) xs) (sym whole) ∙ line_start_is src (length src) (omega arith))
 
 pub line_start_back : (src : List ℕ) (n d : ℕ) → ((j : ℕ) → n ≤ j → j < n + d → (get_or src j 0 == 10) ≡ true → ⊥) → line_start src (n + d) ≡ line_start src n
 line_start_back src n zero none = rw add-zero refl

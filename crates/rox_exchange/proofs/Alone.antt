@@ -14,7 +14,8 @@ use Rattle.rox_grammar.specs.Tree.{Node, Root, resolved, document_tree}
 use Rattle.rox_grammar.specs.Names.{byte, slice}
 use Rattle.rox_grammar.specs.Content.{IsElement, empty, nest}
 use Rattle.rox_grammar.specs.WellNamed.{AreWellNamed}
-use Rattle.rox_grammar.specs.TextStart.{bom, after_bom, MayHaveXmlDecl, not_declared}
+use Rattle.rox_grammar.specs.TextStart.{after_bom, MayHaveXmlDecl, not_declared}
+use Rattle.rox_grammar.specs.FixedTexts.{bom}
 use Rattle.rox_grammar.specs.Entities.{no_entities}
 use Rattle.rox_grammar.specs.Document.{Misc, no_misc}
 use Rattle.rox_theory.proofs.Constructions.{name_byte}

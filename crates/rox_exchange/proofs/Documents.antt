@@ -10,7 +10,8 @@ use Rattle.rox_grammar.specs.Written.{Tag, Item, Element, leaf}
 use Rattle.rox_grammar.specs.Names.{byte, slice}
 use Rattle.rox_grammar.specs.Content.{comment, instruction, IsElement}
 use Rattle.rox_grammar.specs.WellNamed.{AreWellNamed}
-use Rattle.rox_grammar.specs.TextStart.{bom, after_bom, MayHaveXmlDecl, declared, not_declared}
+use Rattle.rox_grammar.specs.TextStart.{after_bom, MayHaveXmlDecl, declared, not_declared}
+use Rattle.rox_grammar.specs.FixedTexts.{bom}
 use Rattle.rox_grammar.specs.Entities.{no_entities}
 use Rattle.rox_grammar.specs.Document.{Misc, no_misc, space, an_item}
 use Rattle.rox_grammar.specs.Exchange.{Move, moved, replaced}

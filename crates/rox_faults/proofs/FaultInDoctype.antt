@@ -302,7 +302,7 @@ module _ (src : List ℕ) (utf8 : IsUtf8 src) where
       let c = closed_there i j p items nodes asked given [] es is to (subst (λ (a : List Asked). SameAnswers a given) (sym (append-nil asked)) same) in
       let r = c.front in
       let there = passed_there src utf8 c.k c.bracket p r.rest r.more r.gs r.left opens in
-      let end = there.1.end in let closes = there.1.closes in
+      let closes = there.1.closes in
       absurd (omega arith)
   in_doctype_apart W limit i j before nodes after asked given es source f is few same (in_subset p items _ _ _ _ to fits (in_entity q t _ opens due' lack)) =
       let c = closed_there i j p items nodes asked given [] es is to (subst (λ (a : List Asked). SameAnswers a given) (sym (append-nil asked)) same) in

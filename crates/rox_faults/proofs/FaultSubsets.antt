@@ -23,7 +23,8 @@ use Rattle.rox_grammar.specs.Due.{DueItem, a_byte, IsMissing, none_left, DueInXm
 use Rattle.rox_faults.proofs.DueForms.{subset_or_end, no_end, no_subset_or_end}
 use Rattle.rox_grammar.specs.Due as dues
 use Rattle.rox_grammar.specs.Faults.{in_one, one_too_many}
-use Rattle.rox_grammar.specs.FaultsWithDoctype.{IsPassed, InDoctype, head_lacks, no_name, not_passed, in_entity, entity_open, entity_cut, in_answer, end_lacks, unknown, in_subset, in_miscs}
+use Rattle.rox_grammar.specs.FaultsWithDoctype.{InDoctype, head_lacks, no_name, not_passed, in_entity, entity_open, entity_cut, in_answer, end_lacks, unknown, in_subset, in_miscs}
+use Rattle.rox_grammar.specs.Doctype.{IsPassed}
 use Rattle.rox_reading.specs.Lexical.{byte_at, space_at}
 use Rattle.rox_reading.specs.Markup.{comment_at, instruction_at, xml_decl_at}
 use Rattle.rox_reading.specs.Refusals.{Refusal, here, there, refused, lifted}
@@ -381,7 +382,7 @@ module _ (src : List ℕ) (utf8 : IsUtf8 src) (limit most : ℕ) (less : limit �
           let far = run_end_le is_space src d.state.at in
           elim (cases_Bool (nat_lt e (length src))) as (λ _. Outcome asked0 (reading.skipped_declaration i src spaced >>> g)) [
             | inl lt ↦ (
-                let passed : IsPassedOver src k (e + 1) = record { opens = is; e = e; end = refl; closes = ltb-true _ _ lt; next = refl } in
+                let passed : IsPassedOver src k (e + 1) = record { opens = is; closes = ltb-true _ _ lt; next = refl } in
                 let moves = passed_moves src utf8 k (e + 1) passed in
                 let closes : byte src e ≡ 62 = eqb-true _ _ (from_here (λ c. c == 62) src k (ltb-true _ _ lt)) in
                 let next : Dtd = record { state = at_place (e + 1) d.state; entities = d.entities; replies = d.replies } in

@@ -16,7 +16,7 @@ use Rattle.rox_grammar.specs.Names.{byte, slice, spaces_end}
 use Rattle.rox_grammar.specs.Content.{IsMisc, comment, instruction}
 use Rattle.rox_grammar.specs.Entities.{Replacement, Entity}
 use Rattle.rox_grammar.specs.Doctype.{Request, Asked, IsQuoted, IsSpace, IsExternalID, MayHaveNotation, GivesReplacement, IsDefinition, internal, external, IsKind, BeginsEntity, entry, IsEntityDeclaration, IsPassedOver, Subset, no_more, space, an_item, skipped_declaration, an_entity, MayHaveExternalID, BeginsDoctype, IsDoctype, no_subset, with_subset}
-use Rattle.rox_grammar.specs.FaultsWithDoctype.{IsPassed}
+use Rattle.rox_grammar.specs.Doctype.{IsPassed}
 use Rattle.rox_reading.specs.Doctype.{external_id_at, notation_at, kind_at, external_id_if, answer_text}
 use Rattle.rox_reading.proofs.Forests.{join-nil}
 use Rattle.rox_theory.specs.Answers.{SameAnswers}
@@ -255,7 +255,7 @@ module _ (src : List ℕ) where
           }
       subset_front i j xs ys a b c es fs (skipped_declaration _ m _ _ _ _ one front) all same =
           let there = passed_there i ys b fs all one.opens in
-          let end : m ≡ there.0 = one.next ∙ ap (λ (e : ℕ). e + 1) (one.end ∙ sym there.1.end) ∙ sym there.1.next in
+          let end : m ≡ there.0 = one.next ∙ sym there.1.next in
           subset_front m j xs ys a b c es fs front (subst (λ (m : ℕ). Left m ys b fs) (sym end) there.2) same
       subset_front i j xs ys a b c es fs (an_entity _ m _ _ first later one others is front) all same =
           let there = entity_there i ys b fs all is.begins.opens in

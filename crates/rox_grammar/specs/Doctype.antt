@@ -101,14 +101,15 @@ module _ (src : List ℕ) where
     pub closes : byte src (spaces_end src e) ≡ code ">"
     pub next : j ≡ spaces_end src e + 1
 
-  -- XML 3.2 [45], 3.3 [52], 4.7 [82]: declarations that are passed over, to their first `>`, whatever they hold. So
-  -- attributes have no defaults (3.3.2) and no types (3.3.3).
+  -- XML 3.2 [45], 3.3 [52], 4.7 [82]: a declaration that is passed over stands here
+  abbrev pub IsPassed : ℕ → Type 0
+  IsPassed i = (text_at "<!ELEMENT" src i ≡ true) ⊎ ((text_at "<!ATTLIST" src i ≡ true) ⊎ (text_at "<!NOTATION" src i ≡ true))
+
+  -- It is passed over to its first `>`, whatever it holds. So attributes have no defaults (3.3.2) and no types (3.3.3).
   pub record IsPassedOver (i j : ℕ) : Type 0 where
-    pub opens : (text_at "<!ELEMENT" src i ≡ true) ⊎ ((text_at "<!ATTLIST" src i ≡ true) ⊎ (text_at "<!NOTATION" src i ≡ true))
-    pub e : ℕ
-    pub end : e ≡ byte_from (λ c. c == code ">") src i
-    pub closes : e < length src
-    pub next : j ≡ e + 1
+    pub opens : IsPassed i
+    pub closes : byte_from (λ c. c == code ">") src i < length src
+    pub next : j ≡ byte_from (λ c. c == code ">") src i + 1
 
   -- XML 2.8 [28b] intSubset, but for the references to parameter entities of [28a]: its comments and processing instructions, what is
   -- asked, and the entities that are declared, each in order

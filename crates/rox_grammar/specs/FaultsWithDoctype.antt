@@ -14,16 +14,12 @@ use Rattle.rox_grammar.specs.Constructs.{text_at}
 use Rattle.rox_grammar.specs.Content.{Inclusion}
 use Rattle.rox_grammar.specs.TextStart.{after_bom}
 use Rattle.rox_grammar.specs.Entities.{Replacement, Entity, most_deep, no_entities, Includes}
-use Rattle.rox_grammar.specs.Doctype.{Request, Asked, IsSpace, IsExternalID, MayHaveNotation, CutsNotation, GivesReplacement, IsDefinition, BeginsEntity, SubsetTo}
+use Rattle.rox_grammar.specs.Doctype.{Request, Asked, IsSpace, IsExternalID, MayHaveNotation, CutsNotation, GivesReplacement, IsDefinition, BeginsEntity, IsPassed, SubsetTo}
 use Rattle.rox_grammar.specs.OpenElements.{root, FitsLimits}
 use Rattle.rox_grammar.specs.Due.{DueItem, a_byte, one_of, IsMissing, DueInXmlDecl, DueInEntity, DueInDoctype}
 use Rattle.rox_grammar.specs.ContentPoints.{is_main}
 use Rattle.rox_grammar.specs.Document.{PrologTo, Prolog}
 use Rattle.rox_grammar.specs.Faults.{InMiscs, FaultFrom}
-
--- `<!ELEMENT`, `<!ATTLIST` or `<!NOTATION` stands here
-abbrev pub IsPassed : List ℕ → ℕ → Type 0
-IsPassed src p = (text_at "<!ELEMENT" src p ≡ true) ⊎ ((text_at "<!ATTLIST" src p ≡ true) ⊎ (text_at "<!NOTATION" src p ≡ true))
 
 -- ---- in the subset of the document type declaration that begins at i, which is read up to p, with these nodes before it and these
 -- asked: what was asked until then, and the source

@@ -1,5 +1,5 @@
 -- The fixed texts that reading looks for.
-use Rattle.std.specs.Prelude.{ℕ, Bool, List, codes}
+use Rattle.std.specs.Prelude.{ℕ, Bool, List, [], ◌∷◌, codes}
 use Rattle.rox_grammar.specs.declared.fault.Word.{Word}
 use Rattle.rox_grammar.specs.declared.fault.Word.TheVariants as word
 use Rattle.rox_grammar.specs.Search.{stands, mark_from}
@@ -39,3 +39,7 @@ first w src i = mark_from (word_text w) src i
 -- two dashes, which the text of no comment may hold (XML 2.5)
 abbrev pub double_dash : List ℕ
 double_dash = codes "--"
+
+-- the byte order mark
+abbrev pub bom : List ℕ
+bom = 239 ∷ 187 ∷ 191 ∷ []

@@ -3,13 +3,9 @@ use Rattle.std.specs.Prelude.{◌≡◌, ℕ, ◌==◌, false, List, [], ◌∷�
 use Rattle.std.specs.List.{starts_with}
 use Rattle.rox_grammar.specs.Constructs.{text_at, IsXmlDecl}
 
--- EF BB BF
-abbrev pub bom : List ℕ
-bom = 239 ∷ 187 ∷ 191 ∷ []
-
--- the place after a byte order mark, if there is one
+-- the place after a byte order mark, EF BB BF, if there is one
 abbrev pub after_bom : List ℕ → ℕ
-after_bom src = if starts_with ◌==◌ src bom then 3 else 0
+after_bom src = if starts_with ◌==◌ src (239 ∷ 187 ∷ 191 ∷ []) then 3 else 0
 
 -- XML 2.8 [23], 4.3.1 [77]: a declaration where `<?xml` and a space stand, else nothing. That of an answer is read as that of the
 -- main text, where [77] wants `encoding`, lets `version` be missing, and has no `standalone`.

@@ -15,7 +15,8 @@ use Rattle.rox_grammar.specs.Written.{NamespaceDecl, Item, Comment, PI, merge, l
 use Rattle.rox_grammar.specs.Names.{byte, spaces_end}
 use Rattle.rox_grammar.specs.Constructs.{IsXmlDecl}
 use Rattle.rox_grammar.specs.Content.{Inclusion, IsMisc, comment, instruction, IsElement, empty, nest, TagEnds, opened, closed}
-use Rattle.rox_grammar.specs.TextStart.{bom, after_bom, MayHaveXmlDecl, declared, not_declared}
+use Rattle.rox_grammar.specs.TextStart.{after_bom, MayHaveXmlDecl, declared, not_declared}
+use Rattle.rox_grammar.specs.FixedTexts.{bom}
 use Rattle.rox_grammar.specs.Entities.{Entity}
 use Rattle.rox_grammar.specs.Doctype.{Asked, IsDoctype, no_subset, with_subset}
 use Rattle.rox_grammar.specs.Document.{Permits, Misc, no_misc, space, an_item}

@@ -224,7 +224,7 @@ declaration_onward src i j asked declared is =
     omega (arith, is.begins.space_before.some, k, n, is.begins.space_behind.some, d, s, is.next)
 
 passed_onward : (src : List ℕ) (i j : ℕ) → IsPassedOver src i j → i ≤ j
-passed_onward src i j is = let h = byte_onward (λ c. c == 62) src i in omega (arith, h, is.end, is.next)
+passed_onward src i j is = let h = byte_onward (λ c. c == 62) src i in omega (arith, h, is.next)
 
 begins_onward : (src : List ℕ) (i s : ℕ) → BeginsDoctype src i s → i ≤ s
 begins_onward src i s is =

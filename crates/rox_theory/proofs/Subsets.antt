@@ -68,7 +68,7 @@ module _ (src : List ℕ) (utf8 : IsUtf8 src) where
       elim (or_cases (at word.ElementStart src i) (at word.AttlistStart src i || at word.NotationStart src i) is) as (λ _. (at word.ElementStart src i ≡ true) ⊎ ((at word.AttlistStart src i ≡ true) ⊎ (at word.NotationStart src i ≡ true)))
       [ inl a ↦ inl a | inr b ↦ inr (or_cases _ _ b) ] in
       cond_both (nat_lt e (length src)) _ _ (λ (r : Asks Dtd). Turns limit start n src d (r >>> λ e. subset limit start n src e))
-      (λ closes. turn_passed (e + 1) (record { opens = opens; e = e; end = refl; closes = ltb-true _ _ closes; next = refl }))
+      (λ closes. turn_passed (e + 1) (record { opens = opens; closes = ltb-true _ _ closes; next = refl }))
       (λ unclosed. turn_faulty (fault.UnknownToken start))
 
   turns : (limit start n : ℕ) (d : Dtd) → Turns limit start n src d (subset limit start (suc n) src d)
@@ -205,10 +205,10 @@ module _ (src : List ℕ) (utf8 : IsUtf8 src) where
   -- a declaration that is passed over goes forward
   pub passed_moves : (i j : ℕ) → IsPassedOver src i j → (i < j) × (j ≤ length src) × IsCharBoundary src j
   passed_moves i j p =
-      let end = p.end in let closes = p.closes in let next = p.next in
-      let h = from_here (λ c. c == 62) src i (rw (← end) closes) in
-      let is : byte src p.e ≡ 62 = eqb-true _ _ (rw (← end) at h) in
-      (omega (arith, from_le (λ c. c == 62) src i), omega arith, cut_behind src p.e 62 j utf8 is (omega arith) (omega arith) next)
+      let e = byte_from (λ c. c == 62) src i in
+      let closes = p.closes in let next = p.next in
+      let is : byte src e ≡ 62 = eqb-true _ _ (from_here (λ c. c == 62) src i closes) in
+      (omega (arith, from_le (λ c. c == 62) src i), omega arith, cut_behind src e 62 j utf8 is (omega arith) (omega arith) next)
 
   -- a turn that is a declaration of an entity
   entity_front : (i j : ℕ) (first : List Asked) (es : List Entity) → IsCharBoundary src i → IsEntityDeclaration src (spaces_end src i) j first es → Fronts src i j Nil first es

@@ -133,8 +133,8 @@ module _ (src : List ℕ) (utf8 : IsUtf8 src) where
         let here = word_byte w src i 60 some first opens in
         let inside = within src i (λ z. omega arith) in
         let e : spaces_end src i ≡ i = no_spaces src i here in
-        let closes : byte_from (λ c. c == 62) src (spaces_end src i) < length src = rw (e, sym p.end) p.closes in
-        let next : byte_from (λ c. c == 62) src (spaces_end src i) + 1 ≡ j = rw (e, sym p.end, p.next) refl in
+        let closes : byte_from (λ c. c == 62) src (spaces_end src i) < length src = rw e p.closes in
+        let next : byte_from (λ c. c == 62) src (spaces_end src i) + 1 ≡ j = rw e (sym p.next) in
         let no_entity' : at word.EntityStart src (spaces_end src i) ≡ false = rw e no_entity in
         let no_comment' : at word.CommentStart src (spaces_end src i) ≡ false = rw e no_comment in
         let no_instruction' : at word.PIStart src (spaces_end src i) ≡ false = rw e no_instruction in

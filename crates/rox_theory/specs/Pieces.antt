@@ -6,8 +6,7 @@ use Rattle.rox_grammar.specs.Forest.{Forest, Nil, Cons, join}
 use Rattle.rox_grammar.specs.Written.{Item, Element, Text, Comment, PI, leaf, merge}
 use Rattle.rox_grammar.specs.Names.{slice}
 use Rattle.rox_grammar.specs.Constructs.{IsCData}
-use Rattle.rox_grammar.specs.Content.{Inclusion, line_ends, literals, is_verbatim, piece, last_part, then_entity, IsElement, empty, nest, Content, ends, run, cdata, misc, node}
-use Rattle.rox_grammar.specs.RunParts.{Parts}
+use Rattle.rox_grammar.specs.Content.{Inclusion, line_ends, literals, is_verbatim, piece, Parts, last_part, then_entity, IsElement, empty, nest, Content, ends, run, cdata, misc, node}
 use Rattle.rox_grammar.specs.Entities.{Replacement, Entity, text_of, Includes, most_deep, included_in_main}
 use Rattle.rox_grammar.specs.Doctype.{Asked}
 use Rattle.rox_grammar.specs.Document.{ParseOf}
@@ -27,7 +26,7 @@ pub record Writes (O : Inclusion) : Type 0 where
 
 module _ (main : Bool) (O : Inclusion) (opened : Writes O) (src : List ℕ) where
   -- XML 2.4, 4.4.2: of a run its parts that have a character, and between them what its references open
-  abbrev pub parts_pieces : (start stop i b c : ℕ) (items : Forest Item) → Parts main O src start stop i b c items → Forest Piece
+  abbrev pub parts_pieces : (start stop i b c : ℕ) (items : Forest Item) → Parts main O src (is_verbatim (slice src start stop)) start stop stop i b c items → Forest Piece
   parts_pieces start stop i b c items (last_part _ _ ss part) = written_in src (piece start stop (is_verbatim (slice src start stop)) ss)
   parts_pieces start stop i b d items (then_entity _ p n j _ c _ ss inner more part reference name opens rest) =
       join (written_in src (piece start stop false ss)) (join (opened.content (slice src (p + 1) n) b inner c opens) (parts_pieces start stop j c d more rest))
