@@ -1,7 +1,8 @@
 //! What the tables of a document do that no clause says and no public call shows: ropes stay low, and owned texts that come again
 //! are told apart.
 
-ghost use Rattle.std.specs.Prelude.{◌<◌, length, IfOk, OnOk};
+ghost use Rattle.std.specs.Prelude.{◌<◌, IfOk};
+ghost use Rattle.rox_tables.specs.Ropes.{IsRow};
 ghost use Rattle.rox_tables.specs.Rows.{AreRows};
 
 use rox_tables::namespaces::rope::{add, both, count, find, height, without};
@@ -18,10 +19,8 @@ const MANY: u32 = 4000;
 /// A row of one place in front of what a scope lists.
 fn with_one(scopes: &mut Vec<Scope>, from: u32, scope: u32) -> Result<u32, AllocError>
     requires few { from < 4000 }
-    requires within { scope < length scopes.old.items }
-    requires rows { AreRows scopes.old.items }
-    ensures within { IfOk result (λ s. s < length scopes.new.items) }
-    ensures rows { OnOk result (AreRows scopes.new.items) }
+    requires scope { IsRow scopes.old.items scope }
+    ensures { IfOk result (λ s. IsRow scopes.new.items s) }
 {
     let one = Stretch {
         from,
@@ -33,9 +32,8 @@ fn with_one(scopes: &mut Vec<Scope>, from: u32, scope: u32) -> Result<u32, Alloc
 
 /// A row of stretches of one place each, the last one first: so do elements list that declare one each, one in another.
 fn nested(scopes: &mut Vec<Scope>) -> Result<u32, AllocError>
-    requires rows { AreRows scopes.old.items }
-    ensures within { IfOk result (λ s. s < length scopes.new.items) }
-    ensures rows { OnOk result (AreRows scopes.new.items) }
+    requires { AreRows scopes.old.items }
+    ensures { IfOk result (λ s. IsRow scopes.new.items s) }
 {
     let none = Stretch { from: 0, until: 0 };
     let mut scope = add(scopes, Scope::Back(none))?;
@@ -47,10 +45,8 @@ fn nested(scopes: &mut Vec<Scope>) -> Result<u32, AllocError>
 
 /// What a scope lists, without the first of every two.
 fn halved(scopes: &mut Vec<Scope>, scope: u32) -> Result<u32, AllocError>
-    requires within { scope < length scopes.old.items }
-    requires rows { AreRows scopes.old.items }
-    ensures within { IfOk result (λ s. s < length scopes.new.items) }
-    ensures rows { OnOk result (AreRows scopes.new.items) }
+    requires { IsRow scopes.old.items scope }
+    ensures { IfOk result (λ s. IsRow scopes.new.items s) }
 {
     let mut left = scope;
     for index in 0..2000 {

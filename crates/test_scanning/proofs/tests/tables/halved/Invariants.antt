@@ -1,6 +1,5 @@
-use Rattle.std.proofs.Common.{◌<◌, length}
-use Rattle.rox_tables.specs.Rows.{AreRows}
+use Rattle.rox_tables.specs.Ropes.{IsRow}
 use Rattle.test_scanning.proofs.tests.tables.halved.Given as goal
 
 abbrev pub invariant-loop-index : goal.invariant-loop-index
-invariant-loop-index l = (l.left < length l.scopes.items) × AreRows l.scopes.items
+invariant-loop-index l = IsRow l.scopes.items l.left

@@ -7,4 +7,4 @@ loop-from-init c =
     let n = ap length c.in_ok-scope.ensures.items ∙ length-append c.args.scopes.now.items (_ ∷ []) in
     let v = c.in_ok-scope.ensures.value in
     let le : 0 ≤ 0 = omega arith in
-    (omega arith, rows_push _ _ _ c.in_ok-scope.ensures.items c.requires.rows le)
+    record { within = omega arith; rows = rows_push _ _ _ c.in_ok-scope.ensures.items c.requires le }

@@ -7,9 +7,9 @@ both-requires c =
     let le : c.args.from ≤ c.args.from + 1 = omega arith in
     let n = ap length c.in_ok-own.ensures.items ∙ length-append c.args.scopes.now.items (_ ∷ []) in
     let v = c.in_ok-own.ensures.value in
-    let within = c.requires.within in
+    let within = c.requires.scope.within in
     record {
       first = omega arith;
       rest = omega arith;
-      rows = rows_push _ _ _ c.in_ok-own.ensures.items c.requires.rows le;
+      rows = rows_push _ _ _ c.in_ok-own.ensures.items c.requires.scope.rows le;
     }
