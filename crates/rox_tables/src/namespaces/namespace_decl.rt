@@ -52,6 +52,7 @@ pub fn is_namespace_decl(name: QName<'_>) -> bool
 }
 
 /// What may not be declared with a prefix.
+#[inline(always)]
 fn test_prefix_uri(local: &str, uri: &str, at: usize) -> Result<(), Fault>
     ensures { (a : Attribute) → a.name.local ≡ local.now → a.value ≡ uri.now → a.start ≡ at
         → result ≡ spec.prefix_tested a }
@@ -75,6 +76,7 @@ fn test_prefix_uri(local: &str, uri: &str, at: usize) -> Result<(), Fault>
 }
 
 /// The same of the default.
+#[inline(always)]
 fn test_default_uri(uri: &str, at: usize) -> Result<(), Fault>
     ensures { (a : Attribute) → a.value ≡ uri.now → a.start ≡ at → result ≡ spec.default_tested a }
 {
@@ -93,6 +95,7 @@ impl<'input> UnresolvedAttribute<'input> {
     ghost use Rattle.rox_tables.specs.Scopes.{prefix_view};
 
     /// What may not be declared.
+    #[inline(always)]
     fn test_uri(&self) -> Result<(), Fault>
         ensures { result ≡ spec.uri_tested (unresolved_view self.now) }
     {

@@ -106,6 +106,7 @@ fn is_same(one: &Namespace<'_>, other: &Namespace<'_>) -> bool
 }
 
 /// The place of a pair among these, which are few.
+#[inline(always)]
 fn place_in(items: &[Namespace<'_>], pair: &Namespace<'_>) -> Option<u16>
     requires few { length items.now ≤ few_pairs }
     ensures value { result ≡ place_of (map namespace_view items.now) (namespace_view pair.now) }
@@ -159,6 +160,7 @@ impl<'input> NamespaceTable<'input> {
     }
 
     /// The place of a pair.
+    #[inline(always)]
     fn find(&self, key: &Key<'input>) -> Option<u16>
         ensures { FindsPair self.now.items.items (namespace_view key.now.namespace) result }
     {
@@ -170,6 +172,7 @@ impl<'input> NamespaceTable<'input> {
     }
 
     /// Puts a new pair at the end of the table. The only error is want of memory.
+    #[inline(always)]
     fn add(&mut self, key: Key<'input>) -> Result<u16, AllocError>
         requires { IsNewPair self.old.items.items (namespace_view key.namespace) }
         ensures { IfOk result (λ i. AddsPair (namespace_view key.entry.namespace) i
@@ -190,6 +193,7 @@ impl<'input> NamespaceTable<'input> {
     }
 
     /// The place of a pair, which is put at the end if it is new. The table may hold 65,535 of them.
+    #[inline(always)]
     pub fn place(
         &mut self,
         prefix: Option<&'input str>,
