@@ -1,6 +1,6 @@
 //! The tables as they grow: the open elements, and the text that may go on.
 
-ghost use Rattle.std.specs.Prelude.{◌<◌, ◌≤◌, ◌+◌, ◌++◌, ◌^◌, ◌≡◌, ◌∷◌, [], ℕ, length, drop, vec_len, set, get_or, max, is_some, IfOk, IfErr, IfSome, OnOk};
+ghost use Rattle.std.specs.Prelude.{◌<◌, ◌≤◌, ◌+◌, ◌++◌, ◌^◌, ◌≡◌, ◌∷◌, [], ℕ, length, drop, vec_len, set, get_or, max, is_some, IfOk, IfSome, OnOk};
 ghost use Rattle.rox_tables.specs.declared.rows.tables.NodeData.{NodeData};
 ghost use Rattle.rox_tables.specs.Rows.{node_rows, attribute_rows};
 ghost use Rattle.rox_tables.specs.declared.rows.tables.Scope.TheVariants as scope;
@@ -168,24 +168,21 @@ fn storage_of<'input>(
 }
 
 impl<'input> Builder<'input> {
-    ghost use Rattle.std.specs.Prelude.{List, ◌-◌, false, true, take, Ok, Err, map, vec_capacity};
-    ghost use Rattle.rox_grammar.specs.Forest.{Forest, Nil, Cons, join};
-    ghost use Rattle.rox_grammar.specs.Written.{Item, Text, Element, Tag, merge, leaf};
+    ghost use Rattle.std.specs.Prelude.{List, ◌-◌, false, true, Ok, Err, map, vec_capacity};
+    ghost use Rattle.rox_grammar.specs.Forest.{Forest};
+    ghost use Rattle.rox_grammar.specs.Written.{Item, Text, Element, merge, leaf};
     ghost use Rattle.rox_grammar.specs.declared.fault.Fault.TheVariants as fault;
-    ghost use Rattle.rox_grammar.specs.State.{Open, root, inside, is_root, scope_of, nodes_so_far};
+    ghost use Rattle.rox_grammar.specs.State.{Open, root, is_root, nodes_so_far};
     ghost use Rattle.rox_reading.specs.State.{State};
-    ghost use Rattle.rox_reading.specs.Machine.{with_item, with_piece, counted};
+    ghost use Rattle.rox_reading.specs.Machine.{with_piece, counted};
     ghost use Rattle.rox_build.specs.DataParts.{HasPart};
     ghost use Rattle.rox_grammar.specs.Failures.{Fails};
     ghost use Rattle.rox_values.specs.Values.{piece_view};
-    ghost use Rattle.rox_build.specs.BuilderState.{Represents, RepresentsFlushed, AreSound, Adds, IsConsistent, IsReady, KeepsOpen, KeepsState, KeepsTables, names_in, opened_in, last_row, tables_of};
+    ghost use Rattle.rox_build.specs.BuilderState.{Represents, AreSound, Adds, IsReady, KeepsOpen, opened_in, last_row, tables_of};
     ghost use Rattle.rox_build.specs.Outcomes.{AddsNode, AddsText, Flushes, OpensElement};
     ghost use Rattle.rox_build.specs.Putting.{Closes, EndsRun, IsInnermostScope, IsOfRoot, JoinsText, MayHaveMore, MayPutClose, MayPutLeaf, MayPutOpen, PutsClose, PutsLeaf, PutsOpen, PutsOwned, PutsText, Settles, WaitsForMore};
     ghost use Rattle.rox_build.specs.Readiness.{MayPutText};
     ghost use Rattle.rox_tables.specs.Rows.{HoldsTree};
-    ghost use Rattle.rox_tables.specs.StoredNodes.{IsSmallKind};
-    ghost use Rattle.rox_tables.specs.Scopes.{PrefixesOnce};
-    ghost use Rattle.rox_build.specs.ElementRow.{scope_in_tables};
     ghost use Rattle.rox_grammar.specs.Tree.{document_tree};
     ghost use Rattle.rox_build.specs.declared.builder.OpenElement.{OpenElement};
 

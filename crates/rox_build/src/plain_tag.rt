@@ -2,28 +2,19 @@
 //! refer to no entities but the predefined ones (XML 1.0 sections 3.1 and 4.6). Nothing fails here: a tag that is not plain, or finds
 //! no room, is left to the general step, which reads it from its `<`.
 
-ghost use Rattle.std.specs.Prelude.{◌≡◌, ◌<◌, ◌≤◌, ◌+◌, ◌-◌, ◌^◌, ◌==◌, ◌||◌, List, Ok, IfSome, IfNone, drop, length, map, slice_index, slice_range, true, false, []};
+ghost use Rattle.std.specs.Prelude.{◌≡◌, ◌<◌, ◌≤◌, ◌+◌, ◌-◌, ◌==◌, ◌||◌, Ok, IfSome, drop, length, slice_index, slice_range, true, false, []};
 ghost use Rattle.std.specs.Str.{IsCharBoundary};
-ghost use Rattle.rox_grammar.specs.Chars.{is_name_start, is_part_char, is_space};
+ghost use Rattle.rox_grammar.specs.Chars.{is_space};
 ghost use Rattle.rox_grammar.specs.Runs.{run_end, begins};
 ghost use Rattle.rox_grammar.specs.Failures.{name_view};
 ghost use Rattle.rox_reading.specs.Lexical.{qname_at};
-ghost use Rattle.rox_scan.specs.ByteSets.{EndsSet, is_part_byte};
 ghost use Rattle.rox_scan.specs.ScanResults.{Finds};
-ghost use Rattle.rox_scan.specs.Windows.{Sees};
 ghost use Rattle.rox_reading.specs.Values.{is_special};
 ghost use Rattle.rox_tables.specs.Storage.{storage_bytes};
-ghost use Rattle.rox_grammar.specs.Tree as tree;
-ghost use Rattle.rox_grammar.specs.WellNamed.{is_known, may_name};
-ghost use Rattle.rox_grammar.specs.Written.{NamespaceDecl};
-ghost use Rattle.rox_tables.specs.Bindings.{FindsBinding};
-ghost use Rattle.rox_tables.specs.Rows.{NamespaceWithin, namespace_view, attribute_uri};
 ghost use Rattle.std.specs.List.{AllByRecursion};
 ghost use Rattle.rox_tables.specs.SeenNames.{AreSeen};
-ghost use Rattle.rox_build.specs.ElementRow.{scope_in_tables};
-ghost use Rattle.rox_build.specs.BuilderState.{IsNamespaceOf};
 ghost use Rattle.rox_build.specs.PlainParts.{EndsEmpty, EndsFirstPart, EndsNearPart, EndsPart, EndsTag, FindsAttributeNamespace, FindsElementNamespace, IsNextItem, IsSomePlace, IsWholeName, MayNameBelow, MayNameIn, MayPutNamed, MayPutPart, MayReadBareTag, MayReadNearTag, MayReadPlainTag, PutsSome, SeesEnd, SeesStart};
-ghost use Rattle.rox_build.specs.PlainTag.{BeginsValue, EndsNear, HasPlainValue, HasQuoteBefore, HasScope, HoldsTag, IsAttributeName, IsBareTag, IsBeforeLast, IsFirstPart, IsNearAttribute, IsPlainAttribute, IsPlainName, IsQuoteAt, IsQuoteBehindEquals, IsValueStart, MayOpenAt, MayOpenBelow, MayPut, MayReadAttributes, PutsPlain, ReadsAttributes, ReadsTag, SeesValue, few_in};
+ghost use Rattle.rox_build.specs.PlainTag.{BeginsValue, HasPlainValue, HasQuoteBefore, HasScope, IsAttributeName, IsBareTag, IsBeforeLast, IsNearAttribute, IsPlainAttribute, IsPlainName, IsQuoteAt, IsQuoteBehindEquals, IsValueStart, MayPut, MayReadAttributes, PutsPlain, ReadsAttributes, ReadsTag, SeesValue};
 
 use crate::builder::OpenElement;
 use crate::spaced_value::{spaced_value, spaced_value_ends};
