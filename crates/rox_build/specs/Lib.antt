@@ -14,6 +14,7 @@ pub mod TagState
 pub mod ElementRow
 pub mod PlainTag
 pub mod PlainParts
+pub mod RootTag
 pub mod Asking
 pub mod Built
 pub mod WholeTexts

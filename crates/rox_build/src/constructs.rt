@@ -18,7 +18,8 @@ ghost use Rattle.rox_build.specs.Outcomes.{ParsesAs, ScansAs};
 ghost use Rattle.rox_build.specs.Readiness.{MayRead, MayReadMarkup, MayReadTag};
 
 use crate::builder::Builder;
-use crate::tag::{TagContext, start_tag};
+use crate::root_tag::any_start_tag;
+use crate::tag::TagContext;
 use rox_grammar::failure::Failure;
 use rox_grammar::fault::{Fault, Span, Word};
 use rox_grammar::name::QName;
@@ -149,7 +150,7 @@ pub fn element<'input>(
         openings_left,
     };
     let (tables, buffers) = (&mut builder.tables, &mut builder.buffers);
-    let tag = start_tag(alloc, cursor, tables, buffers, around, context)?;
+    let tag = any_start_tag(alloc, cursor, tables, buffers, around, context)?;
     builder.openings_left = tag.openings_left;
     if tag.empty {
         builder.leaf(alloc, start, cursor.pos, NodeKind::Element(tag.element))?;

@@ -10,6 +10,7 @@ pub mod plain_constructs;
 pub mod plain_tag;
 pub mod reader;
 pub mod resolver;
+mod root_tag;
 mod same_front;
 mod spaced_value;
 pub mod tag;

@@ -55,7 +55,11 @@ pub struct PlainName<'input> {
 /// The name that begins at `start`, if one stands there (Namespaces in XML section 4). Its first part ends at `colon`.
 #[inline(always)]
 #[tactic(auto, unfolding(rox_reading::specs::Lexical::qname_at))]
-fn plain_name<'input>(text: &'input str, start: usize, colon: usize) -> Option<PlainName<'input>>
+pub fn plain_name<'input>(
+    text: &'input str,
+    start: usize,
+    colon: usize,
+) -> Option<PlainName<'input>>
     requires { EndsPart text.now start colon }
     ensures { IfSome result (λ n. IsPlainName text.entry.now start n) }
 {
@@ -180,7 +184,7 @@ fn value_start(text: &str, at: usize) -> usize
 
 /// The quote behind which a value begins at `start`.
 #[inline(always)]
-fn quote_before(text: &str, start: usize) -> u8
+pub fn quote_before(text: &str, start: usize) -> u8
     requires { HasQuoteBefore text.now start }
     ensures { IsQuoteAt text.now (start - 1) result }
 {
@@ -350,7 +354,7 @@ fn put_other_attribute<'input>(
 
 /// The quote that stands behind a `=` at `at`, or 0.
 #[inline(always)]
-fn quote_behind_equals(text: &str, at: usize) -> u8
+pub fn quote_behind_equals(text: &str, at: usize) -> u8
     requires { at ≤ length text.now }
     ensures { 0 < result → IsQuoteBehindEquals text.now at result }
 {
@@ -412,14 +416,14 @@ pub fn near_attribute<'input>(text: &'input str, at: usize) -> Option<Unresolved
 
 /// A value that stands for itself, and where it ends.
 #[derive(Clone, Copy)]
-struct PlainValue<'input> {
-    text: &'input str,
-    end: usize,
+pub struct PlainValue<'input> {
+    pub text: &'input str,
+    pub end: usize,
 }
 
 /// The value that begins at `start`, behind this quote, if it stands for itself: up to `near` each byte does.
 #[inline(always)]
-fn plain_value<'input>(
+pub fn plain_value<'input>(
     text: &'input str,
     start: usize,
     quote: u8,
@@ -464,10 +468,10 @@ fn seen_value<'input>(
 
 /// An attribute whose name was read, behind which `=` and a quote stand, with its value.
 #[derive(Clone, Copy)]
-struct NamedAttribute<'input> {
-    start: usize,
-    name: PlainName<'input>,
-    value: PlainValue<'input>,
+pub struct NamedAttribute<'input> {
+    pub start: usize,
+    pub name: PlainName<'input>,
+    pub value: PlainValue<'input>,
 }
 
 /// Puts an attribute whose name and value were read behind those of its tag, which were `seen`, if it is no declaration. Answers
@@ -529,7 +533,11 @@ fn some_place(place: usize) -> Option<usize>
 /// right behind it. The second begins with no digit or sign, as its first byte shows.
 #[inline(always)]
 #[tactic(auto, unfolding(rox_reading::specs::Lexical::qname_at))]
-fn prefixed_name<'input>(text: &'input str, start: usize, part: usize) -> Option<PlainName<'input>>
+pub fn prefixed_name<'input>(
+    text: &'input str,
+    start: usize,
+    part: usize,
+) -> Option<PlainName<'input>>
     requires { EndsFirstPart text.now start part 58 }
     ensures { IfSome result (λ n. IsAttributeName text.entry.now start n) }
 {
@@ -604,7 +612,7 @@ fn put_far_attribute<'input>(
 /// The name from `start` up to `part`, where its first part ends and `=` stands.
 #[inline(always)]
 #[tactic(auto, unfolding(rox_reading::specs::Lexical::qname_at))]
-fn whole_name<'input>(text: &'input str, start: usize, part: usize) -> PlainName<'input>
+pub fn whole_name<'input>(text: &'input str, start: usize, part: usize) -> PlainName<'input>
     requires { EndsFirstPart text.now start part 61 }
     ensures { IsWholeName text.entry.now start part result }
 {
@@ -617,7 +625,7 @@ fn whole_name<'input>(text: &'input str, start: usize, part: usize) -> PlainName
 
 /// The same of the attribute that begins at `start`. Most have a short name without prefix.
 #[inline(always)]
-fn put_attribute<'input>(
+pub fn put_attribute<'input>(
     text: &'input str,
     start: usize,
     elements: &mut ElementTables<'input>,
@@ -651,9 +659,9 @@ fn put_attribute<'input>(
 
 /// How a start tag ends: behind which place, and whether it is empty.
 #[derive(Clone, Copy)]
-struct TagEnd {
-    at: usize,
-    empty: bool,
+pub struct TagEnd {
+    pub at: usize,
+    pub empty: bool,
 }
 
 /// The end of a start tag from its `/`, if `>` stands behind that.
@@ -690,14 +698,14 @@ fn near_space_end(text: &str, at: usize) -> usize
 
 /// What stands behind white space: where, and whether it may be an attribute.
 #[derive(Clone, Copy)]
-struct NextItem {
-    at: usize,
-    may_begin: bool,
+pub struct NextItem {
+    pub at: usize,
+    pub may_begin: bool,
 }
 
 /// What stands behind the white space that begins at `at`, before the last byte. A name begins with no byte up to `>`.
 #[inline(always)]
-fn next_item(text: &str, at: usize) -> NextItem
+pub fn next_item(text: &str, at: usize) -> NextItem
     requires { IsBeforeLast text.now at }
     ensures { IsNextItem text.now at result }
 {
@@ -717,7 +725,7 @@ fn next_item(text: &str, at: usize) -> NextItem
 
 /// The end of a start tag, if it stands at `at`.
 #[inline(always)]
-fn tag_end(text: &str, at: usize) -> Option<TagEnd>
+pub fn tag_end(text: &str, at: usize) -> Option<TagEnd>
     ensures { EndsTag text.now at result }
 {
     if is_at(text, at, b'>') {
@@ -840,7 +848,7 @@ pub fn bare_start_tag<'input>(
 
 /// The namespace of the name of a tag in this scope, if its prefix is known.
 #[inline(always)]
-fn other_namespace(
+pub fn other_namespace(
     elements: &ElementTables<'_>,
     name: QName<'_>,
     at: usize,

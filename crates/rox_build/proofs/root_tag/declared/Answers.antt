@@ -1,0 +1,58 @@
+use Rattle.std.proofs.Common.{◌≡◌, ◌-◌, ◌+◌, [], slice_index, refl, sym, ap, ◌∙◌, arith}
+use Rattle.rox_grammar.specs.Failures.{name_view}
+use Rattle.rox_tables.specs.declared.rows.storage.StringStorage.TheVariants.{Borrowed}
+use Rattle.rox_tables.specs.declared.namespaces.unresolved_attribute.UnresolvedAttribute.{UnresolvedAttribute}
+use Rattle.rox_build.specs.PlainTag.{IsValueStart, IsPlainAttribute}
+use Rattle.rox_build.proofs.PlainTags.{attribute_reads, value_is, value_starts, quote_is_some}
+use Rattle.rox_build.proofs.root_tag.declared.Goals as goal
+
+pub returns-in-Ok-false-clause-lists : goal.returns-in-Ok-false-clause-lists
+returns-in-Ok-false-clause-lists c =
+    let src = c.args.text.now in
+    let i = c.args.start in
+    let read = c.in_ok-read.read in
+    let found = c.in_ok-read.ensures in
+    let name = read.name.name in
+    let n = read.name.end in
+    let s = n + 2 in
+    let q = c.quote_before-quote.result in
+    let is_quote = c.quote_before-quote.ensures.quote in
+    let j = read.value.end in
+    let e = c.after_byte-end.result in
+    let w = found.value in
+    let value = read.value.text in
+    let there : slice_index src (n + 1) ≡ q = ap (slice_index src) (omega arith) ∙ c.quote_before-quote.ensures.here in
+    let v : IsValueStart src n s = value_starts src n c.utf8.text found.named.inside found.named.equals found.named.quote in
+    let here : slice_index src (s - 1) ≡ q = ap (slice_index src) (omega arith) ∙ there in
+    let done = c.after_byte-end.ensures.place in
+    let onward = w.onward in
+    let fits = w.cut.0 in
+    let inside = found.named.inside in
+    let local = found.named.local in
+    let one : UnresolvedAttribute = record {
+      start = i;
+      name_end = n;
+      value_start = s;
+      end = e;
+      name = name;
+      value = Borrowed value;
+      placed = omega arith;
+    } in
+    let plain : IsPlainAttribute src i one = record {
+      value_end = j;
+      read = attribute_reads src i (name_view name) n s q j e found.named.value v here is_quote (quote_is_some q is_quote) (rw there at w.read) (w.here ∙ there) done;
+      start = refl;
+      end = done;
+      value = λ main es opener openings_left. rw w.is (value_is main es opener src s j openings_left w.verbatim);
+      cut = c.after_byte-end.ensures.cut;
+      onward = omega arith;
+      local = local;
+      gap = omega arith;
+    } in
+    record {
+      one = one;
+      plain = plain;
+      is = sym c.is_namespace_decl.ensures ∙ c.if-not-is_namespace_decl.false;
+      end = refl;
+      declared = λ h declares. rw c.in-Ok-false.field-0-test at (c.in-Ok-false.ensures.value [] [] h refl declares);
+    }

@@ -1,0 +1,141 @@
+-- The start tag of a root element that is read at one look, with its declarations.
+use Rattle.std.specs.Prelude.{◌≡◌, ℕ, ◌+◌, ◌<◌, ◌≤◌, ◌^◌, Bool, true, false, List, [], ◌∷◌, ◌++◌, Option, Some, None, Ok, length, map, slice_index, IfSome}
+use Rattle.std.specs.Borrow.{Bor}
+use Rattle.std.specs.List.{AllByRecursion}
+use Rattle.std.specs.Str.{IsCharBoundary}
+use Rattle.rox_grammar.specs.declared.fault.Fault.{Fault}
+use Rattle.rox_grammar.specs.Document.{most_pairs}
+use Rattle.rox_grammar.specs.Failures.{name_view}
+use Rattle.rox_grammar.specs.Tree.{attribute_in, listable_of}
+use Rattle.rox_grammar.specs.Written.{Attribute, NamespaceDecl, is_namespace_decl}
+use Rattle.rox_reading.specs.Tags.{TagSoFar, Values, attributes_at, names_tested}
+use Rattle.rox_reading.specs.Tags as tags
+use Rattle.rox_tables.specs.Bindings.{AreBindingsOf}
+use Rattle.rox_tables.specs.Rows.{AttributeRow, NamespaceWithin, namespace_view, attribute, attribute_rows}
+use Rattle.rox_tables.specs.TagDeclarations.{Declared, Declares, HasOwn, unresolved_view}
+use Rattle.rox_tables.specs.TagScopes.{lists_in}
+use Rattle.rox_tables.specs.declared.namespaces.bindings.PrefixBindings.{PrefixBindings}
+use Rattle.rox_tables.specs.declared.namespaces.unresolved_attribute.UnresolvedAttribute.{UnresolvedAttribute}
+use Rattle.rox_tables.specs.declared.rows.tables.ElementTables.{ElementTables}
+use Rattle.rox_tables.specs.declared.rows.tables.Scope.{Scope}
+use Rattle.rox_tables.specs.declared.rows.tables.Scope.TheVariants as scope
+use Rattle.rox_build.specs.PlainTag.{HasPlainValue, IsAttributeName, IsPlainAttribute, IsPlainTag, holding}
+use Rattle.rox_build.specs.Readiness.{MayReadBelow}
+use Rattle.rox_build.specs.declared.plain_tag.NamedAttribute.{NamedAttribute}
+use Rattle.rox_build.specs.declared.plain_tag.PlainTag.{PlainTag}
+use Rattle.rox_build.specs.declared.plain_tag.TagEnd.{TagEnd}
+
+-- the name and the value of an attribute or a declaration that begins here, where the value stands for itself
+pub record IsNamed (src : List ℕ) (i : ℕ) (n : NamedAttribute) : Type 0 where
+  pub start : n.start ≡ i
+  pub named : IsAttributeName src i n.name
+  pub value : HasPlainValue src (n.name.end + 2) (slice_index src (n.name.end + 1)) n.value.end n.value.text.now
+
+-- nothing is declared, and there is the scope of the root node alone
+pub record IsBlank (t : ElementTables) : Type 0 where
+  pub namespaces : t.namespaces.items.items ≡ []
+  pub lists : lists_in t ≡ [] ∷ []
+  pub scopes : length t.scopes.items ≡ 1
+
+-- a scope of the first so many places
+abbrev pub first_places : ℕ → Scope
+first_places n = scope.Few (record { from = 0; until = n })
+
+-- the places of prefixes are those of no scope
+abbrev pub AreNoBindings : PrefixBindings → Type 0
+AreNoBindings x = (namespaces : List NamespaceDecl) (lists : List (List NamespaceDecl)) → AreBindingsOf namespaces lists x
+
+-- the tables have the scope of the root node and that of its element, which lists all that is listed
+pub record HasRootScope (t : ElementTables) : Type 0 where
+  pub scopes : t.scopes.items ≡ first_places 0 ∷ first_places (length t.listed.items) ∷ []
+  pub present : AreNoBindings t.present
+
+-- a declaration, not of `xml`, was read from i to j, and is listed
+pub record ListsDeclaration (old new : ElementTables) (src : List ℕ) (i j : ℕ) : Type 0 where
+  pub one : UnresolvedAttribute
+  pub plain : IsPlainAttribute src i one
+  pub is : is_namespace_decl (name_view one.name) ≡ true
+  pub end : one.end ≡ j
+  pub declared : (h : TagSoFar) → Declares [] [] (map namespace_view old.namespaces.items.items) old.listed.items false h.own
+      → Declared [] [] (map namespace_view new.namespaces.items.items) new.listed.items (Ok false) h (tags.declared [] (unresolved_view one) h)
+
+-- The attributes and declarations of a root element up to this place, each of them plain: these declare so much, and those are in the
+-- table, which had these rows before, in what is declared.
+pub record RootSoFar (namespaces own : List NamespaceDecl) (src : List ℕ) (start : ℕ) (old : List AttributeRow) (i : ℕ) (now : List AttributeRow) : Type 0 where
+  pub written : List Attribute
+  pub more : List AttributeRow
+  pub rows : now ≡ old ++ more
+  pub within : AllByRecursion (λ a. NamespaceWithin (length namespaces) a.0.namespace) more
+  pub shown : map (attribute namespaces) more ≡ map (attribute_in (listable_of own)) written
+  pub tested : (rest : List Attribute) → names_tested (listable_of own) [] (written ++ rest) ≡ names_tested (listable_of own) written rest
+  -- so many turns are left for what follows
+  pub turns : ℕ
+  pub enough : length src ≤ turns + i
+  pub read : (context : Values) (cut : Fault) (openings_left : ℕ)
+      → attributes_at (length src) context cut [] src start openings_left (holding []) ≡ attributes_at turns context cut [] src i openings_left (record { own = own; attributes = written })
+
+-- the same, where the tables declare so much
+pub record HoldsRoot (t : ElementTables) (keys : List (Option (Bor (List ℕ)))) (src : List ℕ) (start : ℕ) (old : List AttributeRow) (i : ℕ) : Type 0 where
+  pub own : List NamespaceDecl
+  pub declares : Declares [] [] (map namespace_view t.namespaces.items.items) t.listed.items false own
+  pub has : HasOwn t.namespaces.items.items t.listed.items keys 0
+  pub scope : HasRootScope t
+  pub so_far : RootSoFar (map namespace_view t.namespaces.items.items) own src start old i (attribute_rows t.attributes)
+
+-- the attributes and declarations of the tag of a root element that ends here
+pub record IsRootRead (t : ElementTables) (src : List ℕ) (start : ℕ) (old : List AttributeRow) (end : ℕ) (empty : Bool) : Type 0 where
+  pub own : List NamespaceDecl
+  pub written : List Attribute
+  pub more : List AttributeRow
+  pub declares : Declares [] [] (map namespace_view t.namespaces.items.items) t.listed.items false own
+  pub keys : List (Option (Bor (List ℕ)))
+  pub has : HasOwn t.namespaces.items.items t.listed.items keys 0
+  pub scope : HasRootScope t
+  pub rows : attribute_rows t.attributes ≡ old ++ more
+  pub within : AllByRecursion (λ a. NamespaceWithin (length t.namespaces.items.items) a.0.namespace) more
+  pub shown : map (attribute (map namespace_view t.namespaces.items.items)) more ≡ map (attribute_in (listable_of own)) written
+  pub tested : names_tested (listable_of own) [] written ≡ Ok tt
+  pub read : (context : Values) (cut : Fault) (openings_left : ℕ)
+      → attributes_at (length src) context cut [] src start openings_left (holding [])
+      ≡ Ok (record { held = record { own = own; attributes = written }; empty = empty; openings_left = openings_left }, end)
+
+-- the attributes of the table have grown by these
+pub record HasMoreRows (old new : ElementTables) : Type 0 where
+  pub more : List AttributeRow
+  pub rows : attribute_rows new.attributes ≡ attribute_rows old.attributes ++ more
+
+-- the attributes and declarations of a root element were read from here up to the end of the tag, if they are plain
+pub record ReadsRoot (old new : ElementTables) (src : List ℕ) (i : ℕ) (result : Option TagEnd) : Type 0 where
+  pub read : IfSome result (λ e. IsRootRead new src i (attribute_rows old.attributes) e.at e.empty)
+  pub cut : IfSome result (λ e. IsCharBoundary src e.at)
+  pub grown : HasMoreRows old new
+
+-- nothing is declared, and the scope of the root element is there
+pub record BeginsRoot (t : ElementTables) : Type 0 where
+  pub namespaces : t.namespaces.items.items ≡ []
+  pub listed : t.listed.items ≡ []
+  pub scope : HasRootScope t
+
+-- attributes and declarations of a root element may be read here
+pub record MayReadRoot (src : List ℕ) (i : ℕ) (t : ElementTables) : Type 0 where
+  pub cut : IsCharBoundary src i
+  pub short : length src < 2 ^ 32
+  pub begins : BeginsRoot t
+
+-- the start tag was read that begins here, below the root node, if it is plain, and so many replacement texts may be opened behind it
+pub record ReadsRootTag (old new : ElementTables) (src : List ℕ) (i openings : ℕ) (result : Option PlainTag) : Type 0 where
+  pub read : IfSome result (λ t. (blank : ElementTables) → IsBlank blank → attribute_rows blank.attributes ≡ attribute_rows old.attributes → IsPlainTag blank new [] src i t.end t.tag)
+  pub openings_left : IfSome result (λ t. t.tag.openings_left ≡ openings)
+  pub grown : HasMoreRows old new
+
+-- these tables hold the same, so that a start tag is read into the ones as into the others
+pub record HoldAlike (old now : ElementTables) : Type 0 where
+  pub rows : attribute_rows now.attributes ≡ attribute_rows old.attributes
+  pub names : map namespace_view now.namespaces.items.items ≡ map namespace_view old.namespaces.items.items
+  pub lists : lists_in now ≡ lists_in old
+  pub below : (above : ℕ) → MayReadBelow old above → MayReadBelow now above
+
+-- what comes of the start tag of a root element that begins here: it was read, or the tables hold what they did
+abbrev pub GivesRootTag : (old new : ElementTables) (src : List ℕ) (i openings : ℕ) → Option PlainTag → Type 0
+GivesRootTag old new src i openings None = HoldAlike old new
+GivesRootTag old new src i openings (Some t) = IsBlank old × IsPlainTag old new [] src i t.end t.tag × (t.tag.openings_left ≡ openings)

@@ -1,0 +1,323 @@
+//! The start tag of a root element that is read at one look, with its declarations. Where it is not plain, the general way reads it
+//! from its `<`.
+
+ghost use Rattle.std.specs.Prelude.{◌≡◌, ◌<◌, ◌≤◌, ◌+◌, ◌^◌, [], ◌∷◌, List, Ok, IfOk, IfSome, OnOk, length, map, slice_index, true};
+ghost use Rattle.std.specs.Str.{IsCharBoundary};
+ghost use Rattle.rox_grammar.specs.Entities.{Entity};
+ghost use Rattle.rox_reading.specs.Tags.{tag_at};
+ghost use Rattle.rox_values.specs.DeclaredEntities.{AreDeclared, values_in};
+ghost use Rattle.rox_tables.specs.Rows.{attribute_rows, namespace_view};
+ghost use Rattle.rox_tables.specs.TagDeclarations.{HasOwn};
+ghost use Rattle.rox_tables.specs.declared.rows.tables.Scope.{Scope};
+ghost use Rattle.rox_build.specs.ElementRow.{GivesTag, scope_in_tables};
+ghost use Rattle.rox_build.specs.Readiness.{MayReadBelow};
+ghost use Rattle.rox_build.specs.RootTag.{AreNoBindings, BeginsRoot, GivesRootTag, IsBlank, IsNamed, ListsDeclaration, MayReadRoot, ReadsRoot, ReadsRootTag, first_places};
+
+use crate::plain_tag::{
+    NamedAttribute, PlainTag, TagEnd, next_item, other_namespace, plain_name, plain_value,
+    prefixed_name, put_attribute, quote_before, quote_behind_equals, tag_end, whole_name,
+};
+use crate::tag::{Buffers, MOST_ATTRIBUTES, StartTag, TagContext, start_tag};
+use rox_scan::byte_set::{PartByte, ValueByte, part_end, skip_set};
+use rox_scan::cursor::Cursor;
+use rox_scan::runs::{after_byte, is_at};
+use rox_tables::compare::same_text;
+use rox_tables::namespaces::bindings::PrefixBindings;
+use rox_tables::namespaces::namespace_decl::{declare_namespace, is_namespace_decl};
+use rox_tables::namespaces::namespace_table::NamespaceTable;
+use rox_tables::namespaces::prefix_set::FEW;
+use rox_tables::namespaces::unresolved_attribute::UnresolvedAttribute;
+use rox_tables::rows::storage::StringStorage;
+use rox_tables::rows::tables::{ElementData, ElementTables, Scope, Stretch};
+use rox_values::context::Context;
+use rox_values::parse_error::ParseError;
+use std::alloc::{AllocError, Global};
+use std::collections::BTreeSet;
+
+/// The scope of a root element: the row behind that of the root node.
+const OWN: u32 = 1;
+
+/// Whether `xmlns` stands at `at`.
+#[inline(always)]
+fn may_declare(text: &str, at: usize) -> bool {
+    let bytes = text.as_bytes();
+    at < bytes.len()
+        && bytes.len() - at > 5
+        && bytes[at] == b'x'
+        && bytes[at + 1] == b'm'
+        && bytes[at + 2] == b'l'
+        && bytes[at + 3] == b'n'
+        && bytes[at + 4] == b's'
+}
+
+/// The name of the attribute or declaration that begins at `start`, if `=` and a quote stand right behind it; and its value, if that
+/// stands for itself.
+#[inline(always)]
+fn named_attribute<'input>(text: &'input str, start: usize) -> Option<NamedAttribute<'input>>
+    requires cut { IsCharBoundary text.now start }
+    requires begins { 62 < slice_index text.now start }
+    ensures { IfSome result (λ n. IsNamed text.entry.now start n) }
+{
+    let part = skip_set::<PartByte>(text, start);
+    if is_at(text, part, b':') {
+        let name = prefixed_name(text, start, part)?;
+        let quote = quote_before(text, name.end + 2);
+        let near = skip_set::<ValueByte>(text, name.end + 2);
+        let value = plain_value(text, name.end + 2, quote, near)?;
+        return Some(NamedAttribute { start, name, value });
+    }
+    let quote = quote_behind_equals(text, part);
+    if quote == 0 {
+        return None;
+    }
+    let name = whole_name(text, start, part);
+    let near = skip_set::<ValueByte>(text, part + 2);
+    let value = plain_value(text, part + 2, quote, near)?;
+    Some(NamedAttribute { start, name, value })
+}
+
+/// Declares what begins at `start`, if it is a declaration that is read at one look, and none of `xml`. Answers the place behind it.
+#[inline(always)]
+fn declared<'input>(
+    text: &'input str,
+    start: usize,
+    elements: &mut ElementTables<'input>,
+    prefix_set: &mut BTreeSet<Option<&'input str>>,
+) -> Option<usize>
+    requires cut { IsCharBoundary text.now start }
+    requires begins { 62 < slice_index text.now start }
+    requires own { HasOwn elements.old.namespaces.items.items elements.old.listed.items
+        prefix_set.old.keys 0 }
+    ensures others { elements.new ≡ record elements.old {
+      namespaces = elements.new.namespaces;
+      listed = elements.new.listed;
+    } }
+    ensures own { IfSome result (λ _. HasOwn elements.new.namespaces.items.items
+        elements.new.listed.items prefix_set.new.keys 0) }
+    ensures lists { IfSome result
+        (λ j. ListsDeclaration elements.old elements.new text.entry.now start j) }
+{
+    let read = named_attribute(text, start)?;
+    if !is_namespace_decl(read.name.name) {
+        return None;
+    }
+    let value_start = read.name.end + 2;
+    let quote = quote_before(text, value_start);
+    let end = after_byte(text, read.value.end, quote);
+    let one = UnresolvedAttribute {
+        start,
+        name_end: read.name.end,
+        value_start,
+        end,
+        name: read.name.name,
+        value: StringStorage::Borrowed(read.value.text),
+    };
+    match declare_namespace(
+        &mut elements.namespaces,
+        &mut elements.listed,
+        prefix_set,
+        0,
+        false,
+        one,
+    ) {
+        Ok(false) => Some(end),
+        _ => None,
+    }
+}
+
+/// Has the scope of the root element list what is listed, if that is little.
+#[inline(always)]
+fn list_own(elements: &mut ElementTables<'_>) -> bool
+    requires two { length elements.old.scopes.items ≡ 2 }
+    ensures others { elements.new ≡ record elements.old { scopes = elements.new.scopes } }
+    ensures lists { result ≡ true → (own : Scope)
+        → elements.old.scopes.items ≡ first_places 0 ∷ own ∷ []
+        → elements.new.scopes.items
+        ≡ first_places 0 ∷ first_places (length elements.old.listed.items) ∷ [] }
+{
+    let count = elements.listed.len();
+    if count > FEW {
+        return false;
+    }
+    elements.scopes[OWN as usize] = Scope::Few(Stretch {
+        from: 0,
+        until: count as u32,
+    });
+    true
+}
+
+/// The attributes and declarations of a root element, up to the end of its tag, if they are plain: each attribute goes into the
+/// table, with its namespace in what is declared before it.
+#[inline(always)]
+fn root_attributes<'input>(
+    text: &'input str,
+    start: usize,
+    elements: &mut ElementTables<'input>,
+    buffers: &mut Buffers<'input>,
+) -> Option<TagEnd>
+    requires { MayReadRoot text.now start elements.old }
+    ensures { ReadsRoot elements.old elements.new text.entry.now start result }
+{
+    buffers.seen.begin(elements.attributes.len());
+    let mut at = start;
+    while at + 1 < text.len() {
+        let next = next_item(text, at);
+        if !next.may_begin {
+            return tag_end(text, next.at);
+        }
+        if may_declare(text, next.at) {
+            at = declared(text, next.at, elements, &mut buffers.prefix_set)?;
+            if !list_own(elements) {
+                return None;
+            }
+        } else {
+            at = put_attribute(text, next.at, elements, OWN, &mut buffers.seen)?;
+        }
+    }
+    None
+}
+
+/// A start tag, from its `<`, below the root node, if it is plain.
+#[inline(never)]
+fn root_tag<'input>(
+    text: &'input str,
+    start: usize,
+    elements: &mut ElementTables<'input>,
+    buffers: &mut Buffers<'input>,
+    openings_left: u32,
+) -> Option<PlainTag<'input>>
+    requires here { slice_index text.now start ≡ 60 }
+    requires short { length text.now < 2 ^ 32 }
+    requires begins { BeginsRoot elements.old }
+    ensures { ReadsRootTag elements.old elements.new text.entry.now start openings_left result }
+{
+    let name_start = after_byte(text, start, b'<');
+    let part = part_end(text, name_start);
+    let name = plain_name(text, name_start, part)?;
+    if same_text(name.name.prefix, "xmlns") {
+        return None;
+    }
+    let from = elements.attributes.len();
+    let end = root_attributes(text, name.end, elements, buffers)?;
+    let namespace = other_namespace(elements, name.name, name_start, OWN)?;
+    let until = elements.attributes.len();
+    if until > MOST_ATTRIBUTES {
+        return None;
+    }
+    let element = ElementData {
+        local: name.name.local,
+        attributes_from: from as u32,
+        attributes_until: until as u32,
+        scope: OWN,
+        namespace,
+    };
+    let tag = StartTag {
+        name: name.name,
+        name_start,
+        name_end: name.end,
+        element,
+        empty: end.empty,
+        openings_left,
+    };
+    Some(PlainTag { tag, end: end.at })
+}
+
+/// Whether nothing is declared yet.
+#[inline(always)]
+fn is_blank(elements: &ElementTables<'_>) -> bool
+    ensures { result ≡ true → IsBlank elements.now }
+{
+    if elements.namespaces.as_slice().len() != 0 {
+        return false;
+    }
+    if elements.listed.len() != 0 {
+        return false;
+    }
+    if elements.scopes.len() != 1 {
+        return false;
+    }
+    true
+}
+
+/// Puts the scope of the root node there, where nothing is declared.
+#[inline(always)]
+fn begin_scopes(alloc: Global, elements: &mut ElementTables<'_>) -> Result<(), AllocError>
+    ensures scopes { OnOk result (elements.new.scopes.items ≡ first_places 0 ∷ []) }
+    ensures listed { OnOk result (elements.new.listed.items ≡ []) }
+    ensures present { OnOk result (AreNoBindings elements.new.present) }
+    ensures others { elements.new ≡ record elements.old {
+      listed = elements.new.listed;
+      scopes = elements.new.scopes;
+      present = elements.new.present;
+    } }
+{
+    elements.listed.clear();
+    elements.scopes.clear();
+    elements.present = PrefixBindings::new(alloc);
+    elements
+        .scopes
+        .push(Scope::Few(Stretch { from: 0, until: 0 }))?;
+    Ok(())
+}
+
+/// The start tag of a root element, from its `<`, if nothing is declared yet and it is plain. Else the tables hold what they did.
+#[inline(always)]
+fn first_tag<'input>(
+    alloc: Global,
+    text: &'input str,
+    start: usize,
+    elements: &mut ElementTables<'input>,
+    buffers: &mut Buffers<'input>,
+    openings_left: u32,
+) -> Result<Option<PlainTag<'input>>, AllocError>
+    requires { slice_index text.now start ≡ 60 }
+    ensures { IfOk result
+        (λ r. GivesRootTag elements.old elements.new text.entry.now start openings_left r) }
+{
+    if !is_blank(elements) || text.len() > u32::MAX as usize {
+        return Ok(None);
+    }
+    let attributes = elements.attributes.len();
+    begin_scopes(alloc, elements)?;
+    elements
+        .scopes
+        .push(Scope::Few(Stretch { from: 0, until: 0 }))?;
+    if let Some(read) = root_tag(text, start, elements, buffers, openings_left) {
+        return Ok(Some(read));
+    }
+    elements.attributes.truncate(attributes);
+    elements.namespaces = NamespaceTable::new(alloc);
+    begin_scopes(alloc, elements)?;
+    Ok(None)
+}
+
+/// A start tag, from its `<`, below what is told. That of a root element is most often read at one look.
+#[inline(always)]
+pub fn any_start_tag<'input>(
+    alloc: Global,
+    cursor: &mut Cursor<'input>,
+    elements: &mut ElementTables<'input>,
+    buffers: &mut Buffers<'input>,
+    around: TagContext,
+    context: Context<'_, 'input>,
+) -> Result<StartTag<'input>, ParseError<'input>>
+    requires there { cursor.old.pos < length cursor.old.text.now }
+    requires here { slice_index cursor.old.text.now cursor.old.pos ≡ 60 }
+    requires below { MayReadBelow elements.old around.above }
+    ensures source { cursor.new.text ≡ cursor.old.text }
+    ensures starts { IfOk result (λ t. t.name_start ≡ cursor.old.pos + 1) }
+    ensures value { (es : List Entity) → AreDeclared es context.entry.entities.now
+        → GivesTag elements.old elements.new cursor.new result
+        (scope_in_tables elements.old around.above)
+        (tag_at (values_in es context.entry) around.cut (scope_in_tables elements.old around.above)
+        (length (attribute_rows elements.old.attributes))
+        (map namespace_view elements.old.namespaces.items.items) cursor.old.text.now cursor.old.pos
+        around.openings_left) }
+{
+    let (text, start) = (cursor.text, cursor.pos);
+    if let Some(read) = first_tag(alloc, text, start, elements, buffers, around.openings_left)? {
+        cursor.pos = read.end;
+        return Ok(read.tag);
+    }
+    start_tag(alloc, cursor, elements, buffers, around, context)
+}
