@@ -12,7 +12,8 @@ use Rattle.std.proofs.Math.Seq.{drop-append_seam}
 use Rattle.rox_grammar.specs.declared.fault.Fault.{Fault}
 use Rattle.rox_grammar.specs.declared.fault.Fault.TheVariants as fault
 use Rattle.rox_grammar.specs.declared.fault.Word.TheVariants.{Xmlns}
-use Rattle.rox_grammar.specs.Document.{listable, most_attributes, most_pairs, with_new}
+use Rattle.rox_grammar.specs.Document.{most_attributes, most_pairs}
+use Rattle.rox_grammar.specs.Counts.{listable, with_new}
 use Rattle.rox_grammar.specs.Failures.{name_view}
 use Rattle.rox_grammar.specs.FixedTexts.{word_text}
 use Rattle.rox_grammar.specs.NameParts.{local_span}

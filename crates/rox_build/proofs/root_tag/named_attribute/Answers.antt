@@ -4,18 +4,23 @@ use Rattle.rox_scan.proofs.NearLemmas.{part_cut, part_stops}
 use Rattle.rox_build.proofs.PlainTags.{ascii_begins, behind_quote, value_starts}
 use Rattle.rox_build.proofs.root_tag.named_attribute.Goals as goal
 
-pub prefixed_name-requires-clause-first : goal.prefixed_name-requires-clause-first
-prefixed_name-requires-clause-first c =
+pub prefixed_name-requires : goal.prefixed_name-requires
+prefixed_name-requires c =
     let src = c.args.text.now in
     let near = c.skip_set-part.ensures in
     let here : slice_index src c.skip_set-part.result ≡ 58 = eqb-true _ _ (sym c.is_at.ensures ∙ c.if-is_at.true) in
-    part_stops src c.args.start c.skip_set-part.result c.utf8.text near.onward near.within near.passes near.stops (λ _. omega (arith, here))
-
-pub prefixed_name-requires-clause-begins : goal.prefixed_name-requires-clause-begins
-prefixed_name-requires-clause-begins c =
-    let src = c.args.text.now in
-    let here : slice_index src c.skip_set-part.result ≡ 58 = eqb-true _ _ (sym c.is_at.ensures ∙ c.if-is_at.true) in
-    ascii_begins src c.args.start c.skip_set-part.result c.utf8.text c.skip_set-part.ensures c.requires.begins (omega (arith, here))
+    record {
+      first = record {
+        start = c.requires.cut;
+        part = record {
+          place = part_stops src c.args.start c.skip_set-part.result c.utf8.text near.onward near.within near.passes near.stops (λ _. omega (arith, here));
+          onward = near.onward;
+          cut = part_cut src c.args.start _ c.utf8.text c.requires.cut near.onward near.within near.passes;
+        };
+        begins = ascii_begins src c.args.start c.skip_set-part.result c.utf8.text near c.requires.begins (omega (arith, here));
+      };
+      here = here;
+    }
 
 pub plain_value-requires : goal.plain_value-requires
 plain_value-requires c =
@@ -23,18 +28,21 @@ plain_value-requires c =
     let v = value_starts c.args.text.now c.in_ok-name.name.end c.utf8.text named.inside named.equals named.quote in
     record { cut = v.cut; near = c.skip_set-near.ensures; quote = c.quote_before-quote.ensures.quote }
 
-pub whole_name-name-requires-clause-first : goal.whole_name-name-requires-clause-first
-whole_name-name-requires-clause-first c =
+pub whole_name-name-requires : goal.whole_name-name-requires
+whole_name-name-requires c =
     let near = c.skip_set-part.ensures in
     let here = (c.quote_behind_equals-quote.ensures (omega arith)).equals in
     record {
-      start = c.requires.cut;
-      part = record {
-        place = part_stops c.args.text.now c.args.start _ c.utf8.text near.onward near.within near.passes near.stops (λ _. omega (arith, here));
-        onward = near.onward;
-        cut = part_cut c.args.text.now c.args.start _ c.utf8.text c.requires.cut near.onward near.within near.passes;
+      first = record {
+        start = c.requires.cut;
+        part = record {
+          place = part_stops c.args.text.now c.args.start _ c.utf8.text near.onward near.within near.passes near.stops (λ _. omega (arith, here));
+          onward = near.onward;
+          cut = part_cut c.args.text.now c.args.start _ c.utf8.text c.requires.cut near.onward near.within near.passes;
+        };
+        begins = ascii_begins c.args.text.now c.args.start c.skip_set-part.result c.utf8.text near c.requires.begins (omega (arith, here));
       };
-      begins = ascii_begins c.args.text.now c.args.start c.skip_set-part.result c.utf8.text near c.requires.begins (omega (arith, here));
+      here = here;
     }
 
 pub plain_value-requires-2 : goal.plain_value-requires-2

@@ -64,8 +64,8 @@ loop-at-preserved-else-not-list_own c =
           g d.others c.list_own.ensures.others scopes d.own d.lists near.ensures.end.onward near.ensures.end.place (λ same. omega (arith, same, begins.0)) on.0 on.1;
     }
 
-pub put_attribute-requires-clause-put : goal.put_attribute-requires-clause-put
-put_attribute-requires-clause-put c =
+pub put_attribute-requires : goal.put_attribute-requires
+put_attribute-requires c =
     let l = c.loop-at in
     let g = l.invariant.holds in
     let rows = attribute_rows c.args.elements.now.attributes in

@@ -11,10 +11,13 @@ use Rattle.rox_build.proofs.root_tag.root_tag.Goals as goal
 pub root_attributes-requires : goal.root_attributes-requires
 root_attributes-requires c = record { cut = c.in_ok-name.ensures.cut; short = c.requires.short; begins = c.requires.begins }
 
-pub other_namespace-requires-clause-scope : goal.other_namespace-requires-clause-scope
-other_namespace-requires-clause-scope c =
+pub other_namespace-requires : goal.other_namespace-requires
+other_namespace-requires c =
     let x = c.in_ok-end.ensures.read in
-    has_scope c.root_attributes.new.elements x.keys x.has x.scope
+    record {
+      scope = has_scope c.root_attributes.new.elements x.keys x.has x.scope;
+      small = omega arith;
+    }
 
 pub returns : goal.returns
 returns c =
