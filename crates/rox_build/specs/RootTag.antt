@@ -1,5 +1,5 @@
 -- The start tag of a root element that is read at one look, with its declarations.
-use Rattle.std.specs.Prelude.{◌≡◌, ℕ, ◌+◌, ◌<◌, ◌≤◌, ◌^◌, Bool, true, false, List, [], ◌∷◌, ◌++◌, Option, Some, None, Ok, length, map, slice_index, IfSome}
+use Rattle.std.specs.Prelude.{◌≡◌, ℕ, ◌+◌, ◌<◌, ◌≤◌, ◌^◌, Bool, true, false, List, [], ◌∷◌, ◌++◌, Option, Some, None, Ok, length, map, slice_index, IfSome, OnOk, Result}
 use Rattle.std.specs.Borrow.{Bor}
 use Rattle.std.specs.List.{AllByRecursion}
 use Rattle.std.specs.Str.{IsCharBoundary}
@@ -139,3 +139,38 @@ pub record HoldAlike (old now : ElementTables) : Type 0 where
 abbrev pub GivesRootTag : (old new : ElementTables) (src : List ℕ) (i openings : ℕ) → Option PlainTag → Type 0
 GivesRootTag old new src i openings None = HoldAlike old new
 GivesRootTag old new src i openings (Some t) = IsBlank old × IsPlainTag old new [] src i t.end t.tag × (t.tag.openings_left ≡ openings)
+
+-- an attribute or a declaration may begin here
+pub record MayBeNamed (src : List ℕ) (i : ℕ) : Type 0 where
+  pub cut : IsCharBoundary src i
+  pub begins : 62 < slice_index src i
+
+-- so may a declaration, where all that is declared is the tag's own
+pub record MayDeclare (src : List ℕ) (i : ℕ) (t : ElementTables) (keys : List (Option (Bor (List ℕ)))) : Type 0 where
+  pub cut : IsCharBoundary src i
+  pub begins : 62 < slice_index src i
+  pub own : HasOwn t.namespaces.items.items t.listed.items keys 0
+
+-- what begins here was declared, if it is a declaration that is read at one look, up to this place
+pub record DeclaresOwn (old new : ElementTables) (keys : List (Option (Bor (List ℕ)))) (src : List ℕ) (i : ℕ) (result : Option ℕ) : Type 0 where
+  pub others : new ≡ record old { namespaces = new.namespaces; listed = new.listed }
+  pub own : IfSome result (λ _. HasOwn new.namespaces.items.items new.listed.items keys 0)
+  pub lists : IfSome result (λ j. ListsDeclaration old new src i j)
+
+-- the scope of the root element lists all that is listed, if that is little
+pub record ListsOwn (old new : ElementTables) (result : Bool) : Type 0 where
+  pub others : new ≡ record old { scopes = new.scopes }
+  pub lists : result ≡ true → (own : Scope) → old.scopes.items ≡ first_places 0 ∷ own ∷ [] → new.scopes.items ≡ first_places 0 ∷ first_places (length old.listed.items) ∷ []
+
+-- the start tag of a root element may be read from its `<` here
+pub record MayReadRootTag (src : List ℕ) (i : ℕ) (t : ElementTables) : Type 0 where
+  pub here : slice_index src i ≡ 60
+  pub short : length src < 2 ^ 32
+  pub begins : BeginsRoot t
+
+-- nothing is listed, and there is the scope of the root node alone
+pub record BeginsScopes {E : Type 0} (old new : ElementTables) (result : Result (Unit {0}) E) : Type 0 where
+  pub scopes : OnOk result (new.scopes.items ≡ first_places 0 ∷ [])
+  pub listed : OnOk result (new.listed.items ≡ [])
+  pub present : OnOk result (AreNoBindings new.present)
+  pub others : new ≡ record old { listed = new.listed; scopes = new.scopes; present = new.present }

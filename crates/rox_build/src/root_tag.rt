@@ -1,17 +1,14 @@
 //! The start tag of a root element that is read at one look, with its declarations. Where it is not plain, the general way reads it
 //! from its `<`.
 
-ghost use Rattle.std.specs.Prelude.{◌≡◌, ◌<◌, ◌≤◌, ◌+◌, ◌^◌, [], ◌∷◌, List, Ok, IfOk, IfSome, OnOk, length, map, slice_index, true};
-ghost use Rattle.std.specs.Str.{IsCharBoundary};
+ghost use Rattle.std.specs.Prelude.{◌≡◌, ◌<◌, ◌+◌, List, IfOk, IfSome, length, map, slice_index, true};
 ghost use Rattle.rox_grammar.specs.Entities.{Entity};
 ghost use Rattle.rox_reading.specs.Tags.{tag_at};
 ghost use Rattle.rox_values.specs.DeclaredEntities.{AreDeclared, values_in};
 ghost use Rattle.rox_tables.specs.Rows.{attribute_rows, namespace_view};
-ghost use Rattle.rox_tables.specs.TagDeclarations.{HasOwn};
-ghost use Rattle.rox_tables.specs.declared.rows.tables.Scope.{Scope};
 ghost use Rattle.rox_build.specs.ElementRow.{GivesTag, scope_in_tables};
 ghost use Rattle.rox_build.specs.Readiness.{MayReadBelow};
-ghost use Rattle.rox_build.specs.RootTag.{AreNoBindings, BeginsRoot, GivesRootTag, IsBlank, IsNamed, ListsDeclaration, MayReadRoot, ReadsRoot, ReadsRootTag, first_places};
+ghost use Rattle.rox_build.specs.RootTag.{BeginsScopes, DeclaresOwn, GivesRootTag, IsBlank, IsNamed, ListsOwn, MayBeNamed, MayDeclare, MayReadRoot, MayReadRootTag, ReadsRoot, ReadsRootTag};
 
 use crate::plain_tag::{
     NamedAttribute, PlainTag, TagEnd, next_item, other_namespace, plain_name, plain_value,
@@ -54,8 +51,7 @@ fn may_declare(text: &str, at: usize) -> bool {
 /// stands for itself.
 #[inline(always)]
 fn named_attribute<'input>(text: &'input str, start: usize) -> Option<NamedAttribute<'input>>
-    requires cut { IsCharBoundary text.now start }
-    requires begins { 62 < slice_index text.now start }
+    requires { MayBeNamed text.now start }
     ensures { IfSome result (λ n. IsNamed text.entry.now start n) }
 {
     let part = skip_set::<PartByte>(text, start);
@@ -84,18 +80,8 @@ fn declared<'input>(
     elements: &mut ElementTables<'input>,
     prefix_set: &mut BTreeSet<Option<&'input str>>,
 ) -> Option<usize>
-    requires cut { IsCharBoundary text.now start }
-    requires begins { 62 < slice_index text.now start }
-    requires own { HasOwn elements.old.namespaces.items.items elements.old.listed.items
-        prefix_set.old.keys 0 }
-    ensures others { elements.new ≡ record elements.old {
-      namespaces = elements.new.namespaces;
-      listed = elements.new.listed;
-    } }
-    ensures own { IfSome result (λ _. HasOwn elements.new.namespaces.items.items
-        elements.new.listed.items prefix_set.new.keys 0) }
-    ensures lists { IfSome result
-        (λ j. ListsDeclaration elements.old elements.new text.entry.now start j) }
+    requires { MayDeclare text.now start elements.old prefix_set.old.keys }
+    ensures { DeclaresOwn elements.old elements.new prefix_set.new.keys text.entry.now start result }
 {
     let read = named_attribute(text, start)?;
     if !is_namespace_decl(read.name.name) {
@@ -128,12 +114,8 @@ fn declared<'input>(
 /// Has the scope of the root element list what is listed, if that is little.
 #[inline(always)]
 fn list_own(elements: &mut ElementTables<'_>) -> bool
-    requires two { length elements.old.scopes.items ≡ 2 }
-    ensures others { elements.new ≡ record elements.old { scopes = elements.new.scopes } }
-    ensures lists { result ≡ true → (own : Scope)
-        → elements.old.scopes.items ≡ first_places 0 ∷ own ∷ []
-        → elements.new.scopes.items
-        ≡ first_places 0 ∷ first_places (length elements.old.listed.items) ∷ [] }
+    requires { length elements.old.scopes.items ≡ 2 }
+    ensures { ListsOwn elements.old elements.new result }
 {
     let count = elements.listed.len();
     if count > FEW {
@@ -186,9 +168,7 @@ fn root_tag<'input>(
     buffers: &mut Buffers<'input>,
     openings_left: u32,
 ) -> Option<PlainTag<'input>>
-    requires here { slice_index text.now start ≡ 60 }
-    requires short { length text.now < 2 ^ 32 }
-    requires begins { BeginsRoot elements.old }
+    requires { MayReadRootTag text.now start elements.old }
     ensures { ReadsRootTag elements.old elements.new text.entry.now start openings_left result }
 {
     let name_start = after_byte(text, start, b'<');
@@ -242,14 +222,7 @@ fn is_blank(elements: &ElementTables<'_>) -> bool
 /// Puts the scope of the root node there, where nothing is declared.
 #[inline(always)]
 fn begin_scopes(alloc: Global, elements: &mut ElementTables<'_>) -> Result<(), AllocError>
-    ensures scopes { OnOk result (elements.new.scopes.items ≡ first_places 0 ∷ []) }
-    ensures listed { OnOk result (elements.new.listed.items ≡ []) }
-    ensures present { OnOk result (AreNoBindings elements.new.present) }
-    ensures others { elements.new ≡ record elements.old {
-      listed = elements.new.listed;
-      scopes = elements.new.scopes;
-      present = elements.new.present;
-    } }
+    ensures { BeginsScopes elements.old elements.new result }
 {
     elements.listed.clear();
     elements.scopes.clear();
