@@ -74,6 +74,12 @@ pub record MayReadBelow (t : ElementTables) (scope : ℕ) : Type 0 where
   pub once : PrefixesOnce (scope_in_tables t scope)
   pub kept : HasBindings t
 
+-- a start tag may be read from its `<` here, below this scope
+pub record MayReadTagBelow (cursor : Cursor) (t : ElementTables) (above : ℕ) : Type 0 where
+  pub there : cursor.pos < length cursor.text.now
+  pub here : slice_index cursor.text.now cursor.pos ≡ 60
+  pub below : MayReadBelow t above
+
 -- the tables have this scope, and the bindings that it has: names can be resolved in it, and attributes be put into their table
 pub record MayResolve (t : ElementTables) (scope : ℕ) : Type 0 where
   pub places : ArePlaces (length t.namespaces.items.items) t.listed.items

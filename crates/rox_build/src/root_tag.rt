@@ -7,7 +7,7 @@ ghost use Rattle.rox_reading.specs.Tags.{tag_at};
 ghost use Rattle.rox_values.specs.DeclaredEntities.{AreDeclared, values_in};
 ghost use Rattle.rox_tables.specs.Rows.{attribute_rows, namespace_view};
 ghost use Rattle.rox_build.specs.ElementRow.{GivesTag, scope_in_tables};
-ghost use Rattle.rox_build.specs.Readiness.{MayReadBelow};
+ghost use Rattle.rox_build.specs.Readiness.{MayReadTagBelow};
 ghost use Rattle.rox_build.specs.RootTag.{BeginsScopes, DeclaresOwn, GivesRootTag, IsBlank, IsNamed, ListsOwn, MayBeNamed, MayDeclare, MayReadRoot, MayReadRootTag, ReadsRoot, ReadsRootTag};
 
 use crate::plain_tag::{
@@ -274,9 +274,7 @@ pub fn any_start_tag<'input>(
     around: TagContext,
     context: Context<'_, 'input>,
 ) -> Result<StartTag<'input>, ParseError<'input>>
-    requires there { cursor.old.pos < length cursor.old.text.now }
-    requires here { slice_index cursor.old.text.now cursor.old.pos ≡ 60 }
-    requires below { MayReadBelow elements.old around.above }
+    requires { MayReadTagBelow cursor.old elements.old around.above }
     ensures source { cursor.new.text ≡ cursor.old.text }
     ensures starts { IfOk result (λ t. t.name_start ≡ cursor.old.pos + 1) }
     ensures value { (es : List Entity) → AreDeclared es context.entry.entities.now

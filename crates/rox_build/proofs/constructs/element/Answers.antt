@@ -22,17 +22,21 @@ use Rattle.rox_build.proofs.constructs.element.Goals as goal
 abbrev with_left : ℕ → State → State
 with_left openings_left s = record { at = s.at; done = s.done; stack = s.stack; openings_left = openings_left }
 
-pub any_start_tag-requires-clause-below : goal.any_start_tag-requires-clause-below
-any_start_tag-requires-clause-below c =
+pub any_start_tag-requires : goal.any_start_tag-requires
+any_start_tag-requires c =
     let fine = c.requires.fine in
     record {
-      places = fine.sound.listed;
-      few = fine.few_names;
-      few_attributes = fine.few_attributes;
-      scopes = fine.sound.scopes;
-      above = c.scope-above.ensures.within fine;
-      once = c.scope-above.ensures.once fine;
-      kept = fine.kept;
+      there = c.requires.there;
+      here = c.requires.here;
+      below = record {
+        places = fine.sound.listed;
+        few = fine.few_names;
+        few_attributes = fine.few_attributes;
+        scopes = fine.sound.scopes;
+        above = c.scope-above.ensures.within fine;
+        once = c.scope-above.ensures.once fine;
+        kept = fine.kept;
+      };
     }
 
 pub returns-in_err-tag : goal.returns-in_err-tag
