@@ -1,5 +1,5 @@
 -- How many bytes at the front of two stretches are the same.
-use Rattle.std.specs.Prelude.{◌≡◌, ◌<◌, ◌≤◌, ℕ, Bool, true, List, length, take, slice_index}
+use Rattle.std.specs.Prelude.{◌≡◌, ◌≤◌, ℕ, Bool, true, List, length, take}
 
 -- both have sixteen bytes
 pub record HaveSixteen (xs ys : List ℕ) : Type 0 where
