@@ -20,3 +20,4 @@ pub mod Built
 pub mod WholeTexts
 pub mod TextParts
 pub mod SpacedBytes
+pub mod SameFronts

@@ -38,6 +38,16 @@ pub record ScansAs (read : ℕ → List ℕ → State → Result State Refusal) 
   pub value : (limit end : ℕ) (s : State) → IsInState limit end s old b → ScansTo limit end result new after (read limit old.text.now s)
   pub goes : OnOk result (GoesOn old new after)
 
+-- the same in each context of a text
+pub record ScansIn (read : machine.Context → List ℕ → State → Result State Refusal) (old new : Cursor) (b after : Builder) (result : Result (Unit {0}) Failure) : Type 0 where
+  pub value : (context : machine.Context) (end : ℕ) (s : State) → IsInState context.limit end s old b → ScansTo context.limit end result new after (read context old.text.now s)
+  pub goes : OnOk result (GoesOn old new after)
+
+-- the same in this one, whatever entities are declared
+pub record ScansWithin (read : machine.Context → List ℕ → State → Result State Refusal) (context : Context) (old new : Cursor) (b after : Builder) (result : Result (Unit {0}) Failure) : Type 0 where
+  pub value : (limit end : ℕ) (es : List Entity) (s : State) → IsInState limit end s old b → ScansTo limit end result new after (read (context_of limit es context) old.text.now s)
+  pub goes : OnOk result (GoesOn old new after)
+
 -- what stands at i was read, as this reading does, up to j, which fits a row, and took the room of one at most; or nothing was
 pub record ReadsAt (read : machine.Context → List ℕ → State → Result State Refusal) (src : List ℕ) (i j : ℕ) (b after : Builder) : Type 0 where
   pub value : j < 2 ^ 32 → (context : machine.Context) (end : ℕ) (s : State) (here behind : Cursor) → here.pos ≡ i → behind.pos ≡ j → IsInState context.limit end s here b
@@ -46,6 +56,11 @@ pub record ReadsAt (read : machine.Context → List ℕ → State → Result Sta
   pub cut : j < 2 ^ 32 → IsCharBoundary src j
   pub ready : j < 2 ^ 32 → (n : ℕ) → IsReady (n + 1) b → IsReady n after
   pub fine : IsConsistent after.tables after.opened.items
+
+-- the same, and nothing at all changed where nothing was read
+pub record ReadsWhole (read : machine.Context → List ℕ → State → Result State Refusal) (src : List ℕ) (i j : ℕ) (b after : Builder) : Type 0 where
+  pub reads : ReadsAt read src i j b after
+  pub other : 2 ^ 32 ≤ j → after ≡ b
 
 -- the call adds this piece of a text behind what the builder shows, and keeps what is open
 pub record AddsText (old new : Builder) (result : Result (Unit {0}) Failure) (item : Item) : Type 0 where

@@ -88,6 +88,11 @@ pub record ReadsStep (such : machine.Context → Type 0) (old new : Cursor) (b a
   pub other : result ≡ false → (new ≡ old) × KeepsState b after
   pub goes : GoesOn old new after
 
+-- the same where it took the room of one row at most
+pub record ReadsMarkup (such : machine.Context → Type 0) (old new : Cursor) (b after : Builder) (result : Bool) : Type 0 where
+  pub reads : ReadsStep such old new b after result
+  pub ready : result ≡ true → (n : ℕ) → IsReady (n + 1) b → IsReady n after
+
 -- so many constructs were read, where so many elements are open around the text
 pub record ReadsRows (around rows : ℕ) (old new : Cursor) (b after : Builder) (n : ℕ) : Type 0 where
   pub value : (context : machine.Context) (end : ℕ) (s : State) → context.open_around ≡ around → IsInState context.limit end s old b

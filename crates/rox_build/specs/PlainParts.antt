@@ -14,18 +14,25 @@ use Rattle.rox_scan.specs.Windows.{Sees}
 use Rattle.rox_scan.specs.declared.window.Window.{Window}
 use Rattle.rox_tables.specs.Bindings.{FindsBinding}
 use Rattle.rox_tables.specs.Rows.{NamespaceWithin, attribute_uri, namespace_view}
+use Rattle.rox_tables.specs.Storage.{storage_bytes}
+use Rattle.rox_tables.specs.declared.namespaces.unresolved_attribute.UnresolvedAttribute.{UnresolvedAttribute}
 use Rattle.rox_tables.specs.declared.namespaces.seen_names.SeenNames.{SeenNames}
 use Rattle.rox_tables.specs.declared.rows.tables.AttributeNamespace.{AttributeNamespace}
 use Rattle.rox_tables.specs.declared.rows.tables.ElementTables.{ElementTables}
 use Rattle.rox_build.specs.BuilderState.{IsNamespaceOf}
 use Rattle.rox_build.specs.ElementRow.{scope_in_tables}
-use Rattle.rox_build.specs.PlainTag.{BeginsValue, EndsNear, HasPlainValue, HasScope, IsAttributeName, IsFirstPart, MayOpenAt, MayOpenBelow, MayPut, PutsPlain, SeesValue, few_in}
+use Rattle.rox_build.specs.PlainTag.{BeginsValue, EndsNear, HasPlainValue, HasScope, IsAttributeName, IsFirstPart, IsPlainAttribute, MayOpenAt, MayOpenBelow, MayPut, PutsPlain, SeesValue, few_in}
 use Rattle.rox_build.specs.declared.builder.OpenElement.{OpenElement}
 use Rattle.rox_build.specs.declared.plain_tag.NamedAttribute.{NamedAttribute}
 use Rattle.rox_build.specs.declared.plain_tag.NextItem.{NextItem}
 use Rattle.rox_build.specs.declared.plain_tag.PlainName.{PlainName}
 use Rattle.rox_build.specs.declared.plain_tag.TagEnd.{TagEnd}
 use Rattle.rox_build.specs.declared.plain_tag.TagPlace.{TagPlace}
+
+-- a plain attribute begins here, whose value is all that stands between its quotes
+pub record FindsPlainAttribute (src : List ℕ) (i : ℕ) (result : Option UnresolvedAttribute) : Type 0 where
+  pub read : IfSome result (λ a. IsPlainAttribute src i a)
+  pub whole : IfSome result (λ a. a.end ≡ a.value_start + length (storage_bytes a.value) + 1)
 
 -- a name begins here, whose first part ends at this place, before this byte
 pub record EndsFirstPart (src : List ℕ) (i j b : ℕ) : Type 0 where

@@ -1,5 +1,5 @@
 -- What has to hold where something is read: of its place, of what the builder holds, and of the room that it finds.
-use Rattle.std.specs.Prelude.{◌≡◌, ◌<◌, ◌≤◌, ◌+◌, ◌^◌, ℕ, true, List, Option, length, slice_index}
+use Rattle.std.specs.Prelude.{◌≡◌, ◌≢◌, ◌<◌, ◌≤◌, ◌+◌, ◌^◌, ℕ, true, List, Option, length, slice_index, vec_len}
 use Rattle.std.specs.Str.{IsCharBoundary}
 use Rattle.rox_grammar.specs.Document.{most_pairs, most_attributes}
 use Rattle.rox_grammar.specs.FixedTexts.{word_text}
@@ -41,10 +41,25 @@ pub record MayReadMarkup (c : Cursor) (b : Builder) : Type 0 where
   pub here : slice_index c.text.now c.pos ≡ 60
   pub fine : IsConsistent b.tables b.opened.items
 
+-- the same where that byte is `!`
+pub record MayReadDeclared (c : Cursor) (b : Builder) : Type 0 where
+  pub markup : MayReadMarkup c b
+  pub next : slice_index c.text.now (c.pos + 1) ≡ 33
+
+-- the same where it is no `/`
+pub record MayReadOpening (c : Cursor) (b : Builder) : Type 0 where
+  pub markup : MayReadMarkup c b
+  pub no_end_tag : slice_index c.text.now (c.pos + 1) ≢ 47
+
 -- a run may be read up to this place, and what the builder holds is consistent
 pub record MayReadTo (until : ℕ) (c : Cursor) (b : Builder) : Type 0 where
   pub stop : IsCharBoundary c.text.now until
   pub fine : IsConsistent b.tables b.opened.items
+
+-- a construct may be read at this place, and there is room for it
+pub record MayReadAt (src : List ℕ) (i : ℕ) (b : Builder) : Type 0 where
+  pub cut : IsCharBoundary src i
+  pub room : HasRoom src b
 
 -- the resolver may be asked, if there is one, and what the builder holds is consistent
 pub record MayReadAsking {R : Type 0} (can : R → Type 0) (resolver : Option R) (b : Builder) : Type 0 where
@@ -57,6 +72,11 @@ pub record MayPutText (b : Builder) (i j : ℕ) : Type 0 where
   pub apart : b.pending ≡ pending.None
   pub start : i < 2 ^ 32
   pub end : j < 2 ^ 32
+
+-- the places of a row fit, below the innermost open element, whose row this is, or the root node
+pub record MayMakeRow (b : Builder) (above : ℕ) : Type 0 where
+  pub small : vec_len b.nodes.rows + 1 < 2 ^ 32
+  pub parent : above ≡ last_row (opened_in b.tables b.opened.items)
 
 -- there is room for a row that begins at i, below the innermost open element, whose row this is, or the root node
 pub record MayPutRow (b : Builder) (above i : ℕ) : Type 0 where

@@ -19,6 +19,11 @@ is_spaced_byte b = is_value_byte b || is_special b
 abbrev pub none_changes : ℕ → Bool
 none_changes b = false
 
+-- a reference to this character gives itself, in the main text as in a replacement text
+pub record IsGivenAlike (character : ℕ) (result : Bool) : Type 0 where
+  pub tag : result ≡ true → (character == 60) ≡ false
+  pub white : result ≡ true → (character == 9 || (character == 10 || character == 13)) ≡ false
+
 -- Chars without `<` from i up to j, of which the first that changes stands at this place
 pub record IsSpacedValue (src : List ℕ) (i first j : ℕ) : Type 0 where
   pub start : IsCharBoundary src i

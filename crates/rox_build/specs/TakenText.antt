@@ -1,11 +1,16 @@
 -- A text whose row is taken back, as another joins it.
-use Rattle.std.specs.Prelude.{◌≡◌, ℕ, ◌+◌, ◌++◌, ◌∷◌, [], List, OnOk, IfOk, IfErr, Result, vec_len}
+use Rattle.std.specs.Prelude.{◌≡◌, ℕ, ◌+◌, ◌++◌, ◌∷◌, [], ◌<◌, ◌^◌, List, OnOk, IfOk, IfErr, Result, vec_len}
 use Rattle.std.specs.declared.alloc.AllocError.{AllocError}
 use Rattle.rox_tables.specs.Rows.{node_rows}
 use Rattle.rox_tables.specs.declared.rows.node_table.NodeTable.{NodeTable}
 use Rattle.rox_tables.specs.declared.rows.tables.NodeData.{NodeData}
 use Rattle.rox_build.specs.PendingText.{text_of}
 use Rattle.rox_build.specs.declared.builder.TextRange.{TextRange}
+
+-- there is a row to take back
+pub record MayTakeLast (rows : NodeTable) : Type 0 where
+  pub some : 0 < vec_len rows.rows
+  pub few : vec_len rows.rows < 2 ^ 32
 
 -- the last row, of a text, was taken back: its text, and this one behind it, is what was joined
 pub record TakesLast (old new : NodeTable) (joined text : List ℕ) (result : Result TextRange AllocError) : Type 0 where

@@ -7,7 +7,7 @@ ghost use Rattle.rox_tables.specs.declared.rows.tables.Scope.TheVariants as scop
 ghost use Rattle.rox_tables.specs.StoredNodes.{kind_of};
 ghost use Rattle.rox_tables.specs.declared.rows.tables.NodeKind.TheVariants as kind;
 ghost use Rattle.rox_grammar.specs.declared.failure.Failure.TheVariants as failure;
-ghost use Rattle.rox_build.specs.TakenText.{TakesLast};
+ghost use Rattle.rox_build.specs.TakenText.{MayTakeLast, TakesLast};
 ghost use Rattle.rox_build.specs.PendingText.{waiting, written, text_of, IsItsSlice};
 ghost use Rattle.rox_tables.specs.Storage.{storage_bytes, is_borrowed};
 ghost use Rattle.rox_build.specs.declared.pending.Pending.TheVariants as pending;
@@ -134,8 +134,7 @@ fn join_last(
     joined: &mut String,
     text: &str,
 ) -> Result<TextRange, AllocError>
-    requires some { 0 < vec_len nodes.old.rows }
-    requires few { vec_len nodes.old.rows < 2 ^ 32 }
+    requires { MayTakeLast nodes.old }
     ensures { TakesLast nodes.old nodes.new (string_bytes joined.new) text.now result }
 {
     let last = nodes.len() - 1;
@@ -181,7 +180,7 @@ impl<'input> Builder<'input> {
     ghost use Rattle.rox_build.specs.BuilderState.{Represents, AreSound, Adds, IsReady, KeepsOpen, opened_in, last_row, tables_of};
     ghost use Rattle.rox_build.specs.Outcomes.{AddsNode, AddsText, Flushes, OpensElement};
     ghost use Rattle.rox_build.specs.Putting.{Closes, EndsRun, IsInnermostScope, IsOfRoot, JoinsText, MayHaveMore, MayPutClose, MayPutLeaf, MayPutOpen, PutsClose, PutsLeaf, PutsOpen, PutsOwned, PutsText, Settles, WaitsForMore};
-    ghost use Rattle.rox_build.specs.Readiness.{MayPutText};
+    ghost use Rattle.rox_build.specs.Readiness.{MayMakeRow, MayPutText};
     ghost use Rattle.rox_tables.specs.Rows.{HoldsTree};
     ghost use Rattle.rox_grammar.specs.Tree.{document_tree};
     ghost use Rattle.rox_build.specs.declared.builder.OpenElement.{OpenElement};
@@ -301,8 +300,7 @@ impl<'input> Builder<'input> {
         end: usize,
         kind: NodeKind<'input>,
     ) -> NodeData<'input>
-        requires small { vec_len self.now.nodes.rows + 1 < 2 ^ 32 }
-        requires parent { parent ≡ last_row (opened_in self.now.tables self.now.opened.items) }
+        requires { MayMakeRow self.now parent }
         ensures { result ≡ record {
           start = start;
           end = end;

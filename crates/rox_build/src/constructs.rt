@@ -1,21 +1,18 @@
 //! The constructs that have marks, read one by one into the builder: comments, processing instructions, CDATA sections and tags
 //! (XML 1.0 sections 2.5, 2.6, 2.7, 3.1).
 
-ghost use Rattle.std.specs.Prelude.{◌≡◌, ◌≢◌, ◌<◌, ◌+◌, ℕ, List, OnOk, slice_index};
+ghost use Rattle.std.specs.Prelude.{◌≡◌, ◌<◌, ◌+◌, ℕ, List};
 ghost use Rattle.rox_grammar.specs.declared.fault.Word.TheVariants as word;
-ghost use Rattle.rox_reading.specs.State.{State};
 ghost use Rattle.rox_reading.specs.Machine as machine;
 ghost use Rattle.rox_grammar.specs.Failures.{name_view};
 ghost use Rattle.rox_grammar.specs.Forest.{Forest};
 ghost use Rattle.rox_grammar.specs.Written.{Item};
 ghost use Rattle.rox_grammar.specs.NameParts.{local_span, same_qname};
 ghost use Rattle.rox_grammar.specs.State.{Open};
-ghost use Rattle.rox_grammar.specs.Entities.{Entity};
 ghost use Rattle.rox_reading.specs.Refusals.{lifted};
-ghost use Rattle.rox_values.specs.Contexts.{context_of};
-ghost use Rattle.rox_build.specs.BuilderState.{GoesOn, IsInState, ScansTo, Represents};
-ghost use Rattle.rox_build.specs.Outcomes.{ParsesAs, ScansAs};
-ghost use Rattle.rox_build.specs.Readiness.{MayRead, MayReadMarkup, MayReadTag};
+ghost use Rattle.rox_build.specs.BuilderState.{Represents};
+ghost use Rattle.rox_build.specs.Outcomes.{ParsesAs, ScansAs, ScansIn, ScansWithin};
+ghost use Rattle.rox_build.specs.Readiness.{MayRead, MayReadDeclared, MayReadOpening, MayReadTag};
 
 use crate::builder::Builder;
 use crate::root_tag::any_start_tag;
@@ -98,13 +95,8 @@ fn comment_or_section<'input>(
     cursor: &mut Cursor<'input>,
     builder: &mut Builder<'input>,
 ) -> Result<(), Failure>
-    requires markup { MayReadMarkup cursor.old builder.old }
-    requires next { slice_index cursor.old.text.now (cursor.old.pos + 1) ≡ 33 }
-    ensures value { (context : machine.Context) (end : ℕ) (s : State)
-        → IsInState context.limit end s cursor.old builder.old
-        → ScansTo context.limit end result cursor.new builder.new
-        (machine.step context cursor.old.text.now s) }
-    ensures goes { OnOk result (GoesOn cursor.old cursor.new builder.new) }
+    requires { MayReadDeclared cursor.old builder.old }
+    ensures { ScansIn machine.step cursor.old cursor.new builder.old builder.new result }
 {
     if cursor.starts(Word::CommentStart) {
         return comment(alloc, cursor, builder);
@@ -199,11 +191,8 @@ pub fn end_tag<'input>(
     context: Context<'_, 'input>,
 ) -> Result<(), Failure>
     requires { MayRead word.EndTagStart cursor.old builder.old }
-    ensures value { (limit end : ℕ) (es : List Entity) (s : State)
-        → IsInState limit end s cursor.old builder.old
-        → ScansTo limit end result cursor.new builder.new
-        (lifted (machine.end_step (context_of limit es context.entry) cursor.old.text.now s)) }
-    ensures goes { OnOk result (GoesOn cursor.old cursor.new builder.new) }
+    ensures { ScansWithin (λ k src s. lifted (machine.end_step k src s)) context.entry cursor.old
+        cursor.new builder.old builder.new result }
 {
     let start = cursor.pos;
     let tag = cursor.end_tag()?;
@@ -231,8 +220,7 @@ pub fn markup<'input>(
     builder: &mut Builder<'input>,
     context: Context<'_, 'input>,
 ) -> Result<(), ParseError<'input>>
-    requires markup { MayReadMarkup cursor.old builder.old }
-    requires no_end_tag { slice_index cursor.old.text.now (cursor.old.pos + 1) ≢ 47 }
+    requires { MayReadOpening cursor.old builder.old }
     ensures { ParsesAs machine.step context.entry cursor.old cursor.new builder.old builder.new
         result }
 {

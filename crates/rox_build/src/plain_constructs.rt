@@ -2,15 +2,14 @@
 //! start tag. Nothing fails here: what is not plain, or finds no room, is left to the general step, which reads that one
 //! construct from the same place.
 
-ghost use Rattle.std.specs.Prelude.{◌≡◌, ◌≤◌, ◌+◌, ◌^◌, ℕ, true};
-ghost use Rattle.std.specs.Str.{IsCharBoundary};
+ghost use Rattle.std.specs.Prelude.{◌≡◌, true};
 ghost use Rattle.rox_grammar.specs.declared.fault.Word.TheVariants as word;
 ghost use Rattle.rox_reading.specs.Machine as machine;
 ghost use Rattle.rox_reading.specs.Refusals.{lifted};
-ghost use Rattle.rox_build.specs.BuilderState.{IsConsistent, IsReady};
-ghost use Rattle.rox_build.specs.Outcomes.{MayStep, ReadsAt};
-ghost use Rattle.rox_build.specs.PlainOutcomes.{MayReadBare, MayReadEnd, MayReadNear, MayReadPart, MayReadPlain, MayReadRows, MayReadWord, ReadsIf, ReadsRows, ReadsRun, ReadsStep, any_context};
-ghost use Rattle.rox_build.specs.Readiness.{HasRoom};
+ghost use Rattle.rox_build.specs.BuilderState.{IsConsistent};
+ghost use Rattle.rox_build.specs.Outcomes.{MayStep, ReadsAt, ReadsWhole};
+ghost use Rattle.rox_build.specs.PlainOutcomes.{MayReadBare, MayReadEnd, MayReadNear, MayReadPart, MayReadPlain, MayReadRows, MayReadWord, ReadsIf, ReadsMarkup, ReadsRows, ReadsRun, ReadsStep, any_context};
+ghost use Rattle.rox_build.specs.Readiness.{HasRoom, MayReadAt};
 
 use crate::builder::Builder;
 use crate::plain_tag::{TagPlace, bare_start_tag, near_start_tag, plain_start_tag};
@@ -276,10 +275,8 @@ fn plain_comment<'input>(cursor: &mut Cursor<'input>, builder: &mut Builder<'inp
 #[inline(never)]
 #[tactic(auto, unfolding(rox_reading::specs::Machine::step))]
 fn plain_section<'input>(text: &'input str, start: usize, builder: &mut Builder<'input>) -> usize
-    requires cut { IsCharBoundary text.now start }
-    requires room { HasRoom text.now builder.old }
-    ensures reads { ReadsAt machine.step text.entry.now start result builder.old builder.new }
-    ensures other { 2 ^ 32 ≤ result → builder.new ≡ builder.old }
+    requires { MayReadAt text.now start builder.old }
+    ensures { ReadsWhole machine.step text.entry.now start result builder.old builder.new }
 {
     let mut cursor = Cursor { text, pos: start };
     if !cursor.starts(Word::CommentStart) {
@@ -300,10 +297,8 @@ fn plain_markup<'input>(
     open_around: usize,
 ) -> bool
     requires { MayReadPlain cursor.old builder.old }
-    ensures reads { ReadsStep (λ k. k.open_around ≡ open_around) cursor.old cursor.new builder.old
+    ensures { ReadsMarkup (λ k. k.open_around ≡ open_around) cursor.old cursor.new builder.old
         builder.new result }
-    ensures ready { result ≡ true → (n : ℕ) → IsReady (n + 1) builder.old
-        → IsReady n builder.new }
 {
     let bytes = cursor.text.as_bytes();
     if cursor.pos + 1 >= bytes.len() {

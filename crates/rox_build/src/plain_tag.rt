@@ -10,10 +10,9 @@ ghost use Rattle.rox_grammar.specs.Failures.{name_view};
 ghost use Rattle.rox_reading.specs.Lexical.{qname_at};
 ghost use Rattle.rox_scan.specs.ScanResults.{Finds};
 ghost use Rattle.rox_reading.specs.Values.{is_special};
-ghost use Rattle.rox_tables.specs.Storage.{storage_bytes};
 ghost use Rattle.std.specs.List.{AllByRecursion};
 ghost use Rattle.rox_tables.specs.SeenNames.{AreSeen};
-ghost use Rattle.rox_build.specs.PlainParts.{EndsEmpty, EndsFirstPart, EndsNearPart, EndsPart, EndsTag, FindsAttributeNamespace, FindsElementNamespace, IsNextItem, IsSomePlace, IsWholeName, MayNameBelow, MayNameIn, MayPutNamed, MayPutPart, MayReadBareTag, MayReadNearTag, MayReadPlainTag, PutsSome, SeesEnd, SeesStart};
+ghost use Rattle.rox_build.specs.PlainParts.{EndsEmpty, EndsFirstPart, EndsNearPart, EndsPart, EndsTag, FindsAttributeNamespace, FindsElementNamespace, FindsPlainAttribute, IsNextItem, IsSomePlace, IsWholeName, MayNameBelow, MayNameIn, MayPutNamed, MayPutPart, MayReadBareTag, MayReadNearTag, MayReadPlainTag, PutsSome, SeesEnd, SeesStart};
 ghost use Rattle.rox_build.specs.PlainTag.{BeginsValue, HasPlainValue, HasQuoteBefore, HasScope, IsAttributeName, IsBareTag, IsBeforeLast, IsNearAttribute, IsPlainAttribute, IsPlainName, IsQuoteAt, IsQuoteBehindEquals, IsValueStart, MayPut, MayReadAttributes, PutsPlain, ReadsAttributes, ReadsTag, SeesValue};
 
 use crate::builder::OpenElement;
@@ -196,9 +195,7 @@ pub fn quote_before(text: &str, start: usize) -> u8
 #[tactic(auto, unfolding(rox_reading::specs::Markup::attribute_at))]
 fn plain_attribute<'input>(text: &'input str, start: usize) -> Option<UnresolvedAttribute<'input>>
     requires { IsCharBoundary text.now start }
-    ensures read { IfSome result (λ a. IsPlainAttribute text.entry.now start a) }
-    ensures whole { IfSome result (λ a. a.end
-        ≡ a.value_start + length (storage_bytes a.value) + 1) }
+    ensures { FindsPlainAttribute text.entry.now start result }
 {
     let colon = part_end(text, start);
     let name = plain_name(text, start, colon)?;

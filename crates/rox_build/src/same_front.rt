@@ -1,14 +1,14 @@
 //! Bytes that are compared sixteen at a time.
 
-ghost use Rattle.std.specs.Prelude.{◌≡◌, ◌<◌, ◌≤◌, ℕ, true, length, take, drop, slice_index, bytes_eq};
+ghost use Rattle.std.specs.Prelude.{◌≡◌, ◌<◌, ℕ, slice_index, bytes_eq};
+ghost use Rattle.rox_build.specs.SameFronts.{HaveSixteen, IsSameFront};
 
 use std::simd::prelude::*;
 
 /// How many of the first sixteen bytes come before one that differs, or more where none does.
 #[inline(always)]
 fn same_count(one: &[u8], other: &[u8]) -> usize
-    requires one { 16 ≤ length one.now }
-    requires other { 16 ≤ length other.now }
+    requires { HaveSixteen one.now other.now }
     ensures { (k : ℕ) → k < 16 → k < result → slice_index one.now k ≡ slice_index other.now k }
 {
     let differ = u8x16::from_slice(one)
@@ -28,9 +28,7 @@ fn same_long(one: &[u8], other: &[u8]) -> bool
 /// Whether both have so many bytes, and these are the same.
 #[inline(always)]
 pub fn same_front(one: &[u8], other: &[u8], count: usize) -> bool
-    ensures one { result ≡ true → count ≤ length one.now }
-    ensures other { result ≡ true → count ≤ length other.now }
-    ensures same { result ≡ true → take count one.now ≡ take count other.now }
+    ensures { IsSameFront one.now other.now count result }
 {
     if count <= 16 && one.len() >= 16 && other.len() >= 16 {
         return count <= same_count(one, other);

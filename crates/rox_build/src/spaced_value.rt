@@ -9,7 +9,7 @@ ghost use Rattle.rox_scan.specs.ByteSets.{EndsSet, is_stretch_byte};
 ghost use Rattle.rox_scan.specs.Lookahead as longer;
 ghost use Rattle.rox_scan.specs.Lookahead.{IsLookahead};
 ghost use Rattle.rox_values.specs.Values.{text_behind};
-ghost use Rattle.rox_build.specs.SpacedBytes.{FindsSpacedEnds, IsByteOfValue, IsMoreOfValue, IsSpaceOfValue, IsSpacedText, IsSpacedValue, IsValueRest, PutsBit, is_spaced_byte, none_changes};
+ghost use Rattle.rox_build.specs.SpacedBytes.{FindsSpacedEnds, IsByteOfValue, IsGivenAlike, IsMoreOfValue, IsSpaceOfValue, IsSpacedText, IsSpacedValue, IsValueRest, PutsBit, is_spaced_byte, none_changes};
 ghost use Rattle.rox_build.specs.PlainTag.{BeginsValue};
 
 use rox_scan::byte_set::{ByteSet, ValueByte, skip_set};
@@ -157,9 +157,7 @@ fn put_stretch(text: &str, at: usize, stop: usize, out: &mut String) -> usize
 /// Whether a reference to the character gives itself, in the main text as in a replacement text.
 #[inline(always)]
 fn is_given(character: char) -> bool
-    ensures tag { result ≡ true → (character == 60) ≡ false }
-    ensures white { result ≡ true
-        → (character == 9 || (character == 10 || character == 13)) ≡ false }
+    ensures { IsGivenAlike character result }
 {
     character > '\r' && character != '<'
 }

@@ -18,83 +18,95 @@ use Rattle.rox_build.proofs.Showing.{last_split}
 use Rattle.rox_build.proofs.Stepping.{end_is, end_fails, end_below, opened_deep, closed_at_root, closed_other, closed_stepped}
 use Rattle.rox_build.proofs.constructs.end_tag.Goals as goal
 
-pub returns-in_err-tag-clause-value : goal.returns-in_err-tag-clause-value
-returns-in_err-tag-clause-value c = λ limit end es s h.
-    let p = err_from_is_err_and c.from_residual.result c.from_residual.ensures.1 in
-    rw (p.1, p.2) (ap lifted (end_fails (context_of limit es c.args.context) c.args.cursor.now.text.now s c.args.cursor.now.pos c.in_err-tag.field-0.0 h.here c.in_err-tag.ensures.value))
+pub returns-in_err-tag : goal.returns-in_err-tag
+returns-in_err-tag c = record {
+  value = λ limit end es s h.
+      let p = err_from_is_err_and c.from_residual.result c.from_residual.ensures.1 in
+      rw (p.1, p.2) (ap lifted (end_fails (context_of limit es c.args.context) c.args.cursor.now.text.now s c.args.cursor.now.pos c.in_err-tag.field-0.0 h.here c.in_err-tag.ensures.value));
+  goes = let p = err_from_is_err_and c.from_residual.result c.from_residual.ensures.1 in rw p.1 tt;
+}
 
-pub returns-then-len-context-clause-value : goal.returns-then-len-context-clause-value
-returns-then-len-context-clause-value c = λ limit end es s h.
-    let src = c.args.cursor.now.text.now in
-    let b = c.args.builder.now in
-    let pos = c.args.cursor.now.pos in
-    let j = c.end_tag.new.self.pos in
-    let t = end_tag_view c.in_ok-tag.tag in
-    let k = opened_deep end s.stack s.done b h.shows in
-    let l = c.len.ensures in
-    let m = c.if-len-context.true in
-    ap lifted (end_below (context_of limit es c.args.context) src s pos j t h.here c.in_ok-tag.ensures.value (le-leb _ _ (omega arith)))
+pub returns-then-len-context : goal.returns-then-len-context
+returns-then-len-context c = record {
+  value = λ limit end es s h.
+      let src = c.args.cursor.now.text.now in
+      let b = c.args.builder.now in
+      let pos = c.args.cursor.now.pos in
+      let j = c.end_tag.new.self.pos in
+      let t = end_tag_view c.in_ok-tag.tag in
+      let k = opened_deep end s.stack s.done b h.shows in
+      let l = c.len.ensures in
+      let m = c.if-len-context.true in
+      ap lifted (end_below (context_of limit es c.args.context) src s pos j t h.here c.in_ok-tag.ensures.value (le-leb _ _ (omega arith)));
+  goes = tt;
+}
 
 nothing_last : (os : List OpenElement) → slice_get os (length os - 1) ≡ None → os ≡ []
 nothing_last [] h = refl
 nothing_last (x ∷ xs) h = elim (slice_get_cases (x ∷ xs) (length (x ∷ xs) - 1)).1 [ inl w ↦ let k = w.2 in cc h | inr w ↦ absurd (omega (arith, w.0)) ]
 
-pub returns-in_default-clause-value : goal.returns-in_default-clause-value
-returns-in_default-clause-value c = λ limit end es s h.
-    let src = c.args.cursor.now.text.now in
-    let b = c.args.builder.now in
-    let pos = c.args.cursor.now.pos in
-    let j = c.end_tag.new.self.pos in
-    let t = end_tag_view c.in_ok-tag.tag in
-    let os = c.deref.result.now in
-    let e : b.opened.items ≡ [] = sym c.deref.ensures.value ∙ nothing_last os (sym c.in_default.ensures.value) in
-    ap lifted (end_is (context_of limit es c.args.context) src s pos j t h.here c.in_ok-tag.ensures.value (let k = opened_deep end s.stack s.done b h.shows in let l = c.len.ensures in let m = c.if-len-context.false in lt-leb _ _ (omega arith))
-    ∙ closed_at_root b.tables s.stack pos t.name_end j t.name s.done s.openings_left (sym (ap (opened_in b.tables) e) ∙ h.shows.open_rows))
+pub returns-in_default : goal.returns-in_default
+returns-in_default c = record {
+  value = λ limit end es s h.
+      let src = c.args.cursor.now.text.now in
+      let b = c.args.builder.now in
+      let pos = c.args.cursor.now.pos in
+      let j = c.end_tag.new.self.pos in
+      let t = end_tag_view c.in_ok-tag.tag in
+      let os = c.deref.result.now in
+      let e : b.opened.items ≡ [] = sym c.deref.ensures.value ∙ nothing_last os (sym c.in_default.ensures.value) in
+      ap lifted (end_is (context_of limit es c.args.context) src s pos j t h.here c.in_ok-tag.ensures.value (let k = opened_deep end s.stack s.done b h.shows in let l = c.len.ensures in let m = c.if-len-context.false in lt-leb _ _ (omega arith))
+      ∙ closed_at_root b.tables s.stack pos t.name_end j t.name s.done s.openings_left (sym (ap (opened_in b.tables) e) ∙ h.shows.open_rows));
+  goes = tt;
+}
 
-pub returns-then-not-same_qname-clause-value : goal.returns-then-not-same_qname-clause-value
-returns-then-not-same_qname-clause-value c = λ limit end es s h.
-    let src = c.args.cursor.now.text.now in
-    let b = c.args.builder.now in
-    let pos = c.args.cursor.now.pos in
-    let j = c.end_tag.new.self.pos in
-    let t = end_tag_view c.in_ok-tag.tag in
-    let k = c.in-Some.ensures.item in
-    let os = c.deref.result.now in
-    let o = c.in-Some.open.now in
-    let outer = take (length os - 1) os in
-    let split : b.opened.items ≡ outer ++ o ∷ [] = sym c.deref.ensures.value ∙ last_split os o k.3.0 (k.3.1 o) in
-    let other = sym c.same_qname.ensures ∙ c.if-not-same_qname.true in
-    let x = c.name_span-expected.ensures in
-    let y = c.name_span-found.ensures in
-    ap lifted (end_is (context_of limit es c.args.context) src s pos j t h.here c.in_ok-tag.ensures.value (let k = opened_deep end s.stack s.done b h.shows in let l = c.len.ensures in let m = c.if-len-context.false in lt-leb _ _ (omega arith))
-    ∙ closed_other b.tables s.stack outer o pos t.name_end j t.name s.done s.openings_left (sym (ap (opened_in b.tables) split) ∙ h.shows.open_rows) other)
-    ∙ sym (ap (λ (sp : Span). Err (here (fault.UnexpectedCloseTag sp c.name_span-found.result pos))) x ∙ ap (λ (sp : Span). Err (here (fault.UnexpectedCloseTag (name_span (name_view o.name) o.name_start o.name_end) sp pos))) y)
+pub returns-then-not-same_qname : goal.returns-then-not-same_qname
+returns-then-not-same_qname c = record {
+  value = λ limit end es s h.
+      let src = c.args.cursor.now.text.now in
+      let b = c.args.builder.now in
+      let pos = c.args.cursor.now.pos in
+      let j = c.end_tag.new.self.pos in
+      let t = end_tag_view c.in_ok-tag.tag in
+      let k = c.in-Some.ensures.item in
+      let os = c.deref.result.now in
+      let o = c.in-Some.open.now in
+      let outer = take (length os - 1) os in
+      let split : b.opened.items ≡ outer ++ o ∷ [] = sym c.deref.ensures.value ∙ last_split os o k.3.0 (k.3.1 o) in
+      let other = sym c.same_qname.ensures ∙ c.if-not-same_qname.true in
+      let x = c.name_span-expected.ensures in
+      let y = c.name_span-found.ensures in
+      ap lifted (end_is (context_of limit es c.args.context) src s pos j t h.here c.in_ok-tag.ensures.value (let k = opened_deep end s.stack s.done b h.shows in let l = c.len.ensures in let m = c.if-len-context.false in lt-leb _ _ (omega arith))
+      ∙ closed_other b.tables s.stack outer o pos t.name_end j t.name s.done s.openings_left (sym (ap (opened_in b.tables) split) ∙ h.shows.open_rows) other)
+      ∙ sym (ap (λ (sp : Span). Err (here (fault.UnexpectedCloseTag sp c.name_span-found.result pos))) x ∙ ap (λ (sp : Span). Err (here (fault.UnexpectedCloseTag (name_span (name_view o.name) o.name_start o.name_end) sp pos))) y);
+  goes = tt;
+}
 
-pub returns-clause-value : goal.returns-clause-value
-returns-clause-value c = λ limit end es s h.
-    let src = c.args.cursor.now.text.now in
-    let b = c.args.builder.now in
-    let pos = c.args.cursor.now.pos in
-    let d = c.end_tag.new.self in
-    let t = end_tag_view c.in_ok-tag.tag in
-    let k = c.in-Some.ensures.item in
-    let os = c.deref.result.now in
-    let o = c.in-Some.open.now in
-    let outer = take (length os - 1) os in
-    let split : b.opened.items ≡ outer ++ o ∷ [] = sym c.deref.ensures.value ∙ last_split os o k.3.0 (k.3.1 o) in
-    let same = sym c.same_qname.ensures ∙ c.if-not-same_qname.false in
-    rw (end_is (context_of limit es c.args.context) src s pos d.pos t h.here c.in_ok-tag.ensures.value (let k = opened_deep end s.stack s.done b h.shows in let l = c.len.ensures in let m = c.if-len-context.false in lt-leb _ _ (omega arith)))
-    (closed_stepped limit end s c.args.cursor.now d b c.close.new.self outer o pos t.name_end t.name h split same c.close.ensures.kept.tables c.close.ensures.kept.limit c.close.ensures.kept.openings_left c.in_ok-close.ensures.ok)
-
-pub returns-clause-goes : goal.returns-clause-goes
-returns-clause-goes c =
-    let b = c.args.builder.now in
-    let f = c.requires.fine in
-    let n = length b.opened.items - 1 in
-    let taken : IsConsistent b.tables (take n b.opened.items) =
-    record { sound = f.sound; elements = all_take (IsOpenWithin b.tables) n b.opened.items f.elements; empty = f.empty; kept = f.kept; few_names = f.few_names; few_attributes = f.few_attributes } in
-    record {
-      source = search;
-      fine = subst (λ (qs : List OpenElement). IsConsistent c.close.new.self.tables qs) (sym c.in_ok-close.ensures.opened)
-          (subst (λ (t : ElementTables). IsConsistent t (take n b.opened.items)) (sym c.close.ensures.kept.tables) taken);
-    }
+pub returns : goal.returns
+returns c = record {
+  value = λ limit end es s h.
+      let src = c.args.cursor.now.text.now in
+      let b = c.args.builder.now in
+      let pos = c.args.cursor.now.pos in
+      let d = c.end_tag.new.self in
+      let t = end_tag_view c.in_ok-tag.tag in
+      let k = c.in-Some.ensures.item in
+      let os = c.deref.result.now in
+      let o = c.in-Some.open.now in
+      let outer = take (length os - 1) os in
+      let split : b.opened.items ≡ outer ++ o ∷ [] = sym c.deref.ensures.value ∙ last_split os o k.3.0 (k.3.1 o) in
+      let same = sym c.same_qname.ensures ∙ c.if-not-same_qname.false in
+      rw (end_is (context_of limit es c.args.context) src s pos d.pos t h.here c.in_ok-tag.ensures.value (let k = opened_deep end s.stack s.done b h.shows in let l = c.len.ensures in let m = c.if-len-context.false in lt-leb _ _ (omega arith)))
+      (closed_stepped limit end s c.args.cursor.now d b c.close.new.self outer o pos t.name_end t.name h split same c.close.ensures.kept.tables c.close.ensures.kept.limit c.close.ensures.kept.openings_left c.in_ok-close.ensures.ok);
+  goes =
+      let b = c.args.builder.now in
+      let f = c.requires.fine in
+      let n = length b.opened.items - 1 in
+      let taken : IsConsistent b.tables (take n b.opened.items) =
+      record { sound = f.sound; elements = all_take (IsOpenWithin b.tables) n b.opened.items f.elements; empty = f.empty; kept = f.kept; few_names = f.few_names; few_attributes = f.few_attributes } in
+      record {
+        source = search;
+        fine = subst (λ (qs : List OpenElement). IsConsistent c.close.new.self.tables qs) (sym c.in_ok-close.ensures.opened)
+            (subst (λ (t : ElementTables). IsConsistent t (take n b.opened.items)) (sym c.close.ensures.kept.tables) taken);
+      };
+}

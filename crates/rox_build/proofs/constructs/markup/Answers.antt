@@ -68,3 +68,9 @@ returns-in_err-instruction c = record {
 
 pub element-requires : goal.element-requires
 element-requires c = record { there = omega (arith, c.requires.markup.there); here = c.requires.markup.here; fine = c.requires.markup.fine }
+
+pub comment_or_section-requires : goal.comment_or_section-requires
+comment_or_section-requires c =
+    let e = c.as_bytes-bytes.ensures.value in
+    let i = c.args.cursor.now.pos in
+    record { markup = c.requires.markup; next = ap (λ (xs : List ℕ). slice_index xs (i + 1)) (sym e) ∙ c.if-next-eq33.true }

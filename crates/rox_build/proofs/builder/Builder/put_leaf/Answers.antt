@@ -11,8 +11,11 @@ use Rattle.rox_tables.specs.Rows.{node_rows}
 use Rattle.rox_tables.proofs.StoredNodes.{count_nodes}
 use Rattle.rox_build.proofs.builder.Builder.put_leaf.Goals as goal
 
-pub row_below-row-requires-clause-small : goal.row_below-row-requires-clause-small
-row_below-row-requires-clause-small c = let small = c.requires.row.ready.small in let same = ap (λ v. v.rows.len) c.settle.ensures.nodes in omega arith
+pub row_below-row-requires : goal.row_below-row-requires
+row_below-row-requires c = record {
+  small = let small = c.requires.row.ready.small in let same = ap (λ v. v.rows.len) c.settle.ensures.nodes in omega arith;
+  parent = rw (c.settle.ensures.kept.tables, c.settle.ensures.kept.opened) c.requires.row.parent;
+}
 
 pub returns : goal.returns
 returns c = record {
@@ -37,6 +40,3 @@ returns c = record {
   };
   ready = first_of (search rules, grind (arith, common_steps));
 }
-
-pub row_below-row-requires-clause-parent : goal.row_below-row-requires-clause-parent
-row_below-row-requires-clause-parent c = rw (c.settle.ensures.kept.tables, c.settle.ensures.kept.opened) c.requires.row.parent
