@@ -75,12 +75,13 @@ pub record MayReadBelow (t : ElementTables) (scope : ℕ) : Type 0 where
   pub kept : HasBindings t
 
 -- the tables have this scope, and the bindings that it has: names can be resolved in it, and attributes be put into their table
-pub record MayResolve (t : ElementTables) (scope : ℕ) : Type 0 where
+pub record MayResolve (t : ElementTables) (scope at : ℕ) : Type 0 where
   pub places : ArePlaces (length t.namespaces.items.items) t.listed.items
   pub scopes : AreScopes (length t.listed.items) t.scopes.items
   pub within : scope < length t.scopes.items
   pub present : HasBindingsOf t scope
   pub few : length (attribute_rows t.attributes) ≤ most_attributes
+  pub small : at < 2 ^ 63
 
 -- the cursor stands behind this attribute, whose value stands in the text
 pub record IsBehind (raw : RawAttribute) (c : Cursor) : Type 0 where
