@@ -62,7 +62,7 @@ GivesTag old new after (Err e) above read = IsRefusal e read
 abbrev pub scope_in_tables : ElementTables → ℕ → List NamespaceDecl
 scope_in_tables t i = scope_at (lists_in t) i
 
--- the names of an element in this scope are tested, whose own stands at this place, and its attributes go into the table
+-- an element of this scope, whose name stands at this place, has its names tested, and then its attributes are in the table
 pub record MakesElement (old new : ElementTables) (scope at : ℕ) (name : Name) (written : List Attribute) (result : Result ElementData Failure) : Type 0 where
   pub others : new ≡ record old { attributes = new.attributes }
   pub tested : OnOk result (tested_at (scope_in_tables old scope) (length (attribute_rows old.attributes)) at name written ≡ Ok tt)

@@ -74,7 +74,8 @@ pub record MayReadBelow (t : ElementTables) (scope : ℕ) : Type 0 where
   pub once : PrefixesOnce (scope_in_tables t scope)
   pub kept : HasBindings t
 
--- the tables have this scope, and the bindings that it has: names can be resolved in it, and attributes be put into their table
+-- the tables have this scope, and the bindings that it has: the name of an element that stands at this place and those of its
+-- attributes can be resolved in it, and these be put into their table
 pub record MayResolve (t : ElementTables) (scope at : ℕ) : Type 0 where
   pub places : ArePlaces (length t.namespaces.items.items) t.listed.items
   pub scopes : AreScopes (length t.listed.items) t.scopes.items

@@ -85,12 +85,12 @@ AddsAttributes known before namespaces listed taken after (Ok x) read =
     (h : TagSoFar) × (read ≡ Ok (record { held = h; empty = x.1; openings_left = x.2 }, after.pos)) × HoldsTag known before namespaces listed x.0 taken h
 AddsAttributes known before namespaces listed taken after (Err e) read = IsRefusal e read
 
--- the cursor goes on behind what the tag holds next, in the same text
+-- what the tag holds next is read, and the cursor stays in its text
 pub record ReadsTagPart (context : Context) (old new : Cursor) (openings_left : ℕ) (result : Result TagPart ParseError) : Type 0 where
   pub source : new.text ≡ old.text
   pub part : (es : List Entity) → AreDeclared es context.entities.now → GivesTagPart (values_in es context) old.text.now old.pos openings_left new result
 
--- the attribute or declaration goes to the tables and buffers, where these hold the tag so far
+-- this attribute or declaration is put behind what the tables and the buffers hold of the tag, unless it is refused
 pub record TakesAttribute (old new : ElementTables) (b after : Buffers) (own : OwnDeclarations) (a : Attribute) (result : Result Bool Failure) : Type 0 where
   pub tables : OnOk result (IsReadingTag new after.prefix_set.keys own.from)
   pub kept : OnOk result (KeepsScopes old new)

@@ -96,60 +96,49 @@ overflow_cast-result-2 c =
     omega arith
 
 pub returns : goal.returns
-returns c = record {
-  others = search rules;
-  tested =
-      let t = c.args.elements.now in
-      let namespaces = map namespace_view t.namespaces.items.items in
-      let scope = scope_at (lists_in t) c.args.scope in
-      let written = map unresolved_view c.args.taken.now.items in
-      let count = length (attribute_rows t.attributes) in
-      let name = name_view c.args.name in
-      let few : count + length written ≤ most_attributes =
-      (let k = c.args.taken.now.ok.0 in let a = c.if-len-from.false in let b = c.len-from.ensures in let l = c.len.ensures in let most = c.requires.few in let m = length-map c.args.taken.now.items unresolved_view in omega arith) in
-      let finds = found_for t c.deref.result.now c.deref-2.result.now c.few_places-few.result c.args.scope c.deref.ensures.value c.deref-2.ensures.value c.few_places-few.ensures.few c.few_places-few.ensures.many c.requires.present in
-      let here = seen_by t c.as_slice.result.now (places_view c.few_places-few.result) scope c.as_slice.ensures.value finds in
-      let here2 = seen_by t c.as_slice-2.result.now (places_view c.few_places-few.result) scope c.as_slice-2.ensures.value finds in
-      tested_known scope count c.args.at name written few (c.in_ok-resolve.ensures scope here).0 (c.in_ok-namespace.ensures.ok scope here2).1;
-  element =
-      let t = c.args.elements.now in
-      let namespaces = map namespace_view t.namespaces.items.items in
-      let scope = scope_at (lists_in t) c.args.scope in
-      let written = map unresolved_view c.args.taken.now.items in
-      let count = length (attribute_rows t.attributes) in
-      let name = name_view c.args.name in
-      let few : count + length written ≤ most_attributes =
-      (let k = c.args.taken.now.ok.0 in let a = c.if-len-from.false in let b = c.len-from.ensures in let l = c.len.ensures in let most = c.requires.few in let m = length-map c.args.taken.now.items unresolved_view in omega arith) in
-      let finds = found_for t c.deref.result.now c.deref-2.result.now c.few_places-few.result c.args.scope c.deref.ensures.value c.deref-2.ensures.value c.few_places-few.ensures.few c.few_places-few.ensures.many c.requires.present in
-      let here = seen_by t c.as_slice.result.now (places_view c.few_places-few.result) scope c.as_slice.ensures.value finds in
-      let here2 = seen_by t c.as_slice-2.result.now (places_view c.few_places-few.result) scope c.as_slice-2.ensures.value finds in
-      let seen : map namespace_view c.as_slice.result.now ≡ namespaces = ap (map namespace_view) c.as_slice.ensures.value in
-      let seen2 : map namespace_view c.as_slice-2.result.now ≡ namespaces = ap (map namespace_view) c.as_slice-2.ensures.value in
-      let moved = (c.in_ok-resolve.ensures scope here).1 in
-      let named = c.in_ok-namespace.ensures.ok scope here2 in
-      let o = c.in_ok-namespace.namespace in
-      let same : map (attribute namespaces) moved.0 ≡ map (attribute_in scope) written =
-      ap (λ ns. map (attribute ns) moved.0) (sym seen) ∙ moved.2 in
-      let wide : length c.as_slice.result.now ≡ length namespaces = ap length c.as_slice.ensures.value ∙ sym (length-map t.namespaces.items.items namespace_view) in
-      let grown = ap length moved.1 ∙ length-append (attribute_rows t.attributes) moved.0 in
-      let n = ap length same in
-      let a = length-map moved.0 (attribute namespaces) in
-      let b = length-map written (attribute_in scope) in
-      record {
-        attributes = record {
-          more = moved.0;
-          grown = moved.1;
-          same = same;
-          within = subst (λ (n : ℕ). AllByRecursion (λ (a : AttributeRow). NamespaceWithin n a.0.namespace) moved.0) wide moved.3;
-        };
-        attributes_from = c.len-from.ensures;
-        attributes_until = c.len-2.ensures;
-        few = omega arith;
-        local = refl;
-        namespace = ap (λ ns. option_map (λ i. (namespace_at ns i).uri) o) (sym seen2) ∙ named.0;
-        namespace_within = subst (λ (n : ℕ). OptionWithin n o) (ap length c.as_slice-2.ensures.value) c.in_ok-namespace.ensures.within;
-        scope_within = c.requires.within;
-        lists = refl;
-      };
-  err = search rules;
-}
+returns c =
+    let t = c.args.elements.now in
+    let namespaces = map namespace_view t.namespaces.items.items in
+    let scope = scope_at (lists_in t) c.args.scope in
+    let written = map unresolved_view c.args.taken.now.items in
+    let count = length (attribute_rows t.attributes) in
+    let name = name_view c.args.name in
+    let few : count + length written ≤ most_attributes =
+    (let k = c.args.taken.now.ok.0 in let a = c.if-len-from.false in let b = c.len-from.ensures in let l = c.len.ensures in let most = c.requires.few in let m = length-map c.args.taken.now.items unresolved_view in omega arith) in
+    let finds = found_for t c.deref.result.now c.deref-2.result.now c.few_places-few.result c.args.scope c.deref.ensures.value c.deref-2.ensures.value c.few_places-few.ensures.few c.few_places-few.ensures.many c.requires.present in
+    let here = seen_by t c.as_slice.result.now (places_view c.few_places-few.result) scope c.as_slice.ensures.value finds in
+    let here2 = seen_by t c.as_slice-2.result.now (places_view c.few_places-few.result) scope c.as_slice-2.ensures.value finds in
+    record {
+      others = search rules;
+      tested = tested_known scope count c.args.at name written few (c.in_ok-resolve.ensures scope here).0 (c.in_ok-namespace.ensures.ok scope here2).1;
+      element =
+          let seen : map namespace_view c.as_slice.result.now ≡ namespaces = ap (map namespace_view) c.as_slice.ensures.value in
+          let seen2 : map namespace_view c.as_slice-2.result.now ≡ namespaces = ap (map namespace_view) c.as_slice-2.ensures.value in
+          let moved = (c.in_ok-resolve.ensures scope here).1 in
+          let named = c.in_ok-namespace.ensures.ok scope here2 in
+          let o = c.in_ok-namespace.namespace in
+          let same : map (attribute namespaces) moved.0 ≡ map (attribute_in scope) written =
+          ap (λ ns. map (attribute ns) moved.0) (sym seen) ∙ moved.2 in
+          let wide : length c.as_slice.result.now ≡ length namespaces = ap length c.as_slice.ensures.value ∙ sym (length-map t.namespaces.items.items namespace_view) in
+          let grown = ap length moved.1 ∙ length-append (attribute_rows t.attributes) moved.0 in
+          let n = ap length same in
+          let a = length-map moved.0 (attribute namespaces) in
+          let b = length-map written (attribute_in scope) in
+          record {
+            attributes = record {
+              more = moved.0;
+              grown = moved.1;
+              same = same;
+              within = subst (λ (n : ℕ). AllByRecursion (λ (a : AttributeRow). NamespaceWithin n a.0.namespace) moved.0) wide moved.3;
+            };
+            attributes_from = c.len-from.ensures;
+            attributes_until = c.len-2.ensures;
+            few = omega arith;
+            local = refl;
+            namespace = ap (λ ns. option_map (λ i. (namespace_at ns i).uri) o) (sym seen2) ∙ named.0;
+            namespace_within = subst (λ (n : ℕ). OptionWithin n o) (ap length c.as_slice-2.ensures.value) c.in_ok-namespace.ensures.within;
+            scope_within = c.requires.within;
+            lists = refl;
+          };
+      err = search rules;
+    }
