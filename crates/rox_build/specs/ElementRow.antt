@@ -1,14 +1,15 @@
 -- What the code holds of a start tag that was read, against the tag.
-use Rattle.std.specs.Prelude.{◌≡◌, ℕ, ◌<◌, ◌≤◌, List, ◌++◌, length, map, Result, Ok, Err}
+use Rattle.std.specs.Prelude.{◌≡◌, ℕ, ◌<◌, ◌≤◌, List, ◌++◌, length, map, OnOk, IfOk, IfErr, Result, Ok, Err}
 use Rattle.std.specs.List.{AllByRecursion}
 use Rattle.std.specs.Option.{option_map}
 use Rattle.rox_grammar.specs.Written.{Attribute, Name, NamespaceDecl, Tag}
 use Rattle.rox_grammar.specs.Tree.{listed, attribute_in, element_namespace}
 use Rattle.rox_grammar.specs.Document.{most_pairs, most_attributes}
 use Rattle.rox_grammar.specs.Counts.{listable, with_new}
+use Rattle.rox_grammar.specs.declared.failure.Failure.{Failure}
 use Rattle.rox_reading.specs.Refusals.{Refusal}
-use Rattle.rox_reading.specs.Tags.{TagRead}
-use Rattle.rox_grammar.specs.Failures.{name_view}
+use Rattle.rox_reading.specs.Tags.{TagRead, tested_at}
+use Rattle.rox_grammar.specs.Failures.{Fails, name_view}
 use Rattle.rox_scan.specs.declared.cursor.Cursor.{Cursor}
 use Rattle.rox_values.specs.Refusals.{IsRefusal}
 use Rattle.rox_values.specs.declared.parse_error.ParseError.{ParseError}
@@ -60,3 +61,10 @@ GivesTag old new after (Err e) above read = IsRefusal e read
 -- the namespaces that the scope at this place lists
 abbrev pub scope_in_tables : ElementTables → ℕ → List NamespaceDecl
 scope_in_tables t i = scope_at (lists_in t) i
+
+-- an element of this scope, whose name stands at this place, has its names tested, and then its attributes are in the table
+pub record MakesElement (old new : ElementTables) (scope at : ℕ) (name : Name) (written : List Attribute) (result : Result ElementData Failure) : Type 0 where
+  pub others : new ≡ record old { attributes = new.attributes }
+  pub tested : OnOk result (tested_at (scope_in_tables old scope) (length (attribute_rows old.attributes)) at name written ≡ Ok tt)
+  pub element : IfOk result (λ e. IsElement old new e (scope_in_tables old scope) name written)
+  pub err : IfErr result (λ e. Fails e (tested_at (scope_in_tables old scope) (length (attribute_rows old.attributes)) at name written))

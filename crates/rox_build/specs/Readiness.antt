@@ -100,13 +100,15 @@ pub record MayReadTagBelow (cursor : Cursor) (t : ElementTables) (above : ℕ) :
   pub here : slice_index cursor.text.now cursor.pos ≡ 60
   pub below : MayReadBelow t above
 
--- the tables have this scope, and the bindings that it has: names can be resolved in it, and attributes be put into their table
-pub record MayResolve (t : ElementTables) (scope : ℕ) : Type 0 where
+-- the tables have this scope, and the bindings that it has: the name of an element that stands at this place and those of its
+-- attributes can be resolved in it, and these be put into their table
+pub record MayResolve (t : ElementTables) (scope at : ℕ) : Type 0 where
   pub places : ArePlaces (length t.namespaces.items.items) t.listed.items
   pub scopes : AreScopes (length t.listed.items) t.scopes.items
   pub within : scope < length t.scopes.items
   pub present : HasBindingsOf t scope
   pub few : length (attribute_rows t.attributes) ≤ most_attributes
+  pub small : at < 2 ^ 63
 
 -- the cursor stands behind this attribute, whose value stands in the text
 pub record IsBehind (raw : RawAttribute) (c : Cursor) : Type 0 where

@@ -1,15 +1,17 @@
 -- What the code holds of a start tag, against what is read of it.
-use Rattle.std.specs.Prelude.{◌≡◌, ◌⊎◌, ℕ, ◌≤◌, Bool, if◌then◌else◌, List, Option, length, map, drop, Result, Ok, Err}
+use Rattle.std.specs.Prelude.{◌≡◌, ◌⊎◌, ℕ, ◌≤◌, Bool, if◌then◌else◌, List, Option, length, map, drop, OnOk, Result, Ok, Err}
 use Rattle.std.specs.Borrow.{Bor}
 use Rattle.rox_grammar.specs.Document.{most_pairs}
+use Rattle.rox_grammar.specs.Entities.{Entity}
 use Rattle.rox_grammar.specs.Failures.{Fails}
 use Rattle.rox_grammar.specs.declared.failure.Failure.{Failure}
 use Rattle.rox_grammar.specs.declared.fault.Fault.{Fault}
-use Rattle.rox_grammar.specs.Written.{NamespaceDecl}
+use Rattle.rox_grammar.specs.Written.{Attribute, NamespaceDecl}
 use Rattle.rox_reading.specs.Markup.{RawAttribute, more, opened, closed, tag_item_at}
 use Rattle.rox_reading.specs.Refusals.{Refusal}
-use Rattle.rox_reading.specs.Tags.{TagSoFar, TagRest, Values, attribute_with}
+use Rattle.rox_reading.specs.Tags.{TagSoFar, TagRest, Values, attribute_with, taken}
 use Rattle.rox_reading.specs.Values.{ReadText, value_at}
+use Rattle.rox_build.specs.declared.tag.Buffers.{Buffers}
 use Rattle.rox_build.specs.declared.tag.TagPart.{TagPart}
 use Rattle.rox_build.specs.declared.tag.TagPart.TheVariants as part
 use Rattle.rox_values.specs.declared.parse_error.ParseError.TheVariants as error
@@ -22,8 +24,11 @@ use Rattle.rox_tables.specs.TagDeclarations.{unresolved_view, Declares}
 use Rattle.rox_tables.specs.TagScopes.{HasBindings, lists_in}
 use Rattle.rox_tables.specs.declared.rows.storage.StringStorage.{StringStorage}
 use Rattle.rox_tables.specs.declared.rows.tables.ElementTables.{ElementTables}
+use Rattle.rox_tables.specs.declared.namespaces.scope.OwnDeclarations.{OwnDeclarations}
 use Rattle.rox_tables.specs.declared.namespaces.unresolved_attribute.UnresolvedAttribute.{UnresolvedAttribute}
+use Rattle.rox_values.specs.DeclaredEntities.{AreDeclared, values_in}
 use Rattle.rox_values.specs.Refusals.{IsRefusal}
+use Rattle.rox_values.specs.declared.context.Context.{Context}
 use Rattle.rox_values.specs.declared.parse_error.ParseError.{ParseError}
 
 -- The tables while a start tag is read, and the set of the prefixes that it declares: its own declarations are listed from `own`
@@ -79,3 +84,16 @@ abbrev pub AddsAttributes : (known : List NamespaceDecl) (before : List ℕ) (na
 AddsAttributes known before namespaces listed taken after (Ok x) read =
     (h : TagSoFar) × (read ≡ Ok (record { held = h; empty = x.1; openings_left = x.2 }, after.pos)) × HoldsTag known before namespaces listed x.0 taken h
 AddsAttributes known before namespaces listed taken after (Err e) read = IsRefusal e read
+
+-- what the tag holds next is read, and the cursor stays in its text
+pub record ReadsTagPart (context : Context) (old new : Cursor) (openings_left : ℕ) (result : Result TagPart ParseError) : Type 0 where
+  pub source : new.text ≡ old.text
+  pub part : (es : List Entity) → AreDeclared es context.entities.now → GivesTagPart (values_in es context) old.text.now old.pos openings_left new result
+
+-- this attribute or declaration is put behind what the tables and the buffers hold of the tag, unless it is refused
+pub record TakesAttribute (old new : ElementTables) (b after : Buffers) (own : OwnDeclarations) (a : Attribute) (result : Result Bool Failure) : Type 0 where
+  pub tables : OnOk result (IsReadingTag new after.prefix_set.keys own.from)
+  pub kept : OnOk result (KeepsScopes old new)
+  pub took : (known : List NamespaceDecl) (before : List ℕ) (h : TagSoFar) → own.from ≡ length before
+      → HoldsTag known before (map namespace_view old.namespaces.items.items) old.listed.items own.xml b.taken.items h
+      → AddsAttribute known before (map namespace_view new.namespaces.items.items) new.listed.items after.taken.items result (taken known a h)

@@ -81,7 +81,8 @@ fn declared<'input>(
     prefix_set: &mut BTreeSet<Option<&'input str>>,
 ) -> Option<usize>
     requires { MayDeclare text.now start elements.old prefix_set.old.keys }
-    ensures { DeclaresOwn elements.old elements.new prefix_set.new.keys text.entry.now start result }
+    ensures { DeclaresOwn elements.old elements.new prefix_set.new.keys text.entry.now start
+        result }
 {
     let read = named_attribute(text, start)?;
     if !is_namespace_decl(read.name.name) {

@@ -1,11 +1,11 @@
 //! Start tags: attributes and declarations, each tested in order (XML 1.0 section 3.1, Namespaces in XML 1.0).
 
-ghost use Rattle.std.specs.Prelude.{◌≡◌, ◌<◌, ◌+◌, ◌-◌, ◌^◌, ◌∷◌, [], Bool, false, true, List, ℕ, length, map, drop, Ok, Err, OnOk, IfOk, slice_index, IfErr, ◌++◌};
+ghost use Rattle.std.specs.Prelude.{◌≡◌, ◌<◌, ◌+◌, ◌-◌, ◌^◌, ◌∷◌, [], Bool, false, true, List, ℕ, length, map, drop, Ok, Err, OnOk, IfOk, slice_index, ◌++◌};
 ghost use Rattle.rox_grammar.specs.Written.{NamespaceDecl};
-ghost use Rattle.rox_reading.specs.Tags.{TagSoFar, taken, attributes_at, tag_at, tested_at};
-ghost use Rattle.rox_grammar.specs.Failures.{Fails, name_view};
+ghost use Rattle.rox_reading.specs.Tags.{TagSoFar, attributes_at, tag_at};
+ghost use Rattle.rox_grammar.specs.Failures.{name_view};
 ghost use Rattle.rox_tables.specs.TagScopes.{lists_in};
-ghost use Rattle.rox_build.specs.ElementRow.{IsElement, GivesTag, scope_in_tables};
+ghost use Rattle.rox_build.specs.ElementRow.{MakesElement, GivesTag, scope_in_tables};
 ghost use Rattle.rox_build.specs.Readiness.{IsBehind, MayReadBelow, MayResolve};
 ghost use Rattle.rox_scan.specs.Views.{attribute_view};
 ghost use Rattle.rox_grammar.specs.Entities.{Entity};
@@ -15,7 +15,7 @@ ghost use Rattle.rox_tables.specs.Rows.{namespace_view, scope_at, attribute_rows
 ghost use Rattle.rox_tables.specs.Scopes.{entries};
 ghost use Rattle.rox_tables.specs.PrefixSet.{IsPrefixSet};
 ghost use Rattle.rox_tables.specs.TagDeclarations.{Declares, unresolved_view};
-ghost use Rattle.rox_build.specs.TagState.{HoldsTag, IsReadingTag, KeepsScopes, GivesAttribute, GivesTagPart, AddsAttribute, AddsAttributes, IsStored, value_of};
+ghost use Rattle.rox_build.specs.TagState.{HoldsTag, IsReadingTag, KeepsScopes, GivesAttribute, ReadsTagPart, TakesAttribute, AddsAttributes, IsStored, value_of};
 ghost use Rattle.rox_grammar.specs.Tree.{listed};
 
 use crate::plain_tag::near_attribute;
@@ -154,10 +154,7 @@ fn tag_part<'input>(
     openings_left: u32,
     scratch: &mut String,
 ) -> Result<TagPart<'input>, ParseError<'input>>
-    ensures source { cursor.new.text ≡ cursor.old.text }
-    ensures part { (es : List Entity) → AreDeclared es context.entry.entities.now
-        → GivesTagPart (values_in es context.entry) cursor.old.text.now cursor.old.pos
-        openings_left cursor.new result }
+    ensures { ReadsTagPart context.entry cursor.old cursor.new openings_left result }
 {
     let small = byte_count(cursor.text);
     if let Some(one) = near_attribute(cursor.text, cursor.pos) {
@@ -181,16 +178,9 @@ fn add_attribute<'input>(
     own: OwnDeclarations,
     one: UnresolvedAttribute<'input>,
 ) -> Result<bool, Failure>
-    requires tables { IsReadingTag elements.old buffers.old.prefix_set.keys own.from }
-    ensures tables { OnOk result (IsReadingTag elements.new buffers.new.prefix_set.keys own.from) }
-    ensures kept { OnOk result (KeepsScopes elements.old elements.new) }
-    ensures took { (known : List NamespaceDecl) (before : List ℕ) (h : TagSoFar)
-        → own.from ≡ length before
-        → HoldsTag known before (map namespace_view elements.old.namespaces.items.items)
-        elements.old.listed.items own.xml buffers.old.taken.items h
-        → AddsAttribute known before (map namespace_view elements.new.namespaces.items.items)
-        elements.new.listed.items buffers.new.taken.items result
-        (taken known (unresolved_view one.entry) h) }
+    requires { IsReadingTag elements.old buffers.old.prefix_set.keys own.from }
+    ensures { TakesAttribute elements.old elements.new buffers.old buffers.new own
+        (unresolved_view one.entry) result }
 {
     if is_namespace_decl(one.name) {
         let xml = declare_namespace(
@@ -275,19 +265,9 @@ fn element_data<'input>(
     at: usize,
     scope: u32,
 ) -> Result<ElementData<'input>, Failure>
-    requires tables { MayResolve elements.old scope }
-    requires small { at < 2 ^ 63 }
-    ensures others { elements.new ≡ record elements.old { attributes = elements.new.attributes } }
-    ensures tested { OnOk result (tested_at (scope_in_tables elements.old scope)
-        (length (attribute_rows elements.old.attributes)) at (name_view name.entry)
-        (map unresolved_view taken.old.items) ≡ Ok tt) }
-    ensures element { IfOk result
-        (λ e. IsElement elements.old elements.new e (scope_in_tables elements.old scope)
-        (name_view name.entry) (map unresolved_view taken.old.items)) }
-    ensures err { IfErr result
-        (λ e. Fails e (tested_at (scope_in_tables elements.old scope)
-        (length (attribute_rows elements.old.attributes)) at (name_view name.entry)
-        (map unresolved_view taken.old.items))) }
+    requires { MayResolve elements.old scope at }
+    ensures { MakesElement elements.old elements.new scope at (name_view name.entry)
+        (map unresolved_view taken.old.items) result }
 {
     let from = elements.attributes.len();
     if taken.len() > MOST_ATTRIBUTES - from {

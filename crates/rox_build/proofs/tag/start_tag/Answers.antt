@@ -145,8 +145,8 @@ returns-clause-value c = λ es declared.
           c.in_ok-scope.ensures.scopes scopes (ap (λ (x : ElementTables). x.namespaces) c.in_ok-element.ensures.others) (ap (λ (x : ElementTables). x.listed) c.in_ok-element.ensures.others) (ap (λ (x : ElementTables). x.scopes) c.in_ok-element.ensures.others) c.in_ok-element.ensures.element c.in_ok-scope.ensures.kept (ap (λ (x : ElementTables). x.present) c.in_ok-element.ensures.others) c.in_ok-scope.ensures.once,
     )
 
-pub element_data-requires-clause-tables : goal.element_data-requires-clause-tables
-element_data-requires-clause-tables c =
+pub element_data-requires : goal.element_data-requires
+element_data-requires c =
     let scope = c.in_ok-scope.ensures in
     record {
       places = scope.places;
@@ -154,4 +154,9 @@ element_data-requires-clause-tables c =
       within = scope.within;
       present = scope.present;
       few = rw (scope.attributes ∙ c.in_ok-xml.ensures.kept.attributes) c.requires.below.few_attributes;
+      small =
+          let k = c.byte_count-small.ensures.small in
+          let l = c.requires.there in
+          let p = c.advance.ensures.place in
+          omega arith;
     }

@@ -1,4 +1,4 @@
-use Rattle.std.proofs.Common.{◌≡◌, ap, ◌∙◌, arith, rules, Ok}
+use Rattle.std.proofs.Common.{◌≡◌, refl, ap, ◌∙◌, arith, rules, Ok}
 use Rattle.rox_reading.specs.Markup.{tag_item_at, more}
 use Rattle.rox_scan.specs.Views.{attribute_view, tag_item_view}
 use Rattle.rox_scan.specs.declared.tag.TagItem.{TagItem as CodeTagItem}
@@ -6,11 +6,14 @@ use Rattle.rox_values.specs.DeclaredEntities.{values_in}
 use Rattle.rox_build.proofs.Taking.{turn_gives}
 use Rattle.rox_build.proofs.tag.tag_part.Goals as goal
 
-pub returns-in-Some-clause-part : goal.returns-in-Some-clause-part
-returns-in-Some-clause-part c = λ es declared.
-    let n = c.in-Some.ensures in
-    let v = values_in es c.args.context in
-    (n.raw, n.read, (_, n.value v.main v.entities v.opener c.args.openings_left, n.view))
+pub returns-in-Some : goal.returns-in-Some
+returns-in-Some c = record {
+  source = refl;
+  part = λ es declared.
+      let n = c.in-Some.ensures in
+      let v = values_in es c.args.context in
+      (n.raw, n.read, (_, n.value v.main v.entities v.opener c.args.openings_left, n.view));
+}
 
 pub unresolved-requires : goal.unresolved-requires
 unresolved-requires c =
