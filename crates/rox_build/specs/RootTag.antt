@@ -26,7 +26,7 @@ use Rattle.rox_build.specs.declared.plain_tag.PlainTag.{PlainTag}
 use Rattle.rox_build.specs.declared.plain_tag.TagEnd.{TagEnd}
 
 -- the name and the value of an attribute or a declaration that begins here, where the value stands for itself
-pub record IsNamed (src : List ℕ) (i : ℕ) (n : NamedAttribute) : Type 0 where
+pub record IsNamedAttribute (src : List ℕ) (i : ℕ) (n : NamedAttribute) : Type 0 where
   pub start : n.start ≡ i
   pub named : IsAttributeName src i n.name
   pub value : HasPlainValue src (n.name.end + 2) (slice_index src (n.name.end + 1)) n.value.end n.value.text.now
@@ -146,7 +146,7 @@ pub record MayBeNamed (src : List ℕ) (i : ℕ) : Type 0 where
   pub begins : 62 < slice_index src i
 
 -- so may a declaration, where all that is declared is the tag's own
-pub record MayDeclare (src : List ℕ) (i : ℕ) (t : ElementTables) (keys : List (Option (Bor (List ℕ)))) : Type 0 where
+pub record MayDeclareOwn (src : List ℕ) (i : ℕ) (t : ElementTables) (keys : List (Option (Bor (List ℕ)))) : Type 0 where
   pub cut : IsCharBoundary src i
   pub begins : 62 < slice_index src i
   pub own : HasOwn t.namespaces.items.items t.listed.items keys 0

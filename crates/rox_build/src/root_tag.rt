@@ -8,7 +8,7 @@ ghost use Rattle.rox_values.specs.DeclaredEntities.{AreDeclared, values_in};
 ghost use Rattle.rox_tables.specs.Rows.{attribute_rows, namespace_view};
 ghost use Rattle.rox_build.specs.ElementRow.{GivesTag, scope_in_tables};
 ghost use Rattle.rox_build.specs.Readiness.{MayReadTagBelow};
-ghost use Rattle.rox_build.specs.RootTag.{BeginsScopes, DeclaresOwn, GivesRootTag, IsBlank, IsNamed, ListsOwn, MayBeNamed, MayDeclare, MayReadRoot, MayReadRootTag, ReadsRoot, ReadsRootTag};
+ghost use Rattle.rox_build.specs.RootTag.{BeginsScopes, DeclaresOwn, GivesRootTag, IsBlank, IsNamedAttribute, ListsOwn, MayBeNamed, MayDeclareOwn, MayReadRoot, MayReadRootTag, ReadsRoot, ReadsRootTag};
 
 use crate::plain_tag::{
     NamedAttribute, PlainTag, TagEnd, next_item, other_namespace, plain_name, plain_value,
@@ -52,7 +52,7 @@ fn may_declare(text: &str, at: usize) -> bool {
 #[inline(always)]
 fn named_attribute<'input>(text: &'input str, start: usize) -> Option<NamedAttribute<'input>>
     requires { MayBeNamed text.now start }
-    ensures { IfSome result (λ n. IsNamed text.entry.now start n) }
+    ensures { IfSome result (λ n. IsNamedAttribute text.entry.now start n) }
 {
     let part = skip_set::<PartByte>(text, start);
     if is_at(text, part, b':') {
@@ -80,7 +80,7 @@ fn declared<'input>(
     elements: &mut ElementTables<'input>,
     prefix_set: &mut BTreeSet<Option<&'input str>>,
 ) -> Option<usize>
-    requires { MayDeclare text.now start elements.old prefix_set.old.keys }
+    requires { MayDeclareOwn text.now start elements.old prefix_set.old.keys }
     ensures { DeclaresOwn elements.old elements.new prefix_set.new.keys text.entry.now start
         result }
 {

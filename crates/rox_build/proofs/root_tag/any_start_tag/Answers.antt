@@ -7,6 +7,6 @@ pub returns-clause-value : goal.returns-clause-value
 returns-clause-value c = λ es declared.
     let old = c.args.elements.now in
     let now = c.first_tag.new.elements in
-    let alike : HoldAlike old now = rw c.in_default.is at c.in_ok-read.ensures in
+    let same : HoldAlike old now = rw c.in_default.is at c.in_ok-read.ensures in
     gives_alike old now c.start_tag.new.elements c.start_tag.new.cursor c.start_tag.result c.args.around.above (values_in es c.args.context) c.args.around.cut c.args.cursor.now.text.now c.args.cursor.now.pos c.args.around.openings_left
-    alike (c.start_tag.ensures.value es declared)
+    same (c.start_tag.ensures.value es declared)
