@@ -15,6 +15,7 @@ use crate::plain_tag::{
     prefixed_name, put_attribute, quote_before, quote_behind_equals, tag_end, whole_name,
 };
 use crate::tag::{Buffers, MOST_ATTRIBUTES, StartTag, TagContext, start_tag};
+use rox_grammar::failure::Failure;
 use rox_scan::byte_set::{PartByte, ValueByte, part_end, skip_set};
 use rox_scan::cursor::Cursor;
 use rox_scan::runs::{after_byte, is_at};
@@ -73,12 +74,14 @@ fn named_attribute<'input>(text: &'input str, start: usize) -> Option<NamedAttri
 }
 
 /// Declares what begins at `start`, if it is a declaration that is read at one look, and none of `xml`. Answers the place behind it.
+/// Where there is no memory for it, that is noted.
 #[inline(always)]
 fn declared<'input>(
     text: &'input str,
     start: usize,
     elements: &mut ElementTables<'input>,
     prefix_set: &mut BTreeSet<Option<&'input str>>,
+    lacking: &mut bool,
 ) -> Option<usize>
     requires { MayDeclareOwn text.now start elements.old prefix_set.old.keys }
     ensures { DeclaresOwn elements.old elements.new prefix_set.new.keys text.entry.now start
@@ -108,6 +111,10 @@ fn declared<'input>(
         one,
     ) {
         Ok(false) => Some(end),
+        Err(Failure::Memory) => {
+            *lacking = true;
+            None
+        }
         _ => None,
     }
 }
@@ -137,6 +144,7 @@ fn root_attributes<'input>(
     start: usize,
     elements: &mut ElementTables<'input>,
     buffers: &mut Buffers<'input>,
+    lacking: &mut bool,
 ) -> Option<TagEnd>
     requires { MayReadRoot text.now start elements.old }
     ensures { ReadsRoot elements.old elements.new text.entry.now start result }
@@ -149,7 +157,7 @@ fn root_attributes<'input>(
             return tag_end(text, next.at);
         }
         if may_declare(text, next.at) {
-            at = declared(text, next.at, elements, &mut buffers.prefix_set)?;
+            at = declared(text, next.at, elements, &mut buffers.prefix_set, lacking)?;
             if !list_own(elements) {
                 return None;
             }
@@ -168,6 +176,7 @@ fn root_tag<'input>(
     elements: &mut ElementTables<'input>,
     buffers: &mut Buffers<'input>,
     openings_left: u32,
+    lacking: &mut bool,
 ) -> Option<PlainTag<'input>>
     requires { MayReadRootTag text.now start elements.old }
     ensures { ReadsRootTag elements.old elements.new text.entry.now start openings_left result }
@@ -179,7 +188,7 @@ fn root_tag<'input>(
         return None;
     }
     let from = elements.attributes.len();
-    let end = root_attributes(text, name.end, elements, buffers)?;
+    let end = root_attributes(text, name.end, elements, buffers, lacking)?;
     let namespace = other_namespace(elements, name.name, name_start, OWN)?;
     let until = elements.attributes.len();
     if until > MOST_ATTRIBUTES {
@@ -256,8 +265,13 @@ fn first_tag<'input>(
     elements
         .scopes
         .push(Scope::Few(Stretch { from: 0, until: 0 }))?;
-    if let Some(read) = root_tag(text, start, elements, buffers, openings_left) {
+    let mut lacking = false;
+    if let Some(read) = root_tag(text, start, elements, buffers, openings_left, &mut lacking) {
         return Ok(Some(read));
+    }
+    // What memory was refused for is not asked for again.
+    if lacking {
+        return Err(AllocError);
     }
     elements.attributes.truncate(attributes);
     elements.namespaces = NamespaceTable::new(alloc);
