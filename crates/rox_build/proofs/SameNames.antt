@@ -23,6 +23,7 @@ use Rattle.rox_grammar.specs.declared.fault.Word.TheVariants as word
 use Rattle.rox_reading.specs.Lexical.{qname_at}
 use Rattle.rox_reading.specs.Markup.{end_tag_at}
 use Rattle.rox_reading.specs.Tags.{Values, TagRead, tag_at, attributes_at, tag_tested}
+use Rattle.rox_theory.proofs.Productions.{ncname_parts, ncname_made}
 use Rattle.rox_theory.proofs.Basics.{ok_same, bind_ok, bind_lifted, chosen}
 use Rattle.rox_theory.proofs.CharLemmas.{begins_byte, run_some}
 use Rattle.rox_theory.proofs.NameLemmas.{qname_sound, qname_complete, qname_le}
@@ -154,17 +155,17 @@ begins_same p src dst i j n us cut there more same =
 part_same : (src dst : List ℕ) (i j n e b : ℕ) → IsUtf8 src → IsUtf8 dst → IsCharBoundary src i → IsNCName src i e → e ≡ i + n → take n (drop i src) ≡ take n (drop j dst)
     → slice_index dst (j + n) ≡ b → 0 < b → b < 128 → is_part_char b ≡ false → IsNCName dst j (j + n)
 part_same src dst i j n e b us ud cut is at same stop some ascii fails =
-    let long = is.longest in
+    let long = (ncname_parts is).longest in
     let run : run_end is_part_char src i ≡ i + n = sym long ∙ at in
     let there : IsCharBoundary src (i + n) = subst (IsCharBoundary src) run (run_boundary is_part_char src i us cut) in
-    let more = part_some src i us cut is.starts is.no_colon in
+    let more = part_some src i us cut (ncname_parts is).starts (ncname_parts is).no_colon in
     let first : slice_index src (i + 0) ≡ slice_index dst (j + 0) = one_of src dst i j n 0 same (omega arith) in
     let first' : slice_index src i ≡ slice_index dst j = rw (add-zero i, add-zero j) at first in
-    record {
-      starts = begins_same is_name_start src dst i j n us cut there (omega arith) same ∙ is.starts;
-      no_colon = λ c. is.no_colon (first' ∙ c);
+    ncname_made (record {
+      starts = begins_same is_name_start src dst i j n us cut there (omega arith) same ∙ (ncname_parts is).starts;
+      no_colon = λ c. (ncname_parts is).no_colon (first' ∙ c);
       longest = sym (run_same is_part_char src dst i j n us ud cut run same (stands_within dst (j + n) b stop some) (rw stop ascii) (rw stop fails));
-    }
+    })
 
 colon_apart : is_part_char 58 ≡ false
 unfolding is_part_char is_name_char is_name_start
@@ -191,9 +192,9 @@ name_same src dst i j n e name us ud cut (unprefixed _ _ part last) at same stop
     let s = slice_same src dst i j n 0 n i e j (j + n) same (omega arith) (omega arith) at (omega arith) refl in
     subst (λ (l : List ℕ). IsQName dst j (record { prefix = []; local = l }) (j + n)) s (unprefixed j (j + n) p (λ c. omega (arith, stop, c)))
 name_same src dst i j n e name us ud cut (prefixed _ k _ front colon part last) at same stop =
-    let some : i < k = rw front.longest (part_some src i us cut front.starts front.no_colon) in
+    let some : i < k = rw (ncname_parts front).longest (part_some src i us cut (ncname_parts front).starts (ncname_parts front).no_colon) in
     let behind = behind_colon src k us colon in
-    let some' : k + 1 < e = rw part.longest (part_some src (k + 1) us behind part.starts part.no_colon) in
+    let some' : k + 1 < e = rw (ncname_parts part).longest (part_some src (k + 1) us behind (ncname_parts part).starts (ncname_parts part).no_colon) in
     let m = k - i in
     let r = e - (k + 1) in
     let ik : i + m ≡ k = omega arith in
@@ -211,7 +212,7 @@ name_same src dst i j n e name us ud cut (prefixed _ k _ front colon part last) 
     (subst (λ (l : List ℕ). IsQName dst j (record { prefix = slice_range dst j (j + m); local = l }) (j + n)) t (prefixed j (j + m) (j + n) p colon' q (λ c. omega (arith, stop, c))))
 name_same src dst i j n e name us ud cut (colon_first _ _ colon part last) at same stop =
     let behind = behind_colon src i us colon in
-    let some' : i + 1 < e = rw part.longest (part_some src (i + 1) us behind part.starts part.no_colon) in
+    let some' : i + 1 < e = rw (ncname_parts part).longest (part_some src (i + 1) us behind (ncname_parts part).starts (ncname_parts part).no_colon) in
     let r = e - (i + 1) in
     let part_bytes : take r (drop (i + 1) src) ≡ take r (drop (j + 1) dst) = some_of src dst i j n 1 r same (omega arith) in
     let first : slice_index src (i + 0) ≡ slice_index dst (j + 0) = one_of src dst i j n 0 same (omega arith) in

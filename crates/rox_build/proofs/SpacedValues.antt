@@ -20,6 +20,7 @@ use Rattle.rox_scan.proofs.NearLemmas.{near_found}
 use Rattle.rox_scan.specs.ByteSets.{AllPass, is_stretch_byte, is_value_byte}
 use Rattle.rox_values.specs.Values.{behind, text_behind}
 use Rattle.rox_values.proofs.PartLemmas.{nothing_front, value_more}
+use Rattle.rox_theory.proofs.Productions.{number_parts}
 use Rattle.rox_theory.proofs.Basics.{chars_complete}
 use Rattle.rox_theory.proofs.Onward.{reference_onward}
 use Rattle.rox_theory.proofs.ReferenceLemmas.{is_character, reference_sound}
@@ -181,8 +182,8 @@ unfolding value_bit_at
 return_alone main es src stop i here other = rw (here, other) refl
 
 reference_on : (src : List ℕ) (i c j : ℕ) → IsCharacter src i c j → i < j
-reference_on src i c j (decimal _ e _ _ amp hash is) = let some = is.some in let next = is.next in omega arith
-reference_on src i c j (hexadecimal _ e _ _ amp hash x is) = let some = is.some in let next = is.next in omega arith
+reference_on src i c j (decimal _ _ _ amp hash is) = let some = (number_parts is).some in let next = (number_parts is).next in omega arith
+reference_on src i c j (hexadecimal _ _ _ amp hash x is) = let some = (number_parts is).some in let next = (number_parts is).next in omega arith
 reference_on src i c j (named _ n _ _ is known) = omega (arith, reference_onward src i n j is)
 
 -- a reference to a character ends behind its `&`

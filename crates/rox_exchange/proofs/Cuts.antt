@@ -1,5 +1,5 @@
 -- What stands in a source stands in each that has the same bytes up to its end.
-use Rattle.std.proofs.Common.{◌≡◌, ◌≢◌, ℕ, zero, suc, ◌+◌, ◌-◌, ◌<◌, ◌≤◌, ◌⊎◌, ◌==◌, Bool, true, false, List, [], ◌∷◌, ◌++◌, length, take, drop, get_or, refl, sym, ap, ◌∙◌, subst, arith, inl, inr, length-drop, length-take}
+use Rattle.std.proofs.Common.{◌≡◌, ℕ, zero, suc, ◌+◌, ◌-◌, ◌<◌, ◌≤◌, ◌⊎◌, ◌==◌, Bool, true, false, List, [], ◌∷◌, ◌++◌, length, take, drop, get_or, refl, sym, ap, ◌∙◌, subst, arith, inl, inr, length-drop, length-take}
 use Rattle.std.specs.List.{position_or_len, starts_with}
 use Rattle.std.proofs.lemmas.Bool.{cases_Bool}
 use Rattle.std.proofs.lemmas.List.{drop-take, take-take, get_or-take}
@@ -15,9 +15,13 @@ use Rattle.rox_grammar.specs.Chars.{is_char}
 use Rattle.rox_grammar.specs.FixedTexts.{word_text}
 use Rattle.rox_grammar.specs.declared.fault.Word.TheVariants as word
 use Rattle.rox_grammar.specs.Names.{byte, slice, IsName}
-use Rattle.rox_grammar.specs.Constructs.{AreChars, has_mark, IsComment, IsLiteral}
+use Rattle.rox_grammar.specs.Constructs.{AreChars, IsComment, IsLiteral}
 use Rattle.rox_grammar.specs.FixedTexts.{double_dash}
-use Rattle.rox_grammar.specs.Content.{IsCharacterData}
+use Rattle.rox_grammar.specs.Content.{IsCharacterData, character_data}
+use Rattle.rox_reading.specs.Lexical.{has_mark}
+use Rattle.rox_theory.proofs.Productions.{comment_parts, comment_made, char_data_parts}
+use Rattle.rox_theory.proofs.FirstMarks.{mark_behind, unmarked_run}
+use Rattle.rox_theory.proofs.RunLemmas.{run_inside}
 
 -- two lists with one front agree byte by byte
 pub heads : (n x y : ℕ) (xs ys : List ℕ) → take (suc n) (x ∷ xs) ≡ take (suc n) (y ∷ ys) → (x ≡ y) × (take n xs ≡ take n ys)
@@ -123,19 +127,15 @@ module _ (src to : List ℕ) (m : ℕ) (same : take m src ≡ take m to) where
   pub comment_cut : (i e j : ℕ) → j ≤ m → IsComment src i e j → IsComment to i e j
   unfolding run_end
   comment_cut i e j fits is =
-      let next = is.next in
-      let chars = is.chars in
-      let le : i + 4 ≤ e = omega arith in
-      let text = slice_cut (i + 4) e le (omega arith) in
-      record {
-        opens = sym (stands_cut (word_text word.CommentStart) i (omega arith)) ∙ is.opens;
-        end = mark_from_cut (word_text word.CommentEnd) (i + 4) e is.end (omega arith) (omega arith);
-        chars = chars_cut (i + 4) e (omega arith) is.chars;
-        closes = sym (stands_cut (word_text word.CommentEnd) e (omega arith)) ∙ is.closes;
-        no_dashes = ap (has_mark double_dash) (sym text) ∙ is.no_dashes;
-        no_last = subst (λ (t : List ℕ). byte t (length t - 1) ≢ 45) text is.no_last;
-        next = is.next;
-      }
+      let next = (comment_parts is).next in
+      let chars = (comment_parts is).chars in
+      comment_made (record {
+        opens = sym (stands_cut (word_text word.CommentStart) i (omega arith)) ∙ (comment_parts is).opens;
+        dashes = mark_from_cut double_dash (i + 4) e (comment_parts is).dashes (omega arith) (omega arith);
+        chars = chars_cut (i + 4) e (omega arith) (comment_parts is).chars;
+        closes = sym (stands_cut (word_text word.CommentEnd) e (omega arith)) ∙ (comment_parts is).closes;
+        next = (comment_parts is).next;
+      })
 
   -- a literal
   pub literal_cut : (i e j : ℕ) → j ≤ m → IsLiteral src i e j → IsLiteral to i e j
@@ -159,13 +159,13 @@ module _ (src to : List ℕ) (m : ℕ) (same : take m src ≡ take m to) where
   -- a run that `<` ends
   pub run_cut : (i j : ℕ) → j < m → IsCharacterData src i j → IsCharacterData to i j
   run_cut i j fits is =
-      let some = is.some in
-      record {
-        some = is.some;
-        end = byte_from_cut (λ c. c == 60) i j is.end fits;
-        chars = chars_cut i j (omega arith) is.chars;
-        no_end_mark = ap (has_mark (word_text word.CDataEnd)) (sym (slice_cut i j (omega arith) (omega arith))) ∙ is.no_end_mark;
-      }
+      let some = (char_data_parts is).some in
+      let inside = (run_inside src i j is).0 in
+      let n : length (take m src) ≡ length (take m to) = ap length same in
+      let end = byte_from_cut (λ c. c == 60) i j (char_data_parts is).end fits in
+      let none = mark_behind (word_text word.CDataEnd) src i j (char_data_parts is).unmarked in
+      character_data some end (chars_cut i j (omega arith) (char_data_parts is).chars)
+      (unmarked_run to i j end (omega (arith, length-take m src, length-take m to)) (ap (has_mark (word_text word.CDataEnd)) (sym (slice_cut i j (omega arith) (omega arith))) ∙ none))
 
 -- ---- runs of characters
 

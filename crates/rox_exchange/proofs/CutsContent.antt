@@ -14,6 +14,7 @@ use Rattle.rox_exchange.proofs.Cuts.{slice_cut, comment_cut, run_cut}
 use Rattle.rox_exchange.proofs.CutsLexical.{pi_cut, cdata_cut, end_cut}
 use Rattle.rox_exchange.proofs.CutsTags.{part_cut, tag_cut}
 use Rattle.rox_exchange.proofs.Order.{run_le, comment_le, cdata_le, pi_le, end_lt, content_le}
+use Rattle.rox_theory.proofs.Productions.{comment_parts, pi_parts, cdata_parts, char_data_parts}
 
 module _ (src to : List ℕ) (m : ℕ) (f : Fronts src to m) where
   -- the parts of a run
@@ -25,11 +26,11 @@ module _ (src to : List ℕ) (m : ℕ) (f : Fronts src to m) where
   -- a comment or a processing instruction
   pub misc_cut : (i j : ℕ) (item : Item) → j ≤ m → IsMisc src i j item → IsMisc to i j item
   misc_cut i j item fits (comment _ e _ is) =
-      let next = is.next in
+      let next = (comment_parts is).next in
       subst (λ (bs : List ℕ). IsMisc to i j (Comment i j bs)) (sym (slice_cut src to m f.same (i + 4) e (comment_le src i e j is) (omega arith)))
       (comment i e j (comment_cut src to m f.same i e j fits is))
   misc_cut i j item fits (instruction _ n e _ is) =
-      let next = is.next in
+      let next = (pi_parts is).next in
       let le = pi_le src i n e j is in
       let le0 = le.0 in
       let le1 = le.1 in
@@ -44,11 +45,11 @@ module _ (src to : List ℕ) (m : ℕ) (f : Fronts src to m) where
     pub content_cut : (i j b c : ℕ) (items : Forest Item) → j < m → Content true no_entities src i j b c items → Content true no_entities to i j b c items
     content_cut i j b c items fits (ends _ _) = ends i b
     content_cut i j b c items fits (run _ k _ _ d _ one more is parts rest) =
-        let some = is.some in
+        let some = (char_data_parts is).some in
         let le = content_le src true no_entities k j d c more rest in
         run i k j b d c one more (run_cut src to m f.same i k (omega arith) is) (parts_cut true i k i b d one (omega arith) (omega arith) parts) (content_cut k j d c more fits rest)
     content_cut i j b c items fits (cdata _ e k _ _ _ more is rest) =
-        let next = is.next in
+        let next = (cdata_parts is).next in
         let le = cdata_le src i e k is in
         let le' = content_le src true no_entities k j b c more rest in
         subst (λ (bs : List ℕ). Content true no_entities to i j b c (join (leaf (Text i k (line_ends (literals bs)) (not (list_any (λ b. b == 13) bs)))) more))

@@ -14,6 +14,7 @@ use Rattle.rox_exchange.specs.Local.{Fronts}
 use Rattle.rox_exchange.proofs.Cuts.{byte_cut, stands_cut, mark_from_cut, chars_cut, slice_cut}
 use Rattle.rox_exchange.proofs.Fronts.{stands_reads, behind, run_cuts, begins_cut, bytes_end_cut}
 use Rattle.rox_exchange.proofs.Order.{run_le, name_le, ncname_le, qname_le, cdata_le, pi_le, reference_lt}
+use Rattle.rox_theory.proofs.Productions.{ncname_parts, ncname_made, number_parts, number_made, reference_parts, reference_made, pi_parts, pi_made, cdata_parts, cdata_made, end_parts, end_made}
 
 module _ (src to : List ℕ) (m : ℕ) (f : Fronts src to m) where
   -- white space
@@ -36,9 +37,9 @@ module _ (src to : List ℕ) (m : ℕ) (f : Fronts src to m) where
   -- a name without colon
   pub ncname_cut : (i j : ℕ) → IsCharBoundary (take m src) i → j < m → IsNCName src i j → IsNCName to i j × IsCharBoundary (take m src) j
   ncname_cut i j cut below is =
-      let r = run_cuts src to m f is_part_char i j cut below is.longest in
+      let r = run_cuts src to m f is_part_char i j cut below (ncname_parts is).longest in
       let le = ncname_le src i j is in
-      (record { starts = sym (begins_cut src to m f is_name_start i cut (omega arith)) ∙ is.starts; no_colon = has_other 58 i (omega arith) is.no_colon; longest = r.0 }, r.1)
+      (ncname_made (record { starts = sym (begins_cut src to m f is_name_start i cut (omega arith)) ∙ (ncname_parts is).starts; no_colon = has_other 58 i (omega arith) (ncname_parts is).no_colon; longest = r.0 }), r.1)
 
   -- a name in a namespace
   pub qname_cut : (i : ℕ) (name : Name) (j : ℕ) → IsCharBoundary (take m src) i → j < m → IsQName src i name j → IsQName to i name j × IsCharBoundary (take m src) j
@@ -77,50 +78,52 @@ module _ (src to : List ℕ) (m : ℕ) (f : Fronts src to m) where
       }
 
   -- a number
-  pub number_cut : (base : ℕ) (p : ℕ → Bool) (d e c j : ℕ) → j ≤ m → IsNumber base p src d e c j → IsNumber base p to d e c j
-  number_cut base p d e c j fits is =
-      let some = is.some in
-      let next = is.next in
+  pub number_cut : (base : ℕ) (p : ℕ → Bool) (d c j : ℕ) → j ≤ m → IsNumber base p src d c j → IsNumber base p to d c j
+  number_cut base p d c j fits is =
+      let e = (number_parts is).e in
+      let some = (number_parts is).some in
+      let next = (number_parts is).next in
       let s = slice_cut src to m f.same d e (omega arith) (omega arith) in
-      record {
-        end = bytes_end_cut src to m f p d e is.end (omega arith);
-        some = is.some;
-        closes = has_byte 59 e (omega arith) is.closes;
-        small = subst (λ (bs : List ℕ). number base bs < 2 ^ 32) s is.small;
-        is_character = is.is_character ∙ ap (λ (bs : List ℕ). character (number base bs)) s;
-        allowed = is.allowed;
-        next = is.next;
-      }
+      number_made (record {
+        e = e;
+        end = bytes_end_cut src to m f p d e (number_parts is).end (omega arith);
+        some = (number_parts is).some;
+        closes = has_byte 59 e (omega arith) (number_parts is).closes;
+        small = subst (λ (bs : List ℕ). number base bs < 2 ^ 32) s (number_parts is).small;
+        is_character = (number_parts is).is_character ∙ ap (λ (bs : List ℕ). character (number base bs)) s;
+        allowed = (number_parts is).allowed;
+        next = (number_parts is).next;
+      })
 
   -- a reference
   pub reference_cut : (i n j : ℕ) → j ≤ m → IsReference src i n j → IsReference to i n j
   reference_cut i n j fits is =
-      let next = is.next in
+      let next = (reference_parts is).next in
       let lt = reference_lt src i n j is in
-      record {
-        opens = has_byte 38 i (omega arith) is.opens;
-        name = (name_cut (i + 1) n (behind src to m f 38 i (omega arith) is.opens (omega arith)) (omega arith) is.name).0;
-        closes = has_byte 59 n (omega arith) is.closes;
-        next = is.next;
-      }
+      reference_made (record {
+        opens = has_byte 38 i (omega arith) (reference_parts is).opens;
+        name = (name_cut (i + 1) n (behind src to m f 38 i (omega arith) (reference_parts is).opens (omega arith)) (omega arith) (reference_parts is).name).0;
+        closes = has_byte 59 n (omega arith) (reference_parts is).closes;
+        next = (reference_parts is).next;
+      })
 
   -- its name
   pub reference_same : (i n j : ℕ) → j ≤ m → IsReference src i n j → slice src (i + 1) n ≡ slice to (i + 1) n
   reference_same i n j fits is =
-      let next = is.next in
+      let next = (reference_parts is).next in
       let lt = reference_lt src i n j is in
       slice_cut src to m f.same (i + 1) n (omega arith) (omega arith)
 
   -- a reference to a character
   pub character_cut : (i c j : ℕ) → j ≤ m → IsCharacter src i c j → IsCharacter to i c j
-  character_cut i c j fits (decimal _ e _ _ amp hash is) =
-      let some = is.some in
-      let next = is.next in
-      decimal i e c j (has_byte 38 i (omega arith) amp) (has_byte 35 (i + 1) (omega arith) hash) (number_cut 10 is_digit (i + 2) e c j fits is)
-  character_cut i c j fits (hexadecimal _ e _ _ amp hash x is) =
-      let some = is.some in
-      let next = is.next in
-      hexadecimal i e c j (has_byte 38 i (omega arith) amp) (has_byte 35 (i + 1) (omega arith) hash) (has_byte 120 (i + 2) (omega arith) x) (number_cut 16 is_hex_digit (i + 3) e c j fits is)
+  character_cut i c j fits (decimal _ _ _ amp hash is) =
+      let some = (number_parts is).some in
+      let next = (number_parts is).next in
+      decimal i c j (has_byte 38 i (omega arith) amp) (has_byte 35 (i + 1) (omega arith) hash) (number_cut 10 is_digit (i + 2) c j fits is)
+  character_cut i c j fits (hexadecimal _ _ _ amp hash x is) =
+      let some = (number_parts is).some in
+      let next = (number_parts is).next in
+      hexadecimal i c j (has_byte 38 i (omega arith) amp) (has_byte 35 (i + 1) (omega arith) hash) (has_byte 120 (i + 2) (omega arith) x) (number_cut 16 is_hex_digit (i + 3) c j fits is)
   character_cut i c j fits (named _ n _ _ is known) =
       named i n c j (reference_cut i n j fits is) (ap predefined (sym (reference_same i n j fits is)) ∙ known)
 
@@ -150,57 +153,57 @@ module _ (src to : List ℕ) (m : ℕ) (f : Fronts src to m) where
   -- a processing instruction
   pub pi_cut : (i n e j : ℕ) → j ≤ m → IsPI src i n e j → IsPI to i n e j × (spaces_end src n ≡ spaces_end to n)
   pi_cut i n e j fits is =
-      let next = is.next in
+      let next = (pi_parts is).next in
       let le = pi_le src i n e j is in
       let le0 = le.0 in
       let le1 = le.1 in
       let le2 = run_le is_space src n in
-      let question = stands_reads (word_text word.PIStart) src i 1 is.opens (omega arith) in
-      let close = stands_reads (word_text word.PIEnd) src e 0 is.closes (omega arith) in
+      let question = stands_reads (word_text word.PIStart) src i 1 (pi_parts is).opens (omega arith) in
+      let close = stands_reads (word_text word.PIEnd) src e 0 (pi_parts is).closes (omega arith) in
       let z : e + 0 ≡ e = omega arith in
       let close' : byte to e ≡ 63 = has_byte 63 e (omega arith) (ap (byte src) (sym z) ∙ close) in
       let one : i + 1 + 1 ≡ i + 2 = omega arith in
-      let t = name_cut (i + 2) n (subst (IsCharBoundary (take m src)) one (behind src to m f 63 (i + 1) (omega arith) question (omega arith))) (omega arith) is.target in
+      let t = name_cut (i + 2) n (subst (IsCharBoundary (take m src)) one (behind src to m f 63 (i + 1) (omega arith) question (omega arith))) (omega arith) (pi_parts is).target in
       let s = space_cut n (spaces_end src n) t.1 (omega arith) refl in (
-        record {
-          opens = sym (stands_cut src to m f.same (word_text word.PIStart) i (omega arith)) ∙ is.opens;
-          no_declaration = undeclared i e (omega arith) (omega arith) is.no_declaration close';
+        pi_made (record {
+          opens = sym (stands_cut src to m f.same (word_text word.PIStart) i (omega arith)) ∙ (pi_parts is).opens;
+          no_declaration = undeclared i e (omega arith) (omega arith) (pi_parts is).no_declaration close';
           target = t.0;
-          end = mark_from_cut src to m f.same (word_text word.PIEnd) (spaces_end src n) e is.end (omega arith) (omega arith) ∙ ap (mark_from (word_text word.PIEnd) to) s.0;
-          chars = subst (λ (x : ℕ). AreChars to x e) s.0 (chars_cut src to m f.same (spaces_end src n) e (omega arith) is.chars);
-          closes = sym (stands_cut src to m f.same (word_text word.PIEnd) e (omega arith)) ∙ is.closes;
-          next = is.next;
-        },
+          end = mark_from_cut src to m f.same (word_text word.PIEnd) (spaces_end src n) e (pi_parts is).end (omega arith) (omega arith) ∙ ap (mark_from (word_text word.PIEnd) to) s.0;
+          chars = subst (λ (x : ℕ). AreChars to x e) s.0 (chars_cut src to m f.same (spaces_end src n) e (omega arith) (pi_parts is).chars);
+          closes = sym (stands_cut src to m f.same (word_text word.PIEnd) e (omega arith)) ∙ (pi_parts is).closes;
+          next = (pi_parts is).next;
+        }),
         s.0,
       )
 
   -- a CDATA section
   pub cdata_cut : (i e j : ℕ) → j ≤ m → IsCData src i e j → IsCData to i e j
   cdata_cut i e j fits is =
-      let next = is.next in
+      let next = (cdata_parts is).next in
       let le = cdata_le src i e j is in
-      record {
-        opens = sym (stands_cut src to m f.same (word_text word.CDataStart) i (omega arith)) ∙ is.opens;
-        end = mark_from_cut src to m f.same (word_text word.CDataEnd) (i + 9) e is.end (omega arith) (omega arith);
-        chars = chars_cut src to m f.same (i + 9) e (omega arith) is.chars;
-        closes = sym (stands_cut src to m f.same (word_text word.CDataEnd) e (omega arith)) ∙ is.closes;
-        next = is.next;
-      }
+      cdata_made (record {
+        opens = sym (stands_cut src to m f.same (word_text word.CDataStart) i (omega arith)) ∙ (cdata_parts is).opens;
+        end = mark_from_cut src to m f.same (word_text word.CDataEnd) (i + 9) e (cdata_parts is).end (omega arith) (omega arith);
+        chars = chars_cut src to m f.same (i + 9) e (omega arith) (cdata_parts is).chars;
+        closes = sym (stands_cut src to m f.same (word_text word.CDataEnd) e (omega arith)) ∙ (cdata_parts is).closes;
+        next = (cdata_parts is).next;
+      })
 
   -- an end tag
   pub end_cut : (i : ℕ) (name : Name) (n j : ℕ) → j ≤ m → IsEnd src i name n j → IsEnd to i name n j
   end_cut i name n j fits is =
-      let next = is.next in
-      let le = qname_le src (i + 2) name n is.is_name in
+      let next = (end_parts is).next in
+      let le = qname_le src (i + 2) name n (end_parts is).is_name in
       let le' = run_le is_space src n in
-      let slash = stands_reads (word_text word.EndTagStart) src i 1 is.opens (omega arith) in
+      let slash = stands_reads (word_text word.EndTagStart) src i 1 (end_parts is).opens (omega arith) in
       let one : i + 1 + 1 ≡ i + 2 = omega arith in
-      let t = qname_cut (i + 2) name n (subst (IsCharBoundary (take m src)) one (behind src to m f 47 (i + 1) (omega arith) slash (omega arith))) (omega arith) is.is_name in
+      let t = qname_cut (i + 2) name n (subst (IsCharBoundary (take m src)) one (behind src to m f 47 (i + 1) (omega arith) slash (omega arith))) (omega arith) (end_parts is).is_name in
       let s = space_cut n (spaces_end src n) t.1 (omega arith) refl in
       let same = s.0 in
-      record {
-        opens = sym (stands_cut src to m f.same (word_text word.EndTagStart) i (omega arith)) ∙ is.opens;
+      end_made (record {
+        opens = sym (stands_cut src to m f.same (word_text word.EndTagStart) i (omega arith)) ∙ (end_parts is).opens;
         is_name = t.0;
-        closes = ap (byte to) (sym same) ∙ has_byte 62 (spaces_end src n) (omega arith) is.closes;
+        closes = ap (byte to) (sym same) ∙ has_byte 62 (spaces_end src n) (omega arith) (end_parts is).closes;
         next = omega arith;
-      }
+      })

@@ -15,6 +15,7 @@ use Rattle.rox_exchange.proofs.MovesLexical.{space_end, comment_moves, pi_moves,
 use Rattle.rox_exchange.proofs.MovesTags.{part_moves, tag_moves}
 use Rattle.rox_exchange.proofs.MovedItems.{moved_join, moved_merge}
 use Rattle.rox_exchange.proofs.Order.{comment_le, cdata_le, pi_le, misc_lt, tag_lt, content_le, element_lt}
+use Rattle.rox_theory.proofs.Productions.{cdata_parts, char_data_parts}
 
 module _ (m : Move) (src to : List ℕ) where
   -- the text of a part
@@ -48,12 +49,12 @@ module _ (m : Move) (src to : List ℕ) where
     pub content_moves : (i j b c : ℕ) (items : Forest Item) → Follows m src i to (moved m i) → Content true no_entities src i j b c items → Content true no_entities to (moved m i) (moved m j) b c (moved_items m items)
     content_moves i j b c items f (ends _ _) = ends (moved m i) b
     content_moves i j b c items f (run _ k _ _ d _ one more is parts rest) =
-        let some = is.some in
+        let some = (char_data_parts is).some in
         let g = from m src to i (moved m i) k (omega arith) f in
         rw (moved_join m one more)
         (run (moved m i) (moved m k) (moved m j) b d c (moved_items m one) (moved_items m more) (run_moves m src to i (moved m i) k f is) (parts_move true i k i b d one (omega arith) f f parts) (content_moves k j d c more g rest))
     content_moves i j b c items f (cdata _ e k _ _ _ more is rest) =
-        let next = is.next in
+        let next = (cdata_parts is).next in
         let le = cdata_le src i e k is in
         let g = from m src to i (moved m i) k (omega arith) f in
         subst (λ (bs : List ℕ). Content true no_entities to (moved m i) (moved m j) b c (join (leaf (Text (moved m i) (moved m k) (line_ends (literals bs)) (not (list_any (λ b. b == 13) bs)))) (moved_items m more)))

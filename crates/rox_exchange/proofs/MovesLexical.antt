@@ -1,19 +1,20 @@
 -- Names, references and the constructs that hold no others stand wherever the same bytes follow.
-use Rattle.std.proofs.Common.{◌≡◌, ◌≢◌, ℕ, ◌+◌, ◌-◌, ◌^◌, ◌<◌, ◌≤◌, ◌⊎◌, ◌==◌, Bool, List, [], length, refl, sym, ap, ◌∙◌, subst, arith}
+use Rattle.std.proofs.Common.{◌≡◌, ◌≢◌, ℕ, ◌+◌, ◌^◌, ◌<◌, ◌≤◌, ◌⊎◌, ◌==◌, Bool, List, [], refl, sym, ap, ◌∙◌, subst, arith}
 use Rattle.rox_grammar.specs.declared.fault.Word.TheVariants as word
 use Rattle.rox_grammar.specs.FixedTexts.{word_text}
 use Rattle.rox_grammar.specs.Chars.{is_space, is_name_start, is_name_char, is_part_char}
-use Rattle.rox_grammar.specs.Search.{byte_from}
+use Rattle.rox_grammar.specs.Search.{mark_from, byte_from}
 use Rattle.rox_grammar.specs.Written.{Name}
 use Rattle.rox_grammar.specs.Names.{byte, slice, spaces_end, IsName, IsNCName, IsQName, unprefixed, prefixed, colon_first}
 use Rattle.rox_grammar.specs.References.{is_digit, is_hex_digit, number, character, predefined, IsNumber, IsReference, IsCharacter, decimal, hexadecimal, named}
-use Rattle.rox_grammar.specs.Constructs.{has_mark, IsComment, IsPI, IsCData, IsEq, IsLiteral, IsEnd}
+use Rattle.rox_grammar.specs.Constructs.{IsComment, IsPI, IsCData, IsEq, IsLiteral, IsEnd}
 use Rattle.rox_grammar.specs.FixedTexts.{double_dash}
-use Rattle.rox_grammar.specs.Content.{IsCharacterData}
+use Rattle.rox_grammar.specs.Content.{IsCharacterData, character_data}
 use Rattle.rox_grammar.specs.Exchange.{Move, moved}
 use Rattle.rox_exchange.specs.Local.{Follows}
 use Rattle.rox_exchange.proofs.Follows.{on, from, byte_moves, rest_moves, stands_moves, mark_moves, byte_from_moves, bytes_end_moves, run_end_moves, begins_moves, chars_move, markup_moves, slice_moves}
 use Rattle.rox_exchange.proofs.Order.{run_le, ncname_le, qname_le, literal_lt, comment_le, cdata_le, pi_le, reference_lt}
+use Rattle.rox_theory.proofs.Productions.{ncname_parts, ncname_made, number_parts, number_made, reference_parts, reference_made, comment_parts, comment_made, pi_parts, pi_made, cdata_parts, cdata_made, end_parts, end_made, char_data_parts}
 
 module _ (m : Move) (src to : List ℕ) where
   -- white space
@@ -38,11 +39,11 @@ module _ (m : Move) (src to : List ℕ) where
 
   -- a name without colon
   pub ncname_moves : (i k j : ℕ) → Follows m src i to k → IsNCName src i j → IsNCName to k (moved m j)
-  ncname_moves i k j f is = record {
-    starts = sym (begins_moves m src to is_name_start i k f) ∙ is.starts;
-    no_colon = byte_not 58 i k f is.no_colon;
-    longest = run_end_moves m src to is_part_char i k j f is.longest;
-  }
+  ncname_moves i k j f is = ncname_made (record {
+    starts = sym (begins_moves m src to is_name_start i k f) ∙ (ncname_parts is).starts;
+    no_colon = byte_not 58 i k f (ncname_parts is).no_colon;
+    longest = run_end_moves m src to is_part_char i k j f (ncname_parts is).longest;
+  })
 
   -- a name in a namespace
   pub qname_moves : (i k : ℕ) (name : Name) (j : ℕ) → Follows m src i to k → IsQName src i name j → IsQName to k name (moved m j)
@@ -75,34 +76,36 @@ module _ (m : Move) (src to : List ℕ) where
       }
 
   -- a number
-  pub number_moves : (base : ℕ) (p : ℕ → Bool) (d k e c j : ℕ) → Follows m src d to k → IsNumber base p src d e c j → IsNumber base p to k (moved m e) c (moved m j)
-  number_moves base p d k e c j f is =
+  pub number_moves : (base : ℕ) (p : ℕ → Bool) (d k c j : ℕ) → Follows m src d to k → IsNumber base p src d c j → IsNumber base p to k c (moved m j)
+  number_moves base p d k c j f is =
+      let e = (number_parts is).e in
       let at = f.at in
-      let some = is.some in
-      let next = is.next in
+      let some = (number_parts is).some in
+      let next = (number_parts is).next in
       let s = slice_moves m src to d k e (omega arith) f in
-      record {
-        end = bytes_end_moves m src to p d k e f is.end;
+      number_made (record {
+        e = moved m e;
+        end = bytes_end_moves m src to p d k e f (number_parts is).end;
         some = omega arith;
-        closes = byte_is 59 e (moved m e) (from m src to d k e (omega arith) f) is.closes;
-        small = subst (λ (bs : List ℕ). number base bs < 2 ^ 32) s is.small;
-        is_character = is.is_character ∙ ap (λ (bs : List ℕ). character (number base bs)) s;
-        allowed = is.allowed;
+        closes = byte_is 59 e (moved m e) (from m src to d k e (omega arith) f) (number_parts is).closes;
+        small = subst (λ (bs : List ℕ). number base bs < 2 ^ 32) s (number_parts is).small;
+        is_character = (number_parts is).is_character ∙ ap (λ (bs : List ℕ). character (number base bs)) s;
+        allowed = (number_parts is).allowed;
         next = omega arith;
-      }
+      })
 
   -- a reference
   pub reference_moves : (i k n j : ℕ) → Follows m src i to k → IsReference src i n j → IsReference to k (moved m n) (moved m j)
   reference_moves i k n j f is =
       let at = f.at in
-      let next = is.next in
+      let next = (reference_parts is).next in
       let lt = reference_lt src i n j is in
-      record {
-        opens = byte_is 38 i k f is.opens;
-        name = name_moves (i + 1) (k + 1) n (on m src to i k 1 f) is.name;
-        closes = byte_is 59 n (moved m n) (from m src to i k n (omega arith) f) is.closes;
+      reference_made (record {
+        opens = byte_is 38 i k f (reference_parts is).opens;
+        name = name_moves (i + 1) (k + 1) n (on m src to i k 1 f) (reference_parts is).name;
+        closes = byte_is 59 n (moved m n) (from m src to i k n (omega arith) f) (reference_parts is).closes;
         next = omega arith;
-      }
+      })
 
   -- its name
   pub reference_name : (i k n j : ℕ) → Follows m src i to k → IsReference src i n j → slice src (i + 1) n ≡ slice to (k + 1) (moved m n)
@@ -110,12 +113,12 @@ module _ (m : Move) (src to : List ℕ) where
 
   -- a reference to a character
   pub character_moves : (i k c j : ℕ) → Follows m src i to k → IsCharacter src i c j → IsCharacter to k c (moved m j)
-  character_moves i k c j f (decimal _ e _ _ amp hash is) =
-      decimal k (moved m e) c (moved m j) (byte_is 38 i k f amp) (byte_is 35 (i + 1) (k + 1) (on m src to i k 1 f) hash)
-      (number_moves 10 is_digit (i + 2) (k + 2) e c j (on m src to i k 2 f) is)
-  character_moves i k c j f (hexadecimal _ e _ _ amp hash x is) =
-      hexadecimal k (moved m e) c (moved m j) (byte_is 38 i k f amp) (byte_is 35 (i + 1) (k + 1) (on m src to i k 1 f) hash) (byte_is 120 (i + 2) (k + 2) (on m src to i k 2 f) x)
-      (number_moves 16 is_hex_digit (i + 3) (k + 3) e c j (on m src to i k 3 f) is)
+  character_moves i k c j f (decimal _ _ _ amp hash is) =
+      decimal k c (moved m j) (byte_is 38 i k f amp) (byte_is 35 (i + 1) (k + 1) (on m src to i k 1 f) hash)
+      (number_moves 10 is_digit (i + 2) (k + 2) c j (on m src to i k 2 f) is)
+  character_moves i k c j f (hexadecimal _ _ _ amp hash x is) =
+      hexadecimal k c (moved m j) (byte_is 38 i k f amp) (byte_is 35 (i + 1) (k + 1) (on m src to i k 1 f) hash) (byte_is 120 (i + 2) (k + 2) (on m src to i k 2 f) x)
+      (number_moves 16 is_hex_digit (i + 3) (k + 3) c j (on m src to i k 3 f) is)
   character_moves i k c j f (named _ n _ _ is known) =
       named k (moved m n) c (moved m j) (reference_moves i k n j f is) (ap predefined (sym (reference_name i k n j f is)) ∙ known)
 
@@ -123,55 +126,52 @@ module _ (m : Move) (src to : List ℕ) where
   pub comment_moves : (i k e j : ℕ) → Follows m src i to k → IsComment src i e j → IsComment to k (moved m e) (moved m j)
   comment_moves i k e j f is =
       let at = f.at in
-      let next = is.next in
+      let next = (comment_parts is).next in
       let le = comment_le src i e j is in
       let g = on m src to i k 4 f in
-      let text = slice_moves m src to (i + 4) (k + 4) e le g in
-      record {
-        opens = sym (stands_moves m src to (word_text word.CommentStart) i k f) ∙ is.opens;
-        end = mark_moves m src to (word_text word.CommentEnd) (i + 4) (k + 4) e g is.end;
-        chars = chars_move m src to (i + 4) (k + 4) e le g is.chars;
-        closes = sym (stands_moves m src to (word_text word.CommentEnd) e (moved m e) (from m src to i k e (omega arith) f)) ∙ is.closes;
-        no_dashes = ap (has_mark double_dash) (sym text) ∙ is.no_dashes;
-        no_last = subst (λ (t : List ℕ). byte t (length t - 1) ≢ 45) text is.no_last;
+      comment_made (record {
+        opens = sym (stands_moves m src to (word_text word.CommentStart) i k f) ∙ (comment_parts is).opens;
+        dashes = mark_moves m src to double_dash (i + 4) (k + 4) e g (comment_parts is).dashes;
+        chars = chars_move m src to (i + 4) (k + 4) e le g (comment_parts is).chars;
+        closes = sym (stands_moves m src to (word_text word.CommentEnd) e (moved m e) (from m src to i k e (omega arith) f)) ∙ (comment_parts is).closes;
         next = omega arith;
-      }
+      })
 
   -- a processing instruction
   pub pi_moves : (i k n e j : ℕ) → Follows m src i to k → IsPI src i n e j → IsPI to k (moved m n) (moved m e) (moved m j)
   pi_moves i k n e j f is =
       let at = f.at in
-      let next = is.next in
+      let next = (pi_parts is).next in
       let le = pi_le src i n e j is in
       let le0 = le.0 in
       let le1 = le.1 in
       let g = from m src to i k n (omega arith) f in
       let s = space_end n (moved m n) g in
       let long = run_le is_space src n in
-      record {
-        opens = sym (stands_moves m src to (word_text word.PIStart) i k f) ∙ is.opens;
-        no_declaration = sym (stands_moves m src to (word_text word.XmlDeclStart) i k f) ∙ is.no_declaration;
-        target = name_moves (i + 2) (k + 2) n (on m src to i k 2 f) is.target;
-        end = mark_moves m src to (word_text word.PIEnd) (spaces_end src n) (spaces_end to (moved m n)) e s is.end;
-        chars = chars_move m src to (spaces_end src n) (spaces_end to (moved m n)) e le1 s is.chars;
-        closes = sym (stands_moves m src to (word_text word.PIEnd) e (moved m e) (from m src to i k e (omega arith) f)) ∙ is.closes;
+      pi_made (record {
+        opens = sym (stands_moves m src to (word_text word.PIStart) i k f) ∙ (pi_parts is).opens;
+        no_declaration = sym (stands_moves m src to (word_text word.XmlDeclStart) i k f) ∙ (pi_parts is).no_declaration;
+        target = name_moves (i + 2) (k + 2) n (on m src to i k 2 f) (pi_parts is).target;
+        end = mark_moves m src to (word_text word.PIEnd) (spaces_end src n) (spaces_end to (moved m n)) e s (pi_parts is).end;
+        chars = chars_move m src to (spaces_end src n) (spaces_end to (moved m n)) e le1 s (pi_parts is).chars;
+        closes = sym (stands_moves m src to (word_text word.PIEnd) e (moved m e) (from m src to i k e (omega arith) f)) ∙ (pi_parts is).closes;
         next = omega arith;
-      }
+      })
 
   -- a CDATA section
   pub cdata_moves : (i k e j : ℕ) → Follows m src i to k → IsCData src i e j → IsCData to k (moved m e) (moved m j)
   cdata_moves i k e j f is =
       let at = f.at in
-      let next = is.next in
+      let next = (cdata_parts is).next in
       let le = cdata_le src i e j is in
       let g = on m src to i k 9 f in
-      record {
-        opens = sym (stands_moves m src to (word_text word.CDataStart) i k f) ∙ is.opens;
-        end = mark_moves m src to (word_text word.CDataEnd) (i + 9) (k + 9) e g is.end;
-        chars = chars_move m src to (i + 9) (k + 9) e le g is.chars;
-        closes = sym (stands_moves m src to (word_text word.CDataEnd) e (moved m e) (from m src to i k e (omega arith) f)) ∙ is.closes;
+      cdata_made (record {
+        opens = sym (stands_moves m src to (word_text word.CDataStart) i k f) ∙ (cdata_parts is).opens;
+        end = mark_moves m src to (word_text word.CDataEnd) (i + 9) (k + 9) e g (cdata_parts is).end;
+        chars = chars_move m src to (i + 9) (k + 9) e le g (cdata_parts is).chars;
+        closes = sym (stands_moves m src to (word_text word.CDataEnd) e (moved m e) (from m src to i k e (omega arith) f)) ∙ (cdata_parts is).closes;
         next = omega arith;
-      }
+      })
 
   -- a literal
   pub literal_moves : (i k e j : ℕ) → Follows m src i to k → IsLiteral src i e j → IsLiteral to k (moved m e) (moved m j)
@@ -199,27 +199,24 @@ module _ (m : Move) (src to : List ℕ) where
   pub run_moves : (i k j : ℕ) → Follows m src i to k → IsCharacterData src i j → IsCharacterData to k (moved m j)
   run_moves i k j f is =
       let at = f.at in
-      let some = is.some in
+      let some = (char_data_parts is).some in
       let le : i ≤ j = omega arith in
-      record {
-        some = omega arith;
-        end = byte_from_moves m src to (λ c. c == 60) i k j f is.end;
-        chars = chars_move m src to i k j le f is.chars;
-        no_end_mark = ap (has_mark (word_text word.CDataEnd)) (sym (slice_moves m src to i k j le f)) ∙ is.no_end_mark;
-      }
+      let unmarked = (char_data_parts is).unmarked in
+      let first = mark_moves m src to (word_text word.CDataEnd) i k (mark_from (word_text word.CDataEnd) src i) f refl in
+      character_data (omega arith) (byte_from_moves m src to (λ c. c == 60) i k j f (char_data_parts is).end) (chars_move m src to i k j le f (char_data_parts is).chars) (omega arith)
 
   -- an end tag
   pub end_moves : (i k : ℕ) (name : Name) (n j : ℕ) → Follows m src i to k → IsEnd src i name n j → IsEnd to k name (moved m n) (moved m j)
   end_moves i k name n j f is =
       let at = f.at in
-      let next = is.next in
-      let le = qname_le src (i + 2) name n is.is_name in
+      let next = (end_parts is).next in
+      let le = qname_le src (i + 2) name n (end_parts is).is_name in
       let g = from m src to i k n (omega arith) f in
       let s = space_end n (moved m n) g in
       let at' = s.at in
-      record {
-        opens = sym (stands_moves m src to (word_text word.EndTagStart) i k f) ∙ is.opens;
-        is_name = qname_moves (i + 2) (k + 2) name n (on m src to i k 2 f) is.is_name;
-        closes = byte_is 62 (spaces_end src n) (spaces_end to (moved m n)) s is.closes;
+      end_made (record {
+        opens = sym (stands_moves m src to (word_text word.EndTagStart) i k f) ∙ (end_parts is).opens;
+        is_name = qname_moves (i + 2) (k + 2) name n (on m src to i k 2 f) (end_parts is).is_name;
+        closes = byte_is 62 (spaces_end src n) (spaces_end to (moved m n)) s (end_parts is).closes;
         next = omega arith;
-      }
+      })

@@ -10,6 +10,7 @@ use Rattle.rox_exchange.specs.Local.{Follows, moved_written, moved_tag}
 use Rattle.rox_exchange.proofs.Follows.{on, lands, from, byte_moves, slice_moves}
 use Rattle.rox_exchange.proofs.MovesLexical.{space_end, byte_is, byte_not, qname_moves, eq_moves, reference_moves, reference_name, character_moves, literal_moves}
 use Rattle.rox_exchange.proofs.Order.{qname_le, eq_lt, literal_lt, character_lt, reference_lt, attribute_lt, attributes_le}
+use Rattle.rox_theory.proofs.Productions.{reference_parts}
 
 -- attributes that move declare what they declared
 pub declarations_move : (m : Move) (as' : List Attribute) → namespace_decls_of (map (moved_written m) as') ≡ namespace_decls_of as'
@@ -71,7 +72,7 @@ module _ (m : Move) (src to : List ℕ) where
       a_character k (moved m n) x b c w (character_moves m src to i k x n f is) (omega arith) allowed (value_moves main Includes j n (moved m n) b c w (from m src to i k n (omega arith) f) more)
   value_moves main Includes j i k b c v f (an_entity _ n p _ d _ u w is name le opens more) =
       let at = f.at in
-      let next = is.next in
+      let next = (reference_parts is).next in
       let lt = reference_lt src i n p is in
       let same = reference_name m src to i k n p f is in
       an_entity k (moved m n) (moved m p) b d c u w (reference_moves m src to i k n p f is) (ap predefined (sym same) ∙ name) (omega arith)

@@ -8,6 +8,7 @@ use Rattle.rox_grammar.specs.Names.{spaces_end, IsName, IsNCName, IsQName, unpre
 use Rattle.rox_grammar.specs.References.{IsReference, IsCharacter, decimal, hexadecimal, named}
 use Rattle.rox_grammar.specs.Constructs.{AreChars, IsComment, IsPI, IsCData, IsEq, IsLiteral, IsEnd}
 use Rattle.rox_grammar.specs.Content.{Inclusion, IsAttribute, Attributes, no_more, one_more, TagEnds, opened, closed, IsTag, IsMisc, comment, instruction, IsElement, empty, nest, Content, ends, run, cdata, misc, node}
+use Rattle.rox_theory.proofs.Productions.{ncname_parts, number_parts, reference_parts, comment_parts, pi_parts, cdata_parts, end_parts, char_data_parts}
 
 pub run_le : (p : ℕ → Bool) (src : List ℕ) (i : ℕ) → i ≤ run_end p src i
 unfolding run_end
@@ -21,7 +22,7 @@ module _ (src : List ℕ) where
   name_le i j is = let l = is.longest in omega (arith, run_le is_name_char src i)
 
   pub ncname_le : (i j : ℕ) → IsNCName src i j → i ≤ j
-  ncname_le i j is = let l = is.longest in omega (arith, run_le is_part_char src i)
+  ncname_le i j is = let l = (ncname_parts is).longest in omega (arith, run_le is_part_char src i)
 
   pub qname_le : (i : ℕ) (name : Name) (j : ℕ) → IsQName src i name j → i ≤ j
   qname_le i name j (unprefixed _ _ n last) = ncname_le i j n
@@ -35,21 +36,21 @@ module _ (src : List ℕ) where
   literal_lt i e j is = omega (arith, chars_le (i + 1) e is.chars)
 
   pub comment_le : (i e j : ℕ) → IsComment src i e j → i + 4 ≤ e
-  comment_le i e j is = chars_le (i + 4) e is.chars
+  comment_le i e j is = chars_le (i + 4) e (comment_parts is).chars
 
   pub cdata_le : (i e j : ℕ) → IsCData src i e j → i + 9 ≤ e
-  cdata_le i e j is = chars_le (i + 9) e is.chars
+  cdata_le i e j is = chars_le (i + 9) e (cdata_parts is).chars
 
   pub pi_le : (i n e j : ℕ) → IsPI src i n e j → (i + 2 ≤ n) × (spaces_end src n ≤ e)
-  pi_le i n e j is = (name_le (i + 2) n is.target, chars_le (spaces_end src n) e is.chars)
+  pi_le i n e j is = (name_le (i + 2) n (pi_parts is).target, chars_le (spaces_end src n) e (pi_parts is).chars)
 
   pub reference_lt : (i n j : ℕ) → IsReference src i n j → i < n
-  reference_lt i n j is = omega (arith, name_le (i + 1) n is.name)
+  reference_lt i n j is = omega (arith, name_le (i + 1) n (reference_parts is).name)
 
   pub character_lt : (i c j : ℕ) → IsCharacter src i c j → i < j
-  character_lt i c j (decimal _ e _ _ amp hash is) = let some = is.some in let next = is.next in omega arith
-  character_lt i c j (hexadecimal _ e _ _ amp hash x is) = let some = is.some in let next = is.next in omega arith
-  character_lt i c j (named _ n _ _ is known) = let next = is.next in omega (arith, reference_lt i n j is)
+  character_lt i c j (decimal _ _ _ amp hash is) = let some = (number_parts is).some in let next = (number_parts is).next in omega arith
+  character_lt i c j (hexadecimal _ _ _ amp hash x is) = let some = (number_parts is).some in let next = (number_parts is).next in omega arith
+  character_lt i c j (named _ n _ _ is known) = let next = (reference_parts is).next in omega (arith, reference_lt i n j is)
 
   pub attribute_lt : (main : Bool) (Includes : Inclusion) (i j b c : ℕ) (a : Attribute) → IsAttribute main Includes src i j b c a → i < j
   attribute_lt main Includes i j b c a is =
@@ -76,20 +77,20 @@ module _ (src : List ℕ) where
       )
 
   pub end_lt : (i : ℕ) (name : Name) (n j : ℕ) → IsEnd src i name n j → i < j
-  end_lt i name n j is = let next = is.next in omega (arith, qname_le (i + 2) name n is.is_name, run_le is_space src n)
+  end_lt i name n j is = let next = (end_parts is).next in omega (arith, qname_le (i + 2) name n (end_parts is).is_name, run_le is_space src n)
 
   pub misc_lt : (i j : ℕ) (item : Item) → IsMisc src i j item → i < j
-  misc_lt i j item (comment _ e _ is) = let next = is.next in omega (arith, comment_le i e j is)
+  misc_lt i j item (comment _ e _ is) = let next = (comment_parts is).next in omega (arith, comment_le i e j is)
   misc_lt i j item (instruction _ n e _ is) =
-      let next = is.next in
+      let next = (pi_parts is).next in
       let le = pi_le i n e j is in
       omega (arith, le.0, le.1, run_le is_space src n)
 
   mutual
     pub content_le : (main : Bool) (Includes : Inclusion) (i j b c : ℕ) (items : Forest Item) → Content main Includes src i j b c items → i ≤ j
     content_le main Includes i j b c items (ends _ _) = omega arith
-    content_le main Includes i j b c items (run _ k _ _ d _ here more is parts rest) = let some = is.some in omega (arith, content_le main Includes k j d c more rest)
-    content_le main Includes i j b c items (cdata _ e k _ _ _ more is rest) = let next = is.next in omega (arith, cdata_le i e k is, content_le main Includes k j b c more rest)
+    content_le main Includes i j b c items (run _ k _ _ d _ here more is parts rest) = let some = (char_data_parts is).some in omega (arith, content_le main Includes k j d c more rest)
+    content_le main Includes i j b c items (cdata _ e k _ _ _ more is rest) = let next = (cdata_parts is).next in omega (arith, cdata_le i e k is, content_le main Includes k j b c more rest)
     content_le main Includes i j b c items (misc _ k _ _ _ item more is rest) = omega (arith, misc_lt i k item is, content_le main Includes k j b c more rest)
     content_le main Includes i j b c items (node _ k _ _ d _ one more is rest) = omega (arith, element_lt main Includes i k b d one is, content_le main Includes k j d c more rest)
 

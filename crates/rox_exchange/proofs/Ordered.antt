@@ -7,6 +7,7 @@ use Rattle.rox_grammar.specs.RunParts.{Parts}
 use Rattle.rox_grammar.specs.Entities.{no_entities}
 use Rattle.rox_grammar.specs.Document.{Misc, no_misc, space, an_item}
 use Rattle.rox_exchange.proofs.Order.{tag_lt, end_lt, misc_lt, content_le, cdata_le}
+use Rattle.rox_theory.proofs.Productions.{cdata_parts, char_data_parts}
 
 -- between two places
 abbrev pub Ordered : ℕ → ℕ → Forest Item → Type 0
@@ -70,10 +71,10 @@ module _ (src : List ℕ) where
     pub content_ordered : (i j b c : ℕ) (items : Forest Item) → Content true no_entities src i j b c items → Ordered i j items
     content_ordered i j b c items (ends _ _) = omega arith
     content_ordered i j b c items (run _ k _ _ d _ one more is parts rest) =
-        let some = is.some in
+        let some = (char_data_parts is).some in
         ordered_join i k j one more (parts_ordered i k i b d i k one (omega arith) parts) (content_ordered k j d c more rest)
     content_ordered i j b c items (cdata _ e k _ _ _ more is rest) =
-        let next = is.next in
+        let next = (cdata_parts is).next in
         (refl, wider k j i j more (omega (arith, cdata_le src i e k is)) (omega arith) (content_ordered k j b c more rest))
     content_ordered i j b c items (misc _ k _ _ _ item more is rest) =
         misc_ordered i k item more i j is (wider k j i j more (omega (arith, misc_lt src i k item is)) (omega arith) (content_ordered k j b c more rest))

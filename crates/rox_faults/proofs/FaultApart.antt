@@ -1,5 +1,5 @@
 -- Where a construct stands, nothing that is due in it lacks: so no fault of it stands there.
-use Rattle.std.proofs.Common.{◌≡◌, ℕ, ◌+◌, ◌-◌, ◌<◌, ◌⊎◌, true, List, [], ◌∷◌, length, take, refl, sym, ◌∙◌, subst, arith, inl, inr}
+use Rattle.std.proofs.Common.{◌≡◌, ℕ, ◌+◌, ◌<◌, ◌⊎◌, true, List, [], ◌∷◌, take, refl, sym, ◌∙◌, subst, arith, inl, inr}
 use Rattle.std.specs.Str.{IsUtf8, IsCharBoundary}
 use Rattle.std.proofs.lemmas.Bool.{true≢false}
 use Rattle.rox_grammar.specs.declared.fault.Fault.{Fault}
@@ -11,14 +11,15 @@ use Rattle.rox_grammar.specs.ExpectedTexts.{expected_text}
 use Rattle.rox_grammar.specs.Search.{stands, mark_from}
 use Rattle.rox_grammar.specs.Chars.{is_char, is_space, is_name_char}
 use Rattle.rox_grammar.specs.Written.{Name, Item}
-use Rattle.rox_grammar.specs.Names.{byte, slice, spaces_end, IsName, IsQName}
-use Rattle.rox_grammar.specs.Constructs.{has_mark, AreChars, IsComment, IsPI}
-use Rattle.rox_grammar.specs.FixedTexts.{double_dash}
+use Rattle.rox_grammar.specs.Names.{byte, spaces_end, IsName, IsQName}
+use Rattle.rox_grammar.specs.Constructs.{AreChars, IsComment, IsPI}
 use Rattle.rox_grammar.specs.Content.{IsMisc, comment, instruction}
 use Rattle.rox_grammar.specs.Due.{DueItem, a_name, a_qname, a_byte, a_text, chars_to, IsMissing, no_name, no_qname, other_byte, other_text, no_char, no_byte, none_left, DueInText, DueInPI, none_of}
 use Rattle.rox_faults.proofs.DueForms.{a_space}
 use Rattle.rox_grammar.specs.Due as due
 use Rattle.rox_grammar.specs.Faults.{InMisc, comment_lacks, double_dashes, a_declaration, instruction_lacks}
+use Rattle.rox_theory.proofs.Productions.{comment_parts, pi_parts}
+use Rattle.rox_theory.proofs.FirstMarks.{comment_ends}
 use Rattle.rox_theory.proofs.Basics.{within, run_end_le}
 use Rattle.rox_theory.proofs.NameLemmas.{run_past}
 use Rattle.rox_theory.proofs.CharLemmas.{begins_byte, some_run}
@@ -81,40 +82,39 @@ module _ (src : List ℕ) (utf8 : IsUtf8 src) where
   comment_apart : (i e j q : ℕ) (t : DueItem) (f : Fault) → IsComment src i e j → DueInText expected.CommentEnd src (i + 4) q t → IsMissing src q t f → ⊥
   comment_apart i e j q t f is due' lack =
       let three : i + 3 + 1 ≡ i + 4 = omega arith in
-      let cut = subst (IsCharBoundary src) three (behind word.CommentStart src i 3 45 utf8 is.opens (omega arith) refl (omega arith) (omega arith)) in
-      text_stands expected.CommentEnd (i + 4) e q t f cut (mark_cut (word_text word.CommentEnd) 45 (45 ∷ 62 ∷ []) src (i + 4) refl (omega arith) cut.0) is.end is.chars is.closes due' lack
+      let cut = subst (IsCharBoundary src) three (behind word.CommentStart src i 3 45 utf8 (comment_parts is).opens (omega arith) refl (omega arith) (omega arith)) in
+      text_stands expected.CommentEnd (i + 4) e q t f cut (mark_cut (word_text word.CommentEnd) 45 (45 ∷ 62 ∷ []) src (i + 4) refl (omega arith) cut.0) (comment_ends src (i + 4) e (comment_parts is).dashes (comment_parts is).closes) (comment_parts is).chars (comment_parts is).closes due' lack
 
   -- in an instruction: its name ends in one place
   instruction_apart : (i n e j q : ℕ) (t : DueItem) (f : Fault) → IsPI src i n e j → DueInPI src i q t → IsMissing src q t f → ⊥
-  instruction_apart i n e j q t f is due.DueInPI.its_target lack = name_stands src (i + 2) n f is.target lack
+  instruction_apart i n e j q t f is due.DueInPI.its_target lack = name_stands src (i + 2) n f (pi_parts is).target lack
   instruction_apart i n e j q t f is (due.DueInPI.its_value m _ _ name value) lack =
       let one : i + 1 + 1 ≡ i + 2 = omega arith in
-      let cut = subst (IsCharBoundary src) one (behind word.PIStart src i 1 63 utf8 is.opens (omega arith) refl (omega arith) (omega arith)) in
+      let cut = subst (IsCharBoundary src) one (behind word.PIStart src i 1 63 utf8 (pi_parts is).opens (omega arith) refl (omega arith) (omega arith)) in
       let v = spaces_end src n in
-      let at_value : IsCharBoundary src v = run_cut is_space src n utf8 (subst (IsCharBoundary src) (sym is.target.longest) (run_cut is_name_char src (i + 2) utf8 cut)) in
-      let same : m ≡ n = name.longest ∙ sym is.target.longest in
-      text_stands expected.PIEnd v e q t f at_value (mark_cut (word_text word.PIEnd) 63 (62 ∷ []) src v refl (omega arith) at_value.0) is.end is.chars is.closes
+      let at_value : IsCharBoundary src v = run_cut is_space src n utf8 (subst (IsCharBoundary src) (sym (pi_parts is).target.longest) (run_cut is_name_char src (i + 2) utf8 cut)) in
+      let same : m ≡ n = name.longest ∙ sym (pi_parts is).target.longest in
+      text_stands expected.PIEnd v e q t f at_value (mark_cut (word_text word.PIEnd) 63 (62 ∷ []) src v refl (omega arith) at_value.0) (pi_parts is).end (pi_parts is).chars (pi_parts is).closes
       (subst (λ (m : ℕ). DueInText expected.PIEnd src (spaces_end src m) q t) same value) lack
 
   -- one of both begins where a fault of them stands
   pub misc_begins : (i : ℕ) (f : Fault) → InMisc src i f → (at word.CommentStart src i ≡ true) ⊎ (at word.PIStart src i ≡ true)
   misc_begins i f (comment_lacks q t _ opens due' lack) = inl opens
-  misc_begins i f (double_dashes e opens end chars closes ill) = inl opens
+  misc_begins i f (double_dashes e opens end chars closes before) = inl opens
   misc_begins i f (a_declaration opens) = inr (declaration_bytes src i opens)
   misc_begins i f (instruction_lacks q t _ opens none due' lack) = inr opens
 
   -- a fault of them stands in none that stands there
   pub misc_apart : (i j : ℕ) (item : Item) (f : Fault) → IsMisc src i j item → InMisc src i f → ⊥
   misc_apart i j item f (comment _ e _ is) (comment_lacks q t _ opens due' lack) = comment_apart i e j q t f is due' lack
-  misc_apart i j item f (comment _ e _ is) (double_dashes k opens end chars closes (inl two)) =
-      let same : k ≡ e = end ∙ sym is.end in
-      true≢false (sym (subst (λ (k : ℕ). has_mark double_dash (slice src (i + 4) k) ≡ true) same two) ∙ is.no_dashes)
-  misc_apart i j item f (comment _ e _ is) (double_dashes k opens end chars closes (inr last)) =
-      let same : k ≡ e = end ∙ sym is.end in
-      is.no_last (subst (λ (k : ℕ). byte (slice src (i + 4) k) (length (slice src (i + 4) k) - 1) ≡ 45) same last)
-  misc_apart i j item f (comment _ e _ is) (a_declaration opens) = not_both src i is.opens (declaration_bytes src i opens)
-  misc_apart i j item f (comment _ e _ is) (instruction_lacks q t _ opens none due' lack) = not_both src i is.opens opens
-  misc_apart i j item f (instruction _ n e _ is) (comment_lacks q t _ opens due' lack) = not_both src i opens is.opens
-  misc_apart i j item f (instruction _ n e _ is) (double_dashes k opens end chars closes ill) = not_both src i opens is.opens
-  misc_apart i j item f (instruction _ n e _ is) (a_declaration opens) = true≢false (sym opens ∙ is.no_declaration)
+  misc_apart i j item f (comment _ e _ is) (double_dashes k opens end chars closes before) =
+      let p = comment_parts is in
+      let same = comment_ends src (i + 4) e p.dashes p.closes in
+      let dashes = p.dashes in
+      omega arith
+  misc_apart i j item f (comment _ e _ is) (a_declaration opens) = not_both src i (comment_parts is).opens (declaration_bytes src i opens)
+  misc_apart i j item f (comment _ e _ is) (instruction_lacks q t _ opens none due' lack) = not_both src i (comment_parts is).opens opens
+  misc_apart i j item f (instruction _ n e _ is) (comment_lacks q t _ opens due' lack) = not_both src i opens (pi_parts is).opens
+  misc_apart i j item f (instruction _ n e _ is) (double_dashes k opens end chars closes before) = not_both src i opens (pi_parts is).opens
+  misc_apart i j item f (instruction _ n e _ is) (a_declaration opens) = true≢false (sym opens ∙ (pi_parts is).no_declaration)
   misc_apart i j item f (instruction _ n e _ is) (instruction_lacks q t _ opens none due' lack) = instruction_apart i n e j q t f is due' lack

@@ -13,7 +13,7 @@ use Rattle.rox_grammar.specs.Forest.{Forest, Nil, join}
 use Rattle.rox_grammar.specs.Written.{Name, Attribute, Tag, Item, Element}
 use Rattle.rox_grammar.specs.Tree.{listed}
 use Rattle.rox_grammar.specs.Names.{byte, slice, spaces_end, IsQName}
-use Rattle.rox_grammar.specs.Constructs.{has_mark, AreChars, IsEq, IsLiteral, IsEnd}
+use Rattle.rox_grammar.specs.Constructs.{AreChars, IsEq, IsLiteral, IsEnd}
 use Rattle.rox_grammar.specs.Content.{Inclusion, IsMisc, Value}
 use Rattle.rox_grammar.specs.Entities.{Replacement, Entity, text_of, most_deep}
 use Rattle.rox_grammar.specs.State as grammar
@@ -29,6 +29,7 @@ use Rattle.rox_reading.specs.Markup.{EndTag, end_tag_at}
 use Rattle.rox_reading.specs.Machine.{value_opener}
 use Rattle.rox_reading.proofs.Forests.{join_assoc}
 use Rattle.rox_theory.specs.ValidState.{AreNamed, IsValidState, state}
+use Rattle.rox_theory.proofs.Productions.{cdata_parts, end_parts, char_data_parts}
 use Rattle.rox_theory.proofs.Basics.{within}
 use Rattle.rox_theory.proofs.CharTexts.{cut_behind}
 use Rattle.rox_theory.proofs.LiteralLemmas.{from_here, quote_ascii}
@@ -106,15 +107,15 @@ module _ (opens : ℕ → Inclusion) (es : List Entity) (all : OpensAt opens es)
     run_apart : (f : Fault) → s.at < length src → byte src s.at ≢ 60 → InRun es k (opens k) src s.at b f → ⊥
     run_apart f below other (faults.InRun.no_char _ lack) =
         let run = run_there opens es all limit W k open_around b src s r below other in
-        chars_stand src r.utf8 s.at (byte_from (λ c. c == 60) src s.at) f r.cut (run_stops_cut src s.at below) (subst (λ (e : ℕ). AreChars src s.at e) run.1.end run.1.chars) lack
-    run_apart f below other (end_mark e is chars marked) =
+        chars_stand src r.utf8 s.at (byte_from (λ c. c == 60) src s.at) f r.cut (run_stops_cut src s.at below) (subst (λ (e : ℕ). AreChars src s.at e) (char_data_parts run.1).end (char_data_parts run.1).chars) lack
+    run_apart f below other (end_mark e is chars before) =
         let run = run_there opens es all limit W k open_around b src s r below other in
-        let same : e ≡ run.0 = is ∙ sym run.1.end in
-        let none : has_mark (word_text word.CDataEnd) (slice src s.at e) ≡ false = ap (λ (j : ℕ). has_mark (word_text word.CDataEnd) (slice src s.at j)) same ∙ run.1.no_end_mark in
-        true≢false (sym marked ∙ none)
-    run_apart f below other (faults.InRun.in_reference e q _ is chars unmarked from inside' ill) =
+        let same : e ≡ run.0 = is ∙ sym (char_data_parts run.1).end in
+        let none = (char_data_parts run.1).unmarked in
+        omega arith
+    run_apart f below other (faults.InRun.in_reference e q _ is from inside' ill) =
         let run = run_there opens es all limit W k open_around b src s r below other in
-        let below' : q < run.0 = subst (λ (j : ℕ). q < j) (is ∙ sym run.1.end) inside' in
+        let below' : q < run.0 = subst (λ (j : ℕ). q < j) ((char_data_parts is).end ∙ sym (char_data_parts run.1).end) inside' in
         run_reference_apart es (is_main k) (opens k) src r.utf8 (content_declared k) s.at run.0 b run.2.openings_left q run.2.items f run.2.parts from below' ill
     run_apart f below other (faults.InRun.too_many stop q j c front t is to inside' refers spent) =
         let found = (opened_there opens es all limit W k open_around b src s r stop q c j front t is to inside' refers).1 in
@@ -128,7 +129,7 @@ module _ (opens : ℕ → Inclusion) (es : List Entity) (all : OpensAt opens es)
         let is = (there_by opens es all limit W k open_around src here r a_cdata below (cdata_kind src s.at opens')).2 in
         let eight : s.at + 8 + 1 ≡ s.at + 9 = omega arith in
         let cut = subst (IsCharBoundary src) eight (behind word.CDataStart src s.at 8 91 r.utf8 opens' (omega arith) refl (omega arith) (omega arith)) in
-        text_stands src r.utf8 expected.CDataEnd (s.at + 9) _ q t f cut (mark_cut (word_text word.CDataEnd) 93 (93 ∷ 62 ∷ []) src (s.at + 9) refl (omega arith) cut.0) is.end is.chars is.closes due' lack
+        text_stands src r.utf8 expected.CDataEnd (s.at + 9) _ q t f cut (mark_cut (word_text word.CDataEnd) 93 (93 ∷ 62 ∷ []) src (s.at + 9) refl (omega arith) cut.0) (cdata_parts is).end (cdata_parts is).chars (cdata_parts is).closes due' lack
 
     -- in a comment or an instruction
     item_there : (at word.CommentStart src s.at ≡ true) ⊎ (at word.PIStart src s.at ≡ true) → (j : ℕ) × (item : Item) × IsMisc src s.at j item
@@ -145,19 +146,19 @@ module _ (opens : ℕ → Inclusion) (es : List Entity) (all : OpensAt opens es)
 
     end_apart : (f : Fault) → InEnd open_around src s f → ⊥
     unfolding tag_of
-    end_apart f (lacks q t _ (due.DueInEnd.its_name opens') (no_qname none)) = let there = end_there opens' in none there.1.name there.4 there.8.is_name
+    end_apart f (lacks q t _ (due.DueInEnd.its_name opens') (no_qname none)) = let there = end_there opens' in none there.1.name there.4 (end_parts there.8).is_name
     end_apart f (lacks q t _ (due.DueInEnd.its_end name n opens' is_name) lack) =
         let there = end_there opens' in
-        let same = (one_qname src (s.at + 2) n there.4 name there.1.name is_name there.8.is_name).1 in
-        let closes : byte src (spaces_end src n) ≡ 62 = ap (λ (n : ℕ). byte src (spaces_end src n)) same ∙ there.8.closes in
+        let same = (one_qname src (s.at + 2) n there.4 name there.1.name is_name (end_parts there.8).is_name).1 in
+        let closes : byte src (spaces_end src n) ≡ 62 = ap (λ (n : ℕ). byte src (spaces_end src n)) same ∙ (end_parts there.8).closes in
         byte_stands src 62 (spaces_end src n) f (omega arith) closes lack
     end_apart f (other_name n j start name tag before up expected actual stack deep is apart holds holds') =
-        let there = end_there is.opens in
+        let there = end_there (end_parts is).opens in
         let same = end_one src s.at there.5 j there.4 n there.1.name name there.8 is in
         let one : tag ≡ there.1 = ap (tag_of tag) (sym stack ∙ there.6) in
         absurd (apart (ap (λ (t : Tag). t.name) one ∙ same.0))
     end_apart f (none_open n j name none is) =
-        let there = end_there is.opens in
+        let there = end_there (end_parts is).opens in
         let depth : depth_of s.stack ≡ depth_of there.3 + 1 = ap depth_of there.6 in
         let deep = there.7 in
         absurd (omega arith)

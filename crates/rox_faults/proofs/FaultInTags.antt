@@ -32,6 +32,7 @@ use Rattle.rox_reading.specs.Markup as markup
 use Rattle.rox_reading.specs.Markup.{TagItem, tag_item_at}
 use Rattle.rox_reading.specs.Tags.{Values}
 use Rattle.rox_theory.specs.Openers.{AgreesValue}
+use Rattle.rox_theory.proofs.Productions.{ncname_parts}
 use Rattle.rox_theory.proofs.Basics.{within, run_end_le}
 use Rattle.rox_theory.proofs.NameLemmas.{begins_here}
 use Rattle.rox_faults.proofs.NameSpans.{cut_behind, qname_text}
@@ -104,8 +105,8 @@ starts_no_greater src i starts is =
 
 -- nor at a qualified name
 name_no_greater : (src : List ℕ) (i : ℕ) (name : Name) (n : ℕ) → IsQName src i name n → byte src i ≢ 62
-name_no_greater src i name n (unprefixed _ _ nc no_colon) is = starts_no_greater src i nc.starts is
-name_no_greater src i name n (prefixed _ k _ nc colon local no_colon) is = starts_no_greater src i nc.starts is
+name_no_greater src i name n (unprefixed _ _ nc no_colon) is = starts_no_greater src i (ncname_parts nc).starts is
+name_no_greater src i name n (prefixed _ k _ nc colon local no_colon) is = starts_no_greater src i (ncname_parts nc).starts is
 name_no_greater src i name n (colon_first _ _ colon nc no_colon) is = absurd (omega arith)
 
 -- ---- the front of a tag

@@ -15,6 +15,7 @@ use Rattle.rox_grammar.specs.Document.{Misc, no_misc, space, an_item}
 use Rattle.rox_grammar.specs.Faults.{InMisc}
 use Rattle.rox_reading.specs.Markup.{Instruction, comment_at, instruction_at}
 use Rattle.rox_reading.proofs.Forests.{join-nil}
+use Rattle.rox_theory.proofs.Productions.{comment_parts, pi_parts}
 use Rattle.rox_theory.proofs.Basics.{within, run_end_le}
 use Rattle.rox_theory.proofs.DeclarationLemmas.{stands_reads}
 use Rattle.rox_theory.proofs.MarkupLemmas as markup
@@ -30,8 +31,8 @@ module _ (src : List ℕ) (utf8 : IsUtf8 src) where
   one_item i j k x y (comment _ e _ is) (comment _ e' _ is') =
       let same = ok_one (slice src (i + 4) e, j) (slice src (i + 4) e', k) (comment_at src i) (markup.comment_complete src i e j is) (markup.comment_complete src i e' k is') in
       (ap (λ (p : List ℕ × ℕ). p.1) same, ap (λ (p : List ℕ × ℕ). Comment i p.1 p.0) same)
-  one_item i j k x y (comment _ e _ is) (instruction _ n e' _ is') = absurd (not_both src i is.opens is'.opens)
-  one_item i j k x y (instruction _ n e _ is) (comment _ e' _ is') = absurd (not_both src i is'.opens is.opens)
+  one_item i j k x y (comment _ e _ is) (instruction _ n e' _ is') = absurd (not_both src i (comment_parts is).opens (pi_parts is').opens)
+  one_item i j k x y (instruction _ n e _ is) (comment _ e' _ is') = absurd (not_both src i (comment_parts is').opens (pi_parts is).opens)
   one_item i j k x y (instruction _ n e _ is) (instruction _ n' e' _ is') =
       let a : Instruction = record { target = slice src (i + 2) n; value = none_if_empty (slice src (spaces_end src n) e) } in
       let b : Instruction = record { target = slice src (i + 2) n'; value = none_if_empty (slice src (spaces_end src n') e') } in
@@ -40,8 +41,8 @@ module _ (src : List ℕ) (utf8 : IsUtf8 src) where
 
   -- each begins with `<`
   pub item_byte : (i j : ℕ) (x : Item) → IsMisc src i j x → byte src i ≡ 60
-  item_byte i j x (comment _ e _ is) = (comment_bytes src i is.opens).1
-  item_byte i j x (instruction _ n e _ is) = (instruction_bytes src i is.opens).1
+  item_byte i j x (comment _ e _ is) = (comment_bytes src i (comment_parts is).opens).1
+  item_byte i j x (instruction _ n e _ is) = (instruction_bytes src i (pi_parts is).opens).1
 
   -- which is no white space
   pub less_no_space : (i : ℕ) → byte src i ≡ 60 → is_space (byte src i) ≡ true → ⊥
@@ -54,8 +55,8 @@ module _ (src : List ℕ) (utf8 : IsUtf8 src) where
 
   -- nor one of them
   stop_no_item : (q j : ℕ) (x : Item) → Stops src q → IsMisc src q j x → ⊥
-  stop_no_item q j x stops (comment _ e _ is) = true≢false (sym is.opens ∙ stops.no_comment)
-  stop_no_item q j x stops (instruction _ n e _ is) = true≢false (sym is.opens ∙ stops.no_instruction)
+  stop_no_item q j x stops (comment _ e _ is) = true≢false (sym (comment_parts is).opens ∙ stops.no_comment)
+  stop_no_item q j x stops (instruction _ n e _ is) = true≢false (sym (pi_parts is).opens ∙ stops.no_instruction)
 
   -- those up to a point are a front of all
   pub misc_front : (i p q : ℕ) (items whole : Forest Item) → Misc src i p items → Misc src i q whole → Stops src q → (rest : Forest Item) × Misc src p q rest × (whole ≡ join items rest)
@@ -82,11 +83,11 @@ module _ (src : List ℕ) (utf8 : IsUtf8 src) where
   doctype_at p q rest (no_misc _) none here = true≢false (sym here ∙ none)
   doctype_at p q rest (space _ _ _ is more) none here = less_no_space p (doctype_bytes src p here).1 is
   doctype_at p q rest (an_item _ j _ x others (comment _ e _ is) more) none here =
-      let a : byte src (p + 2) ≡ 45 = stands_reads (word_text word.CommentStart) src p 2 is.opens (omega arith) in
+      let a : byte src (p + 2) ≡ 45 = stands_reads (word_text word.CommentStart) src p 2 (comment_parts is).opens (omega arith) in
       let b : byte src (p + 2) ≡ 68 = stands_reads (word_text word.DoctypeStart) src p 2 here (omega arith) in
       absurd (omega arith)
   doctype_at p q rest (an_item _ j _ x others (instruction _ n e _ is) more) none here =
-      let a = instruction_bytes src p is.opens in let b = doctype_bytes src p here in absurd (omega arith)
+      let a = instruction_bytes src p (pi_parts is).opens in let b = doctype_bytes src p here in absurd (omega arith)
 
   -- another byte than `<` and white space stands at none of them
   pub other_at : (p q : ℕ) (rest : Forest Item) → Misc src p q rest → byte src q ≡ 60 → is_space (byte src p) ≡ false → byte src p ≢ 60 → ⊥
@@ -104,8 +105,8 @@ module _ (src : List ℕ) (utf8 : IsUtf8 src) where
   pub last_at : (p q : ℕ) (rest : Forest Item) → Misc src p q rest → q ≡ length src → p < length src → is_space (byte src p) ≡ false → at word.CommentStart src p ≡ false → at word.PIStart src p ≡ false → ⊥
   last_at p q rest (no_misc _) end below no_space no_comment no_instruction = absurd (omega arith)
   last_at p q rest (space _ _ _ is more) end below no_space no_comment no_instruction = true≢false (sym is ∙ no_space)
-  last_at p q rest (an_item _ j _ x others (comment _ e _ is) more) end below no_space no_comment no_instruction = true≢false (sym is.opens ∙ no_comment)
-  last_at p q rest (an_item _ j _ x others (instruction _ n e _ is) more) end below no_space no_comment no_instruction = true≢false (sym is.opens ∙ no_instruction)
+  last_at p q rest (an_item _ j _ x others (comment _ e _ is) more) end below no_space no_comment no_instruction = true≢false (sym (comment_parts is).opens ∙ no_comment)
+  last_at p q rest (an_item _ j _ x others (instruction _ n e _ is) more) end below no_space no_comment no_instruction = true≢false (sym (pi_parts is).opens ∙ no_instruction)
 
   -- where they stop none is left
   pub stopped : (p q : ℕ) (rest : Forest Item) → Misc src p q rest → Stops src p → (p ≡ q) × (rest ≡ Nil)

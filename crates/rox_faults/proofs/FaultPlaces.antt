@@ -29,6 +29,7 @@ use Rattle.rox_reading.specs.Tags.{tag_at}
 use Rattle.rox_reading.specs.Machine.{Context, counted, value_opener, comment_step, cdata_step, instruction_step, end_step, tag_step, opened_by, closed_by, name_span, step, drive, text_ends, drive_text, budget, opener}
 use Rattle.rox_reading.specs.Machine as machine
 use Rattle.rox_theory.specs.Openers.{AreTexts, AgreesValue, AgreesContent}
+use Rattle.rox_theory.proofs.Productions.{cdata_parts, end_parts, char_data_parts}
 use Rattle.rox_theory.proofs.Basics.{chosen}
 use Rattle.rox_faults.proofs.NameSpans.{cut_behind}
 use Rattle.rox_theory.proofs.DeclarationLemmas.{stands_reads}
@@ -101,14 +102,14 @@ module _ (main : Bool) (O : Inclusion) (src : List ℕ) (open_around : ℕ) wher
 
   -- and a character begins there
   pub takes_cut : IsUtf8 src → (s t : State) → OneConstruct s t → IsCharBoundary src t.at
-  takes_cut utf8 s t (flat.StepsOver.takes_run i j b c items done stack is parts) = subst (IsCharBoundary src) (sym is.end) (run_stops_cut src i (run_within src i j is).0)
+  takes_cut utf8 s t (flat.StepsOver.takes_run i j b c items done stack is parts) = subst (IsCharBoundary src) (sym (char_data_parts is).end) (run_stops_cut src i (run_within src i j is).0)
   takes_cut utf8 s t (flat.StepsOver.takes_cdata i e j b done stack is) =
-      let last : j ≡ e + 2 + 1 = omega (arith, is.next) in
-      ends_cut src j utf8 (ends_by src j (e + 2) 62 last (stands_reads (word_text word.CDataEnd) src e 2 is.closes (omega arith)) (omega arith) (omega arith))
+      let last : j ≡ e + 2 + 1 = omega (arith, (cdata_parts is).next) in
+      ends_cut src j utf8 (ends_by src j (e + 2) 62 last (stands_reads (word_text word.CDataEnd) src e 2 (cdata_parts is).closes (omega arith)) (omega arith) (omega arith))
   takes_cut utf8 s t (flat.StepsOver.takes_misc i j b item done stack is) = ends_cut src j utf8 (misc_ends src i j item is)
   takes_cut utf8 s t (flat.StepsOver.takes_empty i j b c tag done stack is) = ends_cut src j utf8 (tag_ends src is.last j true is.ends)
   takes_cut utf8 s t (flat.StepsOver.takes_start i j b c tag done stack is) = ends_cut src j utf8 (tag_ends src is.last j false is.ends)
-  takes_cut utf8 s t (flat.StepsOver.takes_end i p j b start tag done before up deep end) = ends_cut src j utf8 (ends_by src j (spaces_end src p) 62 end.next end.closes (omega arith) (omega arith))
+  takes_cut utf8 s t (flat.StepsOver.takes_end i p j b start tag done before up deep end) = ends_cut src j utf8 (ends_by src j (spaces_end src p) 62 (end_parts end).next (end_parts end).closes (omega arith) (omega arith))
 
 module _ (opens : ℕ → Inclusion) (es : List Entity) (limit : ℕ) (text : List ℕ) (declared : Bool) (Front : ℕ → Forest Item → Type 0) (most : ℕ) (less : limit ≤ most) (least : most ≤ max limit 1)
     (values : (d k : ℕ) → d + k ≡ most_deep → AgreesValue es (opens k) (value_opener es d (is_main k))) (contents : (d k : ℕ) → d + k ≡ most_deep → AgreesContent es limit (opens k) (opener limit es d (is_main k)))
@@ -185,7 +186,7 @@ module _ (opens : ℕ → Inclusion) (es : List Entity) (limit : ℕ) (text : Li
         (in_end (fault.UnexpectedCloseTag expected actual i) inner
         (other_name n j start name tag before up expected actual refl deep' end (λ e. let k = names_same tag.name name e in cc (sym apart ∙ k))
         (spells src (start + 1) tag.name_end tag.name utf8 (cut_behind src start 60 utf8 own.0 (omega arith) (omega arith)) own.1)
-        (spells src (i + 2) n name utf8 (end_cut i end.opens) end.is_name)))))
+        (spells src (i + 2) n name utf8 (end_cut i (end_parts end).opens) (end_parts end).is_name)))))
 
     -- a start tag that is one node too many
     opened_fails : (s : State) (tag : Tag) (j openings_left : ℕ) (empty : Bool) (f : Fault) → IsValidState most s → Here k open_around src s → IsTag (is_main k) (opens k) src s.at j s.openings_left openings_left empty tag

@@ -14,6 +14,7 @@ use Rattle.rox_grammar.specs.Content.{Inclusion, DataByte, Part, part_ends, as_w
 use Rattle.rox_grammar.specs.RunParts.{Parts}
 use Rattle.rox_grammar.specs.Entities.{Replacement, Entity, text_of}
 use Rattle.rox_grammar.specs.Faults.{InReferences, malformed, undeclared}
+use Rattle.rox_theory.proofs.Productions.{number_parts, reference_parts}
 use Rattle.rox_theory.proofs.Basics.{within}
 use Rattle.rox_theory.proofs.CharLemmas.{run_within}
 use Rattle.rox_theory.proofs.ReferenceLemmas.{bytes_pass, name_no_hash, character_opens}
@@ -39,9 +40,10 @@ less_no_part = record { ascii = omega arith; no_name = refl; no_digit = refl; no
 
 module _ (b : ℕ) (none : NoPart b) (src : List ℕ) (utf8 : IsUtf8 src) where
   -- not in a number
-  number_apart : (base : ℕ) (is : ℕ → Bool) (d e c j q : ℕ) → is b ≡ false → IsNumber base is src d e c j → d ≤ q → q < j → byte src q ≡ b → ⊥
-  number_apart base is d e c j q fails m from below here =
-      let end = m.end in let next = m.next in let closes = m.closes in
+  number_apart : (base : ℕ) (is : ℕ → Bool) (d c j q : ℕ) → is b ≡ false → IsNumber base is src d c j → d ≤ q → q < j → byte src q ≡ b → ⊥
+  number_apart base is d c j q fails m from below here =
+      let e = (number_parts m).e in
+      let end = (number_parts m).end in let next = (number_parts m).next in let closes = (number_parts m).closes in
       elim (cases_lt q e) as (λ s. ⊥) [
         | inl l ↦ true≢false (sym (bytes_pass is src d q from (omega arith)) ∙ ap is here ∙ fails)
         | inr g ↦ (let same : q ≡ e = omega arith in none.no_semicolon (sym here ∙ ap (byte src) same ∙ closes))
@@ -50,7 +52,7 @@ module _ (b : ℕ) (none : NoPart b) (src : List ℕ) (utf8 : IsUtf8 src) where
   -- nor in a name
   name_apart : (i n j q : ℕ) → IsReference src i n j → i < q → q < j → byte src q ≡ b → ⊥
   name_apart i n j q r from below here =
-      let l = r.name.longest in let next = r.next in let closes = r.closes in let opens = r.opens in let ascii = none.ascii in
+      let l = (reference_parts r).name.longest in let next = (reference_parts r).next in let closes = (reference_parts r).closes in let opens = (reference_parts r).opens in let ascii = none.ascii in
       let inside : i < length src = within src i (λ z. omega arith) in
       let inside' : n < length src = within src n (λ z. omega arith) in
       let cut = IsCharBoundary-after_ascii src i utf8 inside (omega arith) in
@@ -60,17 +62,17 @@ module _ (b : ℕ) (none : NoPart b) (src : List ℕ) (utf8 : IsUtf8 src) where
 
   -- so behind its `&` a reference holds none
   character_apart : (i c j q : ℕ) → IsCharacter src i c j → i < q → q < j → byte src q ≡ b → ⊥
-  character_apart i c j q (decimal _ e _ _ opens hash m) from below here =
+  character_apart i c j q (decimal _ _ _ opens hash m) from below here =
       elim (cases_eq q (i + 1)) as (λ s. ⊥) [
         | inl same ↦ none.no_hash (sym here ∙ ap (byte src) same ∙ hash)
-        | inr apart ↦ number_apart 10 is_digit (i + 2) e c j q none.no_digit m (omega arith) below here
+        | inr apart ↦ number_apart 10 is_digit (i + 2) c j q none.no_digit m (omega arith) below here
       ]
-  character_apart i c j q (hexadecimal _ e _ _ opens hash hex m) from below here =
+  character_apart i c j q (hexadecimal _ _ _ opens hash hex m) from below here =
       elim (cases_eq q (i + 1)) as (λ s. ⊥) [
         | inl same ↦ none.no_hash (sym here ∙ ap (byte src) same ∙ hash)
         | inr apart ↦ elim (cases_eq q (i + 2)) as (λ s. ⊥) [
           | inl same ↦ none.no_x (sym here ∙ ap (byte src) same ∙ hex)
-          | inr apart' ↦ number_apart 16 is_hex_digit (i + 3) e c j q none.no_hex m (omega arith) below here
+          | inr apart' ↦ number_apart 16 is_hex_digit (i + 3) c j q none.no_hex m (omega arith) below here
         ]
       ]
   character_apart i c j q (named _ n _ _ r is) from below here = name_apart i n j q r from below here
@@ -78,10 +80,10 @@ module _ (b : ℕ) (none : NoPart b) (src : List ℕ) (utf8 : IsUtf8 src) where
 -- a reference to a character is neither malformed nor undeclared
 character_stands : (es : List Entity) (src : List ℕ) (p c j : ℕ) (f : Fault) → IsCharacter src p c j → InReferences es src p f → ⊥
 character_stands es src p c j f is (malformed amp no_character no_reference) = no_character c j is
-character_stands es src p c j f (decimal _ e _ _ opens hash m) (undeclared n k name ref none nothing holds) = name_no_hash src (p + 1) ref.name.starts hash
-character_stands es src p c j f (hexadecimal _ e _ _ opens hash hex m) (undeclared n k name ref none nothing holds) = name_no_hash src (p + 1) ref.name.starts hash
+character_stands es src p c j f (decimal _ _ _ opens hash m) (undeclared n k name ref none nothing holds) = name_no_hash src (p + 1) (reference_parts ref).name.starts hash
+character_stands es src p c j f (hexadecimal _ _ _ opens hash hex m) (undeclared n k name ref none nothing holds) = name_no_hash src (p + 1) (reference_parts ref).name.starts hash
 character_stands es src p c j f (named _ m _ _ r is) (undeclared n k name ref none nothing holds) =
-    let same : m ≡ n = r.name.longest ∙ sym ref.name.longest in
+    let same : m ≡ n = (reference_parts r).name.longest ∙ sym (reference_parts ref).name.longest in
     let is' : predefined (slice src (p + 1) n) ≡ Some c = subst (λ (m : ℕ). predefined (slice src (p + 1) m) ≡ Some c) same is in
     cc (sym none ∙ is')
 
@@ -89,14 +91,14 @@ character_stands es src p c j f (named _ m _ _ r is) (undeclared n k name ref no
 entity_stands : (es : List Entity) (src : List ℕ) (p n j : ℕ) (t : Replacement) (f : Fault) → IsReference src p n j → text_of es (slice src (p + 1) n) ≡ Some t → InReferences es src p f → ⊥
 entity_stands es src p n j t f r found (malformed amp no_character no_reference) = no_reference n j r
 entity_stands es src p n j t f r found (undeclared m k name ref none nothing holds) =
-    let same : n ≡ m = r.name.longest ∙ sym ref.name.longest in
+    let same : n ≡ m = (reference_parts r).name.longest ∙ sym (reference_parts ref).name.longest in
     let found' : text_of es (slice src (p + 1) m) ≡ Some t = subst (λ (n : ℕ). text_of es (slice src (p + 1) n) ≡ Some t) same found in
     cc (sym nothing ∙ found')
 
 -- a fault of a reference begins with `&`
 reference_opens : (es : List Entity) (src : List ℕ) (p : ℕ) (f : Fault) → InReferences es src p f → byte src p ≡ 38
 reference_opens es src p f (malformed amp no_character no_reference) = amp
-reference_opens es src p f (undeclared n k name ref none nothing holds) = ref.opens
+reference_opens es src p f (undeclared n k name ref none nothing holds) = (reference_parts ref).opens
 
 -- what an `&` begins: a reference to such a character, or to a declared entity
 data Begins (es : List Entity) (src : List ℕ) (Allowed : ℕ → Type 0) (q : ℕ) : Type 0 where
@@ -229,7 +231,7 @@ module _ (es : List Entity) (main : Bool) (O : Inclusion) (src : List ℕ) (utf8
         | inr g ↦ value_no_less e n q b c w rest g below here
       ]
   value_no_less e i q b c v (an_entity _ n k _ d _ u w ref none less opens rest) from below here =
-      let amp = ref.opens in
+      let amp = (reference_parts ref).opens in
       let apart : q ≢ i = λ same. let h : byte src i ≡ 60 = ap (byte src) (sym same) ∙ here in absurd (omega arith) in
       elim (cases_lt q k) as (λ s. ⊥) [
         | inl l ↦ name_apart 60 less_no_part src utf8 i n k q ref (omega arith) l here

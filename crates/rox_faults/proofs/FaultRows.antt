@@ -4,7 +4,7 @@ use Rattle.std.specs.Prelude.{Err, Option, Some, None, bytes_eq}
 use Rattle.std.specs.List.{starts_with}
 use Rattle.std.specs.Str.{chars, IsUtf8, IsCharBoundary}
 use Rattle.std.proofs.lemmas.Str.{IsCharBoundary-before_ascii, IsCharBoundary-end}
-use Rattle.std.proofs.lemmas.Bool.{cases_lt, cases_Bool, eqb-true, or_cases, cond_both, false_from_ne_true}
+use Rattle.std.proofs.lemmas.Bool.{cases_lt, cases_Bool, eqb-true, cond_both, false_from_ne_true}
 use Rattle.rox_grammar.specs.declared.fault.Fault.{Fault}
 use Rattle.rox_grammar.specs.declared.fault.Span.{Span}
 use Rattle.rox_grammar.specs.declared.fault.Word.{Word}
@@ -20,16 +20,18 @@ use Rattle.rox_grammar.specs.Search.{stands, before_mark, mark_from, byte_from}
 use Rattle.rox_grammar.specs.Written.{Name}
 use Rattle.rox_grammar.specs.NameParts.{local_span}
 use Rattle.rox_grammar.specs.Names.{byte, slice, spaces_end, IsName, IsQName, unprefixed, prefixed, colon_first}
-use Rattle.rox_grammar.specs.Constructs.{has_mark, AreChars}
+use Rattle.rox_grammar.specs.Constructs.{AreChars}
 use Rattle.rox_grammar.specs.FixedTexts.{double_dash}
 use Rattle.rox_grammar.specs.References.{is_digit, is_hex_digit, number, bytes_end, character}
 use Rattle.rox_grammar.specs.Entities.{Replacement, Entity, text_of}
 use Rattle.rox_grammar.specs.Due.{DueItem, a_byte, a_text, a_qname, a_name, chars_to, IsMissing, no_name, DueInText, DueInPI, DueInEnd}
 use Rattle.rox_grammar.specs.Due as due
 use Rattle.rox_grammar.specs.Faults.{SpanIs, spelled, InMisc, comment_lacks, double_dashes, a_declaration, instruction_lacks, InReferences, malformed, undeclared}
-use Rattle.rox_reading.specs.Lexical.{byte_at, string_at, chars_up_to, text_to, qname_at, name_at}
+use Rattle.rox_reading.specs.Lexical.{has_mark, byte_at, string_at, chars_up_to, text_to, qname_at, name_at}
 use Rattle.rox_reading.specs.Markup.{comment_at, instruction_at, cdata_at, end_tag_at}
 use Rattle.rox_reading.specs.Values.{Reference, number_at, name_reference_at, reference_at, entity_bit, reference_bit, expansion_at}
+use Rattle.rox_theory.proofs.Productions.{ncname_parts}
+use Rattle.rox_theory.proofs.FirstMarks.{dashes_before}
 use Rattle.rox_theory.proofs.Basics.{run_end_le, chosen, mark_from_le, chars_sound, text_sound, within}
 use Rattle.rox_theory.proofs.NameLemmas.{slice_nil, qname_sound, name_sound}
 use Rattle.rox_faults.proofs.NameSpans.{run_cut, cut_behind, qname_text}
@@ -130,10 +132,7 @@ module _ (src : List ℕ) (utf8 : IsUtf8 src) where
       chosen (has_mark double_dash text.0 || byte text.0 (length text.0 - 1) == 45) _ _ _ h
       (λ ill h.
       let is : fault.InvalidComment i ≡ f = cc in
-      subst (InMisc src i) is (elim (or_cases (has_mark double_dash text.0) (byte text.0 (length text.0 - 1) == 45) ill) as (λ s. InMisc src i (fault.InvalidComment i)) [
-        | inl two ↦ double_dashes e opens refl s.0 s.1 (inl (sym (ap (has_mark double_dash) is_text) ∙ two))
-        | inr last ↦ double_dashes e opens refl s.0 s.1 (inr (sym (ap (λ (t : List ℕ). byte t (length t - 1)) is_text) ∙ eqb-true _ _ last))
-      ]))
+      subst (InMisc src i) is (double_dashes e opens refl s.0 s.1 (dashes_before src (i + 4) e s.1 (rw is_text at ill))))
       (λ fine h. no_fault _ f h))
 
   -- a processing instruction
@@ -273,16 +272,16 @@ part_some src i utf8 cut starts no_colon =
 pub spells : (src : List ℕ) (i n : ℕ) (name : Name) → IsUtf8 src → IsCharBoundary src i → IsQName src i name n → SpanIs src (name_span name i n) (spelled name)
 spells src i n name utf8 cut (unprefixed _ _ is last) =
     let inside = qname_inside src i n _ utf8 cut (unprefixed i n is last) in
-    let le = run_end_le is_part_char src i in let l = is.longest in
+    let le = run_end_le is_part_char src i in let l = (ncname_parts is).longest in
     local_holds src (record { prefix = []; local = slice src i n }) i n refl (omega arith) inside
 spells src i n name utf8 cut (colon_first _ _ colon is last) =
     let inside = qname_inside src i n _ utf8 cut (colon_first i n colon is last) in
-    let le = run_end_le is_part_char src (i + 1) in let l = is.longest in
+    let le = run_end_le is_part_char src (i + 1) in let l = (ncname_parts is).longest in
     local_holds src (record { prefix = []; local = slice src (i + 1) n }) (i + 1) n refl (omega arith) inside
 spells src i n name utf8 cut (prefixed _ k _ front colon is last) =
     let inside = qname_inside src i n _ utf8 cut (prefixed i k n front colon is last) in
-    let some : i < k = rw front.longest (part_some src i utf8 cut front.starts front.no_colon) in
-    let le = run_end_le is_part_char src (k + 1) in let l = is.longest in
+    let some : i < k = rw (ncname_parts front).longest (part_some src i utf8 cut (ncname_parts front).starts (ncname_parts front).no_colon) in
+    let le = run_end_le is_part_char src (k + 1) in let l = (ncname_parts is).longest in
     let first : slice src i k ≡ byte src i ∷ slice src (i + 1) k = slice_cons src i k some (omega arith) in
     let whole : slice src i n ≡ slice src i k ++ (58 ∷ slice src (k + 1) n) =
     slice_split src (k - i) i k n (omega arith) (omega arith) inside

@@ -11,7 +11,6 @@ use Rattle.rox_grammar.specs.Search.{byte_from}
 use Rattle.rox_grammar.specs.Forest.{Forest, Nil, join}
 use Rattle.rox_grammar.specs.Written.{Item, Text, leaf}
 use Rattle.rox_grammar.specs.Names.{byte, slice}
-use Rattle.rox_grammar.specs.Constructs.{has_mark}
 use Rattle.rox_grammar.specs.References.{IsReference, predefined}
 use Rattle.rox_grammar.specs.Content.{Inclusion, DataByte, is_verbatim, line_ends, piece, Part, last_part, IsCharacterData}
 use Rattle.rox_grammar.specs.RunParts.{Parts}
@@ -22,13 +21,15 @@ use Rattle.rox_grammar.specs.State.{Open, scope_of, depth_of, nodes_so_far, Fits
 use Rattle.rox_grammar.specs.ContentPoints.{is_content, is_main, a_run, RefersTo, MayOpen, IsSpent, enters}
 use Rattle.rox_grammar.specs.RunParts.{PartsTo}
 use Rattle.rox_grammar.specs.Faults.{InReferences, InRun, no_char, end_mark, in_reference, too_many, in_run, too_many_nodes, too_many_pieces}
-use Rattle.rox_reading.specs.Lexical.{chars_up_to}
+use Rattle.rox_reading.specs.Lexical.{has_mark, chars_up_to}
 use Rattle.rox_reading.specs.Refusals.{Refusal}
 use Rattle.rox_reading.specs.State.{State}
 use Rattle.rox_reading.specs.Values.{Bit, bytes_of, opens as a_text, data_bit_at, Next, after_bit, data_part, part_text, raw_character_data_at}
 use Rattle.rox_reading.specs.Machine.{with_item, with_piece, after_part, data_parts, character_data_step, opener}
 use Rattle.rox_reading.proofs.Forests.{join-nil, join_assoc, named-join}
 use Rattle.rox_theory.specs.Openers.{IsStop, AgreesContent}
+use Rattle.rox_theory.proofs.Productions.{char_data_parts}
+use Rattle.rox_theory.proofs.FirstMarks.{run_marked}
 use Rattle.rox_theory.proofs.Basics.{chosen, chars_sound}
 use Rattle.rox_theory.proofs.LiteralLemmas.{from_le}
 use Rattle.rox_theory.proofs.ReferenceLemmas.{reference_opens}
@@ -205,7 +206,7 @@ module _ (opens : ℕ → Inclusion) (es : List Entity) (limit : ℕ) (text : Li
           let inside = run_inside src s.at stop run in
           lifted_err (data_part (is_main k) es (stop - u.at) src stop u.at) _ e h
           (λ f bad is. let w = part_fails src utf8 es (is_main k) stop (stop - u.at) s.at u.at f inside.0 inside.1 from bad in
-          refuses_here es P src f e is (in_it f (in_reference stop w.0 f run.end run.chars run.no_end_mark w.1 w.2 w.3)))
+          refuses_here es P src f e is (in_it f (in_reference stop w.0 f run w.1 w.2 w.3)))
           (λ x read h.
           let part = run_part_sound es src utf8 stop inside.0 inside.1 (is_main k) (stop - u.at) u.at x to (omega arith) read in
           let signs = part.1.0 in
@@ -230,7 +231,7 @@ module _ (opens : ℕ → Inclusion) (es : List Entity) (limit : ℕ) (text : Li
         let c = chars_sound stop src s.at raw utf8 le read in
         let text : raw.0 ≡ slice src s.at stop = c.1 in
         chosen (has_mark (word_text word.CDataEnd) raw.0) _ _ _ h
-        (λ marked h. let is : fault.InvalidCharacterData stop ≡ f = cc in subst (InRun es k (opens k) src s.at s.openings_left) is (end_mark stop refl c.0 (sym (ap (has_mark (word_text word.CDataEnd)) text) ∙ marked)))
+        (λ marked h. let is : fault.InvalidCharacterData stop ≡ f = cc in subst (InRun es k (opens k) src s.at s.openings_left) is (end_mark stop refl c.0 (run_marked src s.at stop (sym (ap (has_mark (word_text word.CDataEnd)) text) ∙ marked))))
         (λ fine h. no_fault _ f h))
 
     -- a run
@@ -253,4 +254,4 @@ module _ (opens : ℕ → Inclusion) (es : List Entity) (limit : ℕ) (text : Li
         (λ marked h.
         let marked' : is_verbatim (slice src s.at x.1) ≡ false = rw (raw.1) at marked in
         let inside = run_inside src s.at x.1 raw.0 in
-        parts_fail x.1 raw.0 marked' (length src) s e (begun x.1 raw.0 marked') fine (omega arith) (let some = raw.0.some in omega arith) (let to = inside.0 in omega arith) h))
+        parts_fail x.1 raw.0 marked' (length src) s e (begun x.1 raw.0 marked') fine (omega arith) (let some = (char_data_parts raw.0).some in omega arith) (let to = inside.0 in omega arith) h))

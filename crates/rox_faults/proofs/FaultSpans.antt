@@ -20,7 +20,6 @@ use Rattle.rox_grammar.specs.Forest.{Forest, Nil, join}
 use Rattle.rox_grammar.specs.Written.{Name, Tag, Item, Element, Text, Comment, PI, leaf}
 use Rattle.rox_grammar.specs.NameParts.{local_span, same_qname}
 use Rattle.rox_grammar.specs.Names.{byte, spaces_end}
-use Rattle.rox_grammar.specs.Constructs.{has_mark}
 use Rattle.rox_grammar.specs.FixedTexts.{double_dash}
 use Rattle.rox_grammar.specs.Content.{is_verbatim, literals, line_ends}
 use Rattle.rox_grammar.specs.TextStart.{after_bom}
@@ -30,7 +29,7 @@ use Rattle.rox_grammar.specs.Counts.{distinct_pairs}
 use Rattle.rox_grammar.specs.State.{Open, root, inside, is_root, scope_of, nodes_so_far, attributes_so_far, pairs_so_far}
 use Rattle.rox_reading.specs.Refusals.{Refusal, here, there, lifted, elsewhere}
 use Rattle.rox_reading.specs.State.{State, depth_of}
-use Rattle.rox_reading.specs.Lexical.{byte_at, space_at, quote_at, name_at, string_at, chars_up_to, text_to, qname_at}
+use Rattle.rox_reading.specs.Lexical.{has_mark, byte_at, space_at, quote_at, name_at, string_at, chars_up_to, text_to, qname_at}
 use Rattle.rox_reading.specs.Markup.{comment_at, Instruction, instruction_at, cdata_at, EndTag, end_tag_at, pair_at, gap_at, pair_if, xml_decl_at}
 use Rattle.rox_reading.specs.Values.{Next, at_end, opening, data_part, part_text, raw_character_data_at, ReadText, value_at}
 use Rattle.rox_reading.specs.Tags.{TagRead, tag_at}

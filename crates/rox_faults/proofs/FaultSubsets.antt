@@ -35,6 +35,7 @@ use Rattle.rox_reading.specs.Doctype.{Reply, Asks, asks_nothing, ◌>>>◌, Dtd,
 use Rattle.rox_reading.proofs.Forests.{join-nil, join_assoc}
 use Rattle.rox_reading.proofs.Settling.{once}
 use Rattle.rox_theory.specs.ValidState.{IsValidState, state}
+use Rattle.rox_theory.proofs.Productions.{comment_parts, pi_parts}
 use Rattle.rox_theory.proofs.Basics.{ok_same, bind_ok, chosen, run_end_le}
 use Rattle.rox_faults.proofs.NameSpans.{cut_behind}
 use Rattle.rox_theory.proofs.DeclarationLemmas.{stands_reads}
@@ -113,12 +114,12 @@ subset_then src i j k xs ys a b es fs (an_entity _ l _ _ first asked one others 
 -- the last byte of a comment or an instruction is `>`
 misc_last : (src : List ℕ) (i j : ℕ) (item : Item) → IsMisc src i j item → is_space (byte src (j - 1)) ≡ false
 misc_last src i j item (comment _ e _ is) =
-    let last : j - 1 ≡ e + 2 = omega (arith, is.next) in
-    let b : byte src (e + 2) ≡ 62 = stands_reads (word_text word.CommentEnd) src e 2 is.closes (omega arith) in
+    let last : j - 1 ≡ e + 2 = omega (arith, (comment_parts is).next) in
+    let b : byte src (e + 2) ≡ 62 = stands_reads (word_text word.CommentEnd) src e 2 (comment_parts is).closes (omega arith) in
     rw (last, b) refl
 misc_last src i j item (instruction _ n e _ is) =
-    let last : j - 1 ≡ e + 1 = omega (arith, is.next) in
-    let b : byte src (e + 1) ≡ 62 = stands_reads (word_text word.PIEnd) src e 1 is.closes (omega arith) in
+    let last : j - 1 ≡ e + 1 = omega (arith, (pi_parts is).next) in
+    let b : byte src (e + 1) ≡ 62 = stands_reads (word_text word.PIEnd) src e 1 (pi_parts is).closes (omega arith) in
     rw (last, b) refl
 
 -- behind a byte that is no white space

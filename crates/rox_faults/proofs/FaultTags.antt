@@ -40,6 +40,7 @@ use Rattle.rox_reading.specs.Values.{value_at}
 use Rattle.rox_reading.specs.Machine.{values_of, value_opener}
 use Rattle.rox_reading.specs.Machine as machine
 use Rattle.rox_reading.specs.Tags.{Values, TagSoFar, uri_tested, declared, taken, attribute_with, after_tag_item, attributes_at, names_tested, tested_at, tag_tested, tag_at}
+use Rattle.rox_theory.proofs.Productions.{ncname_parts}
 use Rattle.rox_theory.proofs.Basics.{ok_same, bind_ok, chosen, within, run_end_le, chars_sound, byte_sound}
 use Rattle.rox_theory.proofs.NameLemmas.{slice_nil, qname_sound}
 use Rattle.rox_faults.proofs.NameSpans.{run_cut, cut_behind, qname_text}
@@ -72,18 +73,18 @@ quote_fails src i f h =
 name_holds : (src : List ℕ) (i n : ℕ) (name : Name) → IsUtf8 src → IsCharBoundary src i → IsQName src i name n → SpanIs src (prefix_span name i) name.prefix × SpanIs src (local_span name n) name.local
 name_holds src i n name utf8 cut' (unprefixed _ _ is last) =
     let inside = qname_inside src i n _ utf8 cut' (unprefixed i n is last) in
-    let le = run_end_le is_part_char src i in let l = is.longest in
+    let le = run_end_le is_part_char src i in let l = (ncname_parts is).longest in
     let z : i + 0 ≡ i = omega arith in
     (ap (slice src i) z ∙ slice_nil src i, local_holds src (record { prefix = []; local = slice src i n }) i n refl (omega arith) inside)
 name_holds src i n name utf8 cut' (colon_first _ _ colon is last) =
     let inside = qname_inside src i n _ utf8 cut' (colon_first i n colon is last) in
-    let le = run_end_le is_part_char src (i + 1) in let l = is.longest in
+    let le = run_end_le is_part_char src (i + 1) in let l = (ncname_parts is).longest in
     let z : i + 0 ≡ i = omega arith in
     (ap (slice src i) z ∙ slice_nil src i, local_holds src (record { prefix = []; local = slice src (i + 1) n }) (i + 1) n refl (omega arith) inside)
 name_holds src i n name utf8 cut' (prefixed _ k _ front colon is last) =
     let inside = qname_inside src i n _ utf8 cut' (prefixed i k n front colon is last) in
-    let le = run_end_le is_part_char src i in let l = front.longest in
-    let le' = run_end_le is_part_char src (k + 1) in let l' = is.longest in
+    let le = run_end_le is_part_char src i in let l = (ncname_parts front).longest in
+    let le' = run_end_le is_part_char src (k + 1) in let l' = (ncname_parts is).longest in
     let long : length (slice src i k) ≡ k - i = slice_length src i k (omega arith) (omega arith) in
     let z : i + length (slice src i k) ≡ k = omega arith in
     (ap (slice src i) z, local_holds src (record { prefix = slice src i k; local = slice src (k + 1) n }) (k + 1) n refl (omega arith) inside)

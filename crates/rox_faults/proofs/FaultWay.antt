@@ -21,6 +21,7 @@ use Rattle.rox_reading.specs.Machine.{value_opener, opener}
 use Rattle.rox_reading.proofs.Forests.{join_assoc, merge-named}
 use Rattle.rox_theory.specs.Openers.{AreTexts, AgreesValue, AgreesContent}
 use Rattle.rox_theory.specs.ValidState.{AreNamed, IsValidState, state}
+use Rattle.rox_theory.proofs.Productions.{comment_parts, pi_parts, cdata_parts, end_parts, char_data_parts}
 use Rattle.rox_theory.proofs.Basics.{within}
 use Rattle.rox_theory.proofs.Constructions.{Kind, a_run, a_comment, a_cdata, an_instruction, an_end, a_tag, nothing, kind_at, run_within, run_kind, comment_kind, cdata_kind, instruction_kind, end_kind, tag_kind, name_byte, cdata_bytes, end_bytes}
 use Rattle.rox_theory.proofs.Standing.{item-named}
@@ -108,18 +109,18 @@ module _ (main : Bool) (O : Inclusion) (src : List ℕ) (open_around : ℕ) wher
   pub takes_by : (s t : State) → flat.StepsOver main O src open_around s t → By (kind_at src s.at) s t
   takes_by s t (flat.StepsOver.takes_run i j b c items done stack is parts) =
       subst (λ (k : Kind). By k (state i done stack b) (state j (join done items) stack c)) (sym (run_kind src i (run_within src i j is).1)) (j, items, is, parts, refl)
-  takes_by s t (flat.StepsOver.takes_cdata i e j b done stack is) = subst (λ (k : Kind). By k (state i done stack b) t) (sym (cdata_kind src i is.opens)) (e, j, is)
+  takes_by s t (flat.StepsOver.takes_cdata i e j b done stack is) = subst (λ (k : Kind). By k (state i done stack b) t) (sym (cdata_kind src i (cdata_parts is).opens)) (e, j, is)
   takes_by s t (flat.StepsOver.takes_misc i j b item done stack is) = by_item item is
     where
       by_item : (item : Item) → IsMisc src i j item → By (kind_at src i) (state i done stack b) t
-      by_item item (comment _ e _ is) = subst (λ (k : Kind). By k (state i done stack b) t) (sym (comment_kind src i is.opens)) (j, item, comment i e j is)
-      by_item item (instruction _ n e _ is) = subst (λ (k : Kind). By k (state i done stack b) t) (sym (instruction_kind src i is.opens)) (j, item, instruction i n e j is)
+      by_item item (comment _ e _ is) = subst (λ (k : Kind). By k (state i done stack b) t) (sym (comment_kind src i (comment_parts is).opens)) (j, item, comment i e j is)
+      by_item item (instruction _ n e _ is) = subst (λ (k : Kind). By k (state i done stack b) t) (sym (instruction_kind src i (pi_parts is).opens)) (j, item, instruction i n e j is)
   takes_by s t (flat.StepsOver.takes_empty i j b c tag done stack is) =
       subst (λ (k : Kind). By k (state i done stack b) t) (sym (tag_kind src i is.begins (name_byte src (i + 1) tag.name tag.name_end is.is_name))) (j, c, tag, true, is, refl)
   takes_by s t (flat.StepsOver.takes_start i j b c tag done stack is) =
       subst (λ (k : Kind). By k (state i done stack b) t) (sym (tag_kind src i is.begins (name_byte src (i + 1) tag.name tag.name_end is.is_name))) (j, c, tag, false, is, refl)
   takes_by s t (flat.StepsOver.takes_end i p j b start tag done before up deep end) =
-      subst (λ (k : Kind). By k (state i done (inside start tag before up) b) t) (sym (end_kind src i end.opens)) (start, tag, before, up, p, j, refl, deep, end)
+      subst (λ (k : Kind). By k (state i done (inside start tag before up) b) t) (sym (end_kind src i (end_parts end).opens)) (start, tag, before, up, p, j, refl, deep, end)
 
 -- the main text from its root element on
 pub drives_trail : (O : Inclusion) (src : List ℕ) (s u : State) → Drives O src s u → Trail true O src 0 s u
@@ -129,11 +130,11 @@ drives_trail O src s u (chains.goes _ t _ inner takes rest) = follows s t u take
 -- a construct of a place stands within the source
 pub place_within : (k : ℕ) (O : Inclusion) (src : List ℕ) (utf8 : IsUtf8 src) (s t : grammar.State) (b c : ℕ) → StepsOver k O src s b t c → s.at < length src
 place_within k O src utf8 s t b c (takes_run j _ _ items inner is parts named) = (run_within src s.at j is).0
-place_within k O src utf8 s t b c (a_section e j _ inner is) = let two = (cdata_bytes src s.at is.opens).0 in omega arith
+place_within k O src utf8 s t b c (a_section e j _ inner is) = let two = (cdata_bytes src s.at (cdata_parts is).opens).0 in omega arith
 place_within k O src utf8 s t b c (a_misc j _ item inner is) = misc_within src utf8 s.at j item is
 place_within k O src utf8 s t b c (an_empty_tag j _ _ x is named) = let begins = is.begins in within src s.at (λ z. omega arith)
 place_within k O src utf8 s t b c (a_start_tag j _ _ x is named) = let begins = is.begins in within src s.at (λ z. omega arith)
-place_within k O src utf8 s t b c (an_end_tag n j _ start x before up stack is) = let two = (end_bytes src s.at is.opens).0 in omega arith
+place_within k O src utf8 s t b c (an_end_tag n j _ start x before up stack is) = let two = (end_bytes src s.at (end_parts is).opens).0 in omega arith
 
 -- the elements that are open around the innermost one
 up_of : Open → Open → Open
@@ -227,8 +228,8 @@ module _ (opens : ℕ → Inclusion) (es : List Entity) (all : OpensAt opens es)
     takes_there t c (an_empty_tag j _ _ x is named) = flat.StepsOver.takes_empty s.at j b c x s.done s.stack is
     takes_there t c (a_start_tag j _ _ x is named) = flat.StepsOver.takes_start s.at j b c x s.done s.stack is
     takes_there t c (an_end_tag n j _ start x before up stack is) =
-        let below : s.at < length src = let two = (end_bytes src s.at is.opens).0 in omega arith in
-        let there = there_by k open_around src (state_of s b) r an_end below (end_kind src s.at is.opens) in
+        let below : s.at < length src = let two = (end_bytes src s.at (end_parts is).opens).0 in omega arith in
+        let there = there_by k open_around src (state_of s b) r an_end below (end_kind src s.at (end_parts is).opens) in
         let same : there.3 ≡ up = ap (up_of root) (sym there.6 ∙ stack) in
         let deep : open_around < depth_of up + 1 = subst (λ (up : Open). open_around < depth_of up + 1) same there.7 in
         subst (λ (o : Open). flat.StepsOver (is_main k) (opens k) src open_around (state s.at s.done o b) (state_of t b)) (sym stack) (flat.StepsOver.takes_end s.at n j b start x s.done before up deep is)
@@ -273,7 +274,7 @@ module _ (opens : ℕ → Inclusion) (es : List Entity) (all : OpensAt opens es)
     opened_there stop p c j front t is to below refers =
         let inside = run_within src s.at stop is in
         let there = run_there inside.0 inside.1 in
-        let run : RunThere stop = subst RunThere (there.1.end ∙ sym is.end) there.2 in
+        let run : RunThere stop = subst RunThere ((char_data_parts there.1).end ∙ sym (char_data_parts is).end) there.2 in
         (run, parts_front (is_main k) (opens k) (all.once k) src s.at stop p s.at refers.n j b c run.openings_left front run.items to run.parts below refers.is_reference refers.no_character)
 
     -- so the way leads into that text

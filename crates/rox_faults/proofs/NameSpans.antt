@@ -15,6 +15,7 @@ use Rattle.rox_grammar.specs.NameParts.{local_span, prefix_span}
 use Rattle.rox_grammar.specs.Names.{byte, slice, IsQName, unprefixed, prefixed, colon_first}
 use Rattle.rox_reading.specs.Lexical.{qname_at}
 use Rattle.rox_reading.specs.Machine.{name_span}
+use Rattle.rox_theory.proofs.Productions.{ncname_parts}
 use Rattle.rox_theory.proofs.Basics.{within, run_end_le}
 use Rattle.rox_theory.proofs.NameLemmas.{qname_sound}
 
@@ -80,12 +81,12 @@ NameText src i name n = IsTextSpan src (prefix_span name i) × IsTextSpan src (l
 -- those of a name that stands there are
 pub qname_text : (src : List ℕ) (i : ℕ) (name : Name) (n : ℕ) → IsUtf8 src → IsCharBoundary src i → IsQName src i name n → NameText src i name n
 qname_text src i name n utf8 cut (unprefixed _ _ is last) =
-    let e = is.longest in
+    let e = (ncname_parts is).longest in
     let le = run_end_le is_part_char src i in
     let end = subst (IsCharBoundary src) (sym e) (run_cut is_part_char src i utf8 cut) in
     (prefix_none src name i refl cut, local_is src name i n refl (omega arith) cut end, text_span src i n (omega arith) cut end, end)
 qname_text src i name n utf8 cut (prefixed _ k _ front colon is last) =
-    let e = front.longest in let f = is.longest in
+    let e = (ncname_parts front).longest in let f = (ncname_parts is).longest in
     let le = run_end_le is_part_char src i in
     let le' = run_end_le is_part_char src (k + 1) in
     let middle = subst (IsCharBoundary src) (sym e) (run_cut is_part_char src i utf8 cut) in
@@ -93,7 +94,7 @@ qname_text src i name n utf8 cut (prefixed _ k _ front colon is last) =
     let end = subst (IsCharBoundary src) (sym f) (run_cut is_part_char src (k + 1) utf8 next) in
     (prefix_is src name i k refl (omega arith) cut middle, local_is src name (k + 1) n refl (omega arith) next end, text_span src i n (omega arith) cut end, end)
 qname_text src i name n utf8 cut (colon_first _ _ colon is last) =
-    let f = is.longest in
+    let f = (ncname_parts is).longest in
     let le = run_end_le is_part_char src (i + 1) in
     let next = cut_behind src i 58 utf8 colon (omega arith) (omega arith) in
     let end = subst (IsCharBoundary src) (sym f) (run_cut is_part_char src (i + 1) utf8 next) in

@@ -9,6 +9,7 @@ use Rattle.rox_grammar.specs.Content.{Inclusion, DataByte, last_part, then_entit
 use Rattle.rox_grammar.specs.RunParts.{Parts}
 use Rattle.rox_grammar.specs.RunParts.{PartsTo}
 use Rattle.rox_reading.proofs.Forests.{join_assoc}
+use Rattle.rox_theory.proofs.Productions.{reference_parts}
 use Rattle.rox_theory.proofs.ReferenceLemmas.{character_opens, reference_opens}
 use Rattle.rox_theory.proofs.PartLemmas.{part_le}
 use Rattle.rox_theory.proofs.PartOnce.{no_entity_here, character_ends, entity_ends, part_once, parts_le, OpensOnce}
@@ -120,9 +121,9 @@ module _ (main : Bool) (O : Inclusion) (once : SpendsOnce O) (src : List ℕ) wh
 
   value_to_front : (stop i p n j b c d : ℕ) (v : List ℕ) → ValueTo O src i p b c → Value main O src stop i b d v → p < stop → IsReference src p n j → predefined (slice src (p + 1) n) ≡ None → OpensThere p n c
   value_to_front stop i p n j b c d v (over_none _ _) (value_ends _) below r none = absurd (omega arith)
-  value_to_front stop i p n j b c d v (over_none _ _) (line_end _ _ _ _ more cr lf rest) below r none = let amp = r.opens in absurd (omega arith)
-  value_to_front stop i p n j b c d v (over_none _ _) (white _ _ _ w more is rest) below r none = absurd (white_no_amp main O src stop i is r.opens)
-  value_to_front stop i p n j b c d v (over_none _ _) (other _ _ _ w more no_amp x₂ x₃ x₄ x₅ rest) below r none = absurd (no_amp r.opens)
+  value_to_front stop i p n j b c d v (over_none _ _) (line_end _ _ _ _ more cr lf rest) below r none = let amp = (reference_parts r).opens in absurd (omega arith)
+  value_to_front stop i p n j b c d v (over_none _ _) (white _ _ _ w more is rest) below r none = absurd (white_no_amp main O src stop i is (reference_parts r).opens)
+  value_to_front stop i p n j b c d v (over_none _ _) (other _ _ _ w more no_amp x₂ x₃ x₄ x₅ rest) below r none = absurd (no_amp (reference_parts r).opens)
   value_to_front stop i p n j b c d v (over_none _ _) (a_character _ m x _ _ w is less allowed rest) below r none = absurd (no_entity_here src i x m n j is r none)
   value_to_front stop i p n j b c d v (over_none _ _) (an_entity _ m k _ e _ u w r' none' less opens rest) below r none =
       let ends = entity_ends src i m n k j r' r in (u, e, subst (λ (m : ℕ). O.value (slice src (i + 1) m) b u e) ends.0 opens)
@@ -131,7 +132,7 @@ module _ (main : Bool) (O : Inclusion) (once : SpendsOnce O) (src : List ℕ) wh
   value_to_front stop i p n j b c d v (over_byte _ _ _ _ no_amp to) (white _ _ _ w more is rest) below r none = value_to_front stop (i + 1) p n j b c d w to rest below r none
   value_to_front stop i p n j b c d v (over_byte _ _ _ _ no_amp to) (other _ _ _ w more x₁ x₂ x₃ x₄ x₅ rest) below r none = value_to_front stop (i + 1) p n j b c d w to rest below r none
   value_to_front stop i p n j b c d v (over_byte _ _ _ _ no_amp to) (a_character _ m x _ _ w is less allowed rest) below r none = absurd (no_amp (character_opens src i x m is).0)
-  value_to_front stop i p n j b c d v (over_byte _ _ _ _ no_amp to) (an_entity _ m k _ e _ u w r' none' less opens rest) below r none = absurd (no_amp r'.opens)
+  value_to_front stop i p n j b c d v (over_byte _ _ _ _ no_amp to) (an_entity _ m k _ e _ u w r' none' less opens rest) below r none = absurd (no_amp (reference_parts r').opens)
   value_to_front stop i p n j b c d v (over_character _ m x _ _ _ is to) (value_ends _) below r none = absurd (omega (arith, character_opens src i x m is, value_to_le main O src m p b c to))
   value_to_front stop i p n j b c d v (over_character _ m x _ _ _ is to) (line_end _ _ _ _ more cr lf rest) below r none = let amp = (character_opens src i x m is).0 in absurd (omega arith)
   value_to_front stop i p n j b c d v (over_character _ m x _ _ _ is to) (white _ _ _ w more is' rest) below r none = absurd (white_no_amp main O src stop i is' (character_opens src i x m is).0)
@@ -140,9 +141,9 @@ module _ (main : Bool) (O : Inclusion) (once : SpendsOnce O) (src : List ℕ) wh
       let same = (character_ends src i x' x m' m is' is).1 in value_to_front stop m p n j b c d w to (subst (λ (m : ℕ). Value main O src stop m b d w) same rest) below r none
   value_to_front stop i p n j b c d v (over_character _ m x _ _ _ is to) (an_entity _ m' k _ e _ u w r' none' less opens rest) below r none = absurd (no_entity_here src i x m m' k is r' none')
   value_to_front stop i p n j b c d v (over_entity _ m k _ _ e _ u r' none' opens to) (value_ends _) below r none = absurd (omega (arith, reference_opens src i m k r', value_to_le main O src k p e c to))
-  value_to_front stop i p n j b c d v (over_entity _ m k _ _ e _ u r' none' opens to) (line_end _ _ _ _ more cr lf rest) below r none = let amp = r'.opens in absurd (omega arith)
-  value_to_front stop i p n j b c d v (over_entity _ m k _ _ e _ u r' none' opens to) (white _ _ _ w more is rest) below r none = absurd (white_no_amp main O src stop i is r'.opens)
-  value_to_front stop i p n j b c d v (over_entity _ m k _ _ e _ u r' none' opens to) (other _ _ _ w more no_amp x₂ x₃ x₄ x₅ rest) below r none = absurd (no_amp r'.opens)
+  value_to_front stop i p n j b c d v (over_entity _ m k _ _ e _ u r' none' opens to) (line_end _ _ _ _ more cr lf rest) below r none = let amp = (reference_parts r').opens in absurd (omega arith)
+  value_to_front stop i p n j b c d v (over_entity _ m k _ _ e _ u r' none' opens to) (white _ _ _ w more is rest) below r none = absurd (white_no_amp main O src stop i is (reference_parts r').opens)
+  value_to_front stop i p n j b c d v (over_entity _ m k _ _ e _ u r' none' opens to) (other _ _ _ w more no_amp x₂ x₃ x₄ x₅ rest) below r none = absurd (no_amp (reference_parts r').opens)
   value_to_front stop i p n j b c d v (over_entity _ m k _ _ e _ u r' none' opens to) (a_character _ m' x _ _ w is less allowed rest) below r none = absurd (no_entity_here src i x m' m k is r' none')
   value_to_front stop i p n j b c d v (over_entity _ m k _ _ e _ u r' none' opens to) (an_entity _ m' k' _ e' _ u' w r'' none'' less opens' rest) below r none =
       let ends = entity_ends src i m' m k' k r'' r' in

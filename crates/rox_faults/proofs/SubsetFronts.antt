@@ -20,6 +20,7 @@ use Rattle.rox_grammar.specs.Doctype.{IsPassed}
 use Rattle.rox_reading.specs.Doctype.{external_id_at, notation_at, kind_at, external_id_if, answer_text}
 use Rattle.rox_reading.proofs.Forests.{join-nil}
 use Rattle.rox_theory.specs.Answers.{SameAnswers}
+use Rattle.rox_theory.proofs.Productions.{comment_parts, pi_parts}
 use Rattle.rox_theory.proofs.DeclarationLemmas.{stands_reads}
 use Rattle.rox_theory.proofs.Constructions.{comment_bytes, instruction_bytes}
 use Rattle.rox_theory.proofs.DoctypeLemmas.{external_complete, external_byte, notation_complete, kind_complete, if_complete}
@@ -39,8 +40,8 @@ module _ (src : List ℕ) where
   -- ---- which item stands at a place
 
   pub misc_opens : (i j : ℕ) (x : Item) → IsMisc src i j x → OpensItem src i
-  misc_opens i j x (comment _ e _ is) = inl is.opens
-  misc_opens i j x (instruction _ n e _ is) = inr is.opens
+  misc_opens i j x (comment _ e _ is) = inl (comment_parts is).opens
+  misc_opens i j x (instruction _ n e _ is) = inr (pi_parts is).opens
 
   pub item_less : (i : ℕ) → OpensItem src i → byte src i ≡ 60
   item_less i (inl c) = (comment_bytes src i c).1

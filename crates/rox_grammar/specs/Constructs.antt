@@ -1,12 +1,12 @@
 -- The constructs that hold no others.
 use Prim.Native.Char.{code}
 use Prim.Native.String.{String}
-use Rattle.std.specs.Prelude.{◌≡◌, ◌≢◌, ℕ, ◌+◌, ◌-◌, ◌<◌, ◌⊎◌, ◌==◌, Bool, true, false, List, length, take, nat_lt, codes}
+use Rattle.std.specs.Prelude.{◌≡◌, ℕ, ◌+◌, ◌<◌, ◌⊎◌, ◌==◌, Bool, true, false, List, length, take, codes}
 use Rattle.rox_grammar.specs.Chars.{is_char}
 use Rattle.rox_grammar.specs.Runs.{run_end}
-use Rattle.rox_grammar.specs.Search.{stands, before_mark, mark_from, byte_from}
+use Rattle.rox_grammar.specs.Search.{stands, mark_from, byte_from}
 use Rattle.rox_grammar.specs.Written.{Name}
-use Rattle.rox_grammar.specs.Names.{byte, slice, spaces_end, IsName, IsQName}
+use Rattle.rox_grammar.specs.Names.{byte, spaces_end, IsName, IsQName}
 
 -- the text stands at i
 abbrev pub text_at : String → List ℕ → ℕ → Bool
@@ -20,38 +20,19 @@ first_text text src i = mark_from (codes text) src i
 abbrev pub AreChars : List ℕ → ℕ → ℕ → Type 0
 AreChars src i j = run_end is_char (take j src) i ≡ j
 
--- the mark stands somewhere in the text
-abbrev pub has_mark : List ℕ → List ℕ → Bool
-has_mark mark text = nat_lt (before_mark mark text) (length text)
-
--- XML 2.5 [15] Comment; its text ends at e, and holds no two dashes
-pub record IsComment (src : List ℕ) (i e j : ℕ) : Type 0 where
-  pub opens : text_at "<!--" src i ≡ true
-  pub end : e ≡ first_text "-->" src (i + 4)
-  pub chars : AreChars src (i + 4) e
-  pub closes : text_at "-->" src e ≡ true
-  pub no_dashes : has_mark (codes "--") (slice src (i + 4) e) ≡ false
-  pub no_last : byte (slice src (i + 4) e) (length (slice src (i + 4) e) - 1) ≢ code "-"
-  pub next : j ≡ e + 3
+-- XML 2.5 [15] Comment; its text ends at e, where its first two dashes stand: it holds no two, nor one at its end
+pub data IsComment (src : List ℕ) (i e : ℕ) : ℕ → Type 0 where
+  comment : text_at "<!--" src i ≡ true → e ≡ first_text "--" src (i + 4) → AreChars src (i + 4) e → text_at "-->" src e ≡ true → IsComment src i e (e + 3)
 
 -- XML 2.6 [16] PI; its target ends at n, and its value at e. White space behind the target may be none, and of the names only
 -- `xml` with a space behind it is no target: 2.6 [17] wants white space and forbids `xml` in any letters, NS 7 a colon.
-pub record IsPI (src : List ℕ) (i n e j : ℕ) : Type 0 where
-  pub opens : text_at "<?" src i ≡ true
-  pub no_declaration : text_at "<?xml " src i ≡ false
-  pub target : IsName src (i + 2) n
-  pub end : e ≡ first_text "?>" src (spaces_end src n)
-  pub chars : AreChars src (spaces_end src n) e
-  pub closes : text_at "?>" src e ≡ true
-  pub next : j ≡ e + 2
+pub data IsPI (src : List ℕ) (i n e : ℕ) : ℕ → Type 0 where
+  pi : text_at "<?" src i ≡ true → text_at "<?xml " src i ≡ false → IsName src (i + 2) n → e ≡ first_text "?>" src (spaces_end src n)
+      → AreChars src (spaces_end src n) e → text_at "?>" src e ≡ true → IsPI src i n e (e + 2)
 
 -- XML 2.7 [18] CDSect; its text ends at e
-pub record IsCData (src : List ℕ) (i e j : ℕ) : Type 0 where
-  pub opens : text_at "<![CDATA[" src i ≡ true
-  pub end : e ≡ first_text "]]>" src (i + 9)
-  pub chars : AreChars src (i + 9) e
-  pub closes : text_at "]]>" src e ≡ true
-  pub next : j ≡ e + 3
+pub data IsCData (src : List ℕ) (i e : ℕ) : ℕ → Type 0 where
+  cd_sect : text_at "<![CDATA[" src i ≡ true → e ≡ first_text "]]>" src (i + 9) → AreChars src (i + 9) e → text_at "]]>" src e ≡ true → IsCData src i e (e + 3)
 
 -- XML 2.3 [25] Eq
 pub record IsEq (src : List ℕ) (i j : ℕ) : Type 0 where
@@ -106,8 +87,5 @@ pub record IsXmlDecl (src : List ℕ) (i j : ℕ) : Type 0 where
   pub next : j ≡ s + 2
 
 -- XML 3.1 [42] ETag; its name ends at n
-pub record IsEnd (src : List ℕ) (i : ℕ) (name : Name) (n j : ℕ) : Type 0 where
-  pub opens : text_at "</" src i ≡ true
-  pub is_name : IsQName src (i + 2) name n
-  pub closes : byte src (spaces_end src n) ≡ code ">"
-  pub next : j ≡ spaces_end src n + 1
+pub data IsEnd (src : List ℕ) (i : ℕ) (name : Name) (n : ℕ) : ℕ → Type 0 where
+  end_tag : text_at "</" src i ≡ true → IsQName src (i + 2) name n → byte src (spaces_end src n) ≡ code ">" → IsEnd src i name n (spaces_end src n + 1)

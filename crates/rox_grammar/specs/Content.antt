@@ -1,6 +1,6 @@
 -- Character data, attribute values, tags, elements and content, each as a relation between two places of one source.
 use Prim.Native.Char.{code}
-use Rattle.std.specs.Prelude.{◌≡◌, ◌≢◌, ℕ, ◌+◌, ◌<◌, ◌≤◌, ◌⊎◌, ◌==◌, ◌||◌, Bool, true, false, not, List, [], ◌∷◌, ◌++◌, None, map, if◌then◌else◌, codes}
+use Rattle.std.specs.Prelude.{◌≡◌, ◌≢◌, ℕ, ◌+◌, ◌<◌, ◌≤◌, ◌⊎◌, ◌==◌, ◌||◌, Bool, true, false, not, List, [], ◌∷◌, ◌++◌, None, map, if◌then◌else◌}
 use Rattle.std.specs.List.{list_any}
 use Rattle.std.specs.Char.{encode_utf8}
 use Rattle.rox_grammar.specs.Runs.{first_passes}
@@ -9,7 +9,7 @@ use Rattle.rox_grammar.specs.Forest.{Forest, Nil, Cons, join}
 use Rattle.rox_grammar.specs.Written.{Attribute, Tag, Item, Element, Text, Comment, PI, namespace_decls_of, plain_attributes_of, merge, leaf}
 use Rattle.rox_grammar.specs.Tree.{none_if_empty}
 use Rattle.rox_grammar.specs.Names.{byte, slice, spaces_end, IsQName}
-use Rattle.rox_grammar.specs.Constructs.{AreChars, has_mark, IsComment, IsPI, IsCData, IsEq, IsLiteral, IsEnd}
+use Rattle.rox_grammar.specs.Constructs.{first_text, AreChars, IsComment, IsPI, IsCData, IsEq, IsLiteral, IsEnd}
 use Rattle.rox_grammar.specs.References.{IsReference, IsCharacter, predefined}
 
 -- What a reference to a name means: in content, with this many openings left, these items, and so many are left then;
@@ -73,12 +73,9 @@ pub data Part (main : Bool) (src : List ℕ) (j : ℕ) : ℕ → List DataByte �
   as_written : (i : ℕ) (ss : List DataByte) → i < j → byte src i ≢ code "&" → Part main src j (i + 1) ss → Part main src j i (literal (byte src i) ∷ ss)
   from_reference : (i n c : ℕ) (ss : List DataByte) → IsCharacter src i c n → n ≤ j → Part main src j n ss → Part main src j i (data_bytes_of main (encode_utf8 c) ++ ss)
 
--- XML 2.4: a run reaches to the next `<` or the end
-pub record IsCharacterData (src : List ℕ) (i j : ℕ) : Type 0 where
-  pub some : i < j
-  pub end : j ≡ byte_from (λ c. c == code "<") src i
-  pub chars : AreChars src i j
-  pub no_end_mark : has_mark (codes "]]>") (slice src i j) ≡ false
+-- XML 2.4: a run reaches to the next `<` or the end, and no `]]>` begins in it
+pub data IsCharacterData (src : List ℕ) (i j : ℕ) : Type 0 where
+  character_data : i < j → j ≡ byte_from (λ c. c == code "<") src i → AreChars src i j → j ≤ first_text "]]>" src i → IsCharacterData src i j
 
 -- a character from a reference in a value: within a replacement text white space gives a space, where XML 3.3.3 keeps it
 abbrev pub value_bytes : Bool → ℕ → List ℕ

@@ -1,6 +1,6 @@
 -- Which fault may be named of a text, and where: what stands there. Each row says all that the fault says.
 use Prim.Native.Char.{code}
-use Rattle.std.specs.Prelude.{◌≡◌, ◌≢◌, ◌⊎◌, ℕ, ◌+◌, ◌-◌, ◌<◌, ◌≤◌, ◌==◌, Bool, true, false, List, [], ◌∷◌, ◌++◌, None, length, bytes_eq, if◌then◌else◌, codes}
+use Rattle.std.specs.Prelude.{◌≡◌, ◌≢◌, ◌⊎◌, ℕ, ◌+◌, ◌<◌, ◌≤◌, ◌==◌, Bool, true, false, List, [], ◌∷◌, ◌++◌, None, length, bytes_eq, if◌then◌else◌, codes}
 use Rattle.std.specs.List.{list_any}
 use Rattle.rox_grammar.specs.declared.fault.Span.{Span}
 use Rattle.rox_grammar.specs.declared.fault.Expected.TheVariants as expected
@@ -14,7 +14,7 @@ use Rattle.rox_grammar.specs.Forest.{Forest, join, size}
 use Rattle.rox_grammar.specs.Written.{Name, Attribute, NamespaceDecl, Tag, Item, is_namespace_decl, namespace_decl_of, namespace_decls_of, plain_attributes_of, leaf}
 use Rattle.rox_grammar.specs.Tree.{xml_uri, xmlns_uri, is_declared, listed, listable_of, is_xml}
 use Rattle.rox_grammar.specs.Names.{byte, slice, spaces_end, IsQName}
-use Rattle.rox_grammar.specs.Constructs.{text_at, first_text, has_mark, AreChars, IsPair, IsEnd}
+use Rattle.rox_grammar.specs.Constructs.{text_at, first_text, AreChars, IsPair, IsEnd}
 use Rattle.rox_grammar.specs.References.{IsReference, IsCharacter, predefined}
 use Rattle.rox_grammar.specs.Content.{Inclusion, Parts, IsCharacterData, Value, IsAttribute, TagEnds, IsMisc}
 use Rattle.rox_grammar.specs.WellNamed.{may_declare, is_known, same_expanded, AreDistinct, may_name, AreWellNamed}
@@ -36,8 +36,8 @@ SpanIs src span bytes = slice src span.start span.end ≡ bytes
 pub data InMisc (src : List ℕ) (i : ℕ) : Fault → Type 0 where
   comment_lacks : (p : ℕ) (t : DueItem) (f : Fault) → text_at "<!--" src i ≡ true → DueInText expected.CommentEnd src (i + 4) p t → IsMissing src p t f → InMisc src i f
   -- two dashes in the text, or one at its end
-  double_dashes : (e : ℕ) → text_at "<!--" src i ≡ true → e ≡ first_text "-->" src (i + 4) → AreChars src (i + 4) e → text_at "-->" src e ≡ true
-      → (has_mark (codes "--") (slice src (i + 4) e) ≡ true) ⊎ (byte (slice src (i + 4) e) (length (slice src (i + 4) e) - 1) ≡ code "-") → InMisc src i (fault.InvalidComment i)
+  double_dashes : (e : ℕ) → text_at "<!--" src i ≡ true → e ≡ first_text "-->" src (i + 4) → AreChars src (i + 4) e → text_at "-->" src e ≡ true → first_text "--" src (i + 4) < e
+      → InMisc src i (fault.InvalidComment i)
   a_declaration : text_at "<?xml " src i ≡ true → InMisc src i (fault.UnexpectedDeclaration i)
   instruction_lacks : (p : ℕ) (t : DueItem) (f : Fault) → text_at "<?" src i ≡ true → text_at "<?xml " src i ≡ false → DueInPI src i p t → IsMissing src p t f → InMisc src i f
 
@@ -55,10 +55,9 @@ pub data InReferences (es : List Entity) (src : List ℕ) (p : ℕ) : Fault → 
 -- ---- in a run that begins at i (XML 2.4), where k replacement texts are open and b openings are left
 pub data InRun (es : List Entity) (k : ℕ) (Includes : Inclusion) (src : List ℕ) (i b : ℕ) : Fault → Type 0 where
   no_char : (f : Fault) → IsMissing src i (chars_to (byte_from (λ c. c == code "<") src i)) f → InRun es k Includes src i b f
-  end_mark : (e : ℕ) → e ≡ byte_from (λ c. c == code "<") src i → AreChars src i e → has_mark (codes "]]>") (slice src i e) ≡ true → InRun es k Includes src i b (fault.InvalidCharacterData e)
+  end_mark : (e : ℕ) → e ≡ byte_from (λ c. c == code "<") src i → AreChars src i e → first_text "]]>" src i < e → InRun es k Includes src i b (fault.InvalidCharacterData e)
   -- any of its references
-  in_reference : (e p : ℕ) (f : Fault) → e ≡ byte_from (λ c. c == code "<") src i → AreChars src i e → has_mark (codes "]]>") (slice src i e) ≡ false
-      → i ≤ p → p < e → InReferences es src p f → InRun es k Includes src i b f
+  in_reference : (e p : ℕ) (f : Fault) → IsCharacterData src i e → i ≤ p → p < e → InReferences es src p f → InRun es k Includes src i b f
   -- the first one that may open none
   too_many : (stop p j c : ℕ) (front : Forest Item) (t : Replacement) → IsCharacterData src i stop → Parts (is_main k) Includes src false i stop p i b c front → p < stop → RefersTo es src p j t → IsSpent k c
       → InRun es k Includes src i b (fault.EntityReferenceLoop j)

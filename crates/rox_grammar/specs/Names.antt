@@ -23,10 +23,8 @@ pub record IsName (src : List ℕ) (i j : ℕ) : Type 0 where
   pub longest : j ≡ run_end is_name_char src i
 
 -- NS 3 [4] NCName, a name without colon, the longest
-pub record IsNCName (src : List ℕ) (i j : ℕ) : Type 0 where
-  pub starts : begins is_name_start src i ≡ true
-  pub no_colon : byte src i ≢ code ":"
-  pub longest : j ≡ run_end is_part_char src i
+pub data IsNCName (src : List ℕ) (i : ℕ) : ℕ → Type 0 where
+  ncname : begins is_name_start src i ≡ true → byte src i ≢ code ":" → IsNCName src i (run_end is_part_char src i)
 
 -- NS 4 [7] QName. No second colon follows. A colon may also stand in front, which NS 4 forbids, and the prefix is
 -- empty then.

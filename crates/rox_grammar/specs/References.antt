@@ -38,25 +38,17 @@ predefined name =
     else None
 
 -- digits from d up to e, then `;`, of a Char below 2^32
-pub record IsNumber (base : ℕ) (is : ℕ → Bool) (src : List ℕ) (d e c j : ℕ) : Type 0 where
-  pub end : e ≡ bytes_end is src d
-  pub some : d < e
-  pub closes : byte src e ≡ code ";"
-  pub small : number base (slice src d e) < 2 ^ 32
-  pub is_character : c ≡ character (number base (slice src d e))
-  pub allowed : is_char c ≡ true
-  pub next : j ≡ e + 1
+pub data IsNumber (base : ℕ) (is : ℕ → Bool) (src : List ℕ) (d c : ℕ) : ℕ → Type 0 where
+  digits : (e : ℕ) → e ≡ bytes_end is src d → d < e → byte src e ≡ code ";" → number base (slice src d e) < 2 ^ 32 → c ≡ character (number base (slice src d e))
+      → is_char c ≡ true → IsNumber base is src d c (e + 1)
 
 -- XML 4.1 [68] `&`, a name up to n, and `;`. The name may have colons, which NS 7 forbids.
-pub record IsReference (src : List ℕ) (i n j : ℕ) : Type 0 where
-  pub opens : byte src i ≡ code "&"
-  pub name : IsName src (i + 1) n
-  pub closes : byte src n ≡ code ";"
-  pub next : j ≡ n + 1
+pub data IsReference (src : List ℕ) (i n : ℕ) : ℕ → Type 0 where
+  entity_ref : byte src i ≡ code "&" → IsName src (i + 1) n → byte src n ≡ code ";" → IsReference src i n (n + 1)
 
 -- XML 4.1 [66], 4.6: from i up to j a reference to the character c
 pub data IsCharacter (src : List ℕ) : ℕ → ℕ → ℕ → Type 0 where
-  decimal : (i e c j : ℕ) → byte src i ≡ code "&" → byte src (i + 1) ≡ code "#" → IsNumber 10 is_digit src (i + 2) e c j → IsCharacter src i c j
-  hexadecimal : (i e c j : ℕ) → byte src i ≡ code "&" → byte src (i + 1) ≡ code "#" → byte src (i + 2) ≡ code "x" → IsNumber 16 is_hex_digit src (i + 3) e c j
+  decimal : (i c j : ℕ) → byte src i ≡ code "&" → byte src (i + 1) ≡ code "#" → IsNumber 10 is_digit src (i + 2) c j → IsCharacter src i c j
+  hexadecimal : (i c j : ℕ) → byte src i ≡ code "&" → byte src (i + 1) ≡ code "#" → byte src (i + 2) ≡ code "x" → IsNumber 16 is_hex_digit src (i + 3) c j
       → IsCharacter src i c j
   named : (i n c j : ℕ) → IsReference src i n j → predefined (slice src (i + 1) n) ≡ Some c → IsCharacter src i c j

@@ -1,13 +1,14 @@
 -- Each construct ends behind the place where it begins.
 use Rattle.std.proofs.Common.{ℕ, ◌+◌, ◌<◌, ◌≤◌, Bool, true, List, arith}
 use Rattle.rox_grammar.specs.declared.fault.Word.TheVariants as word
-use Rattle.rox_grammar.specs.FixedTexts.{word_text}
+use Rattle.rox_grammar.specs.FixedTexts.{word_text, double_dash}
 use Rattle.rox_grammar.specs.Chars.{is_space, is_name_char}
 use Rattle.rox_grammar.specs.Written.{Name, Attribute, Tag, Item}
 use Rattle.rox_grammar.specs.Names.{spaces_end}
 use Rattle.rox_grammar.specs.Constructs.{IsCData, IsEnd}
 use Rattle.rox_grammar.specs.Content.{IsAttribute, Attributes, no_more, one_more, TagEnds, opened, closed, IsTag, IsMisc, comment, instruction}
 use Rattle.rox_grammar.specs.Entities.{no_entities}
+use Rattle.rox_theory.proofs.Productions.{comment_parts, pi_parts, cdata_parts, end_parts}
 use Rattle.rox_theory.proofs.Basics.{mark_from_le, run_end_le}
 use Rattle.rox_theory.proofs.NameLemmas.{qname_le}
 use Rattle.rox_theory.proofs.LiteralLemmas.{literal_le}
@@ -15,13 +16,13 @@ use Rattle.rox_theory.proofs.LiteralLemmas.{literal_le}
 -- a comment or an instruction
 pub misc_forward : (src : List ℕ) (i j : ℕ) (item : Item) → IsMisc src i j item → i < j
 misc_forward src i j item (comment _ e _ is) =
-    omega (arith, is.end, is.next, mark_from_le (word_text word.CommentEnd) src (i + 4))
+    omega (arith, (comment_parts is).dashes, (comment_parts is).next, mark_from_le double_dash src (i + 4))
 misc_forward src i j item (instruction _ n e _ is) =
     omega (
       arith,
-      is.target.longest,
-      is.end,
-      is.next,
+      (pi_parts is).target.longest,
+      (pi_parts is).end,
+      (pi_parts is).next,
       run_end_le is_name_char src (i + 2),
       run_end_le is_space src n,
       mark_from_le (word_text word.PIEnd) src (spaces_end src n),
@@ -29,11 +30,11 @@ misc_forward src i j item (instruction _ n e _ is) =
 
 -- a section
 pub cdata_forward : (src : List ℕ) (i e j : ℕ) → IsCData src i e j → i < j
-cdata_forward src i e j is = omega (arith, is.end, is.next, mark_from_le (word_text word.CDataEnd) src (i + 9))
+cdata_forward src i e j is = omega (arith, (cdata_parts is).end, (cdata_parts is).next, mark_from_le (word_text word.CDataEnd) src (i + 9))
 
 -- an end tag
 pub end_forward : (src : List ℕ) (i : ℕ) (name : Name) (n j : ℕ) → IsEnd src i name n j → i < j
-end_forward src i name n j is = omega (arith, is.next, qname_le src (i + 2) name n is.is_name, run_end_le is_space src n)
+end_forward src i name n j is = omega (arith, (end_parts is).next, qname_le src (i + 2) name n (end_parts is).is_name, run_end_le is_space src n)
 
 -- an attribute, and attributes in a row
 pub attribute_forward : (src : List ℕ) (i j b c : ℕ) (a : Attribute) → IsAttribute true no_entities src i j b c a → i < j

@@ -6,6 +6,7 @@ use Rattle.rox_grammar.specs.Tree.{Node, scope_in, resolved}
 use Rattle.rox_grammar.specs.Content.{DataByte, piece, last_part, then_entity, IsMisc, comment, instruction, IsElement, empty, nest, Content, ends, run, cdata, misc, node}
 use Rattle.rox_grammar.specs.RunParts.{Parts}
 use Rattle.rox_grammar.specs.Document.{Misc, no_misc, space, an_item, ParseOf, IsTreeOf}
+use Rattle.rox_theory.proofs.Productions.{char_data_parts}
 use Rattle.rox_theory.proofs.Without.{parse_without}
 use Rattle.rox_grammar.specs.Entities.{no_entities}
 use Rattle.rox_reading.proofs.Forests.{join-nil}
@@ -85,7 +86,7 @@ mutual
   content_nested : (src : List ℕ) (i j b c : ℕ) (items : Forest Item) → Content true no_entities src i j b c items → Nested i j items
   content_nested src i j b c items (ends _ _) = omega arith
   content_nested src i j b c items (run _ k _ _ d _ front more is parts inner) =
-      nested_join i k j front more (parts_nested src i k i b d front is.some parts) (content_nested src k j d c more inner)
+      nested_join i k j front more (parts_nested src i k i b d front (char_data_parts is).some parts) (content_nested src k j d c more inner)
   content_nested src i j b c items (cdata _ e k _ _ _ more is inner) =
       (omega arith, cdata_forward src i e k is, refl, content_nested src k j b c more inner)
   content_nested src i j b c items (misc _ k _ _ _ item more is inner) =

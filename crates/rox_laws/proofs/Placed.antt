@@ -29,6 +29,7 @@ use Rattle.rox_grammar.specs.Due as due
 use Rattle.rox_grammar.specs.ContentPoints.{TagBegins, of_root, in_content}
 use Rattle.rox_grammar.specs.Faults.{InMisc, InReferences, InRun, InValue, IllDeclared, IllNamed, cut_off, InTag, InEnd, Stands, FaultFrom}
 use Rattle.rox_grammar.specs.Faults as rows
+use Rattle.rox_theory.proofs.Productions.{ncname_parts, reference_parts}
 use Rattle.rox_theory.proofs.Basics.{within}
 use Rattle.rox_theory.proofs.Constructions.{comment_bytes, instruction_bytes, end_bytes}
 use Rattle.rox_theory.proofs.DeclarationLemmas.{stands_reads, stands_fits}
@@ -58,20 +59,20 @@ char_within c src i is =
     omega (arith, ap length is, length-append (encode_utf8 c) (drop (i + len_utf8 c) src), encode_some c, length-drop i src)
 
 qname_within : (src : List ℕ) (i : ℕ) (name : Name) (j : ℕ) → IsQName src i name j → i < length src
-qname_within src i name j (unprefixed _ _ part no_colon) = begins_within is_name_start src i part.starts
-qname_within src i name j (prefixed _ k _ part colon more no_colon) = begins_within is_name_start src i part.starts
+qname_within src i name j (unprefixed _ _ part no_colon) = begins_within is_name_start src i (ncname_parts part).starts
+qname_within src i name j (prefixed _ k _ part colon more no_colon) = begins_within is_name_start src i (ncname_parts part).starts
 qname_within src i name j (colon_first _ _ colon part no_colon) = within src i (λ z. omega arith)
 
 character_within : (src : List ℕ) (i c j : ℕ) → IsCharacter src i c j → i < length src
-character_within src i c j (decimal _ e _ _ amp hash number) = within src i (λ z. omega arith)
-character_within src i c j (hexadecimal _ e _ _ amp hash x number) = within src i (λ z. omega arith)
-character_within src i c j (named _ n _ _ reference is) = let amp = reference.opens in within src i (λ z. omega arith)
+character_within src i c j (decimal _ _ _ amp hash number) = within src i (λ z. omega arith)
+character_within src i c j (hexadecimal _ _ _ amp hash x number) = within src i (λ z. omega arith)
+character_within src i c j (named _ n _ _ reference is) = let amp = (reference_parts reference).opens in within src i (λ z. omega arith)
 
 reference_inside : (src : List ℕ) (i n j : ℕ) → IsReference src i n j → j ≤ length src
 reference_inside src i n j is =
-    let closes = is.closes in
+    let closes = (reference_parts is).closes in
     let there = within src n (λ z. omega arith) in
-    omega (arith, is.next)
+    omega (arith, (reference_parts is).next)
 
 -- ---- what is due
 
@@ -178,14 +179,14 @@ module _ (src : List ℕ) (utf8 : IsUtf8 src) where
   references_placed : (es : List Entity) (p : ℕ) (f : Fault) → InReferences es src p f → IsPlaced src f
   references_placed es p f (rows.InReferences.malformed amp no_character no_reference) = let there = within src p (λ z. omega arith) in omega arith
   references_placed es p f (rows.InReferences.undeclared n j name is no_character none holds) =
-      let amp = is.opens in
+      let amp = (reference_parts is).opens in
       let there = within src p (λ z. omega arith) in
       omega arith
 
   run_placed : (es : List Entity) (k : ℕ) (O : Inclusion) (i b : ℕ) (f : Fault) → i < length src → InRun es k O src i b f → IsPlaced src f
   run_placed es k O i b f there (rows.InRun.no_char _ lacks) = lacks_placed src i _ f tt lacks
   run_placed es k O i b f there (rows.InRun.end_mark e ends chars has) = let le = from_bound (λ c. c == 60) src i (omega arith) in rw ends le
-  run_placed es k O i b f there (rows.InRun.in_reference e p _ ends chars none from before ill) = references_placed es p f ill
+  run_placed es k O i b f there (rows.InRun.in_reference e p _ run from before ill) = references_placed es p f ill
   run_placed es k O i b f there (rows.InRun.too_many stop p j c front t run parts before refers spent) = reference_inside src p refers.n j refers.is_reference
 
   pub value_placed : (es : List Entity) (k : ℕ) (O : Inclusion) (i stop b : ℕ) (f : Fault) → InValue es k O src i stop b f → IsPlaced src f

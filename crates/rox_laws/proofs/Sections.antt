@@ -12,6 +12,7 @@ use Rattle.rox_grammar.specs.Constructs.{IsCData, IsEnd}
 use Rattle.rox_grammar.specs.Content.{DataByte, literal, kept, is_literal, data_bytes_of, literals, line_ends, piece, Part, part_ends, as_written, from_reference, last_part, then_entity, IsTag, IsMisc, comment, instruction, IsElement, empty, nest, Content, ends, run, cdata, misc, node}
 use Rattle.rox_grammar.specs.RunParts.{Parts}
 use Rattle.rox_grammar.specs.Document.{Misc, no_misc, space, an_item, ParseOf, IsTreeOf}
+use Rattle.rox_theory.proofs.Productions.{comment_parts, pi_parts, end_parts, char_data_parts}
 use Rattle.rox_theory.proofs.Without.{parse_without}
 use Rattle.rox_grammar.specs.Entities.{no_entities}
 use Rattle.rox_theory.proofs.Pieces.{some_bytes, no_bytes, empty_section}
@@ -144,20 +145,20 @@ other_mark src i opens other = (opens, false_from_ne_true _ (λ h. other (cdata_
 
 misc_markup : (src : List ℕ) (i j : ℕ) (item : Item) → IsMisc src i j item → IsMarkup src i
 misc_markup src i j item (comment _ e _ is) = (
-  (comment_bytes src i is.opens).1,
+  (comment_bytes src i (comment_parts is).opens).1,
   false_from_ne_true _ (λ h.
-      (let dash : byte src (i + 2) ≡ 45 = stands_reads (word_text word.CommentStart) src i 2 is.opens (omega arith) in
+      (let dash : byte src (i + 2) ≡ 45 = stands_reads (word_text word.CommentStart) src i 2 (comment_parts is).opens (omega arith) in
       let bracket : byte src (i + 2) ≡ 91 = stands_reads (word_text word.CDataStart) src i 2 h (omega arith) in
       omega arith)),
 )
 misc_markup src i j item (instruction _ n e _ is) =
-    let bytes = instruction_bytes src i is.opens in other_mark src i bytes.1 (λ mark. omega (arith, bytes.2, mark))
+    let bytes = instruction_bytes src i (pi_parts is).opens in other_mark src i bytes.1 (λ mark. omega (arith, bytes.2, mark))
 
 tag_markup : (src : List ℕ) (i j b c : ℕ) (is_empty : Bool) (t : Tag) → IsTag true no_entities src i j b c is_empty t → IsMarkup src i
 tag_markup src i j b c is_empty t is = other_mark src i is.begins (name_byte src (i + 1) t.name t.name_end is.is_name).no_mark
 
 end_markup : (src : List ℕ) (i : ℕ) (name : Name) (n j : ℕ) → IsEnd src i name n j → IsMarkup src i
-end_markup src i name n j is = let bytes = end_bytes src i is.opens in other_mark src i bytes.1 (λ mark. omega (arith, bytes.2, mark))
+end_markup src i name n j is = let bytes = end_bytes src i (end_parts is).opens in other_mark src i bytes.1 (λ mark. omega (arith, bytes.2, mark))
 
 -- ---- content
 
@@ -169,7 +170,7 @@ mutual
   content_covers : (src : List ℕ) (i j b c : ℕ) (items : Forest Item) → Content true no_entities src i j b c items → Covers src i j items
   content_covers src i j b c items (ends _ _) = refl
   content_covers src i j b c items (run _ k _ _ d _ front rest is parts inner) =
-      covers_join src i k j front rest (parts_cover src i k b d front is.some parts) (content_covers src k j d c rest inner)
+      covers_join src i k j front rest (parts_cover src i k b d front (char_data_parts is).some parts) (content_covers src k j d c rest inner)
   content_covers src i j b c items (cdata _ e k _ _ _ rest is inner) =
       (refl, λ none. section_empty src i e k is (no_bytes (slice src (i + 9) e) none), refl, content_covers src k j b c rest inner)
   content_covers src i j b c items (misc _ k _ _ _ item rest is inner) = misc_covers src i k j item rest is (content_covers src k j b c rest inner)

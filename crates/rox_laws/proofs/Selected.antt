@@ -13,6 +13,7 @@ use Rattle.rox_grammar.specs.Constructs.{IsLiteral}
 use Rattle.rox_grammar.specs.Content.{is_verbatim_value, Value, value_ends, line_end, white, other, a_character, an_entity, IsAttribute, Attributes, no_more, one_more, IsTag, DataByte, piece, last_part, then_entity, IsMisc, comment, instruction, IsElement, empty, nest, Content, ends, run, cdata, misc, node}
 use Rattle.rox_grammar.specs.RunParts.{Parts}
 use Rattle.rox_grammar.specs.Document.{Misc, no_misc, space, an_item, ParseOf, IsTreeOf}
+use Rattle.rox_theory.proofs.Productions.{ncname_parts}
 use Rattle.rox_theory.proofs.Without.{parse_without}
 use Rattle.rox_grammar.specs.Entities.{no_entities}
 use Rattle.rox_theory.proofs.Basics.{run_end_le}
@@ -44,11 +45,11 @@ after_colon src k j colon some inside = slice_cons src k j some inside ∙ ap (�
 spelled : (src : List ℕ) (i : ℕ) (name : Name) (j : ℕ) → IsQName src i name j → j ≤ length src → SpellsName name.local (slice src i j)
 spelled src i name j (unprefixed _ _ n last) inside = inl refl
 spelled src i name j (prefixed _ k _ n colon m last) inside =
-    let some : k < j = omega (arith, m.longest, run_end_le is_part_char src (k + 1)) in
-    let before : i ≤ k = omega (arith, n.longest, run_end_le is_part_char src i) in
+    let some : k < j = omega (arith, (ncname_parts m).longest, run_end_le is_part_char src (k + 1)) in
+    let before : i ≤ k = omega (arith, (ncname_parts n).longest, run_end_le is_part_char src i) in
     inr (slice src i k, slice_split src (k - i) i k j (omega arith) (omega arith) inside ∙ ap (λ (r : List ℕ). slice src i k ++ r) (after_colon src k j colon some inside))
 spelled src i name j (colon_first _ _ colon m last) inside =
-    inr ([], after_colon src i j colon (omega (arith, m.longest, run_end_le is_part_char src (i + 1))) inside)
+    inr ([], after_colon src i j colon (omega (arith, (ncname_parts m).longest, run_end_le is_part_char src (i + 1))) inside)
 
 -- a byte of a value that stands for itself
 abbrev IsOrdinary : ℕ → Type 0

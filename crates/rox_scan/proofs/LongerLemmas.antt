@@ -7,12 +7,12 @@ use Rattle.std.proofs.lemmas.Bool.Decides.{nat_tests, Decides-eqb}
 use Rattle.std.proofs.lemmas.Slice.Eq.{starts_is}
 use Rattle.std.proofs.lemmas.List.{drop_more, get_or_past, get_or-take, drop-drop, take-append-drop, drop-append-le}
 use Rattle.std.proofs.lemmas.List.Folds.{list_any-append}
-use Rattle.rox_grammar.specs.Constructs.{AreChars, has_mark}
+use Rattle.rox_grammar.specs.Constructs.{AreChars}
 use Rattle.rox_grammar.specs.FixedTexts.{double_dash}
 use Rattle.rox_grammar.specs.Search.{byte_from, mark_from, stands}
 use Rattle.rox_grammar.specs.declared.fault.Word.TheVariants as word
 use Rattle.rox_grammar.specs.FixedTexts.{word_text}
-use Rattle.rox_reading.specs.Lexical.{chars_up_to, text_to, string_at}
+use Rattle.rox_reading.specs.Lexical.{has_mark, chars_up_to, text_to, string_at}
 use Rattle.rox_reading.specs.Markup.{raw_value_at, comment_at}
 use Rattle.rox_reading.specs.Values.{is_special}
 use Rattle.rox_scan.specs.ByteSets.{is_char_byte, AllPass, is_value_byte, is_text_byte, is_comment_byte}

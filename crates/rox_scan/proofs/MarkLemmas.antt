@@ -16,7 +16,7 @@ use Rattle.rox_grammar.specs.declared.fault.Expected.{Expected}
 use Rattle.rox_grammar.specs.declared.fault.Expected.TheVariants as expected
 use Rattle.rox_grammar.specs.ExpectedTexts.{expected_text}
 use Rattle.rox_scan.specs.ScanResults.{Finds}
-use Rattle.rox_grammar.specs.Constructs.{has_mark}
+use Rattle.rox_reading.specs.Lexical.{has_mark}
 
 bool_cases : (b : Bool) → (b ≡ true) ⊎ (b ≡ false)
 bool_cases true = inl refl

@@ -5,10 +5,9 @@ use Rattle.std.proofs.lemmas.Bool.{le-ltb, eq-eqb, eqb-true, ne_eqb}
 use Rattle.std.proofs.lemmas.Bool.Decides.{nat_tests}
 use Rattle.rox_grammar.specs.declared.fault.Word.TheVariants as word
 use Rattle.rox_grammar.specs.FixedTexts.{word_text}
-use Rattle.rox_grammar.specs.Constructs.{has_mark}
 use Rattle.rox_grammar.specs.Content.{is_verbatim}
 use Rattle.rox_grammar.specs.Search.{byte_from}
-use Rattle.rox_reading.specs.Lexical.{chars_up_to}
+use Rattle.rox_reading.specs.Lexical.{has_mark, chars_up_to}
 use Rattle.rox_reading.specs.Values.{raw_character_data_at}
 use Rattle.rox_scan.specs.ByteSets.{AllPass, is_text_byte}
 use Rattle.rox_scan.proofs.NearLemmas.{near_found, near_chars, text_is_plain, none_among, read_among}

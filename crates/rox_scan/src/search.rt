@@ -2,7 +2,7 @@
 ghost use Rattle.std.specs.Prelude.{◌≡◌, ◌+◌, ◌<◌, ◌≤◌, ◌||◌, ◌==◌, not, length};
 ghost use Rattle.std.specs.Str.{IsCharBoundary};
 ghost use Rattle.rox_grammar.specs.Search as spec;
-ghost use Rattle.rox_grammar.specs.Constructs.{has_mark};
+ghost use Rattle.rox_reading.specs.Lexical.{has_mark};
 ghost use Rattle.rox_grammar.specs.ExpectedTexts.{expected_text};
 ghost use Rattle.rox_scan.specs.ByteSets.{EndsSet};
 ghost use Rattle.rox_scan.specs.ScanResults.{Finds, FindsAscii, FindsByte, MaySeek, MaySeekEither};

@@ -33,6 +33,7 @@ use Rattle.rox_reading.specs.WholeText as whole
 use Rattle.rox_reading.proofs.Forests.{join-nil, join_assoc, merge-more}
 use Rattle.rox_theory.specs.ValidState.{state}
 use Rattle.rox_theory.specs.Openers.{AreTexts}
+use Rattle.rox_theory.proofs.Productions.{comment_parts, pi_parts, end_parts}
 use Rattle.rox_theory.proofs.Basics.{within as byte_within, ok_same, bind_ok, chosen}
 use Rattle.rox_theory.proofs.Constructions.{name_byte, comment_bytes, instruction_bytes, doctype_bytes, IsNameByte}
 use Rattle.rox_theory.proofs.NameLemmas.{run_stops, run_past}
@@ -60,9 +61,9 @@ ends_by src j k b is here some ascii = (k, is, byte_within src k (λ z. omega ar
 -- comments and instructions do
 pub misc_ends : (src : List ℕ) (i j : ℕ) (item : Item) → IsMisc src i j item → Ends src j
 misc_ends src i j item (comment _ e _ is) =
-    ends_by src j (e + 2) 62 (omega (arith, is.next)) (stands_reads (word_text word.CommentEnd) src e 2 is.closes (omega arith)) (omega arith) (omega arith)
+    ends_by src j (e + 2) 62 (omega (arith, (comment_parts is).next)) (stands_reads (word_text word.CommentEnd) src e 2 (comment_parts is).closes (omega arith)) (omega arith) (omega arith)
 misc_ends src i j item (instruction _ n e _ is) =
-    ends_by src j (e + 1) 62 (omega (arith, is.next)) (stands_reads (word_text word.PIEnd) src e 1 is.closes (omega arith)) (omega arith) (omega arith)
+    ends_by src j (e + 1) 62 (omega (arith, (pi_parts is).next)) (stands_reads (word_text word.PIEnd) src e 1 (pi_parts is).closes (omega arith)) (omega arith) (omega arith)
 
 -- tags do
 pub tag_ends : (src : List ℕ) (i j : ℕ) (is_empty : Bool) → TagEnds src i is_empty j → Ends src j
@@ -72,7 +73,7 @@ tag_ends src i j is_empty (closed _ slash close) = ends_by src j (spaces_end src
 -- elements do
 pub element_ends : (main : Bool) (O : Inclusion) (src : List ℕ) (i j b c : ℕ) (one : Forest Item) → IsElement main O src i j b c one → Ends src j
 element_ends main O src i j b c one (empty _ _ _ _ t tag) = tag_ends src tag.last j true tag.ends
-element_ends main O src i j b c one (nest _ k m p _ _ d _ t kids tag inner end) = ends_by src j (spaces_end src p) 62 end.next end.closes (omega arith) (omega arith)
+element_ends main O src i j b c one (nest _ k m p _ _ d _ t kids tag inner end) = ends_by src j (spaces_end src p) 62 (end_parts end).next (end_parts end).closes (omega arith) (omega arith)
 
 -- the declaration does
 pub declaration_ends : (src : List ℕ) (i j : ℕ) → IsXmlDecl src i j → Ends src j
@@ -200,27 +201,27 @@ module _ (src : List ℕ) (utf8 : IsUtf8 src) where
 
   -- each of them moves forward
   pub misc_moves : (i j : ℕ) (item : Item) → IsMisc src i j item → i < j
-  misc_moves i j item (comment _ e _ is) = (comment_sound src utf8 i j _ is.opens (comment_complete src i e j is)).3
-  misc_moves i j item (instruction _ n e _ is) = (instruction_sound src utf8 i j _ is.opens (instruction_complete src i n e j is)).4
+  misc_moves i j item (comment _ e _ is) = (comment_sound src utf8 i j _ (comment_parts is).opens (comment_complete src i e j is)).3
+  misc_moves i j item (instruction _ n e _ is) = (instruction_sound src utf8 i j _ (pi_parts is).opens (instruction_complete src i n e j is)).4
 
   -- one of them, with its white space taken
   one_misc : (n limit b i j : ℕ) (item : Item) (done : Forest Item) (u : State) → IsMisc src i j item → size (merge (join done (leaf item))) + 1 ≤ limit
       → misc limit n src (state j (join done (leaf item)) root b) ≡ Ok u → misc limit (suc n) src (state i done root b) ≡ Ok u
   unfolding misc comment_step instruction_step
   one_misc n limit b i j item done u (comment _ e _ is) fits rest =
-      let bytes = comment_bytes src i is.opens in
+      let bytes = comment_bytes src i (comment_parts is).opens in
       let counts = fits_counted limit (with_leaf (state i done root b) j item) (omega arith) in
-      rw (no_spaces src i bytes.1, is.opens, comment_complete src i e j is, counts) rest
+      rw (no_spaces src i bytes.1, (comment_parts is).opens, comment_complete src i e j is, counts) rest
   one_misc n limit b i j item done u (instruction _ t e _ is) fits rest =
-      let bytes = instruction_bytes src i is.opens in
+      let bytes = instruction_bytes src i (pi_parts is).opens in
       let none : at word.CommentStart src i ≡ false = false_from_ne_true _ (λ h. let other = comment_bytes src i h in omega arith) in
       let counts = fits_counted limit (with_leaf (state i done root b) j item) (omega arith) in
-      rw (no_spaces src i bytes.1, none, is.opens, instruction_complete src i t e j is, counts) rest
+      rw (no_spaces src i bytes.1, none, (pi_parts is).opens, instruction_complete src i t e j is, counts) rest
 
   -- each begins within the source
   pub misc_within : (i j : ℕ) (item : Item) → IsMisc src i j item → i < length src
-  misc_within i j item (comment _ e _ is) = let bytes = comment_bytes src i is.opens in omega arith
-  misc_within i j item (instruction _ n e _ is) = let bytes = instruction_bytes src i is.opens in omega arith
+  misc_within i j item (comment _ e _ is) = let bytes = comment_bytes src i (comment_parts is).opens in omega arith
+  misc_within i j item (instruction _ n e _ is) = let bytes = instruction_bytes src i (pi_parts is).opens in omega arith
 
   -- what stands there of them is read
   pub misc_complete : (n limit b i j : ℕ) (items done : Forest Item) → Misc src i j items → Stops src j → size (merge (join done items)) + 1 ≤ limit → length src ≤ i + n

@@ -14,6 +14,7 @@ use Rattle.rox_reading.specs.Lexical.{byte_at, quote_at, qname_at}
 use Rattle.rox_reading.specs.Markup.{RawAttribute, raw_value_at, attribute_at, TagItem, more, opened, closed, tag_item_at}
 use Rattle.rox_reading.specs.Values.{ReadText, value_at}
 use Rattle.rox_reading.specs.Tags.{Values, attribute_with}
+use Rattle.rox_theory.proofs.Productions.{ncname_parts}
 use Rattle.rox_theory.proofs.Basics.{ok_same, bind_ok, chosen, within, run_end_le, byte_sound, byte_complete, chars_sound, chars_complete}
 use Rattle.rox_theory.proofs.NameLemmas.{qname_sound, qname_complete, qname_le, begins_here}
 use Rattle.rox_theory.proofs.LiteralLemmas.{value_stop, value_stop_le, quote_sound, quote_complete, quote_ascii, literal_sound, literal_complete, literal_closes, literal_plain, literal_le}
@@ -107,8 +108,8 @@ not_start src i c some ascii none starts is =
 
 -- no name begins with a slash or `>`
 name_first : (src : List ℕ) (i : ℕ) (name : Name) (j : ℕ) → IsQName src i name j → (byte src i ≢ 47) × (byte src i ≢ 62)
-name_first src i name j (unprefixed _ _ n last) = (not_start src i 47 (omega arith) (omega arith) no_slash n.starts, not_start src i 62 (omega arith) (omega arith) no_greater n.starts)
-name_first src i name j (prefixed _ k _ n colon m last) = (not_start src i 47 (omega arith) (omega arith) no_slash n.starts, not_start src i 62 (omega arith) (omega arith) no_greater n.starts)
+name_first src i name j (unprefixed _ _ n last) = (not_start src i 47 (omega arith) (omega arith) no_slash (ncname_parts n).starts, not_start src i 62 (omega arith) (omega arith) no_greater (ncname_parts n).starts)
+name_first src i name j (prefixed _ k _ n colon m last) = (not_start src i 47 (omega arith) (omega arith) no_slash (ncname_parts n).starts, not_start src i 62 (omega arith) (omega arith) no_greater (ncname_parts n).starts)
 name_first src i name j (colon_first _ _ colon m last) = (λ z. omega arith, λ z. omega arith)
 
 -- what a turn says

@@ -18,6 +18,7 @@ use Rattle.rox_grammar.specs.Document.{Misc, no_misc, space, an_item, ParseOf}
 use Rattle.rox_theory.specs.ParseParts.{MayHaveDoctype, doctype, no_doctype}
 use Rattle.rox_grammar.specs.Expansion.{longest}
 use Rattle.rox_theory.specs.ItemSize.{most_bytes, bytes_in, IsBounded}
+use Rattle.rox_theory.proofs.Productions.{reference_parts}
 use Rattle.rox_theory.proofs.Onward.{run_onward, reference_onward, value_char, part_bytes, qname_onward, eq_onward, tag_end_onward, end_onward, section_onward, byte_onward}
 use Rattle.rox_theory.proofs.Following.{few_opened, few_opened_in_value}
 use Rattle.rox_theory.proofs.Weights.{piece_most, section_most, misc_most, counts_weigh, more_times}
@@ -93,7 +94,7 @@ module _ (of : Forest Item → ℕ) (is_measure : Measure of) (O : Inclusion) (w
       let e = is_measure.joined (piece start stop false ss) (join front more) in
       let f = is_measure.joined front more in
       let u = down i p (omega (arith, h)) in
-      let a = at_amp p reference.opens in
+      let a = at_amp p (reference_parts reference).opens in
       let v = down (p + 1) j (omega (arith, k)) in
       (omega (arith, h, k, y.0), omega (arith, h, q, k, x, y.1, e, f, u, a, v))
 
@@ -113,7 +114,7 @@ module _ (of : Forest Item → ℕ) (is_measure : Measure of) (O : Inclusion) (w
       let x = value_most _ b u c opens in
       let m = reference_onward src i n k is in
       let l = length-append u w' in
-      let a = at_amp i is.opens in
+      let a = at_amp i (reference_parts is).opens in
       let e = down (i + 1) k (omega (arith, m)) in
       (omega (arith, h.0, m), omega (arith, h.1, x, m, l, a, e))
 

@@ -15,6 +15,7 @@ use Rattle.rox_grammar.specs.Runs.{run_end, passing}
 use Rattle.rox_grammar.specs.Names.{byte, slice}
 use Rattle.rox_grammar.specs.Constructs.{AreChars}
 use Rattle.rox_grammar.specs.References.{is_digit, is_hex_digit, IsNumber, IsReference, IsCharacter, decimal, hexadecimal, named}
+use Rattle.rox_theory.proofs.Productions.{number_parts, reference_parts}
 use Rattle.rox_theory.proofs.Basics.{within}
 use Rattle.rox_theory.proofs.NameLemmas.{slice_nil}
 use Rattle.rox_theory.proofs.StretchLemmas.{slice_length, slice_cons}
@@ -131,36 +132,39 @@ known src i b is some low =
     (byte_chars src i here (omega arith) (printable (byte src i) (omega arith) (omega arith)), here)
 
 -- digits and `;`
-number_text : (base : ℕ) (is : ℕ → Bool) (src : List ℕ) (d e c j : ℕ) → ((b : ℕ) → is b ≡ true → (32 ≤ b) × (b < 128)) → IsNumber base is src d e c j → IsCharText (slice src d j) × (d ≤ j) × (j ≤ length src)
-number_text base is src d e c j fine m =
-    let end = m.end in let some = m.some in let next = m.next in
-    let last = known src e 59 m.closes (omega arith) (omega arith) in
+number_text : (base : ℕ) (is : ℕ → Bool) (src : List ℕ) (d c j : ℕ) → ((b : ℕ) → is b ≡ true → (32 ≤ b) × (b < 128)) → IsNumber base is src d c j → IsCharText (slice src d j) × (d ≤ j) × (j ≤ length src)
+number_text base is src d c j fine m =
+    let e = (number_parts m).e in
+    let end = (number_parts m).end in let some = (number_parts m).some in let next = (number_parts m).next in
+    let last = known src e 59 (number_parts m).closes (omega arith) (omega arith) in
     let digits = bytes_chars src (e - d) d e (omega arith) (omega (arith, last.1)) (λ k from below. let r = fine (byte src k) (bytes_pass is src d k from (omega arith)) in (r.1, printable (byte src k) r.0 r.1)) in
     (rw next (stretches_joined src d e (e + 1) (omega arith) (omega arith) (omega (arith, last.1)) digits last.0), omega arith, omega (arith, last.1))
 
 -- one to a name
 pub reference_text : (src : List ℕ) (i n j : ℕ) → IsUtf8 src → IsReference src i n j → IsCharText (slice src i j) × IsCharBoundary src j
 reference_text src i n j utf8 r =
-    let next = r.next in let l = r.name.longest in
-    let first = known src i 38 r.opens (omega arith) (omega arith) in
-    let last = known src n 59 r.closes (omega arith) (omega arith) in
-    let cut = cut_behind src i 38 (i + 1) utf8 r.opens (omega arith) (omega arith) refl in
+    let next = (reference_parts r).next in let l = (reference_parts r).name.longest in
+    let first = known src i 38 (reference_parts r).opens (omega arith) (omega arith) in
+    let last = known src n 59 (reference_parts r).closes (omega arith) (omega arith) in
+    let cut = cut_behind src i 38 (i + 1) utf8 (reference_parts r).opens (omega arith) (omega arith) refl in
     let name : IsCharText (slice src (i + 1) n) = rw l (run_of_chars is_name_char src (i + 1) utf8 cut name_char) in
     let le = (reference_opens src i n j r).1 in
     let front = stretches_joined src i (i + 1) n (omega arith) (omega arith) (omega (arith, last.1)) first.0 name in
-    (rw next (stretches_joined src i n (n + 1) (omega arith) (omega arith) (omega (arith, last.1)) front last.0), cut_behind src n 59 j utf8 r.closes (omega arith) (omega arith) next)
+    (rw next (stretches_joined src i n (n + 1) (omega arith) (omega arith) (omega (arith, last.1)) front last.0), cut_behind src n 59 j utf8 (reference_parts r).closes (omega arith) (omega arith) next)
 
 -- one to a character
 pub character_text : (src : List ℕ) (i c j : ℕ) → IsUtf8 src → IsCharacter src i c j → IsCharText (slice src i j) × IsCharBoundary src j
-character_text src i c j utf8 (decimal _ e _ _ amp hash m) =
+character_text src i c j utf8 (decimal _ _ _ amp hash m) =
+    let e = (number_parts m).e in
     let first = known src i 38 amp (omega arith) (omega arith) in
     let second = known src (i + 1) 35 hash (omega arith) (omega arith) in
     let two : i + 1 + 1 ≡ i + 2 = omega arith in
     let second' : IsCharText (slice src (i + 1) (i + 2)) = subst (λ (k : ℕ). IsCharText (slice src (i + 1) k)) two second.0 in
-    let rest = number_text 10 is_digit src (i + 2) e c j digit_range m in
+    let rest = number_text 10 is_digit src (i + 2) c j digit_range m in
     let front = stretches_joined src i (i + 1) (i + 2) (omega arith) (omega arith) (omega (arith, second.1)) first.0 second' in
-    (stretches_joined src i (i + 2) j (omega arith) rest.1 rest.2 front rest.0, cut_behind src e 59 j utf8 m.closes (omega arith) (omega arith) m.next)
-character_text src i c j utf8 (hexadecimal _ e _ _ amp hash hex m) =
+    (stretches_joined src i (i + 2) j (omega arith) rest.1 rest.2 front rest.0, cut_behind src e 59 j utf8 (number_parts m).closes (omega arith) (omega arith) (number_parts m).next)
+character_text src i c j utf8 (hexadecimal _ _ _ amp hash hex m) =
+    let e = (number_parts m).e in
     let first = known src i 38 amp (omega arith) (omega arith) in
     let second = known src (i + 1) 35 hash (omega arith) (omega arith) in
     let third = known src (i + 2) 120 hex (omega arith) (omega arith) in
@@ -168,8 +172,8 @@ character_text src i c j utf8 (hexadecimal _ e _ _ amp hash hex m) =
     let three : i + 2 + 1 ≡ i + 3 = omega arith in
     let second' : IsCharText (slice src (i + 1) (i + 2)) = subst (λ (k : ℕ). IsCharText (slice src (i + 1) k)) two second.0 in
     let third' : IsCharText (slice src (i + 2) (i + 3)) = subst (λ (k : ℕ). IsCharText (slice src (i + 2) k)) three third.0 in
-    let rest = number_text 16 is_hex_digit src (i + 3) e c j hex_range m in
+    let rest = number_text 16 is_hex_digit src (i + 3) c j hex_range m in
     let front = stretches_joined src i (i + 1) (i + 2) (omega arith) (omega arith) (omega (arith, second.1)) first.0 second' in
     let front' = stretches_joined src i (i + 2) (i + 3) (omega arith) (omega arith) (omega (arith, third.1)) front third' in
-    (stretches_joined src i (i + 3) j (omega arith) rest.1 rest.2 front' rest.0, cut_behind src e 59 j utf8 m.closes (omega arith) (omega arith) m.next)
+    (stretches_joined src i (i + 3) j (omega arith) rest.1 rest.2 front' rest.0, cut_behind src e 59 j utf8 (number_parts m).closes (omega arith) (omega arith) (number_parts m).next)
 character_text src i c j utf8 (named _ n _ _ r is) = reference_text src i n j utf8 r

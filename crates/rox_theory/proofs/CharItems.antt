@@ -23,6 +23,7 @@ use Rattle.rox_grammar.specs.Document.{Misc, no_misc, space, an_item, ParseOf}
 use Rattle.rox_theory.specs.ParseParts.{MayHaveDoctype, doctype, no_doctype}
 use Rattle.rox_theory.specs.Openers.{AreTexts}
 use Rattle.rox_theory.specs.CharItems.{WrittenChars, TagChars, ItemChars, ItemsChars}
+use Rattle.rox_theory.proofs.Productions.{ncname_parts, comment_parts, pi_parts, cdata_parts, char_data_parts}
 use Rattle.rox_theory.proofs.LiteralLemmas.{from_bound, from_here, quote_ascii, literal_closes}
 use Rattle.rox_theory.proofs.DeclarationLemmas.{stands_reads}
 use Rattle.rox_theory.proofs.Around.{ends_cut, element_ends}
@@ -37,7 +38,7 @@ use Rattle.rox_theory.proofs.ParseParts.{parts}
 -- a part of a name is a text of Chars, and a character begins behind it
 name_part : (src : List ℕ) (i j : ℕ) → IsUtf8 src → IsCharBoundary src i → IsNCName src i j → IsCharText (slice src i j) × IsCharBoundary src j
 name_part src i j utf8 cut n =
-    subst (λ (m : ℕ). IsCharText (slice src i m) × IsCharBoundary src m) (sym n.longest) (run_of_chars is_part_char src i utf8 cut part_char, run_cut is_part_char src i utf8 cut)
+    subst (λ (m : ℕ). IsCharText (slice src i m) × IsCharBoundary src m) (sym (ncname_parts n).longest) (run_of_chars is_part_char src i utf8 cut part_char, run_cut is_part_char src i utf8 cut)
 
 -- behind a colon too
 part_behind : (src : List ℕ) (k j : ℕ) → IsUtf8 src → byte src k ≡ 58 → IsNCName src (k + 1) j → IsCharText (slice src (k + 1) j) × IsCharBoundary src j
@@ -90,10 +91,10 @@ stop_cut src i cut =
 -- the text of a comment
 comment_text : (src : List ℕ) (i e j : ℕ) → IsUtf8 src → IsComment src i e j → IsCharText (slice src (i + 4) e)
 comment_text src i e j utf8 is =
-    let first = cut_behind src (i + 3) 45 (i + 4) utf8 (stands_reads (word_text word.CommentStart) src i 3 is.opens (omega arith)) (omega arith) (omega arith) (omega arith) in
+    let first = cut_behind src (i + 3) 45 (i + 4) utf8 (stands_reads (word_text word.CommentStart) src i 3 (comment_parts is).opens (omega arith)) (omega arith) (omega arith) (omega arith) in
     let z : e + 0 ≡ e = omega arith in
-    let last = cut_at src e 45 (sym (ap (byte src) z) ∙ stands_reads (word_text word.CommentEnd) src e 0 is.closes (omega arith)) (omega arith) (omega arith) in
-    chars_between src (i + 4) e utf8 first last is.chars
+    let last = cut_at src e 45 (sym (ap (byte src) z) ∙ stands_reads (word_text word.CommentEnd) src e 0 (comment_parts is).closes (omega arith)) (omega arith) (omega arith) in
+    chars_between src (i + 4) e utf8 first last (comment_parts is).chars
 
 sign_nil : (ss : List DataByte) → ss ++ [] ≡ ss
 sign_nil [] = refl
@@ -102,11 +103,11 @@ sign_nil (s ∷ ss) = ap (λ (r : List DataByte). s ∷ r) (sign_nil ss)
 -- that of a CDATA section
 section_text : (src : List ℕ) (i e j : ℕ) → IsUtf8 src → IsCData src i e j → IsCharText (line_ends (literals (slice src (i + 9) e)))
 section_text src i e j utf8 is =
-    let first = cut_behind src (i + 8) 91 (i + 9) utf8 (stands_reads (word_text word.CDataStart) src i 8 is.opens (omega arith)) (omega arith) (omega arith) (omega arith) in
+    let first = cut_behind src (i + 8) 91 (i + 9) utf8 (stands_reads (word_text word.CDataStart) src i 8 (cdata_parts is).opens (omega arith)) (omega arith) (omega arith) (omega arith) in
     let z : e + 0 ≡ e = omega arith in
-    let last = cut_at src e 93 (sym (ap (byte src) z) ∙ stands_reads (word_text word.CDataEnd) src e 0 is.closes (omega arith)) (omega arith) (omega arith) in
+    let last = cut_at src e 93 (sym (ap (byte src) z) ∙ stands_reads (word_text word.CDataEnd) src e 0 (cdata_parts is).closes (omega arith)) (omega arith) (omega arith) in
     subst (λ (ss : List DataByte). IsCharText (line_ends ss)) (sign_nil (literals (slice src (i + 9) e)))
-    (text_front false (slice src (i + 9) e) [] (chars_between src (i + 9) e utf8 first last is.chars) no_signs)
+    (text_front false (slice src (i + 9) e) [] (chars_between src (i + 9) e utf8 first last (cdata_parts is).chars) no_signs)
 
 -- if it has a character
 if_some : (v : List ℕ) → IsCharText v → IfSome (none_if_empty v) IsCharText
@@ -116,12 +117,12 @@ if_some (b ∷ bs) h = h
 -- the target and the value of a processing instruction
 instruction_text : (src : List ℕ) (i n e j : ℕ) → IsUtf8 src → IsPI src i n e j → IsCharText (slice src (i + 2) n) × IfSome (none_if_empty (slice src (spaces_end src n) e)) IsCharText
 instruction_text src i n e j utf8 is =
-    let first = cut_behind src (i + 1) 63 (i + 2) utf8 (stands_reads (word_text word.PIStart) src i 1 is.opens (omega arith)) (omega arith) (omega arith) (omega arith) in
+    let first = cut_behind src (i + 1) 63 (i + 2) utf8 (stands_reads (word_text word.PIStart) src i 1 (pi_parts is).opens (omega arith)) (omega arith) (omega arith) (omega arith) in
     let z : e + 0 ≡ e = omega arith in
-    let last = cut_at src e 63 (sym (ap (byte src) z) ∙ stands_reads (word_text word.PIEnd) src e 0 is.closes (omega arith)) (omega arith) (omega arith) in
-    let (target, behind) = subst (λ (m : ℕ). IsCharText (slice src (i + 2) m) × IsCharBoundary src m) (sym is.target.longest)
+    let last = cut_at src e 63 (sym (ap (byte src) z) ∙ stands_reads (word_text word.PIEnd) src e 0 (pi_parts is).closes (omega arith)) (omega arith) (omega arith) in
+    let (target, behind) = subst (λ (m : ℕ). IsCharText (slice src (i + 2) m) × IsCharBoundary src m) (sym (pi_parts is).target.longest)
     (run_of_chars is_name_char src (i + 2) utf8 first name_char, run_cut is_name_char src (i + 2) utf8 first) in
-    (target, if_some _ (chars_between src (spaces_end src n) e utf8 (run_cut is_space src n utf8 behind) last is.chars))
+    (target, if_some _ (chars_between src (spaces_end src n) e utf8 (run_cut is_space src n utf8 behind) last (pi_parts is).chars))
 
 -- comments and processing instructions
 misc_item : (src : List ℕ) (i j : ℕ) (item : Item) → IsUtf8 src → IsMisc src i j item → ItemChars item
@@ -131,9 +132,9 @@ misc_item src i j item utf8 (instruction _ n e _ is) = instruction_text src i n 
 -- a character begins behind a comment and an instruction
 misc_cut : (src : List ℕ) (i j : ℕ) (item : Item) → IsUtf8 src → IsMisc src i j item → IsCharBoundary src j
 misc_cut src i j item utf8 (comment _ e _ is) =
-    cut_behind src (e + 2) 62 j utf8 (stands_reads (word_text word.CommentEnd) src e 2 is.closes (omega arith)) (omega arith) (omega arith) (omega (arith, is.next))
+    cut_behind src (e + 2) 62 j utf8 (stands_reads (word_text word.CommentEnd) src e 2 (comment_parts is).closes (omega arith)) (omega arith) (omega arith) (omega (arith, (comment_parts is).next))
 misc_cut src i j item utf8 (instruction _ n e _ is) =
-    cut_behind src (e + 1) 62 j utf8 (stands_reads (word_text word.PIEnd) src e 1 is.closes (omega arith)) (omega arith) (omega arith) (omega (arith, is.next))
+    cut_behind src (e + 1) 62 j utf8 (stands_reads (word_text word.PIEnd) src e 1 (pi_parts is).closes (omega arith)) (omega arith) (omega arith) (omega (arith, (pi_parts is).next))
 
 -- and behind a tag
 tag_cut : (src : List ℕ) (i j : ℕ) (is_empty : Bool) → IsUtf8 src → TagEnds src i is_empty j → IsCharBoundary src j
@@ -184,10 +185,10 @@ module _ (main : Bool) (O : Inclusion) (opens : OpensChars O) (src : List ℕ) (
     pub content_items : (i j b c : ℕ) (items : Forest Item) → IsCharBoundary src i → Content main O src i j b c items → ItemsChars items
     content_items i j b c items cut (ends _ _) = tt
     content_items i j b c items cut (run _ k _ _ d _ front more is parts inner) =
-        let next = subst (λ (m : ℕ). IsCharBoundary src m) (sym is.end) (stop_cut src i cut) in
-        items_joined front more (parts_items src utf8 i k cut next is.chars main O opens i i b d front parts (omega arith) cut) (content_items k j d c more next inner)
+        let next = subst (λ (m : ℕ). IsCharBoundary src m) (sym (char_data_parts is).end) (stop_cut src i cut) in
+        items_joined front more (parts_items src utf8 i k cut next (char_data_parts is).chars main O opens i i b d front parts (omega arith) cut) (content_items k j d c more next inner)
     content_items i j b c items cut (cdata _ e k _ _ _ more is inner) =
-        let next = cut_behind src (e + 2) 62 k utf8 (stands_reads (word_text word.CDataEnd) src e 2 is.closes (omega arith)) (omega arith) (omega arith) (omega (arith, is.next)) in
+        let next = cut_behind src (e + 2) 62 k utf8 (stands_reads (word_text word.CDataEnd) src e 2 (cdata_parts is).closes (omega arith)) (omega arith) (omega arith) (omega (arith, (cdata_parts is).next)) in
         (section_text src i e k utf8 is, tt, content_items k j b c more next inner)
     content_items i j b c items cut (misc _ k _ _ _ item more is inner) =
         (misc_item src i k item utf8 is, tt, content_items k j b c more (misc_cut src i k item utf8 is) inner)

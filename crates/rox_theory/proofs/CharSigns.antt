@@ -19,6 +19,7 @@ use Rattle.rox_grammar.specs.Runs.{first_passes}
 use Rattle.rox_grammar.specs.Content.{is_literal, Inclusion, DataByte, literal, data_bytes_of, literals, line_ends, piece, Part, part_ends, as_written, from_reference, last_part, then_entity, value_bytes, Value, value_ends, line_end, white, other, a_character, an_entity}
 use Rattle.rox_grammar.specs.RunParts.{Parts}
 use Rattle.rox_theory.specs.CharItems.{ItemsChars}
+use Rattle.rox_theory.proofs.Productions.{number_parts, reference_parts}
 use Rattle.rox_theory.proofs.Basics.{chosen}
 use Rattle.rox_theory.proofs.NameLemmas.{slice_nil}
 use Rattle.rox_theory.proofs.StretchLemmas.{slice_cons}
@@ -58,9 +59,10 @@ abbrev pub Referenced : List ℕ → ℕ → ℕ → Type 0
 Referenced src c j = IsAllowed c × IsCharBoundary src j
 
 -- a number
-of_number : (base : ℕ) (is : ℕ → Bool) (src : List ℕ) (d e c j : ℕ) → IsUtf8 src → IsNumber base is src d e c j → Referenced src c j
-of_number base is src d e c j utf8 m =
-    ((rw m.is_character (number_scalar (number base (slice src d e))), m.allowed), cut_behind src e 59 j utf8 m.closes (omega arith) (omega arith) m.next)
+of_number : (base : ℕ) (is : ℕ → Bool) (src : List ℕ) (d c j : ℕ) → IsUtf8 src → IsNumber base is src d c j → Referenced src c j
+of_number base is src d c j utf8 m =
+    let e = (number_parts m).e in
+    ((rw (number_parts m).is_character (number_scalar (number base (slice src d e))), (number_parts m).allowed), cut_behind src e 59 j utf8 (number_parts m).closes (omega arith) (omega arith) (number_parts m).next)
 
 -- one of the five names
 of_name : (name : List ℕ) (c : ℕ) → predefined name ≡ Some c → IsAllowed c
@@ -75,9 +77,9 @@ of_name name c h =
 
 -- a reference to a character
 pub referenced : (src : List ℕ) (i c j : ℕ) → IsUtf8 src → IsCharacter src i c j → Referenced src c j
-referenced src i c j utf8 (decimal _ e _ _ amp hash m) = of_number 10 _ src (i + 2) e c j utf8 m
-referenced src i c j utf8 (hexadecimal _ e _ _ amp hash hex m) = of_number 16 _ src (i + 3) e c j utf8 m
-referenced src i c j utf8 (named _ n _ _ r is) = (of_name (slice src (i + 1) n) c is, cut_behind src n 59 j utf8 r.closes (omega arith) (omega arith) r.next)
+referenced src i c j utf8 (decimal _ _ _ amp hash m) = of_number 10 _ src (i + 2) c j utf8 m
+referenced src i c j utf8 (hexadecimal _ _ _ amp hash hex m) = of_number 16 _ src (i + 3) c j utf8 m
+referenced src i c j utf8 (named _ n _ _ r is) = (of_name (slice src (i + 1) n) c is, cut_behind src n 59 j utf8 (reference_parts r).closes (omega arith) (omega arith) (reference_parts r).next)
 
 -- ---- signs
 
@@ -223,8 +225,8 @@ module _ (src : List ℕ) (utf8 : IsUtf8 src) (start stop : ℕ) (first : IsChar
       given false h = cond_both (x == 9 || (x == 10 || x == 13)) (32 ∷ []) (encode_utf8 x) (λ (v : List ℕ). IsCharText v) (λ space. byte_text 32 (omega arith) refl) (λ none. h)
   value_front main O oc i b d v (an_entity _ n m _ c _ u w is name within opened rest) k from on front =
       let opens = reference_opens src i n m is in
-      let amp = is.opens in
-      let next = cut_behind src n 59 m utf8 is.closes (omega arith) (omega arith) is.next in
+      let amp = (reference_parts is).opens in
+      let next = cut_behind src n 59 m utf8 (reference_parts is).closes (omega arith) (omega arith) (reference_parts is).next in
       let later = value_front main O oc m c d w rest m (omega (arith, opens.2)) (omega arith) next in
       texts_joined (slice src k i) (u ++ w) (stretch k i from on (omega (arith, opens.2)) front (cut_at src i 38 amp (omega arith) (omega arith)))
       (texts_joined u w (oc.value _ b u c opened) (subst (λ (v : List ℕ). IsCharText (v ++ w)) (slice_nil src m) later))
@@ -250,7 +252,7 @@ module _ (src : List ℕ) (utf8 : IsUtf8 src) (start stop : ℕ) (first : IsChar
       let h = part_bytes main src p i ss part in
       let k = reference_onward src p n j reference in
       let l = parts_within main O from j c d more rest in
-      let amp = cut_at src p 38 reference.opens (omega arith) (omega arith) in
-      let next = cut_behind src n 59 j utf8 reference.closes (omega arith) (omega arith) reference.next in
+      let amp = cut_at src p 38 (reference_parts reference).opens (omega arith) (omega arith) in
+      let next = cut_behind src n 59 j utf8 (reference_parts reference).closes (omega arith) (omega arith) (reference_parts reference).next in
       items_joined (piece from stop false ss) (join front more) (piece_items from stop false ss (part_chars main p i ss part amp (omega (arith, k, l)) on cut))
       (items_joined front more (oc.content _ b front c opened) (parts_items main O oc from j c d more rest (omega (arith, h, k)) next))

@@ -1,8 +1,10 @@
+pub mod Productions
 pub mod SpanLemmas
 pub mod Basics
 pub mod NameLemmas
 pub mod CharLemmas
 pub mod LiteralLemmas
+pub mod FirstMarks
 pub mod StretchLemmas
 pub mod ReferenceLemmas
 pub mod CharTexts

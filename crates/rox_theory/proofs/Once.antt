@@ -18,6 +18,7 @@ use Rattle.rox_reading.specs.State.{State}
 use Rattle.rox_reading.specs.Machine.{value_opener, values_of}
 use Rattle.rox_theory.specs.Openers.{AreTexts, AgreesValue}
 use Rattle.rox_theory.specs.ValidState.{state}
+use Rattle.rox_theory.proofs.Productions.{comment_parts, pi_parts, cdata_parts, end_parts, char_data_parts}
 use Rattle.rox_theory.proofs.MarkupLemmas.{comment_complete, instruction_complete, cdata_complete, end_complete}
 use Rattle.rox_theory.proofs.Openers.{values_agree}
 use Rattle.rox_theory.proofs.Leaves.{with_leaf}
@@ -52,16 +53,16 @@ module _ (context : Values) (O : Inclusion) (agrees : AgreesValue context.entiti
 
   takes_by : (open_around : ℕ) (s t : State) → StepsOver context.main O src open_around s t → OneBy (kind_at src s.at) s t
   takes_by open_around s t (takes_run i j b c items done stack is parts) = by_kind a_run s t (run_kind src i (run_within src i j is).1) (j, c, items, is, parts, refl)
-  takes_by open_around s t (takes_cdata i e j b done stack is) = by_kind a_cdata s t (cdata_kind src i is.opens) (j, slice src (i + 9) e, cdata_complete src i e j is, refl)
+  takes_by open_around s t (takes_cdata i e j b done stack is) = by_kind a_cdata s t (cdata_kind src i (cdata_parts is).opens) (j, slice src (i + 9) e, cdata_complete src i e j is, refl)
   takes_by open_around s t (takes_misc i j b item done stack is) = misc_by item is
     where
       misc_by : (item : Item) → IsMisc src i j item → OneBy (kind_at src i) (state i done stack b) (with_leaf (state i done stack b) j item)
-      misc_by item (comment _ e _ is) = by_kind a_comment (state i done stack b) _ (comment_kind src i is.opens) (j, slice src (i + 4) e, comment_complete src i e j is, refl)
-      misc_by item (instruction _ n e _ is) = by_kind an_instruction (state i done stack b) _ (instruction_kind src i is.opens)
+      misc_by item (comment _ e _ is) = by_kind a_comment (state i done stack b) _ (comment_kind src i (comment_parts is).opens) (j, slice src (i + 4) e, comment_complete src i e j is, refl)
+      misc_by item (instruction _ n e _ is) = by_kind an_instruction (state i done stack b) _ (instruction_kind src i (pi_parts is).opens)
           (j, record { target = slice src (i + 2) n; value = none_if_empty (slice src (spaces_end src n) e) }, instruction_complete src i n e j is, refl)
   takes_by open_around s t (takes_empty i j b c tag done stack is) = by_kind a_tag s t (tag_kind src i is.begins (name_byte src (i + 1) tag.name tag.name_end is.is_name)) (j, c, tag, true, is, refl)
   takes_by open_around s t (takes_start i j b c tag done stack is) = by_kind a_tag s t (tag_kind src i is.begins (name_byte src (i + 1) tag.name tag.name_end is.is_name)) (j, c, tag, false, is, refl)
-  takes_by open_around s t (takes_end i p j b start tag done before up deep end) = by_kind an_end s t (end_kind src i end.opens) (j, record { name = tag.name; name_end = p }, end_complete src i j p tag.name end, refl)
+  takes_by open_around s t (takes_end i p j b start tag done before up deep end) = by_kind an_end s t (end_kind src i (end_parts end).opens) (j, record { name = tag.name; name_end = p }, end_complete src i j p tag.name end, refl)
 
   closes_once : (openings_left j : ℕ) (done : Forest Item) (stack : Open) (t u : State) → Closes openings_left j done stack t → Closes openings_left j done stack u → t ≡ u
   closes_once openings_left j done root t u h k = absurd h
@@ -74,7 +75,7 @@ module _ (context : Values) (O : Inclusion) (agrees : AgreesValue context.entiti
 
   by_once : (k : Kind) (s t u : State) → OneBy k s t → OneBy k s u → t ≡ u
   by_once a_run s t u (j, c, items, run, parts, to) (k, d, more, run', parts', to') =
-      let at : k ≡ j = run'.end ∙ sym run.end in
+      let at : k ≡ j = (char_data_parts run').end ∙ sym (char_data_parts run).end in
       let parts'' : Parts context.main O src s.at j s.at s.openings_left d more = subst (λ (k : ℕ). Parts context.main O src s.at k s.at s.openings_left d more) at parts' in
       let same = parts_once context.main O once src s.at j s.at s.openings_left c d items more parts parts'' in
       to ∙ ap (λ (f : Forest Item). state j (join s.done f) s.stack c) same.0 ∙ ap (λ (c : ℕ). state j (join s.done more) s.stack c) same.1 ∙ ap (λ (j : ℕ). state j (join s.done more) s.stack d) (sym at) ∙ sym to'
@@ -104,12 +105,12 @@ module _ (context : Values) (O : Inclusion) (src : List ℕ) where
   -- one construct begins in the text
   takes_within : (open_around : ℕ) (s t : State) → StepsOver context.main O src open_around s t → s.at < length src
   takes_within open_around s t (takes_run i j b c items done stack is parts) = (run_within src i j is).0
-  takes_within open_around s t (takes_cdata i e j b done stack is) = omega (arith, (cdata_bytes src i is.opens).0)
-  takes_within open_around s t (takes_misc i j b item done stack (comment _ e _ is)) = omega (arith, (comment_bytes src i is.opens).0)
-  takes_within open_around s t (takes_misc i j b item done stack (instruction _ n e _ is)) = omega (arith, (instruction_bytes src i is.opens).0)
+  takes_within open_around s t (takes_cdata i e j b done stack is) = omega (arith, (cdata_bytes src i (cdata_parts is).opens).0)
+  takes_within open_around s t (takes_misc i j b item done stack (comment _ e _ is)) = omega (arith, (comment_bytes src i (comment_parts is).opens).0)
+  takes_within open_around s t (takes_misc i j b item done stack (instruction _ n e _ is)) = omega (arith, (instruction_bytes src i (pi_parts is).opens).0)
   takes_within open_around s t (takes_empty i j b c tag done stack is) = omega (arith, (name_byte src (i + 1) tag.name tag.name_end is.is_name).within)
   takes_within open_around s t (takes_start i j b c tag done stack is) = omega (arith, (name_byte src (i + 1) tag.name tag.name_end is.is_name).within)
-  takes_within open_around s t (takes_end i p j b start tag done before up deep end) = omega (arith, (end_bytes src i end.opens).0)
+  takes_within open_around s t (takes_end i p j b start tag done before up deep end) = omega (arith, (end_bytes src i (end_parts end).opens).0)
 
 module _ (es : List Entity) (opener : ValueInclusion) (O : Inclusion) (agrees : AgreesValue es O opener) (once : OpensOnce O) (src : List ℕ) (utf8 : IsUtf8 src) where
   abbrev within : Values

@@ -9,6 +9,7 @@ use Rattle.rox_grammar.specs.References.{IsReference, IsCharacter, predefined}
 use Rattle.rox_grammar.specs.Content.{Inclusion, DataByte, literal, data_bytes_of, Part, part_ends, as_written, from_reference, last_part, then_entity, piece, is_verbatim}
 use Rattle.rox_grammar.specs.RunParts.{Parts}
 use Rattle.rox_reading.specs.Values.{Reference, character_of, entity_at, reference_at}
+use Rattle.rox_theory.proofs.Productions.{reference_parts}
 use Rattle.rox_theory.proofs.FailedReadings.{ok_one}
 use Rattle.rox_theory.proofs.ReferenceLemmas.{character_complete, entity_complete, character_opens, reference_opens}
 use Rattle.rox_theory.proofs.PartLemmas.{part_le}
@@ -55,7 +56,7 @@ character_ends src i c d n m a b =
 
 -- and the name of an entity ends in one place
 pub entity_ends : (src : List ℕ) (i n m j k : ℕ) → IsReference src i n j → IsReference src i m k → (n ≡ m) × (j ≡ k)
-entity_ends src i n m j k a b = let same : n ≡ m = a.name.longest ∙ sym b.name.longest in (same, a.next ∙ ap (λ (n : ℕ). n + 1) same ∙ sym b.next)
+entity_ends src i n m j k a b = let same : n ≡ m = (reference_parts a).name.longest ∙ sym (reference_parts b).name.longest in (same, (reference_parts a).next ∙ ap (λ (n : ℕ). n + 1) same ∙ sym (reference_parts b).next)
 
 -- there is one part at most
 pub part_once : (main : Bool) (src : List ℕ) (stop p q i : ℕ) (ss rs : List DataByte) → Part main src p i ss → Part main src q i rs → PartEnds src stop p → PartEnds src stop q → p ≤ stop → q ≤ stop

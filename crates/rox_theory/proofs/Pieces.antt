@@ -14,6 +14,7 @@ use Rattle.rox_grammar.specs.Entities.{Entity, Includes, most_deep, included_in_
 use Rattle.rox_grammar.specs.Doctype.{Asked, Subset, no_more as no_item, space as subset_space, an_item as subset_item, skipped_declaration, an_entity as an_entity_declared, IsDoctype, no_subset, with_subset}
 use Rattle.rox_grammar.specs.Document.{Misc, no_misc, space, an_item, ParseOf}
 use Rattle.rox_theory.specs.ParseParts.{MayHaveDoctype, doctype, no_doctype}
+use Rattle.rox_theory.proofs.Productions.{cdata_parts}
 use Rattle.rox_theory.proofs.Basics.{mark_from_le}
 use Rattle.rox_theory.proofs.DeclarationLemmas.{stands_fits}
 use Rattle.rox_theory.proofs.StretchLemmas.{slice_length}
@@ -41,12 +42,12 @@ no_bytes (b ∷ bs) none = absurd (some_bytes (literal b) (literals bs) none)
 -- a section without a byte is empty
 pub empty_section : (src : List ℕ) (i e j : ℕ) → IsCData src i e j → slice src (i + 9) e ≡ [] → IsEmptySection src i j
 empty_section src i e j is none =
-    let fits = stands_fits (word_text word.CDataEnd) src e (omega arith) is.closes in
+    let fits = stands_fits (word_text word.CDataEnd) src e (omega arith) (cdata_parts is).closes in
     let from = mark_from_le (word_text word.CDataEnd) src (i + 9) in
-    let long : length (slice src (i + 9) e) ≡ e - (i + 9) = slice_length src (i + 9) e (omega (arith, is.end)) (omega (arith, fits)) in
+    let long : length (slice src (i + 9) e) ≡ e - (i + 9) = slice_length src (i + 9) e (omega (arith, (cdata_parts is).end)) (omega (arith, fits)) in
     let zero : length (slice src (i + 9) e) ≡ 0 = rw none refl in
-    let here : e ≡ i + 9 = omega (arith, is.end) in
-    record { section = subst (λ (k : ℕ). IsCData src i k j) here is; long = omega (arith, is.next) }
+    let here : e ≡ i + 9 = omega (arith, (cdata_parts is).end) in
+    record { section = subst (λ (k : ℕ). IsCData src i k j) here is; long = omega (arith, (cdata_parts is).next) }
 
 -- ---- rows
 

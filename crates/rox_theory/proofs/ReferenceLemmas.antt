@@ -8,9 +8,10 @@ use Rattle.std.proofs.lemmas.Bool.{eqb-true, eqb-false, eq-eqb, ne_eqb, leb-fals
 use Rattle.rox_grammar.specs.Chars.{is_name_start, is_name_char, is_char}
 use Rattle.rox_grammar.specs.Runs.{run_end, begins}
 use Rattle.rox_grammar.specs.Names.{byte, slice}
-use Rattle.rox_grammar.specs.References.{is_digit, is_hex_digit, number, bytes_end, character, predefined, IsNumber, IsReference, IsCharacter, decimal, hexadecimal, named}
+use Rattle.rox_grammar.specs.References.{is_digit, is_hex_digit, number, bytes_end, character, predefined, IsNumber, digits, IsReference, entity_ref, IsCharacter, decimal, hexadecimal, named}
 use Rattle.rox_reading.specs.Values.{Reference, character_of, entity_at, named_or, number_at, name_reference_at, reference_at}
 use Rattle.rox_theory.specs.Openers.{IsStop}
+use Rattle.rox_theory.proofs.Productions.{number_parts, reference_parts}
 use Rattle.rox_theory.proofs.Basics.{ok_same, chosen, within, run_end_le}
 use Rattle.rox_theory.proofs.NameLemmas.{begins_here}
 use Rattle.rox_theory.proofs.CharLemmas.{run_within}
@@ -30,7 +31,7 @@ bytes_pass p src i k from below =
 
 -- a number that is read stands there
 number_sound : (base : ℕ) (is : ℕ → Bool) (src : List ℕ) (i d : ℕ) (x : Reference × ℕ) → number_at base is src i d ≡ Ok x
-    → (c : ℕ) × IsNumber base is src d (bytes_end is src d) c x.1 × (x.0 ≡ character_of c)
+    → (c : ℕ) × IsNumber base is src d c x.1 × (x.0 ≡ character_of c)
 unfolding number_at
 number_sound base is src i d x h =
     let e = bytes_end is src d in
@@ -42,23 +43,19 @@ number_sound base is src i d x h =
     let apart = eqb-false _ _ some in
     let le = bytes_end_le is src d in (
       character n,
-      record { end = refl; some = omega arith; closes = eqb-true _ _ closes; small = leb-false _ _ small; is_character = refl; allowed = allowed; next = sym (ap (λ p. p.1) (ok_same _ _ h)) },
+      subst (IsNumber base is src d (character n)) (ap (λ p. p.1) (ok_same _ _ h)) (digits e refl (omega arith) (eqb-true _ _ closes) (leb-false _ _ small) refl allowed),
       sym (ap (λ p. p.0) (ok_same _ _ h)),
     ))
     (λ fails h. cc)) (λ ill h. cc)))
 
 -- a number that stands there is read
-number_complete : (base : ℕ) (is : ℕ → Bool) (src : List ℕ) (i d e c j : ℕ) → IsNumber base is src d e c j → number_at base is src i d ≡ Ok (character_of c, j)
+number_complete : (base : ℕ) (is : ℕ → Bool) (src : List ℕ) (i d c j : ℕ) → IsNumber base is src d c j → number_at base is src i d ≡ Ok (character_of c, j)
 unfolding number_at
-number_complete base is src i d e c j m =
-    let l = m.end in let some = m.some in
+number_complete base is src i d c j (digits e end some closes small is_character allowed) =
     let apart : eqb e d ≡ false = ne_eqb e d (omega arith) in
-    let small = lt-leb (2 ^ 32) (number base (slice src d e)) m.small in
-    let k = m.is_character in
-    let a = m.allowed in
-    let closes = eq-eqb _ _ m.closes in
-    let next = m.next in
-    rw (← l, apart, small, ← k, a, closes, next) refl
+    let less = lt-leb (2 ^ 32) (number base (slice src d e)) small in
+    let closes' = eq-eqb _ _ closes in
+    rw (← end, apart, less, ← is_character, allowed, closes') refl
 
 -- what a reference is that ends at j: one to a character, or one to an entity
 pub data IsRead (src : List ℕ) (i : ℕ) : Reference → ℕ → Type 0 where
@@ -82,15 +79,15 @@ reference_sound src i x amp h =
     (λ hash h. chosen (eqb (byte src (i + 2)) 120) _ _ _ h
     (λ hex h.
     let m = number_sound 16 is_hex_digit src i (i + 3) x h in
-    number_read src i m.0 x.1 x.0 m.2 (hexadecimal i (bytes_end is_hex_digit src (i + 3)) m.0 x.1 amp (eqb-true _ _ hash) (eqb-true _ _ hex) m.1))
+    number_read src i m.0 x.1 x.0 m.2 (hexadecimal i m.0 x.1 amp (eqb-true _ _ hash) (eqb-true _ _ hex) m.1))
     (λ dec h.
     let m = number_sound 10 is_digit src i (i + 2) x h in
-    number_read src i m.0 x.1 x.0 m.2 (decimal i (bytes_end is_digit src (i + 2)) m.0 x.1 amp (eqb-true _ _ hash) m.1)))
+    number_read src i m.0 x.1 x.0 m.2 (decimal i m.0 x.1 amp (eqb-true _ _ hash) m.1)))
     (λ name h. chosen (begins is_name_start src (i + 1)) _ _ _ h
     (λ starts h. chosen (eqb (byte src (run_end is_name_char src (i + 1))) 59) _ _ _ h
     (λ closes h.
     let n = run_end is_name_char src (i + 1) in
-    let ref : IsReference src i n (n + 1) = record { opens = amp; name = record { starts = starts; longest = refl }; closes = eqb-true _ _ closes; next = refl } in
+    let ref : IsReference src i n (n + 1) = entity_ref amp (record { starts = starts; longest = refl }) (eqb-true _ _ closes) in
     subst (λ (y : Reference × ℕ). IsRead src i y.0 y.1) (ok_same _ _ h) (named_read src i n (n + 1) (predefined (slice src (i + 1) n)) ref refl))
     (λ fails h. cc))
     (λ fails h. cc))
@@ -115,26 +112,26 @@ digit_range b h = let both = and_parts (leb 48 b) (leb b 57) h in (leb-true _ _ 
 pub name_complete : (src : List ℕ) (i n j : ℕ) → IsReference src i n j → reference_at src i ≡ Ok (named_or (predefined (slice src (i + 1) n)) (record { start = i + 1; end = n }), j)
 unfolding reference_at name_reference_at
 name_complete src i n j r =
-    let starts = r.name.starts in let l = r.name.longest in
+    let starts = (reference_parts r).name.starts in let l = (reference_parts r).name.longest in
     let t = ne_eqb (byte src (i + 1)) 35 (name_no_hash src (i + 1) starts) in
-    let closes = eq-eqb _ _ r.closes in
-    let next = r.next in
+    let closes = eq-eqb _ _ (reference_parts r).closes in
+    let next = (reference_parts r).next in
     rw (t, starts, ← l, closes, next) refl
 
 -- a reference to a character is read
 pub character_complete : (src : List ℕ) (i c j : ℕ) → IsCharacter src i c j → reference_at src i ≡ Ok (character_of c, j)
 unfolding reference_at
-character_complete src i c j (decimal _ e _ _ amp hash m) =
+character_complete src i c j (decimal _ _ _ amp hash m) =
     let t = eq-eqb _ _ hash in
-    let some = m.some in let end = m.end in
+    let some = (number_parts m).some in let end = (number_parts m).end in
     let digit = digit_range (byte src (i + 2)) (bytes_pass is_digit src (i + 2) (i + 2) (omega arith) (omega arith)) in
     let dec = ne_eqb (byte src (i + 2)) 120 (λ z. omega arith) in
-    let n = number_complete 10 is_digit src i (i + 2) e c j m in
+    let n = number_complete 10 is_digit src i (i + 2) c j m in
     rw (t, dec, n) refl
-character_complete src i c j (hexadecimal _ e _ _ amp hash hex m) =
+character_complete src i c j (hexadecimal _ _ _ amp hash hex m) =
     let t = eq-eqb _ _ hash in
     let x = eq-eqb _ _ hex in
-    let n = number_complete 16 is_hex_digit src i (i + 3) e c j m in
+    let n = number_complete 16 is_hex_digit src i (i + 3) c j m in
     rw (t, x, n) refl
 character_complete src i c j (named _ n _ _ r is) =
     name_complete src i n j r ∙ ap (λ (o : Option ℕ). Ok (named_or o (record { start = i + 1; end = n }), j)) is
@@ -145,13 +142,13 @@ entity_complete src i n j r is = name_complete src i n j r ∙ ap (λ (o : Optio
 
 -- a reference to a name begins with `&`, and has a byte
 pub reference_opens : (src : List ℕ) (i n j : ℕ) → IsReference src i n j → (byte src i ≡ 38) × (i < n) × (i < j)
-reference_opens src i n j r = let l = r.name.longest in let next = r.next in (r.opens, omega (arith, run_end_le is_name_char src (i + 1)), omega (arith, run_end_le is_name_char src (i + 1)))
+reference_opens src i n j r = let l = (reference_parts r).name.longest in let next = (reference_parts r).next in ((reference_parts r).opens, omega (arith, run_end_le is_name_char src (i + 1)), omega (arith, run_end_le is_name_char src (i + 1)))
 
 -- a reference begins with `&`, and has a byte
 pub character_opens : (src : List ℕ) (i c j : ℕ) → IsCharacter src i c j → (byte src i ≡ 38) × (i < j)
-character_opens src i c j (decimal _ e _ _ amp hash m) = let some = m.some in let next = m.next in (amp, omega arith)
-character_opens src i c j (hexadecimal _ e _ _ amp hash hex m) = let some = m.some in let next = m.next in (amp, omega arith)
-character_opens src i c j (named _ n _ _ r is) = let l = r.name.longest in let next = r.next in (r.opens, omega (arith, run_end_le is_name_char src (i + 1)))
+character_opens src i c j (decimal _ _ _ amp hash m) = let some = (number_parts m).some in let next = (number_parts m).next in (amp, omega arith)
+character_opens src i c j (hexadecimal _ _ _ amp hash hex m) = let some = (number_parts m).some in let next = (number_parts m).next in (amp, omega arith)
+character_opens src i c j (named _ n _ _ r is) = let l = (reference_parts r).name.longest in let next = (reference_parts r).next in ((reference_parts r).opens, omega (arith, run_end_le is_name_char src (i + 1)))
 
 -- a stop is in no name
 stop_no_name : (b : ℕ) → IsStop b → is_name_char b ≡ false
@@ -179,17 +176,18 @@ stop_apart b (inr (inl h)) = (omega arith, λ z. omega arith, λ z. omega arith,
 stop_apart b (inr (inr h)) = (omega arith, λ z. omega arith, λ z. omega arith, λ z. omega arith, λ z. omega arith)
 
 -- digits and the `;` behind them come before a stop
-number_inside : (base : ℕ) (is : ℕ → Bool) (src : List ℕ) (d stop e c j : ℕ) → d ≤ stop → stop ≤ length src → (stop < length src → IsStop (byte src stop))
-    → ((b : ℕ) → IsStop b → is b ≡ false) → IsNumber base is src d e c j → j ≤ stop
-number_inside base is src d stop e c j from long closes none m =
-    let end = m.end in let next = m.next in let some = m.some in
-    let inside : e < length src = within src e (λ z. omega (arith, m.closes)) in
+number_inside : (base : ℕ) (is : ℕ → Bool) (src : List ℕ) (d stop c j : ℕ) → d ≤ stop → stop ≤ length src → (stop < length src → IsStop (byte src stop))
+    → ((b : ℕ) → IsStop b → is b ≡ false) → IsNumber base is src d c j → j ≤ stop
+number_inside base is src d stop c j from long closes none m =
+    let e = (number_parts m).e in
+    let end = (number_parts m).end in let next = (number_parts m).next in let some = (number_parts m).some in
+    let inside : e < length src = within src e (λ z. omega (arith, (number_parts m).closes)) in
     elim (cases_lt e stop) [
       | inl l ↦ omega arith
       | inr g ↦ absurd (
           let s : IsStop (byte src stop) = closes (omega arith) in
           elim (cases_eq stop e) [
-            | inl same ↦ (let k : byte src stop ≡ 59 = rw same m.closes in (stop_apart _ s).1 k)
+            | inl same ↦ (let k : byte src stop ≡ 59 = rw same (number_parts m).closes in (stop_apart _ s).1 k)
             | inr apart ↦ false≢true (sym (none _ s) ∙ bytes_pass is src d stop from (omega arith))
           ])
     ]
@@ -197,7 +195,7 @@ number_inside base is src d stop e c j from long closes none m =
 -- a reference to a name that begins before a stop ends before it
 pub reference_inside : (src : List ℕ) (i stop n j : ℕ) → IsUtf8 src → i < stop → stop ≤ length src → (stop < length src → IsStop (byte src stop)) → IsReference src i n j → j ≤ stop
 reference_inside src i stop n j utf8 from long closes r =
-    let l = r.name.longest in let next = r.next in let closes' = r.closes in let amp = r.opens in
+    let l = (reference_parts r).name.longest in let next = (reference_parts r).next in let closes' = (reference_parts r).closes in let amp = (reference_parts r).opens in
     let inside : n < length src = within src n (λ z. omega arith) in
     let cut = IsCharBoundary-after_ascii src i utf8 (omega arith) (omega arith) in
     elim (cases_lt n stop) [
@@ -211,11 +209,11 @@ reference_inside src i stop n j utf8 from long closes r =
 
 -- a reference that begins before a stop ends before it
 pub character_inside : (src : List ℕ) (i stop c j : ℕ) → IsUtf8 src → i < stop → stop ≤ length src → (stop < length src → IsStop (byte src stop)) → IsCharacter src i c j → j ≤ stop
-character_inside src i stop c j utf8 from long closes (decimal _ e _ _ amp hash m) =
+character_inside src i stop c j utf8 from long closes (decimal _ _ _ amp hash m) =
     let apart : stop ≢ i + 1 = λ same. let h = rw (← same) at hash in (stop_apart _ (closes (let l = within src (i + 1) (λ z. omega arith) in omega arith))).2 h in
-    number_inside 10 is_digit src (i + 2) stop e c j (omega arith) long closes stop_no_digit m
-character_inside src i stop c j utf8 from long closes (hexadecimal _ e _ _ amp hash hex m) =
+    number_inside 10 is_digit src (i + 2) stop c j (omega arith) long closes stop_no_digit m
+character_inside src i stop c j utf8 from long closes (hexadecimal _ _ _ amp hash hex m) =
     let apart : stop ≢ i + 1 = λ same. let h = rw (← same) at hash in (stop_apart _ (closes (let l = within src (i + 1) (λ z. omega arith) in omega arith))).2 h in
     let apart' : stop ≢ i + 2 = λ same. let h = rw (← same) at hex in (stop_apart _ (closes (let l = within src (i + 2) (λ z. omega arith) in omega arith))).3 h in
-    number_inside 16 is_hex_digit src (i + 3) stop e c j (omega arith) long closes stop_no_hex m
+    number_inside 16 is_hex_digit src (i + 3) stop c j (omega arith) long closes stop_no_hex m
 character_inside src i stop c j utf8 from long closes (named _ n _ _ r is) = reference_inside src i stop n j utf8 from long closes r

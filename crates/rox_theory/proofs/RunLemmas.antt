@@ -11,12 +11,11 @@ use Rattle.rox_grammar.specs.Search.{byte_from}
 use Rattle.rox_grammar.specs.Forest.{Forest, join}
 use Rattle.rox_grammar.specs.Written.{Item, Text, leaf}
 use Rattle.rox_grammar.specs.Names.{byte, slice}
-use Rattle.rox_grammar.specs.Constructs.{has_mark}
 use Rattle.rox_grammar.specs.References.{IsReference, predefined}
-use Rattle.rox_grammar.specs.Content.{Inclusion, DataByte, is_literal, data_byte, line_ends, literals, is_verbatim, piece, Part, part_ends, as_written, from_reference, last_part, then_entity, IsCharacterData}
+use Rattle.rox_grammar.specs.Content.{Inclusion, DataByte, is_literal, data_byte, line_ends, literals, is_verbatim, piece, Part, part_ends, as_written, from_reference, last_part, then_entity, IsCharacterData, character_data}
 use Rattle.rox_grammar.specs.RunParts.{Parts}
 use Rattle.rox_grammar.specs.Entities.{Replacement}
-use Rattle.rox_reading.specs.Lexical.{chars_up_to}
+use Rattle.rox_reading.specs.Lexical.{has_mark, chars_up_to}
 use Rattle.rox_reading.specs.Refusals.{Refusal}
 use Rattle.rox_reading.specs.Values.{Next, at_end, opening, data_part, part_text, raw_character_data_at}
 use Rattle.rox_grammar.specs.State.{Open}
@@ -24,7 +23,9 @@ use Rattle.rox_reading.specs.State.{State}
 use Rattle.rox_reading.specs.Machine.{Context, with_item, with_piece, at_place, after_part, data_parts, character_data_step}
 use Rattle.rox_reading.proofs.Forests.{join-nil, join_assoc}
 use Rattle.rox_theory.specs.Openers.{IsStop}
+use Rattle.rox_theory.proofs.Productions.{char_data_parts}
 use Rattle.rox_theory.proofs.Basics.{ok_same, bind_ok, bind_lifted, bind_lifted_only, chosen, chars_sound, chars_complete}
+use Rattle.rox_theory.proofs.FirstMarks.{mark_behind, unmarked_run}
 use Rattle.rox_theory.proofs.LiteralLemmas.{from_le, from_bound, from_here}
 use Rattle.rox_theory.proofs.StretchLemmas.{slice_none, slice_length}
 use Rattle.rox_theory.proofs.ReferenceLemmas.{character_opens, reference_opens}
@@ -252,22 +253,22 @@ raw_sound src utf8 i x here other h =
     bind_ok (chars_up_to end src i) _ _ h (λ raw read h.
     let c = chars_sound end src i raw utf8 (from_le (λ c. c == 60) src i) read in
     chosen (has_mark (word_text word.CDataEnd) raw.0) _ _ _ h (λ ill h. cc) (λ fine h.
-    let run : IsCharacterData src i end = record { some = some; end = refl; chars = c.0; no_end_mark = rw c.1 at fine } in
+    let run : IsCharacterData src i end = character_data some refl c.0 (unmarked_run src i end refl (from_bound (λ c. c == 60) src i (omega arith)) (rw c.1 at fine)) in
     subst (λ (y : List ℕ × ℕ). IsCharacterData src i y.1 × (y.0 ≡ slice src i y.1)) (ok_same _ _ h) (run, c.1)))
 
 -- and that stand there
 raw_complete : (src : List ℕ) (i j : ℕ) → IsCharacterData src i j → raw_character_data_at src i ≡ Ok (slice src i j, j)
 unfolding raw_character_data_at
 raw_complete src i j run =
-    let end = run.end in
-    let c = chars_complete j src i run.chars in
-    let mark = run.no_end_mark in
+    let end = (char_data_parts run).end in
+    let c = chars_complete j src i (char_data_parts run).chars in
+    let mark = mark_behind (word_text word.CDataEnd) src i j (char_data_parts run).unmarked in
     rw (← end, c, mark) refl
 
 -- a run ends in the text
 pub run_inside : (src : List ℕ) (i j : ℕ) → IsCharacterData src i j → (j ≤ length src) × (j < length src → IsStop (byte src j))
 run_inside src i j run =
-    let end = run.end in let some = run.some in
+    let end = (char_data_parts run).end in let some = (char_data_parts run).some in
     let inside : j ≤ length src = elim (cases_lt i (length src)) as (λ s. j ≤ length src) [
       | inl l ↦ rw end (from_bound (λ c. c == 60) src i (omega arith))
       | inr g ↦ absurd (omega (arith, past_end src i g))
@@ -305,7 +306,7 @@ module _ (context : Context) (O : Inclusion) (agrees : AgreesContent context.val
   -- the part of a plain run
   pub plain_part : (i j b : ℕ) → IsCharacterData src i j → is_verbatim (slice src i j) ≡ true → Parts context.values.main O src i j i b b (leaf (Text i j (slice src i j) true))
   plain_part i j b run plain =
-      let some = run.some in
+      let some = (char_data_parts run).some in
       let inside = run_inside src i j run in
       let s = stretch_on context.values.entities src utf8 j inside.0 inside.1 context.values.main j (j - i) i j [] (omega arith) (omega arith) inside.0 (λ k from below. plain_bytes i j k inside.0 plain from below)
       (nothing_from context.values.entities src utf8 j inside.0 inside.1 context.values.main j) in
@@ -317,7 +318,7 @@ module _ (context : Context) (O : Inclusion) (agrees : AgreesContent context.val
   -- a plain run has no other parts
   part_plain : (i j b c : ℕ) (items : Forest Item) → IsCharacterData src i j → is_verbatim (slice src i j) ≡ true → Parts context.values.main O src i j i b c items → (items ≡ leaf (Text i j (slice src i j) true)) × (b ≡ c)
   part_plain i j b c items run plain (last_part _ _ ss part) =
-      let some = run.some in
+      let some = (char_data_parts run).some in
       let inside = run_inside src i j run in
       let o = stretch_off context.values.entities src utf8 j inside.0 inside.1 context.values.main j (j - i) i j ss (omega arith) (omega arith) inside.0 (λ k from below. plain_bytes i j k inside.0 plain from below) part in
       let none = empty_part context.values.main j j o.0 (omega arith) o.1 in
@@ -346,7 +347,7 @@ module _ (context : Context) (O : Inclusion) (agrees : AgreesContent context.val
       bind_lifted (raw_character_data_at src s.at) _ _ h (λ x read h.
       let raw = raw_sound src utf8 s.at x here other read in
       let inside = run_inside src s.at x.1 raw.0 in
-      let some = raw.0.some in
+      let some = (char_data_parts raw.0).some in
       chosen (is_verbatim x.0) _ _ _ h
       (λ plain h.
       let plain' : is_verbatim (slice src s.at x.1) ≡ true = rw (raw.1) at plain in

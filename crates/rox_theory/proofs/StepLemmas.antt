@@ -20,6 +20,7 @@ use Rattle.rox_grammar.specs.State.{Open, root, inside, scope_of, attributes_so_
 use Rattle.rox_reading.specs.State.{State, depth_of}
 use Rattle.rox_reading.specs.Machine.{Context, comment_step, cdata_step, instruction_step, end_step, tag_step, opened_by, closed_by, cut_off_fault, step}
 use Rattle.rox_theory.specs.Openers.{AgreesValue}
+use Rattle.rox_theory.proofs.Productions.{comment_parts, pi_parts, cdata_parts, end_parts, char_data_parts}
 use Rattle.rox_theory.proofs.Basics.{ok_same, bind_ok, bind_lifted_only, chosen, within}
 use Rattle.rox_theory.proofs.NameLemmas.{qname_le}
 use Rattle.rox_theory.proofs.DeclarationLemmas.{stands_fits}
@@ -171,8 +172,8 @@ module _ (context : Context) (O : Inclusion) (values : AgreesValue context.value
   read_cdata s v j read fine = let one = read_item context.limit s j (Text s.at j (line_ends (literals v)) (not (list_any (λ b. b == 13) v))) fine in rw (read, one) refl
 
   read_misc : (s : State) (j : ℕ) (item : Item) → IsMisc src s.at j item → IsValidState context.limit (with_leaf s j item) → step context src s ≡ Ok (with_leaf s j item)
-  read_misc s j item (comment _ e _ is) fine = by_kind a_comment s _ (comment_kind src s.at is.opens) (read_comment s e j (comment s.at e j is) (markup.comment_complete src s.at e j is) fine)
-  read_misc s j item (instruction _ n e _ is) fine = by_kind an_instruction s _ (instruction_kind src s.at is.opens) (read_instruction s _ j (markup.instruction_complete src s.at n e j is) fine)
+  read_misc s j item (comment _ e _ is) fine = by_kind a_comment s _ (comment_kind src s.at (comment_parts is).opens) (read_comment s e j (comment s.at e j is) (markup.comment_complete src s.at e j is) fine)
+  read_misc s j item (instruction _ n e _ is) fine = by_kind an_instruction s _ (instruction_kind src s.at (pi_parts is).opens) (read_instruction s _ j (markup.instruction_complete src s.at n e j is) fine)
 
   -- a start tag
   opened_found : (s : State) (j c : ℕ) (tag : Tag) (empty : Bool) → IsValidState context.limit (after s j tag empty c) → Adds s (Element s.at j tag) × (opened_by context.limit s tag empty c j ≡ Ok (after s j tag empty c))
@@ -208,12 +209,12 @@ module _ (context : Context) (O : Inclusion) (values : AgreesValue context.value
   pub step_complete : (s t : State) → OneConstruct s t → IsValidState context.limit t → step context src s ≡ Ok t
   step_complete s t (takes_run i j b c items done stack is parts) fine =
       by_kind a_run s t (run_kind src i (run_within src i j is).1) (runs.run_complete context O contents src utf8 j c items s is parts fine)
-  step_complete s t (takes_cdata i e j b done stack is) fine = by_kind a_cdata s t (cdata_kind src i is.opens) (read_cdata s _ j (markup.cdata_complete src i e j is) fine)
+  step_complete s t (takes_cdata i e j b done stack is) fine = by_kind a_cdata s t (cdata_kind src i (cdata_parts is).opens) (read_cdata s _ j (markup.cdata_complete src i e j is) fine)
   step_complete s t (takes_misc i j b item done stack is) fine = read_misc s j item is fine
   step_complete s t (takes_empty i j b c tag done stack is) fine = tag_found s j c tag true is fine
   step_complete s t (takes_start i j b c tag done stack is) fine = tag_found s j c tag false is fine
   step_complete s t (takes_end i p j b start tag done before up deep end) fine =
-      by_kind an_end s t (end_kind src i end.opens) (end_lifted i p j b start tag done before up deep end)
+      by_kind an_end s t (end_kind src i (end_parts end).opens) (end_lifted i p j b start tag done before up deep end)
     where
       end_lifted : (i p j b start : ℕ) (tag : Tag) (done before : Forest Item) (up : Open) → context.open_around < depth_of up + 1 → IsEnd src i tag.name p j
           → step_by an_end context src (state i done (inside start tag before up) b) ≡ Ok (closed j done start tag before up b)
@@ -234,29 +235,29 @@ module _ (context : Context) (O : Inclusion) (values : AgreesValue context.value
 
   misc_moves : (i j : ℕ) (item : Item) → IsMisc src i j item → (i < length src) × (i < j) × (j ≤ length src)
   misc_moves i j item (comment _ e _ is) =
-      let b = comment_bytes src i is.opens in
-      let m = markup.comment_sound src utf8 i j _ is.opens (markup.comment_complete src i e j is) in
-      let next = is.next in
-      (omega arith, m.3, omega (arith, stands_fits (word_text word.CommentEnd) src e (omega arith) is.closes))
+      let b = comment_bytes src i (comment_parts is).opens in
+      let m = markup.comment_sound src utf8 i j _ (comment_parts is).opens (markup.comment_complete src i e j is) in
+      let next = (comment_parts is).next in
+      (omega arith, m.3, omega (arith, stands_fits (word_text word.CommentEnd) src e (omega arith) (comment_parts is).closes))
   misc_moves i j item (instruction _ n e _ is) =
-      let b = instruction_bytes src i is.opens in
-      let m = markup.instruction_sound src utf8 i j _ is.opens (markup.instruction_complete src i n e j is) in
-      let next = is.next in
-      (omega arith, m.4, omega (arith, stands_fits (word_text word.PIEnd) src e (omega arith) is.closes))
+      let b = instruction_bytes src i (pi_parts is).opens in
+      let m = markup.instruction_sound src utf8 i j _ (pi_parts is).opens (markup.instruction_complete src i n e j is) in
+      let next = (pi_parts is).next in
+      (omega arith, m.4, omega (arith, stands_fits (word_text word.PIEnd) src e (omega arith) (pi_parts is).closes))
 
   pub step_moves : (s t : State) → OneConstruct s t → (s.at < length src) × (s.at < t.at) × (t.at ≤ length src)
-  step_moves s t (takes_run i j b c items done stack is parts) = ((run_within src i j is).0, is.some, (runs.run_inside src i j is).0)
+  step_moves s t (takes_run i j b c items done stack is parts) = ((run_within src i j is).0, (char_data_parts is).some, (runs.run_inside src i j is).0)
   step_moves s t (takes_cdata i e j b done stack is) =
-      let b = cdata_bytes src i is.opens in
-      let m = markup.cdata_sound src utf8 i j _ is.opens (markup.cdata_complete src i e j is) in
-      let next = is.next in
-      (omega arith, m.3, omega (arith, stands_fits (word_text word.CDataEnd) src e (omega arith) is.closes))
+      let b = cdata_bytes src i (cdata_parts is).opens in
+      let m = markup.cdata_sound src utf8 i j _ (cdata_parts is).opens (markup.cdata_complete src i e j is) in
+      let next = (cdata_parts is).next in
+      (omega arith, m.3, omega (arith, stands_fits (word_text word.CDataEnd) src e (omega arith) (cdata_parts is).closes))
   step_moves s t (takes_misc i j b item done stack is) = misc_moves i j item is
   step_moves s t (takes_empty i j b c tag done stack is) = tag_moves i j b c true tag is
   step_moves s t (takes_start i j b c tag done stack is) = tag_moves i j b c false tag is
   step_moves s t (takes_end i p j b start tag done before up deep end) =
-      let b = end_bytes src i end.opens in
-      let m = markup.end_sound src i j (record { name = tag.name; name_end = p }) end.opens (markup.end_complete src i j p tag.name end) in
-      let next = end.next in let closes = end.closes in
+      let b = end_bytes src i (end_parts end).opens in
+      let m = markup.end_sound src i j (record { name = tag.name; name_end = p }) (end_parts end).opens (markup.end_complete src i j p tag.name end) in
+      let next = (end_parts end).next in let closes = (end_parts end).closes in
       let l = within src (spaces_end src p) (λ z. omega arith) in
       (omega arith, m.1, omega arith)

@@ -22,6 +22,7 @@ use Rattle.rox_reading.proofs.Answering as turn
 use Rattle.rox_reading.proofs.Answering.{spaced, none_yet, continued}
 use Rattle.rox_reading.proofs.Forests.{join-nil, join_assoc}
 use Rattle.rox_theory.specs.ValidState.{IsValidState, state}
+use Rattle.rox_theory.proofs.Productions.{comment_parts, pi_parts}
 use Rattle.rox_theory.proofs.Basics.{within}
 use Rattle.rox_theory.proofs.NameLemmas.{run_stops}
 use Rattle.rox_theory.proofs.MarkupLemmas.{comment_complete, instruction_complete}
@@ -101,10 +102,10 @@ module _ (src : List ℕ) (utf8 : IsUtf8 src) where
     unfolding comment_step instruction_step
     item_read n i j item done es (comment _ c _ is) fine =
         let inside = misc_within src utf8 i j item (comment i c j is) in
-        let bytes = comment_bytes src i is.opens in
+        let bytes = comment_bytes src i (comment_parts is).opens in
         let e : spaces_end src i ≡ i = no_spaces src i bytes.1 in
-        let no_entity : at word.EntityStart src (spaces_end src i) ≡ false = rw e (words_apart word.EntityStart word.CommentStart src i 2 (omega arith) (omega arith) (λ h. omega arith) is.opens) in
-        let opens : at word.CommentStart src (spaces_end src i) ≡ true = rw e is.opens in
+        let no_entity : at word.EntityStart src (spaces_end src i) ≡ false = rw e (words_apart word.EntityStart word.CommentStart src i 2 (omega arith) (omega arith) (λ h. omega arith) (comment_parts is).opens) in
+        let opens : at word.CommentStart src (spaces_end src i) ≡ true = rw e (comment_parts is).opens in
         let s = state i done stack openings_left in
         let one = read_item limit s j item fine in
         let step : comment_step limit src s ≡ Ok (with_leaf s j item) = rw (comment_complete src i c j is) one in
@@ -113,11 +114,11 @@ module _ (src : List ℕ) (utf8 : IsUtf8 src) where
         (with_leaf s j item) opens step'
     item_read n i j item done es (instruction _ t c _ is) fine =
         let inside = misc_within src utf8 i j item (instruction i t c j is) in
-        let bytes = instruction_bytes src i is.opens in
+        let bytes = instruction_bytes src i (pi_parts is).opens in
         let e : spaces_end src i ≡ i = no_spaces src i bytes.1 in
-        let no_entity : at word.EntityStart src (spaces_end src i) ≡ false = rw e (words_apart word.EntityStart word.PIStart src i 1 (omega arith) (omega arith) (λ h. omega arith) is.opens) in
-        let no_comment : at word.CommentStart src (spaces_end src i) ≡ false = rw e (words_apart word.CommentStart word.PIStart src i 1 (omega arith) (omega arith) (λ h. omega arith) is.opens) in
-        let opens : at word.PIStart src (spaces_end src i) ≡ true = rw e is.opens in
+        let no_entity : at word.EntityStart src (spaces_end src i) ≡ false = rw e (words_apart word.EntityStart word.PIStart src i 1 (omega arith) (omega arith) (λ h. omega arith) (pi_parts is).opens) in
+        let no_comment : at word.CommentStart src (spaces_end src i) ≡ false = rw e (words_apart word.CommentStart word.PIStart src i 1 (omega arith) (omega arith) (λ h. omega arith) (pi_parts is).opens) in
+        let opens : at word.PIStart src (spaces_end src i) ≡ true = rw e (pi_parts is).opens in
         let s = state i done stack openings_left in
         let one = read_item limit s j item fine in
         let step : instruction_step limit src s ≡ Ok (with_leaf s j item) = rw (instruction_complete src i t c j is) one in
