@@ -67,7 +67,7 @@ module _ (src to : List ℕ) (m : ℕ) (f : Fronts src to m) where
 
   pair_lt : (i j : ℕ) → IsPair src i j → i < j
   pair_lt i j is =
-      let next = is.literal.quoted.next in
+      let next = is.literal.0.3 in
       omega (arith, qname_le src i is.name is.n is.is_name, eq_lt src is.n is.v is.eq, literal_lt src is.v is.e j is.literal)
 
   may_le : (w : Word) (i j : ℕ) → MayBePair (word_text w) src i j → i ≤ j
@@ -77,7 +77,7 @@ module _ (src to : List ℕ) (m : ℕ) (f : Fronts src to m) where
   -- a pair ends in its quote
   pair_cut : (i j : ℕ) → IsCharBoundary (take m src) i → j < m → IsPair src i j → IsPair to i j × IsCharBoundary (take m src) j
   pair_cut i j cut below is =
-      let next = is.literal.quoted.next in
+      let next = is.literal.0.3 in
       let a = qname_le src i is.name is.n is.is_name in
       let b = eq_lt src is.n is.v is.eq in
       let c = literal_lt src is.v is.e j is.literal in

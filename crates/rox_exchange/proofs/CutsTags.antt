@@ -60,19 +60,19 @@ module _ (src to : List ℕ) (m : ℕ) (f : Fronts src to m) where
   -- a character begins behind a literal
   pub behind_literal : (i e j : ℕ) → j ≤ m → IsLiteral src i e j → IsCharBoundary (take m src) j
   behind_literal i e j fits is =
-      let next = is.quoted.next in
-      let end = is.quoted.end in
-      let inside = is.quoted.closes in
+      let next = is.0.3 in
+      let end = is.0.1 in
+      let inside = is.0.2 in
       let q = from_here (λ c. c == byte src i) src (i + 1) (omega arith) in
       let same : byte src e ≡ byte src i = eqb-true _ _ (subst (λ (x : ℕ). (byte src x == byte src i) ≡ true) (sym end) q) in
-      let small : byte src i < 128 = elim is.quoted.quote as (λ s. byte src i < 128) [ inl one ↦ omega arith | inr two ↦ omega arith ] in
+      let small : byte src i < 128 = elim is.0.0 as (λ s. byte src i < 128) [ inl one ↦ omega arith | inr two ↦ omega arith ] in
       subst (IsCharBoundary (take m src)) (sym next) (behind src to m f (byte src i) e (omega arith) same small)
 
   -- an attribute, and a character begins behind it
   pub attribute_cut : (main : Bool) (Includes : Inclusion) (i j b c : ℕ) (a : Attribute) → IsCharBoundary (take m src) i → j ≤ m → IsAttribute main Includes src i j b c a
       → IsAttribute main Includes to i j b c a × IsCharBoundary (take m src) j
   attribute_cut main Includes i j b c a cut fits is =
-      let next = is.literal.quoted.next in
+      let next = is.literal.0.3 in
       let v = eq_lt src a.name_end is.v is.eq in
       let e = literal_lt src is.v is.e j is.literal in
       let n = qname_cut src to m f i a.name a.name_end cut (omega arith) is.is_name in (

@@ -29,10 +29,10 @@ module _ (src : List ℕ) where
   qname_le i name j (colon_first _ _ colon n last) = omega (arith, ncname_le (i + 1) j n)
 
   pub eq_lt : (i j : ℕ) → IsEq src i j → i < j
-  eq_lt i j is = let l = is.next in omega (arith, run_le is_space src i, run_le is_space src (spaces_end src i + 1))
+  eq_lt i j is = let l = is.1 in omega (arith, run_le is_space src i, run_le is_space src (spaces_end src i + 1))
 
   pub literal_lt : (i e j : ℕ) → IsLiteral src i e j → i < e
-  literal_lt i e j is = omega (arith, chars_le (i + 1) e is.chars)
+  literal_lt i e j is = omega (arith, chars_le (i + 1) e is.1)
 
   pub comment_le : (i e j : ℕ) → IsComment src i e j → i + 4 ≤ e
   comment_le i e j is = chars_le (i + 4) e is.chars
@@ -53,7 +53,7 @@ module _ (src : List ℕ) where
 
   pub attribute_lt : (main : Bool) (Includes : Inclusion) (i j b c : ℕ) (a : Attribute) → IsAttribute main Includes src i j b c a → i < j
   attribute_lt main Includes i j b c a is =
-      let next = is.literal.quoted.next in
+      let next = is.literal.0.3 in
       omega (arith, qname_le i a.name a.name_end is.is_name, eq_lt a.name_end is.v is.eq, literal_lt is.v is.e j is.literal)
 
   pub attributes_le : (main : Bool) (Includes : Inclusion) (i j b c : ℕ) (as' : List Attribute) → Attributes main Includes src i j b c as' → i ≤ j

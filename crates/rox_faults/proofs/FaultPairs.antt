@@ -42,7 +42,7 @@ quote_stands src q f (inr is) (none_left _ past) = let l = within src q (λ z. o
 
 -- where the value begins
 pub eq_one : (src : List ℕ) (m n v w : ℕ) → m ≡ n → IsEq src m v → IsEq src n w → v ≡ w
-eq_one src m n v w same a b = a.next ∙ ap (λ (k : ℕ). spaces_end src (spaces_end src k + 1)) same ∙ sym b.next
+eq_one src m n v w same a b = a.1 ∙ ap (λ (k : ℕ). spaces_end src (spaces_end src k + 1)) same ∙ sym b.1
 
 module _ (src : List ℕ) (utf8 : IsUtf8 src) where
   -- in a name, Eq and a literal
@@ -50,21 +50,21 @@ module _ (src : List ℕ) (utf8 : IsUtf8 src) where
   pair_apart i n v e j q name t f named eq literal its_name lack = qname_stands src i n name f named lack
   pair_apart i n v e j q name t f named eq literal (equals name' m is) lack =
       let same : m ≡ n = (one_qname src i m n name' name is named).1 in
-      byte_stands src 61 (spaces_end src n) f (omega arith) eq.equals (subst (λ (m : ℕ). IsMissing src (spaces_end src m) (a_byte 61) f) same lack)
+      byte_stands src 61 (spaces_end src n) f (omega arith) eq.0 (subst (λ (m : ℕ). IsMissing src (spaces_end src m) (a_byte 61) f) same lack)
   pair_apart i n v e j q name t f named eq literal (opening name' m w is eq') lack =
       let same : w ≡ v = eq_one src m n w v (one_qname src i m n name' name is named).1 eq' eq in
-      quote_stands src v f literal.quoted.quote (subst (λ (w : ℕ). IsMissing src w a_quote f) same lack)
+      quote_stands src v f literal.0.0 (subst (λ (w : ℕ). IsMissing src w a_quote f) same lack)
   pair_apart i n v e j q name t f named eq literal (its_value name' m w is eq' quote) lack =
       let same : w ≡ v = eq_one src m n w v (one_qname src i m n name' name is named).1 eq' eq in
-      let ascii = quote_ascii (byte src v) literal.quoted.quote in
+      let ascii = quote_ascii (byte src v) literal.0.0 in
       let cut : IsCharBoundary src (v + 1) = cut_behind src v (byte src v) utf8 refl (omega arith) (omega arith) in
       let to_end : value_end src v ≡ e = literal_complete src v e j literal in
-      chars_stand src utf8 (v + 1) (value_end src v) f cut (value_cut src utf8 v (within src v (λ z. omega arith)) literal.quoted.quote)
-      (subst (λ (e : ℕ). AreChars src (v + 1) e) (sym to_end) literal.chars)
+      chars_stand src utf8 (v + 1) (value_end src v) f cut (value_cut src utf8 v (within src v (λ z. omega arith)) literal.0.0)
+      (subst (λ (e : ℕ). AreChars src (v + 1) e) (sym to_end) literal.1)
       (subst (λ (w : ℕ). IsMissing src (w + 1) (chars_to (value_end src w)) f) same lack)
   pair_apart i n v e j q name t f named eq literal (closing name' m w is eq' quote chars) lack =
       let same : w ≡ v = eq_one src m n w v (one_qname src i m n name' name is named).1 eq' eq in
-      let ascii = quote_ascii (byte src v) literal.quoted.quote in
+      let ascii = quote_ascii (byte src v) literal.0.0 in
       let to_end : value_end src v ≡ e = literal_complete src v e j literal in
       byte_stands src (byte src v) (value_end src v) f (omega arith) (ap (byte src) to_end ∙ literal_closes src v e j literal)
       (subst (λ (w : ℕ). IsMissing src (value_end src w) (a_byte (byte src w)) f) same lack)

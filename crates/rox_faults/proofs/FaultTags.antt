@@ -184,7 +184,7 @@ module _ (src : List ℕ) (utf8 : IsUtf8 src) where
       (λ s equals' h.
       let eq' = byte_sound 61 src (spaces_end src name.1) s equals' in
       let v = spaces_end src s.1 in
-      let eq : IsEq src name.1 v = record { equals = eq'.0; next = ap (spaces_end src) eq'.1 } in
+      let eq : IsEq src name.1 v = (eq'.0, ap (spaces_end src) eq'.1) in
       bind_err (quote_at src v) _ f h
       (λ bad. (v, a_quote, opening name.0 name.1 v is_name eq, quote_fails src v f bad))
       (λ q quoted h.
@@ -238,8 +238,8 @@ attributes_more main O src k d i j b c as' a (one_more _ m _ _ e _ first rest sp
 -- a character begins behind an attribute
 pub attribute_cut : (main : Bool) (O : Inclusion) (src : List ℕ) (utf8 : IsUtf8 src) (i j b c : ℕ) (a : Attribute) → IsAttribute main O src i j b c a → IsCharBoundary src j
 attribute_cut main O src utf8 i j b c a is =
-    let quote = quote_ascii (byte src is.v) is.literal.quoted.quote in
-    let next = is.literal.quoted.next in
+    let quote = quote_ascii (byte src is.v) is.literal.0.0 in
+    let next = is.literal.0.3 in
     rw next (cut_behind src is.e (byte src is.v) utf8 (literal_closes src is.v is.e j is.literal) (omega arith) (omega arith))
 
 module _ (opens : ℕ → Inclusion) (es : List Entity) (agrees : (d l : ℕ) → d + l ≡ most_deep → AgreesValue es (opens l) (value_opener es d (is_main l))) (texts : AreTexts es) (deeper level : ℕ) (deep : deeper + level ≡ most_deep)
@@ -386,11 +386,11 @@ module _ (opens : ℕ → Inclusion) (es : List Entity) (agrees : (d l : ℕ) �
         let stands = turn_sound src utf8 p (more raw, j) turn in
         let spaces = stands.0 in
         let r = stands.1 in
-        let closes = r.literal.quoted.closes in
+        let closes = r.literal.0.2 in
         bind_err (value_at (is_main level) es alone.opener src raw.value_start raw.value_end c) _ e bad
         (λ ill. let start = r.value_start in
         let w = value_fails opens es level src raw.value_start raw.value_end c agrees texts deeper e deep utf8 (omega arith) (λ z. literal_stop src r.v raw.value_end j r.literal)
-        (λ k from below. literal_plain src r.v raw.value_end j r.literal k (omega arith) below) (subst (IsCharBoundary src) (sym start) (let quote = quote_ascii (byte src r.v) r.literal.quoted.quote in cut_behind src r.v (byte src r.v) utf8 refl (omega arith) (omega arith))) ill in
+        (λ k from below. literal_plain src r.v raw.value_end j r.literal k (omega arith) below) (subst (IsCharBoundary src) (sym start) (let quote = quote_ascii (byte src r.v) r.literal.0.0 in cut_behind src r.v (byte src r.v) utf8 refl (omega arith) (omega arith))) ill in
         (ill_value p c raw.name_end r.v raw.value_end j as' raw.name to spaces r.is_name r.eq r.literal
         (subst (λ (i : ℕ). Refuses es (InPart opens es level src i raw.value_end c) src e) start w)))
         (λ v read bad.

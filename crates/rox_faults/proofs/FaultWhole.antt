@@ -102,7 +102,7 @@ module _ (src : List ℕ) (utf8 : IsUtf8 src) where
       (λ s equals' h.
       let eq' = byte_sound 61 src (spaces_end src name.1) s equals' in
       let v = spaces_end src s.1 in
-      let eq : IsEq src name.1 v = record { equals = eq'.0; next = ap (spaces_end src) eq'.1 } in
+      let eq : IsEq src name.1 v = (eq'.0, ap (spaces_end src) eq'.1) in
       bind_err (quote_at src v) _ f h
       (λ bad. (v, a_quote, opening name.0 name.1 v is_name eq, quote_fails src v f bad))
       (λ q quoted h.

@@ -54,22 +54,20 @@ pub record IsCData (src : List ℕ) (i e j : ℕ) : Type 0 where
   pub next : j ≡ e + 3
 
 -- XML 2.3 [25] Eq
-pub record IsEq (src : List ℕ) (i j : ℕ) : Type 0 where
-  pub equals : byte src (spaces_end src i) ≡ code "="
-  pub next : j ≡ spaces_end src (spaces_end src i + 1)
+abbrev pub IsEq : List ℕ → (i j : ℕ) → Type 0
+IsEq src i j = (byte src (spaces_end src i) ≡ code "=") × (j ≡ spaces_end src (spaces_end src i + 1))
+
+-- a quote stands at i
+abbrev pub IsQuote : List ℕ → ℕ → Type 0
+IsQuote src i = (byte src i ≡ code "'") ⊎ (byte src i ≡ code "\"")
 
 -- XML 2.3 [9], [11], [12]: any characters but the quote, in quotes; it ends at e. They need not be Chars (2.2), nor those of [12].
-pub record IsQuoted (src : List ℕ) (i e j : ℕ) : Type 0 where
-  pub quote : (byte src i ≡ code "'") ⊎ (byte src i ≡ code "\"")
-  pub end : e ≡ byte_from (λ c. c == byte src i) src (i + 1)
-  pub closes : e < length src
-  pub next : j ≡ e + 1
+abbrev pub IsQuoted : List ℕ → (i e j : ℕ) → Type 0
+IsQuoted src i e j = IsQuote src i × (e ≡ byte_from (λ c. c == byte src i) src (i + 1)) × (e < length src) × (j ≡ e + 1)
 
 -- XML 2.3 [10] one with Chars and no `<`
-pub record IsLiteral (src : List ℕ) (i e j : ℕ) : Type 0 where
-  pub quoted : IsQuoted src i e j
-  pub chars : AreChars src (i + 1) e
-  pub no_markup : e ≡ byte_from (λ c. c == code "<") (take e src) (i + 1)
+abbrev pub IsLiteral : List ℕ → (i e j : ℕ) → Type 0
+IsLiteral src i e j = IsQuoted src i e j × AreChars src (i + 1) e × (e ≡ byte_from (λ c. c == code "<") (take e src) (i + 1))
 
 -- a name, Eq, and a literal
 pub record IsPair (src : List ℕ) (i j : ℕ) : Type 0 where

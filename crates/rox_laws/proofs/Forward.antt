@@ -41,11 +41,11 @@ attribute_forward src i j b c a is =
     omega (
       arith,
       qname_le src i a.name a.name_end is.is_name,
-      is.eq.next,
+      is.eq.1,
       run_end_le is_space src a.name_end,
       run_end_le is_space src (spaces_end src a.name_end + 1),
       literal_le src is.v is.e j is.literal,
-      is.literal.quoted.next,
+      is.literal.0.3,
     )
 
 pub attributes_forward : (src : List ℕ) (i j b c : ℕ) (as' : List Attribute) → Attributes true no_entities src i j b c as' → i ≤ j

@@ -67,10 +67,10 @@ refusal_placed limit allow text asked source f utf8 (refused.RefusalOf.behind _ 
 -- a literal is cut off at its closing quote
 quoted_told : (text : List ℕ) (source : List ℕ) (f : Fault) (x : Error) → IsUtf8 text → (l : IsLiteralIn text source) → (IsUtf8 source → IsOwn text source f) → NamesText source f → IsErrorOf source f x → IsErrorOf text f x
 quoted_told text source f x utf8 l own named told =
-    let low = quote_ascii (byte text l.start) l.quoted.quote in
+    let low = quote_ascii (byte text l.start) l.quoted.0 in
     let closes : byte text l.end ≡ byte text l.start = quoted_closes text l.start l.end l.next l.quoted in
     let ascii : byte text l.end < 128 = omega arith in
-    let inside : l.end < length text = l.quoted.closes in
+    let inside : l.end < length text = l.quoted.2 in
     let cut = cut_at text l.end (byte text l.start) closes (omega arith) (omega arith) in
     let front : IsUtf8 source = subst IsUtf8 (sym l.cut_off) (IsUtf8-take text l.end utf8 cut) in
     elim (own front) as (λ q. IsErrorOf text f x) [

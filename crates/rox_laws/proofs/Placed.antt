@@ -132,8 +132,8 @@ module _ (src : List ℕ) (utf8 : IsUtf8 src) where
 
   pair_cut : (i j : ℕ) → IsPair src i j → IsCharBoundary src j
   pair_cut i j is =
-      let low = quote_ascii (byte src is.v) is.literal.quoted.quote in
-      subst (IsCharBoundary src) (sym is.literal.quoted.next) (cut_behind src is.e (byte src is.v) utf8 (literal_closes src is.v is.e j is.literal) (omega arith) (omega arith))
+      let low = quote_ascii (byte src is.v) is.literal.0.0 in
+      subst (IsCharBoundary src) (sym is.literal.0.3) (cut_behind src is.e (byte src is.v) utf8 (literal_closes src is.v is.e j is.literal) (omega arith) (omega arith))
 
   gap_cut : (j k : ℕ) → IsCharBoundary src j → IsGap src j k → IsCharBoundary src k
   gap_cut j k cut (constructs.IsGap.some_space _ some) = run_cut is_space src j utf8 cut

@@ -108,17 +108,17 @@ selects src scope w is =
     let quote_le = run_end_le is_space src (spaces_end src w.name_end + 1) in
     let value_le = literal_le src is.v is.e w.end is.literal in
     let v : w.value_start - 1 ≡ is.v = omega (arith, is.value_start) in
-    let e : w.end - 1 ≡ is.e = omega (arith, is.literal.quoted.next) in
-    let long : is.e ≤ length src = omega (arith, is.literal.quoted.closes) in
+    let e : w.end - 1 ≡ is.e = omega (arith, is.literal.0.3) in
+    let long : is.e ≤ length src = omega (arith, is.literal.0.2) in
     record {
       inside = (
         name_le,
-        omega (arith, is.eq.next, equals_le, quote_le, v),
-        omega (arith, is.value_start, value_le, is.literal.quoted.next),
-        omega (arith, is.literal.quoted.closes, is.literal.quoted.next),
+        omega (arith, is.eq.1, equals_le, quote_le, v),
+        omega (arith, is.value_start, value_le, is.literal.0.3),
+        omega (arith, is.literal.0.2, is.literal.0.3),
       );
-      name = spelled src w.start w.name w.name_end is.is_name (omega (arith, is.eq.next, equals_le, quote_le, value_le, long));
-      opens = rw v is.literal.quoted.quote;
+      name = spelled src w.start w.name w.name_end is.is_name (omega (arith, is.eq.1, equals_le, quote_le, value_le, long));
+      opens = rw v is.literal.0.0;
       closes = rw (v, e) (literal_closes src is.v is.e w.end is.literal);
       between = λ k from below. rw v (between k (omega (arith, is.value_start)) (omega (arith, e)));
       value = λ borrowed. rw (is.value_start, e) (value_slice src is.e (is.v + 1) 255 255 w.value long (λ k from below. ordinary k (sym is.borrowed ∙ borrowed) long from below) is.value);
@@ -126,7 +126,7 @@ selects src scope w is =
   where
     between : (k : ℕ) → is.v + 1 ≤ k → k < is.e → (byte src k ≢ byte src is.v) × (byte src k ≢ 60)
     between k from below = (
-      eqb-false _ _ (from_before (λ c. c == byte src is.v) src (is.v + 1) k from (omega (arith, below, is.literal.quoted.end))),
+      eqb-false _ _ (from_before (λ c. c == byte src is.v) src (is.v + 1) k from (omega (arith, below, is.literal.0.1))),
       literal_plain src is.v is.e w.end is.literal k from below,
     )
 

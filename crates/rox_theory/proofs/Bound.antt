@@ -123,7 +123,7 @@ module _ (of : Forest Item → ℕ) (is_measure : Measure of) (O : Inclusion) (w
       let h = value_yields is.e (is.v + 1) b c a.value is.value in
       let n = qname_onward src (spaces_end src i) a.name_end a.name is.is_name in
       let e = eq_onward src a.name_end is.v is.eq in
-      let l = is.literal.quoted.next in
+      let l = is.literal.0.3 in
       let y = attributes_yield j k c d rest more in
       let u = down i (is.v + 1) (omega (arith, n, e, spaces)) in
       let v = down is.e j (omega (arith, l)) in
@@ -184,7 +184,7 @@ module _ (of : Forest Item → ℕ) (is_measure : Measure of) (O : Inclusion) (w
 -- ---- where the parts of a document type declaration end
 
 quoted_onward : (src : List ℕ) (i e j : ℕ) → IsQuoted src i e j → i ≤ j
-quoted_onward src i e j is = let h = byte_onward (λ c. c == byte src i) src (i + 1) in omega (arith, h, is.end, is.next)
+quoted_onward src i e j is = let h = byte_onward (λ c. c == byte src i) src (i + 1) in omega (arith, h, is.1, is.3)
 
 name_onward : (src : List ℕ) (i j : ℕ) → IsName src i j → i ≤ j
 name_onward src i j is = let h = run_onward is_name_char src i in omega (arith, h, is.longest)

@@ -148,12 +148,12 @@ module _ (main : Bool) (O : Inclusion) (opens : OpensChars O) (src : List ℕ) (
   attribute_text i j b c a cut h =
       let v = h.v in
       let stop = h.e in
-      let low = quote_ascii (byte src v) h.literal.quoted.quote in
+      let low = quote_ascii (byte src v) h.literal.0.0 in
       let same = literal_closes src v stop j h.literal in
       let first = cut_behind src v (byte src v) (v + 1) utf8 refl low.0 (omega arith) refl in
       let last = cut_at src stop (byte src v) same low.0 (omega arith) in (
-        record { local = (local_name src i a.name a.name_end utf8 cut h.is_name).0; value = value_chars src utf8 (v + 1) stop first last h.literal.chars main O opens b c a.value h.value },
-        cut_behind src stop (byte src v) j utf8 same low.0 (omega arith) h.literal.quoted.next,
+        record { local = (local_name src i a.name a.name_end utf8 cut h.is_name).0; value = value_chars src utf8 (v + 1) stop first last h.literal.1 main O opens b c a.value h.value },
+        cut_behind src stop (byte src v) j utf8 same low.0 (omega arith) h.literal.0.3,
       )
 
   -- attributes in a row

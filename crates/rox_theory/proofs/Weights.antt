@@ -83,7 +83,7 @@ module _ (of : Forest Item → ℕ) (is_measure : Measure of) (main : Bool) (O :
       let h = value_weighs is.e (is.v + 1) b c a.value is.value in
       let n = qname_onward src (spaces_end src i) a.name_end a.name is.is_name in
       let e = eq_onward src a.name_end is.v is.eq in
-      let l = is.literal.quoted.next in
+      let l = is.literal.0.3 in
       let y = attributes_weigh j k c d rest more in
       omega (arith, h, n, e, l, y, spaces)
 
