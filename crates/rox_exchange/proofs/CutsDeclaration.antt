@@ -8,6 +8,7 @@ use Rattle.rox_grammar.specs.declared.fault.Word.TheVariants as word
 use Rattle.rox_grammar.specs.FixedTexts.{word_text, at}
 use Rattle.rox_grammar.specs.Search.{stands}
 use Rattle.rox_grammar.specs.Chars.{is_space}
+use Rattle.rox_grammar.specs.Written.{Name}
 use Rattle.rox_grammar.specs.Names.{byte, spaces_end}
 use Rattle.rox_grammar.specs.Constructs.{IsPair, IsGap, some_space, no_space, MayBePair, is_pair, no_pair, IsXmlDecl}
 use Rattle.rox_theory.proofs.Basics.{within as byte_within}
@@ -65,26 +66,24 @@ module _ (src to : List ℕ) (m : ℕ) (f : Fronts src to m) where
   gap_le i j (some_space _ some) = omega arith
   gap_le i j (no_space _ none) = omega arith
 
-  pair_lt : (i j : ℕ) → IsPair src i j → i < j
-  pair_lt i j is =
-      let next = is.literal.0.3 in
-      omega (arith, qname_le src i is.name is.n is.is_name, eq_lt src is.n is.v is.eq, literal_lt src is.v is.e j is.literal)
+  pair_lt : (i n v e j : ℕ) (name : Name) → IsPair src i name n v e j → i < j
+  pair_lt i n v e j name (is_name, eq, literal) =
+      let next = literal.0.3 in
+      omega (arith, qname_le src i name n is_name, eq_lt src n v eq, literal_lt src v e j literal)
 
   may_le : (w : Word) (i j : ℕ) → MayBePair (word_text w) src i j → i ≤ j
-  may_le w i j (is_pair _ k _ here is gap) = omega (arith, pair_lt i k is, gap_le k j gap)
-  may_le w i j (no_pair _ none) = omega arith
+  may_le w i j (is_pair name n v e k _ here is gap) = omega (arith, pair_lt i n v e k name is, gap_le k j gap)
+  may_le w i j (no_pair none) = omega arith
 
   -- a pair ends in its quote
-  pair_cut : (i j : ℕ) → IsCharBoundary (take m src) i → j < m → IsPair src i j → IsPair to i j × IsCharBoundary (take m src) j
-  pair_cut i j cut below is =
-      let next = is.literal.0.3 in
-      let a = qname_le src i is.name is.n is.is_name in
-      let b = eq_lt src is.n is.v is.eq in
-      let c = literal_lt src is.v is.e j is.literal in
-      let name = qname_cut src to m f i is.name is.n cut (omega arith) is.is_name in (
-        record { name = is.name; n = is.n; is_name = name.0; v = is.v; eq = eq_cut src to m f is.n is.v name.1 (omega arith) is.eq; e = is.e; literal = literal_cut src to m f.same is.v is.e j (omega arith) is.literal },
-        behind_literal src to m f is.v is.e j (omega arith) is.literal,
-      )
+  pub pair_cut : (i n v e j : ℕ) (name : Name) → IsCharBoundary (take m src) i → j ≤ m → IsPair src i name n v e j → IsPair to i name n v e j × IsCharBoundary (take m src) j
+  pair_cut i n v e j name cut fits (is_name, eq, literal) =
+      let next = literal.0.3 in
+      let a = qname_le src i name n is_name in
+      let b = eq_lt src n v eq in
+      let c = literal_lt src v e j literal in
+      let named = qname_cut src to m f i name n cut (omega arith) is_name in
+      ((named.0, eq_cut src to m f n v named.1 (omega arith) eq, literal_cut src to m f.same v e j fits literal), behind_literal src to m f v e j fits literal)
 
   -- where `>` stands at q, and white space or the end of the declaration is left before it
   module _ (q : ℕ) (below : q < m) (is_end : byte src q ≡ 62) (inside : q < length src) where
@@ -96,14 +95,14 @@ module _ (src to : List ℕ) (m : ℕ) (f : Fronts src to m) where
     gap_cut i j cut le (no_space _ (inr close)) = (no_space i (inr (sym (stands_cut src to m f.same (word_text word.PIEnd) i (omega arith)) ∙ close)), cut)
 
     may_cut : (w : Word) (i j : ℕ) → IsMissing 62 (word_text w) → IsCharBoundary (take m src) i → j + 1 ≤ q → MayBePair (word_text w) src i j → MayBePair (word_text w) to i j × IsCharBoundary (take m src) j
-    may_cut w i j lacks cut le (is_pair _ k _ here is gap) =
-        let lt = pair_lt i k is in
+    may_cut w i j lacks cut le (is_pair name n v e k _ here is gap) =
+        let lt = pair_lt i n v e k name is in
         let gl = gap_le k j gap in
-        let p = pair_cut i k cut (omega arith) is in
+        let p = pair_cut i n v e k name cut (omega arith) is in
         let g = gap_cut k j p.1 le gap in
-        (is_pair i k j (sym (word_cut 62 (word_text w) i q (omega arith) lacks (omega arith) below is_end) ∙ here) p.0 g.0, g.1)
-    may_cut w i j lacks cut le (no_pair _ none) =
-        (no_pair i (sym (word_cut 62 (word_text w) i q (omega arith) lacks (omega arith) below is_end) ∙ none), cut)
+        (is_pair name n v e k j (sym (word_cut 62 (word_text w) i q (omega arith) lacks (omega arith) below is_end) ∙ here) p.0 g.0, g.1)
+    may_cut w i j lacks cut le (no_pair none) =
+        (no_pair (sym (word_cut 62 (word_text w) i q (omega arith) lacks (omega arith) below is_end) ∙ none), cut)
 
   -- the first and the last byte of the declaration
   pub declaration_cut : (i j : ℕ) → j ≤ m → IsXmlDecl src i j → IsXmlDecl to i j

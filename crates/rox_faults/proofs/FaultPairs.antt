@@ -70,8 +70,9 @@ module _ (src : List ℕ) (utf8 : IsUtf8 src) where
       (subst (λ (w : ℕ). IsMissing src (value_end src w) (a_byte (byte src w)) f) same lack)
 
   -- a pair ends in one place
-  one_pair : (i j k : ℕ) → IsPair src i j → IsPair src i k → j ≡ k
-  one_pair i j k a b = ap (λ (p : Unit {0} × ℕ). p.1) (ok_one (tt, j) (tt, k) (pair_at src i) (pair_complete src i j a) (pair_complete src i k b))
+  one_pair : (i n v e j m w d k : ℕ) (name other : Name) → IsPair src i name n v e j → IsPair src i other m w d k → j ≡ k
+  one_pair i n v e j m w d k name other a b =
+      ap (λ (p : Unit {0} × ℕ). p.1) (ok_one (tt, j) (tt, k) (pair_at src i) (pair_complete src i n v e j name a) (pair_complete src i m w d k other b))
 
   -- and so does one with a gap
   one_may : (w : Word) (i j k : ℕ) → MayBePair (word_text w) src i j → MayBePair (word_text w) src i k → j ≡ k
@@ -85,42 +86,43 @@ module _ (src : List ℕ) (utf8 : IsUtf8 src) where
   gap_stands i j f cut (constructs.IsGap.no_space _ (inr here)) (no_gap inside no_space no_end) = true≢false (sym here ∙ no_end)
 
   -- a pair that may stand does, with its gap, where its word does
-  may_is : (w : Word) (i k : ℕ) → at w src i ≡ true → MayBePair (word_text w) src i k → (j : ℕ) × IsPair src i j × IsGap src j k
-  may_is w i k here (is_pair _ j _ here' p gap) = (j, p, gap)
-  may_is w i k here (no_pair _ none) = absurd (true≢false (sym here ∙ none))
+  may_is : (w : Word) (i k : ℕ) → at w src i ≡ true → MayBePair (word_text w) src i k → (name : Name) × (n : ℕ) × (v : ℕ) × (e : ℕ) × (j : ℕ) × IsPair src i name n v e j × IsGap src j k
+  may_is w i k here (is_pair name n v e j _ here' p gap) = (name, n, v, e, j, p, gap)
+  may_is w i k here (no_pair none) = absurd (true≢false (sym here ∙ none))
 
   may_not : (w : Word) (i k : ℕ) → at w src i ≡ false → MayBePair (word_text w) src i k → k ≡ i
-  may_not w i k fails (is_pair _ j _ here p gap) = absurd (true≢false (sym here ∙ fails))
-  may_not w i k fails (no_pair _ none) = refl
+  may_not w i k fails (is_pair name n v e j _ here p gap) = absurd (true≢false (sym here ∙ fails))
+  may_not w i k fails (no_pair none) = refl
 
   -- the pair that stands where one begins, and the gap behind it: behind the last one all white space before the end
-  pair_there : (i j p : ℕ) (gap : Bool) → IsXmlDecl src i j → PairBegins src i gap p → (k : ℕ) × IsPair src p k × (l : ℕ) × IsGap src k l × (gap ≡ false → at word.PIEnd src l ≡ true)
-  pair_there i j p gap is (version here) = let m = may_is word.Version (spaces_end src (i + 5)) is.v here is.first_pair in (m.0, m.1, is.v, m.2, λ g. cc g)
+  pair_there : (i j p : ℕ) (gap : Bool) → IsXmlDecl src i j → PairBegins src i gap p 
+      → (name : Name) × (n : ℕ) × (v : ℕ) × (e : ℕ) × (k : ℕ) × IsPair src p name n v e k × (l : ℕ) × IsGap src k l × (gap ≡ false → at word.PIEnd src l ≡ true)
+  pair_there i j p gap is (version here) = let m = may_is word.Version (spaces_end src (i + 5)) is.v here is.first_pair in (m.0, m.1, m.2, m.3, m.4, m.5, is.v, m.6, λ g. cc g)
   pair_there i j p gap is (encoding _ first may here) =
       let same : is.v ≡ p = one_may word.Version (spaces_end src (i + 5)) is.v p is.first_pair may in
-      let m = may_is word.Encoding p is.e here (subst (λ (v : ℕ). MayBePair (word_text word.Encoding) src v is.e) same is.encoding) in (m.0, m.1, is.e, m.2, λ g. cc g)
+      let m = may_is word.Encoding p is.e here (subst (λ (v : ℕ). MayBePair (word_text word.Encoding) src v is.e) same is.encoding) in (m.0, m.1, m.2, m.3, m.4, m.5, is.e, m.6, λ g. cc g)
   pair_there i j p gap is (standalone v _ first may may' here) =
       let same : is.v ≡ v = one_may word.Version (spaces_end src (i + 5)) is.v v is.first_pair may in
       let same' : is.e ≡ p = one_may word.Encoding v is.e p (subst (λ (v : ℕ). MayBePair (word_text word.Encoding) src v is.e) same is.encoding) may' in
-      let m = may_is word.Standalone p is.s here (subst (λ (e : ℕ). MayBePair (word_text word.Standalone) src e is.s) same' is.standalone) in (m.0, m.1, is.s, m.2, λ g. is.closes)
+      let m = may_is word.Standalone p is.s here (subst (λ (e : ℕ). MayBePair (word_text word.Standalone) src e is.s) same' is.standalone) in (m.0, m.1, m.2, m.3, m.4, m.5, is.s, m.6, λ g. is.closes)
 
   -- in the declaration: rows 21 to 25
   pub declaration_apart : (i j q : ℕ) (t : DueItem) (f : Fault) → IsXmlDecl src i j → DueInXmlDecl src i q t → IsMissing src q t f → ⊥
   declaration_apart i j q t f is its_version lack = word_stands src expected.Version (spaces_end src (i + 5)) f is.version lack
   declaration_apart i j q t f is (in_pair gap p _ _ begins due') lack =
       let there = pair_there i j p gap is begins in
-      let x = there.1 in
-      pair_apart p x.n x.v x.e there.0 q x.name t f x.is_name x.eq x.literal due' lack
-  declaration_apart i j q t f is (behind_pair p _ begins pair) lack =
+      let x = there.5 in
+      pair_apart p there.1 there.2 there.3 there.4 q there.0 t f x.0 x.1 x.2 due' lack
+  declaration_apart i j q t f is (behind_pair name p n v e _ begins pair) lack =
       let there = pair_there i j p true is begins in
-      let same : there.0 ≡ q = one_pair p there.0 q there.1 pair in
-      gap_stands q there.2 f (pair_cut src p q utf8 pair) (subst (λ (k : ℕ). IsGap src k there.2) same there.3) lack
-  declaration_apart i j q t f is (behind_last p k begins pair) lack =
+      let same : there.4 ≡ q = one_pair p there.1 there.2 there.3 there.4 n v e q there.0 name there.5 pair in
+      gap_stands q there.6 f (pair_cut src p n v e q name utf8 pair) (subst (λ (k : ℕ). IsGap src k there.6) same there.7) lack
+  declaration_apart i j q t f is (behind_last name p n v e k begins pair) lack =
       let there = pair_there i j p false is begins in
-      let same : there.0 ≡ k = one_pair p there.0 k there.1 pair in
-      let ends = there.4 refl in
-      let behind : spaces_end src k ≡ there.2 = ap (spaces_end src) (sym same) ∙ gap_before src there.0 there.2 there.3 ends in
-      word_stands src expected.PIEnd there.2 f ends (subst (λ (l : ℕ). IsMissing src l (a_text expected.PIEnd) f) behind lack)
+      let same : there.4 ≡ k = one_pair p there.1 there.2 there.3 there.4 n v e k there.0 name there.5 pair in
+      let ends = there.8 refl in
+      let behind : spaces_end src k ≡ there.6 = ap (spaces_end src) (sym same) ∙ gap_before src there.4 there.6 there.7 ends in
+      word_stands src expected.PIEnd there.6 f ends (subst (λ (l : ℕ). IsMissing src l (a_text expected.PIEnd) f) behind lack)
   declaration_apart i j q t f is (due.DueInXmlDecl.its_end v _ here may may' none) lack =
       let first : is.v ≡ v = one_may word.Version (spaces_end src (i + 5)) is.v v is.first_pair may in
       let second : is.e ≡ q = one_may word.Encoding v is.e q (subst (λ (v : ℕ). MayBePair (word_text word.Encoding) src v is.e) first is.encoding) may' in

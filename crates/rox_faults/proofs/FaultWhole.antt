@@ -143,7 +143,7 @@ module _ (src : List ℕ) (utf8 : IsUtf8 src) where
       chosen (stands (word_text w) src p) _ _ _ h
       (λ here h. bind_err (pair_at src p) _ f h
       (λ bad. let x = pair_fails p f bad in (x.0, x.1, in_pair true p x.0 x.1 (begins' here) x.2, x.3))
-      (λ x read bad. (x.1, a_gap, behind_pair p x.1 (begins' here) (pair_sound src utf8 p x read), gap_fails x.1 f bad)))
+      (λ x read bad. let there = pair_sound src utf8 p x read in (x.1, a_gap, behind_pair there.0 p there.1 there.2 there.3 x.1 (begins' here) there.4, gap_fails x.1 f bad)))
       (λ none h. cc)
 
   -- the declaration
@@ -165,7 +165,9 @@ module _ (src : List ℕ) (utf8 : IsUtf8 src) where
       (λ s read'' h.
       let bad = string_fails expected.PIEnd src (spaces_end src s.1) f h in
       chosen (stands (word_text word.Standalone) src e.1) _ _ _ read''
-      (λ there read''. (spaces_end src s.1, a_text expected.PIEnd, behind_last e.1 s.1 (standalone v.1 e.1 here first_pair second there) (pair_sound src utf8 e.1 s read''), bad))
+      (λ there read''.
+      let last = pair_sound src utf8 e.1 s read'' in
+      (spaces_end src s.1, a_text expected.PIEnd, behind_last last.0 e.1 last.1 last.2 last.3 s.1 (standalone v.1 e.1 here first_pair second there) last.4, bad))
       (λ none same.
       let behind_first = pair_if_ends word.Version src p v.1 utf8 (λ none. absurd (true≢false (sym here ∙ none))) first_pair in
       let behind_second = pair_if_ends word.Encoding src v.1 e.1 utf8 (λ none. behind_first) second in

@@ -69,15 +69,9 @@ IsQuoted src i e j = IsQuote src i × (e ≡ byte_from (λ c. c == byte src i) s
 abbrev pub IsLiteral : List ℕ → (i e j : ℕ) → Type 0
 IsLiteral src i e j = IsQuoted src i e j × AreChars src (i + 1) e × (e ≡ byte_from (λ c. c == code "<") (take e src) (i + 1))
 
--- a name, Eq, and a literal
-pub record IsPair (src : List ℕ) (i j : ℕ) : Type 0 where
-  pub name : Name
-  pub n : ℕ
-  pub is_name : IsQName src i name n
-  pub v : ℕ
-  pub eq : IsEq src n v
-  pub e : ℕ
-  pub literal : IsLiteral src v e j
+-- XML 3.1 [41]: a name, Eq, and a literal
+abbrev pub IsPair : List ℕ → (i : ℕ) → Name → (n v e j : ℕ) → Type 0
+IsPair src i name n v e j = IsQName src i name n × IsEq src n v × IsLiteral src v e j
 
 -- white space, or none before `?>` and at the end
 pub data IsGap (src : List ℕ) : ℕ → ℕ → Type 0 where
@@ -86,9 +80,9 @@ pub data IsGap (src : List ℕ) : ℕ → ℕ → Type 0 where
 
 -- A pair that begins with this text, and a gap, or nothing where the text does not stand. The name may go on behind it, and the
 -- value is any literal: XML 2.8 [24], [26], 4.3.3 [80], [81] and 2.9 [32] fix both.
-pub data MayBePair (text : List ℕ) (src : List ℕ) : ℕ → ℕ → Type 0 where
-  is_pair : (i j k : ℕ) → stands text src i ≡ true → IsPair src i j → IsGap src j k → MayBePair text src i k
-  no_pair : (i : ℕ) → stands text src i ≡ false → MayBePair text src i i
+pub data MayBePair (text : List ℕ) (src : List ℕ) (i : ℕ) : ℕ → Type 0 where
+  is_pair : (name : Name) (n v e j k : ℕ) → stands text src i ≡ true → IsPair src i name n v e j → IsGap src j k → MayBePair text src i k
+  no_pair : stands text src i ≡ false → MayBePair text src i i
 
 -- XML 2.8 [23] XMLDecl, but only where a space follows `<?xml`: with other white space there it is read as an instruction
 pub record IsXmlDecl (src : List ℕ) (i j : ℕ) : Type 0 where

@@ -95,8 +95,8 @@ pub data PairBegins (src : List ℕ) (i : ℕ) : Bool → ℕ → Type 0 where
 pub data DueInXmlDecl (src : List ℕ) (i : ℕ) : ℕ → DueItem → Type 0 where
   its_version : DueInXmlDecl src i (spaces_end src (i + 5)) (a_text expected.Version)
   in_pair : (gap : Bool) (j p : ℕ) (t : DueItem) → PairBegins src i gap j → DueInPair src j p t → DueInXmlDecl src i p t
-  behind_pair : (j p : ℕ) → PairBegins src i true j → IsPair src j p → DueInXmlDecl src i p a_gap
-  behind_last : (j p : ℕ) → PairBegins src i false j → IsPair src j p → DueInXmlDecl src i (spaces_end src p) (a_text expected.PIEnd)
+  behind_pair : (name : Name) (j n v e p : ℕ) → PairBegins src i true j → IsPair src j name n v e p → DueInXmlDecl src i p a_gap
+  behind_last : (name : Name) (j n v e p : ℕ) → PairBegins src i false j → IsPair src j name n v e p → DueInXmlDecl src i (spaces_end src p) (a_text expected.PIEnd)
   its_end : (v e : ℕ) → text_at "version" src (spaces_end src (i + 5)) ≡ true → MayBePair (codes "version") src (spaces_end src (i + 5)) v → MayBePair (codes "encoding") src v e
       → text_at "standalone" src e ≡ false → DueInXmlDecl src i e (a_text expected.PIEnd)
 

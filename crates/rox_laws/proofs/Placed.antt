@@ -130,18 +130,18 @@ module _ (src : List ℕ) (utf8 : IsUtf8 src) where
 
   -- ---- the declaration of an answer
 
-  pair_cut : (i j : ℕ) → IsPair src i j → IsCharBoundary src j
-  pair_cut i j is =
-      let low = quote_ascii (byte src is.v) is.literal.0.0 in
-      subst (IsCharBoundary src) (sym is.literal.0.3) (cut_behind src is.e (byte src is.v) utf8 (literal_closes src is.v is.e j is.literal) (omega arith) (omega arith))
+  pair_cut : (i n v e j : ℕ) (name : Name) → IsPair src i name n v e j → IsCharBoundary src j
+  pair_cut i n v e j name (is_name, eq, literal) =
+      let low = quote_ascii (byte src v) literal.0.0 in
+      subst (IsCharBoundary src) (sym literal.0.3) (cut_behind src e (byte src v) utf8 (literal_closes src v e j literal) (omega arith) (omega arith))
 
   gap_cut : (j k : ℕ) → IsCharBoundary src j → IsGap src j k → IsCharBoundary src k
   gap_cut j k cut (constructs.IsGap.some_space _ some) = run_cut is_space src j utf8 cut
   gap_cut j k cut (constructs.IsGap.no_space _ none) = cut
 
   may_cut : (w : Word) (i k : ℕ) → IsCharBoundary src i → MayBePair (word_text w) src i k → IsCharBoundary src k
-  may_cut w i k cut (constructs.MayBePair.is_pair _ j _ stands pair gap) = gap_cut j k (pair_cut i j pair) gap
-  may_cut w i k cut (constructs.MayBePair.no_pair _ none) = cut
+  may_cut w i k cut (constructs.MayBePair.is_pair name n v e j _ stands pair gap) = gap_cut j k (pair_cut i n v e j name pair) gap
+  may_cut w i k cut (constructs.MayBePair.no_pair none) = cut
 
   -- behind `<?xml` and white space
   version_cut : (i : ℕ) → at word.XmlDeclStart src i ≡ true → IsCharBoundary src (spaces_end src (i + 5))
@@ -158,8 +158,8 @@ module _ (src : List ℕ) (utf8 : IsUtf8 src) where
   pub declaration_fits : (i p : ℕ) (t : DueItem) → at word.XmlDeclStart src i ≡ true → DueInXmlDecl src i p t → Fits src t p
   declaration_fits i p t opens due.DueInXmlDecl.its_version = (version_cut i opens).0
   declaration_fits i p t opens (due.DueInXmlDecl.in_pair gap j _ _ begins is) = pair_fits j p t (begins_inside i gap j begins) is
-  declaration_fits i p t opens (due.DueInXmlDecl.behind_pair j _ begins pair) = tt
-  declaration_fits i p t opens (due.DueInXmlDecl.behind_last j k begins pair) = (run_cut is_space src k utf8 (pair_cut j k pair)).0
+  declaration_fits i p t opens (due.DueInXmlDecl.behind_pair name j n v e _ begins pair) = tt
+  declaration_fits i p t opens (due.DueInXmlDecl.behind_last name j n v e k begins pair) = (run_cut is_space src k utf8 (pair_cut j n v e k name pair)).0
   declaration_fits i p t opens (due.DueInXmlDecl.its_end v _ version first_pair second none) =
       (may_cut word.Encoding v p (may_cut word.Version (spaces_end src (i + 5)) v (version_cut i opens) first_pair) second).0
 
