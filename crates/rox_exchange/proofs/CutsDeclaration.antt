@@ -13,9 +13,9 @@ use Rattle.rox_grammar.specs.Names.{byte, spaces_end}
 use Rattle.rox_grammar.specs.Constructs.{IsPair, IsGap, some_space, no_space, MayBePair, is_pair, no_pair, IsXmlDecl}
 use Rattle.rox_theory.proofs.Basics.{within as byte_within}
 use Rattle.rox_exchange.specs.Local.{Fronts}
-use Rattle.rox_exchange.proofs.Cuts.{heads, fronts, stands_cut, literal_cut}
-use Rattle.rox_exchange.proofs.CutsLexical.{space_cut, qname_cut, eq_cut}
-use Rattle.rox_exchange.proofs.CutsTags.{behind_literal}
+use Rattle.rox_exchange.proofs.Cuts.{heads, fronts, stands_cut}
+use Rattle.rox_exchange.proofs.CutsLexical.{space_cut}
+use Rattle.rox_exchange.proofs.CutsTags.{pair_cut}
 use Rattle.rox_exchange.proofs.Fronts.{stands_reads, behind}
 use Rattle.rox_exchange.proofs.Order.{run_le, qname_le, eq_lt, literal_lt}
 
@@ -75,16 +75,6 @@ module _ (src to : List ℕ) (m : ℕ) (f : Fronts src to m) where
   may_le w i j (is_pair name n v e k _ here is gap) = omega (arith, pair_lt i n v e k name is, gap_le k j gap)
   may_le w i j (no_pair none) = omega arith
 
-  -- a pair ends in its quote
-  pub pair_cut : (i n v e j : ℕ) (name : Name) → IsCharBoundary (take m src) i → j ≤ m → IsPair src i name n v e j → IsPair to i name n v e j × IsCharBoundary (take m src) j
-  pair_cut i n v e j name cut fits (is_name, eq, literal) =
-      let next = literal.0.3 in
-      let a = qname_le src i name n is_name in
-      let b = eq_lt src n v eq in
-      let c = literal_lt src v e j literal in
-      let named = qname_cut src to m f i name n cut (omega arith) is_name in
-      ((named.0, eq_cut src to m f n v named.1 (omega arith) eq, literal_cut src to m f.same v e j fits literal), behind_literal src to m f v e j fits literal)
-
   -- where `>` stands at q, and white space or the end of the declaration is left before it
   module _ (q : ℕ) (below : q < m) (is_end : byte src q ≡ 62) (inside : q < length src) where
     gap_cut : (i j : ℕ) → IsCharBoundary (take m src) i → j + 1 ≤ q → IsGap src i j → IsGap to i j × IsCharBoundary (take m src) j
@@ -98,7 +88,7 @@ module _ (src to : List ℕ) (m : ℕ) (f : Fronts src to m) where
     may_cut w i j lacks cut le (is_pair name n v e k _ here is gap) =
         let lt = pair_lt i n v e k name is in
         let gl = gap_le k j gap in
-        let p = pair_cut i n v e k name cut (omega arith) is in
+        let p = pair_cut src to m f i n v e k name cut (omega arith) is in
         let g = gap_cut k j p.1 le gap in
         (is_pair name n v e k j (sym (word_cut 62 (word_text w) i q (omega arith) lacks (omega arith) below is_end) ∙ here) p.0 g.0, g.1)
     may_cut w i j lacks cut le (no_pair none) =

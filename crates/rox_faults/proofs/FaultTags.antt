@@ -19,7 +19,7 @@ use Rattle.rox_grammar.specs.NameParts.{local_span, prefix_span}
 use Rattle.rox_grammar.specs.Tree.{xml_uri, xmlns_uri, is_declared, listed, listable_of}
 use Rattle.rox_grammar.specs.Names.{byte, slice, spaces_end, IsQName, unprefixed, prefixed, colon_first}
 use Rattle.rox_grammar.specs.Constructs.{AreChars, IsEq, IsLiteral}
-use Rattle.rox_grammar.specs.Content.{Inclusion, IsAttribute, Attributes, no_more, one_more}
+use Rattle.rox_grammar.specs.Content.{Inclusion, IsAttribute, attribute, Attributes, no_more, one_more}
 use Rattle.rox_grammar.specs.WellNamed.{may_declare, is_known, same_expanded, may_name}
 use Rattle.rox_grammar.proofs.NamesApart.{DeclarableBehind, DistinctBehind, declarable_behind, are_declarable, are_distinct}
 use Rattle.rox_grammar.specs.Document.{attributes_in, most_attributes, most_pairs}
@@ -237,10 +237,10 @@ attributes_more main O src k d i j b c as' a (one_more _ m _ _ e _ first rest sp
 
 -- a character begins behind an attribute
 pub attribute_cut : (main : Bool) (O : Inclusion) (src : List ℕ) (utf8 : IsUtf8 src) (i j b c : ℕ) (a : Attribute) → IsAttribute main O src i j b c a → IsCharBoundary src j
-attribute_cut main O src utf8 i j b c a is =
-    let quote = quote_ascii (byte src is.v) is.literal.0.0 in
-    let next = is.literal.0.3 in
-    rw next (cut_behind src is.e (byte src is.v) utf8 (literal_closes src is.v is.e j is.literal) (omega arith) (omega arith))
+attribute_cut main O src utf8 i j b c a (attribute n v e name value (is_name, eq, literal) read) =
+    let quote = quote_ascii (byte src v) literal.0.0 in
+    let next = literal.0.3 in
+    rw next (cut_behind src e (byte src v) utf8 (literal_closes src v e j literal) (omega arith) (omega arith))
 
 module _ (opens : ℕ → Inclusion) (es : List Entity) (agrees : (d l : ℕ) → d + l ≡ most_deep → AgreesValue es (opens l) (value_opener es d (is_main l))) (texts : AreTexts es) (deeper level : ℕ) (deep : deeper + level ≡ most_deep)
     (src : List ℕ) (utf8 : IsUtf8 src) where
@@ -250,9 +250,9 @@ module _ (opens : ℕ → Inclusion) (es : List Entity) (agrees : (d l : ℕ) �
 
   -- the name of an attribute
   attribute_named : (i j b c : ℕ) (a : Attribute) → IsCharBoundary src i → IsAttribute (is_main level) (opens level) src i j b c a → NameAt src a
-  attribute_named i j b c a cut' is =
-      let both = name_holds src i a.name_end a.name utf8 cut' is.is_name in
-      record { prefix = ap (λ (k : ℕ). slice src k (k + length a.name.prefix)) is.starts ∙ both.0; local = both.1 }
+  attribute_named i j b c a cut' (attribute n v e name value is read) =
+      let both = name_holds src i n name utf8 cut' is.0 in
+      record { prefix = both.0; local = both.1 }
 
   -- and of all of them
   attributes_named : (i j b c : ℕ) (as' : List Attribute) → IsCharBoundary src i → Attributes (is_main level) (opens level) src i j b c as' → AllAt src as'

@@ -34,6 +34,7 @@ use Rattle.rox_theory.proofs.Constructions.{comment_bytes, instruction_bytes, en
 use Rattle.rox_theory.proofs.DeclarationLemmas.{stands_reads, stands_fits}
 use Rattle.rox_faults.proofs.FaultApart.{declaration_bytes}
 use Rattle.rox_theory.proofs.LiteralLemmas.{from_bound, literal_closes, quote_ascii}
+use Rattle.rox_theory.proofs.AttributeParts.{parts_of}
 use Rattle.rox_faults.proofs.NameSpans.{run_cut, cut_behind}
 use Rattle.rox_theory.proofs.PartLemmas.{encode_some}
 use Rattle.rox_theory.proofs.Places.{begins_within}
@@ -208,9 +209,9 @@ module _ (src : List ℕ) (utf8 : IsUtf8 src) where
 
   written_start : (main : Bool) (O : Inclusion) (i j b c : ℕ) (as' : List Attribute) → Attributes main O src i j b c as' → StartsIn as'
   written_start main O i j b c as' (content.Attributes.no_more _ _) = tt
-  written_start main O i j b c as' (content.Attributes.one_more _ m _ _ d _ a more space is rest) =
-      let there = qname_within src (spaces_end src i) a.name a.name_end is.is_name in
-      (omega (arith, is.starts), written_start main O m j d c more rest)
+  written_start main O i j b c as' (content.Attributes.one_more _ m _ _ d _ _ more space (content.IsAttribute.attribute n v e name value is read) rest) =
+      let there = qname_within src (spaces_end src i) name n is.0 in
+      (omega arith, written_start main O m j d c more rest)
 
   attributes_start : (as' : List Attribute) → StartsIn as' → StartsIn (plain_attributes_of as')
   attributes_start [] starts = tt
@@ -243,8 +244,9 @@ module _ (src : List ℕ) (utf8 : IsUtf8 src) where
   tag_placed main O s b f le (rows.InTag.in_rest p c as' _ to (rows.InTagRest.not_closed _ slash lacks)) = lacks_placed src (spaces_end src p + 1) (a_byte 62) f tt lacks
   tag_placed main O s b f le (rows.InTag.in_rest p c as' _ to (rows.InTagRest.in_pair q t _ space before no_slash no_end is lacks)) = lacks_placed src q t f (pair_fits (spaces_end src p) q t (omega arith) is) lacks
   tag_placed main O s b f le (rows.InTag.in_rest p c as' _ to (rows.InTagRest.ill_declared d j a _ space is declares ill)) =
-      let there = qname_within src (spaces_end src p) a.name a.name_end is.is_name in
-      declared_placed _ a f (omega (arith, is.starts)) ill
+      let parts = parts_of main O src (spaces_end src p) j c d a is in
+      let there = qname_within src (spaces_end src p) a.name a.name_end parts.is_name in
+      declared_placed _ a f (omega (arith, parts.starts)) ill
   tag_placed main O s b f le (rows.InTag.in_rest p c as' _ to (rows.InTagRest.too_many_pairs d j a space is declares may first over)) = tt
   tag_placed main O s b f le (rows.InTag.in_rest p c as' _ to (rows.InTagRest.too_many_attributes j empty ends over)) = tt
   tag_placed main O s b f le (rows.InTag.in_rest p c as' _ to (rows.InTagRest.ill_named j empty _ ends few ill)) =

@@ -9,8 +9,7 @@ use Rattle.rox_grammar.specs.Written.{Name, Attribute, NamespaceDecl, Tag, Item,
 use Rattle.rox_grammar.specs.Tree as tree
 use Rattle.rox_grammar.specs.Tree.{Node, attribute_in, node_in, resolved}
 use Rattle.rox_grammar.specs.Names.{byte, slice, spaces_end, IsQName, unprefixed, prefixed, colon_first}
-use Rattle.rox_grammar.specs.Constructs.{IsLiteral}
-use Rattle.rox_grammar.specs.Content.{is_verbatim_value, Value, value_ends, line_end, white, other, a_character, an_entity, IsAttribute, Attributes, no_more, one_more, IsTag, DataByte, piece, last_part, then_entity, IsMisc, comment, instruction, IsElement, empty, nest, Content, ends, run, cdata, misc, node}
+use Rattle.rox_grammar.specs.Content.{is_verbatim_value, Value, value_ends, line_end, white, other, a_character, an_entity, IsAttribute, attribute, Attributes, no_more, one_more, IsTag, DataByte, piece, last_part, then_entity, IsMisc, comment, instruction, IsElement, empty, nest, Content, ends, run, cdata, misc, node}
 use Rattle.rox_grammar.specs.RunParts.{Parts}
 use Rattle.rox_grammar.specs.Document.{Misc, no_misc, space, an_item, ParseOf, IsTreeOf}
 use Rattle.rox_theory.proofs.Without.{parse_without}
@@ -19,6 +18,7 @@ use Rattle.rox_theory.proofs.Basics.{run_end_le}
 use Rattle.rox_theory.proofs.NameLemmas.{slice_nil, qname_le}
 use Rattle.rox_theory.proofs.LiteralLemmas.{from_before, literal_plain, literal_closes, literal_le}
 use Rattle.rox_theory.proofs.StretchLemmas.{slice_cons, slice_none}
+use Rattle.rox_theory.proofs.AttributeParts.{AttributeParts, parts_of}
 use Rattle.rox_theory.proofs.ReferenceLemmas.{character_opens}
 use Rattle.roxmltree.specs.NodeParts as says
 use Rattle.roxmltree.specs.EachNode.{EachNode}
@@ -87,22 +87,11 @@ module _ (src : List ℕ) (stop : ℕ) where
 
 -- an attribute from its own start to its own end
 own_places : (src : List ℕ) (i j b c : ℕ) (w : Attribute) → IsAttribute true no_entities src i j b c w → IsAttribute true no_entities src w.start w.end 255 255 w
-own_places src i j b c w is = record {
-  starts = refl;
-  is_name = subst (λ (k : ℕ). IsQName src k w.name w.name_end) (sym is.starts) is.is_name;
-  v = is.v;
-  eq = is.eq;
-  e = is.e;
-  literal = subst (λ (k : ℕ). IsLiteral src is.v is.e k) (sym is.end) is.literal;
-  value_start = is.value_start;
-  end = refl;
-  value = openings src is.e (is.v + 1) b c w.value is.value 255;
-  borrowed = is.borrowed;
-}
+own_places src i j b c w (attribute n v e name value is read) = attribute n v e name value is (openings src e (v + 1) b c value read 255)
 
 -- what its ranges select
-selects : (src : List ℕ) (scope : List NamespaceDecl) (w : Attribute) → IsAttribute true no_entities src w.start w.end 255 255 w → SelectsAttribute src (attribute_in scope w)
-selects src scope w is =
+parts_select : (src : List ℕ) (scope : List NamespaceDecl) (w : Attribute) → AttributeParts true no_entities src w.start w.end 255 255 w → SelectsAttribute src (attribute_in scope w)
+parts_select src scope w is =
     let name_le = qname_le src w.start w.name w.name_end is.is_name in
     let equals_le = run_end_le is_space src w.name_end in
     let quote_le = run_end_le is_space src (spaces_end src w.name_end + 1) in
@@ -132,6 +121,9 @@ selects src scope w is =
 
     ordinary : (k : ℕ) → is_verbatim_value (slice src (is.v + 1) is.e) ≡ true → is.e ≤ length src → is.v + 1 ≤ k → k < is.e → IsOrdinary (byte src k)
     ordinary k plain long from below = is_ordinary (byte src k) (slice_none (λ b. b == 38 || (b == 9 || (b == 10 || b == 13))) src (is.v + 1) is.e k long (not-true _ plain) from below)
+
+selects : (src : List ℕ) (scope : List NamespaceDecl) (w : Attribute) → IsAttribute true no_entities src w.start w.end 255 255 w → SelectsAttribute src (attribute_in scope w)
+selects src scope w is = parts_select src scope w (parts_of true no_entities src w.start w.end 255 255 w is)
 
 -- ---- the attributes of a tag
 

@@ -6,7 +6,7 @@ use Rattle.std.proofs.lemmas.Bool.{eqb-true, eqb-false, ne_eqb, leb-false, lt-le
 use Rattle.rox_grammar.specs.Chars.{is_space, is_name_start}
 use Rattle.rox_grammar.specs.Runs.{begins}
 use Rattle.rox_grammar.specs.Written.{Name, Attribute}
-use Rattle.rox_grammar.specs.Names.{byte, spaces_end, IsQName, unprefixed, prefixed, colon_first}
+use Rattle.rox_grammar.specs.Names.{byte, slice, spaces_end, IsQName, unprefixed, prefixed, colon_first}
 use Rattle.rox_grammar.specs.Constructs.{IsEq, IsLiteral}
 use Rattle.rox_grammar.specs.Content.{Inclusion, IsAttribute, TagEnds}
 use Rattle.rox_grammar.specs.Content as content
@@ -20,6 +20,7 @@ use Rattle.rox_theory.proofs.LiteralLemmas.{value_stop, value_stop_le, quote_sou
 use Rattle.rox_theory.specs.Openers.{IsStop, AgreesValue}
 use Rattle.rox_theory.proofs.CharTexts.{cut_behind}
 use Rattle.rox_theory.proofs.ValueLemmas.{value_sound, value_complete}
+use Rattle.rox_theory.proofs.AttributeParts.{from_parts}
 
 -- an attribute stands there, its value not looked at
 pub record RawStands (src : List ℕ) (i j : ℕ) (raw : RawAttribute) : Type 0 where
@@ -190,7 +191,8 @@ module _ (context : Values) (O : Inclusion) (agrees : AgreesValue context.entiti
       let closes = r.literal.0.2 in
       let value = value_sound context.entities src utf8 raw.value_end (omega arith) (λ z. literal_stop src r.v raw.value_end j r.literal) context.main O context.opener agrees (r.v + 1) b c x
       (literal_le src r.v raw.value_end j r.literal) (literal_plain src r.v raw.value_end j r.literal) (rw r.value_start at h) in
-      record {
+      from_parts context.main O src i j b c (attribute_with raw x)
+      (record {
         starts = r.starts;
         is_name = r.is_name;
         v = r.v;
@@ -201,7 +203,7 @@ module _ (context : Values) (O : Inclusion) (agrees : AgreesValue context.entiti
         end = sym r.literal.0.3;
         value = value.0;
         borrowed = value.1;
-      }
+      })
 
   -- the attribute is read from i up to j, and then its value
   abbrev pub AttributeReads : ℕ → ℕ → ℕ → ℕ → Attribute → Type 0
@@ -210,19 +212,16 @@ module _ (context : Values) (O : Inclusion) (agrees : AgreesValue context.entiti
 
   -- an attribute that stands there is read
   pub attribute_complete : (i j b c : ℕ) (a : Attribute) → IsAttribute context.main O src i j b c a → AttributeReads i j b c a
-  attribute_complete i j b c a h =
-      let closes = h.literal.0.2 in
-      let value = value_complete context.entities src utf8 h.e (omega arith) (λ z. literal_stop src h.v h.e j h.literal) context.main O context.opener agrees (h.v + 1) b c a.value
-      (literal_le src h.v h.e j h.literal) (value_cut src utf8 h.v h.e j h.literal) (λ z. h.literal.1) h.value in
-      let start = h.value_start in
-      let borrowed = h.borrowed in
-      let read : value_at context.main context.entities context.opener src a.value_start h.e b ≡ Ok (record { value = a.value; borrowed = a.borrowed }, c) = rw (start, borrowed) value in
-      let end : a.end ≡ h.e + 1 = h.end ∙ h.literal.0.3 in (
-        record { start = a.start; name = a.name; name_end = a.name_end; value_start = a.value_start; value_end = h.e },
-        record { value = a.value; borrowed = a.borrowed },
-        record { starts = h.starts; is_name = h.is_name; v = h.v; eq = h.eq; value_start = start; literal = h.literal },
+  attribute_complete i j b c a (content.attribute n v e name value (is_name, eq, literal) there) =
+      let closes = literal.0.2 in
+      let read = value_complete context.entities src utf8 e (omega arith) (λ z. literal_stop src v e j literal) context.main O context.opener agrees (v + 1) b c value
+      (literal_le src v e j literal) (value_cut src utf8 v e j literal) (λ z. literal.1) there in
+      let borrowed = content.is_verbatim_value (slice src (v + 1) e) in (
+        record { start = i; name = name; name_end = n; value_start = v + 1; value_end = e },
+        record { value = value; borrowed = borrowed },
+        record { starts = refl; is_name = is_name; v = v; eq = eq; value_start = refl; literal = literal },
         read,
-        ap (λ (k : ℕ). record { start = a.start; name_end = a.name_end; value_start = a.value_start; end = k; name = a.name; value = a.value; borrowed = a.borrowed }) end,
+        ap (λ (k : ℕ). record { start = i; name_end = n; value_start = v + 1; end = k; name = name; value = value; borrowed = borrowed }) literal.0.3,
       )
 
   -- an attribute has a byte
