@@ -144,8 +144,7 @@ module _ (src to : List ℕ) (m : ℕ) (same : take m src ≡ take m to) where
       let next = is.0.3 in
       let chars = is.1 in
       let le : i + 1 ≤ e = omega arith in
-      let first = byte_cut i (omega arith) in
-      (
+      let first = byte_cut i (omega arith) in (
         (
           subst (λ (b : ℕ). (b ≡ 39) ⊎ (b ≡ 34)) first is.0.0,
           byte_from_cut (λ c. c == byte src i) (i + 1) e is.0.1 (omega arith) ∙ ap (λ (q : ℕ). byte_from (λ c. c == q) to (i + 1)) first,

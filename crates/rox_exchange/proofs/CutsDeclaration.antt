@@ -10,7 +10,7 @@ use Rattle.rox_grammar.specs.Search.{stands}
 use Rattle.rox_grammar.specs.Chars.{is_space}
 use Rattle.rox_grammar.specs.Written.{Name}
 use Rattle.rox_grammar.specs.Names.{byte, spaces_end}
-use Rattle.rox_grammar.specs.Constructs.{IsPair, IsGap, some_space, no_space, MayBePair, is_pair, no_pair, IsXmlDecl}
+use Rattle.rox_grammar.specs.Constructs.{IsPair, IsGap, some_space, no_space, MayBePair, is_pair, no_pair, version, encoding, standalone, IsXmlDecl, xml_decl}
 use Rattle.rox_theory.proofs.Basics.{within as byte_within}
 use Rattle.rox_exchange.specs.Local.{Fronts}
 use Rattle.rox_exchange.proofs.Cuts.{heads, fronts, stands_cut}
@@ -96,32 +96,23 @@ module _ (src to : List ℕ) (m : ℕ) (f : Fronts src to m) where
 
   -- the first and the last byte of the declaration
   pub declaration_cut : (i j : ℕ) → j ≤ m → IsXmlDecl src i j → IsXmlDecl to i j
-  declaration_cut i j fits is =
-      let next = is.next in
-      let le_v = may_le word.Version (spaces_end src (i + 5)) is.v is.first_pair in
-      let le_e = may_le word.Encoding is.v is.e is.encoding in
-      let le_s = may_le word.Standalone is.e is.s is.standalone in
+  declaration_cut i j fits (xml_decl e p opens (standalone v _ (encoding _ _ (version here) first) second) third closes) =
+      let le_v = may_le word.Version (spaces_end src (i + 5)) v first in
+      let le_e = may_le word.Encoding v e second in
+      let le_s = may_le word.Standalone e p third in
       let sp = run_le is_space src (i + 5) in
-      let q = is.s + 1 in
-      let is_end : byte src q ≡ 62 = stands_reads (word_text word.PIEnd) src is.s 1 is.closes (omega arith) in
+      let q = p + 1 in
+      let is_end : byte src q ≡ 62 = stands_reads (word_text word.PIEnd) src p 1 closes (omega arith) in
       let inside : q < length src = byte_within src q (λ z. omega arith) in
-      let l : byte src (i + 4) ≡ 108 = stands_reads (word_text word.XmlDeclStart) src i 4 is.opens (omega arith) in
-      let e : i + 4 + 1 ≡ i + 5 = omega arith in
-      let start : IsCharBoundary (take m src) (i + 5) = subst (IsCharBoundary (take m src)) e (behind src to m f 108 (i + 4) (omega arith) l (omega arith)) in
+      let l : byte src (i + 4) ≡ 108 = stands_reads (word_text word.XmlDeclStart) src i 4 opens (omega arith) in
+      let five : i + 4 + 1 ≡ i + 5 = omega arith in
+      let start : IsCharBoundary (take m src) (i + 5) = subst (IsCharBoundary (take m src)) five (behind src to m f 108 (i + 4) (omega arith) l (omega arith)) in
       let white = space_cut src to m f (i + 5) (spaces_end src (i + 5)) start (omega arith) refl in
-      let one = may_cut q (omega arith) is_end inside word.Version (spaces_end src (i + 5)) is.v lacks_version white.1 (omega arith) is.first_pair in
-      let two = may_cut q (omega arith) is_end inside word.Encoding is.v is.e lacks_encoding one.1 (omega arith) is.encoding in
-      let three = may_cut q (omega arith) is_end inside word.Standalone is.e is.s lacks_standalone two.1 (omega arith) is.standalone in
-      let version = sym (word_cut 62 (word_text word.Version) (spaces_end src (i + 5)) q (omega arith) lacks_version (omega arith) (omega arith) is_end) ∙ is.version in
-      record {
-        opens = sym (stands_cut src to m f.same (word_text word.XmlDeclStart) i (omega arith)) ∙ is.opens;
-        version = subst (λ (k : ℕ). at word.Version to k ≡ true) white.0 version;
-        v = is.v;
-        first_pair = subst (λ (k : ℕ). MayBePair (word_text word.Version) to k is.v) white.0 one.0;
-        e = is.e;
-        encoding = two.0;
-        s = is.s;
-        standalone = three.0;
-        closes = sym (stands_cut src to m f.same (word_text word.PIEnd) is.s (omega arith)) ∙ is.closes;
-        next = next;
-      }
+      let one = may_cut q (omega arith) is_end inside word.Version (spaces_end src (i + 5)) v lacks_version white.1 (omega arith) first in
+      let two = may_cut q (omega arith) is_end inside word.Encoding v e lacks_encoding one.1 (omega arith) second in
+      let three = may_cut q (omega arith) is_end inside word.Standalone e p lacks_standalone two.1 (omega arith) third in
+      let there = sym (word_cut 62 (word_text word.Version) (spaces_end src (i + 5)) q (omega arith) lacks_version (omega arith) (omega arith) is_end) ∙ here in
+      let to_version = version (subst (λ (k : ℕ). at word.Version to k ≡ true) white.0 there) in
+      let to_encoding = encoding (spaces_end to (i + 5)) v to_version (subst (λ (k : ℕ). MayBePair (word_text word.Version) to k v) white.0 one.0) in
+      xml_decl e p (sym (stands_cut src to m f.same (word_text word.XmlDeclStart) i (omega arith)) ∙ opens) (standalone v e to_encoding two.0) three.0
+      (sym (stands_cut src to m f.same (word_text word.PIEnd) p (omega arith)) ∙ closes)

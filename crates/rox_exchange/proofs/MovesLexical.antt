@@ -68,8 +68,7 @@ module _ (m : Move) (src to : List ℕ) where
   -- Eq
   pub eq_moves : (i k j : ℕ) → Follows m src i to k → IsEq src i j → IsEq to k (moved m j)
   eq_moves i k j f is =
-      let s = space_end i k f in
-      (
+      let s = space_end i k f in (
         byte_is 61 (spaces_end src i) (spaces_end to k) s is.0,
         run_end_moves m src to is_space (spaces_end src i + 1) (spaces_end to k + 1) j (on m src to (spaces_end src i) (spaces_end to k) 1 s) is.1,
       )
@@ -183,8 +182,7 @@ module _ (m : Move) (src to : List ℕ) where
       let le : i + 1 ≤ e = omega arith in
       let g = on m src to i k 1 f in
       let first = byte_moves m src to i k f in
-      let left = rest_moves m src to i k f in
-      (
+      let left = rest_moves m src to i k f in (
         (
           subst (λ (b : ℕ). (b ≡ 39) ⊎ (b ≡ 34)) first is.0.0,
           byte_from_moves m src to (λ c. c == byte src i) (i + 1) (k + 1) e g is.0.1 ∙ ap (λ (q : ℕ). byte_from (λ c. c == q) to (k + 1)) first,

@@ -84,18 +84,16 @@ pub data MayBePair (text : List ℕ) (src : List ℕ) (i : ℕ) : ℕ → Type 0
   is_pair : (name : Name) (n v e j k : ℕ) → stands text src i ≡ true → IsPair src i name n v e j → IsGap src j k → MayBePair text src i k
   no_pair : stands text src i ≡ false → MayBePair text src i i
 
+-- XML 2.8 [23]: the declaration that begins at i, up to a place where a pair may stand that begins with this text
+pub data DeclarationTo (src : List ℕ) (i : ℕ) : List ℕ → ℕ → Type 0 where
+  version : text_at "version" src (spaces_end src (i + 5)) ≡ true → DeclarationTo src i (codes "version") (spaces_end src (i + 5))
+  encoding : (p q : ℕ) → DeclarationTo src i (codes "version") p → MayBePair (codes "version") src p q → DeclarationTo src i (codes "encoding") q
+  standalone : (p q : ℕ) → DeclarationTo src i (codes "encoding") p → MayBePair (codes "encoding") src p q → DeclarationTo src i (codes "standalone") q
+
 -- XML 2.8 [23] XMLDecl, but only where a space follows `<?xml`: with other white space there it is read as an instruction
-pub record IsXmlDecl (src : List ℕ) (i j : ℕ) : Type 0 where
-  pub opens : text_at "<?xml " src i ≡ true
-  pub version : text_at "version" src (spaces_end src (i + 5)) ≡ true
-  pub v : ℕ
-  pub first_pair : MayBePair (codes "version") src (spaces_end src (i + 5)) v
-  pub e : ℕ
-  pub encoding : MayBePair (codes "encoding") src v e
-  pub s : ℕ
-  pub standalone : MayBePair (codes "standalone") src e s
-  pub closes : text_at "?>" src s ≡ true
-  pub next : j ≡ s + 2
+pub data IsXmlDecl (src : List ℕ) (i : ℕ) : ℕ → Type 0 where
+  xml_decl : (p q : ℕ) → text_at "<?xml " src i ≡ true → DeclarationTo src i (codes "standalone") p → MayBePair (codes "standalone") src p q → text_at "?>" src q ≡ true
+      → IsXmlDecl src i (q + 2)
 
 -- XML 3.1 [42] ETag; its name ends at n
 pub record IsEnd (src : List ℕ) (i : ℕ) (name : Name) (n j : ℕ) : Type 0 where

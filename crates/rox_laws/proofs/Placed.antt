@@ -14,17 +14,17 @@ use Rattle.rox_grammar.specs.Chars.{is_space, is_name_start, is_name_char}
 use Rattle.rox_grammar.specs.Runs.{StandsAt}
 use Rattle.rox_grammar.specs.FixedTexts.{word_text, at}
 use Rattle.rox_grammar.specs.ExpectedTexts.{expected_text}
-use Rattle.rox_grammar.specs.Search.{before_mark, mark_from}
+use Rattle.rox_grammar.specs.Search.{before_mark, mark_from, stands}
 use Rattle.rox_grammar.specs.Written.{Name, Attribute, NamespaceDecl, is_namespace_decl, plain_attributes_of}
 use Rattle.rox_grammar.specs.Names.{byte, spaces_end, IsName, IsQName, unprefixed, prefixed, colon_first}
-use Rattle.rox_grammar.specs.Constructs.{IsLiteral, IsPair, IsGap, MayBePair}
+use Rattle.rox_grammar.specs.Constructs.{IsPair, IsGap, MayBePair, DeclarationTo}
 use Rattle.rox_grammar.specs.Constructs as constructs
 use Rattle.rox_grammar.specs.References.{IsReference, IsCharacter, decimal, hexadecimal, named}
 use Rattle.rox_grammar.specs.Content.{Inclusion, Attributes}
 use Rattle.rox_grammar.specs.Content as content
 use Rattle.rox_grammar.specs.Entities.{Entity}
 use Rattle.rox_grammar.specs.State.{Open, root, inside, State}
-use Rattle.rox_grammar.specs.Due.{DueItem, a_name, a_qname, a_byte, a_text, one_of, a_gap, chars_to, IsMissing, DueInText, DueInPI, DueInEnd, DueInPair, PairBegins, DueInXmlDecl}
+use Rattle.rox_grammar.specs.Due.{DueItem, a_name, a_qname, a_byte, a_text, one_of, a_gap, chars_to, IsMissing, DueInText, DueInPI, DueInEnd, DueInPair, DueInXmlDecl}
 use Rattle.rox_grammar.specs.Due as due
 use Rattle.rox_grammar.specs.ContentPoints.{TagBegins, of_root, in_content}
 use Rattle.rox_grammar.specs.Faults.{InMisc, InReferences, InRun, InValue, IllDeclared, IllNamed, cut_off, InTag, InEnd, Stands, FaultFrom}
@@ -151,17 +151,18 @@ module _ (src : List ℕ) (utf8 : IsUtf8 src) where
       let letter : byte src (i + 4) ≡ 108 = stands_reads (word_text word.XmlDeclStart) src i 4 opens (omega arith) in
       run_cut is_space src (i + 5) utf8 (subst (IsCharBoundary src) next (cut_behind src (i + 4) 108 utf8 letter (omega arith) (omega arith)))
 
-  begins_inside : (i : ℕ) (gap : Bool) (j : ℕ) → PairBegins src i gap j → j ≤ length src
-  begins_inside i gap j (due.PairBegins.version is) = let fits = stands_fits (word_text word.Version) src j (omega arith) is in omega arith
-  begins_inside i gap j (due.PairBegins.encoding _ first_is first_pair is) = let fits = stands_fits (word_text word.Encoding) src j (omega arith) is in omega arith
-  begins_inside i gap j (due.PairBegins.standalone v _ first_is first_pair more is) = let fits = stands_fits (word_text word.Standalone) src j (omega arith) is in omega arith
+  -- where a pair begins
+  begins_inside : (i : ℕ) (text : List ℕ) (j : ℕ) → DeclarationTo src i text j → stands text src j ≡ true → j ≤ length src
+  begins_inside i text j (constructs.DeclarationTo.version _) is = let fits = stands_fits (word_text word.Version) src j (omega arith) is in omega arith
+  begins_inside i text j (constructs.DeclarationTo.encoding _ _ to may) is = let fits = stands_fits (word_text word.Encoding) src j (omega arith) is in omega arith
+  begins_inside i text j (constructs.DeclarationTo.standalone _ _ to may) is = let fits = stands_fits (word_text word.Standalone) src j (omega arith) is in omega arith
 
   pub declaration_fits : (i p : ℕ) (t : DueItem) → at word.XmlDeclStart src i ≡ true → DueInXmlDecl src i p t → Fits src t p
   declaration_fits i p t opens due.DueInXmlDecl.its_version = (version_cut i opens).0
-  declaration_fits i p t opens (due.DueInXmlDecl.in_pair gap j _ _ begins is) = pair_fits j p t (begins_inside i gap j begins) is
-  declaration_fits i p t opens (due.DueInXmlDecl.behind_pair name j n v e _ begins pair) = tt
-  declaration_fits i p t opens (due.DueInXmlDecl.behind_last name j n v e k begins pair) = (run_cut is_space src k utf8 (pair_cut j n v e k name pair)).0
-  declaration_fits i p t opens (due.DueInXmlDecl.its_end v _ version first_pair second none) =
+  declaration_fits i p t opens (due.DueInXmlDecl.in_pair text j _ _ to here is) = pair_fits j p t (begins_inside i text j to here) is
+  declaration_fits i p t opens (due.DueInXmlDecl.behind_pair text name j n v e _ to here other pair) = tt
+  declaration_fits i p t opens (due.DueInXmlDecl.behind_last name j n v e k to here pair) = (run_cut is_space src k utf8 (pair_cut j n v e k name pair)).0
+  declaration_fits i p t opens (due.DueInXmlDecl.its_end _ (constructs.DeclarationTo.standalone v _ (constructs.DeclarationTo.encoding _ _ (constructs.DeclarationTo.version _) first_pair) second) none) =
       (may_cut word.Encoding v p (may_cut word.Version (spaces_end src (i + 5)) v (version_cut i opens) first_pair) second).0
 
   pub declaration_placed : (i p : ℕ) (t : DueItem) (f : Fault) → at word.XmlDeclStart src i ≡ true → DueInXmlDecl src i p t → IsMissing src p t f → IsPlaced src f
