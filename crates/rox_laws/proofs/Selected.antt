@@ -150,13 +150,9 @@ some_stand src from to q (w ∷ ws) h =
 
 all_stand : (src : List ℕ) (i j to b c : ℕ) (ws : List Attribute) → j < to → Attributes true no_entities src i j b c ws → Stand src i to ws
 all_stand src i j to b c ws before (no_more _ _) = tt
-all_stand src i j to b c ws before (one_more _ k _ _ d _ w rest some first more) =
-    let le = attributes_forward src k j d c rest more in (
-      omega (arith, first.starts),
-      omega (arith, first.end, le),
-      own_places src (spaces_end src i) k b d w first,
-      subst (λ (n : ℕ). Stand src n to rest) (sym first.end) (all_stand src k j to d c rest before more),
-    )
+all_stand src i j to b c ws before (one_more _ k _ _ d _ _ rest some (attribute n v e name value is read) more) =
+    let le = attributes_forward src k j d c rest more in
+    (omega arith, omega (arith, le), own_places src (spaces_end src i) k b d _ (attribute n v e name value is read), all_stand src k j to d c rest before more)
 
 tag_stands : (src : List ℕ) (i j b c : ℕ) (is_empty : Bool) (t : Tag) → IsTag true no_entities src i j b c is_empty t → Stand src i j t.attributes
 tag_stands src i j b c is_empty t is =
