@@ -141,20 +141,19 @@ module _ (src to : List ℕ) (m : ℕ) (same : take m src ≡ take m to) where
   pub literal_cut : (i e j : ℕ) → j ≤ m → IsLiteral src i e j → IsLiteral to i e j
   unfolding run_end
   literal_cut i e j fits is =
-      let next = is.quoted.next in
-      let chars = is.chars in
+      let next = is.0.3 in
+      let chars = is.1 in
       let le : i + 1 ≤ e = omega arith in
-      let first = byte_cut i (omega arith) in
-      record {
-        quoted = record {
-          quote = subst (λ (b : ℕ). (b ≡ 39) ⊎ (b ≡ 34)) first is.quoted.quote;
-          end = byte_from_cut (λ c. c == byte src i) (i + 1) e is.quoted.end (omega arith) ∙ ap (λ (q : ℕ). byte_from (λ c. c == q) to (i + 1)) first;
-          closes = within_cut e (omega arith) is.quoted.closes;
-          next = is.quoted.next;
-        };
-        chars = chars_cut (i + 1) e (omega arith) is.chars;
-        no_markup = is.no_markup ∙ ap (λ (bs : List ℕ). byte_from (λ c. c == 60) bs (i + 1)) (front e (omega arith));
-      }
+      let first = byte_cut i (omega arith) in (
+        (
+          subst (λ (b : ℕ). (b ≡ 39) ⊎ (b ≡ 34)) first is.0.0,
+          byte_from_cut (λ c. c == byte src i) (i + 1) e is.0.1 (omega arith) ∙ ap (λ (q : ℕ). byte_from (λ c. c == q) to (i + 1)) first,
+          within_cut e (omega arith) is.0.2,
+          is.0.3,
+        ),
+        chars_cut (i + 1) e (omega arith) is.1,
+        is.2 ∙ ap (λ (bs : List ℕ). byte_from (λ c. c == 60) bs (i + 1)) (front e (omega arith)),
+      )
 
   -- a run that `<` ends
   pub run_cut : (i j : ℕ) → j < m → IsCharacterData src i j → IsCharacterData to i j

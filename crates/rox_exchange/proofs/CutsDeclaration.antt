@@ -8,13 +8,14 @@ use Rattle.rox_grammar.specs.declared.fault.Word.TheVariants as word
 use Rattle.rox_grammar.specs.FixedTexts.{word_text, at}
 use Rattle.rox_grammar.specs.Search.{stands}
 use Rattle.rox_grammar.specs.Chars.{is_space}
+use Rattle.rox_grammar.specs.Written.{Name}
 use Rattle.rox_grammar.specs.Names.{byte, spaces_end}
-use Rattle.rox_grammar.specs.Constructs.{IsPair, IsGap, some_space, no_space, MayBePair, is_pair, no_pair, IsXmlDecl}
+use Rattle.rox_grammar.specs.Constructs.{IsPair, IsGap, some_space, no_space, MayBePair, is_pair, no_pair, version, encoding, standalone, IsXmlDecl, xml_decl}
 use Rattle.rox_theory.proofs.Basics.{within as byte_within}
 use Rattle.rox_exchange.specs.Local.{Fronts}
-use Rattle.rox_exchange.proofs.Cuts.{heads, fronts, stands_cut, literal_cut}
-use Rattle.rox_exchange.proofs.CutsLexical.{space_cut, qname_cut, eq_cut}
-use Rattle.rox_exchange.proofs.CutsTags.{behind_literal}
+use Rattle.rox_exchange.proofs.Cuts.{heads, fronts, stands_cut}
+use Rattle.rox_exchange.proofs.CutsLexical.{space_cut}
+use Rattle.rox_exchange.proofs.CutsTags.{pair_cut}
 use Rattle.rox_exchange.proofs.Fronts.{stands_reads, behind}
 use Rattle.rox_exchange.proofs.Order.{run_le, qname_le, eq_lt, literal_lt}
 
@@ -65,26 +66,14 @@ module _ (src to : List ℕ) (m : ℕ) (f : Fronts src to m) where
   gap_le i j (some_space _ some) = omega arith
   gap_le i j (no_space _ none) = omega arith
 
-  pair_lt : (i j : ℕ) → IsPair src i j → i < j
-  pair_lt i j is =
-      let next = is.literal.quoted.next in
-      omega (arith, qname_le src i is.name is.n is.is_name, eq_lt src is.n is.v is.eq, literal_lt src is.v is.e j is.literal)
+  pair_lt : (i n v e j : ℕ) (name : Name) → IsPair src i name n v e j → i < j
+  pair_lt i n v e j name (is_name, eq, literal) =
+      let next = literal.0.3 in
+      omega (arith, qname_le src i name n is_name, eq_lt src n v eq, literal_lt src v e j literal)
 
   may_le : (w : Word) (i j : ℕ) → MayBePair (word_text w) src i j → i ≤ j
-  may_le w i j (is_pair _ k _ here is gap) = omega (arith, pair_lt i k is, gap_le k j gap)
-  may_le w i j (no_pair _ none) = omega arith
-
-  -- a pair ends in its quote
-  pair_cut : (i j : ℕ) → IsCharBoundary (take m src) i → j < m → IsPair src i j → IsPair to i j × IsCharBoundary (take m src) j
-  pair_cut i j cut below is =
-      let next = is.literal.quoted.next in
-      let a = qname_le src i is.name is.n is.is_name in
-      let b = eq_lt src is.n is.v is.eq in
-      let c = literal_lt src is.v is.e j is.literal in
-      let name = qname_cut src to m f i is.name is.n cut (omega arith) is.is_name in (
-        record { name = is.name; n = is.n; is_name = name.0; v = is.v; eq = eq_cut src to m f is.n is.v name.1 (omega arith) is.eq; e = is.e; literal = literal_cut src to m f.same is.v is.e j (omega arith) is.literal },
-        behind_literal src to m f is.v is.e j (omega arith) is.literal,
-      )
+  may_le w i j (is_pair name n v e k _ here is gap) = omega (arith, pair_lt i n v e k name is, gap_le k j gap)
+  may_le w i j (no_pair none) = omega arith
 
   -- where `>` stands at q, and white space or the end of the declaration is left before it
   module _ (q : ℕ) (below : q < m) (is_end : byte src q ≡ 62) (inside : q < length src) where
@@ -96,43 +85,34 @@ module _ (src to : List ℕ) (m : ℕ) (f : Fronts src to m) where
     gap_cut i j cut le (no_space _ (inr close)) = (no_space i (inr (sym (stands_cut src to m f.same (word_text word.PIEnd) i (omega arith)) ∙ close)), cut)
 
     may_cut : (w : Word) (i j : ℕ) → IsMissing 62 (word_text w) → IsCharBoundary (take m src) i → j + 1 ≤ q → MayBePair (word_text w) src i j → MayBePair (word_text w) to i j × IsCharBoundary (take m src) j
-    may_cut w i j lacks cut le (is_pair _ k _ here is gap) =
-        let lt = pair_lt i k is in
+    may_cut w i j lacks cut le (is_pair name n v e k _ here is gap) =
+        let lt = pair_lt i n v e k name is in
         let gl = gap_le k j gap in
-        let p = pair_cut i k cut (omega arith) is in
+        let p = pair_cut src to m f i n v e k name cut (omega arith) is in
         let g = gap_cut k j p.1 le gap in
-        (is_pair i k j (sym (word_cut 62 (word_text w) i q (omega arith) lacks (omega arith) below is_end) ∙ here) p.0 g.0, g.1)
-    may_cut w i j lacks cut le (no_pair _ none) =
-        (no_pair i (sym (word_cut 62 (word_text w) i q (omega arith) lacks (omega arith) below is_end) ∙ none), cut)
+        (is_pair name n v e k j (sym (word_cut 62 (word_text w) i q (omega arith) lacks (omega arith) below is_end) ∙ here) p.0 g.0, g.1)
+    may_cut w i j lacks cut le (no_pair none) =
+        (no_pair (sym (word_cut 62 (word_text w) i q (omega arith) lacks (omega arith) below is_end) ∙ none), cut)
 
   -- the first and the last byte of the declaration
   pub declaration_cut : (i j : ℕ) → j ≤ m → IsXmlDecl src i j → IsXmlDecl to i j
-  declaration_cut i j fits is =
-      let next = is.next in
-      let le_v = may_le word.Version (spaces_end src (i + 5)) is.v is.first_pair in
-      let le_e = may_le word.Encoding is.v is.e is.encoding in
-      let le_s = may_le word.Standalone is.e is.s is.standalone in
+  declaration_cut i j fits (xml_decl e p opens (standalone v _ (encoding _ _ (version here) first) second) third closes) =
+      let le_v = may_le word.Version (spaces_end src (i + 5)) v first in
+      let le_e = may_le word.Encoding v e second in
+      let le_s = may_le word.Standalone e p third in
       let sp = run_le is_space src (i + 5) in
-      let q = is.s + 1 in
-      let is_end : byte src q ≡ 62 = stands_reads (word_text word.PIEnd) src is.s 1 is.closes (omega arith) in
+      let q = p + 1 in
+      let is_end : byte src q ≡ 62 = stands_reads (word_text word.PIEnd) src p 1 closes (omega arith) in
       let inside : q < length src = byte_within src q (λ z. omega arith) in
-      let l : byte src (i + 4) ≡ 108 = stands_reads (word_text word.XmlDeclStart) src i 4 is.opens (omega arith) in
-      let e : i + 4 + 1 ≡ i + 5 = omega arith in
-      let start : IsCharBoundary (take m src) (i + 5) = subst (IsCharBoundary (take m src)) e (behind src to m f 108 (i + 4) (omega arith) l (omega arith)) in
+      let l : byte src (i + 4) ≡ 108 = stands_reads (word_text word.XmlDeclStart) src i 4 opens (omega arith) in
+      let five : i + 4 + 1 ≡ i + 5 = omega arith in
+      let start : IsCharBoundary (take m src) (i + 5) = subst (IsCharBoundary (take m src)) five (behind src to m f 108 (i + 4) (omega arith) l (omega arith)) in
       let white = space_cut src to m f (i + 5) (spaces_end src (i + 5)) start (omega arith) refl in
-      let one = may_cut q (omega arith) is_end inside word.Version (spaces_end src (i + 5)) is.v lacks_version white.1 (omega arith) is.first_pair in
-      let two = may_cut q (omega arith) is_end inside word.Encoding is.v is.e lacks_encoding one.1 (omega arith) is.encoding in
-      let three = may_cut q (omega arith) is_end inside word.Standalone is.e is.s lacks_standalone two.1 (omega arith) is.standalone in
-      let version = sym (word_cut 62 (word_text word.Version) (spaces_end src (i + 5)) q (omega arith) lacks_version (omega arith) (omega arith) is_end) ∙ is.version in
-      record {
-        opens = sym (stands_cut src to m f.same (word_text word.XmlDeclStart) i (omega arith)) ∙ is.opens;
-        version = subst (λ (k : ℕ). at word.Version to k ≡ true) white.0 version;
-        v = is.v;
-        first_pair = subst (λ (k : ℕ). MayBePair (word_text word.Version) to k is.v) white.0 one.0;
-        e = is.e;
-        encoding = two.0;
-        s = is.s;
-        standalone = three.0;
-        closes = sym (stands_cut src to m f.same (word_text word.PIEnd) is.s (omega arith)) ∙ is.closes;
-        next = next;
-      }
+      let one = may_cut q (omega arith) is_end inside word.Version (spaces_end src (i + 5)) v lacks_version white.1 (omega arith) first in
+      let two = may_cut q (omega arith) is_end inside word.Encoding v e lacks_encoding one.1 (omega arith) second in
+      let three = may_cut q (omega arith) is_end inside word.Standalone e p lacks_standalone two.1 (omega arith) third in
+      let there = sym (word_cut 62 (word_text word.Version) (spaces_end src (i + 5)) q (omega arith) lacks_version (omega arith) (omega arith) is_end) ∙ here in
+      let to_version = version (subst (λ (k : ℕ). at word.Version to k ≡ true) white.0 there) in
+      let to_encoding = encoding (spaces_end to (i + 5)) v to_version (subst (λ (k : ℕ). MayBePair (word_text word.Version) to k v) white.0 one.0) in
+      xml_decl e p (sym (stands_cut src to m f.same (word_text word.XmlDeclStart) i (omega arith)) ∙ opens) (standalone v e to_encoding two.0) three.0
+      (sym (stands_cut src to m f.same (word_text word.PIEnd) p (omega arith)) ∙ closes)

@@ -68,14 +68,11 @@ module _ (src to : List ℕ) (m : ℕ) (f : Fronts src to m) where
   -- Eq
   pub eq_cut : (i j : ℕ) → IsCharBoundary (take m src) i → j < m → IsEq src i j → IsEq to i j
   eq_cut i j cut below is =
-      let next = is.next in
+      let next = is.1 in
       let le = run_le is_space src (spaces_end src i + 1) in
       let s = space_cut i (spaces_end src i) cut (omega arith) refl in
-      let r = space_cut (spaces_end src i + 1) j (behind src to m f 61 (spaces_end src i) (omega arith) is.equals (omega arith)) below is.next in
-      record {
-        equals = ap (byte to) (sym s.0) ∙ has_byte 61 (spaces_end src i) (omega arith) is.equals;
-        next = r.0 ∙ ap (λ (x : ℕ). spaces_end to (x + 1)) s.0;
-      }
+      let r = space_cut (spaces_end src i + 1) j (behind src to m f 61 (spaces_end src i) (omega arith) is.0 (omega arith)) below is.1 in
+      (ap (byte to) (sym s.0) ∙ has_byte 61 (spaces_end src i) (omega arith) is.0, r.0 ∙ ap (λ (x : ℕ). spaces_end to (x + 1)) s.0)
 
   -- a number
   pub number_cut : (base : ℕ) (p : ℕ → Bool) (d c j : ℕ) → j ≤ m → IsNumber base p src d c j → IsNumber base p to d c j

@@ -3,11 +3,11 @@ use Rattle.std.proofs.Common.{◌≡◌, ◌≢◌, ℕ, ◌+◌, ◌<◌, ◌�
 use Rattle.std.specs.Str.{IsCharBoundary}
 use Rattle.std.proofs.lemmas.Bool.{eqb-true, cases_lt}
 use Rattle.rox_grammar.specs.Chars.{is_space}
-use Rattle.rox_grammar.specs.Written.{Attribute, Tag}
+use Rattle.rox_grammar.specs.Written.{Name, Attribute, Tag}
 use Rattle.rox_grammar.specs.Names.{byte, spaces_end}
 use Rattle.rox_grammar.specs.References.{predefined}
-use Rattle.rox_grammar.specs.Constructs.{IsLiteral}
-use Rattle.rox_grammar.specs.Content.{Inclusion, DataByte, literal, Part, part_ends, as_written, from_reference, Value, value_ends, line_end, white, other, a_character, an_entity, is_verbatim_value, IsAttribute, Attributes, no_more, one_more, TagEnds, opened, closed, IsTag}
+use Rattle.rox_grammar.specs.Constructs.{IsLiteral, IsPair}
+use Rattle.rox_grammar.specs.Content.{Inclusion, DataByte, literal, Part, part_ends, as_written, from_reference, Value, value_ends, line_end, white, other, a_character, an_entity, is_verbatim_value, IsAttribute, attribute, Attributes, no_more, one_more, TagEnds, opened, closed, IsTag}
 use Rattle.rox_exchange.specs.Local.{Fronts}
 use Rattle.rox_exchange.proofs.Cuts.{byte_cut, slice_cut, literal_cut}
 use Rattle.rox_exchange.proofs.Fronts.{from_here, behind}
@@ -60,36 +60,35 @@ module _ (src to : List ℕ) (m : ℕ) (f : Fronts src to m) where
   -- a character begins behind a literal
   pub behind_literal : (i e j : ℕ) → j ≤ m → IsLiteral src i e j → IsCharBoundary (take m src) j
   behind_literal i e j fits is =
-      let next = is.quoted.next in
-      let end = is.quoted.end in
-      let inside = is.quoted.closes in
+      let next = is.0.3 in
+      let end = is.0.1 in
+      let inside = is.0.2 in
       let q = from_here (λ c. c == byte src i) src (i + 1) (omega arith) in
       let same : byte src e ≡ byte src i = eqb-true _ _ (subst (λ (x : ℕ). (byte src x == byte src i) ≡ true) (sym end) q) in
-      let small : byte src i < 128 = elim is.quoted.quote as (λ s. byte src i < 128) [ inl one ↦ omega arith | inr two ↦ omega arith ] in
+      let small : byte src i < 128 = elim is.0.0 as (λ s. byte src i < 128) [ inl one ↦ omega arith | inr two ↦ omega arith ] in
       subst (IsCharBoundary (take m src)) (sym next) (behind src to m f (byte src i) e (omega arith) same small)
+
+  -- a pair ends in its quote
+  pub pair_cut : (i n v e j : ℕ) (name : Name) → IsCharBoundary (take m src) i → j ≤ m → IsPair src i name n v e j → IsPair to i name n v e j × IsCharBoundary (take m src) j
+  pair_cut i n v e j name cut fits (is_name, eq, text) =
+      let next = text.0.3 in
+      let a = qname_le src i name n is_name in
+      let b = eq_lt src n v eq in
+      let c = literal_lt src v e j text in
+      let named = qname_cut src to m f i name n cut (omega arith) is_name in
+      ((named.0, eq_cut src to m f n v named.1 (omega arith) eq, literal_cut src to m f.same v e j fits text), behind_literal v e j fits text)
 
   -- an attribute, and a character begins behind it
   pub attribute_cut : (main : Bool) (Includes : Inclusion) (i j b c : ℕ) (a : Attribute) → IsCharBoundary (take m src) i → j ≤ m → IsAttribute main Includes src i j b c a
       → IsAttribute main Includes to i j b c a × IsCharBoundary (take m src) j
-  attribute_cut main Includes i j b c a cut fits is =
-      let next = is.literal.quoted.next in
-      let v = eq_lt src a.name_end is.v is.eq in
-      let e = literal_lt src is.v is.e j is.literal in
-      let n = qname_cut src to m f i a.name a.name_end cut (omega arith) is.is_name in (
-        record {
-          starts = is.starts;
-          is_name = n.0;
-          v = is.v;
-          eq = eq_cut src to m f a.name_end is.v n.1 (omega arith) is.eq;
-          e = is.e;
-          literal = literal_cut src to m f.same is.v is.e j fits is.literal;
-          value_start = is.value_start;
-          end = is.end;
-          value = value_cut main Includes is.e (is.v + 1) b c a.value (omega arith) is.value;
-          borrowed = is.borrowed ∙ ap is_verbatim_value (slice_cut src to m f.same (is.v + 1) is.e (omega arith) (omega arith));
-        },
-        behind_literal is.v is.e j fits is.literal,
-      )
+  attribute_cut main Includes i j b c a cut fits (attribute n v e name value is read) =
+      let next = is.2.0.3 in
+      let lt = literal_lt src v e j is.2 in
+      let there = pair_cut i n v e j name cut fits is in
+      let same = slice_cut src to m f.same (v + 1) e (omega arith) (omega arith) in
+      let of : Bool → Attribute = λ x. record { start = i; name_end = n; value_start = v + 1; end = j; name = name; value = value; borrowed = x } in
+      let one = attribute n v e name value there.0 (value_cut main Includes e (v + 1) b c value (omega arith) read) in
+      (subst (λ (x : Bool). IsAttribute main Includes to i j b c (of x)) (ap is_verbatim_value (sym same)) one, there.1)
 
   -- attributes
   pub attributes_cut : (main : Bool) (Includes : Inclusion) (i j b c : ℕ) (as' : List Attribute) → IsCharBoundary (take m src) i → j ≤ m → Attributes main Includes src i j b c as'

@@ -69,11 +69,10 @@ module _ (m : Move) (src to : List ℕ) where
   -- Eq
   pub eq_moves : (i k j : ℕ) → Follows m src i to k → IsEq src i j → IsEq to k (moved m j)
   eq_moves i k j f is =
-      let s = space_end i k f in
-      record {
-        equals = byte_is 61 (spaces_end src i) (spaces_end to k) s is.equals;
-        next = run_end_moves m src to is_space (spaces_end src i + 1) (spaces_end to k + 1) j (on m src to (spaces_end src i) (spaces_end to k) 1 s) is.next;
-      }
+      let s = space_end i k f in (
+        byte_is 61 (spaces_end src i) (spaces_end to k) s is.0,
+        run_end_moves m src to is_space (spaces_end src i + 1) (spaces_end to k + 1) j (on m src to (spaces_end src i) (spaces_end to k) 1 s) is.1,
+      )
 
   -- a number
   pub number_moves : (base : ℕ) (p : ℕ → Bool) (d k c j : ℕ) → Follows m src d to k → IsNumber base p src d c j → IsNumber base p to k c (moved m j)
@@ -177,23 +176,22 @@ module _ (m : Move) (src to : List ℕ) where
   pub literal_moves : (i k e j : ℕ) → Follows m src i to k → IsLiteral src i e j → IsLiteral to k (moved m e) (moved m j)
   literal_moves i k e j f is =
       let at = f.at in
-      let next = is.quoted.next in
-      let inside = is.quoted.closes in
+      let next = is.0.3 in
+      let inside = is.0.2 in
       let lt = literal_lt src i e j is in
       let le : i + 1 ≤ e = omega arith in
       let g = on m src to i k 1 f in
       let first = byte_moves m src to i k f in
-      let left = rest_moves m src to i k f in
-      record {
-        quoted = record {
-          quote = subst (λ (b : ℕ). (b ≡ 39) ⊎ (b ≡ 34)) first is.quoted.quote;
-          end = byte_from_moves m src to (λ c. c == byte src i) (i + 1) (k + 1) e g is.quoted.end ∙ ap (λ (q : ℕ). byte_from (λ c. c == q) to (k + 1)) first;
-          closes = omega arith;
-          next = omega arith;
-        };
-        chars = chars_move m src to (i + 1) (k + 1) e le g is.chars;
-        no_markup = markup_moves m src to (λ c. c == 60) (i + 1) (k + 1) e le g is.no_markup;
-      }
+      let left = rest_moves m src to i k f in (
+        (
+          subst (λ (b : ℕ). (b ≡ 39) ⊎ (b ≡ 34)) first is.0.0,
+          byte_from_moves m src to (λ c. c == byte src i) (i + 1) (k + 1) e g is.0.1 ∙ ap (λ (q : ℕ). byte_from (λ c. c == q) to (k + 1)) first,
+          omega arith,
+          omega arith,
+        ),
+        chars_move m src to (i + 1) (k + 1) e le g is.1,
+        markup_moves m src to (λ c. c == 60) (i + 1) (k + 1) e le g is.2,
+      )
 
   -- a run
   pub run_moves : (i k j : ℕ) → Follows m src i to k → IsCharacterData src i j → IsCharacterData to k (moved m j)

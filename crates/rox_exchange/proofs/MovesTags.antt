@@ -6,6 +6,7 @@ use Rattle.rox_grammar.specs.Names.{byte, spaces_end}
 use Rattle.rox_grammar.specs.References.{predefined}
 use Rattle.rox_grammar.specs.Content.{Inclusion, DataByte, literal, Part, part_ends, as_written, from_reference, Value, value_ends, line_end, white, other, a_character, an_entity, is_verbatim_value, IsAttribute, Attributes, no_more, one_more, TagEnds, opened, closed, IsTag}
 use Rattle.rox_grammar.specs.Exchange.{Move, moved}
+use Rattle.rox_theory.proofs.AttributeParts.{parts_of, from_parts}
 use Rattle.rox_exchange.specs.Local.{Follows, moved_written, moved_tag}
 use Rattle.rox_exchange.proofs.Follows.{on, lands, from, byte_moves, slice_moves}
 use Rattle.rox_exchange.proofs.MovesLexical.{space_end, byte_is, byte_not, qname_moves, eq_moves, reference_moves, reference_name, character_moves, literal_moves}
@@ -81,8 +82,9 @@ module _ (m : Move) (src to : List ℕ) where
 
   -- an attribute
   pub attribute_moves : (main : Bool) (Includes : Inclusion) (i k j b c : ℕ) (a : Attribute) → Follows m src i to k → IsAttribute main Includes src i j b c a → IsAttribute main Includes to k (moved m j) b c (moved_written m a)
-  attribute_moves main Includes i k j b c a f is =
+  attribute_moves main Includes i k j b c a f there =
       let at = f.at in
+      let is = parts_of main Includes src i j b c a there in
       let starts = is.starts in
       let value_start = is.value_start in
       let n = qname_le src i a.name a.name_end is.is_name in
@@ -91,7 +93,8 @@ module _ (m : Move) (src to : List ℕ) where
       let g = from m src to i k a.name_end n f in
       let h = from m src to i k is.v (omega arith) f in
       let h' = on m src to is.v (moved m is.v) 1 h in
-      record {
+      from_parts main Includes to k (moved m j) b c (moved_written m a)
+      (record {
         starts = omega arith;
         is_name = qname_moves m src to i k a.name a.name_end f is.is_name;
         v = moved m is.v;
@@ -102,7 +105,7 @@ module _ (m : Move) (src to : List ℕ) where
         end = ap (moved m) is.end;
         value = value_moves main Includes is.e (is.v + 1) (moved m is.v + 1) b c a.value h' is.value;
         borrowed = is.borrowed ∙ ap is_verbatim_value (slice_moves m src to (is.v + 1) (moved m is.v + 1) is.e (omega arith) h');
-      }
+      })
 
   -- attributes
   pub attributes_go : (main : Bool) (Includes : Inclusion) (i k j b c : ℕ) (as' : List Attribute) → Follows m src i to k → Attributes main Includes src i j b c as' → Attributes main Includes to k (moved m j) b c (map (moved_written m) as')

@@ -7,7 +7,7 @@ use Rattle.rox_grammar.specs.Runs.{run_end}
 use Rattle.rox_grammar.specs.Names.{spaces_end, IsName, IsNCName, IsQName, unprefixed, prefixed, colon_first}
 use Rattle.rox_grammar.specs.References.{IsReference, IsCharacter, decimal, hexadecimal, named}
 use Rattle.rox_grammar.specs.Constructs.{AreChars, IsComment, IsPI, IsCData, IsEq, IsLiteral, IsEnd}
-use Rattle.rox_grammar.specs.Content.{Inclusion, IsAttribute, Attributes, no_more, one_more, TagEnds, opened, closed, IsTag, IsMisc, comment, instruction, IsElement, empty, nest, Content, ends, run, cdata, misc, node}
+use Rattle.rox_grammar.specs.Content.{Inclusion, IsAttribute, Attributes, no_more, one_more, TagEnds, opened, closed, IsTag, IsMisc, comment, instruction, IsElement, empty, nest, Content, ends, run, cdata, misc, node, attribute}
 use Rattle.rox_theory.proofs.Productions.{ncname_parts, number_parts, reference_parts, comment_parts, pi_parts, cdata_parts, end_parts, char_data_parts}
 
 pub run_le : (p : ℕ → Bool) (src : List ℕ) (i : ℕ) → i ≤ run_end p src i
@@ -30,10 +30,10 @@ module _ (src : List ℕ) where
   qname_le i name j (colon_first _ _ colon n last) = omega (arith, ncname_le (i + 1) j n)
 
   pub eq_lt : (i j : ℕ) → IsEq src i j → i < j
-  eq_lt i j is = let l = is.next in omega (arith, run_le is_space src i, run_le is_space src (spaces_end src i + 1))
+  eq_lt i j is = let l = is.1 in omega (arith, run_le is_space src i, run_le is_space src (spaces_end src i + 1))
 
   pub literal_lt : (i e j : ℕ) → IsLiteral src i e j → i < e
-  literal_lt i e j is = omega (arith, chars_le (i + 1) e is.chars)
+  literal_lt i e j is = omega (arith, chars_le (i + 1) e is.1)
 
   pub comment_le : (i e j : ℕ) → IsComment src i e j → i + 4 ≤ e
   comment_le i e j is = chars_le (i + 4) e (comment_parts is).chars
@@ -53,9 +53,9 @@ module _ (src : List ℕ) where
   character_lt i c j (named _ n _ _ is known) = let next = (reference_parts is).next in omega (arith, reference_lt i n j is)
 
   pub attribute_lt : (main : Bool) (Includes : Inclusion) (i j b c : ℕ) (a : Attribute) → IsAttribute main Includes src i j b c a → i < j
-  attribute_lt main Includes i j b c a is =
-      let next = is.literal.quoted.next in
-      omega (arith, qname_le i a.name a.name_end is.is_name, eq_lt a.name_end is.v is.eq, literal_lt is.v is.e j is.literal)
+  attribute_lt main Includes i j b c a (attribute n v e name value (is_name, eq, literal) read) =
+      let next = literal.0.3 in
+      omega (arith, qname_le i name n is_name, eq_lt n v eq, literal_lt v e j literal)
 
   pub attributes_le : (main : Bool) (Includes : Inclusion) (i j b c : ℕ) (as' : List Attribute) → Attributes main Includes src i j b c as' → i ≤ j
   attributes_le main Includes i j b c as' (no_more _ _) = omega arith

@@ -314,8 +314,8 @@ module _ (opens : ℕ → Inclusion) (es : List Entity) (all : OpensAt opens es)
           let adds : W → Adds (state_of s b) (Element s.at j' x) = λ w. tag_adds k open_around b src s r j' c' x empty (subst (IsValidState limit) leads (fine w)) in
           let well_named = tag_named k open_around b src s r j' c' x empty (subst (λ (u : State). AreNamed u.stack u.done) leads named') in
           let value = value_there (context_at limit es r.d k open_around).values (opens k) (all.values r.d k r.deep) src r.utf8 s j' b c' empty x is' well_named W (λ w. (adds w).attributes) (λ w. (adds w).pairs) p c n v e j as' name to named eq literal in
-          let low = quote_ascii (byte src v) literal.quoted.quote in
-          let end = literal.quoted.end in let closes = literal.quoted.closes in
+          let low = quote_ascii (byte src v) literal.0.0 in
+          let end = literal.0.1 in let closes = literal.0.2 in
           let h = from_here (λ c. c == byte src v) src (v + 1) (rw (← end) closes) in
           let same : byte src e ≡ byte src v = eqb-true _ _ (rw (← end) at h) in
           record {
@@ -327,5 +327,5 @@ module _ (opens : ℕ → Inclusion) (es : List Entity) (all : OpensAt opens es)
             openings_left = value.0;
             bytes = value.1;
             value = value.2;
-            chars = literal.chars;
+            chars = literal.1;
           }

@@ -61,9 +61,9 @@ module _ (src : List ℕ) (utf8 : IsUtf8 src) where
   spaced p j f cut is lack = space_stands src utf8 p f cut (let some = is.some in let all = is.all in omega arith) lack
 
   literal_apart : (i e j p : ℕ) (t : DueItem) (f : Fault) → IsQuoted src i e j → DueInLiteral src i p t → IsMissing src p t f → ⊥
-  literal_apart i e j p t f is its_quote lack = quote_stands src i f is.quote lack
+  literal_apart i e j p t f is its_quote lack = quote_stands src i f is.0 lack
   literal_apart i e j p t f is (its_end quote) lack =
-      let closes : byte src (byte_from (λ c. c == byte src i) src (i + 1)) ≡ byte src i = ap (byte src) (sym is.end) ∙ quoted_closes src i e j is in
+      let closes : byte src (byte_from (λ c. c == byte src i) src (i + 1)) ≡ byte src i = ap (byte src) (sym is.1) ∙ quoted_closes src i e j is in
       byte_stands src (byte src i) (byte_from (λ c. c == byte src i) src (i + 1)) f (elim quote as (λ _. 0 < byte src i) [ inl s ↦ omega arith | inr d ↦ omega arith ]) closes lack
 
   -- no external id begins with both words
@@ -113,9 +113,9 @@ module _ (src : List ℕ) (utf8 : IsUtf8 src) where
 
   -- a definition that is due and stands there
   definition_stands : (i j : ℕ) (parameter : Bool) (asked : List Asked) (text : Option Replacement) (f : Fault) → IsDefinition src parameter i j asked text → IsMissing src i a_definition f → ⊥
-  definition_stands i j parameter asked text f (internal _ e _ q) (none_of _ below none) = true≢false (sym (quote_defines (byte src i) q.quote) ∙ none)
-  definition_stands i j parameter asked text f (internal _ e _ q) (due.IsMissing.no_external_id which no_system no_public) = letter_no_quote i which q.quote
-  definition_stands i j parameter asked text f (internal _ e _ q) (none_left _ past) = let some = (quote_ascii (byte src i) q.quote) in let l = within src i (λ z. omega arith) in absurd (omega arith)
+  definition_stands i j parameter asked text f (internal _ e _ q) (none_of _ below none) = true≢false (sym (quote_defines (byte src i) q.0) ∙ none)
+  definition_stands i j parameter asked text f (internal _ e _ q) (due.IsMissing.no_external_id which no_system no_public) = letter_no_quote i which q.0
+  definition_stands i j parameter asked text f (internal _ e _ q) (none_left _ past) = let some = (quote_ascii (byte src i) q.0) in let l = within src i (λ z. omega arith) in absurd (omega arith)
   definition_stands i j parameter asked text f (external _ n _ request answer _ is may gives) (none_of _ below none) = true≢false (sym (letter_defines (byte src i) (external_byte src i request n is)) ∙ none)
   definition_stands i j parameter asked text f (external _ n _ request answer _ (system _ s e _ is sp q) may gives) (due.IsMissing.no_external_id which no_system no_public) = true≢false (sym is ∙ no_system)
   definition_stands i j parameter asked text f (external _ n _ request answer _ (public _ s d k v e _ is sp q sp' q') may gives) (due.IsMissing.no_external_id which no_system no_public) = true≢false (sym is ∙ no_public)
@@ -129,7 +129,7 @@ module _ (src : List ℕ) (utf8 : IsUtf8 src) where
 
   -- or in its external id
   in_external : (i j p : ℕ) (parameter : Bool) (asked : List Asked) (text : Option Replacement) (t : DueItem) (f : Fault) → IsDefinition src parameter i j asked text → DueInExternalID src i p t → IsMissing src p t f → ⊥
-  in_external i j p parameter asked text t f (internal _ e _ q) due' lack = letter_no_quote i (word_byte i (external_due i p t due')) q.quote
+  in_external i j p parameter asked text t f (internal _ e _ q) due' lack = letter_no_quote i (word_byte i (external_due i p t due')) q.0
   in_external i j p parameter asked text t f (external _ n _ request answer _ is may gives) due' lack = external_apart i n p request t f is due' lack
 
   -- the notation that stands behind an external id

@@ -17,7 +17,7 @@ use Rattle.rox_grammar.specs.Written.{Name, Attribute, NamespaceDecl, Tag, is_na
 use Rattle.rox_grammar.specs.Tree.{xml_uri, xmlns_uri, is_declared, listed, is_xml, listable_of}
 use Rattle.rox_grammar.specs.Names.{byte, spaces_end, IsQName, unprefixed, prefixed, colon_first}
 use Rattle.rox_grammar.specs.Constructs.{IsEq, IsLiteral}
-use Rattle.rox_grammar.specs.Content.{Inclusion, Value, IsAttribute, Attributes, no_more, one_more, TagEnds, opened, closed, IsTag}
+use Rattle.rox_grammar.specs.Content.{Inclusion, Value, IsAttribute, attribute, Attributes, no_more, one_more, TagEnds, opened, closed, IsTag}
 use Rattle.rox_grammar.specs.WellNamed.{may_declare, is_known, same_expanded, IsWellNamed}
 use Rattle.rox_grammar.proofs.NamesApart.{DeclarableBehind, DistinctBehind, declarable_behind, distinct_behind}
 use Rattle.rox_grammar.specs.Document.{most_attributes, most_pairs}
@@ -37,6 +37,7 @@ use Rattle.rox_theory.proofs.Basics.{within, run_end_le}
 use Rattle.rox_theory.proofs.NameLemmas.{begins_here}
 use Rattle.rox_faults.proofs.NameSpans.{cut_behind, qname_text}
 use Rattle.rox_theory.proofs.LiteralLemmas.{literal_complete}
+use Rattle.rox_theory.proofs.AttributeParts.{parts_of}
 use Rattle.rox_theory.proofs.AttributeLemmas.{end_complete}
 use Rattle.rox_theory.proofs.DeclaredLemmas.{pairs_more}
 use Rattle.rox_theory.proofs.Constructions.{name_byte}
@@ -162,7 +163,7 @@ module _ (context : Values) (O : Inclusion) (agrees : AgreesValue context.entiti
   -- what follows begins within the source
   next_within : (p j b : ℕ) (empty : Bool) (rest : List Attribute) → Next context.main O src p empty j b rest → spaces_end src p < length src
   next_within p j b empty rest (it_ends ends) = elim (end_byte src p j empty ends) as (λ s. spaces_end src p < length src) [ inl is ↦ within src (spaces_end src p) (λ z. omega arith) | inr is ↦ within src (spaces_end src p) (λ z. omega arith) ]
-  next_within p j b empty rest (it_goes q c a more spaces is) = (name_byte src (spaces_end src p) a.name a.name_end is.is_name).within
+  next_within p j b empty rest (it_goes q c _ more spaces (attribute n v e name value is read)) = (name_byte src (spaces_end src p) name n is.0).within
 
   -- a tag that goes on with a name does not end
   name_follows : (p j b n : ℕ) (empty : Bool) (rest : List Attribute) (name : Name) → Next context.main O src p empty j b rest → IsQName src (spaces_end src p) name n
@@ -178,7 +179,7 @@ module _ (context : Values) (O : Inclusion) (agrees : AgreesValue context.entiti
   slash_apart : (p j b : ℕ) (empty : Bool) (rest : List Attribute) (f : Fault) → Next context.main O src p empty j b rest → byte src (spaces_end src p) ≡ 47 → IsMissing src (spaces_end src p + 1) (a_byte 62) f → ⊥
   slash_apart p j b empty rest f (it_ends (opened _ close)) slash lack = absurd (omega arith)
   slash_apart p j b empty rest f (it_ends (closed _ slash' close)) slash lack = byte_stands src 62 (spaces_end src p + 1) f (omega arith) close lack
-  slash_apart p j b empty rest f (it_goes q c a more spaces is) slash lack = (name_byte src (spaces_end src p) a.name a.name_end is.is_name).no_slash slash
+  slash_apart p j b empty rest f (it_goes q c _ more spaces (attribute n v e name value is read)) slash lack = (name_byte src (spaces_end src p) name n is.0).no_slash slash
 
   module _ (s : State) (j b e : ℕ) (empty : Bool) (tag : Tag) (is : IsTag context.main O src s.at j b e empty tag) (well_named : IsWellNamed (listed (scope_of s.stack) tag.declarations) tag)
       (W : Type 0) (few : W → attributes_so_far s.stack s.done + length tag.attributes ≤ most_attributes) (few_pairs : W → length (with_new (distinct_pairs (pairs_so_far s.stack s.done)) (listable_of tag.declarations)) ≤ most_pairs) where
@@ -210,14 +211,14 @@ module _ (context : Values) (O : Inclusion) (agrees : AgreesValue context.entiti
     -- nor an attribute that lacks something
     pair_in : (p q c : ℕ) (rest : List Attribute) (t : DueItem) (f : Fault) → Next context.main O src p empty j c rest → byte src (spaces_end src p) ≢ 47 → byte src (spaces_end src p) ≢ 62 → DueInPair src (spaces_end src p) q t → IsMissing src q t f → ⊥
     pair_in p q c rest t f (it_ends ends) no_slash no_close due lack = elim (end_byte src p j empty ends) as (λ s. ⊥) [ inl close ↦ no_close close | inr slash ↦ no_slash slash ]
-    pair_in p q c rest t f (it_goes k d a more spaces is') no_slash no_close due lack = pair_apart src utf8 (spaces_end src p) a.name_end is'.v is'.e k q a.name t f is'.is_name is'.eq is'.literal due lack
+    pair_in p q c rest t f (it_goes k d _ more spaces (attribute n v e name value is' read)) no_slash no_close due lack = pair_apart src utf8 (spaces_end src p) n v e k q name t f is'.0 is'.1 is'.2 due lack
 
     -- the value of an attribute that stands behind
     value_in : (p n v e k c : ℕ) (rest : List Attribute) (name : Name) → Next context.main O src p empty j c rest → IsQName src (spaces_end src p) name n → IsEq src n v → IsLiteral src v e k
         → (d : ℕ) × (w : List ℕ) × Value context.main O src e (v + 1) c d w
     value_in p n v e k c rest name next named eq literal =
         let x = name_follows p j c n empty rest name next named in
-        let a = x.2 in let is' = x.5 in
+        let a = x.2 in let is' = parts_of context.main O src (spaces_end src p) x.0 c x.1 a x.5 in
         let same : v ≡ is'.v = eq_one src n a.name_end v is'.v (one_qname src (spaces_end src p) n a.name_end name a.name named is'.is_name).1 eq is'.eq in
         let literal' : IsLiteral src is'.v e k = subst (λ (v : ℕ). IsLiteral src v e k) same literal in
         let end : is'.e ≡ e = sym (literal_complete src is'.v is'.e x.0 is'.literal) ∙ literal_complete src is'.v e k literal' in
@@ -228,7 +229,7 @@ module _ (context : Values) (O : Inclusion) (agrees : AgreesValue context.entiti
     declared_there : (p k c d : ℕ) (as' rest : List Attribute) (a : Attribute) → is.written ≡ as' ++ rest → Next context.main O src p empty j c rest → p < spaces_end src p → IsAttribute context.main O src (spaces_end src p) k c d a
         → is_namespace_decl a.name ≡ true → (more : List NamespaceDecl) × (tag.declarations ≡ namespace_decls_of as' ++ namespace_decl_of a ∷ more)
     declared_there p k c d as' rest a same next spaces is' declares' =
-        let x = name_follows p j c a.name_end empty rest a.name next is'.is_name in
+        let x = name_follows p j c a.name_end empty rest a.name next (parts_of context.main O src (spaces_end src p) k c d a is').is_name in
         let is_a : a ≡ x.2 = (one_turn p k x.0 c d x.1 a x.2 is' x.5 spaces).0 in
         let whole : is.written ≡ as' ++ a ∷ x.3 = same ∙ ap (λ (xs : List Attribute). as' ++ xs) (x.4 ∙ ap (λ (a : Attribute). a ∷ x.3) (sym is_a)) in
         let first : namespace_decls_of (a ∷ x.3) ≡ namespace_decl_of a ∷ namespace_decls_of x.3 = rw declares' refl in

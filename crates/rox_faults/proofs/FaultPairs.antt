@@ -10,9 +10,10 @@ use Rattle.rox_grammar.specs.Chars.{is_space}
 use Rattle.rox_grammar.specs.Written.{Name}
 use Rattle.rox_grammar.specs.Names.{byte, spaces_end, IsQName}
 use Rattle.rox_grammar.specs.FixedTexts.{word_text, at}
-use Rattle.rox_grammar.specs.Constructs.{AreChars, IsEq, IsLiteral, IsPair, IsGap, some_space, MayBePair, is_pair, no_pair, IsXmlDecl}
+use Rattle.rox_grammar.specs.Search.{stands}
+use Rattle.rox_grammar.specs.Constructs.{AreChars, IsEq, IsLiteral, IsPair, IsGap, some_space, MayBePair, is_pair, no_pair, DeclarationTo, version, encoding, standalone, IsXmlDecl, xml_decl}
 use Rattle.rox_grammar.specs.Constructs as constructs
-use Rattle.rox_grammar.specs.Due.{DueItem, a_byte, a_gap, a_text, chars_to, IsMissing, no_gap, none_left, DueInPair, its_name, equals, opening, its_value, closing, value_end, PairBegins, version, encoding, standalone, DueInXmlDecl, its_version, in_pair, behind_pair, behind_last, none_of}
+use Rattle.rox_grammar.specs.Due.{DueItem, a_byte, a_gap, a_text, chars_to, IsMissing, no_gap, none_left, DueInPair, its_name, equals, opening, its_value, closing, value_end, DueInXmlDecl, its_version, in_pair, behind_pair, behind_last, none_of}
 use Rattle.rox_faults.proofs.DueForms.{a_quote, quote_is}
 use Rattle.rox_grammar.specs.Due as due
 use Rattle.rox_reading.specs.Lexical.{qname_at}
@@ -42,7 +43,7 @@ quote_stands src q f (inr is) (none_left _ past) = let l = within src q (λ z. o
 
 -- where the value begins
 pub eq_one : (src : List ℕ) (m n v w : ℕ) → m ≡ n → IsEq src m v → IsEq src n w → v ≡ w
-eq_one src m n v w same a b = a.next ∙ ap (λ (k : ℕ). spaces_end src (spaces_end src k + 1)) same ∙ sym b.next
+eq_one src m n v w same a b = a.1 ∙ ap (λ (k : ℕ). spaces_end src (spaces_end src k + 1)) same ∙ sym b.1
 
 module _ (src : List ℕ) (utf8 : IsUtf8 src) where
   -- in a name, Eq and a literal
@@ -50,28 +51,29 @@ module _ (src : List ℕ) (utf8 : IsUtf8 src) where
   pair_apart i n v e j q name t f named eq literal its_name lack = qname_stands src i n name f named lack
   pair_apart i n v e j q name t f named eq literal (equals name' m is) lack =
       let same : m ≡ n = (one_qname src i m n name' name is named).1 in
-      byte_stands src 61 (spaces_end src n) f (omega arith) eq.equals (subst (λ (m : ℕ). IsMissing src (spaces_end src m) (a_byte 61) f) same lack)
+      byte_stands src 61 (spaces_end src n) f (omega arith) eq.0 (subst (λ (m : ℕ). IsMissing src (spaces_end src m) (a_byte 61) f) same lack)
   pair_apart i n v e j q name t f named eq literal (opening name' m w is eq') lack =
       let same : w ≡ v = eq_one src m n w v (one_qname src i m n name' name is named).1 eq' eq in
-      quote_stands src v f literal.quoted.quote (subst (λ (w : ℕ). IsMissing src w a_quote f) same lack)
+      quote_stands src v f literal.0.0 (subst (λ (w : ℕ). IsMissing src w a_quote f) same lack)
   pair_apart i n v e j q name t f named eq literal (its_value name' m w is eq' quote) lack =
       let same : w ≡ v = eq_one src m n w v (one_qname src i m n name' name is named).1 eq' eq in
-      let ascii = quote_ascii (byte src v) literal.quoted.quote in
+      let ascii = quote_ascii (byte src v) literal.0.0 in
       let cut : IsCharBoundary src (v + 1) = cut_behind src v (byte src v) utf8 refl (omega arith) (omega arith) in
       let to_end : value_end src v ≡ e = literal_complete src v e j literal in
-      chars_stand src utf8 (v + 1) (value_end src v) f cut (value_cut src utf8 v (within src v (λ z. omega arith)) literal.quoted.quote)
-      (subst (λ (e : ℕ). AreChars src (v + 1) e) (sym to_end) literal.chars)
+      chars_stand src utf8 (v + 1) (value_end src v) f cut (value_cut src utf8 v (within src v (λ z. omega arith)) literal.0.0)
+      (subst (λ (e : ℕ). AreChars src (v + 1) e) (sym to_end) literal.1)
       (subst (λ (w : ℕ). IsMissing src (w + 1) (chars_to (value_end src w)) f) same lack)
   pair_apart i n v e j q name t f named eq literal (closing name' m w is eq' quote chars) lack =
       let same : w ≡ v = eq_one src m n w v (one_qname src i m n name' name is named).1 eq' eq in
-      let ascii = quote_ascii (byte src v) literal.quoted.quote in
+      let ascii = quote_ascii (byte src v) literal.0.0 in
       let to_end : value_end src v ≡ e = literal_complete src v e j literal in
       byte_stands src (byte src v) (value_end src v) f (omega arith) (ap (byte src) to_end ∙ literal_closes src v e j literal)
       (subst (λ (w : ℕ). IsMissing src (value_end src w) (a_byte (byte src w)) f) same lack)
 
   -- a pair ends in one place
-  one_pair : (i j k : ℕ) → IsPair src i j → IsPair src i k → j ≡ k
-  one_pair i j k a b = ap (λ (p : Unit {0} × ℕ). p.1) (ok_one (tt, j) (tt, k) (pair_at src i) (pair_complete src i j a) (pair_complete src i k b))
+  one_pair : (i n v e j m w d k : ℕ) (name other : Name) → IsPair src i name n v e j → IsPair src i other m w d k → j ≡ k
+  one_pair i n v e j m w d k name other a b =
+      ap (λ (p : Unit {0} × ℕ). p.1) (ok_one (tt, j) (tt, k) (pair_at src i) (pair_complete src i n v e j name a) (pair_complete src i m w d k other b))
 
   -- and so does one with a gap
   one_may : (w : Word) (i j k : ℕ) → MayBePair (word_text w) src i j → MayBePair (word_text w) src i k → j ≡ k
@@ -85,44 +87,52 @@ module _ (src : List ℕ) (utf8 : IsUtf8 src) where
   gap_stands i j f cut (constructs.IsGap.no_space _ (inr here)) (no_gap inside no_space no_end) = true≢false (sym here ∙ no_end)
 
   -- a pair that may stand does, with its gap, where its word does
-  may_is : (w : Word) (i k : ℕ) → at w src i ≡ true → MayBePair (word_text w) src i k → (j : ℕ) × IsPair src i j × IsGap src j k
-  may_is w i k here (is_pair _ j _ here' p gap) = (j, p, gap)
-  may_is w i k here (no_pair _ none) = absurd (true≢false (sym here ∙ none))
+  may_is : (w : Word) (i k : ℕ) → at w src i ≡ true → MayBePair (word_text w) src i k → (name : Name) × (n : ℕ) × (v : ℕ) × (e : ℕ) × (j : ℕ) × IsPair src i name n v e j × IsGap src j k
+  may_is w i k here (is_pair name n v e j _ here' p gap) = (name, n, v, e, j, p, gap)
+  may_is w i k here (no_pair none) = absurd (true≢false (sym here ∙ none))
 
   may_not : (w : Word) (i k : ℕ) → at w src i ≡ false → MayBePair (word_text w) src i k → k ≡ i
-  may_not w i k fails (is_pair _ j _ here p gap) = absurd (true≢false (sym here ∙ fails))
-  may_not w i k fails (no_pair _ none) = refl
+  may_not w i k fails (is_pair name n v e j _ here p gap) = absurd (true≢false (sym here ∙ fails))
+  may_not w i k fails (no_pair none) = refl
 
   -- the pair that stands where one begins, and the gap behind it: behind the last one all white space before the end
-  pair_there : (i j p : ℕ) (gap : Bool) → IsXmlDecl src i j → PairBegins src i gap p → (k : ℕ) × IsPair src p k × (l : ℕ) × IsGap src k l × (gap ≡ false → at word.PIEnd src l ≡ true)
-  pair_there i j p gap is (version here) = let m = may_is word.Version (spaces_end src (i + 5)) is.v here is.first_pair in (m.0, m.1, is.v, m.2, λ g. cc g)
-  pair_there i j p gap is (encoding _ first may here) =
-      let same : is.v ≡ p = one_may word.Version (spaces_end src (i + 5)) is.v p is.first_pair may in
-      let m = may_is word.Encoding p is.e here (subst (λ (v : ℕ). MayBePair (word_text word.Encoding) src v is.e) same is.encoding) in (m.0, m.1, is.e, m.2, λ g. cc g)
-  pair_there i j p gap is (standalone v _ first may may' here) =
-      let same : is.v ≡ v = one_may word.Version (spaces_end src (i + 5)) is.v v is.first_pair may in
-      let same' : is.e ≡ p = one_may word.Encoding v is.e p (subst (λ (v : ℕ). MayBePair (word_text word.Encoding) src v is.e) same is.encoding) may' in
-      let m = may_is word.Standalone p is.s here (subst (λ (e : ℕ). MayBePair (word_text word.Standalone) src e is.s) same' is.standalone) in (m.0, m.1, is.s, m.2, λ g. is.closes)
+  pair_there : (i j p : ℕ) (text : List ℕ) → IsXmlDecl src i j → DeclarationTo src i text p → stands text src p ≡ true
+      → (name : Name) × (n : ℕ) × (v : ℕ) × (e : ℕ) × (k : ℕ) × IsPair src p name n v e k × (l : ℕ) × IsGap src k l × (text ≡ word_text word.Standalone → at word.PIEnd src l ≡ true)
+  pair_there i j p text (xml_decl e s opens (standalone v _ (encoding _ _ (version _) one) two) three closes) (version _) here =
+      let m = may_is word.Version p v here one in (m.0, m.1, m.2, m.3, m.4, m.5, v, m.6, λ z. cc z)
+  pair_there i j p text (xml_decl e s opens (standalone v _ (encoding _ _ (version _) one) two) three closes) (encoding q _ (version _) may) here =
+      let same : v ≡ p = one_may word.Version q v p one may in
+      let m = may_is word.Encoding p e here (subst (λ (v : ℕ). MayBePair (word_text word.Encoding) src v e) same two) in (m.0, m.1, m.2, m.3, m.4, m.5, e, m.6, λ z. cc z)
+  pair_there i j p text (xml_decl e s opens (standalone v _ (encoding _ _ (version _) one) two) three closes) (standalone w _ (encoding q _ (version _) may) may') here =
+      let same : v ≡ w = one_may word.Version q v w one may in
+      let same' : e ≡ p = one_may word.Encoding w e p (subst (λ (v : ℕ). MayBePair (word_text word.Encoding) src v e) same two) may' in
+      let m = may_is word.Standalone p s here (subst (λ (e : ℕ). MayBePair (word_text word.Standalone) src e s) same' three) in (m.0, m.1, m.2, m.3, m.4, m.5, s, m.6, λ z. closes)
+
+  -- where the last one begins
+  last_begins : (i p q : ℕ) → DeclarationTo src i (word_text word.Standalone) p → DeclarationTo src i (word_text word.Standalone) q → p ≡ q
+  last_begins i p q (standalone v _ (encoding a _ (version _) one) two) (standalone w _ (encoding b _ (version _) may) may') =
+      let same : v ≡ w = one_may word.Version a v w one may in
+      one_may word.Encoding w p q (subst (λ (v : ℕ). MayBePair (word_text word.Encoding) src v p) same two) may'
 
   -- in the declaration: rows 21 to 25
   pub declaration_apart : (i j q : ℕ) (t : DueItem) (f : Fault) → IsXmlDecl src i j → DueInXmlDecl src i q t → IsMissing src q t f → ⊥
-  declaration_apart i j q t f is its_version lack = word_stands src expected.Version (spaces_end src (i + 5)) f is.version lack
-  declaration_apart i j q t f is (in_pair gap p _ _ begins due') lack =
-      let there = pair_there i j p gap is begins in
-      let x = there.1 in
-      pair_apart p x.n x.v x.e there.0 q x.name t f x.is_name x.eq x.literal due' lack
-  declaration_apart i j q t f is (behind_pair p _ begins pair) lack =
-      let there = pair_there i j p true is begins in
-      let same : there.0 ≡ q = one_pair p there.0 q there.1 pair in
-      gap_stands q there.2 f (pair_cut src p q utf8 pair) (subst (λ (k : ℕ). IsGap src k there.2) same there.3) lack
-  declaration_apart i j q t f is (behind_last p k begins pair) lack =
-      let there = pair_there i j p false is begins in
-      let same : there.0 ≡ k = one_pair p there.0 k there.1 pair in
-      let ends = there.4 refl in
-      let behind : spaces_end src k ≡ there.2 = ap (spaces_end src) (sym same) ∙ gap_before src there.0 there.2 there.3 ends in
-      word_stands src expected.PIEnd there.2 f ends (subst (λ (l : ℕ). IsMissing src l (a_text expected.PIEnd) f) behind lack)
-  declaration_apart i j q t f is (due.DueInXmlDecl.its_end v _ here may may' none) lack =
-      let first : is.v ≡ v = one_may word.Version (spaces_end src (i + 5)) is.v v is.first_pair may in
-      let second : is.e ≡ q = one_may word.Encoding v is.e q (subst (λ (v : ℕ). MayBePair (word_text word.Encoding) src v is.e) first is.encoding) may' in
-      let third : is.s ≡ q = may_not word.Standalone q is.s none (subst (λ (e : ℕ). MayBePair (word_text word.Standalone) src e is.s) second is.standalone) in
-      word_stands src expected.PIEnd is.s f is.closes (subst (λ (l : ℕ). IsMissing src l (a_text expected.PIEnd) f) (sym third) lack)
+  declaration_apart i j q t f (xml_decl e s opens (standalone v _ (encoding _ _ (version here) one) two) three closes) its_version lack =
+      word_stands src expected.Version (spaces_end src (i + 5)) f here lack
+  declaration_apart i j q t f is (in_pair text p _ _ to here due') lack =
+      let there = pair_there i j p text is to here in
+      let x = there.5 in
+      pair_apart p there.1 there.2 there.3 there.4 q there.0 t f x.0 x.1 x.2 due' lack
+  declaration_apart i j q t f is (behind_pair text name p n v e _ to here other pair) lack =
+      let there = pair_there i j p text is to here in
+      let same : there.4 ≡ q = one_pair p there.1 there.2 there.3 there.4 n v e q there.0 name there.5 pair in
+      gap_stands q there.6 f (pair_cut src p n v e q name utf8 pair) (subst (λ (k : ℕ). IsGap src k there.6) same there.7) lack
+  declaration_apart i j q t f is (behind_last name p n v e k to here pair) lack =
+      let there = pair_there i j p (word_text word.Standalone) is to here in
+      let same : there.4 ≡ k = one_pair p there.1 there.2 there.3 there.4 n v e k there.0 name there.5 pair in
+      let ends = there.8 refl in
+      let behind : spaces_end src k ≡ there.6 = ap (spaces_end src) (sym same) ∙ gap_before src there.4 there.6 there.7 ends in
+      word_stands src expected.PIEnd there.6 f ends (subst (λ (l : ℕ). IsMissing src l (a_text expected.PIEnd) f) behind lack)
+  declaration_apart i j q t f (xml_decl e s opens to three closes) (due.DueInXmlDecl.its_end _ to' none) lack =
+      let first : e ≡ q = last_begins i e q to to' in
+      let last : s ≡ q = may_not word.Standalone q s none (subst (λ (e : ℕ). MayBePair (word_text word.Standalone) src e s) first three) in
+      word_stands src expected.PIEnd s f closes (subst (λ (l : ℕ). IsMissing src l (a_text expected.PIEnd) f) (sym last) lack)

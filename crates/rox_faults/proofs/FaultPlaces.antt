@@ -222,7 +222,7 @@ module _ (opens : ℕ → Inclusion) (es : List Entity) (limit : ℕ) (text : Li
                 → IsLiteral src v stop j → (part : List ℕ) (f : Fault) → InPart opens es k src (v + 1) stop c part f → P part f
             in_one p c n v stop j as' name to spaces is_name eq literal part f (in_part l i stop' openings_left part_is ill) =
                 at_point k open_around s.openings_left src (place_of s) part f place (fits_at s fine)
-                (in_value p j c l i stop' openings_left as' part f begins to spaces (record { name = name; n = n; is_name = is_name; v = v; eq = eq; e = stop; literal = literal }) part_is ill)
+                (in_value p n v stop j c l i stop' openings_left name as' part f begins to spaces (is_name, eq, literal) part_is ill)
 
     -- an end tag
     end_step_fails : (s : State) (f : Fault) → is_content k s.stack ≡ true → open_around ≤ depth_of s.stack → AreOpened src open_around s.stack → IsValidState most s → Here k open_around src s → at word.EndTagStart src s.at ≡ true

@@ -19,7 +19,7 @@ use Rattle.rox_grammar.specs.NameParts.{local_span, prefix_span}
 use Rattle.rox_grammar.specs.Tree.{xml_uri, xmlns_uri, is_declared, listed, listable_of}
 use Rattle.rox_grammar.specs.Names.{byte, slice, spaces_end, IsQName, unprefixed, prefixed, colon_first}
 use Rattle.rox_grammar.specs.Constructs.{AreChars, IsEq, IsLiteral}
-use Rattle.rox_grammar.specs.Content.{Inclusion, IsAttribute, Attributes, no_more, one_more}
+use Rattle.rox_grammar.specs.Content.{Inclusion, IsAttribute, attribute, Attributes, no_more, one_more}
 use Rattle.rox_grammar.specs.WellNamed.{may_declare, is_known, same_expanded, may_name}
 use Rattle.rox_grammar.proofs.NamesApart.{DeclarableBehind, DistinctBehind, declarable_behind, are_declarable, are_distinct}
 use Rattle.rox_grammar.specs.Document.{attributes_in, most_attributes, most_pairs}
@@ -185,7 +185,7 @@ module _ (src : List ℕ) (utf8 : IsUtf8 src) where
       (λ s equals' h.
       let eq' = byte_sound 61 src (spaces_end src name.1) s equals' in
       let v = spaces_end src s.1 in
-      let eq : IsEq src name.1 v = record { equals = eq'.0; next = ap (spaces_end src) eq'.1 } in
+      let eq : IsEq src name.1 v = (eq'.0, ap (spaces_end src) eq'.1) in
       bind_err (quote_at src v) _ f h
       (λ bad. (v, a_quote, opening name.0 name.1 v is_name eq, quote_fails src v f bad))
       (λ q quoted h.
@@ -238,10 +238,10 @@ attributes_more main O src k d i j b c as' a (one_more _ m _ _ e _ first rest sp
 
 -- a character begins behind an attribute
 pub attribute_cut : (main : Bool) (O : Inclusion) (src : List ℕ) (utf8 : IsUtf8 src) (i j b c : ℕ) (a : Attribute) → IsAttribute main O src i j b c a → IsCharBoundary src j
-attribute_cut main O src utf8 i j b c a is =
-    let quote = quote_ascii (byte src is.v) is.literal.quoted.quote in
-    let next = is.literal.quoted.next in
-    rw next (cut_behind src is.e (byte src is.v) utf8 (literal_closes src is.v is.e j is.literal) (omega arith) (omega arith))
+attribute_cut main O src utf8 i j b c a (attribute n v e name value (is_name, eq, literal) read) =
+    let quote = quote_ascii (byte src v) literal.0.0 in
+    let next = literal.0.3 in
+    rw next (cut_behind src e (byte src v) utf8 (literal_closes src v e j literal) (omega arith) (omega arith))
 
 module _ (opens : ℕ → Inclusion) (es : List Entity) (agrees : (d l : ℕ) → d + l ≡ most_deep → AgreesValue es (opens l) (value_opener es d (is_main l))) (texts : AreTexts es) (deeper level : ℕ) (deep : deeper + level ≡ most_deep)
     (src : List ℕ) (utf8 : IsUtf8 src) where
@@ -251,9 +251,9 @@ module _ (opens : ℕ → Inclusion) (es : List Entity) (agrees : (d l : ℕ) �
 
   -- the name of an attribute
   attribute_named : (i j b c : ℕ) (a : Attribute) → IsCharBoundary src i → IsAttribute (is_main level) (opens level) src i j b c a → NameAt src a
-  attribute_named i j b c a cut' is =
-      let both = name_holds src i a.name_end a.name utf8 cut' is.is_name in
-      record { prefix = ap (λ (k : ℕ). slice src k (k + length a.name.prefix)) is.starts ∙ both.0; local = both.1 }
+  attribute_named i j b c a cut' (attribute n v e name value is read) =
+      let both = name_holds src i n name utf8 cut' is.0 in
+      record { prefix = both.0; local = both.1 }
 
   -- and of all of them
   attributes_named : (i j b c : ℕ) (as' : List Attribute) → IsCharBoundary src i → Attributes (is_main level) (opens level) src i j b c as' → AllAt src as'
@@ -387,11 +387,11 @@ module _ (opens : ℕ → Inclusion) (es : List Entity) (agrees : (d l : ℕ) �
         let stands = turn_sound src utf8 p (more raw, j) turn in
         let spaces = stands.0 in
         let r = stands.1 in
-        let closes = r.literal.quoted.closes in
+        let closes = r.literal.0.2 in
         bind_err (value_at (is_main level) es alone.opener src raw.value_start raw.value_end c) _ e bad
         (λ ill. let start = r.value_start in
         let w = value_fails opens es level src raw.value_start raw.value_end c agrees texts deeper e deep utf8 (omega arith) (λ z. literal_stop src r.v raw.value_end j r.literal)
-        (λ k from below. literal_plain src r.v raw.value_end j r.literal k (omega arith) below) (subst (IsCharBoundary src) (sym start) (let quote = quote_ascii (byte src r.v) r.literal.quoted.quote in cut_behind src r.v (byte src r.v) utf8 refl (omega arith) (omega arith))) ill in
+        (λ k from below. literal_plain src r.v raw.value_end j r.literal k (omega arith) below) (subst (IsCharBoundary src) (sym start) (let quote = quote_ascii (byte src r.v) r.literal.0.0 in cut_behind src r.v (byte src r.v) utf8 refl (omega arith) (omega arith))) ill in
         (ill_value p c raw.name_end r.v raw.value_end j as' raw.name to spaces r.is_name r.eq r.literal
         (subst (λ (i : ℕ). Refuses es (InPart opens es level src i raw.value_end c) src e) start w)))
         (λ v read bad.

@@ -1,5 +1,5 @@
 -- The fault of a whole text.
-use Rattle.std.proofs.Common.{◌≡◌, ℕ, zero, suc, ◌+◌, ◌<◌, ◌≤◌, max, ◌==◌, ◌||◌, Bool, true, false, leb, nat_le, nat_lt, List, [], ◌∷◌, length, drop, refl, sym, ap, ◌∙◌, subst, arith, inl, inr, true≢false}
+use Rattle.std.proofs.Common.{◌≡◌, ◌≢◌, ℕ, zero, suc, ◌+◌, ◌<◌, ◌≤◌, max, ◌==◌, ◌||◌, Bool, true, false, leb, nat_le, nat_lt, List, [], ◌∷◌, length, drop, refl, sym, ap, ◌∙◌, subst, arith, inl, inr, true≢false}
 use Rattle.std.specs.Prelude.{Result, Ok, Err}
 use Rattle.std.specs.Str.{chars, IsUtf8, IsCharBoundary}
 use Rattle.std.proofs.lemmas.Str.{IsUtf8-drop, chars-encodes}
@@ -17,7 +17,7 @@ use Rattle.rox_grammar.specs.Search.{stands, byte_from}
 use Rattle.rox_grammar.specs.Forest.{Forest, Nil, join}
 use Rattle.rox_grammar.specs.Written.{Item, Comment, PI, leaf}
 use Rattle.rox_grammar.specs.Names.{byte, spaces_end}
-use Rattle.rox_grammar.specs.Constructs.{IsEq}
+use Rattle.rox_grammar.specs.Constructs.{IsEq, DeclarationTo, version, encoding, standalone}
 use Rattle.rox_grammar.specs.Content.{IsMisc}
 use Rattle.rox_grammar.specs.WellNamed.{AreWellNamed}
 use Rattle.rox_grammar.specs.Content.{Inclusion, IsElement}
@@ -28,7 +28,7 @@ use Rattle.rox_grammar.specs.Document.{Behind, Misc, no_misc, space, an_item, Pr
 use Rattle.rox_grammar.specs.State.{root, nodes_so_far, FitsLimits}
 use Rattle.rox_reading.specs.Refusals.{Refusal, here, there, refused, lifted}
 use Rattle.rox_reading.specs.State.{State}
-use Rattle.rox_grammar.specs.Due.{DueItem, a_byte, a_qname, a_gap, a_text, chars_to, IsMissing, no_gap, DueInPair, its_name, equals, opening, its_value, closing, value_end, PairBegins, version, encoding, standalone, DueInXmlDecl, its_version, in_pair, behind_pair, behind_last}
+use Rattle.rox_grammar.specs.Due.{DueItem, a_byte, a_qname, a_gap, a_text, chars_to, IsMissing, no_gap, DueInPair, its_name, equals, opening, its_value, closing, value_end, DueInXmlDecl, its_version, in_pair, behind_pair, behind_last}
 use Rattle.rox_faults.proofs.DueForms.{a_quote}
 use Rattle.rox_grammar.specs.Due as dues
 use Rattle.rox_grammar.specs.ContentPoints.{is_main, begins, of_root}
@@ -102,7 +102,7 @@ module _ (src : List ℕ) (utf8 : IsUtf8 src) where
       (λ s equals' h.
       let eq' = byte_sound 61 src (spaces_end src name.1) s equals' in
       let v = spaces_end src s.1 in
-      let eq : IsEq src name.1 v = record { equals = eq'.0; next = ap (spaces_end src) eq'.1 } in
+      let eq : IsEq src name.1 v = (eq'.0, ap (spaces_end src) eq'.1) in
       bind_err (quote_at src v) _ f h
       (λ bad. (v, a_quote, opening name.0 name.1 v is_name eq, quote_fails src v f bad))
       (λ q quoted h.
@@ -137,13 +137,13 @@ module _ (src : List ℕ) (utf8 : IsUtf8 src) where
   Declares i f = (q : ℕ) × (t : DueItem) × DueInXmlDecl src i q t × IsMissing src q t f
 
   -- a pair and its gap
-  pair_if_fails : (w : Word) (i p : ℕ) (f : Fault) → (at w src p ≡ true → PairBegins src i true p) → pair_if w src p ≡ Err f → Declares i f
+  pair_if_fails : (w : Word) (i p : ℕ) (f : Fault) → DeclarationTo src i (word_text w) p → word_text w ≢ word_text word.Standalone → pair_if w src p ≡ Err f → Declares i f
   unfolding pair_if
-  pair_if_fails w i p f begins' h =
+  pair_if_fails w i p f to other h =
       chosen (stands (word_text w) src p) _ _ _ h
       (λ here h. bind_err (pair_at src p) _ f h
-      (λ bad. let x = pair_fails p f bad in (x.0, x.1, in_pair true p x.0 x.1 (begins' here) x.2, x.3))
-      (λ x read bad. (x.1, a_gap, behind_pair p x.1 (begins' here) (pair_sound src utf8 p x read), gap_fails x.1 f bad)))
+      (λ bad. let x = pair_fails p f bad in (x.0, x.1, in_pair (word_text w) p x.0 x.1 to here x.2, x.3))
+      (λ x read bad. let there = pair_sound src utf8 p x read in (x.1, a_gap, behind_pair (word_text w) there.0 p there.1 there.2 there.3 x.1 to here other there.4, gap_fails x.1 f bad)))
       (λ none h. cc)
 
   -- the declaration
@@ -152,25 +152,29 @@ module _ (src : List ℕ) (utf8 : IsUtf8 src) where
   declaration_fails i f h =
       let p = spaces_end src (i + 5) in
       chosen (stands (word_text word.Version) src p) _ _ _ h
-      (λ here h. bind_err (pair_if word.Version src p) _ f h (λ bad. pair_if_fails word.Version i p f (λ w. version w) bad)
+      (λ here h. bind_err (pair_if word.Version src p) _ f h (λ bad. pair_if_fails word.Version i p f (version here) (λ z. cc z) bad)
       (λ v read h.
       let first_pair = pair_if_sound word.Version src utf8 p v read in
-      bind_err (pair_if word.Encoding src v.1) _ f h (λ bad. pair_if_fails word.Encoding i v.1 f (λ w. encoding v.1 here first_pair w) bad)
+      let to_encoding = encoding p v.1 (version here) first_pair in
+      bind_err (pair_if word.Encoding src v.1) _ f h (λ bad. pair_if_fails word.Encoding i v.1 f to_encoding (λ z. cc z) bad)
       (λ e read' h.
       let second = pair_if_sound word.Encoding src utf8 v.1 e read' in
+      let to_standalone = standalone v.1 e.1 to_encoding second in
       bind_err (last_at src e.1) _ f h
       (λ bad. chosen (stands (word_text word.Standalone) src e.1) _ _ _ bad
-      (λ there bad. let x = pair_fails e.1 f bad in (x.0, x.1, in_pair false e.1 x.0 x.1 (standalone v.1 e.1 here first_pair second there) x.2, x.3))
+      (λ there bad. let x = pair_fails e.1 f bad in (x.0, x.1, in_pair (word_text word.Standalone) e.1 x.0 x.1 to_standalone there x.2, x.3))
       (λ none bad. cc))
       (λ s read'' h.
       let bad = string_fails expected.PIEnd src (spaces_end src s.1) f h in
       chosen (stands (word_text word.Standalone) src e.1) _ _ _ read''
-      (λ there read''. (spaces_end src s.1, a_text expected.PIEnd, behind_last e.1 s.1 (standalone v.1 e.1 here first_pair second there) (pair_sound src utf8 e.1 s read''), bad))
+      (λ there read''.
+      let last = pair_sound src utf8 e.1 s read'' in
+      (spaces_end src s.1, a_text expected.PIEnd, behind_last last.0 e.1 last.1 last.2 last.3 s.1 to_standalone there last.4, bad))
       (λ none same.
       let behind_first = pair_if_ends word.Version src p v.1 utf8 (λ none. absurd (true≢false (sym here ∙ none))) first_pair in
       let behind_second = pair_if_ends word.Encoding src v.1 e.1 utf8 (λ none. behind_first) second in
       let is : spaces_end src s.1 ≡ e.1 = ap (λ (x : Unit {0} × ℕ). spaces_end src x.1) (sym (ok_same (tt, e.1) s same)) ∙ behind_second in
-      (e.1, a_text expected.PIEnd, dues.DueInXmlDecl.its_end v.1 e.1 here first_pair second none, subst (λ (k : ℕ). IsMissing src k (a_text expected.PIEnd) f) is bad))))))
+      (e.1, a_text expected.PIEnd, dues.DueInXmlDecl.its_end e.1 to_standalone none, subst (λ (k : ℕ). IsMissing src k (a_text expected.PIEnd) f) is bad))))))
       (λ none h.
       let is : fault.InvalidString expected.Version p ≡ f = cc in
       (p, a_text expected.Version, its_version, subst (IsMissing src p (a_text expected.Version)) is (dues.IsMissing.other_text expected.Version none)))

@@ -94,14 +94,14 @@ module _ (src : List ℕ) where
   space_once i j k a b = a.all ∙ sym b.all
 
   pub quoted_once : (i e j d k : ℕ) → IsQuoted src i e j → IsQuoted src i d k → (e ≡ d) × (j ≡ k)
-  quoted_once i e j d k a b = let same : e ≡ d = a.end ∙ sym b.end in (same, a.next ∙ ap (λ (e : ℕ). e + 1) same ∙ sym b.next)
+  quoted_once i e j d k a b = let same : e ≡ d = a.1 ∙ sym b.1 in (same, a.3 ∙ ap (λ (e : ℕ). e + 1) same ∙ sym b.3)
 
   -- a literal is no external id
   pub quoted_no_external : (i e j k : ℕ) (request : Request) → IsQuoted src i e j → IsExternalID src i request k → ⊥
   quoted_no_external i e j k request a b =
       elim (external_byte src i request k b) as (λ _. ⊥) [
-        | inl s ↦ elim (a.quote) as (λ _. ⊥) [ inl q ↦ omega arith | inr q ↦ omega arith ]
-        | inr p ↦ elim (a.quote) as (λ _. ⊥) [ inl q ↦ omega arith | inr q ↦ omega arith ]
+        | inl s ↦ elim (a.0) as (λ _. ⊥) [ inl q ↦ omega arith | inr q ↦ omega arith ]
+        | inr p ↦ elim (a.0) as (λ _. ⊥) [ inl q ↦ omega arith | inr q ↦ omega arith ]
       ]
 
   module _ (utf8 : IsUtf8 src) where

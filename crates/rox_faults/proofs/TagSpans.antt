@@ -115,8 +115,8 @@ pub record Named (src : List ℕ) (a : Attribute) : Type 0 where
 -- a character begins behind an attribute that stands there
 pub raw_cut : (src : List ℕ) (i j : ℕ) (raw : RawAttribute) → IsUtf8 src → RawStands src i j raw → IsCharBoundary src j
 raw_cut src i j raw utf8 r =
-    let quote = quote_ascii (byte src r.v) r.literal.quoted.quote in
-    let next = r.literal.quoted.next in
+    let quote = quote_ascii (byte src r.v) r.literal.0.0 in
+    let next = r.literal.0.3 in
     rw next (cut_behind src raw.value_end (byte src r.v) utf8 (literal_closes src r.v raw.value_end j r.literal) (omega arith) (omega arith))
 
 -- an attribute's name, of a turn

@@ -35,32 +35,24 @@ pub data IsCData (src : List ℕ) (i e : ℕ) : ℕ → Type 0 where
   cd_sect : text_at "<![CDATA[" src i ≡ true → e ≡ first_text "]]>" src (i + 9) → AreChars src (i + 9) e → text_at "]]>" src e ≡ true → IsCData src i e (e + 3)
 
 -- XML 2.3 [25] Eq
-pub record IsEq (src : List ℕ) (i j : ℕ) : Type 0 where
-  pub equals : byte src (spaces_end src i) ≡ code "="
-  pub next : j ≡ spaces_end src (spaces_end src i + 1)
+abbrev pub IsEq : List ℕ → (i j : ℕ) → Type 0
+IsEq src i j = (byte src (spaces_end src i) ≡ code "=") × (j ≡ spaces_end src (spaces_end src i + 1))
+
+-- a quote stands at i
+abbrev pub IsQuote : List ℕ → ℕ → Type 0
+IsQuote src i = (byte src i ≡ code "'") ⊎ (byte src i ≡ code "\"")
 
 -- XML 2.3 [9], [11], [12]: any characters but the quote, in quotes; it ends at e. They need not be Chars (2.2), nor those of [12].
-pub record IsQuoted (src : List ℕ) (i e j : ℕ) : Type 0 where
-  pub quote : (byte src i ≡ code "'") ⊎ (byte src i ≡ code "\"")
-  pub end : e ≡ byte_from (λ c. c == byte src i) src (i + 1)
-  pub closes : e < length src
-  pub next : j ≡ e + 1
+abbrev pub IsQuoted : List ℕ → (i e j : ℕ) → Type 0
+IsQuoted src i e j = IsQuote src i × (e ≡ byte_from (λ c. c == byte src i) src (i + 1)) × (e < length src) × (j ≡ e + 1)
 
 -- XML 2.3 [10] one with Chars and no `<`
-pub record IsLiteral (src : List ℕ) (i e j : ℕ) : Type 0 where
-  pub quoted : IsQuoted src i e j
-  pub chars : AreChars src (i + 1) e
-  pub no_markup : e ≡ byte_from (λ c. c == code "<") (take e src) (i + 1)
+abbrev pub IsLiteral : List ℕ → (i e j : ℕ) → Type 0
+IsLiteral src i e j = IsQuoted src i e j × AreChars src (i + 1) e × (e ≡ byte_from (λ c. c == code "<") (take e src) (i + 1))
 
--- a name, Eq, and a literal
-pub record IsPair (src : List ℕ) (i j : ℕ) : Type 0 where
-  pub name : Name
-  pub n : ℕ
-  pub is_name : IsQName src i name n
-  pub v : ℕ
-  pub eq : IsEq src n v
-  pub e : ℕ
-  pub literal : IsLiteral src v e j
+-- XML 3.1 [41]: a name, Eq, and a literal
+abbrev pub IsPair : List ℕ → (i : ℕ) → Name → (n v e j : ℕ) → Type 0
+IsPair src i name n v e j = IsQName src i name n × IsEq src n v × IsLiteral src v e j
 
 -- white space, or none before `?>` and at the end
 pub data IsGap (src : List ℕ) : ℕ → ℕ → Type 0 where
@@ -69,22 +61,20 @@ pub data IsGap (src : List ℕ) : ℕ → ℕ → Type 0 where
 
 -- A pair that begins with this text, and a gap, or nothing where the text does not stand. The name may go on behind it, and the
 -- value is any literal: XML 2.8 [24], [26], 4.3.3 [80], [81] and 2.9 [32] fix both.
-pub data MayBePair (text : List ℕ) (src : List ℕ) : ℕ → ℕ → Type 0 where
-  is_pair : (i j k : ℕ) → stands text src i ≡ true → IsPair src i j → IsGap src j k → MayBePair text src i k
-  no_pair : (i : ℕ) → stands text src i ≡ false → MayBePair text src i i
+pub data MayBePair (text : List ℕ) (src : List ℕ) (i : ℕ) : ℕ → Type 0 where
+  is_pair : (name : Name) (n v e j k : ℕ) → stands text src i ≡ true → IsPair src i name n v e j → IsGap src j k → MayBePair text src i k
+  no_pair : stands text src i ≡ false → MayBePair text src i i
+
+-- XML 2.8 [23]: the declaration that begins at i, up to a place where a pair may stand that begins with this text
+pub data DeclarationTo (src : List ℕ) (i : ℕ) : List ℕ → ℕ → Type 0 where
+  version : text_at "version" src (spaces_end src (i + 5)) ≡ true → DeclarationTo src i (codes "version") (spaces_end src (i + 5))
+  encoding : (p q : ℕ) → DeclarationTo src i (codes "version") p → MayBePair (codes "version") src p q → DeclarationTo src i (codes "encoding") q
+  standalone : (p q : ℕ) → DeclarationTo src i (codes "encoding") p → MayBePair (codes "encoding") src p q → DeclarationTo src i (codes "standalone") q
 
 -- XML 2.8 [23] XMLDecl, but only where a space follows `<?xml`: with other white space there it is read as an instruction
-pub record IsXmlDecl (src : List ℕ) (i j : ℕ) : Type 0 where
-  pub opens : text_at "<?xml " src i ≡ true
-  pub version : text_at "version" src (spaces_end src (i + 5)) ≡ true
-  pub v : ℕ
-  pub first_pair : MayBePair (codes "version") src (spaces_end src (i + 5)) v
-  pub e : ℕ
-  pub encoding : MayBePair (codes "encoding") src v e
-  pub s : ℕ
-  pub standalone : MayBePair (codes "standalone") src e s
-  pub closes : text_at "?>" src s ≡ true
-  pub next : j ≡ s + 2
+pub data IsXmlDecl (src : List ℕ) (i : ℕ) : ℕ → Type 0 where
+  xml_decl : (p q : ℕ) → text_at "<?xml " src i ≡ true → DeclarationTo src i (codes "standalone") p → MayBePair (codes "standalone") src p q → text_at "?>" src q ≡ true
+      → IsXmlDecl src i (q + 2)
 
 -- XML 3.1 [42] ETag; its name ends at n
 pub data IsEnd (src : List ℕ) (i : ℕ) (name : Name) (n : ℕ) : ℕ → Type 0 where

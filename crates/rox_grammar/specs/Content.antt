@@ -6,10 +6,10 @@ use Rattle.std.specs.Char.{encode_utf8}
 use Rattle.rox_grammar.specs.Runs.{first_passes}
 use Rattle.rox_grammar.specs.Search.{byte_from}
 use Rattle.rox_grammar.specs.Forest.{Forest, Nil, Cons, join}
-use Rattle.rox_grammar.specs.Written.{Attribute, Tag, Item, Element, Text, Comment, PI, namespace_decls_of, plain_attributes_of, merge, leaf}
+use Rattle.rox_grammar.specs.Written.{Name, Attribute, Tag, Item, Element, Text, Comment, PI, namespace_decls_of, plain_attributes_of, merge, leaf}
 use Rattle.rox_grammar.specs.Tree.{none_if_empty}
 use Rattle.rox_grammar.specs.Names.{byte, slice, spaces_end, IsQName}
-use Rattle.rox_grammar.specs.Constructs.{first_text, AreChars, IsComment, IsPI, IsCData, IsEq, IsLiteral, IsEnd}
+use Rattle.rox_grammar.specs.Constructs.{first_text, AreChars, IsComment, IsPI, IsCData, IsEnd, IsPair}
 use Rattle.rox_grammar.specs.References.{IsReference, IsCharacter, predefined}
 
 -- What a reference to a name means: in content, with this many openings left, these items, and so many are left then;
@@ -116,17 +116,9 @@ module _ (main : Bool) (Includes : Inclusion) (src : List ℕ) where
         → Value j k c d v → Value j i b d (w ++ v)
 
   -- XML 3.1 [41] Attribute
-  pub record IsAttribute (i j b c : ℕ) (a : Attribute) : Type 0 where
-    pub starts : a.start ≡ i
-    pub is_name : IsQName src i a.name a.name_end
-    pub v : ℕ
-    pub eq : IsEq src a.name_end v
-    pub e : ℕ
-    pub literal : IsLiteral src v e j
-    pub value_start : a.value_start ≡ v + 1
-    pub end : a.end ≡ j
-    pub value : Value e (v + 1) b c a.value
-    pub borrowed : a.borrowed ≡ is_verbatim_value (slice src (v + 1) e)
+  pub data IsAttribute (i j b c : ℕ) : Attribute → Type 0 where
+    attribute : (n v e : ℕ) (name : Name) (value : List ℕ) → IsPair src i name n v e j → Value e (v + 1) b c value
+        → IsAttribute i j b c (record { start = i; name_end = n; value_start = v + 1; end = j; name = name; value = value; borrowed = is_verbatim_value (slice src (v + 1) e) })
 
   -- attributes, each after white space
   pub data Attributes : ℕ → ℕ → ℕ → ℕ → List Attribute → Type 0 where

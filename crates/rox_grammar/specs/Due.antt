@@ -14,7 +14,7 @@ use Rattle.rox_grammar.specs.Search.{stands, mark_from, byte_from}
 use Rattle.rox_grammar.specs.Written.{Name}
 use Rattle.rox_grammar.specs.Names.{byte, spaces_end, IsName, IsQName}
 use Rattle.rox_grammar.specs.Doctype.{Request, IsQuoted, IsSpace, IsExternalID, IsKind, BeginsEntity, BeginsDoctype}
-use Rattle.rox_grammar.specs.Constructs.{text_at, AreChars, IsEq, IsPair, MayBePair}
+use Rattle.rox_grammar.specs.Constructs.{text_at, AreChars, IsEq, IsQuote, IsPair, DeclarationTo}
 
 -- what a construct can go on with
 pub data DueItem : Type 0 where
@@ -78,33 +78,25 @@ pub data DueInPair (src : List ℕ) (i : ℕ) : ℕ → DueItem → Type 0 where
   its_name : DueInPair src i i a_qname
   equals : (name : Name) (n : ℕ) → IsQName src i name n → DueInPair src i (spaces_end src n) (a_byte (code "="))
   opening : (name : Name) (n v : ℕ) → IsQName src i name n → IsEq src n v → DueInPair src i v (one_of due.Quote)
-  its_value : (name : Name) (n v : ℕ) → IsQName src i name n → IsEq src n v → (byte src v ≡ code "'") ⊎ (byte src v ≡ code "\"")
-      → DueInPair src i (v + 1) (chars_to (value_end src v))
+  its_value : (name : Name) (n v : ℕ) → IsQName src i name n → IsEq src n v → IsQuote src v → DueInPair src i (v + 1) (chars_to (value_end src v))
   -- of a value that no quote ends, its characters are not asked for
-  closing : (name : Name) (n v : ℕ) → IsQName src i name n → IsEq src n v → (byte src v ≡ code "'") ⊎ (byte src v ≡ code "\"")
+  closing : (name : Name) (n v : ℕ) → IsQName src i name n → IsEq src n v → IsQuote src v
       → (length src ≤ value_end src v) ⊎ AreChars src (v + 1) (value_end src v) → DueInPair src i (value_end src v) (a_byte (byte src v))
 
--- XML 2.8 [23]: a pair of the declaration that begins at i begins at p, and the last one needs no gap behind it
-pub data PairBegins (src : List ℕ) (i : ℕ) : Bool → ℕ → Type 0 where
-  version : text_at "version" src (spaces_end src (i + 5)) ≡ true → PairBegins src i true (spaces_end src (i + 5))
-  encoding : (v : ℕ) → text_at "version" src (spaces_end src (i + 5)) ≡ true → MayBePair (codes "version") src (spaces_end src (i + 5)) v → text_at "encoding" src v ≡ true
-      → PairBegins src i true v
-  standalone : (v e : ℕ) → text_at "version" src (spaces_end src (i + 5)) ≡ true → MayBePair (codes "version") src (spaces_end src (i + 5)) v → MayBePair (codes "encoding") src v e
-      → text_at "standalone" src e ≡ true → PairBegins src i false e
-
--- in the declaration that begins at i
+-- XML 2.8 [23]: in the declaration that begins at i, whose last pair needs no gap behind it
 pub data DueInXmlDecl (src : List ℕ) (i : ℕ) : ℕ → DueItem → Type 0 where
   its_version : DueInXmlDecl src i (spaces_end src (i + 5)) (a_text expected.Version)
-  in_pair : (gap : Bool) (j p : ℕ) (t : DueItem) → PairBegins src i gap j → DueInPair src j p t → DueInXmlDecl src i p t
-  behind_pair : (j p : ℕ) → PairBegins src i true j → IsPair src j p → DueInXmlDecl src i p a_gap
-  behind_last : (j p : ℕ) → PairBegins src i false j → IsPair src j p → DueInXmlDecl src i (spaces_end src p) (a_text expected.PIEnd)
-  its_end : (v e : ℕ) → text_at "version" src (spaces_end src (i + 5)) ≡ true → MayBePair (codes "version") src (spaces_end src (i + 5)) v → MayBePair (codes "encoding") src v e
-      → text_at "standalone" src e ≡ false → DueInXmlDecl src i e (a_text expected.PIEnd)
+  in_pair : (text : List ℕ) (j p : ℕ) (t : DueItem) → DeclarationTo src i text j → stands text src j ≡ true → DueInPair src j p t → DueInXmlDecl src i p t
+  behind_pair : (text : List ℕ) (name : Name) (j n v e p : ℕ) → DeclarationTo src i text j → stands text src j ≡ true → text ≢ codes "standalone"
+      → IsPair src j name n v e p → DueInXmlDecl src i p a_gap
+  behind_last : (name : Name) (j n v e p : ℕ) → DeclarationTo src i (codes "standalone") j → text_at "standalone" src j ≡ true → IsPair src j name n v e p
+      → DueInXmlDecl src i (spaces_end src p) (a_text expected.PIEnd)
+  its_end : (j : ℕ) → DeclarationTo src i (codes "standalone") j → text_at "standalone" src j ≡ false → DueInXmlDecl src i j (a_text expected.PIEnd)
 
 -- XML 2.3 [9], [11], [12]: in a literal of any characters but the quote, which begins at i
 pub data DueInLiteral (src : List ℕ) (i : ℕ) : ℕ → DueItem → Type 0 where
   its_quote : DueInLiteral src i i (one_of due.Quote)
-  its_end : (byte src i ≡ code "'") ⊎ (byte src i ≡ code "\"") → DueInLiteral src i (byte_from (λ c. c == byte src i) src (i + 1)) (a_byte (byte src i))
+  its_end : IsQuote src i → DueInLiteral src i (byte_from (λ c. c == byte src i) src (i + 1)) (a_byte (byte src i))
 
 -- XML 4.2.2 [75]: in the external id that begins at i
 pub data DueInExternalID (src : List ℕ) (i : ℕ) : ℕ → DueItem → Type 0 where
@@ -120,7 +112,7 @@ pub data DueInEntity (src : List ℕ) (i : ℕ) : ℕ → DueItem → Type 0 whe
   its_name : (k n : ℕ) (parameter : Bool) → IsSpace src (i + 8) k → IsKind src k parameter n → DueInEntity src i n a_name
   space_behind : (k n m : ℕ) (parameter : Bool) → IsSpace src (i + 8) k → IsKind src k parameter n → IsName src n m → DueInEntity src i m (one_of due.Space)
   its_definition : (parameter : Bool) (n m d : ℕ) → BeginsEntity src i parameter n m d → DueInEntity src i d (one_of due.EntityDefinition)
-  its_literal : (parameter : Bool) (n m d p : ℕ) (t : DueItem) → BeginsEntity src i parameter n m d → (byte src d ≡ code "'") ⊎ (byte src d ≡ code "\"") → DueInLiteral src d p t → DueInEntity src i p t
+  its_literal : (parameter : Bool) (n m d p : ℕ) (t : DueItem) → BeginsEntity src i parameter n m d → IsQuote src d → DueInLiteral src d p t → DueInEntity src i p t
   its_external_id : (parameter : Bool) (n m d p : ℕ) (t : DueItem) → BeginsEntity src i parameter n m d → DueInExternalID src d p t → DueInEntity src i p t
   space_of_notation : (n m d e : ℕ) (request : Request) → BeginsEntity src i false n m d → IsExternalID src d request e → text_at "NDATA" src (spaces_end src e) ≡ true
       → DueInEntity src i (spaces_end src e + 5) (one_of due.Space)

@@ -162,9 +162,9 @@ pub data AtPoint (opens : ℕ → Inclusion) (es : List Entity) (limit k open_ar
   at_place : (f : Fault) → Stands limit es k open_around (opens k) src s b f → AtPoint opens es limit k open_around src s b src f
   -- in the value of an attribute or a declaration, which stands behind p in the start tag here, or in a replacement text that is
   -- opened in it
-  in_value : (p j c l i stop d : ℕ) (as' : List Attribute) (part : List ℕ) (f : Fault) → TagBegins src s.at (is_content k s.stack) → TagTo (is_main k) (opens k) src s p b c as'
-      → p < spaces_end src p → (pair : IsPair src (spaces_end src p) j) → ValuePart opens es k src (pair.v + 1) pair.e c l part i stop d → InValue es l (opens l) part i stop d f
-      → AtPoint opens es limit k open_around src s b part f
+  in_value : (p n v e j c l i stop d : ℕ) (name : Name) (as' : List Attribute) (part : List ℕ) (f : Fault) → TagBegins src s.at (is_content k s.stack)
+      → TagTo (is_main k) (opens k) src s p b c as' → p < spaces_end src p → IsPair src (spaces_end src p) name n v e j
+      → ValuePart opens es k src (v + 1) e c l part i stop d → InValue es l (opens l) part i stop d f → AtPoint opens es limit k open_around src s b part f
 
 -- Of this text, with at most `limit` nodes, the fault stands in this source, in the part that begins where `Front` says what
 -- stands before: before the root element, in it, or behind it. All before it is as the grammar wants and within the limits.

@@ -6,7 +6,7 @@ use Rattle.rox_grammar.specs.Chars.{is_space, is_name_char}
 use Rattle.rox_grammar.specs.Written.{Name, Attribute, Tag, Item}
 use Rattle.rox_grammar.specs.Names.{spaces_end}
 use Rattle.rox_grammar.specs.Constructs.{IsCData, IsEnd}
-use Rattle.rox_grammar.specs.Content.{IsAttribute, Attributes, no_more, one_more, TagEnds, opened, closed, IsTag, IsMisc, comment, instruction}
+use Rattle.rox_grammar.specs.Content.{IsAttribute, attribute, Attributes, no_more, one_more, TagEnds, opened, closed, IsTag, IsMisc, comment, instruction}
 use Rattle.rox_grammar.specs.Entities.{no_entities}
 use Rattle.rox_theory.proofs.Productions.{comment_parts, pi_parts, cdata_parts, end_parts}
 use Rattle.rox_theory.proofs.Basics.{mark_from_le, run_end_le}
@@ -38,16 +38,8 @@ end_forward src i name n j is = omega (arith, (end_parts is).next, qname_le src 
 
 -- an attribute, and attributes in a row
 pub attribute_forward : (src : List ℕ) (i j b c : ℕ) (a : Attribute) → IsAttribute true no_entities src i j b c a → i < j
-attribute_forward src i j b c a is =
-    omega (
-      arith,
-      qname_le src i a.name a.name_end is.is_name,
-      is.eq.next,
-      run_end_le is_space src a.name_end,
-      run_end_le is_space src (spaces_end src a.name_end + 1),
-      literal_le src is.v is.e j is.literal,
-      is.literal.quoted.next,
-    )
+attribute_forward src i j b c a (attribute n v e name value (is_name, eq, literal) read) =
+    omega (arith, qname_le src i name n is_name, eq.1, run_end_le is_space src n, run_end_le is_space src (spaces_end src n + 1), literal_le src v e j literal, literal.0.3)
 
 pub attributes_forward : (src : List ℕ) (i j b c : ℕ) (as' : List Attribute) → Attributes true no_entities src i j b c as' → i ≤ j
 attributes_forward src i j b c as' (no_more _ _) = omega arith

@@ -36,7 +36,7 @@ from_placed opens es limit text declared Front source f utf8 (faults.FaultFrom.m
 from_placed opens es limit text declared Front source f utf8 (faults.FaultFrom.no_root items front fits) = inl refl
 from_placed opens es limit text declared Front source f utf8 (faults.FaultFrom.unknown_ahead p items front fits inside no_space no_less) = inl refl
 from_placed opens es limit text declared Front source f utf8 (faults.FaultFrom.at_point k open_around b _ s _ _ place fits (faults.AtPoint.at_place _ ill)) = inr (stands_placed source utf8 limit es k open_around (opens k) s b f ill)
-from_placed opens es limit text declared Front source f utf8 (faults.FaultFrom.at_point k open_around b src s _ _ place fits (faults.AtPoint.in_value p j c l i stop d _ _ _ opens' to space pair part ill)) =
+from_placed opens es limit text declared Front source f utf8 (faults.FaultFrom.at_point k open_around b src s _ _ place fits (faults.AtPoint.in_value p n v e j c l i stop d name _ _ _ opens' to space pair part ill)) =
     inr (value_placed source utf8 es l (opens l) i stop d f ill)
 from_placed opens es limit text declared Front source f utf8 (faults.FaultFrom.misc_around p items _ (inr behind) fits (faults.InMiscs.in_one _ ill)) = inl refl
 from_placed opens es limit text declared Front source f utf8 (faults.FaultFrom.misc_around p items _ (inr behind) fits (faults.InMiscs.one_too_many j item is over)) = inl refl
@@ -67,10 +67,10 @@ refusal_placed limit allow text asked source f utf8 (refused.RefusalOf.behind _ 
 -- a literal is cut off at its closing quote
 quoted_told : (text : List ℕ) (source : List ℕ) (f : Fault) (x : Error) → IsUtf8 text → (l : IsLiteralIn text source) → (IsUtf8 source → IsOwn text source f) → NamesText source f → IsErrorOf source f x → IsErrorOf text f x
 quoted_told text source f x utf8 l own named told =
-    let low = quote_ascii (byte text l.start) l.quoted.quote in
+    let low = quote_ascii (byte text l.start) l.quoted.0 in
     let closes : byte text l.end ≡ byte text l.start = quoted_closes text l.start l.end l.next l.quoted in
     let ascii : byte text l.end < 128 = omega arith in
-    let inside : l.end < length text = l.quoted.closes in
+    let inside : l.end < length text = l.quoted.2 in
     let cut = cut_at text l.end (byte text l.start) closes (omega arith) (omega arith) in
     let front : IsUtf8 source = subst IsUtf8 (sym l.cut_off) (IsUtf8-take text l.end utf8 cut) in
     elim (own front) as (λ q. IsErrorOf text f x) [

@@ -105,9 +105,9 @@ module _ (opens : ℕ → Inclusion) (es : List Entity) (text : List ℕ) where
   from_of limit declared Front source f (faults.FaultFrom.at_point k open_around b _ s _ _ place fits (faults.AtPoint.at_place _ ill)) =
       let root = place_root _ k open_around b source s place in
       inr ((root.0, root.1, root.2.0), place_of _ k open_around b source s place)
-  from_of limit declared Front source f (faults.FaultFrom.at_point k open_around b src s _ _ place fits (faults.AtPoint.in_value p j c l i stop d _ _ _ opens' to space pair part ill)) =
+  from_of limit declared Front source f (faults.FaultFrom.at_point k open_around b src s _ _ place fits (faults.AtPoint.in_value p n v e j c l i stop d name _ _ _ opens' to space pair part ill)) =
       let root = place_root _ k open_around b src s place in
-      inr ((root.0, root.1, root.2.0), part_of k src (pair.v + 1) pair.e c l source i stop d (place_of _ k open_around b src s place) part)
+      inr ((root.0, root.1, root.2.0), part_of k src (v + 1) e c l source i stop d (place_of _ k open_around b src s place) part)
   from_of limit declared Front source f (faults.FaultFrom.misc_around p items _ (inr behind) fits (faults.InMiscs.in_one _ ill)) = inl refl
   from_of limit declared Front source f (faults.FaultFrom.misc_around p items _ (inr behind) fits (faults.InMiscs.one_too_many j item is over)) = inl refl
   from_of limit declared Front source f (faults.FaultFrom.unknown_behind p items behind fits inside no_space no_comment no_instruction) = inl refl

@@ -14,17 +14,17 @@ use Rattle.rox_grammar.specs.Chars.{is_space, is_name_start, is_name_char}
 use Rattle.rox_grammar.specs.Runs.{StandsAt}
 use Rattle.rox_grammar.specs.FixedTexts.{word_text, at}
 use Rattle.rox_grammar.specs.ExpectedTexts.{expected_text}
-use Rattle.rox_grammar.specs.Search.{before_mark, mark_from}
+use Rattle.rox_grammar.specs.Search.{before_mark, mark_from, stands}
 use Rattle.rox_grammar.specs.Written.{Name, Attribute, NamespaceDecl, is_namespace_decl, plain_attributes_of}
 use Rattle.rox_grammar.specs.Names.{byte, spaces_end, IsName, IsQName, unprefixed, prefixed, colon_first}
-use Rattle.rox_grammar.specs.Constructs.{IsLiteral, IsPair, IsGap, MayBePair}
+use Rattle.rox_grammar.specs.Constructs.{IsPair, IsGap, MayBePair, DeclarationTo}
 use Rattle.rox_grammar.specs.Constructs as constructs
 use Rattle.rox_grammar.specs.References.{IsReference, IsCharacter, decimal, hexadecimal, named}
 use Rattle.rox_grammar.specs.Content.{Inclusion, Attributes}
 use Rattle.rox_grammar.specs.Content as content
 use Rattle.rox_grammar.specs.Entities.{Entity}
 use Rattle.rox_grammar.specs.State.{Open, root, inside, State}
-use Rattle.rox_grammar.specs.Due.{DueItem, a_name, a_qname, a_byte, a_text, one_of, a_gap, chars_to, IsMissing, DueInText, DueInPI, DueInEnd, DueInPair, PairBegins, DueInXmlDecl}
+use Rattle.rox_grammar.specs.Due.{DueItem, a_name, a_qname, a_byte, a_text, one_of, a_gap, chars_to, IsMissing, DueInText, DueInPI, DueInEnd, DueInPair, DueInXmlDecl}
 use Rattle.rox_grammar.specs.Due as due
 use Rattle.rox_grammar.specs.ContentPoints.{TagBegins, of_root, in_content}
 use Rattle.rox_grammar.specs.Faults.{InMisc, InReferences, InRun, InValue, IllDeclared, IllNamed, cut_off, InTag, InEnd, Stands, FaultFrom}
@@ -35,6 +35,7 @@ use Rattle.rox_theory.proofs.Constructions.{comment_bytes, instruction_bytes, en
 use Rattle.rox_theory.proofs.DeclarationLemmas.{stands_reads, stands_fits}
 use Rattle.rox_faults.proofs.FaultApart.{declaration_bytes}
 use Rattle.rox_theory.proofs.LiteralLemmas.{from_bound, literal_closes, quote_ascii}
+use Rattle.rox_theory.proofs.AttributeParts.{parts_of}
 use Rattle.rox_faults.proofs.NameSpans.{run_cut, cut_behind}
 use Rattle.rox_theory.proofs.PartLemmas.{encode_some}
 use Rattle.rox_theory.proofs.Places.{begins_within}
@@ -131,18 +132,18 @@ module _ (src : List ℕ) (utf8 : IsUtf8 src) where
 
   -- ---- the declaration of an answer
 
-  pair_cut : (i j : ℕ) → IsPair src i j → IsCharBoundary src j
-  pair_cut i j is =
-      let low = quote_ascii (byte src is.v) is.literal.quoted.quote in
-      subst (IsCharBoundary src) (sym is.literal.quoted.next) (cut_behind src is.e (byte src is.v) utf8 (literal_closes src is.v is.e j is.literal) (omega arith) (omega arith))
+  pair_cut : (i n v e j : ℕ) (name : Name) → IsPair src i name n v e j → IsCharBoundary src j
+  pair_cut i n v e j name (is_name, eq, literal) =
+      let low = quote_ascii (byte src v) literal.0.0 in
+      subst (IsCharBoundary src) (sym literal.0.3) (cut_behind src e (byte src v) utf8 (literal_closes src v e j literal) (omega arith) (omega arith))
 
   gap_cut : (j k : ℕ) → IsCharBoundary src j → IsGap src j k → IsCharBoundary src k
   gap_cut j k cut (constructs.IsGap.some_space _ some) = run_cut is_space src j utf8 cut
   gap_cut j k cut (constructs.IsGap.no_space _ none) = cut
 
   may_cut : (w : Word) (i k : ℕ) → IsCharBoundary src i → MayBePair (word_text w) src i k → IsCharBoundary src k
-  may_cut w i k cut (constructs.MayBePair.is_pair _ j _ stands pair gap) = gap_cut j k (pair_cut i j pair) gap
-  may_cut w i k cut (constructs.MayBePair.no_pair _ none) = cut
+  may_cut w i k cut (constructs.MayBePair.is_pair name n v e j _ stands pair gap) = gap_cut j k (pair_cut i n v e j name pair) gap
+  may_cut w i k cut (constructs.MayBePair.no_pair none) = cut
 
   -- behind `<?xml` and white space
   version_cut : (i : ℕ) → at word.XmlDeclStart src i ≡ true → IsCharBoundary src (spaces_end src (i + 5))
@@ -151,17 +152,18 @@ module _ (src : List ℕ) (utf8 : IsUtf8 src) where
       let letter : byte src (i + 4) ≡ 108 = stands_reads (word_text word.XmlDeclStart) src i 4 opens (omega arith) in
       run_cut is_space src (i + 5) utf8 (subst (IsCharBoundary src) next (cut_behind src (i + 4) 108 utf8 letter (omega arith) (omega arith)))
 
-  begins_inside : (i : ℕ) (gap : Bool) (j : ℕ) → PairBegins src i gap j → j ≤ length src
-  begins_inside i gap j (due.PairBegins.version is) = let fits = stands_fits (word_text word.Version) src j (omega arith) is in omega arith
-  begins_inside i gap j (due.PairBegins.encoding _ first_is first_pair is) = let fits = stands_fits (word_text word.Encoding) src j (omega arith) is in omega arith
-  begins_inside i gap j (due.PairBegins.standalone v _ first_is first_pair more is) = let fits = stands_fits (word_text word.Standalone) src j (omega arith) is in omega arith
+  -- where a pair begins
+  begins_inside : (i : ℕ) (text : List ℕ) (j : ℕ) → DeclarationTo src i text j → stands text src j ≡ true → j ≤ length src
+  begins_inside i text j (constructs.DeclarationTo.version _) is = let fits = stands_fits (word_text word.Version) src j (omega arith) is in omega arith
+  begins_inside i text j (constructs.DeclarationTo.encoding _ _ to may) is = let fits = stands_fits (word_text word.Encoding) src j (omega arith) is in omega arith
+  begins_inside i text j (constructs.DeclarationTo.standalone _ _ to may) is = let fits = stands_fits (word_text word.Standalone) src j (omega arith) is in omega arith
 
   pub declaration_fits : (i p : ℕ) (t : DueItem) → at word.XmlDeclStart src i ≡ true → DueInXmlDecl src i p t → Fits src t p
   declaration_fits i p t opens due.DueInXmlDecl.its_version = (version_cut i opens).0
-  declaration_fits i p t opens (due.DueInXmlDecl.in_pair gap j _ _ begins is) = pair_fits j p t (begins_inside i gap j begins) is
-  declaration_fits i p t opens (due.DueInXmlDecl.behind_pair j _ begins pair) = tt
-  declaration_fits i p t opens (due.DueInXmlDecl.behind_last j k begins pair) = (run_cut is_space src k utf8 (pair_cut j k pair)).0
-  declaration_fits i p t opens (due.DueInXmlDecl.its_end v _ version first_pair second none) =
+  declaration_fits i p t opens (due.DueInXmlDecl.in_pair text j _ _ to here is) = pair_fits j p t (begins_inside i text j to here) is
+  declaration_fits i p t opens (due.DueInXmlDecl.behind_pair text name j n v e _ to here other pair) = tt
+  declaration_fits i p t opens (due.DueInXmlDecl.behind_last name j n v e k to here pair) = (run_cut is_space src k utf8 (pair_cut j n v e k name pair)).0
+  declaration_fits i p t opens (due.DueInXmlDecl.its_end _ (constructs.DeclarationTo.standalone v _ (constructs.DeclarationTo.encoding _ _ (constructs.DeclarationTo.version _) first_pair) second) none) =
       (may_cut word.Encoding v p (may_cut word.Version (spaces_end src (i + 5)) v (version_cut i opens) first_pair) second).0
 
   pub declaration_placed : (i p : ℕ) (t : DueItem) (f : Fault) → at word.XmlDeclStart src i ≡ true → DueInXmlDecl src i p t → IsMissing src p t f → IsPlaced src f
@@ -209,9 +211,9 @@ module _ (src : List ℕ) (utf8 : IsUtf8 src) where
 
   written_start : (main : Bool) (O : Inclusion) (i j b c : ℕ) (as' : List Attribute) → Attributes main O src i j b c as' → StartsIn as'
   written_start main O i j b c as' (content.Attributes.no_more _ _) = tt
-  written_start main O i j b c as' (content.Attributes.one_more _ m _ _ d _ a more space is rest) =
-      let there = qname_within src (spaces_end src i) a.name a.name_end is.is_name in
-      (omega (arith, is.starts), written_start main O m j d c more rest)
+  written_start main O i j b c as' (content.Attributes.one_more _ m _ _ d _ _ more space (content.IsAttribute.attribute n v e name value is read) rest) =
+      let there = qname_within src (spaces_end src i) name n is.0 in
+      (omega arith, written_start main O m j d c more rest)
 
   attributes_start : (as' : List Attribute) → StartsIn as' → StartsIn (plain_attributes_of as')
   attributes_start [] starts = tt
@@ -244,8 +246,9 @@ module _ (src : List ℕ) (utf8 : IsUtf8 src) where
   tag_placed main O s b f le (rows.InTag.in_rest p c as' _ to (rows.InTagRest.not_closed _ slash lacks)) = lacks_placed src (spaces_end src p + 1) (a_byte 62) f tt lacks
   tag_placed main O s b f le (rows.InTag.in_rest p c as' _ to (rows.InTagRest.in_pair q t _ space before no_slash no_end is lacks)) = lacks_placed src q t f (pair_fits (spaces_end src p) q t (omega arith) is) lacks
   tag_placed main O s b f le (rows.InTag.in_rest p c as' _ to (rows.InTagRest.ill_declared d j a _ space is declares ill)) =
-      let there = qname_within src (spaces_end src p) a.name a.name_end is.is_name in
-      declared_placed _ a f (omega (arith, is.starts)) ill
+      let parts = parts_of main O src (spaces_end src p) j c d a is in
+      let there = qname_within src (spaces_end src p) a.name a.name_end parts.is_name in
+      declared_placed _ a f (omega (arith, parts.starts)) ill
   tag_placed main O s b f le (rows.InTag.in_rest p c as' _ to (rows.InTagRest.too_many_pairs d j a space is declares may first over)) = tt
   tag_placed main O s b f le (rows.InTag.in_rest p c as' _ to (rows.InTagRest.too_many_attributes j empty ends over)) = tt
   tag_placed main O s b f le (rows.InTag.in_rest p c as' _ to (rows.InTagRest.ill_named j empty _ ends few ill)) =

@@ -9,8 +9,7 @@ use Rattle.rox_grammar.specs.Written.{Name, Attribute, NamespaceDecl, Tag, Item,
 use Rattle.rox_grammar.specs.Tree as tree
 use Rattle.rox_grammar.specs.Tree.{Node, attribute_in, node_in, resolved}
 use Rattle.rox_grammar.specs.Names.{byte, slice, spaces_end, IsQName, unprefixed, prefixed, colon_first}
-use Rattle.rox_grammar.specs.Constructs.{IsLiteral}
-use Rattle.rox_grammar.specs.Content.{is_verbatim_value, Value, value_ends, line_end, white, other, a_character, an_entity, IsAttribute, Attributes, no_more, one_more, IsTag, DataByte, piece, last_part, then_entity, IsMisc, comment, instruction, IsElement, empty, nest, Content, ends, run, cdata, misc, node}
+use Rattle.rox_grammar.specs.Content.{is_verbatim_value, Value, value_ends, line_end, white, other, a_character, an_entity, IsAttribute, attribute, Attributes, no_more, one_more, IsTag, DataByte, piece, last_part, then_entity, IsMisc, comment, instruction, IsElement, empty, nest, Content, ends, run, cdata, misc, node}
 use Rattle.rox_grammar.specs.RunParts.{Parts}
 use Rattle.rox_grammar.specs.Document.{Misc, no_misc, space, an_item, ParseOf, IsTreeOf}
 use Rattle.rox_theory.proofs.Productions.{ncname_parts}
@@ -20,6 +19,7 @@ use Rattle.rox_theory.proofs.Basics.{run_end_le}
 use Rattle.rox_theory.proofs.NameLemmas.{slice_nil, qname_le}
 use Rattle.rox_theory.proofs.LiteralLemmas.{from_before, literal_plain, literal_closes, literal_le}
 use Rattle.rox_theory.proofs.StretchLemmas.{slice_cons, slice_none}
+use Rattle.rox_theory.proofs.AttributeParts.{AttributeParts, parts_of}
 use Rattle.rox_theory.proofs.ReferenceLemmas.{character_opens}
 use Rattle.roxmltree.specs.NodeParts as says
 use Rattle.roxmltree.specs.EachNode.{EachNode}
@@ -88,38 +88,27 @@ module _ (src : List ℕ) (stop : ℕ) where
 
 -- an attribute from its own start to its own end
 own_places : (src : List ℕ) (i j b c : ℕ) (w : Attribute) → IsAttribute true no_entities src i j b c w → IsAttribute true no_entities src w.start w.end 255 255 w
-own_places src i j b c w is = record {
-  starts = refl;
-  is_name = subst (λ (k : ℕ). IsQName src k w.name w.name_end) (sym is.starts) is.is_name;
-  v = is.v;
-  eq = is.eq;
-  e = is.e;
-  literal = subst (λ (k : ℕ). IsLiteral src is.v is.e k) (sym is.end) is.literal;
-  value_start = is.value_start;
-  end = refl;
-  value = openings src is.e (is.v + 1) b c w.value is.value 255;
-  borrowed = is.borrowed;
-}
+own_places src i j b c w (attribute n v e name value is read) = attribute n v e name value is (openings src e (v + 1) b c value read 255)
 
 -- what its ranges select
-selects : (src : List ℕ) (scope : List NamespaceDecl) (w : Attribute) → IsAttribute true no_entities src w.start w.end 255 255 w → SelectsAttribute src (attribute_in scope w)
-selects src scope w is =
+parts_select : (src : List ℕ) (scope : List NamespaceDecl) (w : Attribute) → AttributeParts true no_entities src w.start w.end 255 255 w → SelectsAttribute src (attribute_in scope w)
+parts_select src scope w is =
     let name_le = qname_le src w.start w.name w.name_end is.is_name in
     let equals_le = run_end_le is_space src w.name_end in
     let quote_le = run_end_le is_space src (spaces_end src w.name_end + 1) in
     let value_le = literal_le src is.v is.e w.end is.literal in
     let v : w.value_start - 1 ≡ is.v = omega (arith, is.value_start) in
-    let e : w.end - 1 ≡ is.e = omega (arith, is.literal.quoted.next) in
-    let long : is.e ≤ length src = omega (arith, is.literal.quoted.closes) in
+    let e : w.end - 1 ≡ is.e = omega (arith, is.literal.0.3) in
+    let long : is.e ≤ length src = omega (arith, is.literal.0.2) in
     record {
       inside = (
         name_le,
-        omega (arith, is.eq.next, equals_le, quote_le, v),
-        omega (arith, is.value_start, value_le, is.literal.quoted.next),
-        omega (arith, is.literal.quoted.closes, is.literal.quoted.next),
+        omega (arith, is.eq.1, equals_le, quote_le, v),
+        omega (arith, is.value_start, value_le, is.literal.0.3),
+        omega (arith, is.literal.0.2, is.literal.0.3),
       );
-      name = spelled src w.start w.name w.name_end is.is_name (omega (arith, is.eq.next, equals_le, quote_le, value_le, long));
-      opens = rw v is.literal.quoted.quote;
+      name = spelled src w.start w.name w.name_end is.is_name (omega (arith, is.eq.1, equals_le, quote_le, value_le, long));
+      opens = rw v is.literal.0.0;
       closes = rw (v, e) (literal_closes src is.v is.e w.end is.literal);
       between = λ k from below. rw v (between k (omega (arith, is.value_start)) (omega (arith, e)));
       value = λ borrowed. rw (is.value_start, e) (value_slice src is.e (is.v + 1) 255 255 w.value long (λ k from below. ordinary k (sym is.borrowed ∙ borrowed) long from below) is.value);
@@ -127,12 +116,15 @@ selects src scope w is =
   where
     between : (k : ℕ) → is.v + 1 ≤ k → k < is.e → (byte src k ≢ byte src is.v) × (byte src k ≢ 60)
     between k from below = (
-      eqb-false _ _ (from_before (λ c. c == byte src is.v) src (is.v + 1) k from (omega (arith, below, is.literal.quoted.end))),
+      eqb-false _ _ (from_before (λ c. c == byte src is.v) src (is.v + 1) k from (omega (arith, below, is.literal.0.1))),
       literal_plain src is.v is.e w.end is.literal k from below,
     )
 
     ordinary : (k : ℕ) → is_verbatim_value (slice src (is.v + 1) is.e) ≡ true → is.e ≤ length src → is.v + 1 ≤ k → k < is.e → IsOrdinary (byte src k)
     ordinary k plain long from below = is_ordinary (byte src k) (slice_none (λ b. b == 38 || (b == 9 || (b == 10 || b == 13))) src (is.v + 1) is.e k long (not-true _ plain) from below)
+
+selects : (src : List ℕ) (scope : List NamespaceDecl) (w : Attribute) → IsAttribute true no_entities src w.start w.end 255 255 w → SelectsAttribute src (attribute_in scope w)
+selects src scope w is = parts_select src scope w (parts_of true no_entities src w.start w.end 255 255 w is)
 
 -- ---- the attributes of a tag
 
@@ -159,13 +151,9 @@ some_stand src from to q (w ∷ ws) h =
 
 all_stand : (src : List ℕ) (i j to b c : ℕ) (ws : List Attribute) → j < to → Attributes true no_entities src i j b c ws → Stand src i to ws
 all_stand src i j to b c ws before (no_more _ _) = tt
-all_stand src i j to b c ws before (one_more _ k _ _ d _ w rest some first more) =
-    let le = attributes_forward src k j d c rest more in (
-      omega (arith, first.starts),
-      omega (arith, first.end, le),
-      own_places src (spaces_end src i) k b d w first,
-      subst (λ (n : ℕ). Stand src n to rest) (sym first.end) (all_stand src k j to d c rest before more),
-    )
+all_stand src i j to b c ws before (one_more _ k _ _ d _ _ rest some (attribute n v e name value is read) more) =
+    let le = attributes_forward src k j d c rest more in
+    (omega arith, omega (arith, le), own_places src (spaces_end src i) k b d _ (attribute n v e name value is read), all_stand src k j to d c rest before more)
 
 tag_stands : (src : List ℕ) (i j b c : ℕ) (is_empty : Bool) (t : Tag) → IsTag true no_entities src i j b c is_empty t → Stand src i j t.attributes
 tag_stands src i j b c is_empty t is =

@@ -13,7 +13,7 @@ use Rattle.rox_grammar.specs.FixedTexts.{word_text, at}
 use Rattle.rox_grammar.specs.Forest.{Forest, Nil, join, size}
 use Rattle.rox_grammar.specs.Written.{NamespaceDecl, Item, Comment, PI, merge, leaf}
 use Rattle.rox_grammar.specs.Names.{byte, spaces_end}
-use Rattle.rox_grammar.specs.Constructs.{IsXmlDecl}
+use Rattle.rox_grammar.specs.Constructs.{IsXmlDecl, xml_decl}
 use Rattle.rox_grammar.specs.Content.{Inclusion, IsMisc, comment, instruction, IsElement, empty, nest, TagEnds, opened, closed}
 use Rattle.rox_grammar.specs.TextStart.{after_bom, MayHaveXmlDecl, declared, not_declared}
 use Rattle.rox_grammar.specs.FixedTexts.{bom}
@@ -37,7 +37,7 @@ use Rattle.rox_theory.proofs.Productions.{comment_parts, pi_parts, end_parts}
 use Rattle.rox_theory.proofs.Basics.{within as byte_within, ok_same, bind_ok, chosen}
 use Rattle.rox_theory.proofs.Constructions.{name_byte, comment_bytes, instruction_bytes, doctype_bytes, IsNameByte}
 use Rattle.rox_theory.proofs.NameLemmas.{run_stops, run_past}
-use Rattle.rox_theory.proofs.DeclarationLemmas.{stands_reads, declaration_sound, declaration_complete}
+use Rattle.rox_theory.proofs.DeclarationLemmas.{stands_reads, declaration_opens, declaration_sound, declaration_complete}
 use Rattle.rox_theory.proofs.Places.{over_spaces, spaces_on, space_within}
 use Rattle.rox_theory.proofs.CharTexts.{run_cut}
 use Rattle.rox_theory.proofs.Standing.{IsValidState}
@@ -77,8 +77,8 @@ element_ends main O src i j b c one (nest _ k m p _ _ d _ t kids tag inner end) 
 
 -- the declaration does
 pub declaration_ends : (src : List ℕ) (i j : ℕ) → IsXmlDecl src i j → Ends src j
-declaration_ends src i j is =
-    ends_by src j (is.s + 1) 62 (omega (arith, is.next)) (stands_reads (word_text word.PIEnd) src is.s 1 is.closes (omega arith)) (omega arith) (omega arith)
+declaration_ends src i j (xml_decl _ q opens to last closes) =
+    ends_by src j (q + 1) 62 (omega arith) (stands_reads (word_text word.PIEnd) src q 1 closes (omega arith)) (omega arith) (omega arith)
 
 -- a character begins behind the byte order mark
 pub bom_cut : (src : List ℕ) → IsUtf8 src → IsCharBoundary src (after_bom src)
@@ -254,7 +254,7 @@ module _ (src : List ℕ) (utf8 : IsUtf8 src) where
   -- what stands there is read
   pub prolog_complete : (i j : ℕ) → MayHaveXmlDecl src i j → prolog src i ≡ Ok j
   unfolding prolog
-  prolog_complete i j (declared _ _ is) = rw (is.opens, declaration_complete src utf8 i j is) refl
+  prolog_complete i j (declared _ _ is) = rw (declaration_opens src i j is, declaration_complete src utf8 i j is) refl
   prolog_complete i j (not_declared _ none) = rw none refl
 
   -- a character begins behind it

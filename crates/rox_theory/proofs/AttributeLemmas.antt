@@ -6,7 +6,7 @@ use Rattle.std.proofs.lemmas.Bool.{eqb-true, eqb-false, ne_eqb, leb-false, lt-le
 use Rattle.rox_grammar.specs.Chars.{is_space, is_name_start}
 use Rattle.rox_grammar.specs.Runs.{begins}
 use Rattle.rox_grammar.specs.Written.{Name, Attribute}
-use Rattle.rox_grammar.specs.Names.{byte, spaces_end, IsQName, unprefixed, prefixed, colon_first}
+use Rattle.rox_grammar.specs.Names.{byte, slice, spaces_end, IsQName, unprefixed, prefixed, colon_first}
 use Rattle.rox_grammar.specs.Constructs.{IsEq, IsLiteral}
 use Rattle.rox_grammar.specs.Content.{Inclusion, IsAttribute, TagEnds}
 use Rattle.rox_grammar.specs.Content as content
@@ -21,6 +21,7 @@ use Rattle.rox_theory.proofs.LiteralLemmas.{value_stop, value_stop_le, quote_sou
 use Rattle.rox_theory.specs.Openers.{IsStop, AgreesValue}
 use Rattle.rox_theory.proofs.CharTexts.{cut_behind}
 use Rattle.rox_theory.proofs.ValueLemmas.{value_sound, value_complete}
+use Rattle.rox_theory.proofs.AttributeParts.{from_parts}
 
 -- an attribute stands there, its value not looked at
 pub record RawStands (src : List ℕ) (i j : ℕ) (raw : RawAttribute) : Type 0 where
@@ -58,22 +59,22 @@ raw_sound src utf8 i x h =
     let x0 : ◌≡◌ {A = RawAttribute × ℕ} (record { start = i; name = n.0; name_end = n.1; value_start = q.1; value_end = t.1 }, d.1) x = ok_same _ _ h in
     let l' : IsLiteral src v t.1 d.1 = subst (λ (m : ℕ). IsLiteral src v m d.1) (sym t1) (subst (λ (m : ℕ). IsLiteral src v e m) (sym next) l) in
     subst (λ (y : RawAttribute × ℕ). RawStands src i y.1 y.0) x0
-    (record { starts = refl; is_name = qname_sound src i n named; v = v; eq = record { equals = eq.0; next = ap (spaces_end src) eq.1 }; value_start = q1; literal = l' })))))))
+    (record { starts = refl; is_name = qname_sound src i n named; v = v; eq = (eq.0, ap (spaces_end src) eq.1); value_start = q1; literal = l' })))))))
 
 -- an attribute that stands there is read, its value apart
 pub raw_complete : (src : List ℕ) (i j : ℕ) (raw : RawAttribute) → RawStands src i j raw → attribute_at src i ≡ Ok (raw, j)
 unfolding attribute_at raw_value_at
 raw_complete src i j raw r =
     let n = qname_complete src i raw.name raw.name_end r.is_name in
-    let s = byte_complete 61 src (spaces_end src raw.name_end) r.eq.equals (λ z. omega arith) in
-    let v = r.eq.next in
-    let q = quote_complete src r.v r.literal.quoted.quote in
+    let s = byte_complete 61 src (spaces_end src raw.name_end) r.eq.0 (λ z. omega arith) in
+    let v = r.eq.1 in
+    let q = quote_complete src r.v r.literal.0.0 in
     let e = literal_complete src r.v raw.value_end j r.literal in
-    let more = lt-leb (length src) raw.value_end r.literal.quoted.closes in
-    let c = chars_complete raw.value_end src (r.v + 1) r.literal.chars in
-    let nz = quote_ascii (byte src r.v) r.literal.quoted.quote in
+    let more = lt-leb (length src) raw.value_end r.literal.0.2 in
+    let c = chars_complete raw.value_end src (r.v + 1) r.literal.1 in
+    let nz = quote_ascii (byte src r.v) r.literal.0.0 in
     let b = byte_complete (byte src r.v) src raw.value_end (literal_closes src r.v raw.value_end j r.literal) (λ z. omega arith) in
-    let next = r.literal.quoted.next in
+    let next = r.literal.0.3 in
     let start = r.value_start in
     let i' = r.starts in
     rw (n, s, ← v, q, e, more, c, b, next, ← start, ← i') refl
@@ -84,9 +85,9 @@ raw_le src i j raw r =
     let name_le = qname_le src i raw.name raw.name_end r.is_name in
     let le = run_end_le is_space src raw.name_end in
     let le' = run_end_le is_space src (spaces_end src raw.name_end + 1) in
-    let v = r.eq.next in
+    let v = r.eq.1 in
     let value = literal_le src r.v raw.value_end j r.literal in
-    let next = r.literal.quoted.next in
+    let next = r.literal.0.3 in
     omega arith
 
 -- no name begins with a slash
@@ -161,8 +162,8 @@ more_complete src i j raw some r =
     let name_le = qname_le src (spaces_end src i) raw.name raw.name_end r.is_name in
     let le' = run_end_le is_space src raw.name_end in
     let le'' = run_end_le is_space src (spaces_end src raw.name_end + 1) in
-    let v' = r.eq.next in
-    let closes = r.literal.quoted.closes in
+    let v' = r.eq.1 in
+    let closes = r.literal.0.2 in
     let inside = lt-leb (length src) (spaces_end src i) (omega arith) in
     let slash = ne_eqb (byte src (spaces_end src i)) 47 first.0 in
     let greater = ne_eqb (byte src (spaces_end src i)) 62 first.1 in
@@ -177,21 +178,22 @@ quote_stop b (inr h) = inr (inr h)
 
 -- a literal ends where a quote stops it
 pub literal_stop : (src : List ℕ) (v e j : ℕ) → IsLiteral src v e j → IsStop (byte src e)
-literal_stop src v e j l = rw (literal_closes src v e j l) (quote_stop (byte src v) l.quoted.quote)
+literal_stop src v e j l = rw (literal_closes src v e j l) (quote_stop (byte src v) l.0.0)
 
 -- the place behind its quote
 value_cut : (src : List ℕ) → IsUtf8 src → (v e j : ℕ) → IsLiteral src v e j → IsCharBoundary src (v + 1)
-value_cut src utf8 v e j l = let q = quote_ascii (byte src v) l.quoted.quote in cut_behind src v (byte src v) (v + 1) utf8 refl (omega arith) (omega arith) refl
+value_cut src utf8 v e j l = let q = quote_ascii (byte src v) l.0.0 in cut_behind src v (byte src v) (v + 1) utf8 refl (omega arith) (omega arith) refl
 
 module _ (context : Values) (O : Inclusion) (agrees : AgreesValue context.entities O context.opener) (src : List ℕ) (utf8 : IsUtf8 src) where
   -- an attribute whose value is read stands there
   pub attribute_sound : (i j b c : ℕ) (raw : RawAttribute) (x : ReadText) → RawStands src i j raw → value_at context.main context.entities context.opener src raw.value_start raw.value_end b ≡ Ok (x, c)
       → IsAttribute context.main O src i j b c (attribute_with raw x)
   attribute_sound i j b c raw x r h =
-      let closes = r.literal.quoted.closes in
+      let closes = r.literal.0.2 in
       let value = value_sound context.entities src utf8 raw.value_end (omega arith) (λ z. literal_stop src r.v raw.value_end j r.literal) context.main O context.opener agrees (r.v + 1) b c x
       (literal_le src r.v raw.value_end j r.literal) (literal_plain src r.v raw.value_end j r.literal) (rw r.value_start at h) in
-      record {
+      from_parts context.main O src i j b c (attribute_with raw x)
+      (record {
         starts = r.starts;
         is_name = r.is_name;
         v = r.v;
@@ -199,10 +201,10 @@ module _ (context : Values) (O : Inclusion) (agrees : AgreesValue context.entiti
         e = raw.value_end;
         literal = r.literal;
         value_start = r.value_start;
-        end = sym r.literal.quoted.next;
+        end = sym r.literal.0.3;
         value = value.0;
         borrowed = value.1;
-      }
+      })
 
   -- the attribute is read from i up to j, and then its value
   abbrev pub AttributeReads : ℕ → ℕ → ℕ → ℕ → Attribute → Type 0
@@ -211,19 +213,16 @@ module _ (context : Values) (O : Inclusion) (agrees : AgreesValue context.entiti
 
   -- an attribute that stands there is read
   pub attribute_complete : (i j b c : ℕ) (a : Attribute) → IsAttribute context.main O src i j b c a → AttributeReads i j b c a
-  attribute_complete i j b c a h =
-      let closes = h.literal.quoted.closes in
-      let value = value_complete context.entities src utf8 h.e (omega arith) (λ z. literal_stop src h.v h.e j h.literal) context.main O context.opener agrees (h.v + 1) b c a.value
-      (literal_le src h.v h.e j h.literal) (value_cut src utf8 h.v h.e j h.literal) (λ z. h.literal.chars) h.value in
-      let start = h.value_start in
-      let borrowed = h.borrowed in
-      let read : value_at context.main context.entities context.opener src a.value_start h.e b ≡ Ok (record { value = a.value; borrowed = a.borrowed }, c) = rw (start, borrowed) value in
-      let end : a.end ≡ h.e + 1 = h.end ∙ h.literal.quoted.next in (
-        record { start = a.start; name = a.name; name_end = a.name_end; value_start = a.value_start; value_end = h.e },
-        record { value = a.value; borrowed = a.borrowed },
-        record { starts = h.starts; is_name = h.is_name; v = h.v; eq = h.eq; value_start = start; literal = h.literal },
+  attribute_complete i j b c a (content.attribute n v e name value (is_name, eq, literal) there) =
+      let closes = literal.0.2 in
+      let read = value_complete context.entities src utf8 e (omega arith) (λ z. literal_stop src v e j literal) context.main O context.opener agrees (v + 1) b c value
+      (literal_le src v e j literal) (value_cut src utf8 v e j literal) (λ z. literal.1) there in
+      let borrowed = content.is_verbatim_value (slice src (v + 1) e) in (
+        record { start = i; name = name; name_end = n; value_start = v + 1; value_end = e },
+        record { value = value; borrowed = borrowed },
+        record { starts = refl; is_name = is_name; v = v; eq = eq; value_start = refl; literal = literal },
         read,
-        ap (λ (k : ℕ). record { start = a.start; name_end = a.name_end; value_start = a.value_start; end = k; name = a.name; value = a.value; borrowed = a.borrowed }) end,
+        ap (λ (k : ℕ). record { start = i; name_end = n; value_start = v + 1; end = k; name = name; value = value; borrowed = borrowed }) literal.0.3,
       )
 
   -- an attribute has a byte

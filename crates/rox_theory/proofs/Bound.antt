@@ -8,7 +8,7 @@ use Rattle.std.specs.List.{list_any}
 use Rattle.rox_grammar.specs.Forest.{Forest, Nil, join}
 use Rattle.rox_grammar.specs.Written.{Item, Text, Attribute, Tag, leaf, merge}
 use Rattle.rox_grammar.specs.Names.{byte, slice, spaces_end}
-use Rattle.rox_grammar.specs.Content.{Inclusion, line_ends, literals, is_verbatim, piece, value_bytes, last_part, then_entity, Value, value_ends, line_end, white, other, a_character, an_entity, Attributes, no_more, one_more, IsTag, IsElement, empty, nest, Content, ends, run, cdata, misc, node}
+use Rattle.rox_grammar.specs.Content.{Inclusion, line_ends, literals, is_verbatim, piece, value_bytes, last_part, then_entity, Value, value_ends, line_end, white, other, a_character, an_entity, Attributes, no_more, one_more, attribute, IsTag, IsElement, empty, nest, Content, ends, run, cdata, misc, node}
 use Rattle.rox_grammar.specs.RunParts.{Parts}
 use Rattle.rox_grammar.specs.Entities.{Entity, included_in_main, most_deep}
 use Rattle.rox_grammar.specs.Chars.{is_name_char, is_space}
@@ -120,15 +120,15 @@ module _ (of : Forest Item → ℕ) (is_measure : Measure of) (O : Inclusion) (w
 
   attributes_yield : (i k b c : ℕ) (as' : List Attribute) → Attributes true O src i k b c as' → Yields (most_of as') i k
   attributes_yield i k b c as' (no_more _ _) = (omega arith, omega arith)
-  attributes_yield i k b d as' (one_more _ j _ _ c _ a rest spaces is more) =
-      let h = value_yields is.e (is.v + 1) b c a.value is.value in
-      let n = qname_onward src (spaces_end src i) a.name_end a.name is.is_name in
-      let e = eq_onward src a.name_end is.v is.eq in
-      let l = is.literal.quoted.next in
+  attributes_yield i k b d as' (one_more _ j _ _ c _ _ rest spaces (attribute m v e name value is read) more) =
+      let h = value_yields e (v + 1) b c value read in
+      let n = qname_onward src (spaces_end src i) m name is.0 in
+      let q = eq_onward src m v is.1 in
+      let l = is.2.0.3 in
       let y = attributes_yield j k c d rest more in
-      let u = down i (is.v + 1) (omega (arith, n, e, spaces)) in
-      let v = down is.e j (omega (arith, l)) in
-      (omega (arith, h.0, n, e, l, y.0, spaces), omega (arith, h.0, h.1, n, e, l, y.1, spaces, u, v))
+      let u = down i (v + 1) (omega (arith, n, q, spaces)) in
+      let w = down e j (omega (arith, l)) in
+      (omega (arith, h.0, n, q, l, y.0, spaces), omega (arith, h.0, h.1, n, q, l, y.1, spaces, u, w))
 
   tag_yields : (i j b c : ℕ) (is_empty : Bool) (t : Tag) → IsTag true O src i j b c is_empty t → Yields (1 + most_of t.attributes) i j
   tag_yields i j b c is_empty t is =
@@ -185,7 +185,7 @@ module _ (of : Forest Item → ℕ) (is_measure : Measure of) (O : Inclusion) (w
 -- ---- where the parts of a document type declaration end
 
 quoted_onward : (src : List ℕ) (i e j : ℕ) → IsQuoted src i e j → i ≤ j
-quoted_onward src i e j is = let h = byte_onward (λ c. c == byte src i) src (i + 1) in omega (arith, h, is.end, is.next)
+quoted_onward src i e j is = let h = byte_onward (λ c. c == byte src i) src (i + 1) in omega (arith, h, is.1, is.3)
 
 name_onward : (src : List ℕ) (i j : ℕ) → IsName src i j → i ≤ j
 name_onward src i j is = let h = run_onward is_name_char src i in omega (arith, h, is.longest)

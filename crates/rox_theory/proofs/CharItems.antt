@@ -16,7 +16,7 @@ use Rattle.rox_grammar.specs.Written.{Name, Attribute, NamespaceDecl, Tag, Item,
 use Rattle.rox_grammar.specs.Tree.{none_if_empty}
 use Rattle.rox_grammar.specs.Names.{byte, slice, spaces_end, IsNCName, IsQName, unprefixed, prefixed, colon_first}
 use Rattle.rox_grammar.specs.Constructs.{IsComment, IsPI, IsCData}
-use Rattle.rox_grammar.specs.Content.{Inclusion, DataByte, IsAttribute, Attributes, no_more, one_more, TagEnds, opened, closed, IsTag, IsMisc, comment, instruction, IsElement, empty, nest, Content, ends, run, cdata, misc, node, line_ends, literals}
+use Rattle.rox_grammar.specs.Content.{Inclusion, DataByte, IsAttribute, attribute, Attributes, no_more, one_more, TagEnds, opened, closed, IsTag, IsMisc, comment, instruction, IsElement, empty, nest, Content, ends, run, cdata, misc, node, line_ends, literals}
 use Rattle.rox_grammar.specs.Entities.{Entity, Includes, included_in_main, most_deep}
 use Rattle.rox_grammar.specs.Doctype.{Asked, Subset, no_more as no_item, space as subset_space, an_item as subset_item, skipped_declaration, an_entity as an_entity_declared, IsDoctype, no_subset, with_subset}
 use Rattle.rox_grammar.specs.Document.{Misc, no_misc, space, an_item, ParseOf}
@@ -146,15 +146,13 @@ tag_cut src i j is_empty utf8 (closed _ slash close) = cut_behind src (spaces_en
 module _ (main : Bool) (O : Inclusion) (opens : OpensChars O) (src : List ℕ) (utf8 : IsUtf8 src) where
   -- an attribute that stands behind a place where a character begins ends at another one
   attribute_text : (i j b c : ℕ) (a : Attribute) → IsCharBoundary src i → IsAttribute main O src i j b c a → WrittenChars a × IsCharBoundary src j
-  attribute_text i j b c a cut h =
-      let v = h.v in
-      let stop = h.e in
-      let low = quote_ascii (byte src v) h.literal.quoted.quote in
-      let same = literal_closes src v stop j h.literal in
+  attribute_text i j b c a cut (attribute n v stop name value (is_name, eq, literal) read) =
+      let low = quote_ascii (byte src v) literal.0.0 in
+      let same = literal_closes src v stop j literal in
       let first = cut_behind src v (byte src v) (v + 1) utf8 refl low.0 (omega arith) refl in
       let last = cut_at src stop (byte src v) same low.0 (omega arith) in (
-        record { local = (local_name src i a.name a.name_end utf8 cut h.is_name).0; value = value_chars src utf8 (v + 1) stop first last h.literal.chars main O opens b c a.value h.value },
-        cut_behind src stop (byte src v) j utf8 same low.0 (omega arith) h.literal.quoted.next,
+        record { local = (local_name src i name n utf8 cut is_name).0; value = value_chars src utf8 (v + 1) stop first last literal.1 main O opens b c value read },
+        cut_behind src stop (byte src v) j utf8 same low.0 (omega arith) literal.0.3,
       )
 
   -- attributes in a row

@@ -68,33 +68,33 @@ quoted_sound src i x h =
     bind_ok (byte_at (byte src i) src (quoted_end src i)) _ _ h' (λ b closes h.
     let c = byte_sound (byte src i) src (quoted_end src i) b closes in
     let next : b.1 ≡ x.1 = ap (λ p. p.1) (ok_same _ _ h) in
-    (record { quote = quote.0; end = refl; closes = c.2; next = sym next ∙ c.1 }, sym (ap (λ p. p.0) (ok_same _ _ h)))))
+    ((quote.0, refl, c.2, sym next ∙ c.1), sym (ap (λ p. p.0) (ok_same _ _ h)))))
 
 -- it ends at the quote that it begins with, behind which a character begins
 pub quoted_closes : (src : List ℕ) (i e j : ℕ) → IsQuoted src i e j → byte src e ≡ byte src i
 quoted_closes src i e j q =
-    let is = q.end in let inside = q.closes in
+    let is = q.1 in let inside = q.2 in
     let h = from_here (λ c. c == byte src i) src (i + 1) (rw (← is) inside) in
     eqb-true _ _ (rw (← is) at h)
 
 pub quoted_le : (src : List ℕ) (i e j : ℕ) → IsQuoted src i e j → (i + 1 ≤ e) × (e < j) × (j ≤ length src)
 quoted_le src i e j q =
-    let is = q.end in let inside = q.closes in let next = q.next in
+    let is = q.1 in let inside = q.2 in let next = q.3 in
     (omega (arith, from_le (λ c. c == byte src i) src (i + 1)), omega arith, omega arith)
 
 pub quoted_cut : (src : List ℕ) (i e j : ℕ) → IsUtf8 src → IsQuoted src i e j → IsCharBoundary src j
 quoted_cut src i e j utf8 q =
-    let low = quote_ascii (byte src i) q.quote in let same = quoted_closes src i e j q in
-    cut_behind src e (byte src i) j utf8 same (omega arith) (omega arith) q.next
+    let low = quote_ascii (byte src i) q.0 in let same = quoted_closes src i e j q in
+    cut_behind src e (byte src i) j utf8 same (omega arith) (omega arith) q.3
 
 -- what stands there is read
 pub quoted_complete : (src : List ℕ) (i e j : ℕ) → IsQuoted src i e j → quoted_at src i ≡ Ok (slice src (i + 1) e, j)
 unfolding quoted_at
 quoted_complete src i e j q =
-    let quote = quote_complete src i q.quote in
-    let low = quote_ascii (byte src i) q.quote in
+    let quote = quote_complete src i q.0 in
+    let low = quote_ascii (byte src i) q.0 in
     let b = byte_complete (byte src i) src e (quoted_closes src i e j q) (λ z. omega arith) in
-    let is = q.end in let next = q.next in
+    let is = q.1 in let next = q.3 in
     rw (quote, ← is, b, next) refl
 
 -- ---- what is asked for
@@ -229,7 +229,7 @@ definition_sound parameter src i x h =
     let e = quoted_end src i in
     let s = quoted_sound src i q quoted in
     let le = quoted_le src i e q.1 s.0 in
-    let long : length q.0 ≡ e - (i + 1) = ap length s.1 ∙ slice_length src (i + 1) e le.0 (omega (arith, s.0.closes)) in
+    let long : length q.0 ≡ e - (i + 1) = ap length s.1 ∙ slice_length src (i + 1) e le.0 (omega (arith, s.0.2)) in
     let to : i + 1 + length q.0 ≡ e = omega (arith, le.0) in
     let t_is : ◌≡◌ {A = Replacement} (record { source = take (i + 1 + length q.0) src; start = i + 1 }) (record { source = take e src; start = i + 1 }) = rw to refl in
     subst (λ (x : Definition × ℕ). Defines src parameter i x.0 x.1) (ok_same _ _ h) (e, s.0, t_is)))
@@ -243,12 +243,12 @@ definition_sound parameter src i x h =
 pub inner_complete : (parameter : Bool) (src : List ℕ) (i e j : ℕ) → IsQuoted src i e j → definition_at parameter src i ≡ Ok (inner (record { source = take e src; start = i + 1 }), j)
 unfolding definition_at
 inner_complete parameter src i e j q =
-    let low = quote_ascii (byte src i) q.quote in
+    let low = quote_ascii (byte src i) q.0 in
     let k = lt-leb (length src) i (within src i (λ z. omega arith)) in
-    let test : (byte src i == 34 || byte src i == 39) ≡ true = elim q.quote as (λ _. (byte src i == 34 || byte src i == 39) ≡ true) [ inl a ↦ or_right _ _ (eq-eqb _ _ a) | inr b ↦ or_left _ _ (eq-eqb _ _ b) ] in
+    let test : (byte src i == 34 || byte src i == 39) ≡ true = elim q.0 as (λ _. (byte src i == 34 || byte src i == 39) ≡ true) [ inl a ↦ or_right _ _ (eq-eqb _ _ a) | inr b ↦ or_left _ _ (eq-eqb _ _ b) ] in
     let r = quoted_complete src i e j q in
     let le = quoted_le src i e j q in
-    let long = slice_length src (i + 1) e le.0 (omega (arith, q.closes)) in
+    let long = slice_length src (i + 1) e le.0 (omega (arith, q.2)) in
     let to : i + 1 + length (slice src (i + 1) e) ≡ e = omega (arith, le.0) in
     rw (k, test, r, to) refl
 

@@ -19,7 +19,7 @@ use Rattle.rox_reading.specs.Doctype.{Reply, Asks, Dtd, IsTextReply, AreTextRepl
 use Rattle.rox_reading.specs.Answering.{Answered}
 use Rattle.rox_reading.proofs.Settling.{once, declared_there, entity_run, inner_read, outer_read}
 use Rattle.rox_theory.proofs.Basics.{ok_same, chosen, within, byte_sound, byte_complete, run_end_le}
-use Rattle.rox_theory.proofs.DeclarationLemmas.{declaration_sound, declaration_complete}
+use Rattle.rox_theory.proofs.DeclarationLemmas.{declaration_opens, declaration_sound, declaration_complete}
 use Rattle.rox_theory.proofs.CharTexts.{cut_behind}
 use Rattle.rox_theory.proofs.DoctypeLemmas.{quoted_le, external_cut, head_sound, head_complete, head_moves, definition_sound, inner_complete, outer_complete}
 
@@ -52,7 +52,7 @@ answer_sound (Some t) text utf8 h =
 pub answer_complete : (answer : Option (List ℕ)) (text : Option Replacement) → GivesReplacement answer text → answer_text answer ≡ Ok text
 unfolding answer_text
 answer_complete answer text nothing = refl
-answer_complete answer text (the_rest t d utf8 (declared _ _ is)) = let a = is.opens in let r = declaration_complete t utf8 (after_bom t) d is in rw (a, r) refl
+answer_complete answer text (the_rest t d utf8 (declared _ _ is)) = let a = declaration_opens t (after_bom t) d is in let r = declaration_complete t utf8 (after_bom t) d is in rw (a, r) refl
 answer_complete answer text (the_rest t d utf8 (not_declared _ none)) = rw none refl
 
 -- its fault is one of the text

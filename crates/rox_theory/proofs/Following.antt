@@ -4,7 +4,7 @@ use Rattle.std.proofs.Common.{arith, ◌∙◌}
 use Rattle.std.specs.Prelude.{◌≡◌, ℕ, zero, suc, ◌+◌, ◌≤◌, Bool, true, false, List, [], length, refl}
 use Rattle.rox_grammar.specs.Forest.{Forest}
 use Rattle.rox_grammar.specs.Written.{Item, Attribute, Tag}
-use Rattle.rox_grammar.specs.Content.{Inclusion, last_part, then_entity, Value, value_ends, line_end, white, other, a_character, an_entity, Attributes, no_more, one_more, IsTag, IsElement, empty, nest, Content, ends, run, cdata, misc, node}
+use Rattle.rox_grammar.specs.Content.{Inclusion, last_part, then_entity, Value, value_ends, line_end, white, other, a_character, an_entity, Attributes, no_more, one_more, attribute, IsTag, IsElement, empty, nest, Content, ends, run, cdata, misc, node}
 use Rattle.rox_grammar.specs.RunParts.{Parts}
 use Rattle.rox_grammar.specs.Entities.{Entity, Includes, most_deep, no_entities, included_in_main}
 use Rattle.rox_grammar.specs.Expansion.{Counts}
@@ -35,24 +35,11 @@ module _ (main : Bool) (O P : Inclusion) (follows : Follows O P) (src : List ℕ
 
   attributes_count : (i k b c : ℕ) (as' : List Attribute) → Attributes main O src i k b c as' → (m : ℕ) → (n : ℕ) × Attributes main P src i k m n as' × (m + b ≡ n + c)
   attributes_count i k b c as' (no_more _ _) m = (m, no_more i m, refl)
-  attributes_count i k b d as' (one_more _ j _ _ c _ a rest spaces is more) m =
-      let x = value_count is.e (is.v + 1) b c a.value is.value m in
+  attributes_count i k b d as' (one_more _ j _ _ c _ _ rest spaces (attribute n v e name value is read) more) m =
+      let x = value_count e (v + 1) b c value read m in
       let y = attributes_count j k c d rest more x.0 in (
         y.0,
-        one_more i j k m x.0 y.0 a rest spaces
-            (record {
-              starts = is.starts;
-              is_name = is.is_name;
-              v = is.v;
-              eq = is.eq;
-              e = is.e;
-              literal = is.literal;
-              value_start = is.value_start;
-              end = is.end;
-              value = x.1;
-              borrowed = is.borrowed;
-            })
-            y.1,
+        one_more i j k m x.0 y.0 _ rest spaces (attribute n v e name value is x.1) y.1,
         x.2 ∙ y.2,
       )
 
@@ -152,21 +139,8 @@ value_free main src j i b c v (an_entity _ n k _ e _ u w is name within opens re
 
 attributes_free : (main : Bool) (src : List ℕ) (i k b c : ℕ) (as' : List Attribute) → Attributes main no_entities src i k b c as' → (d : ℕ) → Attributes main no_entities src i k d d as'
 attributes_free main src i k b c as' (no_more _ _) d = no_more i d
-attributes_free main src i k b c as' (one_more _ j _ _ e _ a rest spaces is more) d =
-    one_more i j k d d d a rest spaces
-    (record {
-      starts = is.starts;
-      is_name = is.is_name;
-      v = is.v;
-      eq = is.eq;
-      e = is.e;
-      literal = is.literal;
-      value_start = is.value_start;
-      end = is.end;
-      value = value_free main src is.e (is.v + 1) b e a.value is.value d;
-      borrowed = is.borrowed;
-    })
-    (attributes_free main src j k e c rest more d)
+attributes_free main src i k b c as' (one_more _ j _ _ l _ _ rest spaces (attribute n v e name value is read) more) d =
+    one_more i j k d d d _ rest spaces (attribute n v e name value is (value_free main src e (v + 1) b l value read d)) (attributes_free main src j k l c rest more d)
 
 pub tag_free : (main : Bool) (src : List ℕ) (i j b c : ℕ) (is_empty : Bool) (t : Tag) → IsTag main no_entities src i j b c is_empty t → (d : ℕ) → IsTag main no_entities src i j d d is_empty t
 tag_free main src i j b c is_empty t is d =

@@ -21,6 +21,7 @@ pub mod MarkupLemmas
 pub mod DeclaredLemmas
 pub mod DeclarationLemmas
 pub mod Places
+pub mod AttributeParts
 pub mod AttributeLemmas
 pub mod TagLemmas
 pub mod Constructions

@@ -114,7 +114,7 @@ pub eq_onward : (src : List ℕ) (i j : ℕ) → IsEq src i j → i ≤ j
 eq_onward src i j is =
     let h = run_onward is_space src i in
     let g = run_onward is_space src (spaces_end src i + 1) in
-    omega (arith, h, g, is.next)
+    omega (arith, h, g, is.1)
 
 pub tag_end_onward : (src : List ℕ) (i : ℕ) (is_empty : Bool) (j : ℕ) → TagEnds src i is_empty j → i ≤ j
 tag_end_onward src i is_empty j (opened _ here) = let h = run_onward is_space src i in omega (arith, h)

@@ -7,7 +7,7 @@ use Rattle.rox_grammar.specs.Forest.{Forest, Nil, join}
 use Rattle.rox_grammar.specs.Written.{Item, Text, Attribute, Tag, leaf, merge}
 use Rattle.rox_grammar.specs.Tree.{none_if_empty}
 use Rattle.rox_grammar.specs.Names.{slice, spaces_end}
-use Rattle.rox_grammar.specs.Content.{Inclusion, DataByte, line_ends, literals, is_verbatim, piece, value_bytes, last_part, then_entity, Value, value_ends, line_end, white, other, a_character, an_entity, Attributes, no_more, one_more, IsTag, IsMisc, comment, instruction, IsElement, empty, nest, Content, ends, run, cdata, misc, node}
+use Rattle.rox_grammar.specs.Content.{Inclusion, DataByte, line_ends, literals, is_verbatim, piece, value_bytes, last_part, then_entity, Value, value_ends, line_end, white, other, a_character, an_entity, Attributes, no_more, one_more, attribute, IsTag, IsMisc, comment, instruction, IsElement, empty, nest, Content, ends, run, cdata, misc, node}
 use Rattle.rox_grammar.specs.RunParts.{Parts}
 use Rattle.rox_grammar.specs.Entities.{Replacement, Entity, text_of}
 use Rattle.rox_grammar.specs.Expansion.{Counts, longest}
@@ -79,13 +79,13 @@ module _ (of : Forest Item → ℕ) (is_measure : Measure of) (main : Bool) (O :
 
   attributes_weigh : (i k b c : ℕ) (as' : List Attribute) → Attributes main O src i k b c as' → most_of as' + i + b * r ≤ k + c * r
   attributes_weigh i k b c as' (no_more _ _) = omega arith
-  attributes_weigh i k b d as' (one_more _ j _ _ c _ a rest spaces is more) =
-      let h = value_weighs is.e (is.v + 1) b c a.value is.value in
-      let n = qname_onward src (spaces_end src i) a.name_end a.name is.is_name in
-      let e = eq_onward src a.name_end is.v is.eq in
-      let l = is.literal.quoted.next in
+  attributes_weigh i k b d as' (one_more _ j _ _ c _ _ rest spaces (attribute m v e name value is read) more) =
+      let h = value_weighs e (v + 1) b c value read in
+      let n = qname_onward src (spaces_end src i) m name is.0 in
+      let q = eq_onward src m v is.1 in
+      let l = is.2.0.3 in
       let y = attributes_weigh j k c d rest more in
-      omega (arith, h, n, e, l, y, spaces)
+      omega (arith, h, n, q, l, y, spaces)
 
   tag_weighs : (i j b c : ℕ) (is_empty : Bool) (t : Tag) → IsTag main O src i j b c is_empty t → 1 + most_of t.attributes + i + b * r ≤ j + c * r
   tag_weighs i j b c is_empty t is =
