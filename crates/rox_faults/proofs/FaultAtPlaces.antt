@@ -145,8 +145,8 @@ module _ (opens : ℕ → Inclusion) (es : List Entity) (all : OpensAt opens es)
 
     end_apart : (f : Fault) → InEnd open_around src s f → ⊥
     unfolding tag_of
-    end_apart f (lacks q t _ (due.DueInEnd.its_name opens') (no_qname none)) = let there = end_there opens' in none there.1.name there.4 there.8.is_name
-    end_apart f (lacks q t _ (due.DueInEnd.its_end name n opens' is_name) lack) =
+    end_apart f (lacks _ (q, t, due.DueInEnd.its_name opens', no_qname none)) = let there = end_there opens' in none there.1.name there.4 there.8.is_name
+    end_apart f (lacks _ (q, t, due.DueInEnd.its_end name n opens' is_name, lack)) =
         let there = end_there opens' in
         let same = (one_qname src (s.at + 2) n there.4 name there.1.name is_name there.8.is_name).1 in
         let closes : byte src (spaces_end src n) ≡ 62 = ap (λ (n : ℕ). byte src (spaces_end src n)) same ∙ there.8.closes in
@@ -199,7 +199,7 @@ module _ (opens : ℕ → Inclusion) (es : List Entity) (all : OpensAt opens es)
     -- so no fault stands at the place but those of the limits
     pub stands_apart : (f : Fault) → Stands limit es k open_around (opens k) src s b f → IsOver W f
     stands_apart f (in_run _ inner below other ill) = absurd (run_apart f below other ill)
-    stands_apart f (in_section q t _ inner opens' due' lack) = absurd (section_apart q t f opens' due' lack)
+    stands_apart f (in_section _ inner opens' (q, t, due', lack)) = absurd (section_apart q t f opens' due' lack)
     stands_apart f (in_misc _ inner ill) = absurd (item_apart f ill)
     stands_apart f (in_tag _ begins ill) = let there = tag_there begins in read_tag_apart there.0 f there.1 there.2 there.3 ill
     stands_apart f (in_end _ inner ill) = absurd (end_apart f ill)

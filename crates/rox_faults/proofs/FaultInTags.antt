@@ -273,7 +273,7 @@ module _ (context : Values) (O : Inclusion) (agrees : AgreesValue context.entiti
     tag_apart f (in_rest p c as' _ to (no_rest below past)) = let x = tag_front p c as' to in let l = next_within p j c empty x.0 x.2 in absurd (omega arith)
     tag_apart f (faults.InTag.in_rest p c as' _ to (faults.InTagRest.no_space _ below no_slash no_close lack)) = let x = tag_front p c as' to in absurd (space_apart p c x.0 f (to_cut p c as' to) x.2 no_slash no_close lack)
     tag_apart f (in_rest p c as' _ to (not_closed _ slash lack)) = let x = tag_front p c as' to in absurd (slash_apart p j c empty x.0 f x.2 slash lack)
-    tag_apart f (in_rest p c as' _ to (in_pair q t _ spaces inside no_slash no_close due lack)) = let x = tag_front p c as' to in absurd (pair_in p q c x.0 t f x.2 no_slash no_close due lack)
+    tag_apart f (in_rest p c as' _ to (in_pair _ spaces inside no_slash no_close (q, t, due, lack))) = let x = tag_front p c as' to in absurd (pair_in p q c x.0 t f x.2 no_slash no_close due lack)
     tag_apart f (in_rest p c as' _ to (ill_declared d k a _ spaces is' declares' ill)) = let x = tag_front p c as' to in absurd (declared_in p k c d as' x.0 a f x.1 x.2 spaces is' declares' ill)
     tag_apart f (in_rest p c as' _ to (too_many_pairs d k a spaces is' declares' may once many)) =
         let over = more_pairs_counted s.stack s.done (namespace_decls_of as' ++ namespace_decl_of a ∷ []) many in

@@ -250,7 +250,7 @@ no_doctype_over limit src source given asked f tree utf8 (without _ stands) pars
 no_doctype_over limit src source given asked f tree utf8 (not_allowed q items _ ahead fits here) parse = absurd (doctype_apart src utf8 limit tree (parse_without src asked tree parse).1 q items ahead here)
 no_doctype_over limit src source given asked f tree utf8 (in_doctype _ _ _ _ _ may _ _ _ _) parse = cc may
 no_doctype_over limit src source given asked f tree utf8 (rows.RefusalOf.behind _ _ _ _ may _) parse = cc may
-no_doctype_over limit src source given asked f tree utf8 (in_declaration q t _ here due lack) parse = let p = (parse_without src asked tree parse).1 in absurd (declared_apart p.prolog.declared_to p.prolog.declaration)
+no_doctype_over limit src source given asked f tree utf8 (in_declaration _ here (q, t, due, lack)) parse = let p = (parse_without src asked tree parse).1 in absurd (declared_apart p.prolog.declared_to p.prolog.declaration)
   where
     declared_apart : (d : ℕ) → MayHaveXmlDecl src (after_bom src) d → ⊥
     declared_apart d (declared _ _ is) = declaration_apart src utf8 (after_bom src) d q t f is due lack

@@ -229,7 +229,7 @@ module _ (opens : ℕ → Inclusion) (es : List Entity) (limit : ℕ) (text : Li
     unfolding end_step
     end_step_fails s f inner le opened fine place is h =
         bind_err (end_tag_at src s.at) _ f h
-        (λ bad. let w = end_fails src utf8 s.at f is bad in stands_here s f place fine (in_end f inner (lacks w.0 w.1 f w.2 w.3)))
+        (λ bad. let w = end_fails src utf8 s.at f is bad in stands_here s f place fine (in_end f inner (lacks f w)))
         (λ x read h.
         let end = (markup.end_sound src s.at x.1 x.0 is read).0 in
         chosen (nat_le (depth_of s.stack) open_around) _ _ _ h
@@ -261,7 +261,7 @@ module _ (opens : ℕ → Inclusion) (es : List Entity) (limit : ℕ) (text : Li
     unfolding cdata_step
     cdata_step_fails s f inner fine place is h =
         bind_err (cdata_at src s.at) _ f h
-        (λ bad. let w = section_fails src utf8 s.at f is bad in stands_here s f place fine (in_section w.0 w.1 f inner is w.2 w.3))
+        (λ bad. let w = section_fails src utf8 s.at f is bad in stands_here s f place fine (in_section f inner is w))
         (λ x read h.
         let r = markup.cdata_sound src utf8 s.at x.1 x.0 is read in
         let item : List ℕ → Item = λ v. Text s.at x.1 (line_ends (literals v)) (not (list_any (λ b. b == 13) v)) in

@@ -74,7 +74,7 @@ begins_there src i p dtd nodes asked es is (no_doctype _) = cc is
 
 -- no refusal stands in a text that has a parse without one, but those of the limits
 plain_over : (limit : ℕ) (allow : Bool) (src source : List ℕ) (asked given : List Asked) (f : Fault) (tree : Forest Item) → IsUtf8 src → RefusalOf limit allow src asked source f → ParseOf src false given tree → IsOver (IsWithinLimits limit tree) f
-plain_over limit allow src source asked given f tree utf8 (in_declaration p t _ is due lack) parse = fault_over limit src f given tree utf8 (in_declaration p t f is due lack) parse
+plain_over limit allow src source asked given f tree utf8 (in_declaration _ is lacks) parse = fault_over limit src f given tree utf8 (in_declaration f is lacks) parse
 plain_over limit allow src source asked given f tree utf8 (without _ ill) parse = fault_over limit src f given tree utf8 (without f ill) parse
 plain_over limit allow src source asked given f tree utf8 (not_allowed i before _ ahead fits is) parse = absurd (no_doctype_there limit src given tree i before utf8 ahead is parse)
 plain_over limit allow src source asked given f tree utf8 (in_doctype i before _ _ _ may ahead fits is ill) parse = absurd (no_doctype_there limit src given tree i before utf8 ahead is parse)
@@ -277,7 +277,7 @@ module _ (limit : ℕ) (src : List ℕ) (utf8 : IsUtf8 src) (given : List Asked)
 pub refused_over : (limit : ℕ) (allow dtd : Bool) (src source : List ℕ) (asked given : List Asked) (f : Fault) (tree : Forest Item) → IsUtf8 src → RefusalOf limit allow src asked source f → ParseOf src dtd given tree
     → Permits allow dtd → SameAnswers asked given → IsOver (IsWithinLimits limit tree) f
 refused_over limit allow false src source asked given f tree utf8 ill parse permits same = plain_over limit allow src source asked given f tree utf8 ill parse
-refused_over limit allow true src source asked given f tree utf8 (in_declaration q t _ is due lack) parse permits same = absurd (declaration_never limit src utf8 given tree (parts src true given tree parse) q t f is due lack)
+refused_over limit allow true src source asked given f tree utf8 (in_declaration _ is (q, t, due, lack)) parse permits same = absurd (declaration_never limit src utf8 given tree (parts src true given tree parse) q t f is due lack)
 refused_over limit allow true src source asked given f tree utf8 (without _ ill) parse permits same = ahead_over limit src utf8 given tree (parts src true given tree parse) src f ill
 refused_over limit allow true src source asked given f tree utf8 (not_allowed i before none ahead fits is) parse permits same = absurd (true≢false (sym (permits refl) ∙ none))
 refused_over limit allow true src source asked given f tree utf8 (in_doctype i before _ _ _ may ahead fits is ill) parse permits same = inside_over limit src utf8 given tree (parts src true given tree parse) i before asked source f ahead is same ill

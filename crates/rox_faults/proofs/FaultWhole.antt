@@ -28,7 +28,7 @@ use Rattle.rox_grammar.specs.Document.{Behind, Misc, no_misc, space, an_item, Pr
 use Rattle.rox_grammar.specs.State.{root, nodes_so_far, FitsLimits}
 use Rattle.rox_reading.specs.Refusals.{Refusal, here, there, refused, lifted}
 use Rattle.rox_reading.specs.State.{State}
-use Rattle.rox_grammar.specs.Due.{DueItem, a_byte, a_qname, a_gap, a_text, chars_to, IsMissing, no_gap, DueInPair, its_name, equals, opening, its_value, closing, value_end, PairBegins, version, encoding, standalone, DueInXmlDecl, its_version, in_pair, behind_pair, behind_last}
+use Rattle.rox_grammar.specs.Due.{DueItem, a_byte, a_qname, a_gap, a_text, chars_to, IsMissing, Lacks, no_gap, DueInPair, its_name, equals, opening, its_value, closing, value_end, PairBegins, version, encoding, standalone, DueInXmlDecl, its_version, in_pair, behind_pair, behind_last}
 use Rattle.rox_faults.proofs.DueForms.{a_quote}
 use Rattle.rox_grammar.specs.Due as dues
 use Rattle.rox_grammar.specs.ContentPoints.{is_main, begins, of_root}
@@ -91,7 +91,7 @@ module _ (src : List ℕ) (utf8 : IsUtf8 src) where
   -- ---- the declaration
 
   -- a pair
-  pair_fails : (i : ℕ) (f : Fault) → pair_at src i ≡ Err f → (q : ℕ) × (t : DueItem) × DueInPair src i q t × IsMissing src q t f
+  pair_fails : (i : ℕ) (f : Fault) → pair_at src i ≡ Err f → Lacks src (DueInPair src i) f
   unfolding pair_at
   pair_fails i f h =
       bind_err (qname_at src i) _ f h (λ bad. (i, a_qname, its_name, qname_fails src i f bad))
@@ -134,7 +134,7 @@ module _ (src : List ℕ) (utf8 : IsUtf8 src) where
 
   -- what is due in the declaration
   abbrev pub Declares : ℕ → Fault → Type 0
-  Declares i f = (q : ℕ) × (t : DueItem) × DueInXmlDecl src i q t × IsMissing src q t f
+  Declares i f = Lacks src (DueInXmlDecl src i) f
 
   -- a pair and its gap
   pair_if_fails : (w : Word) (i p : ℕ) (f : Fault) → (at w src p ≡ true → PairBegins src i true p) → pair_if w src p ≡ Err f → Declares i f
@@ -440,7 +440,7 @@ module _ (src : List ℕ) (utf8 : IsUtf8 src) where
         f,
         same,
         chosen (at word.XmlDeclStart src b) _ _ _ bad
-            (λ is bad. bind_err (xml_decl_at src b) _ f bad (λ bad. let w = declaration_fails b f bad in in_declaration w.0 w.1 f is w.2 w.3) (λ x read bad. no_fault _ f bad))
+            (λ is bad. bind_err (xml_decl_at src b) _ f bad (λ bad. let w = declaration_fails b f bad in in_declaration f is w) (λ x read bad. no_fault _ f bad))
             (λ none bad. no_fault _ f bad),
       )))
       (λ i declared h.

@@ -114,22 +114,22 @@ module _ (opens : ℕ → Inclusion) (es : List Entity) (text : List ℕ) where
 
 -- in a document type declaration it is the text, or an answer as a whole
 in_doctype : (limit : ℕ) (text : List ℕ) (i : ℕ) (before : Forest Item) (asked : List Asked) (source : List ℕ) (f : Fault) → InDoctype limit text i before asked source f → (source ≡ text) ⊎ IsAnswerIn asked source
-in_doctype limit text i before asked source f (refused.InDoctype.head_lacks p t _ due lacks) = inl refl
+in_doctype limit text i before asked source f (refused.InDoctype.head_lacks _ lacks) = inl refl
 in_doctype limit text i before asked source f (refused.InDoctype.no_name n is cut) = inl refl
 in_doctype limit text i before asked source f (refused.InDoctype.in_subset p items _ _ _ _ to fits (refused.InSubset.in_miscs _ (faults.InMiscs.in_one _ ill))) = inl refl
 in_doctype limit text i before asked source f (refused.InDoctype.in_subset p items _ _ _ _ to fits (refused.InSubset.in_miscs _ (faults.InMiscs.one_too_many j item is over))) = inl refl
 in_doctype limit text i before asked source f (refused.InDoctype.in_subset p items _ _ _ _ to fits (refused.InSubset.not_passed is none)) = inl refl
-in_doctype limit text i before asked source f (refused.InDoctype.in_subset p items _ _ _ _ to fits (refused.InSubset.in_entity q t _ is due lacks)) = inl refl
+in_doctype limit text i before asked source f (refused.InDoctype.in_subset p items _ _ _ _ to fits (refused.InSubset.in_entity _ is lacks)) = inl refl
 in_doctype limit text i before asked source f (refused.InDoctype.in_subset p items before' _ _ _ to fits (refused.InSubset.entity_open n m d e parameter first o _ begins definition lacks)) = inl refl
 in_doctype limit text i before asked source f (refused.InDoctype.in_subset p items before' _ _ _ to fits (refused.InSubset.entity_cut n m d e j parameter request answer o begins id cuts gives)) = inl refl
-in_doctype limit text i before asked source f (refused.InDoctype.in_subset p items first _ _ _ to fits (refused.InSubset.in_answer n m d e j q parameter request answer t _ begins id behind utf8 opens due lacks)) =
+in_doctype limit text i before asked source f (refused.InDoctype.in_subset p items first _ _ _ to fits (refused.InSubset.in_answer n m d e j parameter request answer _ begins id behind utf8 opens (q, t, due, lacks))) =
     inr (record { request = request; answer = source; given = Contains-append_right first _ _ (0, omega arith, refl); part = inl refl })
 in_doctype limit text i before asked source f (refused.InDoctype.in_subset p items _ _ _ _ to fits (refused.InSubset.end_lacks _ is lacks)) = inl refl
 in_doctype limit text i before asked source f (refused.InDoctype.in_subset p items _ _ _ _ to fits (refused.InSubset.unknown no_space no_entity no_comment no_instruction no_declaration no_bracket inside)) = inl refl
 in_doctype limit text i before asked source f (refused.InDoctype.no_root items _ to fits none) = inl refl
 
 pub source_lies : (limit : ℕ) (allow : Bool) (text : List ℕ) (asked : List Asked) (source : List ℕ) (f : Fault) → RefusalOf limit allow text asked source f → (source ≡ text) ⊎ (IsLiteralIn text source ⊎ IsAnswerIn asked source)
-source_lies limit allow text asked source f (refused.RefusalOf.in_declaration p t _ opens due lacks) = inl refl
+source_lies limit allow text asked source f (refused.RefusalOf.in_declaration _ opens lacks) = inl refl
 source_lies limit allow text asked source f (refused.RefusalOf.without _ from) = inl refl
 source_lies limit allow text asked source f (refused.RefusalOf.not_allowed i before forbids ahead fits opens) = inl refl
 source_lies limit allow text asked source f (refused.RefusalOf.in_doctype i before _ _ _ may ahead fits opens inside) =

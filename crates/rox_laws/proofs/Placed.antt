@@ -169,11 +169,11 @@ module _ (src : List ℕ) (utf8 : IsUtf8 src) where
   -- ---- the rows of content
 
   misc_placed : (i : ℕ) (f : Fault) → InMisc src i f → IsPlaced src f
-  misc_placed i f (rows.InMisc.comment_lacks p t _ opens is lacks) =
+  misc_placed i f (rows.InMisc.comment_lacks _ opens (p, t, is, lacks)) =
       lacks_placed src p t f (text_fits expected.CommentEnd (i + 4) p t (stands_fits (word_text word.CommentStart) src i (omega arith) opens) is) lacks
   misc_placed i f (rows.InMisc.double_dashes e opens ends chars closes dashes) = let two = (comment_bytes src i opens).0 in omega arith
   misc_placed i f (rows.InMisc.a_declaration opens) = let two = (instruction_bytes src i (declaration_bytes src i opens)).0 in omega arith
-  misc_placed i f (rows.InMisc.instruction_lacks p t _ opens none is lacks) = lacks_placed src p t f (instruction_fits i p t opens is) lacks
+  misc_placed i f (rows.InMisc.instruction_lacks _ opens none (p, t, is, lacks)) = lacks_placed src p t f (instruction_fits i p t opens is) lacks
 
   references_placed : (es : List Entity) (p : ℕ) (f : Fault) → InReferences es src p f → IsPlaced src f
   references_placed es p f (rows.InReferences.malformed amp no_character no_reference) = let there = within src p (λ z. omega arith) in omega arith
@@ -241,7 +241,7 @@ module _ (src : List ℕ) (utf8 : IsUtf8 src) where
   tag_placed main O s b f le (rows.InTag.in_rest p c as' _ to (rows.InTagRest.no_rest before end)) = tt
   tag_placed main O s b f le (rows.InTag.in_rest p c as' _ to (rows.InTagRest.no_space _ before no_slash no_end lacks)) = lacks_placed src p (one_of kinds.Space) f tt lacks
   tag_placed main O s b f le (rows.InTag.in_rest p c as' _ to (rows.InTagRest.not_closed _ slash lacks)) = lacks_placed src (spaces_end src p + 1) (a_byte 62) f tt lacks
-  tag_placed main O s b f le (rows.InTag.in_rest p c as' _ to (rows.InTagRest.in_pair q t _ space before no_slash no_end is lacks)) = lacks_placed src q t f (pair_fits (spaces_end src p) q t (omega arith) is) lacks
+  tag_placed main O s b f le (rows.InTag.in_rest p c as' _ to (rows.InTagRest.in_pair _ space before no_slash no_end (q, t, is, lacks))) = lacks_placed src q t f (pair_fits (spaces_end src p) q t (omega arith) is) lacks
   tag_placed main O s b f le (rows.InTag.in_rest p c as' _ to (rows.InTagRest.ill_declared d j a _ space is declares ill)) =
       let there = qname_within src (spaces_end src p) a.name a.name_end is.is_name in
       declared_placed _ a f (omega (arith, is.starts)) ill
@@ -251,7 +251,7 @@ module _ (src : List ℕ) (utf8 : IsUtf8 src) where
       named_placed s.at _ to.name (plain_attributes_of as') f (omega arith) (attributes_start as' (written_start main O to.name_end p b c as' to.attributes)) ill
 
   end_placed : (open_around : ℕ) (s : State) (f : Fault) → InEnd open_around src s f → IsPlaced src f
-  end_placed open_around s f (rows.InEnd.lacks p t _ is lacks) = lacks_placed src p t f (end_fits s.at p t is) lacks
+  end_placed open_around s f (rows.InEnd.lacks _ (p, t, is, lacks)) = lacks_placed src p t f (end_fits s.at p t is) lacks
   end_placed open_around s f (rows.InEnd.other_name n j start name tag before up expected actual stack deep is other holds holds') = let two = (end_bytes src s.at is.opens).0 in omega arith
   end_placed open_around s f (rows.InEnd.none_open n j name same is) = let two = (end_bytes src s.at is.opens).0 in omega arith
 
@@ -261,7 +261,7 @@ module _ (src : List ℕ) (utf8 : IsUtf8 src) where
 
   pub stands_placed : (limit : ℕ) (es : List Entity) (k open_around : ℕ) (O : Inclusion) (s : State) (b : ℕ) (f : Fault) → Stands limit es k open_around O src s b f → IsPlaced src f
   stands_placed limit es k open_around O s b f (rows.Stands.in_run _ inner before no_less ill) = run_placed es k O s.at b f before ill
-  stands_placed limit es k open_around O s b f (rows.Stands.in_section p t _ inner opens is lacks) =
+  stands_placed limit es k open_around O s b f (rows.Stands.in_section _ inner opens (p, t, is, lacks)) =
       lacks_placed src p t f (text_fits expected.CDataEnd (s.at + 9) p t (stands_fits (word_text word.CDataStart) src s.at (omega arith) opens) is) lacks
   stands_placed limit es k open_around O s b f (rows.Stands.in_misc _ inner ill) = misc_placed s.at f ill
   stands_placed limit es k open_around O s b f (rows.Stands.in_tag _ begins ill) = tag_placed _ O s b f (begins_less s.at _ begins) ill
