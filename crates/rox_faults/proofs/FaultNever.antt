@@ -126,7 +126,7 @@ module _ (opens : ℕ → Inclusion) (es : List Entity) (all : OpensAt opens es)
 
     at_root : (kind : Bool) (i : ℕ) (items : Forest Item) → Front i items × RootBegins kind text i → Reached opens es all limit W 0 0 text (state i items root 255)
     at_root kind i items (front, begins) =
-        let stops : Stops text i = record { no_space = no_spaces text i begins.opens; no_comment = begins.no_comment; no_instruction = begins.no_instruction } in
+        let stops : Stops text i = record { no_space = no_spaces text i begins.0; no_comment = begins.1; no_instruction = begins.2 } in
         let same = start_there i items front stops in
         subst (λ (i : ℕ). Reached opens es all limit W 0 0 text (state i items root 255)) same.0
         (subst (λ (f : Forest Item). Reached opens es all limit W 0 0 text (state p.start f root 255)) same.1 root_reached)
@@ -169,8 +169,8 @@ module _ (opens : ℕ → Inclusion) (es : List Entity) (all : OpensAt opens es)
     never kind source f (no_root items front fits) = let r = p.ahead (length text) items front in let l = before_end text utf8 (length text) p.start r.0 r.1 root_at.0 in absurd (omega arith)
     never kind source f (unknown_ahead q items front fits below no_space no_less) = let r = p.ahead q items front in absurd (other_at text utf8 q p.start r.0 r.1 root_at.0 no_space no_less)
     never kind source f (at_point k open_around b _ s _ _ place fits (at_place _ stands)) = stands_apart opens es all limit W k open_around b source s (place_there kind k open_around b source s place) f stands
-    never kind source f (at_point k open_around b src s _ _ place fits (in_value q j c l i stop d as' _ _ begins to space pair part ill)) =
-        absurd (value_apart opens es all limit W k open_around b q c pair.n pair.v pair.e j l i stop d src source s as' pair.name f (place_there kind k open_around b src s place) begins to pair.is_name pair.eq pair.literal part ill)
+    never kind source f (at_point k open_around b src s _ _ place fits (in_value q j c l i stop d name as' _ _ begins to space pair part ill)) =
+        absurd (value_apart opens es all limit W k open_around b q c pair.n pair.v pair.e j l i stop d src source s name as' pair.name f (place_there kind k open_around b src s place) begins to pair.is_name pair.eq pair.literal part ill)
     never kind source f (misc_around q items _ (inr behind) fits (in_one _ ill)) = let r = behind_rest q items behind in absurd (misc_at text utf8 q (length text) r.rest f r.misc (end_stops text) ill)
     never kind source f (misc_around q items _ (inr behind) fits (one_too_many k item is over)) =
         let r = behind_rest q items behind in

@@ -215,13 +215,13 @@ module _ (opens : ℕ → Inclusion) (es : List Entity) (limit : ℕ) (text : Li
 
         by_kind : TagFails opens es values texts d k deep src utf8 (place_of s) s.openings_left few_pairs e → Refuses es P src e
         by_kind (itself f is ill) = refuses_here es P src f e is (stands_here s f place fine (in_tag f begins ill))
-        by_kind (ill_value p c n v stop j as' name to spaces is_name eq literal ill) = refuses_by es src e (λ part f. in_one p c n v stop j as' name to spaces is_name eq literal part f) ill
+        by_kind (ill_value p c n v stop j tag_name as' name to spaces is_name eq literal ill) = refuses_by es src e (λ part f. in_one p c n v stop j tag_name as' name to spaces is_name eq literal part f) ill
           where
-            in_one : (p c n v stop j : ℕ) (as' : List Attribute) (name : Name) → TagTo (is_main k) (opens k) src (place_of s) p s.openings_left c as' → p < spaces_end src p → IsQName src (spaces_end src p) name n → IsEq src n v
+            in_one : (p c n v stop j : ℕ) (tag_name : Name) (as' : List Attribute) (name : Name) → TagTo (is_main k) (opens k) src (place_of s) p s.openings_left c tag_name as' → p < spaces_end src p → IsQName src (spaces_end src p) name n → IsEq src n v
                 → IsLiteral src v stop j → (part : List ℕ) (f : Fault) → InPart opens es k src (v + 1) stop c part f → P part f
-            in_one p c n v stop j as' name to spaces is_name eq literal part f (in_part l i stop' openings_left part_is ill) =
+            in_one p c n v stop j tag_name as' name to spaces is_name eq literal part f (in_part l i stop' openings_left part_is ill) =
                 at_point k open_around s.openings_left src (place_of s) part f place (fits_at s fine)
-                (in_value p j c l i stop' openings_left as' part f begins to spaces (record { name = name; n = n; is_name = is_name; v = v; eq = eq; e = stop; literal = literal }) part_is ill)
+                (in_value p j c l i stop' openings_left tag_name as' part f begins to spaces (record { name = name; n = n; is_name = is_name; v = v; eq = eq; e = stop; literal = literal }) part_is ill)
 
     -- an end tag
     end_step_fails : (s : State) (f : Fault) → is_content k s.stack ≡ true → open_around ≤ depth_of s.stack → AreOpened src open_around s.stack → IsValidState most s → Here k open_around src s → at word.EndTagStart src s.at ≡ true

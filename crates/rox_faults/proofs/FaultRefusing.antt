@@ -61,7 +61,7 @@ front_of opens es limit text behind_dtd Front source f (no_root items front fits
 front_of opens es limit text behind_dtd Front source f (unknown_ahead p items front fits below no_space no_less) = (p, items, front)
 front_of opens es limit text behind_dtd Front source f (at_point k open_around b _ s _ _ place fits (at_place _ stands)) =
     let r = place_front opens es text (λ p items. Front p items × RootBegins behind_dtd text p) k open_around b source s place in (r.0, r.1, r.2.0)
-front_of opens es limit text behind_dtd Front source f (at_point k open_around b src s _ _ place fits (in_value p j c l i stop d _ part _ opens' to space pair is ill)) =
+front_of opens es limit text behind_dtd Front source f (at_point k open_around b src s _ _ place fits (in_value p j c l i stop d _ _ part _ opens' to space pair is ill)) =
     let r = place_front opens es text (λ p items. Front p items × RootBegins behind_dtd text p) k open_around b src s place in (r.0, r.1, r.2.0)
 front_of opens es limit text behind_dtd Front source f (misc_around p items _ (inr back) fits (in_one _ ill)) = (back.start, back.before, back.ahead)
 front_of opens es limit text behind_dtd Front source f (misc_around p items _ (inr back) fits (one_too_many j item is over)) = (back.start, back.before, back.ahead)
@@ -107,7 +107,7 @@ module _ (limit : ℕ) (src : List ℕ) (utf8 : IsUtf8 src) (given : List Asked)
 
   no_root_begins : (q : ℕ) (items : Forest Item) → PrologTo src q items → RootBegins false src q → ⊥
   no_root_begins q items ahead root_begins =
-      no_root_here q items ahead (record { no_space = no_spaces src q root_begins.opens; no_comment = root_begins.no_comment; no_instruction = root_begins.no_instruction }) (root_begins.no_doctype refl)
+      no_root_here q items ahead (record { no_space = no_spaces src q root_begins.0; no_comment = root_begins.1; no_instruction = root_begins.2 }) (root_begins.3 refl)
 
   no_root_behind : (q : ℕ) (items : Forest Item) → Behind no_entities src (PrologTo src) q items → ⊥
   no_root_behind q items back =
@@ -138,7 +138,7 @@ module _ (limit : ℕ) (src : List ℕ) (utf8 : IsUtf8 src) (given : List Asked)
       let r = ahead_rest q items ahead in absurd (other_at src utf8 q p.begun r.0 r.1 (doctype_bytes src p.begun begins_here).1 no_space no_less)
   ahead_over source f (at_point k open_around b _ s _ _ place fits (at_place _ stands)) =
       let r = place_front (λ k. no_entities) [] src (λ p items. PrologTo src p items × RootBegins false src p) k open_around b source s place in absurd (no_root_begins r.0 r.1 r.2.0 r.2.1)
-  ahead_over source f (at_point k open_around b other s _ _ place fits (in_value p j c l i stop d _ part _ opens' to space pair is ill)) =
+  ahead_over source f (at_point k open_around b other s _ _ place fits (in_value p j c l i stop d _ _ part _ opens' to space pair is ill)) =
       let r = place_front (λ k. no_entities) [] src (λ p items. PrologTo src p items × RootBegins false src p) k open_around b other s place in absurd (no_root_begins r.0 r.1 r.2.0 r.2.1)
   ahead_over source f (misc_around q items _ (inr back) fits (in_one _ ill)) = absurd (no_root_behind q items back)
   ahead_over source f (misc_around q items _ (inr back) fits (one_too_many j item is over)) = absurd (no_root_behind q items back)
@@ -172,8 +172,7 @@ module _ (limit : ℕ) (src : List ℕ) (utf8 : IsUtf8 src) (given : List Asked)
 
 -- what is spent may be opened
 may_by : (k b r l c : ℕ) → k < most_deep → Spends (is_main k) b r l c → MayOpen k b r
-may_by zero b r l c more (fresh, same) = fresh
-may_by (suc k) b r l c more (before, same) = (before, more)
+may_by k b r l c more spends = (more, l, c, spends)
 
 -- what references open, by the entities that are declared
 opened_at : (es : List Entity) (n k b c : ℕ) (name : List ℕ) (items : Forest Item) → n ≡ most_deep - k → (Includes es n (is_main k)).content name b items c

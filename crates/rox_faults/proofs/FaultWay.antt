@@ -54,13 +54,12 @@ pub record OpensAt (opens : ℕ → Inclusion) (es : List Entity) : Type 0 where
 
 -- one more text may be open
 pub may_deep : (k b r : ℕ) → MayOpen k b r → suc k ≤ most_deep
-may_deep zero b r may = omega arith
-may_deep (suc k) b r (before, more) = omega arith
+may_deep k b r may = may.0
 
 -- and then so many are left in it
 pub may_once : (k b r q : ℕ) → MayOpen k b r → MayOpen k b q → r ≡ q
-may_once zero b r q may may' = may ∙ sym may'
-may_once (suc k) b r q (before, more) (before', more') = omega (arith, before, before')
+may_once zero b r q may may' = may.3.0 ∙ sym may'.3.0
+may_once (suc k) b r q may may' = omega (arith, may.3.0, may'.3.0)
 
 -- a replacement text is what its name says
 pub same_text : (es : List Entity) (name : List ℕ) (t u : Replacement) → text_of es name ≡ Some t → text_of es name ≡ Some u → t ≡ u
@@ -269,12 +268,12 @@ module _ (opens : ℕ → Inclusion) (es : List Entity) (all : OpensAt opens es)
 
     -- where it is read up to a reference, that opens a text there
     pub opened_there : (stop p c j : ℕ) (front : Forest Item) (t : Replacement) → IsCharacterData src s.at stop → PartsTo (is_main k) (opens k) src s.at stop s.at p b c front → p < stop → (refers : RefersTo es src p j t)
-        → (run : RunThere stop) × OpenedThere (is_main k) (opens k) (all.once k) src s.at stop p refers.n j c run.openings_left front run.items
+        → (run : RunThere stop) × OpenedThere (is_main k) (opens k) (all.once k) src s.at stop p refers.0 j c run.openings_left front run.items
     opened_there stop p c j front t is to below refers =
         let inside = run_within src s.at stop is in
         let there = run_there inside.0 inside.1 in
         let run : RunThere stop = subst RunThere (there.1.end ∙ sym is.end) there.2 in
-        (run, parts_front (is_main k) (opens k) (all.once k) src s.at stop p s.at refers.n j b c run.openings_left front run.items to run.parts below refers.is_reference refers.no_character)
+        (run, parts_front (is_main k) (opens k) (all.once k) src s.at stop p s.at refers.0 j b c run.openings_left front run.items to run.parts below refers.1 refers.2)
 
     -- so the way leads into that text
     enters_reached : (stop p c j q : ℕ) (front : Forest Item) (t : Replacement) → IsCharacterData src s.at stop → PartsTo (is_main k) (opens k) src s.at stop s.at p b c front → p < stop → RefersTo es src p j t → MayOpen k c q
@@ -282,9 +281,9 @@ module _ (opens : ℕ → Inclusion) (es : List Entity) (all : OpensAt opens es)
     enters_reached stop p c j q front t is to below refers may =
         let there = opened_there stop p c j front t is to below refers in
         let run = there.0 in let found = there.1 in
-        let x = all.content k c found.openings_left (slice src (p + 1) refers.n) found.opened found.opens in
-        let text = all.texts (slice src (p + 1) refers.n) t refers.found in
-        let text_is : x.0 ≡ t = same_text es (slice src (p + 1) refers.n) x.0 t x.3 refers.found in
+        let x = all.content k c found.openings_left (slice src (p + 1) refers.0) found.opened found.opens in
+        let text = all.texts (slice src (p + 1) refers.0) t refers.3 in
+        let text_is : x.0 ≡ t = same_text es (slice src (p + 1) refers.0) x.0 t x.3 refers.3 in
         let openings_left_is : x.1 ≡ q = may_once k c x.1 q x.4 may in
         let content : Content false (opens (suc k)) t.source t.start (length t.source) q x.2 found.opened =
         subst (λ (q : ℕ). Content false (opens (suc k)) t.source t.start (length t.source) q x.2 found.opened) openings_left_is

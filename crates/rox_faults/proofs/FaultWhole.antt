@@ -322,7 +322,7 @@ module _ (src : List ℕ) (utf8 : IsUtf8 src) where
         chosen (byte src i == 60) _ _ _ h
         (λ is h.
         let opens' : byte src i ≡ 60 = eqb-true _ _ is in
-        let place : Here opens es limit src declared Front most less least values contents texts 0 0 src s = begins i before (ahead, record { opens = opens'; no_comment = no_comment; no_instruction = no_instruction; no_doctype = no_doctype }) in
+        let place : Here opens es limit src declared Front most less least values contents texts 0 0 src s = begins i before (ahead, (opens', no_comment, no_instruction, no_doctype)) in
         bind_err (tag_step (main_text limit es) src s) _ e h
         (λ bad. tag_fails opens es limit src declared Front most less least values contents texts most_deep 0 0 refl src utf8 s e (of_root opens') opens' fine place bad)
         (λ t read h.

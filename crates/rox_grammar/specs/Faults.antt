@@ -128,7 +128,7 @@ module _ (main : Bool) (Includes : Inclusion) (src : List ℕ) (s : State) (b : 
   pub data InTag : Fault → Type 0 where
     no_name : (f : Fault) → IsMissing src (s.at + 1) a_qname f → InTag f
     xmlns_prefix : (name : Name) (n : ℕ) → IsQName src (s.at + 1) name n → name.prefix ≡ codes "xmlns" → InTag (fault.InvalidElementNamePrefix (s.at + 1))
-    in_rest : (p c : ℕ) (as' : List Attribute) (f : Fault) (to : TagTo main Includes src s p b c as') → InTagRest main Includes src s to.name as' p c f → InTag f
+    in_rest : (p c : ℕ) (n : Name) (as' : List Attribute) (f : Fault) → TagTo main Includes src s p b c n as' → InTagRest main Includes src s n as' p c f → InTag f
 
 -- ---- in the end tag that begins at a place (XML 3.1 [42]), where `open_around` elements are open around the replacement text
 pub data InEnd (open_around : ℕ) (src : List ℕ) (s : State) : Fault → Type 0 where
@@ -153,19 +153,19 @@ module _ (limit : ℕ) (es : List Entity) (k open_around : ℕ) (Includes : Incl
     unclosed : (start : ℕ) (tag : Tag) (before : Forest Item) (up : Open) → s.stack ≡ inside start tag before up → length src ≤ s.at → is_main k ≡ true → Stands fault.UnclosedRootNode
     unclosed_in_replacement : open_around < depth_of s.stack → length src ≤ s.at → is_main k ≡ false → Stands fault.UnexpectedEndOfStream
     -- behind the construct that begins here
-    too_many_nodes : (c : ℕ) (t : State) → StepsOver k Includes src s b t c → HasTooManyNodes limit t.stack t.done → Stands fault.NodesLimitReached
+    too_many_nodes : (c : ℕ) (t : State) → StepsOver k Includes src s b t c → HasTooManyNodes limit (tree_so_far t.stack t.done) → Stands fault.NodesLimitReached
     -- behind the parts of a run up to a reference to an entity: a text is counted before the reference behind it is opened
     too_many_pieces : (stop p j c : ℕ) (front : Forest Item) (t : Replacement) → is_content k s.stack ≡ true → IsCharacterData src s.at stop → Parts (is_main k) Includes src false s.at stop p s.at b c front
-        → AreWellNamed (scope_of s.stack) front → p < stop → RefersTo es src p j t → HasTooManyNodes limit s.stack (join s.done front) → Stands fault.NodesLimitReached
+        → AreWellNamed (scope_of s.stack) front → p < stop → RefersTo es src p j t → HasTooManyNodes limit (tree_so_far s.stack (join s.done front)) → Stands fault.NodesLimitReached
 
 -- ---- at a point of content, where k replacement texts are open, around which `open_around` elements are open: in this source
 pub data AtPoint (opens : ℕ → Inclusion) (es : List Entity) (limit k open_around : ℕ) (src : List ℕ) (s : State) (b : ℕ) : List ℕ → Fault → Type 0 where
   at_place : (f : Fault) → Stands limit es k open_around (opens k) src s b f → AtPoint opens es limit k open_around src s b src f
   -- in the value of an attribute or a declaration, which stands behind p in the start tag here, or in a replacement text that is
   -- opened in it
-  in_value : (p j c l i stop d : ℕ) (as' : List Attribute) (part : List ℕ) (f : Fault) → TagBegins src s.at (is_content k s.stack) → TagTo (is_main k) (opens k) src s p b c as'
-      → p < spaces_end src p → (pair : IsPair src (spaces_end src p) j) → ValuePart opens es k src (pair.v + 1) pair.e c l part i stop d → InValue es l (opens l) part i stop d f
-      → AtPoint opens es limit k open_around src s b part f
+  in_value : (p j c l i stop d : ℕ) (name : Name) (as' : List Attribute) (part : List ℕ) (f : Fault) → TagBegins src s.at (is_content k s.stack)
+      → TagTo (is_main k) (opens k) src s p b c name as' → p < spaces_end src p → (pair : IsPair src (spaces_end src p) j)
+      → ValuePart opens es k src (pair.v + 1) pair.e c l part i stop d → InValue es l (opens l) part i stop d f → AtPoint opens es limit k open_around src s b part f
 
 -- Of this text, with at most `limit` nodes, the fault stands in this source, in the part that begins where `Front` says what
 -- stands before: before the root element, in it, or behind it. All before it is as the grammar wants and within the limits.

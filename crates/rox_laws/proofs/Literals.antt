@@ -36,7 +36,7 @@ from_placed opens es limit text declared Front source f utf8 (faults.FaultFrom.m
 from_placed opens es limit text declared Front source f utf8 (faults.FaultFrom.no_root items front fits) = inl refl
 from_placed opens es limit text declared Front source f utf8 (faults.FaultFrom.unknown_ahead p items front fits inside no_space no_less) = inl refl
 from_placed opens es limit text declared Front source f utf8 (faults.FaultFrom.at_point k open_around b _ s _ _ place fits (faults.AtPoint.at_place _ ill)) = inr (stands_placed source utf8 limit es k open_around (opens k) s b f ill)
-from_placed opens es limit text declared Front source f utf8 (faults.FaultFrom.at_point k open_around b src s _ _ place fits (faults.AtPoint.in_value p j c l i stop d _ _ _ opens' to space pair part ill)) =
+from_placed opens es limit text declared Front source f utf8 (faults.FaultFrom.at_point k open_around b src s _ _ place fits (faults.AtPoint.in_value p j c l i stop d _ _ _ _ opens' to space pair part ill)) =
     inr (value_placed source utf8 es l (opens l) i stop d f ill)
 from_placed opens es limit text declared Front source f utf8 (faults.FaultFrom.misc_around p items _ (inr behind) fits (faults.InMiscs.in_one _ ill)) = inl refl
 from_placed opens es limit text declared Front source f utf8 (faults.FaultFrom.misc_around p items _ (inr behind) fits (faults.InMiscs.one_too_many j item is over)) = inl refl

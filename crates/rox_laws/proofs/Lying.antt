@@ -85,7 +85,7 @@ module _ (opens : ℕ → Inclusion) (es : List Entity) (text : List ℕ) where
   place_of : (Root : ℕ → Forest Item → Type 0) (k open_around b : ℕ) (src : List ℕ) (s : State) → ContentPoint opens es text Root k open_around src b s → IsOf text es src
   place_of Root k open_around b src s (places.ContentPoint.begins p items is) = inl refl
   place_of Root k open_around b src s (places.ContentPoint.goes _ _ l c _ t u before takes inner deep) = place_of Root k open_around l src t before
-  place_of Root k open_around b src s (places.ContentPoint.enters i at l c r stop p j from u front t before inner run parts named below refers may) = inr (_, t, refers.found, refl)
+  place_of Root k open_around b src s (places.ContentPoint.enters i at l c r stop p j from u front t before inner run parts named below refers may) = inr (_, t, refers.3, refl)
 
   place_root : (Root : ℕ → Forest Item → Type 0) (k open_around b : ℕ) (src : List ℕ) (s : State) → ContentPoint opens es text Root k open_around src b s → (p : ℕ) × (items : Forest Item) × Root p items
   place_root Root k open_around b src s (places.ContentPoint.begins p items is) = (p, items, is)
@@ -94,7 +94,7 @@ module _ (opens : ℕ → Inclusion) (es : List Entity) (text : List ℕ) where
 
   part_of : (k : ℕ) (src : List ℕ) (start end b l : ℕ) (part : List ℕ) (i stop d : ℕ) → IsOf text es src → ValuePart opens es k src start end b l part i stop d → IsOf text es part
   part_of k src start end b l part i stop d of places.ValuePart.itself = of
-  part_of k src start end b l part i stop d of (places.ValuePart.opened n x y z c r p j from front t before to below refers may) = inr (_, t, refers.found, refl)
+  part_of k src start end b l part i stop d of (places.ValuePart.opened n x y z c r p j from front t before to below refers may) = inr (_, t, refers.3, refl)
 
   from_of : (limit : ℕ) (declared : Bool) (Front : ℕ → Forest Item → Type 0) (source : List ℕ) (f : Fault) → FaultFrom opens es limit text declared Front source f
       → (source ≡ text) ⊎ (((p : ℕ) × (items : Forest Item) × Front p items) × IsOf text es source)
@@ -105,7 +105,7 @@ module _ (opens : ℕ → Inclusion) (es : List Entity) (text : List ℕ) where
   from_of limit declared Front source f (faults.FaultFrom.at_point k open_around b _ s _ _ place fits (faults.AtPoint.at_place _ ill)) =
       let root = place_root _ k open_around b source s place in
       inr ((root.0, root.1, root.2.0), place_of _ k open_around b source s place)
-  from_of limit declared Front source f (faults.FaultFrom.at_point k open_around b src s _ _ place fits (faults.AtPoint.in_value p j c l i stop d _ _ _ opens' to space pair part ill)) =
+  from_of limit declared Front source f (faults.FaultFrom.at_point k open_around b src s _ _ place fits (faults.AtPoint.in_value p j c l i stop d _ _ _ _ opens' to space pair part ill)) =
       let root = place_root _ k open_around b src s place in
       inr ((root.0, root.1, root.2.0), part_of k src (pair.v + 1) pair.e c l source i stop d (place_of _ k open_around b src s place) part)
   from_of limit declared Front source f (faults.FaultFrom.misc_around p items _ (inr behind) fits (faults.InMiscs.in_one _ ill)) = inl refl

@@ -186,11 +186,11 @@ module _ (src : List ℕ) (utf8 : IsUtf8 src) where
   run_placed es k O i b f there (rows.InRun.no_char _ lacks) = lacks_placed src i _ f tt lacks
   run_placed es k O i b f there (rows.InRun.end_mark e ends chars has) = let le = from_bound (λ c. c == 60) src i (omega arith) in rw ends le
   run_placed es k O i b f there (rows.InRun.in_reference e p _ ends chars none from before ill) = references_placed es p f ill
-  run_placed es k O i b f there (rows.InRun.too_many stop p j c front t run parts before refers spent) = reference_inside src p refers.n j refers.is_reference
+  run_placed es k O i b f there (rows.InRun.too_many stop p j c front t run parts before refers spent) = reference_inside src p refers.0 j refers.1
 
   pub value_placed : (es : List Entity) (k : ℕ) (O : Inclusion) (i stop b : ℕ) (f : Fault) → InValue es k O src i stop b f → IsPlaced src f
   value_placed es k O i stop b f (rows.InValue.in_reference p _ from before ill) = references_placed es p f ill
-  value_placed es k O i stop b f (rows.InValue.too_many p j c front t to before refers spent) = reference_inside src p refers.n j refers.is_reference
+  value_placed es k O i stop b f (rows.InValue.too_many p j c front t to before refers spent) = reference_inside src p refers.0 j refers.1
   value_placed es k O i stop b f (rows.InValue.less p inner from before (inl is)) = let there = within src p (λ z. omega arith) in omega arith
   value_placed es k O i stop b f (rows.InValue.less p inner from before (inr (j, is))) = let there = character_within src p 60 j is in omega arith
   value_placed es k O i stop b f (rows.InValue.no_char q c inner from before is bad) = let there = char_within c src q is in omega arith
@@ -236,19 +236,19 @@ module _ (src : List ℕ) (utf8 : IsUtf8 src) where
   tag_placed : (main : Bool) (O : Inclusion) (s : State) (b : ℕ) (f : Fault) → s.at < length src → InTag main O src s b f → IsPlaced src f
   tag_placed main O s b f le (rows.InTag.no_name _ lacks) = lacks_placed src (s.at + 1) a_qname f (omega arith) lacks
   tag_placed main O s b f le (rows.InTag.xmlns_prefix name n is xmlns) = omega arith
-  tag_placed main O s b f le (rows.InTag.in_rest p c as' _ to (rows.InTagRest.cut past in_main)) = cut_placed s.stack
-  tag_placed main O s b f le (rows.InTag.in_rest p c as' _ to (rows.InTagRest.cut_in_replacement past inner)) = tt
-  tag_placed main O s b f le (rows.InTag.in_rest p c as' _ to (rows.InTagRest.no_rest before end)) = tt
-  tag_placed main O s b f le (rows.InTag.in_rest p c as' _ to (rows.InTagRest.no_space _ before no_slash no_end lacks)) = lacks_placed src p (one_of kinds.Space) f tt lacks
-  tag_placed main O s b f le (rows.InTag.in_rest p c as' _ to (rows.InTagRest.not_closed _ slash lacks)) = lacks_placed src (spaces_end src p + 1) (a_byte 62) f tt lacks
-  tag_placed main O s b f le (rows.InTag.in_rest p c as' _ to (rows.InTagRest.in_pair _ space before no_slash no_end (q, t, is, lacks))) = lacks_placed src q t f (pair_fits (spaces_end src p) q t (omega arith) is) lacks
-  tag_placed main O s b f le (rows.InTag.in_rest p c as' _ to (rows.InTagRest.ill_declared d j a _ space is declares ill)) =
+  tag_placed main O s b f le (rows.InTag.in_rest p c name as' _ to (rows.InTagRest.cut past in_main)) = cut_placed s.stack
+  tag_placed main O s b f le (rows.InTag.in_rest p c name as' _ to (rows.InTagRest.cut_in_replacement past inner)) = tt
+  tag_placed main O s b f le (rows.InTag.in_rest p c name as' _ to (rows.InTagRest.no_rest before end)) = tt
+  tag_placed main O s b f le (rows.InTag.in_rest p c name as' _ to (rows.InTagRest.no_space _ before no_slash no_end lacks)) = lacks_placed src p (one_of kinds.Space) f tt lacks
+  tag_placed main O s b f le (rows.InTag.in_rest p c name as' _ to (rows.InTagRest.not_closed _ slash lacks)) = lacks_placed src (spaces_end src p + 1) (a_byte 62) f tt lacks
+  tag_placed main O s b f le (rows.InTag.in_rest p c name as' _ to (rows.InTagRest.in_pair _ space before no_slash no_end (q, t, is, lacks))) = lacks_placed src q t f (pair_fits (spaces_end src p) q t (omega arith) is) lacks
+  tag_placed main O s b f le (rows.InTag.in_rest p c name as' _ to (rows.InTagRest.ill_declared d j a _ space is declares ill)) =
       let there = qname_within src (spaces_end src p) a.name a.name_end is.is_name in
       declared_placed _ a f (omega (arith, is.starts)) ill
-  tag_placed main O s b f le (rows.InTag.in_rest p c as' _ to (rows.InTagRest.too_many_pairs d j a space is declares may first over)) = tt
-  tag_placed main O s b f le (rows.InTag.in_rest p c as' _ to (rows.InTagRest.too_many_attributes j empty ends over)) = tt
-  tag_placed main O s b f le (rows.InTag.in_rest p c as' _ to (rows.InTagRest.ill_named j empty _ ends few ill)) =
-      named_placed s.at _ to.name (plain_attributes_of as') f (omega arith) (attributes_start as' (written_start main O to.name_end p b c as' to.attributes)) ill
+  tag_placed main O s b f le (rows.InTag.in_rest p c name as' _ to (rows.InTagRest.too_many_pairs d j a space is declares may first over)) = tt
+  tag_placed main O s b f le (rows.InTag.in_rest p c name as' _ to (rows.InTagRest.too_many_attributes j empty ends over)) = tt
+  tag_placed main O s b f le (rows.InTag.in_rest p c name as' _ to (rows.InTagRest.ill_named j empty _ ends few ill)) =
+      named_placed s.at _ name (plain_attributes_of as') f (omega arith) (attributes_start as' (written_start main O to.0 p b c as' to.3)) ill
 
   end_placed : (open_around : ℕ) (s : State) (f : Fault) → InEnd open_around src s f → IsPlaced src f
   end_placed open_around s f (rows.InEnd.lacks _ (p, t, is, lacks)) = lacks_placed src p t f (end_fits s.at p t is) lacks
