@@ -17,7 +17,8 @@ use Rattle.rox_grammar.specs.Written.{Name, Attribute, NamespaceDecl, Tag, is_na
 use Rattle.rox_grammar.specs.Tree.{xml_uri, xmlns_uri, is_declared, listed, is_xml, listable_of}
 use Rattle.rox_grammar.specs.Names.{byte, spaces_end, IsQName, unprefixed, prefixed, colon_first}
 use Rattle.rox_grammar.specs.Constructs.{IsEq, IsLiteral}
-use Rattle.rox_grammar.specs.Content.{Inclusion, Value, IsAttribute, Attributes, no_more, one_more, TagEnds, opened, closed, IsTag}
+use Rattle.rox_grammar.specs.Content.{Inclusion, Value, IsAttribute, Attributes, no_more, one_more, TagEnds, opened, closed, IsTag, start_tag}
+use Rattle.rox_grammar.proofs.TagParts.{TagParts, tag_parts}
 use Rattle.rox_grammar.specs.WellNamed.{may_declare, is_known, same_expanded, IsWellNamed}
 use Rattle.rox_grammar.proofs.NamesApart.{DeclarableBehind, DistinctBehind, declarable_behind, distinct_behind}
 use Rattle.rox_grammar.specs.Document.{most_attributes, most_pairs}
@@ -179,8 +180,11 @@ module _ (context : Values) (O : Inclusion) (agrees : AgreesValue context.entiti
   slash_apart p j b empty rest f (it_ends (closed _ slash' close)) slash lack = byte_stands src 62 (spaces_end src p + 1) f (omega arith) close lack
   slash_apart p j b empty rest f (it_goes q c a more spaces is) slash lack = (name_byte src (spaces_end src p) a.name a.name_end is.is_name).no_slash slash
 
-  module _ (s : State) (j b e : ℕ) (empty : Bool) (tag : Tag) (is : IsTag context.main O src s.at j b e empty tag) (well_named : IsWellNamed (listed (scope_of s.stack) tag.declarations) tag)
+  module _ (s : State) (j b e : ℕ) (empty : Bool) (tag : Tag) (is_tag : IsTag context.main O src s.at j b e empty tag) (well_named : IsWellNamed (listed (scope_of s.stack) tag.declarations) tag)
       (W : Type 0) (few : W → attributes_so_far s.stack s.done + length tag.attributes ≤ most_attributes) (few_pairs : W → length (with_new (distinct_pairs (pairs_so_far s.stack s.done)) (listable_of tag.declarations)) ≤ most_pairs) where
+    abbrev is : TagParts context.main O src s.at j b e empty tag
+    is = tag_parts is_tag
+
     -- what is read of it is a front of it
     tag_front : (p c : ℕ) (name : Name) (as' : List Attribute) → TagTo context.main O src s p b c name as' → (rest : List Attribute) × (is.written ≡ as' ++ rest) × Next context.main O src p empty j c rest
     tag_front p c name as' (n, is_name, no_xmlns, attributes, declarable, few) =
@@ -256,8 +260,8 @@ module _ (context : Values) (O : Inclusion) (agrees : AgreesValue context.entiti
         → ◌≡◌ {A = Tag} (record { name = name; name_end = to.0; declarations = namespace_decls_of as'; attributes = plain_attributes_of as' }) tag
     same_tag p k c x name as' to ends =
         let t : Tag = record { name = name; name_end = to.0; declarations = namespace_decls_of as'; attributes = plain_attributes_of as' } in
-        let is' : IsTag context.main O src s.at k b c x t = record { begins = is.begins; is_name = to.1; written = as'; last = p; attributes = to.3; ends = ends; declares = refl; has = refl } in
-        (one_tag context O agrees src utf8 s.at k j b c e t tag x empty is' is).1
+        let is' : IsTag context.main O src s.at k b c x t = start_tag to.0 p name as' is.begins to.1 to.3 ends in
+        (one_tag context O agrees src utf8 s.at k j b c e t tag x empty is' is_tag).1
 
     -- so no fault of a start tag stands in it but those of the limits: rows 1 to 6, 9, 10, 13 to 15, 19 to 24, 31
     pub tag_apart : (f : Fault) → InTag context.main O src s b f → IsOver W f

@@ -11,6 +11,7 @@ use Rattle.rox_grammar.specs.Written.{Item, merge, leaf}
 use Rattle.rox_grammar.specs.Names.{byte}
 use Rattle.rox_grammar.specs.FixedTexts.{at}
 use Rattle.rox_grammar.specs.Content.{Inclusion, IsElement}
+use Rattle.rox_grammar.proofs.TagParts.{tag_parts}
 use Rattle.rox_grammar.specs.TextStart.{after_bom, MayHaveXmlDecl, declared, not_declared}
 use Rattle.rox_grammar.specs.Entities.{Entity, no_entities, most_deep}
 use Rattle.rox_grammar.specs.Doctype.{Asked}
@@ -103,7 +104,7 @@ module _ (opens : ℕ → Inclusion) (es : List Entity) (all : OpensAt opens es)
         let takes = tagged_takes true (opens 0) text 0 start next (x.0, x.1, x.2, x.3, x.4, refl) in
         let rest = drives_trail (opens 0) text next end x.5 in
         let less = root_at.0 in
-        let kind : kind_at text p.start ≡ a_tag = tag_kind text p.start less (name_byte text (p.start + 1) x.2.name x.2.name_end x.4.is_name) in
+        let kind : kind_at text p.start ≡ a_tag = tag_kind text p.start less (name_byte text (p.start + 1) x.2.name x.2.name_end (tag_parts x.4).is_name) in
         record {
           d = most_deep;
           deep = omega arith;

@@ -15,6 +15,7 @@ use Rattle.rox_grammar.specs.Tree.{listed}
 use Rattle.rox_grammar.specs.Names.{byte, spaces_end, IsQName}
 use Rattle.rox_grammar.specs.Constructs.{IsEq, IsLiteral, IsEnd}
 use Rattle.rox_grammar.specs.Content.{Inclusion, IsTag, literals, line_ends}
+use Rattle.rox_grammar.proofs.TagParts.{tag_parts}
 use Rattle.rox_grammar.specs.Entities.{Entity, most_deep}
 use Rattle.rox_grammar.specs.Document.{most_attributes, most_pairs}
 use Rattle.rox_grammar.specs.Counts.{listable, with_new, distinct_pairs}
@@ -96,7 +97,7 @@ module _ (main : Bool) (O : Inclusion) (src : List ℕ) (open_around : ℕ) wher
   takes_opened s t (flat.StepsOver.takes_cdata i e j b done stack is) opened = opened
   takes_opened s t (flat.StepsOver.takes_misc i j b item done stack is) opened = opened
   takes_opened s t (flat.StepsOver.takes_empty i j b c tag done stack is) opened = opened
-  takes_opened s t (flat.StepsOver.takes_start i j b c tag done stack is) opened = ((λ deep. (is.begins, is.is_name)), opened)
+  takes_opened s t (flat.StepsOver.takes_start i j b c tag done stack is) opened = let p = tag_parts is in ((λ deep. (p.begins, p.is_name)), opened)
   takes_opened s t (flat.StepsOver.takes_end i p j b start tag done before up deep end) opened = opened.1
 
   -- and a character begins there
@@ -106,8 +107,8 @@ module _ (main : Bool) (O : Inclusion) (src : List ℕ) (open_around : ℕ) wher
       let last : j ≡ e + 2 + 1 = omega (arith, is.next) in
       ends_cut src j utf8 (ends_by src j (e + 2) 62 last (stands_reads (word_text word.CDataEnd) src e 2 is.closes (omega arith)) (omega arith) (omega arith))
   takes_cut utf8 s t (flat.StepsOver.takes_misc i j b item done stack is) = ends_cut src j utf8 (misc_ends src i j item is)
-  takes_cut utf8 s t (flat.StepsOver.takes_empty i j b c tag done stack is) = ends_cut src j utf8 (tag_ends src is.last j true is.ends)
-  takes_cut utf8 s t (flat.StepsOver.takes_start i j b c tag done stack is) = ends_cut src j utf8 (tag_ends src is.last j false is.ends)
+  takes_cut utf8 s t (flat.StepsOver.takes_empty i j b c tag done stack is) = let p = tag_parts is in ends_cut src j utf8 (tag_ends src p.last j true p.ends)
+  takes_cut utf8 s t (flat.StepsOver.takes_start i j b c tag done stack is) = let p = tag_parts is in ends_cut src j utf8 (tag_ends src p.last j false p.ends)
   takes_cut utf8 s t (flat.StepsOver.takes_end i p j b start tag done before up deep end) = ends_cut src j utf8 (ends_by src j (spaces_end src p) 62 end.next end.closes (omega arith) (omega arith))
 
 module _ (opens : ℕ → Inclusion) (es : List Entity) (limit : ℕ) (text : List ℕ) (declared : Bool) (Front : ℕ → Forest Item → Type 0) (most : ℕ) (less : limit ≤ most) (least : most ≤ max limit 1)

@@ -10,6 +10,7 @@ use Rattle.rox_grammar.specs.Names.{byte, slice}
 use Rattle.rox_grammar.specs.Constructs.{AreChars, IsCData, IsEnd}
 use Rattle.rox_grammar.specs.FixedTexts.{at}
 use Rattle.rox_grammar.specs.Content.{Inclusion, IsCharacterData, IsMisc, comment, instruction, Value, Content}
+use Rattle.rox_grammar.proofs.TagParts.{tag_parts}
 use Rattle.rox_grammar.specs.RunParts.{Parts}
 use Rattle.rox_grammar.specs.Entities.{Replacement, Entity, text_of, most_deep}
 use Rattle.rox_grammar.specs.State as grammar
@@ -114,9 +115,11 @@ module _ (main : Bool) (O : Inclusion) (src : List ℕ) (open_around : ℕ) wher
       by_item item (comment _ e _ is) = subst (λ (k : Kind). By k (state i done stack b) t) (sym (comment_kind src i is.opens)) (j, item, comment i e j is)
       by_item item (instruction _ n e _ is) = subst (λ (k : Kind). By k (state i done stack b) t) (sym (instruction_kind src i is.opens)) (j, item, instruction i n e j is)
   takes_by s t (flat.StepsOver.takes_empty i j b c tag done stack is) =
-      subst (λ (k : Kind). By k (state i done stack b) t) (sym (tag_kind src i is.begins (name_byte src (i + 1) tag.name tag.name_end is.is_name))) (j, c, tag, true, is, refl)
+      let p = tag_parts is in
+      subst (λ (k : Kind). By k (state i done stack b) t) (sym (tag_kind src i p.begins (name_byte src (i + 1) tag.name tag.name_end p.is_name))) (j, c, tag, true, is, refl)
   takes_by s t (flat.StepsOver.takes_start i j b c tag done stack is) =
-      subst (λ (k : Kind). By k (state i done stack b) t) (sym (tag_kind src i is.begins (name_byte src (i + 1) tag.name tag.name_end is.is_name))) (j, c, tag, false, is, refl)
+      let p = tag_parts is in
+      subst (λ (k : Kind). By k (state i done stack b) t) (sym (tag_kind src i p.begins (name_byte src (i + 1) tag.name tag.name_end p.is_name))) (j, c, tag, false, is, refl)
   takes_by s t (flat.StepsOver.takes_end i p j b start tag done before up deep end) =
       subst (λ (k : Kind). By k (state i done (inside start tag before up) b) t) (sym (end_kind src i end.opens)) (start, tag, before, up, p, j, refl, deep, end)
 
@@ -130,8 +133,8 @@ pub place_within : (k : ℕ) (O : Inclusion) (src : List ℕ) (utf8 : IsUtf8 src
 place_within k O src utf8 s t b c (takes_run j _ _ items inner is parts named) = (run_within src s.at j is).0
 place_within k O src utf8 s t b c (a_section e j _ inner is) = let two = (cdata_bytes src s.at is.opens).0 in omega arith
 place_within k O src utf8 s t b c (a_misc j _ item inner is) = misc_within src utf8 s.at j item is
-place_within k O src utf8 s t b c (an_empty_tag j _ _ x is named) = let begins = is.begins in within src s.at (λ z. omega arith)
-place_within k O src utf8 s t b c (a_start_tag j _ _ x is named) = let begins = is.begins in within src s.at (λ z. omega arith)
+place_within k O src utf8 s t b c (an_empty_tag j _ _ x is named) = let begins = (tag_parts is).begins in within src s.at (λ z. omega arith)
+place_within k O src utf8 s t b c (a_start_tag j _ _ x is named) = let begins = (tag_parts is).begins in within src s.at (λ z. omega arith)
 place_within k O src utf8 s t b c (an_end_tag n j _ start x before up stack is) = let two = (end_bytes src s.at is.opens).0 in omega arith
 
 -- the elements that are open around the innermost one

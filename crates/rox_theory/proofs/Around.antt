@@ -14,7 +14,7 @@ use Rattle.rox_grammar.specs.Forest.{Forest, Nil, join, size}
 use Rattle.rox_grammar.specs.Written.{NamespaceDecl, Item, Comment, PI, merge, leaf}
 use Rattle.rox_grammar.specs.Names.{byte, spaces_end}
 use Rattle.rox_grammar.specs.Constructs.{IsXmlDecl}
-use Rattle.rox_grammar.specs.Content.{Inclusion, IsMisc, comment, instruction, IsElement, empty, nest, TagEnds, opened, closed}
+use Rattle.rox_grammar.specs.Content.{Inclusion, IsMisc, comment, instruction, IsElement, empty, nest, TagEnds, opened, closed, start_tag}
 use Rattle.rox_grammar.specs.TextStart.{after_bom, MayHaveXmlDecl, declared, not_declared}
 use Rattle.rox_grammar.specs.FixedTexts.{bom}
 use Rattle.rox_grammar.specs.Entities.{Entity}
@@ -71,7 +71,7 @@ tag_ends src i j is_empty (closed _ slash close) = ends_by src j (spaces_end src
 
 -- elements do
 pub element_ends : (main : Bool) (O : Inclusion) (src : List ℕ) (i j b c : ℕ) (one : Forest Item) → IsElement main O src i j b c one → Ends src j
-element_ends main O src i j b c one (empty _ _ _ _ t tag) = tag_ends src tag.last j true tag.ends
+element_ends main O src i j b c one (empty _ _ _ _ _ (start_tag n last name written begin is_name list end)) = tag_ends src last j true end
 element_ends main O src i j b c one (nest _ k m p _ _ d _ t kids tag inner end) = ends_by src j (spaces_end src p) 62 end.next end.closes (omega arith) (omega arith)
 
 -- the declaration does
@@ -106,8 +106,8 @@ element_stops main O src i j b c one is = from_tag (begins one is)
   where
     -- its first two bytes
     begins : (one : Forest Item) → IsElement main O src i j b c one → (byte src i ≡ 60) × IsNameByte src (i + 1)
-    begins one (empty _ _ _ _ t tag) = (tag.begins, name_byte src (i + 1) t.name t.name_end tag.is_name)
-    begins one (nest _ k m p _ _ d _ t kids tag inner end) = (tag.begins, name_byte src (i + 1) t.name t.name_end tag.is_name)
+    begins one (empty _ _ _ _ _ (start_tag n last name written begin is_name list end)) = (begin, name_byte src (i + 1) name n is_name)
+    begins one (nest _ k m p _ _ d _ _ kids (start_tag n last name written begin is_name list end) inner close) = (begin, name_byte src (i + 1) name n is_name)
 
     -- which are those of no other construct
     from_tag : (byte src i ≡ 60) × IsNameByte src (i + 1) → (byte src i ≡ 60) × (at word.DoctypeStart src i ≡ false) × Stops src i
