@@ -242,18 +242,18 @@ module _ (context : Values) (O : Inclusion) (agrees : AgreesValue context.entiti
         → is_namespace_decl a.name ≡ true → IllDeclared src (namespace_decls_of as') a f → ⊥
     declared_in p k c d as' rest a f same next spaces is' declares' ill =
         let there = declared_there p k c d as' rest a same next spaces is' declares' in
-        let may = declarable_at [] (namespace_decls_of as') there.0 (namespace_decl_of a) (subst (DeclarableBehind []) there.1 (declarable_behind tag.declarations well_named.declarations)) in
+        let may = declarable_at [] (namespace_decls_of as') there.0 (namespace_decl_of a) (subst (DeclarableBehind []) there.1 (declarable_behind tag.declarations well_named.1)) in
         declared_apart src (namespace_decls_of as') a f may.0 may.1 ill
 
     -- nor a name that is unknown, or stands twice
     named_in : (f : Fault) → IllNamed src s.at (listed (scope_of s.stack) tag.declarations) tag.name tag.attributes f → ⊥
     named_in f (unknown_attribute before after a name split distinct unknown holds) =
-        let d = distinct_at (listed (scope_of s.stack) tag.declarations) [] before after a (subst (DistinctBehind (listed (scope_of s.stack) tag.declarations) []) split (distinct_behind (listed (scope_of s.stack) tag.declarations) tag.attributes well_named.attributes)) in
+        let d = distinct_at (listed (scope_of s.stack) tag.declarations) [] before after a (subst (DistinctBehind (listed (scope_of s.stack) tag.declarations) []) split (distinct_behind (listed (scope_of s.stack) tag.declarations) tag.attributes well_named.2)) in
         true≢false (sym d.0 ∙ unknown)
     named_in f (twice before after a name split distinct known again' holds) =
-        let d = distinct_at (listed (scope_of s.stack) tag.declarations) [] before after a (subst (DistinctBehind (listed (scope_of s.stack) tag.declarations) []) split (distinct_behind (listed (scope_of s.stack) tag.declarations) tag.attributes well_named.attributes)) in
+        let d = distinct_at (listed (scope_of s.stack) tag.declarations) [] before after a (subst (DistinctBehind (listed (scope_of s.stack) tag.declarations) []) split (distinct_behind (listed (scope_of s.stack) tag.declarations) tag.attributes well_named.2)) in
         true≢false (sym again' ∙ d.1)
-    named_in f (unknown_element name distinct unknown holds) = true≢false (sym well_named.element ∙ unknown)
+    named_in f (unknown_element name distinct unknown holds) = true≢false (sym well_named.3 ∙ unknown)
 
     -- it is the tag that stands there
     same_tag : (p k c : ℕ) (x : Bool) (name : Name) (as' : List Attribute) (to : TagTo context.main O src s p b c name as') → TagEnds src p x k
@@ -269,7 +269,7 @@ module _ (context : Values) (O : Inclusion) (agrees : AgreesValue context.entiti
     tag_apart f (xmlns_prefix name n named prefix) =
         let same : name ≡ tag.name = (one_qname src (s.at + 1) n tag.name_end name tag.name named is.is_name).0 in
         let prefix' : tag.name.prefix ≡ word_text word.Xmlns = ap (λ (n : Name). n.prefix) (sym same) ∙ prefix in
-        absurd (true≢false (sym ((bytes_eq-Decides tag.name.prefix (word_text word.Xmlns)).1 prefix') ∙ well_named.no_xmlns))
+        absurd (true≢false (sym ((bytes_eq-Decides tag.name.prefix (word_text word.Xmlns)).1 prefix') ∙ well_named.0))
     tag_apart f (in_rest p c name as' _ to (cut past main')) =
         let x = tag_front p c name as' to in let l = next_within p j c empty x.0 x.2 in absurd (omega (arith, run_end_le is_space src p))
     tag_apart f (in_rest p c name as' _ to (cut_in_replacement past main')) =

@@ -13,6 +13,7 @@ use Rattle.rox_grammar.specs.Chars.{is_space}
 use Rattle.rox_grammar.specs.Search.{byte_from}
 use Rattle.rox_grammar.specs.Forest.{Forest, Nil, join}
 use Rattle.rox_grammar.specs.Written.{Item, Comment, PI, leaf}
+use Rattle.rox_grammar.specs.Tree.{scope_in}
 use Rattle.rox_grammar.specs.Names.{byte, spaces_end}
 use Rattle.rox_grammar.specs.Content.{IsMisc, comment, instruction}
 use Rattle.rox_grammar.specs.TextStart.{after_bom}
@@ -271,7 +272,7 @@ module _ (src : List ℕ) (utf8 : IsUtf8 src) (limit most : ℕ) (less : limit �
           let k = spaces_end src d.state.at in
           let plain = misc_plain src utf8 k j item is in
           let added' : with_item limit (state k (join before so.items) root 255) j item ≡ Ok t = subst (λ (u : State). with_item limit u j item ≡ Ok t) place_is added in
-          let r = item_read limit most (state k (join before so.items) root 255) t j item less plain.0 plain.1 (plain.2 _) fine_here added' in
+          let r = item_read limit most (state k (join before so.items) root 255) t j item less plain.0 plain.1 (plain.2 (scope_in [] item)) fine_here added' in
           let at_is : t.at ≡ j = ap (λ (s : State). s.at) r.0 in
           let one : Subset src k j (leaf item) [] [] = an_item k j j item Nil [] [] is (no_more j) in
           let read' : Subset src (s + 1) j (join so.items (leaf item)) asked0 d.entities =

@@ -28,7 +28,7 @@ use Rattle.rox_grammar.specs.Entities.{Entity, most_deep}
 use Rattle.rox_grammar.specs.State as grammar
 use Rattle.rox_grammar.specs.State.{Open, root, State, scope_of, attributes_so_far, pairs_so_far}
 use Rattle.rox_grammar.specs.OpenElements.{tree_so_far}
-use Rattle.rox_grammar.specs.Due.{DueItem, a_byte, a_qname, chars_to, IsMissing, Lacks, no_byte, none_left, DueInPair, its_name, equals, opening, its_value, closing, value_end}
+use Rattle.rox_grammar.specs.Due.{a_byte, a_qname, chars_to, IsMissing, Lacks, no_byte, none_left, DueInPair, its_name, equals, opening, its_value, closing, value_end}
 use Rattle.rox_faults.proofs.DueForms.{a_quote, no_space, no_quote}
 use Rattle.rox_grammar.specs.ContentPoints.{is_main, TagTo}
 use Rattle.rox_grammar.specs.Faults.{SpanIs, cut_off, IllDeclared, other_uri, uri_of_xml, uri_of_xmlns, again, IllNamed, unknown_attribute, twice, unknown_element, InTag, no_name, xmlns_prefix, cut, cut_in_replacement, no_rest, not_closed, in_pair, ill_declared, too_many_pairs, too_many_attributes, ill_named, in_rest}
@@ -293,7 +293,7 @@ module _ (opens : ℕ → Inclusion) (es : List Entity) (agrees : (d l : ℕ) �
     -- one more
     up_to_more : (p k c d : ℕ) (as' : List Attribute) (a : Attribute) → UpTo p c as' → p < spaces_end src p → IsAttribute (is_main level) (opens level) src (spaces_end src p) k c d a → MayStand (as' ++ a ∷ []) → UpTo k d (as' ++ a ∷ [])
     up_to_more p k c d as' a (name, (n, is_name, no_xmlns, attributes, declarable, few_pairs)) spaces is may =
-        (name, (n, is_name, no_xmlns, attributes_more (is_main level) (opens level) src k d n p b c as' a attributes spaces is, are_declarable _ may.0, pairs_there s.stack s.done (namespace_decls_of (as' ++ a ∷ [])) may.1))
+        (name, (n, is_name, no_xmlns, attributes_more (is_main level) (opens level) src k d n p b c as' a attributes spaces is, are_declarable (namespace_decls_of (as' ++ a ∷ [])) may.0, pairs_there s.stack s.done (namespace_decls_of (as' ++ a ∷ [])) may.1))
 
     -- what is due behind these attributes: rows 21 to 24 and 31
     turn_fails : (p c : ℕ) (as' : List Attribute) (f : Fault) → UpTo p c as' → p < length src → tag_item_at src p ≡ Err f → Fails f

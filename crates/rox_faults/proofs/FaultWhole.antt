@@ -16,6 +16,7 @@ use Rattle.rox_grammar.specs.FixedTexts.{word_text, at}
 use Rattle.rox_grammar.specs.Search.{stands, byte_from}
 use Rattle.rox_grammar.specs.Forest.{Forest, Nil, join}
 use Rattle.rox_grammar.specs.Written.{Item, Comment, PI, leaf}
+use Rattle.rox_grammar.specs.Tree.{scope_in}
 use Rattle.rox_grammar.specs.Names.{byte, spaces_end}
 use Rattle.rox_grammar.specs.Constructs.{IsEq}
 use Rattle.rox_grammar.specs.Content.{IsMisc}
@@ -238,7 +239,7 @@ module _ (src : List ℕ) (utf8 : IsUtf8 src) where
         let go : (j : ℕ) (item : Item) (u : State) → IsMisc src k j item → with_item limit (state k done root b) j item ≡ Ok u → misc limit n src u ≡ Err f → Q =
         λ j item u is read h.
         let p = misc_plain src utf8 k j item is in
-        let both = item_read limit most (state k done root b) u j item less p.0 p.1 (p.2 _) fine' read in
+        let both = item_read limit most (state k done root b) u j item less p.0 p.1 (p.2 (scope_in [] item)) fine' read in
         misc_fails n b j (join done (leaf item)) (next j item is) (subst (IsValidState most) both.0 both.1) (ends_cut src j utf8 (misc_ends src k j item is)) (subst (λ (u : State). misc limit n src u ≡ Err f) both.0 h)
         in
         chosen (at word.CommentStart src k) _ _ _ h

@@ -21,7 +21,7 @@ use Rattle.rox_grammar.specs.WellNamed.{may_declare, is_known, same_expanded, Ar
 use Rattle.rox_grammar.specs.Entities.{Replacement, Entity, text_of}
 use Rattle.rox_grammar.specs.Document.{Behind, pairs_in, distinct_count, attributes_in, most_attributes, most_pairs}
 use Rattle.rox_grammar.specs.OpenElements.{Open, root, inside, State, depth_of, scope_of, tree_so_far, FitsLimits, HasTooManyNodes}
-use Rattle.rox_grammar.specs.Due.{DueItem, a_byte, a_qname, one_of, chars_to, IsMissing, Lacks, DueInText, DueInPI, DueInEnd, DueInPair}
+use Rattle.rox_grammar.specs.Due.{a_byte, a_qname, one_of, chars_to, IsMissing, Lacks, DueInText, DueInPI, DueInEnd, DueInPair}
 use Rattle.rox_grammar.specs.ContentPoints.{RootBegins, is_content, is_main, TagBegins, StepsOver, RefersTo, IsSpent, ContentPoint, ValuePart, TagTo}
 
 -- the bytes of a name as it is written, without the colon if there is no prefix

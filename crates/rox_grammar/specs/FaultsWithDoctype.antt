@@ -16,7 +16,7 @@ use Rattle.rox_grammar.specs.TextStart.{after_bom}
 use Rattle.rox_grammar.specs.Entities.{Replacement, Entity, most_deep, no_entities, Includes}
 use Rattle.rox_grammar.specs.Doctype.{Request, Asked, IsSpace, IsExternalID, MayHaveNotation, CutsNotation, GivesReplacement, IsDefinition, BeginsEntity, IsPassed, SubsetTo}
 use Rattle.rox_grammar.specs.OpenElements.{root, FitsLimits}
-use Rattle.rox_grammar.specs.Due.{DueItem, a_byte, one_of, IsMissing, Lacks, DueInXmlDecl, DueInEntity, DueInDoctype}
+use Rattle.rox_grammar.specs.Due.{a_byte, one_of, IsMissing, Lacks, DueInXmlDecl, DueInEntity, DueInDoctype}
 use Rattle.rox_grammar.specs.ContentPoints.{is_main}
 use Rattle.rox_grammar.specs.Document.{PrologTo, Prolog}
 use Rattle.rox_grammar.specs.Faults.{InMiscs, FaultFrom}

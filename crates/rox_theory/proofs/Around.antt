@@ -12,6 +12,7 @@ use Rattle.rox_grammar.specs.Chars.{is_space}
 use Rattle.rox_grammar.specs.FixedTexts.{word_text, at}
 use Rattle.rox_grammar.specs.Forest.{Forest, Nil, join, size}
 use Rattle.rox_grammar.specs.Written.{NamespaceDecl, Item, Comment, PI, merge, leaf}
+use Rattle.rox_grammar.specs.Tree.{scope_in}
 use Rattle.rox_grammar.specs.Names.{byte, spaces_end}
 use Rattle.rox_grammar.specs.Constructs.{IsXmlDecl}
 use Rattle.rox_grammar.specs.Content.{Inclusion, IsMisc, comment, instruction, IsElement, empty, nest, TagEnds, opened, closed, start_tag}
@@ -181,7 +182,7 @@ module _ (src : List ℕ) (utf8 : IsUtf8 src) where
       let go : (j : ℕ) (item : Item) (t : State) → IsMisc src k j item → with_item limit (state k done root b) j item ≡ Ok t → misc limit n src t ≡ Ok u → MiscRead most b i done u =
       λ j item t is one rest.
       let p = misc_plain k j item is in
-      let both = item_read limit most (state k done root b) t j item more p.0 p.1 (p.2 _) fine' one in
+      let both = item_read limit most (state k done root b) t j item more p.0 p.1 (p.2 (scope_in [] item)) fine' one in
       let here : misc limit n src (state j (join done (leaf item)) root b) ≡ Ok u = subst (λ (t : State). misc limit n src t ≡ Ok u) both.0 rest in
       let next = misc_sound n limit most b j (join done (leaf item)) u more (ends_cut src j utf8 (misc_ends src k j item is)) (subst (IsValidState most) both.0 both.1) here in
       spaces_then most b i done u cut (item_then most b k j done item u is next)

@@ -12,7 +12,7 @@ use Rattle.rox_grammar.specs.Search.{byte_from}
 use Rattle.rox_grammar.specs.Chars.{is_space, is_name_char, is_part_char}
 use Rattle.rox_grammar.specs.CharText.{IsCharText, NamespaceDeclChars}
 use Rattle.rox_grammar.specs.Forest.{Forest, Nil, Cons, join}
-use Rattle.rox_grammar.specs.Written.{Name, Attribute, NamespaceDecl, Tag, Item, Element, Text, Comment, PI, is_namespace_decl, namespace_decl_of, namespace_decls_of, plain_attributes_of, glue, merge}
+use Rattle.rox_grammar.specs.Written.{Name, Attribute, Tag, Item, Element, Text, Comment, PI, is_namespace_decl, namespace_decl_of, glue, merge}
 use Rattle.rox_grammar.specs.Tree.{none_if_empty}
 use Rattle.rox_grammar.specs.Names.{byte, slice, spaces_end, IsNCName, IsQName, unprefixed, prefixed, colon_first}
 use Rattle.rox_grammar.specs.Constructs.{IsComment, IsPI, IsCData}
