@@ -41,5 +41,4 @@ ItemWellNamed scope other = Unit {0}
 -- of a row of siblings below an element that lists these
 abbrev pub AreWellNamed : List NamespaceDecl → Forest Item → Type 0
 AreWellNamed above Nil = Unit {0}
-AreWellNamed above (Cons item children rest) =
-    ItemWellNamed (scope_in above item) item × AreWellNamed (scope_in above item) children × AreWellNamed above rest
+AreWellNamed above (Cons item children rest) = ItemWellNamed (scope_in above item) item × AreWellNamed (scope_in above item) children × AreWellNamed above rest
