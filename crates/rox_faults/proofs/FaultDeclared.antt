@@ -12,7 +12,7 @@ use Rattle.rox_grammar.specs.Search.{byte_from}
 use Rattle.rox_grammar.specs.FixedTexts.{word_text, at}
 use Rattle.rox_grammar.specs.Names.{byte, spaces_end}
 use Rattle.rox_grammar.specs.Doctype.{Request, IsExternalID, BeginsEntity}
-use Rattle.rox_grammar.specs.Due.{DueItem, a_name, a_byte, IsMissing, Lacks, no_name, no_external_id, none_left, DueInLiteral, DueInExternalID, DueInEntity, DueInDoctype}
+use Rattle.rox_grammar.specs.Due.{DueItem, a_name, a_byte, IsMissing, Misses, no_name, no_external_id, none_left, DueInLiteral, DueInExternalID, DueInEntity, DueInDoctype}
 use Rattle.rox_faults.proofs.DueForms.{a_space, a_quote, a_definition, no_space, no_definition}
 use Rattle.rox_grammar.specs.Due as dues
 use Rattle.rox_reading.specs.Lexical.{byte_at, space_at, quote_at, name_at}
@@ -42,7 +42,7 @@ name_fails src i f h =
     (λ fails h. let is : fault.InvalidName i ≡ f = cc in subst (IsMissing src i a_name) is (no_name (λ j name. let s = name.starts in cc (sym fails ∙ s))))
 
 -- a literal
-quoted_fails : (src : List ℕ) (i : ℕ) (f : Fault) → quoted_at src i ≡ Err f → Lacks src (DueInLiteral src i) f
+quoted_fails : (src : List ℕ) (i : ℕ) (f : Fault) → quoted_at src i ≡ Err f → Misses src (DueInLiteral src i) f
 unfolding quoted_at
 quoted_fails src i f h =
     bind_err (quote_at src i) _ f h (λ bad. (i, a_quote, dues.DueInLiteral.its_quote, quote_fails src i f bad))
@@ -55,7 +55,7 @@ quoted_fails src i f h =
     (λ x ok h. no_fault _ f h))
 
 -- an external id
-system_fails : (src : List ℕ) (i : ℕ) (f : Fault) → at word.System src i ≡ true → system_at src i ≡ Err f → Lacks src (DueInExternalID src i) f
+system_fails : (src : List ℕ) (i : ℕ) (f : Fault) → at word.System src i ≡ true → system_at src i ≡ Err f → Misses src (DueInExternalID src i) f
 unfolding system_at
 system_fails src i f is h =
     bind_err (space_at src (i + 6)) _ f h (λ bad. (i + 6, a_space, dues.DueInExternalID.space_before (inl is), space_fails src (i + 6) f bad))
@@ -63,7 +63,7 @@ system_fails src i f is h =
     (λ bad. let w = quoted_fails src s.1 f bad in (w.0, w.1, dues.DueInExternalID.its_literal s.1 w.0 w.1 (inl is) (space_sound src (i + 6) s spaced) w.2, w.3))
     (λ x ok h. no_fault _ f h))
 
-public_fails : (src : List ℕ) (i : ℕ) (f : Fault) → at word.Public src i ≡ true → public_at src i ≡ Err f → Lacks src (DueInExternalID src i) f
+public_fails : (src : List ℕ) (i : ℕ) (f : Fault) → at word.Public src i ≡ true → public_at src i ≡ Err f → Misses src (DueInExternalID src i) f
 unfolding public_at
 public_fails src i f is h =
     bind_err (space_at src (i + 6)) _ f h (λ bad. (i + 6, a_space, dues.DueInExternalID.space_before (inr is), space_fails src (i + 6) f bad))
@@ -81,7 +81,7 @@ public_fails src i f is h =
 
 -- or that there is none
 external_fails : (src : List ℕ) (i : ℕ) (f : Fault) → external_id_at src i ≡ Err f
-    → Lacks src (DueInExternalID src i) f ⊎ ((at word.System src i ≡ false) × (at word.Public src i ≡ false) × (fault.InvalidExternalID i ≡ f))
+    → Misses src (DueInExternalID src i) f ⊎ ((at word.System src i ≡ false) × (at word.Public src i ≡ false) × (fault.InvalidExternalID i ≡ f))
 unfolding external_id_at
 external_fails src i f h =
     chosen (at word.System src i) _ _ _ h (λ is h. inl (system_fails src i f is h))
@@ -90,7 +90,7 @@ external_fails src i f h =
 -- ---- the declaration of an entity
 
 -- up to its definition
-pub head_fails : (src : List ℕ) (i : ℕ) (f : Fault) → entity_head_at src i ≡ Err f → Lacks src (DueInEntity src i) f
+pub head_fails : (src : List ℕ) (i : ℕ) (f : Fault) → entity_head_at src i ≡ Err f → Misses src (DueInEntity src i) f
 unfolding entity_head_at kind_at
 head_fails src i f h =
     bind_err (space_at src (i + 8)) _ f h (λ bad. (i + 8, a_space, dues.DueInEntity.space_before, space_fails src (i + 8) f bad))
@@ -108,7 +108,7 @@ head_fails src i f h =
     (λ x ok h. no_fault _ f h))))
 
 -- the notation
-notation_fails : (src : List ℕ) (i n m d e : ℕ) (request : Request) (parameter : Bool) (f : Fault) → BeginsEntity src i parameter n m d → IsExternalID src d request e → notation_at parameter src e ≡ Err f → Lacks src (DueInEntity src i) f
+notation_fails : (src : List ℕ) (i n m d e : ℕ) (request : Request) (parameter : Bool) (f : Fault) → BeginsEntity src i parameter n m d → IsExternalID src d request e → notation_at parameter src e ≡ Err f → Misses src (DueInEntity src i) f
 unfolding notation_at name_or_end_at
 notation_fails src i n m d e request true f begins' external h = no_fault _ f h
 notation_fails src i n m d e request false f begins' external h =
@@ -122,7 +122,7 @@ notation_fails src i n m d e request false f begins' external h =
     (λ none h. no_fault _ f h)
 
 -- its definition
-pub definition_fails : (src : List ℕ) (i n m d : ℕ) (parameter : Bool) (f : Fault) → BeginsEntity src i parameter n m d → definition_at parameter src d ≡ Err f → Lacks src (DueInEntity src i) f
+pub definition_fails : (src : List ℕ) (i n m d : ℕ) (parameter : Bool) (f : Fault) → BeginsEntity src i parameter n m d → definition_at parameter src d ≡ Err f → Misses src (DueInEntity src i) f
 unfolding definition_at
 definition_fails src i n m d parameter f begins' h =
     chosen (leb (length src) d) _ _ _ h
@@ -139,7 +139,7 @@ definition_fails src i n m d parameter f begins' h =
     let no_quote = or_parts (byte src d == 34) (byte src d == 39) bare in
     chosen (byte src d == 83 || byte src d == 80) _ _ _ h
     (λ some h. bind_err (external_id_at src d) _ f h
-    (λ bad. elim (external_fails src d f bad) as (λ s. Lacks src (DueInEntity src i) f) [
+    (λ bad. elim (external_fails src d f bad) as (λ s. Misses src (DueInEntity src i) f) [
       | inl w ↦ (w.0, w.1, dues.DueInEntity.its_external_id parameter n m d w.0 w.1 begins' w.2, w.3)
       | inr w ↦ (
           let some' : (byte src d ≡ 83) ⊎ (byte src d ≡ 80) = elim (or_cases (byte src d == 83) (byte src d == 80) some) as (λ s. (byte src d ≡ 83) ⊎ (byte src d ≡ 80)) [ inl a ↦ inl (eqb-true _ _ a) | inr b ↦ inr (eqb-true _ _ b) ] in
@@ -165,7 +165,7 @@ no_word_past src i some out =
       | inr is ↦ omega (arith, stands_fits (word_text word.Public) src i (omega arith) is)
     ]
 
-pub doctype_head_fails : (src : List ℕ) (i : ℕ) (f : Fault) → doctype_head_at src i ≡ Err f → Lacks src (DueInDoctype src i) f
+pub doctype_head_fails : (src : List ℕ) (i : ℕ) (f : Fault) → doctype_head_at src i ≡ Err f → Misses src (DueInDoctype src i) f
 unfolding doctype_head_at name_or_end_at external_id_if
 doctype_head_fails src i f h =
     bind_err (space_at src (i + 9)) _ f h (λ bad. (i + 9, a_space, dues.DueInDoctype.space_before, space_fails src (i + 9) f bad))
@@ -177,8 +177,8 @@ doctype_head_fails src i f h =
     (λ name named h. bind_err (external_id_if src (spaces_end src name.1)) _ f h
     (λ bad. chosen (at word.System src (spaces_end src name.1) || at word.Public src (spaces_end src name.1)) _ _ _ bad
     (λ some bad. bind_err (external_id_at src (spaces_end src name.1)) _ f bad
-    (λ bad. elim (external_fails src (spaces_end src name.1) f bad) as (λ s. Lacks src (DueInDoctype src i) f) [
-      | inl w ↦ elim (name_or_end src n.1 name named) as (λ _. Lacks src (DueInDoctype src i) f) [
+    (λ bad. elim (external_fails src (spaces_end src name.1) f bad) as (λ s. Misses src (DueInDoctype src i) f) [
+      | inl w ↦ elim (name_or_end src n.1 name named) as (λ _. Misses src (DueInDoctype src i) f) [
         | inl is ↦ (w.0, w.1, dues.DueInDoctype.its_external_id n.1 name.1 w.0 w.1 sp is.0 w.2, w.3)
         | inr cut ↦ absurd (no_word_past src (spaces_end src name.1) some (past n.1 name.1 cut.0 cut.1))
       ]

@@ -24,7 +24,7 @@ use Rattle.rox_grammar.specs.Constructs.{has_mark, AreChars}
 use Rattle.rox_grammar.specs.FixedTexts.{double_dash}
 use Rattle.rox_grammar.specs.References.{is_digit, is_hex_digit, number, bytes_end, character}
 use Rattle.rox_grammar.specs.Entities.{Replacement, Entity, text_of}
-use Rattle.rox_grammar.specs.Due.{DueItem, a_byte, a_text, a_qname, a_name, chars_to, IsMissing, Lacks, no_name, DueInText, DueInPI, DueInEnd}
+use Rattle.rox_grammar.specs.Due.{DueItem, a_byte, a_text, a_qname, a_name, chars_to, IsMissing, Misses, no_name, DueInText, DueInPI, DueInEnd}
 use Rattle.rox_grammar.specs.Due as due
 use Rattle.rox_grammar.specs.Faults.{SpanIs, spelled, InMisc, comment_lacks, double_dashes, a_declaration, instruction_lacks, InReferences, malformed, undeclared}
 use Rattle.rox_reading.specs.Lexical.{byte_at, string_at, chars_up_to, text_to, qname_at, name_at}
@@ -168,18 +168,18 @@ module _ (src : List ℕ) (utf8 : IsUtf8 src) where
           run_cut is_space src n utf8 (subst (IsCharBoundary src) (sym target.longest) (run_cut is_name_char src (i + 2) utf8 cut))
 
   -- a CDATA section
-  pub section_fails : (i : ℕ) (f : Fault) → at word.CDataStart src i ≡ true → cdata_at src i ≡ Err f → Lacks src (DueInText expected.CDataEnd src (i + 9)) f
+  pub section_fails : (i : ℕ) (f : Fault) → at word.CDataStart src i ≡ true → cdata_at src i ≡ Err f → Misses src (DueInText expected.CDataEnd src (i + 9)) f
   unfolding cdata_at
   section_fails i f opens h =
       let eight : i + 8 + 1 ≡ i + 9 = omega arith in
       let cut = subst (IsCharBoundary src) eight (behind word.CDataStart src i 8 91 utf8 opens (omega arith) refl (omega arith) (omega arith)) in
-      elim (text_fails expected.CDataEnd 93 (93 ∷ 62 ∷ []) src (i + 9) f refl (omega arith) utf8 cut h) as (λ s. Lacks src (DueInText expected.CDataEnd src (i + 9)) f) [
+      elim (text_fails expected.CDataEnd 93 (93 ∷ 62 ∷ []) src (i + 9) f refl (omega arith) utf8 cut h) as (λ s. Misses src (DueInText expected.CDataEnd src (i + 9)) f) [
         | inl ill ↦ (i + 9, chars_to (first word.CDataEnd src (i + 9)), due.DueInText.its_chars, ill)
         | inr none ↦ (first word.CDataEnd src (i + 9), a_text expected.CDataEnd, due.DueInText.its_end none.0, none.1)
       ]
 
   -- an end tag
-  pub end_fails : (i : ℕ) (f : Fault) → at word.EndTagStart src i ≡ true → end_tag_at src i ≡ Err f → Lacks src (DueInEnd src i) f
+  pub end_fails : (i : ℕ) (f : Fault) → at word.EndTagStart src i ≡ true → end_tag_at src i ≡ Err f → Misses src (DueInEnd src i) f
   unfolding end_tag_at
   end_fails i f opens h =
       bind_err (qname_at src (i + 2)) _ f h

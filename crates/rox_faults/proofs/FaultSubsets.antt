@@ -20,7 +20,7 @@ use Rattle.rox_grammar.specs.TextStart.{after_bom}
 use Rattle.rox_grammar.specs.Entities.{Replacement, Entity}
 use Rattle.rox_grammar.specs.Doctype.{Request, Asked, IsDefinition, internal, external, IsPassedOver, Subset, no_more, space, an_item, skipped_declaration, an_entity, BeginsDoctype, IsDoctype, no_subset, with_subset, entry, SubsetTo}
 use Rattle.rox_grammar.specs.State.{root, nodes_so_far, FitsLimits}
-use Rattle.rox_grammar.specs.Due.{DueItem, a_byte, IsMissing, Lacks, none_left, DueInXmlDecl}
+use Rattle.rox_grammar.specs.Due.{DueItem, a_byte, IsMissing, Misses, none_left, DueInXmlDecl}
 use Rattle.rox_faults.proofs.DueForms.{subset_or_end, no_end, no_subset_or_end}
 use Rattle.rox_grammar.specs.Due as dues
 use Rattle.rox_grammar.specs.Faults.{in_one, one_too_many}
@@ -79,11 +79,11 @@ outer_by P request j (Ok answer) rs g own ill good = by_text (answer_text answer
 
 -- what an answer's declaration lacks
 answer_fails : (answer : Option (List ℕ)) (e : Refusal) → IsTextReply (Ok answer) → answer_text answer ≡ Err e
-    → (t : List ℕ) × (f : Fault) × (answer ≡ Some t) × IsUtf8 t × (there t f ≡ e) × (at word.XmlDeclStart t (after_bom t) ≡ true) × Lacks t (DueInXmlDecl t (after_bom t)) f
+    → (t : List ℕ) × (f : Fault) × (answer ≡ Some t) × IsUtf8 t × (there t f ≡ e) × (at word.XmlDeclStart t (after_bom t) ≡ true) × Misses t (DueInXmlDecl t (after_bom t)) f
 unfolding answer_text
 answer_fails None e utf8 h = cc h
 answer_fails (Some t) e utf8 h =
-    elim (cases_Bool (at word.XmlDeclStart t (after_bom t))) as (λ s. (u : List ℕ) × (f : Fault) × (Some t ≡ Some u) × IsUtf8 u × (there u f ≡ e) × (at word.XmlDeclStart u (after_bom u) ≡ true) × Lacks u (DueInXmlDecl u (after_bom u)) f) [
+    elim (cases_Bool (at word.XmlDeclStart t (after_bom t))) as (λ s. (u : List ℕ) × (f : Fault) × (Some t ≡ Some u) × IsUtf8 u × (there u f ≡ e) × (at word.XmlDeclStart u (after_bom u) ≡ true) × Misses u (DueInXmlDecl u (after_bom u)) f) [
       | inl is ↦ either (xml_decl_at t (after_bom t))
           (λ x read. cc (rw (is, read) at h))
           (λ f ill. let same : ◌≡◌ {A = Result (Option Replacement) Refusal} (Err (there t f)) (Err e) = rw (is, ill) at h in (t, f, refl, utf8, cc, is, declaration_fails t utf8 (after_bom t) f ill))

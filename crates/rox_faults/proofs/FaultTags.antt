@@ -28,7 +28,7 @@ use Rattle.rox_grammar.specs.Entities.{Entity, most_deep}
 use Rattle.rox_grammar.specs.State as grammar
 use Rattle.rox_grammar.specs.State.{Open, root, State, scope_of, attributes_so_far, pairs_so_far}
 use Rattle.rox_grammar.specs.OpenElements.{tree_so_far}
-use Rattle.rox_grammar.specs.Due.{a_byte, a_qname, chars_to, IsMissing, Lacks, no_byte, none_left, DueInPair, its_name, equals, opening, its_value, closing, value_end}
+use Rattle.rox_grammar.specs.Due.{a_byte, a_qname, chars_to, IsMissing, Misses, no_byte, none_left, DueInPair, its_name, equals, opening, its_value, closing, value_end}
 use Rattle.rox_faults.proofs.DueForms.{a_quote, no_space, no_quote}
 use Rattle.rox_grammar.specs.ContentPoints.{is_main, TagTo}
 use Rattle.rox_grammar.specs.Faults.{SpanIs, cut_off, IllDeclared, other_uri, uri_of_xml, uri_of_xmlns, again, IllNamed, unknown_attribute, twice, unknown_element, InTag, no_name, xmlns_prefix, cut, cut_in_replacement, no_rest, not_closed, in_pair, ill_declared, too_many_pairs, too_many_attributes, ill_named, in_rest}
@@ -173,7 +173,7 @@ module _ (src : List ℕ) (utf8 : IsUtf8 src) where
       ]
 
   -- an attribute: what is due in it
-  attribute_fails : (i : ℕ) (f : Fault) → attribute_at src i ≡ Err f → Lacks src (DueInPair src i) f
+  attribute_fails : (i : ℕ) (f : Fault) → attribute_at src i ≡ Err f → Misses src (DueInPair src i) f
   unfolding attribute_at raw_value_at
   attribute_fails i f h =
       bind_err (qname_at src i) _ f h (λ bad. (i, a_qname, its_name, qname_fails src i f bad))

@@ -29,7 +29,7 @@ use Rattle.rox_grammar.specs.Document.{Behind, Misc, no_misc, space, an_item, Pr
 use Rattle.rox_grammar.specs.State.{root, nodes_so_far, FitsLimits}
 use Rattle.rox_reading.specs.Refusals.{Refusal, here, there, refused, lifted}
 use Rattle.rox_reading.specs.State.{State}
-use Rattle.rox_grammar.specs.Due.{DueItem, a_byte, a_qname, a_gap, a_text, chars_to, IsMissing, Lacks, no_gap, DueInPair, its_name, equals, opening, its_value, closing, value_end, PairBegins, version, encoding, standalone, DueInXmlDecl, its_version, in_pair, behind_pair, behind_last}
+use Rattle.rox_grammar.specs.Due.{DueItem, a_byte, a_qname, a_gap, a_text, chars_to, IsMissing, Misses, no_gap, DueInPair, its_name, equals, opening, its_value, closing, value_end, PairBegins, version, encoding, standalone, DueInXmlDecl, its_version, in_pair, behind_pair, behind_last}
 use Rattle.rox_faults.proofs.DueForms.{a_quote}
 use Rattle.rox_grammar.specs.Due as dues
 use Rattle.rox_grammar.specs.ContentPoints.{is_main, begins, of_root}
@@ -92,7 +92,7 @@ module _ (src : List ℕ) (utf8 : IsUtf8 src) where
   -- ---- the declaration
 
   -- a pair
-  pair_fails : (i : ℕ) (f : Fault) → pair_at src i ≡ Err f → Lacks src (DueInPair src i) f
+  pair_fails : (i : ℕ) (f : Fault) → pair_at src i ≡ Err f → Misses src (DueInPair src i) f
   unfolding pair_at
   pair_fails i f h =
       bind_err (qname_at src i) _ f h (λ bad. (i, a_qname, its_name, qname_fails src i f bad))
@@ -135,7 +135,7 @@ module _ (src : List ℕ) (utf8 : IsUtf8 src) where
 
   -- what is due in the declaration
   abbrev pub Declares : ℕ → Fault → Type 0
-  Declares i f = Lacks src (DueInXmlDecl src i) f
+  Declares i f = Misses src (DueInXmlDecl src i) f
 
   -- a pair and its gap
   pair_if_fails : (w : Word) (i p : ℕ) (f : Fault) → (at w src p ≡ true → PairBegins src i true p) → pair_if w src p ≡ Err f → Declares i f

@@ -21,7 +21,7 @@ use Rattle.rox_grammar.specs.WellNamed.{may_declare, is_known, same_expanded, Ar
 use Rattle.rox_grammar.specs.Entities.{Replacement, Entity, text_of}
 use Rattle.rox_grammar.specs.Document.{Behind, pairs_in, distinct_count, attributes_in, most_attributes, most_pairs}
 use Rattle.rox_grammar.specs.OpenElements.{Open, root, inside, State, depth_of, scope_of, tree_so_far, FitsLimits, HasTooManyNodes}
-use Rattle.rox_grammar.specs.Due.{a_byte, a_qname, one_of, chars_to, IsMissing, Lacks, DueInText, DueInPI, DueInEnd, DueInPair}
+use Rattle.rox_grammar.specs.Due.{a_byte, a_qname, one_of, chars_to, IsMissing, Misses, DueInText, DueInPI, DueInEnd, DueInPair}
 use Rattle.rox_grammar.specs.ContentPoints.{RootBegins, is_content, is_main, TagBegins, StepsOver, RefersTo, IsSpent, ContentPoint, ValuePart, TagTo}
 
 -- the bytes of a name as it is written, without the colon if there is no prefix
@@ -34,12 +34,12 @@ SpanIs src span bytes = slice src span.start span.end ≡ bytes
 
 -- ---- in a comment or a processing instruction that begins at i
 pub data InMisc (src : List ℕ) (i : ℕ) : Fault → Type 0 where
-  comment_lacks : (f : Fault) → text_at "<!--" src i ≡ true → Lacks src (DueInText expected.CommentEnd src (i + 4)) f → InMisc src i f
+  comment_lacks : (f : Fault) → text_at "<!--" src i ≡ true → Misses src (DueInText expected.CommentEnd src (i + 4)) f → InMisc src i f
   -- two dashes in the text, or one at its end
   double_dashes : (e : ℕ) → text_at "<!--" src i ≡ true → e ≡ first_text "-->" src (i + 4) → AreChars src (i + 4) e → text_at "-->" src e ≡ true
       → (has_mark (codes "--") (slice src (i + 4) e) ≡ true) ⊎ (byte (slice src (i + 4) e) (length (slice src (i + 4) e) - 1) ≡ code "-") → InMisc src i (fault.InvalidComment i)
   a_declaration : text_at "<?xml " src i ≡ true → InMisc src i (fault.UnexpectedDeclaration i)
-  instruction_lacks : (f : Fault) → text_at "<?" src i ≡ true → text_at "<?xml " src i ≡ false → Lacks src (DueInPI src i) f → InMisc src i f
+  instruction_lacks : (f : Fault) → text_at "<?" src i ≡ true → text_at "<?xml " src i ≡ false → Misses src (DueInPI src i) f → InMisc src i f
 
 -- ---- in comments and processing instructions outside the root element, which are read up to p, with these nodes before it
 pub data InMiscs (limit : ℕ) (src : List ℕ) (p : ℕ) (items : Forest Item) : Fault → Type 0 where
@@ -108,7 +108,7 @@ module _ (main : Bool) (Includes : Inclusion) (src : List ℕ) (s : State) (name
     not_closed : (f : Fault) → byte src (spaces_end src p) ≡ code "/" → IsMissing src (spaces_end src p + 1) (a_byte (code ">")) f → InTagRest f
     -- an attribute or a declaration
     in_pair : (f : Fault) → p < spaces_end src p → spaces_end src p < length src → byte src (spaces_end src p) ≢ code "/"
-        → byte src (spaces_end src p) ≢ code ">" → Lacks src (DueInPair src (spaces_end src p)) f → InTagRest f
+        → byte src (spaces_end src p) ≢ code ">" → Misses src (DueInPair src (spaces_end src p)) f → InTagRest f
     ill_declared : (d j : ℕ) (a : Attribute) (f : Fault) → p < spaces_end src p → IsAttribute main Includes src (spaces_end src p) j c d a
         → is_namespace_decl a.name ≡ true → IllDeclared src (namespace_decls_of as') a f → InTagRest f
     -- with the next declaration, which may stand there
@@ -132,7 +132,7 @@ module _ (main : Bool) (Includes : Inclusion) (src : List ℕ) (s : State) (b : 
 
 -- ---- in the end tag that begins at a place (XML 3.1 [42]), where `open_around` elements are open around the replacement text
 pub data InEnd (open_around : ℕ) (src : List ℕ) (s : State) : Fault → Type 0 where
-  lacks : (f : Fault) → Lacks src (DueInEnd src s.at) f → InEnd open_around src s f
+  lacks : (f : Fault) → Misses src (DueInEnd src s.at) f → InEnd open_around src s f
   other_name : (n j start : ℕ) (name : Name) (tag : Tag) (before : Forest Item) (up : Open) (expected actual : Span) → s.stack ≡ inside start tag before up → open_around < depth_of s.stack
       → IsEnd src s.at name n j → tag.name ≢ name → SpanIs src expected (spelled tag.name) → SpanIs src actual (spelled name)
       → InEnd open_around src s (fault.UnexpectedCloseTag expected actual s.at)
@@ -143,7 +143,7 @@ pub data InEnd (open_around : ℕ) (src : List ℕ) (s : State) : Fault → Type
 module _ (limit : ℕ) (es : List Entity) (k open_around : ℕ) (Includes : Inclusion) (src : List ℕ) (s : State) (b : ℕ) where
   pub data Stands : Fault → Type 0 where
     in_run : (f : Fault) → is_content k s.stack ≡ true → s.at < length src → byte src s.at ≢ code "<" → InRun es k Includes src s.at b f → Stands f
-    in_section : (f : Fault) → is_content k s.stack ≡ true → text_at "<![CDATA[" src s.at ≡ true → Lacks src (DueInText expected.CDataEnd src (s.at + 9)) f → Stands f
+    in_section : (f : Fault) → is_content k s.stack ≡ true → text_at "<![CDATA[" src s.at ≡ true → Misses src (DueInText expected.CDataEnd src (s.at + 9)) f → Stands f
     in_misc : (f : Fault) → is_content k s.stack ≡ true → InMisc src s.at f → Stands f
     in_tag : (f : Fault) → TagBegins src s.at (is_content k s.stack) → InTag (is_main k) Includes src s b f → Stands f
     in_end : (f : Fault) → is_content k s.stack ≡ true → InEnd open_around src s f → Stands f
