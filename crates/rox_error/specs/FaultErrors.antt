@@ -32,12 +32,11 @@ Names src span name = IsTextSpan src span → string_bytes name ≡ slice_range 
 
 -- an error with a name, for which there may be no memory
 abbrev pub IsErrorWithName : List ℕ → Span → (String Global → Error) → Error → Type 0
-IsErrorWithName src span kind e = ((name : String Global) × Names src span name × (e ≡ kind name)) ⊎ (e ≡ error.OutOfMemory)
+IsErrorWithName src span kind e = ((n : String Global) × Names src span n × (e ≡ kind n)) ⊎ (e ≡ error.OutOfMemory)
 
 -- the same with two names
 abbrev pub IsErrorWithNames : List ℕ → Span → Span → (String Global → String Global → Error) → Error → Type 0
-IsErrorWithNames src one other kind e =
-    ((first : String Global) × (second : String Global) × Names src one first × Names src other second × (e ≡ kind first second)) ⊎ (e ≡ error.OutOfMemory)
+IsErrorWithNames src one other kind e = ((n : String Global) × (m : String Global) × Names src one n × Names src other m × (e ≡ kind n m)) ⊎ (e ≡ error.OutOfMemory)
 
 -- The error is the one that the fault of the source becomes: its kind, its position and what it names. Only where it has a
 -- name of the source can it be want of memory.
@@ -48,8 +47,7 @@ IsErrorOf src (fault.UnexpectedXmlnsUri at) e = e ≡ error.UnexpectedXmlnsUri (
 IsErrorOf src (fault.InvalidElementNamePrefix at) e = e ≡ error.InvalidElementNamePrefix (position_at src at)
 IsErrorOf src (fault.DuplicatedNamespace name at) e = IsErrorWithName src name (λ n. error.DuplicatedNamespace n (position_at src at)) e
 IsErrorOf src (fault.UnknownNamespace name at) e = IsErrorWithName src name (λ n. error.UnknownNamespace n (position_at src at)) e
-IsErrorOf src (fault.UnexpectedCloseTag expected actual at) e =
-    IsErrorWithNames src expected actual (λ n m. error.UnexpectedCloseTag n m (position_at src at)) e
+IsErrorOf src (fault.UnexpectedCloseTag expected actual at) e = IsErrorWithNames src expected actual (λ n m. error.UnexpectedCloseTag n m (position_at src at)) e
 IsErrorOf src (fault.UnexpectedEntityCloseTag at) e = e ≡ error.UnexpectedEntityCloseTag (position_at src at)
 IsErrorOf src (fault.UnknownEntityReference name at) e = IsErrorWithName src name (λ n. error.UnknownEntityReference n (position_at src at)) e
 IsErrorOf src (fault.MalformedEntityReference at) e = e ≡ error.MalformedEntityReference (position_at src at)
@@ -66,10 +64,8 @@ IsErrorOf src fault.NamespacesLimitReached e = e ≡ error.NamespacesLimitReache
 IsErrorOf src (fault.InvalidName at) e = e ≡ error.InvalidName (position_at src at)
 IsErrorOf src (fault.NonXmlChar c at) e = e ≡ error.NonXmlChar c (position_at src at)
 IsErrorOf src (fault.InvalidChar expected actual at) e = e ≡ error.InvalidChar expected actual (position_at src at)
-IsErrorOf src (fault.InvalidChar2 expected actual at) e =
-    (words : Bor (List ℕ)) × (words.now ≡ due_text expected) × (e ≡ error.InvalidChar2 words actual (position_at src at))
-IsErrorOf src (fault.InvalidString expected at) e =
-    (words : Bor (List ℕ)) × (words.now ≡ expected_text expected) × (e ≡ error.InvalidString words (position_at src at))
+IsErrorOf src (fault.InvalidChar2 kind actual at) e = (words : Bor (List ℕ)) × (words.now ≡ due_text kind) × (e ≡ error.InvalidChar2 words actual (position_at src at))
+IsErrorOf src (fault.InvalidString text at) e = (words : Bor (List ℕ)) × (words.now ≡ expected_text text) × (e ≡ error.InvalidString words (position_at src at))
 IsErrorOf src (fault.InvalidExternalID at) e = e ≡ error.InvalidExternalID (position_at src at)
 IsErrorOf src (fault.InvalidComment at) e = e ≡ error.InvalidComment (position_at src at)
 IsErrorOf src (fault.InvalidCharacterData at) e = e ≡ error.InvalidCharacterData (position_at src at)

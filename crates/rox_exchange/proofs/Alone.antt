@@ -12,7 +12,7 @@ use Rattle.rox_grammar.specs.Forest.{Forest, Nil, Cons}
 use Rattle.rox_grammar.specs.Written.{Item}
 use Rattle.rox_grammar.specs.Tree.{Node, Root, resolved, document_tree}
 use Rattle.rox_grammar.specs.Names.{byte, slice}
-use Rattle.rox_grammar.specs.Content.{IsElement, empty, nest}
+use Rattle.rox_grammar.specs.Content.{IsElement, empty, nest, start_tag}
 use Rattle.rox_grammar.specs.WellNamed.{AreWellNamed}
 use Rattle.rox_grammar.specs.TextStart.{after_bom, MayHaveXmlDecl, not_declared}
 use Rattle.rox_grammar.specs.FixedTexts.{bom}
@@ -33,8 +33,8 @@ use Rattle.rox_exchange.proofs.Context.{join_nil}
 
 -- the first two bytes of an element
 pub element_begins : (src : List ℕ) (i j b c : ℕ) (one : Forest Item) → IsElement true no_entities src i j b c one → (byte src i ≡ 60) × (byte src (i + 1) ≢ 63)
-element_begins src i j b c one (empty _ _ _ _ t tag) = let n = name_byte src (i + 1) t.name t.name_end tag.is_name in (tag.begins, n.no_question)
-element_begins src i j b c one (nest _ k m p _ _ d _ t kids tag inner end) = let n = name_byte src (i + 1) t.name t.name_end tag.is_name in (tag.begins, n.no_question)
+element_begins src i j b c one (empty _ _ _ _ _ (start_tag n last name written begin is_name list end)) = let k = name_byte src (i + 1) name n is_name in (begin, k.no_question)
+element_begins src i j b c one (nest _ k m p _ _ d _ _ kids (start_tag n last name written begin is_name list end) inner close) = let k = name_byte src (i + 1) name n is_name in (begin, k.no_question)
 
 -- no declaration begins with it
 pub undeclared : (src : List ℕ) (i j b c : ℕ) (one : Forest Item) → IsElement true no_entities src i j b c one → at word.XmlDeclStart src i ≡ false

@@ -7,7 +7,7 @@ use Rattle.rox_grammar.specs.Written.{Name, Attribute, Tag}
 use Rattle.rox_grammar.specs.Names.{byte, spaces_end}
 use Rattle.rox_grammar.specs.References.{predefined}
 use Rattle.rox_grammar.specs.Constructs.{IsLiteral, IsPair}
-use Rattle.rox_grammar.specs.Content.{Inclusion, DataByte, literal, Part, part_ends, as_written, from_reference, Value, value_ends, line_end, white, other, a_character, an_entity, is_verbatim_value, IsAttribute, attribute, Attributes, no_more, one_more, TagEnds, opened, closed, IsTag}
+use Rattle.rox_grammar.specs.Content.{Inclusion, DataByte, literal, Part, part_ends, as_written, from_reference, Value, value_ends, line_end, white, other, a_character, an_entity, is_verbatim_value, IsAttribute, attribute, Attributes, no_more, one_more, TagEnds, opened, closed, IsTag, start_tag}
 use Rattle.rox_exchange.specs.Local.{Fronts}
 use Rattle.rox_exchange.proofs.Cuts.{byte_cut, slice_cut, literal_cut}
 use Rattle.rox_exchange.proofs.Fronts.{from_here, behind}
@@ -117,20 +117,11 @@ module _ (src to : List ℕ) (m : ℕ) (f : Fronts src to m) where
 
   -- a tag
   pub tag_cut : (main : Bool) (Includes : Inclusion) (i j b c : ℕ) (is_empty : Bool) (t : Tag) → j ≤ m → IsTag main Includes src i j b c is_empty t → IsTag main Includes to i j b c is_empty t
-  tag_cut main Includes i j b c is_empty t fits is =
-      let le = qname_le src (i + 1) t.name t.name_end is.is_name in
-      let le' = attributes_le src main Includes t.name_end is.last b c is.written is.attributes in
-      let lt = tag_ends_lt src is.last is_empty j is.ends in
-      let lt' = run_le is_space src is.last in
-      let n = qname_cut src to m f (i + 1) t.name t.name_end (behind src to m f 60 i (omega arith) is.begins (omega arith)) (omega arith) is.is_name in
-      let a = attributes_cut main Includes t.name_end is.last b c is.written n.1 (omega arith) is.attributes in
-      record {
-        begins = has_byte src to m f 60 i (omega arith) is.begins;
-        is_name = n.0;
-        written = is.written;
-        last = is.last;
-        attributes = a.0;
-        ends = tag_ends_cut is.last is_empty j a.1 fits is.ends;
-        declares = is.declares;
-        has = is.has;
-      }
+  tag_cut main Includes i j b c is_empty _ fits (start_tag n last name written begin is_name list end) =
+      let le = qname_le src (i + 1) name n is_name in
+      let le' = attributes_le src main Includes n last b c written list in
+      let lt = tag_ends_lt src last is_empty j end in
+      let lt' = run_le is_space src last in
+      let q = qname_cut src to m f (i + 1) name n (behind src to m f 60 i (omega arith) begin (omega arith)) (omega arith) is_name in
+      let a = attributes_cut main Includes n last b c written q.1 (omega arith) list in
+      start_tag n last name written (has_byte src to m f 60 i (omega arith) begin) q.0 a.0 (tag_ends_cut last is_empty j a.1 fits end)

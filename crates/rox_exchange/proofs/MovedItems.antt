@@ -80,12 +80,8 @@ module _ (m : Move) where
       (known, same_any scope a before ∙ new, subst (λ (bs : List Attribute). DistinctBehind scope bs (map (moved_written m) as')) (snoc_map before a) (distinct_moves scope (before ++ a ∷ []) as' more))
 
   item_named : (scope : List NamespaceDecl) (item : Item) → ItemWellNamed scope item → ItemWellNamed scope (moved_item m item)
-  item_named scope (Element a e t) is = record {
-    no_xmlns = is.no_xmlns;
-    declarations = is.declarations;
-    attributes = are_distinct scope (map (moved_written m) t.attributes) (distinct_moves scope [] t.attributes (distinct_behind scope t.attributes is.attributes));
-    element = is.element;
-  }
+  item_named scope (Element a e t) is =
+      (is.0, is.1, are_distinct scope (map (moved_written m) t.attributes) (distinct_moves scope [] t.attributes (distinct_behind scope t.attributes is.2)), is.3)
   item_named scope (Text a e v borrowed) is = is
   item_named scope (Comment a e t) is = is
   item_named scope (PI a e t o) is = is

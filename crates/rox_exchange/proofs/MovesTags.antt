@@ -4,7 +4,8 @@ use Rattle.std.proofs.lemmas.Bool.{cases_Bool}
 use Rattle.rox_grammar.specs.Written.{Attribute, NamespaceDecl, Tag, is_namespace_decl, namespace_decl_of, namespace_decls_of, plain_attributes_of}
 use Rattle.rox_grammar.specs.Names.{byte, spaces_end}
 use Rattle.rox_grammar.specs.References.{predefined}
-use Rattle.rox_grammar.specs.Content.{Inclusion, DataByte, literal, Part, part_ends, as_written, from_reference, Value, value_ends, line_end, white, other, a_character, an_entity, is_verbatim_value, IsAttribute, Attributes, no_more, one_more, TagEnds, opened, closed, IsTag}
+use Rattle.rox_grammar.specs.Content.{Inclusion, DataByte, literal, Part, part_ends, as_written, from_reference, Value, value_ends, line_end, white, other, a_character, an_entity, is_verbatim_value, IsAttribute, Attributes, no_more, one_more, TagEnds, opened, closed, IsTag, start_tag}
+use Rattle.rox_grammar.proofs.TagParts.{tag_of}
 use Rattle.rox_grammar.specs.Exchange.{Move, moved}
 use Rattle.rox_theory.proofs.AttributeParts.{parts_of, from_parts}
 use Rattle.rox_exchange.specs.Local.{Follows, moved_written, moved_tag}
@@ -135,18 +136,18 @@ module _ (m : Move) (src to : List ℕ) where
 
   -- a tag
   pub tag_moves : (main : Bool) (Includes : Inclusion) (i k j b c : ℕ) (is_empty : Bool) (t : Tag) → Follows m src i to k → IsTag main Includes src i j b c is_empty t → IsTag main Includes to k (moved m j) b c is_empty (moved_tag m t)
-  tag_moves main Includes i k j b c is_empty t f is =
-      let n = qname_le src (i + 1) t.name t.name_end is.is_name in
-      let a = attributes_le src main Includes t.name_end is.last b c is.written is.attributes in
-      let g = from m src to i k t.name_end (omega arith) f in
-      let h = from m src to i k is.last (omega arith) f in
-      record {
-        begins = byte_is m src to 60 i k f is.begins;
-        is_name = qname_moves m src to (i + 1) (k + 1) t.name t.name_end (on m src to i k 1 f) is.is_name;
-        written = map (moved_written m) is.written;
-        last = moved m is.last;
-        attributes = attributes_go main Includes t.name_end (moved m t.name_end) is.last b c is.written g is.attributes;
-        ends = tag_ends_move is.last (moved m is.last) is_empty j h is.ends;
-        declares = is.declares ∙ sym (declarations_move m is.written);
-        has = ap (map (moved_written m)) is.has ∙ sym (attributes_move m is.written);
-      }
+  tag_moves main Includes i k j b c is_empty _ f (start_tag n last name written begin is_name list end) =
+      let q = qname_le src (i + 1) name n is_name in
+      let a = attributes_le src main Includes n last b c written list in
+      let g = from m src to i k n (omega arith) f in
+      let h = from m src to i k last (omega arith) f in
+      tag_of (record {
+        begins = byte_is m src to 60 i k f begin;
+        is_name = qname_moves m src to (i + 1) (k + 1) name n (on m src to i k 1 f) is_name;
+        written = map (moved_written m) written;
+        last = moved m last;
+        attributes = attributes_go main Includes n (moved m n) last b c written g list;
+        ends = tag_ends_move last (moved m last) is_empty j h end;
+        declares = sym (declarations_move m written);
+        has = sym (attributes_move m written);
+      })

@@ -7,7 +7,7 @@ use Rattle.rox_grammar.specs.Runs.{run_end}
 use Rattle.rox_grammar.specs.Names.{spaces_end, IsName, IsNCName, IsQName, unprefixed, prefixed, colon_first}
 use Rattle.rox_grammar.specs.References.{IsReference, IsCharacter, decimal, hexadecimal, named}
 use Rattle.rox_grammar.specs.Constructs.{AreChars, IsComment, IsPI, IsCData, IsEq, IsLiteral, IsEnd}
-use Rattle.rox_grammar.specs.Content.{Inclusion, IsAttribute, Attributes, no_more, one_more, TagEnds, opened, closed, IsTag, IsMisc, comment, instruction, IsElement, empty, nest, Content, ends, run, cdata, misc, node, attribute}
+use Rattle.rox_grammar.specs.Content.{Inclusion, IsAttribute, Attributes, no_more, one_more, TagEnds, opened, closed, IsTag, IsMisc, comment, instruction, IsElement, empty, nest, Content, ends, run, cdata, misc, node, attribute, start_tag}
 use Rattle.rox_theory.proofs.Productions.{ncname_parts, number_parts, reference_parts, comment_parts, pi_parts, cdata_parts, end_parts, char_data_parts}
 
 pub run_le : (p : ℕ → Bool) (src : List ℕ) (i : ℕ) → i ≤ run_end p src i
@@ -67,13 +67,13 @@ module _ (src : List ℕ) where
   tag_ends_lt i is_empty j (closed _ slash close) = omega arith
 
   pub tag_lt : (main : Bool) (Includes : Inclusion) (i j b c : ℕ) (is_empty : Bool) (t : Tag) → IsTag main Includes src i j b c is_empty t → i < j
-  tag_lt main Includes i j b c is_empty t is =
+  tag_lt main Includes i j b c is_empty _ (start_tag n last name written begin is_name list end) =
       omega (
         arith,
-        qname_le (i + 1) t.name t.name_end is.is_name,
-        attributes_le main Includes t.name_end is.last b c is.written is.attributes,
-        tag_ends_lt is.last is_empty j is.ends,
-        run_le is_space src is.last,
+        qname_le (i + 1) name n is_name,
+        attributes_le main Includes n last b c written list,
+        tag_ends_lt last is_empty j end,
+        run_le is_space src last,
       )
 
   pub end_lt : (i : ℕ) (name : Name) (n j : ℕ) → IsEnd src i name n j → i < j

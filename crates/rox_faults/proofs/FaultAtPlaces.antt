@@ -119,7 +119,7 @@ module _ (opens : ℕ → Inclusion) (es : List Entity) (all : OpensAt opens es)
         run_reference_apart es (is_main k) (opens k) src r.utf8 (content_declared k) s.at run.0 b run.2.openings_left q run.2.items f run.2.parts from below' ill
     run_apart f below other (faults.InRun.too_many stop q j c front t is to inside' refers spent) =
         let found = (opened_there opens es all limit W k open_around b src s r stop q c j front t is to inside' refers).1 in
-        let x = all.content k c found.openings_left (slice src (q + 1) refers.n) found.opened found.opens in
+        let x = all.content k c found.openings_left (slice src (q + 1) refers.0) found.opened found.opens in
         spent_apart k c x.1 x.4 spent
 
     -- in a CDATA section
@@ -146,8 +146,8 @@ module _ (opens : ℕ → Inclusion) (es : List Entity) (all : OpensAt opens es)
 
     end_apart : (f : Fault) → InEnd open_around src s f → ⊥
     unfolding tag_of
-    end_apart f (lacks q t _ (due.DueInEnd.its_name opens') (no_qname none)) = let there = end_there opens' in none there.1.name there.4 (end_parts there.8).is_name
-    end_apart f (lacks q t _ (due.DueInEnd.its_end name n opens' is_name) lack) =
+    end_apart f (lacks _ (q, t, due.DueInEnd.its_name opens', no_qname none)) = let there = end_there opens' in none there.1.name there.4 (end_parts there.8).is_name
+    end_apart f (lacks _ (q, t, due.DueInEnd.its_end name n opens' is_name, lack)) =
         let there = end_there opens' in
         let same = (one_qname src (s.at + 2) n there.4 name there.1.name is_name (end_parts there.8).is_name).1 in
         let closes : byte src (spaces_end src n) ≡ 62 = ap (λ (n : ℕ). byte src (spaces_end src n)) same ∙ (end_parts there.8).closes in
@@ -200,7 +200,7 @@ module _ (opens : ℕ → Inclusion) (es : List Entity) (all : OpensAt opens es)
     -- so no fault stands at the place but those of the limits
     pub stands_apart : (f : Fault) → Stands limit es k open_around (opens k) src s b f → IsOver W f
     stands_apart f (in_run _ inner below other ill) = absurd (run_apart f below other ill)
-    stands_apart f (in_section q t _ inner opens' due' lack) = absurd (section_apart q t f opens' due' lack)
+    stands_apart f (in_section _ inner opens' (q, t, due', lack)) = absurd (section_apart q t f opens' due' lack)
     stands_apart f (in_misc _ inner ill) = absurd (item_apart f ill)
     stands_apart f (in_tag _ begins ill) = let there = tag_there begins in read_tag_apart there.0 f there.1 there.2 there.3 ill
     stands_apart f (in_end _ inner ill) = absurd (end_apart f ill)
@@ -270,11 +270,11 @@ module _ (opens : ℕ → Inclusion) (es : List Entity) (all : OpensAt opens es)
   part_read k src start end b l part i stop d whole itself = whole
   part_read k src start end b l part i stop d whole (opened m i' stop' d' c _ p j part' front t within' to below refers may) =
       let outer = part_read k src start end b m part' i' stop' d' whole within' in
-      let name = slice part' (p + 1) refers.n in
-      let there = value_front (is_main m) (opens m) (spends_once outer.depth m outer.deep) part' stop' i' p refers.n j d' c outer.openings_left front outer.bytes to outer.value below refers.is_reference refers.no_character in
+      let name = slice part' (p + 1) refers.0 in
+      let there = value_front (is_main m) (opens m) (spends_once outer.depth m outer.deep) part' stop' i' p refers.0 j d' c outer.openings_left front outer.bytes to outer.value below refers.1 refers.2 in
       let x = all.value m c there.1 name there.0 there.2 in
-      let text = all.texts name t refers.found in
-      let text_is : x.0 ≡ t = same_text es name x.0 t x.3 refers.found in
+      let text = all.texts name t refers.3 in
+      let text_is : x.0 ≡ t = same_text es name x.0 t x.3 refers.3 in
       let openings_left_is : x.1 ≡ d = may_once m c x.1 d x.4 may in
       let value : Value false (opens (suc m)) t.source (length t.source) t.start d x.2 there.0 =
       subst (λ (r : ℕ). Value false (opens (suc m)) t.source (length t.source) t.start r x.2 there.0) openings_left_is
@@ -295,17 +295,17 @@ module _ (opens : ℕ → Inclusion) (es : List Entity) (all : OpensAt opens es)
   part_apart : (l : ℕ) (part : List ℕ) (i stop d : ℕ) (f : Fault) → PartRead l part i stop d → InValue es l (opens l) part i stop d f → ⊥
   part_apart l part i stop d f r (faults.InValue.in_reference q _ from below ill) = value_reference_apart es (is_main l) (opens l) part r.utf8 (value_declared l) i stop d r.openings_left q r.bytes f r.value from below ill
   part_apart l part i stop d f r (faults.InValue.too_many q j c front t to below refers spent) =
-      let there = value_front (is_main l) (opens l) (spends_once r.depth l r.deep) part stop i q refers.n j d c r.openings_left front r.bytes to r.value below refers.is_reference refers.no_character in
-      let x = all.value l c there.1 (slice part (q + 1) refers.n) there.0 there.2 in
+      let there = value_front (is_main l) (opens l) (spends_once r.depth l r.deep) part stop i q refers.0 j d c r.openings_left front r.bytes to r.value below refers.1 refers.2 in
+      let x = all.value l c there.1 (slice part (q + 1) refers.0) there.0 there.2 in
       spent_apart l c x.1 x.4 spent
   part_apart l part i stop d f r (less q inner from below (inl here)) = value_no_less es (is_main l) (opens l) part r.utf8 stop i q d r.openings_left r.bytes r.value from below here
   part_apart l part i stop d f r (less q inner from below (inr (j, is))) = value_gives_less es (is_main l) (opens l) part r.utf8 (value_declared l) i stop d r.openings_left q j r.bytes r.value inner from below is
   part_apart l part i stop d f r (faults.InValue.no_char q c inner from below stands ill) = chars_refuse part i stop q c r.utf8 r.cut r.end_cut from below r.chars stands ill
 
   -- nor in a value of a start tag at a place
-  pub value_apart : (k open_around b p c n v e j l i stop d : ℕ) (src part : List ℕ) (s : grammar.State) (as' : List Attribute) (name : Name) (f : Fault) → There k open_around src (state_of s b) → TagBegins src s.at (is_content k s.stack)
-      → TagTo (is_main k) (opens k) src s p b c as' → IsQName src (spaces_end src p) name n → IsEq src n v → IsLiteral src v e j → ValuePart opens es k src (v + 1) e c l part i stop d → InValue es l (opens l) part i stop d f → ⊥
-  value_apart k open_around b p c n v e j l i stop d src part s as' name f r begins to named eq literal is ill =
+  pub value_apart : (k open_around b p c n v e j l i stop d : ℕ) (src part : List ℕ) (s : grammar.State) (tag_name : Name) (as' : List Attribute) (name : Name) (f : Fault) → There k open_around src (state_of s b) → TagBegins src s.at (is_content k s.stack)
+      → TagTo (is_main k) (opens k) src s p b c tag_name as' → IsQName src (spaces_end src p) name n → IsEq src n v → IsLiteral src v e j → ValuePart opens es k src (v + 1) e c l part i stop d → InValue es l (opens l) part i stop d f → ⊥
+  value_apart k open_around b p c n v e j l i stop d src part s tag_name as' name f r begins to named eq literal is ill =
       let there = tag_there k open_around b src s r begins in
       part_apart l part i stop d f (part_read k src (v + 1) e c l part i stop d (literal_read there.0 there.1 there.2 there.3) is) ill
     where
@@ -313,7 +313,7 @@ module _ (opens : ℕ → Inclusion) (es : List Entity) (all : OpensAt opens es)
       literal_read t (j', c', x, empty, is', leads) fine named' =
           let adds : W → Adds (state_of s b) (Element s.at j' x) = λ w. tag_adds k open_around b src s r j' c' x empty (subst (IsValidState limit) leads (fine w)) in
           let well_named = tag_named k open_around b src s r j' c' x empty (subst (λ (u : State). AreNamed u.stack u.done) leads named') in
-          let value = value_there (context_at limit es r.d k open_around).values (opens k) (all.values r.d k r.deep) src r.utf8 s j' b c' empty x is' well_named W (λ w. (adds w).attributes) (λ w. (adds w).pairs) p c n v e j as' name to named eq literal in
+          let value = value_there (context_at limit es r.d k open_around).values (opens k) (all.values r.d k r.deep) src r.utf8 s j' b c' empty x is' well_named W (λ w. (adds w).attributes) (λ w. (adds w).pairs) p c n v e j tag_name as' name to named eq literal in
           let low = quote_ascii (byte src v) literal.0.0 in
           let end = literal.0.1 in let closes = literal.0.2 in
           let h = from_here (λ c. c == byte src v) src (v + 1) (rw (← end) closes) in

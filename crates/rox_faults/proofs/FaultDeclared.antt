@@ -12,7 +12,7 @@ use Rattle.rox_grammar.specs.Search.{byte_from}
 use Rattle.rox_grammar.specs.FixedTexts.{word_text, at}
 use Rattle.rox_grammar.specs.Names.{byte, spaces_end}
 use Rattle.rox_grammar.specs.Doctype.{Request, IsExternalID, BeginsEntity}
-use Rattle.rox_grammar.specs.Due.{DueItem, a_name, a_byte, IsMissing, no_name, no_external_id, none_left, DueInLiteral, DueInExternalID, DueInEntity, DueInDoctype}
+use Rattle.rox_grammar.specs.Due.{DueItem, a_name, a_byte, IsMissing, Misses, no_name, no_external_id, none_left, DueInLiteral, DueInExternalID, DueInEntity, DueInDoctype}
 use Rattle.rox_faults.proofs.DueForms.{a_space, a_quote, a_definition, no_space, no_definition}
 use Rattle.rox_grammar.specs.Due as dues
 use Rattle.rox_reading.specs.Lexical.{byte_at, space_at, quote_at, name_at}
@@ -40,10 +40,6 @@ unfolding name_at
 name_fails src i f h =
     chosen (begins is_name_start src i) _ _ _ h (λ fine h. cc)
     (λ fails h. let is : fault.InvalidName i ≡ f = cc in subst (IsMissing src i a_name) is (no_name (λ j name. let s = name.starts in cc (sym fails ∙ s))))
-
--- something is due at a place, and does not stand there
-abbrev pub Misses : List ℕ → (ℕ → DueItem → Type 0) → Fault → Type 0
-Misses src Due f = (q : ℕ) × (t : DueItem) × Due q t × IsMissing src q t f
 
 -- a literal
 quoted_fails : (src : List ℕ) (i : ℕ) (f : Fault) → quoted_at src i ≡ Err f → Misses src (DueInLiteral src i) f

@@ -279,7 +279,7 @@ module _ (src : List ℕ) (utf8 : IsUtf8 src) where
   -- a fault in it is that of a limit
   pub in_doctype_apart : (W : Type 0) (limit i j : ℕ) (before nodes after : Forest Item) (asked given : List Asked) (es : List Entity) (source : List ℕ) (f : Fault) → IsDoctype src i j nodes given es
       → (W → 1 + size (merge (join before (join nodes after))) ≤ limit) → SameAnswers asked given → InDoctype limit src i before asked source f → IsOver W f
-  in_doctype_apart W limit i j before nodes after asked given es source f is few same (head_lacks p t _ due' lack) = let h = head_there i j nodes given es is in absurd (head_apart i h.0 p t f h.1 h.2 due' lack)
+  in_doctype_apart W limit i j before nodes after asked given es source f is few same (head_lacks _ (p, t, due', lack)) = let h = head_there i j nodes given es is in absurd (head_apart i h.0 p t f h.1 h.2 due' lack)
   in_doctype_apart W limit i j before nodes after asked given es source f is few same (no_name n sp past) = let h = head_there i j nodes given es is in absurd (head_not_cut i h.0 n h.1 sp past)
   in_doctype_apart W limit i j before nodes after asked given es source f is few same (in_subset p items _ _ _ _ to fits (in_miscs _ (in_one _ ill))) =
       let c = closed_there i j p items nodes asked given [] es is to (subst (λ (a : List Asked). SameAnswers a given) (sym (append-nil asked)) same) in
@@ -304,7 +304,7 @@ module _ (src : List ℕ) (utf8 : IsUtf8 src) where
       let there = passed_there src utf8 c.k c.bracket p r.rest r.more r.gs r.left opens in
       let closes = there.1.closes in
       absurd (omega arith)
-  in_doctype_apart W limit i j before nodes after asked given es source f is few same (in_subset p items _ _ _ _ to fits (in_entity q t _ opens due' lack)) =
+  in_doctype_apart W limit i j before nodes after asked given es source f is few same (in_subset p items _ _ _ _ to fits (in_entity _ opens (q, t, due', lack))) =
       let c = closed_there i j p items nodes asked given [] es is to (subst (λ (a : List Asked). SameAnswers a given) (sym (append-nil asked)) same) in
       let r = c.front in
       let there = entity_there src utf8 c.k c.bracket p r.rest r.more r.gs r.left opens in
@@ -319,7 +319,7 @@ module _ (src : List ℕ) (utf8 : IsUtf8 src) where
       let r = c.front in
       let there = entity_there src utf8 c.k c.bracket p r.rest r.more r.gs r.left begins.opens in
       absurd (not_cut p there.0 there.1 there.3 there.5 n m d e x parameter request begins external' cut)
-  in_doctype_apart W limit i j before nodes after asked given es source f is few same (in_subset p items before' _ _ _ to fits (in_answer n m d e x q parameter request answer t _ begins external' may text opens due' lack)) =
+  in_doctype_apart W limit i j before nodes after asked given es source f is few same (in_subset p items before' _ _ _ to fits (in_answer n m d e x parameter request answer _ begins external' may text opens (q, t, due', lack))) =
       let c = closed_there i j p items nodes before' given (record { request = request; answer = Some answer } ∷ []) es is to same in
       let r = c.front in
       let there = entity_there src utf8 c.k c.bracket p r.rest r.more r.gs r.left begins.opens in

@@ -17,7 +17,8 @@ use Rattle.rox_grammar.specs.Written.{Name, Attribute, NamespaceDecl, Tag, is_na
 use Rattle.rox_grammar.specs.Tree.{xml_uri, xmlns_uri, is_declared, listed, is_xml, listable_of}
 use Rattle.rox_grammar.specs.Names.{byte, spaces_end, IsQName, unprefixed, prefixed, colon_first}
 use Rattle.rox_grammar.specs.Constructs.{IsEq, IsLiteral}
-use Rattle.rox_grammar.specs.Content.{Inclusion, Value, IsAttribute, attribute, Attributes, no_more, one_more, TagEnds, opened, closed, IsTag}
+use Rattle.rox_grammar.specs.Content.{Inclusion, Value, IsAttribute, attribute, Attributes, no_more, one_more, TagEnds, opened, closed, IsTag, start_tag}
+use Rattle.rox_grammar.proofs.TagParts.{TagParts, tag_parts}
 use Rattle.rox_grammar.specs.WellNamed.{may_declare, is_known, same_expanded, IsWellNamed}
 use Rattle.rox_grammar.proofs.NamesApart.{DeclarableBehind, DistinctBehind, declarable_behind, distinct_behind}
 use Rattle.rox_grammar.specs.Document.{most_attributes, most_pairs}
@@ -181,19 +182,22 @@ module _ (context : Values) (O : Inclusion) (agrees : AgreesValue context.entiti
   slash_apart p j b empty rest f (it_ends (closed _ slash' close)) slash lack = byte_stands src 62 (spaces_end src p + 1) f (omega arith) close lack
   slash_apart p j b empty rest f (it_goes q c _ more spaces (attribute n v e name value is read)) slash lack = (name_byte src (spaces_end src p) name n is.0).no_slash slash
 
-  module _ (s : State) (j b e : ℕ) (empty : Bool) (tag : Tag) (is : IsTag context.main O src s.at j b e empty tag) (well_named : IsWellNamed (listed (scope_of s.stack) tag.declarations) tag)
+  module _ (s : State) (j b e : ℕ) (empty : Bool) (tag : Tag) (is_tag : IsTag context.main O src s.at j b e empty tag) (well_named : IsWellNamed (listed (scope_of s.stack) tag.declarations) tag)
       (W : Type 0) (few : W → attributes_so_far s.stack s.done + length tag.attributes ≤ most_attributes) (few_pairs : W → length (with_new (distinct_pairs (pairs_so_far s.stack s.done)) (listable_of tag.declarations)) ≤ most_pairs) where
+    abbrev is : TagParts context.main O src s.at j b e empty tag
+    is = tag_parts is_tag
+
     -- what is read of it is a front of it
-    tag_front : (p c : ℕ) (as' : List Attribute) → TagTo context.main O src s p b c as' → (rest : List Attribute) × (is.written ≡ as' ++ rest) × Next context.main O src p empty j c rest
-    tag_front p c as' to =
-        let same : to.name_end ≡ tag.name_end = (one_qname src (s.at + 1) to.name_end tag.name_end to.name tag.name to.is_name is.is_name).1 in
-        front tag.name_end p is.last b c e j empty as' is.written (subst (λ (n : ℕ). Attributes context.main O src n p b c as') same to.attributes) is.attributes is.ends
+    tag_front : (p c : ℕ) (name : Name) (as' : List Attribute) → TagTo context.main O src s p b c name as' → (rest : List Attribute) × (is.written ≡ as' ++ rest) × Next context.main O src p empty j c rest
+    tag_front p c name as' (n, is_name, no_xmlns, attributes, declarable, few) =
+        let same : n ≡ tag.name_end = (one_qname src (s.at + 1) n tag.name_end name tag.name is_name is.is_name).1 in
+        front tag.name_end p is.last b c e j empty as' is.written (subst (λ (n : ℕ). Attributes context.main O src n p b c as') same attributes) is.attributes is.ends
 
     -- a character begins behind it
-    to_cut : (p c : ℕ) (as' : List Attribute) → TagTo context.main O src s p b c as' → IsCharBoundary src p
-    to_cut p c as' to =
+    to_cut : (p c : ℕ) (name : Name) (as' : List Attribute) → TagTo context.main O src s p b c name as' → IsCharBoundary src p
+    to_cut p c name as' (n, is_name, no_xmlns, attributes, declarable, few) =
         let cut' : IsCharBoundary src (s.at + 1) = cut_behind src s.at 60 utf8 is.begins (omega arith) (omega arith) in
-        attributes_cut to.name_end p b c as' (qname_text src (s.at + 1) to.name to.name_end utf8 cut' to.is_name).3 to.attributes
+        attributes_cut n p b c as' (qname_text src (s.at + 1) name n utf8 cut' is_name).3 attributes
 
     -- what it declares in front, and then
     all_declared : (as' rest : List Attribute) → is.written ≡ as' ++ rest → tag.declarations ≡ namespace_decls_of as' ++ namespace_decls_of rest
@@ -240,26 +244,26 @@ module _ (context : Values) (O : Inclusion) (agrees : AgreesValue context.entiti
         → is_namespace_decl a.name ≡ true → IllDeclared src (namespace_decls_of as') a f → ⊥
     declared_in p k c d as' rest a f same next spaces is' declares' ill =
         let there = declared_there p k c d as' rest a same next spaces is' declares' in
-        let may = declarable_at [] (namespace_decls_of as') there.0 (namespace_decl_of a) (subst (DeclarableBehind []) there.1 (declarable_behind tag.declarations well_named.declarations)) in
+        let may = declarable_at [] (namespace_decls_of as') there.0 (namespace_decl_of a) (subst (DeclarableBehind []) there.1 (declarable_behind tag.declarations well_named.1)) in
         declared_apart src (namespace_decls_of as') a f may.0 may.1 ill
 
     -- nor a name that is unknown, or stands twice
     named_in : (f : Fault) → IllNamed src s.at (listed (scope_of s.stack) tag.declarations) tag.name tag.attributes f → ⊥
     named_in f (unknown_attribute before after a name split distinct unknown holds) =
-        let d = distinct_at (listed (scope_of s.stack) tag.declarations) [] before after a (subst (DistinctBehind (listed (scope_of s.stack) tag.declarations) []) split (distinct_behind (listed (scope_of s.stack) tag.declarations) tag.attributes well_named.attributes)) in
+        let d = distinct_at (listed (scope_of s.stack) tag.declarations) [] before after a (subst (DistinctBehind (listed (scope_of s.stack) tag.declarations) []) split (distinct_behind (listed (scope_of s.stack) tag.declarations) tag.attributes well_named.2)) in
         true≢false (sym d.0 ∙ unknown)
     named_in f (twice before after a name split distinct known again' holds) =
-        let d = distinct_at (listed (scope_of s.stack) tag.declarations) [] before after a (subst (DistinctBehind (listed (scope_of s.stack) tag.declarations) []) split (distinct_behind (listed (scope_of s.stack) tag.declarations) tag.attributes well_named.attributes)) in
+        let d = distinct_at (listed (scope_of s.stack) tag.declarations) [] before after a (subst (DistinctBehind (listed (scope_of s.stack) tag.declarations) []) split (distinct_behind (listed (scope_of s.stack) tag.declarations) tag.attributes well_named.2)) in
         true≢false (sym again' ∙ d.1)
-    named_in f (unknown_element name distinct unknown holds) = true≢false (sym well_named.element ∙ unknown)
+    named_in f (unknown_element name distinct unknown holds) = true≢false (sym well_named.3 ∙ unknown)
 
     -- it is the tag that stands there
-    same_tag : (p k c : ℕ) (x : Bool) (as' : List Attribute) (to : TagTo context.main O src s p b c as') → TagEnds src p x k
-        → ◌≡◌ {A = Tag} (record { name = to.name; name_end = to.name_end; declarations = namespace_decls_of as'; attributes = plain_attributes_of as' }) tag
-    same_tag p k c x as' to ends =
-        let t : Tag = record { name = to.name; name_end = to.name_end; declarations = namespace_decls_of as'; attributes = plain_attributes_of as' } in
-        let is' : IsTag context.main O src s.at k b c x t = record { begins = is.begins; is_name = to.is_name; written = as'; last = p; attributes = to.attributes; ends = ends; declares = refl; has = refl } in
-        (one_tag context O agrees src utf8 s.at k j b c e t tag x empty is' is).1
+    same_tag : (p k c : ℕ) (x : Bool) (name : Name) (as' : List Attribute) (to : TagTo context.main O src s p b c name as') → TagEnds src p x k
+        → ◌≡◌ {A = Tag} (record { name = name; name_end = to.0; declarations = namespace_decls_of as'; attributes = plain_attributes_of as' }) tag
+    same_tag p k c x name as' to ends =
+        let t : Tag = record { name = name; name_end = to.0; declarations = namespace_decls_of as'; attributes = plain_attributes_of as' } in
+        let is' : IsTag context.main O src s.at k b c x t = start_tag to.0 p name as' is.begins to.1 to.3 ends in
+        (one_tag context O agrees src utf8 s.at k j b c e t tag x empty is' is_tag).1
 
     -- so no fault of a start tag stands in it but those of the limits: rows 1 to 6, 9, 10, 13 to 15, 19 to 24, 31
     pub tag_apart : (f : Fault) → InTag context.main O src s b f → IsOver W f
@@ -267,19 +271,19 @@ module _ (context : Values) (O : Inclusion) (agrees : AgreesValue context.entiti
     tag_apart f (xmlns_prefix name n named prefix) =
         let same : name ≡ tag.name = (one_qname src (s.at + 1) n tag.name_end name tag.name named is.is_name).0 in
         let prefix' : tag.name.prefix ≡ word_text word.Xmlns = ap (λ (n : Name). n.prefix) (sym same) ∙ prefix in
-        absurd (true≢false (sym ((bytes_eq-Decides tag.name.prefix (word_text word.Xmlns)).1 prefix') ∙ well_named.no_xmlns))
-    tag_apart f (in_rest p c as' _ to (cut past main')) =
-        let x = tag_front p c as' to in let l = next_within p j c empty x.0 x.2 in absurd (omega (arith, run_end_le is_space src p))
-    tag_apart f (in_rest p c as' _ to (cut_in_replacement past main')) =
-        let x = tag_front p c as' to in let l = next_within p j c empty x.0 x.2 in absurd (omega (arith, run_end_le is_space src p))
-    tag_apart f (in_rest p c as' _ to (no_rest below past)) = let x = tag_front p c as' to in let l = next_within p j c empty x.0 x.2 in absurd (omega arith)
-    tag_apart f (faults.InTag.in_rest p c as' _ to (faults.InTagRest.no_space _ below no_slash no_close lack)) = let x = tag_front p c as' to in absurd (space_apart p c x.0 f (to_cut p c as' to) x.2 no_slash no_close lack)
-    tag_apart f (in_rest p c as' _ to (not_closed _ slash lack)) = let x = tag_front p c as' to in absurd (slash_apart p j c empty x.0 f x.2 slash lack)
-    tag_apart f (in_rest p c as' _ to (in_pair q t _ spaces inside no_slash no_close due lack)) = let x = tag_front p c as' to in absurd (pair_in p q c x.0 t f x.2 no_slash no_close due lack)
-    tag_apart f (in_rest p c as' _ to (ill_declared d k a _ spaces is' declares' ill)) = let x = tag_front p c as' to in absurd (declared_in p k c d as' x.0 a f x.1 x.2 spaces is' declares' ill)
-    tag_apart f (in_rest p c as' _ to (too_many_pairs d k a spaces is' declares' may once many)) =
+        absurd (true≢false (sym ((bytes_eq-Decides tag.name.prefix (word_text word.Xmlns)).1 prefix') ∙ well_named.0))
+    tag_apart f (in_rest p c name as' _ to (cut past main')) =
+        let x = tag_front p c name as' to in let l = next_within p j c empty x.0 x.2 in absurd (omega (arith, run_end_le is_space src p))
+    tag_apart f (in_rest p c name as' _ to (cut_in_replacement past main')) =
+        let x = tag_front p c name as' to in let l = next_within p j c empty x.0 x.2 in absurd (omega (arith, run_end_le is_space src p))
+    tag_apart f (in_rest p c name as' _ to (no_rest below past)) = let x = tag_front p c name as' to in let l = next_within p j c empty x.0 x.2 in absurd (omega arith)
+    tag_apart f (faults.InTag.in_rest p c name as' _ to (faults.InTagRest.no_space _ below no_slash no_close lack)) = let x = tag_front p c name as' to in absurd (space_apart p c x.0 f (to_cut p c name as' to) x.2 no_slash no_close lack)
+    tag_apart f (in_rest p c name as' _ to (not_closed _ slash lack)) = let x = tag_front p c name as' to in absurd (slash_apart p j c empty x.0 f x.2 slash lack)
+    tag_apart f (in_rest p c name as' _ to (in_pair _ spaces inside no_slash no_close (q, t, due, lack))) = let x = tag_front p c name as' to in absurd (pair_in p q c x.0 t f x.2 no_slash no_close due lack)
+    tag_apart f (in_rest p c name as' _ to (ill_declared d k a _ spaces is' declares' ill)) = let x = tag_front p c name as' to in absurd (declared_in p k c d as' x.0 a f x.1 x.2 spaces is' declares' ill)
+    tag_apart f (in_rest p c name as' _ to (too_many_pairs d k a spaces is' declares' may once many)) =
         let over = more_pairs_counted s.stack s.done (namespace_decls_of as' ++ namespace_decl_of a ∷ []) many in
-        let x = tag_front p c as' to in
+        let x = tag_front p c name as' to in
         let known = distinct_pairs (pairs_so_far s.stack s.done) in
         let there = declared_there p k c d as' x.0 a x.1 x.2 spaces is' declares' in
         let split : tag.declarations ≡ namespace_decls_of as' ++ namespace_decl_of a ∷ [] ++ there.0 = there.1 ∙ sym (append_assoc (namespace_decls_of as') (namespace_decl_of a ∷ []) there.0) in
@@ -287,13 +291,13 @@ module _ (context : Values) (O : Inclusion) (agrees : AgreesValue context.entiti
         pairs_over W (λ w.
         (let all : length (with_new known (listable_of (namespace_decls_of as' ++ namespace_decl_of a ∷ [] ++ there.0))) ≤ most_pairs = subst (λ (ds : List NamespaceDecl). length (with_new known (listable_of ds)) ≤ most_pairs) split (few_pairs w) in
         omega arith))
-    tag_apart f (in_rest p c as' _ to (too_many_attributes k x ends over)) =
-        let same : length (plain_attributes_of as') ≡ length tag.attributes = ap (λ (t : Tag). length t.attributes) (same_tag p k c x as' to ends) in
+    tag_apart f (in_rest p c name as' _ to (too_many_attributes k x ends over)) =
+        let same : length (plain_attributes_of as') ≡ length tag.attributes = ap (λ (t : Tag). length t.attributes) (same_tag p k c x name as' to ends) in
         attributes_over W (λ w. (let all = few w in omega (arith, attributes_are s.stack s.done)))
-    tag_apart f (in_rest p c as' _ to (ill_named k x _ ends few' ill)) =
-        absurd (named_in f (subst (λ (t : Tag). IllNamed src s.at (listed (scope_of s.stack) t.declarations) t.name t.attributes f) (same_tag p k c x as' to ends) ill))
+    tag_apart f (in_rest p c name as' _ to (ill_named k x _ ends few' ill)) =
+        absurd (named_in f (subst (λ (t : Tag). IllNamed src s.at (listed (scope_of s.stack) t.declarations) t.name t.attributes f) (same_tag p k c x name as' to ends) ill))
 
     -- and a value in it is read
-    pub value_there : (p c n v e' k : ℕ) (as' : List Attribute) (name : Name) → TagTo context.main O src s p b c as' → IsQName src (spaces_end src p) name n → IsEq src n v → IsLiteral src v e' k
+    pub value_there : (p c n v e' k : ℕ) (tag_name : Name) (as' : List Attribute) (name : Name) → TagTo context.main O src s p b c tag_name as' → IsQName src (spaces_end src p) name n → IsEq src n v → IsLiteral src v e' k
         → (d : ℕ) × (w : List ℕ) × Value context.main O src e' (v + 1) c d w
-    value_there p c n v e' k as' name to named eq literal = let x = tag_front p c as' to in value_in p n v e' k c x.0 name x.2 named eq literal
+    value_there p c n v e' k tag_name as' name to named eq literal = let x = tag_front p c tag_name as' to in value_in p n v e' k c x.0 name x.2 named eq literal

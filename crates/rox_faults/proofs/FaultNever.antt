@@ -11,6 +11,7 @@ use Rattle.rox_grammar.specs.Written.{Item, merge, leaf}
 use Rattle.rox_grammar.specs.Names.{byte}
 use Rattle.rox_grammar.specs.FixedTexts.{at}
 use Rattle.rox_grammar.specs.Content.{Inclusion, IsElement}
+use Rattle.rox_grammar.proofs.TagParts.{tag_parts}
 use Rattle.rox_grammar.specs.TextStart.{after_bom, MayHaveXmlDecl, declared, not_declared}
 use Rattle.rox_grammar.specs.Entities.{Entity, no_entities, most_deep}
 use Rattle.rox_grammar.specs.Doctype.{Asked}
@@ -18,7 +19,7 @@ use Rattle.rox_grammar.proofs.CountForms.{limits_counted}
 use Rattle.rox_grammar.specs.Document.{Behind, Misc, no_misc, an_item, ParseOf, IsWithinLimits, PrologTo}
 use Rattle.rox_theory.specs.ParseParts.{no_doctype}
 use Rattle.rox_grammar.specs.State as grammar
-use Rattle.rox_grammar.specs.State.{root, nodes_so_far, FitsLimits}
+use Rattle.rox_grammar.specs.State.{root}
 use Rattle.rox_grammar.specs.ContentPoints.{is_main, RootBegins, ContentPoint}
 use Rattle.rox_grammar.specs.Faults.{FaultFrom, no_root, unknown_ahead, at_place, in_value, unknown_behind, in_one, misc_around, one_too_many, at_point}
 use Rattle.rox_grammar.specs.FaultsWithDoctype.{RefusalOf, FaultOf, without, in_declaration, not_allowed, in_doctype}
@@ -103,7 +104,7 @@ module _ (opens : ℕ → Inclusion) (es : List Entity) (all : OpensAt opens es)
         let takes = tagged_takes true (opens 0) text 0 start next (x.0, x.1, x.2, x.3, x.4, refl) in
         let rest = drives_trail (opens 0) text next end x.5 in
         let less = root_at.0 in
-        let kind : kind_at text p.start ≡ a_tag = tag_kind text p.start less (name_byte text (p.start + 1) x.2.name x.2.name_end x.4.is_name) in
+        let kind : kind_at text p.start ≡ a_tag = tag_kind text p.start less (name_byte text (p.start + 1) x.2.name x.2.name_end (tag_parts x.4).is_name) in
         record {
           d = most_deep;
           deep = omega arith;
@@ -126,7 +127,7 @@ module _ (opens : ℕ → Inclusion) (es : List Entity) (all : OpensAt opens es)
 
     at_root : (kind : Bool) (i : ℕ) (items : Forest Item) → Front i items × RootBegins kind text i → Reached opens es all limit W 0 0 text (state i items root 255)
     at_root kind i items (front, begins) =
-        let stops : Stops text i = record { no_space = no_spaces text i begins.opens; no_comment = begins.no_comment; no_instruction = begins.no_instruction } in
+        let stops : Stops text i = record { no_space = no_spaces text i begins.0; no_comment = begins.1; no_instruction = begins.2 } in
         let same = start_there i items front stops in
         subst (λ (i : ℕ). Reached opens es all limit W 0 0 text (state i items root 255)) same.0
         (subst (λ (f : Forest Item). Reached opens es all limit W 0 0 text (state p.start f root 255)) same.1 root_reached)
@@ -169,8 +170,8 @@ module _ (opens : ℕ → Inclusion) (es : List Entity) (all : OpensAt opens es)
     never kind source f (no_root items front fits) = let r = p.ahead (length text) items front in let l = before_end text utf8 (length text) p.start r.0 r.1 root_at.0 in absurd (omega arith)
     never kind source f (unknown_ahead q items front fits below no_space no_less) = let r = p.ahead q items front in absurd (other_at text utf8 q p.start r.0 r.1 root_at.0 no_space no_less)
     never kind source f (at_point k open_around b _ s _ _ place fits (at_place _ stands)) = stands_apart opens es all limit W k open_around b source s (place_there kind k open_around b source s place) f stands
-    never kind source f (at_point k open_around b src s _ _ place fits (in_value q n v e j c l i stop d name as' _ _ begins to space pair part ill)) =
-        absurd (value_apart opens es all limit W k open_around b q c n v e j l i stop d src source s as' name f (place_there kind k open_around b src s place) begins to pair.0 pair.1 pair.2 part ill)
+    never kind source f (at_point k open_around b src s _ _ place fits (in_value q n v e j c l i stop d tag_name name as' _ _ begins to space pair part ill)) =
+        absurd (value_apart opens es all limit W k open_around b q c n v e j l i stop d src source s tag_name as' name f (place_there kind k open_around b src s place) begins to pair.0 pair.1 pair.2 part ill)
     never kind source f (misc_around q items _ (inr behind) fits (in_one _ ill)) = let r = behind_rest q items behind in absurd (misc_at text utf8 q (length text) r.rest f r.misc (end_stops text) ill)
     never kind source f (misc_around q items _ (inr behind) fits (one_too_many k item is over)) =
         let r = behind_rest q items behind in
@@ -250,7 +251,7 @@ no_doctype_over limit src source given asked f tree utf8 (without _ stands) pars
 no_doctype_over limit src source given asked f tree utf8 (not_allowed q items _ ahead fits here) parse = absurd (doctype_apart src utf8 limit tree (parse_without src asked tree parse).1 q items ahead here)
 no_doctype_over limit src source given asked f tree utf8 (in_doctype _ _ _ _ _ may _ _ _ _) parse = cc may
 no_doctype_over limit src source given asked f tree utf8 (rows.RefusalOf.behind _ _ _ _ may _) parse = cc may
-no_doctype_over limit src source given asked f tree utf8 (in_declaration q t _ here due lack) parse = let p = (parse_without src asked tree parse).1 in absurd (declared_apart p.prolog.declared_to p.prolog.declaration)
+no_doctype_over limit src source given asked f tree utf8 (in_declaration _ here (q, t, due, lack)) parse = let p = (parse_without src asked tree parse).1 in absurd (declared_apart p.prolog.declared_to p.prolog.declaration)
   where
     declared_apart : (d : ℕ) → MayHaveXmlDecl src (after_bom src) d → ⊥
     declared_apart d (declared _ _ is) = declaration_apart src utf8 (after_bom src) d q t f is due lack

@@ -15,6 +15,7 @@ use Rattle.rox_grammar.specs.Tree.{listed}
 use Rattle.rox_grammar.specs.Names.{byte, spaces_end, IsQName}
 use Rattle.rox_grammar.specs.Constructs.{IsEq, IsLiteral, IsEnd}
 use Rattle.rox_grammar.specs.Content.{Inclusion, IsTag, literals, line_ends}
+use Rattle.rox_grammar.proofs.TagParts.{tag_parts}
 use Rattle.rox_grammar.specs.Entities.{Entity, most_deep}
 use Rattle.rox_grammar.specs.Document.{most_attributes, most_pairs}
 use Rattle.rox_grammar.specs.Counts.{listable, with_new, distinct_pairs}
@@ -97,7 +98,7 @@ module _ (main : Bool) (O : Inclusion) (src : List ℕ) (open_around : ℕ) wher
   takes_opened s t (flat.StepsOver.takes_cdata i e j b done stack is) opened = opened
   takes_opened s t (flat.StepsOver.takes_misc i j b item done stack is) opened = opened
   takes_opened s t (flat.StepsOver.takes_empty i j b c tag done stack is) opened = opened
-  takes_opened s t (flat.StepsOver.takes_start i j b c tag done stack is) opened = ((λ deep. (is.begins, is.is_name)), opened)
+  takes_opened s t (flat.StepsOver.takes_start i j b c tag done stack is) opened = let p = tag_parts is in ((λ deep. (p.begins, p.is_name)), opened)
   takes_opened s t (flat.StepsOver.takes_end i p j b start tag done before up deep end) opened = opened.1
 
   -- and a character begins there
@@ -107,8 +108,8 @@ module _ (main : Bool) (O : Inclusion) (src : List ℕ) (open_around : ℕ) wher
       let last : j ≡ e + 2 + 1 = omega (arith, (cdata_parts is).next) in
       ends_cut src j utf8 (ends_by src j (e + 2) 62 last (stands_reads (word_text word.CDataEnd) src e 2 (cdata_parts is).closes (omega arith)) (omega arith) (omega arith))
   takes_cut utf8 s t (flat.StepsOver.takes_misc i j b item done stack is) = ends_cut src j utf8 (misc_ends src i j item is)
-  takes_cut utf8 s t (flat.StepsOver.takes_empty i j b c tag done stack is) = ends_cut src j utf8 (tag_ends src is.last j true is.ends)
-  takes_cut utf8 s t (flat.StepsOver.takes_start i j b c tag done stack is) = ends_cut src j utf8 (tag_ends src is.last j false is.ends)
+  takes_cut utf8 s t (flat.StepsOver.takes_empty i j b c tag done stack is) = let p = tag_parts is in ends_cut src j utf8 (tag_ends src p.last j true p.ends)
+  takes_cut utf8 s t (flat.StepsOver.takes_start i j b c tag done stack is) = let p = tag_parts is in ends_cut src j utf8 (tag_ends src p.last j false p.ends)
   takes_cut utf8 s t (flat.StepsOver.takes_end i p j b start tag done before up deep end) = ends_cut src j utf8 (ends_by src j (spaces_end src p) 62 (end_parts end).next (end_parts end).closes (omega arith) (omega arith))
 
 module _ (opens : ℕ → Inclusion) (es : List Entity) (limit : ℕ) (text : List ℕ) (declared : Bool) (Front : ℕ → Forest Item → Type 0) (most : ℕ) (less : limit ≤ most) (least : most ≤ max limit 1)
@@ -216,13 +217,13 @@ module _ (opens : ℕ → Inclusion) (es : List Entity) (limit : ℕ) (text : Li
 
         by_kind : TagFails opens es values texts d k deep src utf8 (place_of s) s.openings_left few_pairs e → Refuses es P src e
         by_kind (itself f is ill) = refuses_here es P src f e is (stands_here s f place fine (in_tag f begins ill))
-        by_kind (ill_value p c n v stop j as' name to spaces is_name eq literal ill) = refuses_by es src e (λ part f. in_one p c n v stop j as' name to spaces is_name eq literal part f) ill
+        by_kind (ill_value p c n v stop j tag_name as' name to spaces is_name eq literal ill) = refuses_by es src e (λ part f. in_one p c n v stop j tag_name as' name to spaces is_name eq literal part f) ill
           where
-            in_one : (p c n v stop j : ℕ) (as' : List Attribute) (name : Name) → TagTo (is_main k) (opens k) src (place_of s) p s.openings_left c as' → p < spaces_end src p → IsQName src (spaces_end src p) name n → IsEq src n v
+            in_one : (p c n v stop j : ℕ) (tag_name : Name) (as' : List Attribute) (name : Name) → TagTo (is_main k) (opens k) src (place_of s) p s.openings_left c tag_name as' → p < spaces_end src p → IsQName src (spaces_end src p) name n → IsEq src n v
                 → IsLiteral src v stop j → (part : List ℕ) (f : Fault) → InPart opens es k src (v + 1) stop c part f → P part f
-            in_one p c n v stop j as' name to spaces is_name eq literal part f (in_part l i stop' openings_left part_is ill) =
+            in_one p c n v stop j tag_name as' name to spaces is_name eq literal part f (in_part l i stop' openings_left part_is ill) =
                 at_point k open_around s.openings_left src (place_of s) part f place (fits_at s fine)
-                (in_value p n v stop j c l i stop' openings_left name as' part f begins to spaces (is_name, eq, literal) part_is ill)
+                (in_value p n v stop j c l i stop' openings_left tag_name name as' part f begins to spaces (is_name, eq, literal) part_is ill)
 
     -- an end tag
     end_step_fails : (s : State) (f : Fault) → is_content k s.stack ≡ true → open_around ≤ depth_of s.stack → AreOpened src open_around s.stack → IsValidState most s → Here k open_around src s → at word.EndTagStart src s.at ≡ true
@@ -230,7 +231,7 @@ module _ (opens : ℕ → Inclusion) (es : List Entity) (limit : ℕ) (text : Li
     unfolding end_step
     end_step_fails s f inner le opened fine place is h =
         bind_err (end_tag_at src s.at) _ f h
-        (λ bad. let w = end_fails src utf8 s.at f is bad in stands_here s f place fine (in_end f inner (lacks w.0 w.1 f w.2 w.3)))
+        (λ bad. let w = end_fails src utf8 s.at f is bad in stands_here s f place fine (in_end f inner (lacks f w)))
         (λ x read h.
         let end = (markup.end_sound src s.at x.1 x.0 is read).0 in
         chosen (nat_le (depth_of s.stack) open_around) _ _ _ h
@@ -262,7 +263,7 @@ module _ (opens : ℕ → Inclusion) (es : List Entity) (limit : ℕ) (text : Li
     unfolding cdata_step
     cdata_step_fails s f inner fine place is h =
         bind_err (cdata_at src s.at) _ f h
-        (λ bad. let w = section_fails src utf8 s.at f is bad in stands_here s f place fine (in_section w.0 w.1 f inner is w.2 w.3))
+        (λ bad. let w = section_fails src utf8 s.at f is bad in stands_here s f place fine (in_section f inner is w))
         (λ x read h.
         let r = markup.cdata_sound src utf8 s.at x.1 x.0 is read in
         let item : List ℕ → Item = λ v. Text s.at x.1 (line_ends (literals v)) (not (list_any (λ b. b == 13) v)) in

@@ -107,19 +107,18 @@ plain_few limit s item no_attributes no_pairs fits = let few = fits_few limit s.
 -- what is left where none may be opened
 pub spent_here : (l after openings_left : ℕ) (f : Fault) → budget (is_main l) after openings_left ≡ Err f → IsSpent l openings_left × (fault.EntityReferenceLoop after ≡ f)
 spent_here zero after openings_left f h = no_fault _ f h
-spent_here (suc l) after zero f h = (λ r may. omega (arith, may.0), cc h)
+spent_here (suc l) after zero f h = (λ r may. omega (arith, may.3.0), cc h)
 spent_here (suc l) after (suc r) f h = no_fault _ f h
 
 -- and where one may
 pub may_open : (l after openings_left r : ℕ) → l < most_deep → budget (is_main l) after openings_left ≡ Ok r → MayOpen l openings_left r
-may_open zero after openings_left r fewer h = let e : 255 ≡ r = cc in sym e
+may_open zero after openings_left r fewer h = let e : 255 ≡ r = cc in (fewer, 0, openings_left, (sym e, refl))
 may_open (suc l) after zero r fewer h = cc h
-may_open (suc l) after (suc n) r fewer h = let e : n ≡ r = cc in (omega arith, fewer)
+may_open (suc l) after (suc n) r fewer h = let e : n ≡ r = cc in (fewer, 0, 0, (omega arith, refl))
 
 -- the deepest
 pub deepest : (l openings_left : ℕ) → zero + l ≡ most_deep → IsSpent l openings_left
-deepest zero openings_left h = absurd (omega arith)
-deepest (suc l) openings_left h = λ r may. omega (arith, may.1)
+deepest l openings_left h = λ r may. omega (arith, may.0)
 
 -- ---- places
 

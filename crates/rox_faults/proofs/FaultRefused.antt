@@ -292,7 +292,7 @@ module _ (src : List ℕ) (utf8 : IsUtf8 src) (limit : ℕ) (allow : Bool) where
       (λ p j items item point fits item_is many is. subst (RefusalOf limit allow src [] src) is (without fault.NodesLimitReached (misc_around p items _ (inl point) fits (one_too_many j item item_is many))))
       (length src) 255 i Nil ahead start cut bad))
       (λ f bad. chosen (at word.XmlDeclStart src b) _ _ _ bad
-      (λ is bad. bind_err (xml_decl_at src b) _ f bad (λ bad. let w = declaration_fails src utf8 b f bad in in_declaration w.0 w.1 f is w.2 w.3) (λ x read bad. no_fault _ f bad))
+      (λ is bad. bind_err (xml_decl_at src b) _ f bad (λ bad. let w = declaration_fails src utf8 b f bad in in_declaration f is w) (λ x read bad. no_fault _ f bad))
       (λ none bad. no_fault _ f bad))
 
 -- a refusal stands in the source that it counts in
@@ -307,7 +307,7 @@ refusal_there limit allow replies src source asked f utf8 texts h = subst (Whole
 
 -- where no document type declaration may stand the refusals are the faults of the text
 pub refusal_plain : (limit : ℕ) (src source : List ℕ) (asked : List Asked) (f : Fault) → RefusalOf limit false src asked source f → (asked ≡ []) × (source ≡ src) × FaultOf limit src f
-refusal_plain limit src source asked f (in_declaration p t _ is due lack) = (refl, refl, in_declaration p t f is due lack)
+refusal_plain limit src source asked f (in_declaration _ is lacks) = (refl, refl, in_declaration f is lacks)
 refusal_plain limit src source asked f (without _ ill) = (refl, refl, without f ill)
 refusal_plain limit src source asked f (not_allowed i before _ ahead fits is) = (refl, refl, not_allowed i before refl ahead fits is)
 refusal_plain limit src source asked f (in_doctype i before _ _ _ may ahead fits is ill) = cc may

@@ -61,7 +61,7 @@ front_of opens es limit text behind_dtd Front source f (no_root items front fits
 front_of opens es limit text behind_dtd Front source f (unknown_ahead p items front fits below no_space no_less) = (p, items, front)
 front_of opens es limit text behind_dtd Front source f (at_point k open_around b _ s _ _ place fits (at_place _ stands)) =
     let r = place_front opens es text (λ p items. Front p items × RootBegins behind_dtd text p) k open_around b source s place in (r.0, r.1, r.2.0)
-front_of opens es limit text behind_dtd Front source f (at_point k open_around b src s _ _ place fits (in_value p n v e j c l i stop d name _ part _ opens' to space pair is ill)) =
+front_of opens es limit text behind_dtd Front source f (at_point k open_around b src s _ _ place fits (in_value p n v e j c l i stop d _ name _ part _ opens' to space pair is ill)) =
     let r = place_front opens es text (λ p items. Front p items × RootBegins behind_dtd text p) k open_around b src s place in (r.0, r.1, r.2.0)
 front_of opens es limit text behind_dtd Front source f (misc_around p items _ (inr back) fits (in_one _ ill)) = (back.start, back.before, back.ahead)
 front_of opens es limit text behind_dtd Front source f (misc_around p items _ (inr back) fits (one_too_many j item is over)) = (back.start, back.before, back.ahead)
@@ -74,7 +74,7 @@ begins_there src i p dtd nodes asked es is (no_doctype _) = cc is
 
 -- no refusal stands in a text that has a parse without one, but those of the limits
 plain_over : (limit : ℕ) (allow : Bool) (src source : List ℕ) (asked given : List Asked) (f : Fault) (tree : Forest Item) → IsUtf8 src → RefusalOf limit allow src asked source f → ParseOf src false given tree → IsOver (IsWithinLimits limit tree) f
-plain_over limit allow src source asked given f tree utf8 (in_declaration p t _ is due lack) parse = fault_over limit src f given tree utf8 (in_declaration p t f is due lack) parse
+plain_over limit allow src source asked given f tree utf8 (in_declaration _ is lacks) parse = fault_over limit src f given tree utf8 (in_declaration f is lacks) parse
 plain_over limit allow src source asked given f tree utf8 (without _ ill) parse = fault_over limit src f given tree utf8 (without f ill) parse
 plain_over limit allow src source asked given f tree utf8 (not_allowed i before _ ahead fits is) parse = absurd (no_doctype_there limit src given tree i before utf8 ahead is parse)
 plain_over limit allow src source asked given f tree utf8 (in_doctype i before _ _ _ may ahead fits is ill) parse = absurd (no_doctype_there limit src given tree i before utf8 ahead is parse)
@@ -107,7 +107,7 @@ module _ (limit : ℕ) (src : List ℕ) (utf8 : IsUtf8 src) (given : List Asked)
 
   no_root_begins : (q : ℕ) (items : Forest Item) → PrologTo src q items → RootBegins false src q → ⊥
   no_root_begins q items ahead root_begins =
-      no_root_here q items ahead (record { no_space = no_spaces src q root_begins.opens; no_comment = root_begins.no_comment; no_instruction = root_begins.no_instruction }) (root_begins.no_doctype refl)
+      no_root_here q items ahead (record { no_space = no_spaces src q root_begins.0; no_comment = root_begins.1; no_instruction = root_begins.2 }) (root_begins.3 refl)
 
   no_root_behind : (q : ℕ) (items : Forest Item) → Behind no_entities src (PrologTo src) q items → ⊥
   no_root_behind q items back =
@@ -138,7 +138,7 @@ module _ (limit : ℕ) (src : List ℕ) (utf8 : IsUtf8 src) (given : List Asked)
       let r = ahead_rest q items ahead in absurd (other_at src utf8 q p.begun r.0 r.1 (doctype_bytes src p.begun begins_here).1 no_space no_less)
   ahead_over source f (at_point k open_around b _ s _ _ place fits (at_place _ stands)) =
       let r = place_front (λ k. no_entities) [] src (λ p items. PrologTo src p items × RootBegins false src p) k open_around b source s place in absurd (no_root_begins r.0 r.1 r.2.0 r.2.1)
-  ahead_over source f (at_point k open_around b other s _ _ place fits (in_value p n v e j c l i stop d name _ part _ opens' to space pair is ill)) =
+  ahead_over source f (at_point k open_around b other s _ _ place fits (in_value p n v e j c l i stop d _ name _ part _ opens' to space pair is ill)) =
       let r = place_front (λ k. no_entities) [] src (λ p items. PrologTo src p items × RootBegins false src p) k open_around b other s place in absurd (no_root_begins r.0 r.1 r.2.0 r.2.1)
   ahead_over source f (misc_around q items _ (inr back) fits (in_one _ ill)) = absurd (no_root_behind q items back)
   ahead_over source f (misc_around q items _ (inr back) fits (one_too_many j item is over)) = absurd (no_root_behind q items back)
@@ -172,8 +172,7 @@ module _ (limit : ℕ) (src : List ℕ) (utf8 : IsUtf8 src) (given : List Asked)
 
 -- what is spent may be opened
 may_by : (k b r l c : ℕ) → k < most_deep → Spends (is_main k) b r l c → MayOpen k b r
-may_by zero b r l c more (fresh, same) = fresh
-may_by (suc k) b r l c more (before, same) = (before, more)
+may_by k b r l c more spends = (more, l, c, spends)
 
 -- what references open, by the entities that are declared
 opened_at : (es : List Entity) (n k b c : ℕ) (name : List ℕ) (items : Forest Item) → n ≡ most_deep - k → (Includes es n (is_main k)).content name b items c
@@ -277,7 +276,7 @@ module _ (limit : ℕ) (src : List ℕ) (utf8 : IsUtf8 src) (given : List Asked)
 pub refused_over : (limit : ℕ) (allow dtd : Bool) (src source : List ℕ) (asked given : List Asked) (f : Fault) (tree : Forest Item) → IsUtf8 src → RefusalOf limit allow src asked source f → ParseOf src dtd given tree
     → Permits allow dtd → SameAnswers asked given → IsOver (IsWithinLimits limit tree) f
 refused_over limit allow false src source asked given f tree utf8 ill parse permits same = plain_over limit allow src source asked given f tree utf8 ill parse
-refused_over limit allow true src source asked given f tree utf8 (in_declaration q t _ is due lack) parse permits same = absurd (declaration_never limit src utf8 given tree (parts src true given tree parse) q t f is due lack)
+refused_over limit allow true src source asked given f tree utf8 (in_declaration _ is (q, t, due, lack)) parse permits same = absurd (declaration_never limit src utf8 given tree (parts src true given tree parse) q t f is due lack)
 refused_over limit allow true src source asked given f tree utf8 (without _ ill) parse permits same = ahead_over limit src utf8 given tree (parts src true given tree parse) src f ill
 refused_over limit allow true src source asked given f tree utf8 (not_allowed i before none ahead fits is) parse permits same = absurd (true≢false (sym (permits refl) ∙ none))
 refused_over limit allow true src source asked given f tree utf8 (in_doctype i before _ _ _ may ahead fits is ill) parse permits same = inside_over limit src utf8 given tree (parts src true given tree parse) i before asked source f ahead is same ill

@@ -24,7 +24,7 @@ use Rattle.rox_grammar.specs.Constructs.{AreChars}
 use Rattle.rox_grammar.specs.FixedTexts.{double_dash}
 use Rattle.rox_grammar.specs.References.{is_digit, is_hex_digit, number, bytes_end, character}
 use Rattle.rox_grammar.specs.Entities.{Replacement, Entity, text_of}
-use Rattle.rox_grammar.specs.Due.{DueItem, a_byte, a_text, a_qname, a_name, chars_to, IsMissing, no_name, DueInText, DueInPI, DueInEnd}
+use Rattle.rox_grammar.specs.Due.{DueItem, a_byte, a_text, a_qname, a_name, chars_to, IsMissing, Misses, no_name, DueInText, DueInPI, DueInEnd}
 use Rattle.rox_grammar.specs.Due as due
 use Rattle.rox_grammar.specs.Faults.{SpanIs, spelled, InMisc, comment_lacks, double_dashes, a_declaration, instruction_lacks, InReferences, malformed, undeclared}
 use Rattle.rox_reading.specs.Lexical.{has_mark, byte_at, string_at, chars_up_to, text_to, qname_at, name_at}
@@ -122,8 +122,8 @@ module _ (src : List ℕ) (utf8 : IsUtf8 src) where
       let cut = subst (IsCharBoundary src) three (behind word.CommentStart src i 3 45 utf8 opens (omega arith) refl (omega arith) (omega arith)) in
       bind_err (text_to expected.CommentEnd src (i + 4)) _ f h
       (λ bad. elim (text_fails expected.CommentEnd 45 (45 ∷ 62 ∷ []) src (i + 4) f refl (omega arith) utf8 cut bad) as (λ s. InMisc src i f) [
-        | inl ill ↦ comment_lacks (i + 4) (chars_to (first word.CommentEnd src (i + 4))) f opens due.DueInText.its_chars ill
-        | inr none ↦ comment_lacks (first word.CommentEnd src (i + 4)) (a_text expected.CommentEnd) f opens (due.DueInText.its_end none.0) none.1
+        | inl ill ↦ comment_lacks f opens (i + 4, chars_to (first word.CommentEnd src (i + 4)), due.DueInText.its_chars, ill)
+        | inr none ↦ comment_lacks f opens (first word.CommentEnd src (i + 4), a_text expected.CommentEnd, due.DueInText.its_end none.0, none.1)
       ])
       (λ text read h.
       let s = text_sound expected.CommentEnd src (i + 4) text utf8 read in
@@ -142,14 +142,14 @@ module _ (src : List ℕ) (utf8 : IsUtf8 src) where
       chosen (at word.XmlDeclStart src i) _ _ _ h
       (λ declares h. let is : fault.UnexpectedDeclaration i ≡ f = cc in subst (InMisc src i) is (a_declaration declares))
       (λ none h. bind_err (name_at src (i + 2)) _ f h
-      (λ bad. instruction_lacks (i + 2) a_name f opens none due.DueInPI.its_target (name_fails (i + 2) f bad))
+      (λ bad. instruction_lacks f opens none (i + 2, a_name, due.DueInPI.its_target, name_fails (i + 2) f bad))
       (λ name read h.
       let target = (name_sound src (i + 2) name read).0 in
       let v = spaces_end src name.1 in
       bind_err (text_to expected.PIEnd src v) _ f h
       (λ bad. elim (text_fails expected.PIEnd 63 (62 ∷ []) src v f refl (omega arith) utf8 (value_cut i name.1 opens target) bad) as (λ s. InMisc src i f) [
-        | inl ill ↦ instruction_lacks v (chars_to (first word.PIEnd src v)) f opens none (due.DueInPI.its_value name.1 _ _ target due.DueInText.its_chars) ill
-        | inr lacks ↦ instruction_lacks (first word.PIEnd src v) (a_text expected.PIEnd) f opens none (due.DueInPI.its_value name.1 _ _ target (due.DueInText.its_end lacks.0)) lacks.1
+        | inl ill ↦ instruction_lacks f opens none (v, chars_to (first word.PIEnd src v), due.DueInPI.its_value name.1 _ _ target due.DueInText.its_chars, ill)
+        | inr lacks ↦ instruction_lacks f opens none (first word.PIEnd src v, a_text expected.PIEnd, due.DueInPI.its_value name.1 _ _ target (due.DueInText.its_end lacks.0), lacks.1)
       ])
       (λ value read h. no_fault _ f h)))
     where
@@ -167,18 +167,18 @@ module _ (src : List ℕ) (utf8 : IsUtf8 src) where
           run_cut is_space src n utf8 (subst (IsCharBoundary src) (sym target.longest) (run_cut is_name_char src (i + 2) utf8 cut))
 
   -- a CDATA section
-  pub section_fails : (i : ℕ) (f : Fault) → at word.CDataStart src i ≡ true → cdata_at src i ≡ Err f → (p : ℕ) × (t : DueItem) × DueInText expected.CDataEnd src (i + 9) p t × IsMissing src p t f
+  pub section_fails : (i : ℕ) (f : Fault) → at word.CDataStart src i ≡ true → cdata_at src i ≡ Err f → Misses src (DueInText expected.CDataEnd src (i + 9)) f
   unfolding cdata_at
   section_fails i f opens h =
       let eight : i + 8 + 1 ≡ i + 9 = omega arith in
       let cut = subst (IsCharBoundary src) eight (behind word.CDataStart src i 8 91 utf8 opens (omega arith) refl (omega arith) (omega arith)) in
-      elim (text_fails expected.CDataEnd 93 (93 ∷ 62 ∷ []) src (i + 9) f refl (omega arith) utf8 cut h) as (λ s. (p : ℕ) × (t : DueItem) × DueInText expected.CDataEnd src (i + 9) p t × IsMissing src p t f) [
+      elim (text_fails expected.CDataEnd 93 (93 ∷ 62 ∷ []) src (i + 9) f refl (omega arith) utf8 cut h) as (λ s. Misses src (DueInText expected.CDataEnd src (i + 9)) f) [
         | inl ill ↦ (i + 9, chars_to (first word.CDataEnd src (i + 9)), due.DueInText.its_chars, ill)
         | inr none ↦ (first word.CDataEnd src (i + 9), a_text expected.CDataEnd, due.DueInText.its_end none.0, none.1)
       ]
 
   -- an end tag
-  pub end_fails : (i : ℕ) (f : Fault) → at word.EndTagStart src i ≡ true → end_tag_at src i ≡ Err f → (p : ℕ) × (t : DueItem) × DueInEnd src i p t × IsMissing src p t f
+  pub end_fails : (i : ℕ) (f : Fault) → at word.EndTagStart src i ≡ true → end_tag_at src i ≡ Err f → Misses src (DueInEnd src i) f
   unfolding end_tag_at
   end_fails i f opens h =
       bind_err (qname_at src (i + 2)) _ f h

@@ -145,7 +145,7 @@ module _ (opens : ℕ → Inclusion) (es : List Entity) (limit : ℕ) (text : Li
           let moves = reference_opens src q n j ref in
           stand opens es limit text declared Front k open_around src s fault.NodesLimitReached place fits
           (too_many_pieces stop q j u.openings_left (join b.front (piece s.at stop false ss)) t inner run (b.to q u.openings_left (piece s.at stop false ss) (last_part u.at u.openings_left ss part)) named (omega (arith, moves.2))
-          (record { n = n; is_reference = ref; no_character = none; found = found }) (too_many_there limit s.stack (join s.done (join b.front (piece s.at stop false ss))) few many))
+          (n, ref, none, found) (too_many_there limit s.stack (join s.done (join b.front (piece s.at stop false ss))) few many))
 
       -- a text that is one node too many
       piece_over : (u : State) (b : Begun u) (q : ℕ) (ss : List DataByte) (v : List ℕ) (next : Next) (f : Fault) → IsValidState most u → Part (is_main k) src q u.at ss → Ends es src stop q next → line_ends ss ≡ v
@@ -176,7 +176,7 @@ module _ (opens : ℕ → Inclusion) (es : List Entity) (limit : ℕ) (text : Li
           let one = piece s.at stop false ss in
           let t_done : t.done ≡ join s.done (join b.front one) = is.done ∙ ap (λ (f : Forest Item). join f one) b.done ∙ join_assoc s.done b.front one in
           let t_stack : t.stack ≡ s.stack = is.stack ∙ b.stack in
-          let refers : RefersTo es src q j r = record { n = n; is_reference = ref; no_character = none; found = found } in
+          let refers : RefersTo es src q j r = (n, ref, none, found) in
           let to' : PartsTo (is_main k) (opens k) src s.at stop s.at q s.openings_left t.openings_left (join b.front one) =
           subst (λ (c : ℕ). PartsTo (is_main k) (opens k) src s.at stop s.at q s.openings_left c (join b.front one)) (sym is.openings_left) (b.to q u.openings_left one (last_part u.at u.openings_left ss part)) in
           let named : AreWellNamed (scope_of s.stack) (join b.front one) =

@@ -13,13 +13,14 @@ use Rattle.rox_grammar.specs.Chars.{is_space}
 use Rattle.rox_grammar.specs.Search.{byte_from}
 use Rattle.rox_grammar.specs.Forest.{Forest, Nil, join}
 use Rattle.rox_grammar.specs.Written.{Item, Comment, PI, leaf}
+use Rattle.rox_grammar.specs.Tree.{scope_in}
 use Rattle.rox_grammar.specs.Names.{byte, spaces_end}
 use Rattle.rox_grammar.specs.Content.{IsMisc, comment, instruction}
 use Rattle.rox_grammar.specs.TextStart.{after_bom}
 use Rattle.rox_grammar.specs.Entities.{Replacement, Entity}
 use Rattle.rox_grammar.specs.Doctype.{Request, Asked, IsDefinition, internal, external, IsPassedOver, Subset, no_more, space, an_item, skipped_declaration, an_entity, BeginsDoctype, IsDoctype, no_subset, with_subset, entry, SubsetTo}
 use Rattle.rox_grammar.specs.State.{root, nodes_so_far, FitsLimits}
-use Rattle.rox_grammar.specs.Due.{DueItem, a_byte, IsMissing, none_left, DueInXmlDecl}
+use Rattle.rox_grammar.specs.Due.{DueItem, a_byte, IsMissing, Misses, none_left, DueInXmlDecl}
 use Rattle.rox_faults.proofs.DueForms.{subset_or_end, no_end, no_subset_or_end}
 use Rattle.rox_grammar.specs.Due as dues
 use Rattle.rox_grammar.specs.Faults.{in_one, one_too_many}
@@ -50,7 +51,7 @@ use Rattle.rox_theory.proofs.FailedReadings.{bind_err, no_fault, byte_fails}
 use Rattle.rox_faults.proofs.FaultRows.{comment_fails, instruction_fails}
 use Rattle.rox_faults.proofs.FaultPoints.{fine_fits}
 use Rattle.rox_faults.proofs.FaultWhole.{no_more_space, declaration_fails}
-use Rattle.rox_faults.proofs.FaultDeclared.{Misses, head_fails, definition_fails, doctype_head_fails}
+use Rattle.rox_faults.proofs.FaultDeclared.{head_fails, definition_fails, doctype_head_fails}
 
 -- ---- one after the other
 
@@ -185,7 +186,7 @@ module _ (src : List ℕ) (utf8 : IsUtf8 src) (limit most : ℕ) (less : limit �
         let f = w.1 in
         subst (λ (a : Option (List ℕ)). Stands (asked0 ++ once request a) e) (sym w.2)
         (subst (Stands (asked0 ++ once request (Some t))) w.4
-        (in_subset d.state.at items asked0 _ _ _ to fits (in_answer begun.0 begun.1 head.1 s.0 j w.6.0 head.0.parameter request t w.6.1 f begun.2 s.1 s.2 w.3 w.5 w.6.2 w.6.3)))
+        (in_subset d.state.at items asked0 _ _ _ to fits (in_answer begun.0 begun.1 head.1 s.0 j head.0.parameter request t f begun.2 s.1 s.2 w.3 w.5 w.6)))
 
     pub entity_fails : EntityFails asked0 (entity_step src d)
     unfolding entity_step
@@ -195,8 +196,8 @@ module _ (src : List ℕ) (utf8 : IsUtf8 src) (limit most : ℕ) (less : limit �
         (λ f ill.
         let begun = head_sound src d.state.at head opens is_head in
         let w = definition_fails src d.state.at begun.0 begun.1 head.1 head.0.parameter f begun.2 ill in
-        here_now asked0 f (in_subset d.state.at items asked0 _ _ _ to fits (in_entity w.0 w.1 f opens w.2 w.3))))
-        (λ f ill. let w = head_fails src d.state.at f ill in here_now asked0 f (in_subset d.state.at items asked0 _ _ _ to fits (in_entity w.0 w.1 f opens w.2 w.3)))
+        here_now asked0 f (in_subset d.state.at items asked0 _ _ _ to fits (in_entity f opens w))))
+        (λ f ill. let w = head_fails src d.state.at f ill in here_now asked0 f (in_subset d.state.at items asked0 _ _ _ to fits (in_entity f opens w)))
       where
         by_definition : (head : EntityHead × ℕ) → entity_head_at src d.state.at ≡ Ok head → (x : Definition) (j : ℕ) → definition_at head.0.parameter src head.1 ≡ Ok (x, j)
             → EntityFails asked0 (defined x j d.replies >>> λ text. asks_nothing (lifted (byte_at 62 src (spaces_end src j))) >>> λ end. asks_nothing (Ok (record { state = at_place end.1 d.state; entities = d.entities ++ entry head.0.name text.0; replies = text.1 })))
@@ -272,7 +273,7 @@ module _ (src : List ℕ) (utf8 : IsUtf8 src) (limit most : ℕ) (less : limit �
           let k = spaces_end src d.state.at in
           let plain = misc_plain src utf8 k j item is in
           let added' : with_item limit (state k (join before so.items) root 255) j item ≡ Ok t = subst (λ (u : State). with_item limit u j item ≡ Ok t) place_is added in
-          let r = item_read limit most (state k (join before so.items) root 255) t j item less plain.0 plain.1 (plain.2 _) fine_here added' in
+          let r = item_read limit most (state k (join before so.items) root 255) t j item less plain.0 plain.1 (plain.2 (scope_in [] item)) fine_here added' in
           let at_is : t.at ≡ j = ap (λ (s : State). s.at) r.0 in
           let one : Subset src k j (leaf item) [] [] = an_item k j j item Nil [] [] is (no_more j) in
           let read' : Subset src (s + 1) j (join so.items (leaf item)) asked0 d.entities =
@@ -480,7 +481,7 @@ module _ (src : List ℕ) (utf8 : IsUtf8 src) (limit most : ℕ) (less : limit �
       elim (name_or_end src n.1 name named) as (λ _. In [] src fault.UnexpectedEndOfStream) [
         | inl is ↦ (
             let begins : BeginsDoctype src i head.1 = record { opens = opens; n = n.1; space_before = sp; m = name.1; name = is.0; x = y.1; external = if_sound src (spaces_end src name.1) y may; next = sym e } in
-            head_lacks head.1 subset_or_end fault.UnexpectedEndOfStream (dues.DueInDoctype.its_end head.1 begins) (none_left _ out))
+            head_lacks fault.UnexpectedEndOfStream (head.1, subset_or_end, dues.DueInDoctype.its_end head.1 begins, none_left _ out))
         | inr cut ↦ no_name n.1 sp cut.0
       ])))
 
@@ -504,6 +505,6 @@ module _ (src : List ℕ) (utf8 : IsUtf8 src) (limit most : ℕ) (less : limit �
       subset_ends head.1 begins bracket (length src) [] (record { state = state (head.1 + 1) before root 255; entities = []; replies = rs })
       (record { items = Nil; read = no_more (head.1 + 1); state_is = ap (λ (f : Forest Item). state (head.1 + 1) f root 255) (sym (join-nil before)); solid = solid_behind src (head.1 + 1) head.1 91 refl bracket refl })
       (cut_behind src head.1 91 utf8 bracket (omega arith) (omega arith)) (fine_there most (state i before root 255) (state (head.1 + 1) before root 255) refl refl fine) texts (omega arith))
-      (λ neither. head_lacks head.1 subset_or_end (fault.InvalidChar2 due.SubsetOrEnd (byte src head.1) head.1) (dues.DueInDoctype.its_end head.1 begins)
-      (no_subset_or_end below (eqb-false _ _ neither) (eqb-false _ _ other))))))
-      (λ f ill. let w = doctype_head_fails src i f ill in head_lacks w.0 w.1 f w.2 w.3)
+      (λ neither. head_lacks (fault.InvalidChar2 due.SubsetOrEnd (byte src head.1) head.1)
+      (head.1, subset_or_end, dues.DueInDoctype.its_end head.1 begins, no_subset_or_end below (eqb-false _ _ neither) (eqb-false _ _ other))))))
+      (λ f ill. let w = doctype_head_fails src i f ill in head_lacks f w)

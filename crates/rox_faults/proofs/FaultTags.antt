@@ -28,7 +28,7 @@ use Rattle.rox_grammar.specs.Entities.{Entity, most_deep}
 use Rattle.rox_grammar.specs.State as grammar
 use Rattle.rox_grammar.specs.State.{Open, root, State, scope_of, attributes_so_far, pairs_so_far}
 use Rattle.rox_grammar.specs.OpenElements.{tree_so_far}
-use Rattle.rox_grammar.specs.Due.{DueItem, a_byte, a_qname, chars_to, IsMissing, no_byte, none_left, DueInPair, its_name, equals, opening, its_value, closing, value_end}
+use Rattle.rox_grammar.specs.Due.{a_byte, a_qname, chars_to, IsMissing, Misses, no_byte, none_left, DueInPair, its_name, equals, opening, its_value, closing, value_end}
 use Rattle.rox_faults.proofs.DueForms.{a_quote, no_space, no_quote}
 use Rattle.rox_grammar.specs.ContentPoints.{is_main, TagTo}
 use Rattle.rox_grammar.specs.Faults.{SpanIs, cut_off, IllDeclared, other_uri, uri_of_xml, uri_of_xmlns, again, IllNamed, unknown_attribute, twice, unknown_element, InTag, no_name, xmlns_prefix, cut, cut_in_replacement, no_rest, not_closed, in_pair, ill_declared, too_many_pairs, too_many_attributes, ill_named, in_rest}
@@ -174,7 +174,7 @@ module _ (src : List ℕ) (utf8 : IsUtf8 src) where
       ]
 
   -- an attribute: what is due in it
-  attribute_fails : (i : ℕ) (f : Fault) → attribute_at src i ≡ Err f → (q : ℕ) × (t : DueItem) × DueInPair src i q t × IsMissing src q t f
+  attribute_fails : (i : ℕ) (f : Fault) → attribute_at src i ≡ Err f → Misses src (DueInPair src i) f
   unfolding attribute_at raw_value_at
   attribute_fails i f h =
       bind_err (qname_at src i) _ f h (λ bad. (i, a_qname, its_name, qname_fails src i f bad))
@@ -225,9 +225,9 @@ cut_same root = refl
 cut_same (grammar.Open.inside start tag before up) = refl
 
 -- a tag that is cut off
-cut_stands : (main : Bool) (O : Inclusion) (src : List ℕ) (s : State) (b p c : ℕ) (as' : List Attribute) → TagTo main O src s p b c as' → length src ≤ p → InTag main O src s b (machine.cut_off_fault main s.stack)
-cut_stands true O src s b p c as' to past = subst (InTag true O src s b) (sym (cut_same s.stack)) (in_rest p c as' _ to (cut past refl))
-cut_stands false O src s b p c as' to past = in_rest p c as' _ to (cut_in_replacement past refl)
+cut_stands : (main : Bool) (O : Inclusion) (src : List ℕ) (s : State) (b p c : ℕ) (name : Name) (as' : List Attribute) → TagTo main O src s p b c name as' → length src ≤ p → InTag main O src s b (machine.cut_off_fault main s.stack)
+cut_stands true O src s b p c name as' to past = subst (InTag true O src s b) (sym (cut_same s.stack)) (in_rest p c name as' _ to (cut past refl))
+cut_stands false O src s b p c name as' to past = in_rest p c name as' _ to (cut_in_replacement past refl)
 
 -- one more at the end
 attributes_more : (main : Bool) (O : Inclusion) (src : List ℕ) (k d i j b c : ℕ) (as' : List Attribute) (a : Attribute) → Attributes main O src i j b c as' → j < spaces_end src j → IsAttribute main O src (spaces_end src j) k c d a
@@ -280,7 +280,7 @@ module _ (opens : ℕ → Inclusion) (es : List Entity) (agrees : (d l : ℕ) �
     -- a tag that fails: in it itself, or in a value of it, or in a replacement text that is opened there
     pub data TagFails (e : Refusal) : Type 0 where
       itself : (f : Fault) → here f ≡ e → Fails f → TagFails e
-      ill_value : (p c n v stop j : ℕ) (as' : List Attribute) (name : Name) → TagTo (is_main level) (opens level) src s p b c as' → p < spaces_end src p → IsQName src (spaces_end src p) name n → IsEq src n v
+      ill_value : (p c n v stop j : ℕ) (tag_name : Name) (as' : List Attribute) (name : Name) → TagTo (is_main level) (opens level) src s p b c tag_name as' → p < spaces_end src p → IsQName src (spaces_end src p) name n → IsEq src n v
           → IsLiteral src v stop j → Refuses es (InPart opens es level src (v + 1) stop c) src e → TagFails e
 
     -- their declarations may be there, within the limit
@@ -289,20 +289,12 @@ module _ (opens : ℕ → Inclusion) (es : List Entity) (agrees : (d l : ℕ) �
 
     -- the tag is read up to here
     abbrev UpTo : ℕ → ℕ → List Attribute → Type 0
-    UpTo p c as' = TagTo (is_main level) (opens level) src s p b c as'
+    UpTo p c as' = (name : Name) × TagTo (is_main level) (opens level) src s p b c name as'
 
     -- one more
     up_to_more : (p k c d : ℕ) (as' : List Attribute) (a : Attribute) → UpTo p c as' → p < spaces_end src p → IsAttribute (is_main level) (opens level) src (spaces_end src p) k c d a → MayStand (as' ++ a ∷ []) → UpTo k d (as' ++ a ∷ [])
-    up_to_more p k c d as' a to spaces is may =
-        record {
-          name = to.name;
-          name_end = to.name_end;
-          is_name = to.is_name;
-          no_xmlns = to.no_xmlns;
-          attributes = attributes_more (is_main level) (opens level) src k d to.name_end p b c as' a to.attributes spaces is;
-          declarable = are_declarable _ may.0;
-          few_pairs = pairs_there s.stack s.done (namespace_decls_of (as' ++ a ∷ [])) may.1;
-        }
+    up_to_more p k c d as' a (name, (n, is_name, no_xmlns, attributes, declarable, few_pairs)) spaces is may =
+        (name, (n, is_name, no_xmlns, attributes_more (is_main level) (opens level) src k d n p b c as' a attributes spaces is, are_declarable (namespace_decls_of (as' ++ a ∷ [])) may.0, pairs_there s.stack s.done (namespace_decls_of (as' ++ a ∷ [])) may.1))
 
     -- what is due behind these attributes: rows 21 to 24 and 31
     turn_fails : (p c : ℕ) (as' : List Attribute) (f : Fault) → UpTo p c as' → p < length src → tag_item_at src p ≡ Err f → Fails f
@@ -310,9 +302,9 @@ module _ (opens : ℕ → Inclusion) (es : List Entity) (agrees : (d l : ℕ) �
     turn_fails p c as' f to below h =
         let j = spaces_end src p in
         chosen (leb (length src) j) _ _ _ h
-        (λ out h. let is : fault.UnexpectedEndOfStream ≡ f = cc in subst Fails is (in_rest p c as' _ to (no_rest below (leb-true _ _ out))))
+        (λ out h. let is : fault.UnexpectedEndOfStream ≡ f = cc in subst Fails is (in_rest p c to.0 as' _ to.1 (no_rest below (leb-true _ _ out))))
         (λ inside h. chosen (eqb (byte src j) 47) _ _ _ h
-        (λ slash h. bind_err (byte_at 62 src (j + 1)) _ f h (λ bad. in_rest p c as' _ to (not_closed f (eqb-true _ _ slash) (byte_fails 62 src (j + 1) f bad))) (λ x read h. no_fault _ f h))
+        (λ slash h. bind_err (byte_at 62 src (j + 1)) _ f h (λ bad. in_rest p c to.0 as' _ to.1 (not_closed f (eqb-true _ _ slash) (byte_fails 62 src (j + 1) f bad))) (λ x read h. no_fault _ f h))
         (λ no_slash h. chosen (eqb (byte src j) 62) _ _ _ h (λ greater h. cc)
         (λ no_greater h. chosen (eqb j p) _ _ _ h
         (λ none h.
@@ -320,12 +312,12 @@ module _ (opens : ℕ → Inclusion) (es : List Entity) (agrees : (d l : ℕ) �
         let is : fault.InvalidChar2 due.Space (byte src j) j ≡ f = cc in
         let is' : fault.InvalidChar2 due.Space (byte src p) p ≡ f = subst (λ (k : ℕ). fault.InvalidChar2 due.Space (byte src k) k ≡ f) same is in
         let no : is_space (byte src p) ≡ false = false_from_ne_true _ (λ space. let l = space_some src p below space in absurd (omega arith)) in
-        subst Fails is' (faults.InTag.in_rest p c as' _ to (faults.InTagRest.no_space (fault.InvalidChar2 due.Space (byte src p) p) below (subst (λ (k : ℕ). byte src k ≢ 47) same (eqb-false _ _ no_slash)) (subst (λ (k : ℕ). byte src k ≢ 62) same (eqb-false _ _ no_greater)) (no_space below no))))
+        subst Fails is' (faults.InTag.in_rest p c to.0 as' _ to.1 (faults.InTagRest.no_space (fault.InvalidChar2 due.Space (byte src p) p) below (subst (λ (k : ℕ). byte src k ≢ 47) same (eqb-false _ _ no_slash)) (subst (λ (k : ℕ). byte src k ≢ 62) same (eqb-false _ _ no_greater)) (no_space below no))))
         (λ some h.
         let apart = eqb-false _ _ some in
         let le = run_end_le is_space src p in
         bind_err (attribute_at src j) _ f h
-        (λ bad. let w = attribute_fails src utf8 j f bad in in_rest p c as' _ to (in_pair w.0 w.1 f (omega arith) (leb-false _ _ inside) (eqb-false _ _ no_slash) (eqb-false _ _ no_greater) w.2 w.3))
+        (λ bad. let w = attribute_fails src utf8 j f bad in in_rest p c to.0 as' _ to.1 (in_pair f (omega arith) (leb-false _ _ inside) (eqb-false _ _ no_slash) (eqb-false _ _ no_greater) w))
         (λ x read h. no_fault _ f h)))))
 
     -- a declaration that may not stand: rows 1 to 3, 5 and 20
@@ -335,19 +327,19 @@ module _ (opens : ℕ → Inclusion) (es : List Entity) (agrees : (d l : ℕ) �
     declared_fails p k c d as' a h f to spaces is named declares' own bad =
         let known = distinct_pairs (pairs_so_far s.stack s.done) in
         bind_err (uri_tested a) _ f bad
-        (λ bad. in_rest p c as' _ to (ill_declared d k a f spaces is declares' (uri_fails src (namespace_decls_of as') a f bad)))
+        (λ bad. in_rest p c to.0 as' _ to.1 (ill_declared d k a f spaces is declares' (uri_fails src (namespace_decls_of as') a f bad)))
         (λ u tested bad. chosen (is_declared (namespace_decl_of a).prefix h.own) _ _ _ bad
         (λ twice bad.
         let e : fault.DuplicatedNamespace (local_span a.name a.name_end) a.start ≡ f = cc in
         let twice' : is_declared (namespace_decl_of a).prefix (namespace_decls_of as') ≡ true = rw own at twice in
-        subst Fails e (in_rest p c as' _ to (ill_declared d k a (fault.DuplicatedNamespace (local_span a.name a.name_end) a.start) spaces is declares' (again (local_span a.name a.name_end) (uri_sound a u tested) twice' named.local))))
+        subst Fails e (in_rest p c to.0 as' _ to.1 (ill_declared d k a (fault.DuplicatedNamespace (local_span a.name a.name_end) a.start) spaces is declares' (again (local_span a.name a.name_end) (uri_sound a u tested) twice' named.local))))
         (λ once bad. chosen (ltb most_pairs (length (with_new known (listable_of (h.own ++ namespace_decl_of a ∷ []))))) _ _ _ bad
         (λ many bad.
         let e : fault.NamespacesLimitReached ≡ f = cc in
         let over = ltb-true _ _ many in
         let once' : is_declared (namespace_decl_of a).prefix (namespace_decls_of as') ≡ false = rw own at once in
         let all : h.own ++ namespace_decl_of a ∷ [] ≡ namespace_decls_of as' ++ namespace_decl_of a ∷ [] = ap (λ (ds : List NamespaceDecl). ds ++ namespace_decl_of a ∷ []) own in
-        subst Fails e (in_rest p c as' _ to (too_many_pairs d k a spaces is declares' (uri_sound a u tested) once' (more_pairs_there s.stack s.done (namespace_decls_of as' ++ namespace_decl_of a ∷ []) (subst (λ (ds : List NamespaceDecl). most_pairs < length (with_new known (listable_of ds))) all over)))))
+        subst Fails e (in_rest p c to.0 as' _ to.1 (too_many_pairs d k a spaces is declares' (uri_sound a u tested) once' (more_pairs_there s.stack s.done (namespace_decls_of as' ++ namespace_decl_of a ∷ []) (subst (λ (ds : List NamespaceDecl). most_pairs < length (with_new known (listable_of ds))) all over)))))
         (λ fits bad. no_fault _ f bad)))
 
     -- what is held behind one more attribute
@@ -392,7 +384,7 @@ module _ (opens : ℕ → Inclusion) (es : List Entity) (agrees : (d l : ℕ) �
         (λ ill. let start = r.value_start in
         let w = value_fails opens es level src raw.value_start raw.value_end c agrees texts deeper e deep utf8 (omega arith) (λ z. literal_stop src r.v raw.value_end j r.literal)
         (λ k from below. literal_plain src r.v raw.value_end j r.literal k (omega arith) below) (subst (IsCharBoundary src) (sym start) (let quote = quote_ascii (byte src r.v) r.literal.0.0 in cut_behind src r.v (byte src r.v) utf8 refl (omega arith) (omega arith))) ill in
-        (ill_value p c raw.name_end r.v raw.value_end j as' raw.name to spaces r.is_name r.eq r.literal
+        (ill_value p c raw.name_end r.v raw.value_end j to.0 as' raw.name to.1 spaces r.is_name r.eq r.literal
         (subst (λ (i : ℕ). Refuses es (InPart opens es level src i raw.value_end c) src e) start w)))
         (λ v read bad.
         let is = attribute_sound alone (opens level) (agrees deeper level deep) src utf8 (spaces_end src p) j c v.1 raw v.0 r read in
@@ -401,18 +393,18 @@ module _ (opens : ℕ → Inclusion) (es : List Entity) (agrees : (d l : ℕ) �
         lifted_err (taken (distinct_pairs (pairs_so_far s.stack s.done)) (attribute_with raw v.0) h) _ e bad
         (λ f ill same. chosen (is_namespace_decl raw.name) _ _ _ ill (λ declares' ill. itself f same (declared_fails p j c v.1 as' (attribute_with raw v.0) h f to spaces is named declares' own ill)) (λ other ill. no_fault _ f ill))
         (λ held took bad.
-        let more' = held_more as' (attribute_with raw v.0) h held (declarable_behind (namespace_decls_of as') to.declarable, pairs_counted s.stack s.done (namespace_decls_of as') to.few_pairs) own took in
+        let more' = held_more as' (attribute_with raw v.0) h held (declarable_behind (namespace_decls_of as') to.1.4, pairs_counted s.stack s.done (namespace_decls_of as') to.1.5) own took in
         next j v.1 (as' ++ attribute_with raw v.0 ∷ []) held (up_to_more p j c v.1 as' (attribute_with raw v.0) to spaces is more'.1) (attribute_cut (is_main level) (opens level) src utf8 (spaces_end src p) j c v.1 (attribute_with raw v.0) is) (omega arith) more'.0 bad))
 
     -- attributes and declarations up to the end of the tag
     attributes_fail : (n p c : ℕ) (as' : List Attribute) (h : TagSoFar) (e : Refusal) → UpTo p c as' → IsCharBoundary src p → length src ≤ p + n → h.own ≡ namespace_decls_of as'
         → attributes_at n alone (machine.cut_off_fault (is_main level) s.stack) (distinct_pairs (pairs_so_far s.stack s.done)) src p c h ≡ Err e → TagFails e
     unfolding attributes_at
-    attributes_fail zero p c as' h e to here' enough own bad = let is : here (machine.cut_off_fault (is_main level) s.stack) ≡ e = cc in itself (machine.cut_off_fault (is_main level) s.stack) is (cut_stands (is_main level) (opens level) src s b p c as' to (omega arith))
+    attributes_fail zero p c as' h e to here' enough own bad = let is : here (machine.cut_off_fault (is_main level) s.stack) ≡ e = cc in itself (machine.cut_off_fault (is_main level) s.stack) is (cut_stands (is_main level) (opens level) src s b p c to.0 as' to.1 (omega arith))
     attributes_fail (suc n) p c as' h e to here' enough own bad =
         let known = distinct_pairs (pairs_so_far s.stack s.done) in
         chosen (leb (length src) p) _ _ _ bad
-        (λ out bad. let is : here (machine.cut_off_fault (is_main level) s.stack) ≡ e = cc in itself (machine.cut_off_fault (is_main level) s.stack) is (cut_stands (is_main level) (opens level) src s b p c as' to (leb-true _ _ out)))
+        (λ out bad. let is : here (machine.cut_off_fault (is_main level) s.stack) ≡ e = cc in itself (machine.cut_off_fault (is_main level) s.stack) is (cut_stands (is_main level) (opens level) src s b p c to.0 as' to.1 (leb-true _ _ out)))
         (λ inside bad. lifted_err (tag_item_at src p) _ e bad
         (λ f bad is. itself f is (turn_fails p c as' f to (leb-false _ _ inside) bad))
         (λ x turn bad. turn_goes n p c as' h e to here' enough own (λ j d more' held to' here' enough' own' bad. attributes_fail n j d more' held e to' here' enough' own' bad) x.0 x.1 turn bad))
@@ -435,13 +427,13 @@ module _ (opens : ℕ → Inclusion) (es : List Entity) (agrees : (d l : ℕ) �
         let text = qname_text src (s.at + 1) name.0 name.1 utf8 behind is_name in
         bind_err (attributes_at (length src) alone (machine.cut_off_fault (is_main level) s.stack) known src name.1 b none_yet) _ e h
         (λ bad. attributes_fail (length src) name.1 b [] none_yet e
-        (record { name = name.0; name_end = name.1; is_name = is_name; no_xmlns = free; attributes = no_more name.1 b; declarable = are_declarable [] tt; few_pairs = pairs_there s.stack s.done [] few }) text.3 (omega arith) refl bad)
+        (name.0, (name.1, is_name, free, no_more name.1 b, are_declarable [] tt, pairs_there s.stack s.done [] few)) text.3 (omega arith) refl bad)
         (λ x rest h.
         let r = rest_sound alone (opens level) (agrees deeper level deep) src utf8 (length src) (machine.cut_off_fault (is_main level) s.stack) known name.1 b none_yet x rest in
         let all = taken_sound known r.0 none_yet x.0.held r.4 in
         let few_pairs : length (with_new known (listable_of (namespace_decls_of r.0))) ≤ most_pairs = subst (λ (ds : List NamespaceDecl). length (with_new known (listable_of ds)) ≤ most_pairs) all.own (all.pairs few) in
         let c = x.0.openings_left in
-        let to : UpTo r.1 c r.0 = record { name = name.0; name_end = name.1; is_name = is_name; no_xmlns = free; attributes = r.2; declarable = are_declarable (namespace_decls_of r.0) all.declarable; few_pairs = pairs_there s.stack s.done (namespace_decls_of r.0) few_pairs } in
+        let to : UpTo r.1 c r.0 = (name.0, (name.1, is_name, free, r.2, are_declarable (namespace_decls_of r.0) all.declarable, pairs_there s.stack s.done (namespace_decls_of r.0) few_pairs)) in
         let as' = plain_attributes_of r.0 in
         let scope = listed (scope_of s.stack) (namespace_decls_of r.0) in
         let at_all : AllAt src as' = all_filtered src (λ a. not (is_namespace_decl a.name)) r.0 (attributes_named name.1 r.1 b c r.0 text.3 r.2) in
@@ -452,13 +444,13 @@ module _ (opens : ℕ → Inclusion) (es : List Entity) (agrees : (d l : ℕ) �
         (subst (λ (xs : List Attribute). tested_at (listed (scope_of s.stack) x.0.held.own) count (s.at + 1) name.0 xs ≡ Err f) all.attributes bad) in
         itself f same
         (chosen (ltb most_attributes (count + length as')) _ _ _ bad'
-        (λ many bad. let is : fault.AttributesLimitReached ≡ f = cc in subst Fails is (in_rest r.1 c r.0 _ to (too_many_attributes x.1 x.0.empty r.3 (omega (arith, attributes_are s.stack s.done, ltb-true _ _ many)))))
+        (λ many bad. let is : fault.AttributesLimitReached ≡ f = cc in subst Fails is (in_rest r.1 c name.0 r.0 _ to.1 (too_many_attributes x.1 x.0.empty r.3 (omega (arith, attributes_are s.stack s.done, ltb-true _ _ many)))))
         (λ fits bad.
         let fits' : attributes_in (tree_so_far s.stack s.done) + length as' ≤ most_attributes = omega (arith, attributes_are s.stack s.done, ltb-false _ _ fits) in
         bind_err (names_tested scope [] as') _ f bad
-        (λ bad. in_rest r.1 c r.0 _ to (ill_named x.1 x.0.empty f r.3 fits' (names_fails src s.at scope name.0 as' [] as' f refl tt at_all bad)))
+        (λ bad. in_rest r.1 c name.0 r.0 _ to.1 (ill_named x.1 x.0.empty f r.3 fits' (names_fails src s.at scope name.0 as' [] as' f refl tt at_all bad)))
         (λ u names bad. chosen (may_name scope name.0) _ _ _ bad (λ may bad. no_fault _ f bad)
         (λ unknown bad.
         let is : fault.UnknownNamespace (prefix_span name.0 (s.at + 1)) (s.at + 1) ≡ f = cc in
-        subst Fails is (in_rest r.1 c r.0 _ to (ill_named x.1 x.0.empty (fault.UnknownNamespace (prefix_span name.0 (s.at + 1)) (s.at + 1)) r.3 fits' (unknown_element (prefix_span name.0 (s.at + 1)) (are_distinct scope as' (names_sound scope [] as' u names)) unknown (name_holds src (s.at + 1) name.1 name.0 utf8 behind is_name).0))))))))
+        subst Fails is (in_rest r.1 c name.0 r.0 _ to.1 (ill_named x.1 x.0.empty (fault.UnknownNamespace (prefix_span name.0 (s.at + 1)) (s.at + 1)) r.3 fits' (unknown_element (prefix_span name.0 (s.at + 1)) (are_distinct scope as' (names_sound scope [] as' u names)) unknown (name_holds src (s.at + 1) name.1 name.0 utf8 behind is_name).0))))))))
         (λ u tested h. no_fault _ e h))))

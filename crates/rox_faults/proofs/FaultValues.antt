@@ -163,7 +163,7 @@ module _ (opens : ℕ → Inclusion) (es : List Entity) (k : ℕ) (whole : List 
     bit_goes p openings_left bit j e next to (bit_entity _ n _ t r none to' found) go h =
         let name = slice src (p + 1) n in
         let moves = reference_opens src p n j r in
-        let refers : RefersTo es src p j t = record { n = n; is_reference = r; no_character = none; found = found } in
+        let refers : RefersTo es src p j t = (n, r, none, found) in
         let so_far = to p openings_left (omega (arith, moves.2)) ([], value_ends openings_left) in
         bind_err (value_opener es d (is_main l) t j openings_left) _ e h
         (λ bad. opener_fails src j openings_left t name e found (λ spent. in_part l i stop c0 part (too_many p j openings_left so_far.0 t so_far.1 (omega (arith, moves.2)) refers spent))

@@ -10,6 +10,7 @@ use Rattle.rox_grammar.specs.Names.{byte, slice}
 use Rattle.rox_grammar.specs.Constructs.{AreChars, IsCData, IsEnd}
 use Rattle.rox_grammar.specs.FixedTexts.{at}
 use Rattle.rox_grammar.specs.Content.{Inclusion, IsCharacterData, IsMisc, comment, instruction, Value, Content}
+use Rattle.rox_grammar.proofs.TagParts.{tag_parts}
 use Rattle.rox_grammar.specs.RunParts.{Parts}
 use Rattle.rox_grammar.specs.Entities.{Replacement, Entity, text_of, most_deep}
 use Rattle.rox_grammar.specs.State as grammar
@@ -55,13 +56,12 @@ pub record OpensAt (opens : ℕ → Inclusion) (es : List Entity) : Type 0 where
 
 -- one more text may be open
 pub may_deep : (k b r : ℕ) → MayOpen k b r → suc k ≤ most_deep
-may_deep zero b r may = omega arith
-may_deep (suc k) b r (before, more) = omega arith
+may_deep k b r may = may.0
 
 -- and then so many are left in it
 pub may_once : (k b r q : ℕ) → MayOpen k b r → MayOpen k b q → r ≡ q
-may_once zero b r q may may' = may ∙ sym may'
-may_once (suc k) b r q (before, more) (before', more') = omega (arith, before, before')
+may_once zero b r q may may' = may.3.0 ∙ sym may'.3.0
+may_once (suc k) b r q may may' = omega (arith, may.3.0, may'.3.0)
 
 -- a replacement text is what its name says
 pub same_text : (es : List Entity) (name : List ℕ) (t u : Replacement) → text_of es name ≡ Some t → text_of es name ≡ Some u → t ≡ u
@@ -116,9 +116,11 @@ module _ (main : Bool) (O : Inclusion) (src : List ℕ) (open_around : ℕ) wher
       by_item item (comment _ e _ is) = subst (λ (k : Kind). By k (state i done stack b) t) (sym (comment_kind src i (comment_parts is).opens)) (j, item, comment i e j is)
       by_item item (instruction _ n e _ is) = subst (λ (k : Kind). By k (state i done stack b) t) (sym (instruction_kind src i (pi_parts is).opens)) (j, item, instruction i n e j is)
   takes_by s t (flat.StepsOver.takes_empty i j b c tag done stack is) =
-      subst (λ (k : Kind). By k (state i done stack b) t) (sym (tag_kind src i is.begins (name_byte src (i + 1) tag.name tag.name_end is.is_name))) (j, c, tag, true, is, refl)
+      let p = tag_parts is in
+      subst (λ (k : Kind). By k (state i done stack b) t) (sym (tag_kind src i p.begins (name_byte src (i + 1) tag.name tag.name_end p.is_name))) (j, c, tag, true, is, refl)
   takes_by s t (flat.StepsOver.takes_start i j b c tag done stack is) =
-      subst (λ (k : Kind). By k (state i done stack b) t) (sym (tag_kind src i is.begins (name_byte src (i + 1) tag.name tag.name_end is.is_name))) (j, c, tag, false, is, refl)
+      let p = tag_parts is in
+      subst (λ (k : Kind). By k (state i done stack b) t) (sym (tag_kind src i p.begins (name_byte src (i + 1) tag.name tag.name_end p.is_name))) (j, c, tag, false, is, refl)
   takes_by s t (flat.StepsOver.takes_end i p j b start tag done before up deep end) =
       subst (λ (k : Kind). By k (state i done (inside start tag before up) b) t) (sym (end_kind src i (end_parts end).opens)) (start, tag, before, up, p, j, refl, deep, end)
 
@@ -132,8 +134,8 @@ pub place_within : (k : ℕ) (O : Inclusion) (src : List ℕ) (utf8 : IsUtf8 src
 place_within k O src utf8 s t b c (takes_run j _ _ items inner is parts named) = (run_within src s.at j is).0
 place_within k O src utf8 s t b c (a_section e j _ inner is) = let two = (cdata_bytes src s.at (cdata_parts is).opens).0 in omega arith
 place_within k O src utf8 s t b c (a_misc j _ item inner is) = misc_within src utf8 s.at j item is
-place_within k O src utf8 s t b c (an_empty_tag j _ _ x is named) = let begins = is.begins in within src s.at (λ z. omega arith)
-place_within k O src utf8 s t b c (a_start_tag j _ _ x is named) = let begins = is.begins in within src s.at (λ z. omega arith)
+place_within k O src utf8 s t b c (an_empty_tag j _ _ x is named) = let begins = (tag_parts is).begins in within src s.at (λ z. omega arith)
+place_within k O src utf8 s t b c (a_start_tag j _ _ x is named) = let begins = (tag_parts is).begins in within src s.at (λ z. omega arith)
 place_within k O src utf8 s t b c (an_end_tag n j _ start x before up stack is) = let two = (end_bytes src s.at (end_parts is).opens).0 in omega arith
 
 -- the elements that are open around the innermost one
@@ -270,12 +272,12 @@ module _ (opens : ℕ → Inclusion) (es : List Entity) (all : OpensAt opens es)
 
     -- where it is read up to a reference, that opens a text there
     pub opened_there : (stop p c j : ℕ) (front : Forest Item) (t : Replacement) → IsCharacterData src s.at stop → PartsTo (is_main k) (opens k) src s.at stop s.at p b c front → p < stop → (refers : RefersTo es src p j t)
-        → (run : RunThere stop) × OpenedThere (is_main k) (opens k) (all.once k) src s.at stop p refers.n j c run.openings_left front run.items
+        → (run : RunThere stop) × OpenedThere (is_main k) (opens k) (all.once k) src s.at stop p refers.0 j c run.openings_left front run.items
     opened_there stop p c j front t is to below refers =
         let inside = run_within src s.at stop is in
         let there = run_there inside.0 inside.1 in
         let run : RunThere stop = subst RunThere ((char_data_parts there.1).end ∙ sym (char_data_parts is).end) there.2 in
-        (run, parts_front (is_main k) (opens k) (all.once k) src s.at stop p s.at refers.n j b c run.openings_left front run.items to run.parts below refers.is_reference refers.no_character)
+        (run, parts_front (is_main k) (opens k) (all.once k) src s.at stop p s.at refers.0 j b c run.openings_left front run.items to run.parts below refers.1 refers.2)
 
     -- so the way leads into that text
     enters_reached : (stop p c j q : ℕ) (front : Forest Item) (t : Replacement) → IsCharacterData src s.at stop → PartsTo (is_main k) (opens k) src s.at stop s.at p b c front → p < stop → RefersTo es src p j t → MayOpen k c q
@@ -283,9 +285,9 @@ module _ (opens : ℕ → Inclusion) (es : List Entity) (all : OpensAt opens es)
     enters_reached stop p c j q front t is to below refers may =
         let there = opened_there stop p c j front t is to below refers in
         let run = there.0 in let found = there.1 in
-        let x = all.content k c found.openings_left (slice src (p + 1) refers.n) found.opened found.opens in
-        let text = all.texts (slice src (p + 1) refers.n) t refers.found in
-        let text_is : x.0 ≡ t = same_text es (slice src (p + 1) refers.n) x.0 t x.3 refers.found in
+        let x = all.content k c found.openings_left (slice src (p + 1) refers.0) found.opened found.opens in
+        let text = all.texts (slice src (p + 1) refers.0) t refers.3 in
+        let text_is : x.0 ≡ t = same_text es (slice src (p + 1) refers.0) x.0 t x.3 refers.3 in
         let openings_left_is : x.1 ≡ q = may_once k c x.1 q x.4 may in
         let content : Content false (opens (suc k)) t.source t.start (length t.source) q x.2 found.opened =
         subst (λ (q : ℕ). Content false (opens (suc k)) t.source t.start (length t.source) q x.2 found.opened) openings_left_is

@@ -16,6 +16,7 @@ use Rattle.rox_grammar.specs.FixedTexts.{word_text, at}
 use Rattle.rox_grammar.specs.Search.{stands, byte_from}
 use Rattle.rox_grammar.specs.Forest.{Forest, Nil, join}
 use Rattle.rox_grammar.specs.Written.{Item, Comment, PI, leaf}
+use Rattle.rox_grammar.specs.Tree.{scope_in}
 use Rattle.rox_grammar.specs.Names.{byte, spaces_end}
 use Rattle.rox_grammar.specs.Constructs.{IsEq, DeclarationTo, version, encoding, standalone}
 use Rattle.rox_grammar.specs.Content.{IsMisc}
@@ -28,7 +29,7 @@ use Rattle.rox_grammar.specs.Document.{Behind, Misc, no_misc, space, an_item, Pr
 use Rattle.rox_grammar.specs.State.{root, nodes_so_far, FitsLimits}
 use Rattle.rox_reading.specs.Refusals.{Refusal, here, there, refused, lifted}
 use Rattle.rox_reading.specs.State.{State}
-use Rattle.rox_grammar.specs.Due.{DueItem, a_byte, a_qname, a_gap, a_text, chars_to, IsMissing, no_gap, DueInPair, its_name, equals, opening, its_value, closing, value_end, DueInXmlDecl, its_version, in_pair, behind_pair, behind_last}
+use Rattle.rox_grammar.specs.Due.{a_byte, a_qname, a_gap, a_text, chars_to, IsMissing, no_gap, DueInPair, its_name, equals, opening, its_value, closing, value_end, DueInXmlDecl, its_version, in_pair, behind_pair, behind_last, Misses, version, encoding, standalone}
 use Rattle.rox_faults.proofs.DueForms.{a_quote}
 use Rattle.rox_grammar.specs.Due as dues
 use Rattle.rox_grammar.specs.ContentPoints.{is_main, begins, of_root}
@@ -91,7 +92,7 @@ module _ (src : List ℕ) (utf8 : IsUtf8 src) where
   -- ---- the declaration
 
   -- a pair
-  pair_fails : (i : ℕ) (f : Fault) → pair_at src i ≡ Err f → (q : ℕ) × (t : DueItem) × DueInPair src i q t × IsMissing src q t f
+  pair_fails : (i : ℕ) (f : Fault) → pair_at src i ≡ Err f → Misses src (DueInPair src i) f
   unfolding pair_at
   pair_fails i f h =
       bind_err (qname_at src i) _ f h (λ bad. (i, a_qname, its_name, qname_fails src i f bad))
@@ -134,7 +135,7 @@ module _ (src : List ℕ) (utf8 : IsUtf8 src) where
 
   -- what is due in the declaration
   abbrev pub Declares : ℕ → Fault → Type 0
-  Declares i f = (q : ℕ) × (t : DueItem) × DueInXmlDecl src i q t × IsMissing src q t f
+  Declares i f = Misses src (DueInXmlDecl src i) f
 
   -- a pair and its gap
   pair_if_fails : (w : Word) (i p : ℕ) (f : Fault) → DeclarationTo src i (word_text w) p → word_text w ≢ word_text word.Standalone → pair_if w src p ≡ Err f → Declares i f
@@ -242,7 +243,7 @@ module _ (src : List ℕ) (utf8 : IsUtf8 src) where
         let go : (j : ℕ) (item : Item) (u : State) → IsMisc src k j item → with_item limit (state k done root b) j item ≡ Ok u → misc limit n src u ≡ Err f → Q =
         λ j item u is read h.
         let p = misc_plain src utf8 k j item is in
-        let both = item_read limit most (state k done root b) u j item less p.0 p.1 (p.2 _) fine' read in
+        let both = item_read limit most (state k done root b) u j item less p.0 p.1 (p.2 (scope_in [] item)) fine' read in
         misc_fails n b j (join done (leaf item)) (next j item is) (subst (IsValidState most) both.0 both.1) (ends_cut src j utf8 (misc_ends src k j item is)) (subst (λ (u : State). misc limit n src u ≡ Err f) both.0 h)
         in
         chosen (at word.CommentStart src k) _ _ _ h
@@ -326,7 +327,7 @@ module _ (src : List ℕ) (utf8 : IsUtf8 src) where
         chosen (byte src i == 60) _ _ _ h
         (λ is h.
         let opens' : byte src i ≡ 60 = eqb-true _ _ is in
-        let place : Here opens es limit src declared Front most less least values contents texts 0 0 src s = begins i before (ahead, record { opens = opens'; no_comment = no_comment; no_instruction = no_instruction; no_doctype = no_doctype }) in
+        let place : Here opens es limit src declared Front most less least values contents texts 0 0 src s = begins i before (ahead, (opens', no_comment, no_instruction, no_doctype)) in
         bind_err (tag_step (main_text limit es) src s) _ e h
         (λ bad. tag_fails opens es limit src declared Front most less least values contents texts most_deep 0 0 refl src utf8 s e (of_root opens') opens' fine place bad)
         (λ t read h.
@@ -444,7 +445,7 @@ module _ (src : List ℕ) (utf8 : IsUtf8 src) where
         f,
         same,
         chosen (at word.XmlDeclStart src b) _ _ _ bad
-            (λ is bad. bind_err (xml_decl_at src b) _ f bad (λ bad. let w = declaration_fails b f bad in in_declaration w.0 w.1 f is w.2 w.3) (λ x read bad. no_fault _ f bad))
+            (λ is bad. bind_err (xml_decl_at src b) _ f bad (λ bad. let w = declaration_fails b f bad in in_declaration f is w) (λ x read bad. no_fault _ f bad))
             (λ none bad. no_fault _ f bad),
       )))
       (λ i declared h.

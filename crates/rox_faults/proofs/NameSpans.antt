@@ -48,7 +48,7 @@ cut_behind src i b utf8 is some ascii = IsCharBoundary-after_ascii src i utf8 (w
 
 -- a span from its two ends
 pub text_span : (src : List ℕ) (i j : ℕ) → i ≤ j → IsCharBoundary src i → IsCharBoundary src j → IsTextSpan src (record { start = i; end = j })
-text_span src i j le start end = record { ordered = le; start = start; end = end }
+text_span src i j le start end = (le, start, end)
 
 -- how long a slice is
 slice_long : (src : List ℕ) (i j : ℕ) → i ≤ j → j ≤ length src → length (slice src i j) ≡ j - i

@@ -48,16 +48,12 @@ distinct_are stack done =
 pub fits_few : (limit : ℕ) (stack : Open) (done : Forest Item) → FitsLimits limit stack done → AreFew stack done
 fits_few limit stack done fits = (omega (arith, fits.attributes, attributes_are stack done), omega (arith, fits.namespaces, distinct_are stack done))
 
-pub too_many_there : (limit : ℕ) (stack : Open) (done : Forest Item) → AreFew stack done → limit < nodes_so_far stack done → HasTooManyNodes limit stack done
+pub too_many_there : (limit : ℕ) (stack : Open) (done : Forest Item) → AreFew stack done → limit < nodes_so_far stack done → HasTooManyNodes limit (tree_so_far stack done)
 too_many_there limit stack done few over =
-    record {
-      attributes = omega (arith, few.0, attributes_are stack done);
-      namespaces = omega (arith, few.1, distinct_are stack done);
-      nodes = omega (arith, over, nodes_are stack done);
-    }
+    (omega (arith, few.0, attributes_are stack done), omega (arith, few.1, distinct_are stack done), omega (arith, over, nodes_are stack done))
 
-pub too_many_counted : (limit : ℕ) (stack : Open) (done : Forest Item) → HasTooManyNodes limit stack done → limit < nodes_so_far stack done
-too_many_counted limit stack done over = omega (arith, over.nodes, nodes_are stack done)
+pub too_many_counted : (limit : ℕ) (stack : Open) (done : Forest Item) → HasTooManyNodes limit (tree_so_far stack done) → limit < nodes_so_far stack done
+too_many_counted limit stack done over = omega (arith, over.2, nodes_are stack done)
 
 -- with the declarations of a tag
 pub pairs_there : (stack : Open) (done : Forest Item) (ds : List NamespaceDecl) → length (with_new (distinct_pairs (pairs_so_far stack done)) (listable_of ds)) ≤ most_pairs

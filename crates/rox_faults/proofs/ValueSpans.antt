@@ -142,7 +142,7 @@ module _ (src : List ℕ) (utf8 : IsUtf8 src) where
   name_span_text : (i : ℕ) → byte src i ≡ 38 → IsTextSpan src (record { start = i + 1; end = run_end is_name_char src (i + 1) })
   name_span_text i amp =
       let cut = cut_behind src i 38 utf8 amp (omega arith) (omega arith) in
-      record { ordered = run_end_le is_name_char src (i + 1); start = cut; end = run_cut is_name_char src (i + 1) utf8 cut }
+      (run_end_le is_name_char src (i + 1), cut, run_cut is_name_char src (i + 1) utf8 cut)
 
   -- a name between `&` and `;`
   name_reference_spans : (i : ℕ) → byte src i ≡ 38 → Spanned (Reference × ℕ) src (λ (r : Reference × ℕ). RefersTo src r.0) (name_reference_at src i)

@@ -96,15 +96,15 @@ module _ {A : Type 0} (p : A → Bool) (same : A → A → Bool) where
 -- ---- none before them
 
 pub declarable_behind : (ds : List NamespaceDecl) → AreDeclarable ds → DeclarableBehind [] ds
-declarable_behind ds h = behind may_declare (λ d e. same_prefix d.prefix e.prefix) [] ds h.each refl h.apart
+declarable_behind ds h = behind may_declare (λ d e. same_prefix d.prefix e.prefix) [] ds h.0 refl h.1
 
 pub are_declarable : (ds : List NamespaceDecl) → DeclarableBehind [] ds → AreDeclarable ds
-are_declarable ds h = let f = fine may_declare (λ d e. same_prefix d.prefix e.prefix) [] ds h in record { each = f.0; apart = f.2 }
+are_declarable ds h = let f = fine may_declare (λ d e. same_prefix d.prefix e.prefix) [] ds h in (f.0, f.2)
 
 pub distinct_behind : (scope : List NamespaceDecl) (as' : List Attribute) → AreDistinct scope as' → DistinctBehind scope [] as'
-distinct_behind scope as' h = behind (λ a. is_known scope a.name) (λ a b. same_expanded scope a.name b.name) [] as' h.known refl h.apart
+distinct_behind scope as' h = behind (λ a. is_known scope a.name) (λ a b. same_expanded scope a.name b.name) [] as' h.0 refl h.1
 
 pub are_distinct : (scope : List NamespaceDecl) (as' : List Attribute) → DistinctBehind scope [] as' → AreDistinct scope as'
 are_distinct scope as' h =
     let f = fine (λ a. is_known scope a.name) (λ a b. same_expanded scope a.name b.name) [] as' h in
-    record { known = f.0; apart = f.2 }
+    (f.0, f.2)

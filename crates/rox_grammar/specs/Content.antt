@@ -126,15 +126,9 @@ module _ (main : Bool) (Includes : Inclusion) (src : List ℕ) where
     one_more : (i j k b c d : ℕ) (a : Attribute) (as' : List Attribute) → i < spaces_end src i → IsAttribute (spaces_end src i) j b c a → Attributes j k c d as' → Attributes i k b d (a ∷ as')
 
   -- XML 3.1 [40] STag, [44] EmptyElemTag; the flag says that the element is empty
-  pub record IsTag (i j b c : ℕ) (empty : Bool) (t : Tag) : Type 0 where
-    pub begins : byte src i ≡ code "<"
-    pub is_name : IsQName src (i + 1) t.name t.name_end
-    pub written : List Attribute
-    pub last : ℕ
-    pub attributes : Attributes t.name_end last b c written
-    pub ends : TagEnds src last empty j
-    pub declares : t.declarations ≡ namespace_decls_of written
-    pub has : t.attributes ≡ plain_attributes_of written
+  pub data IsTag (i j b c : ℕ) (empty : Bool) : Tag → Type 0 where
+    start_tag : (n m : ℕ) (name : Name) (all : List Attribute) → byte src i ≡ code "<" → IsQName src (i + 1) name n → Attributes n m b c all → TagEnds src m empty j
+        → IsTag i j b c empty (record { name = name; name_end = n; declarations = namespace_decls_of all; attributes = plain_attributes_of all })
 
   mutual
     -- XML 3 [39] element: from i up to j

@@ -10,23 +10,19 @@ use Rattle.rox_grammar.specs.Constructs.{text_at, IsCData, IsEnd}
 use Rattle.rox_grammar.specs.Content.{Inclusion, is_verbatim, section, Parts, IsCharacterData, Value, Attributes, IsTag, IsMisc}
 use Rattle.rox_grammar.specs.WellNamed.{AreDeclarable, IsWellNamed, AreWellNamed}
 use Rattle.rox_grammar.specs.References.{IsReference, predefined}
-use Rattle.rox_grammar.specs.Entities.{Replacement, Entity, text_of, most_within, most_deep}
+use Rattle.rox_grammar.specs.Entities.{Replacement, Entity, text_of, most_within, most_deep, Spends}
 use Rattle.rox_grammar.specs.Document.{pairs_in, distinct_count, most_pairs}
 use Rattle.rox_grammar.specs.OpenElements.{Open, root, inside, State, depth_of, scope_of, tree_so_far}
 
 -- the `<` of the root element: of no comment, processing instruction or document type declaration. Behind a document type
 -- declaration no other may stand, so there `<!DOCTYPE` is read as a start tag.
-pub record RootBegins (declared : Bool) (src : List ℕ) (i : ℕ) : Type 0 where
-  pub opens : byte src i ≡ code "<"
-  pub no_comment : text_at "<!--" src i ≡ false
-  pub no_instruction : text_at "<?" src i ≡ false
-  pub no_doctype : declared ≡ false → text_at "<!DOCTYPE" src i ≡ false
+abbrev pub RootBegins : (dtd : Bool) → List ℕ → ℕ → Type 0
+RootBegins dtd src i = (byte src i ≡ code "<") × (text_at "<!--" src i ≡ false) × (text_at "<?" src i ≡ false) × (dtd ≡ false → text_at "<!DOCTYPE" src i ≡ false)
 
 -- with k replacement texts open, content stands here; in the main text that is inside the root element alone
 abbrev pub is_content : ℕ → Open → Bool
 is_content zero root = false
-is_content zero (inside start tag before up) = true
-is_content (suc k) stack = true
+is_content k stack = true
 
 -- no replacement text is open
 abbrev pub is_main : ℕ → Bool
@@ -54,16 +50,12 @@ module _ (k : ℕ) (Includes : Inclusion) (src : List ℕ) (s : State) where
         → StepsOver b (record { at = j; done = join before (Cons (Element start j t) (merge s.done) Nil); stack = up }) b
 
 -- a reference to an entity stands at p and ends at j: its replacement text
-pub record RefersTo (es : List Entity) (src : List ℕ) (p j : ℕ) (t : Replacement) : Type 0 where
-  pub n : ℕ
-  pub is_reference : IsReference src p n j
-  pub no_character : predefined (slice src (p + 1) n) ≡ None
-  pub found : text_of es (slice src (p + 1) n) ≡ Some t
+abbrev pub RefersTo : List Entity → List ℕ → (p j : ℕ) → Replacement → Type 0
+RefersTo es src p j t = (n : ℕ) × IsReference src p n j × (predefined (slice src (p + 1) n) ≡ None) × (text_of es (slice src (p + 1) n) ≡ Some t)
 
 -- where k replacement texts are open and b openings are left, one more may be opened, with r left in it
 abbrev pub MayOpen : (k b r : ℕ) → Type 0
-MayOpen zero b r = r ≡ most_within
-MayOpen (suc k) b r = (b ≡ r + 1) × (suc k < most_deep)
+MayOpen k b r = (k < most_deep) × (l : ℕ) × (c : ℕ) × Spends (is_main k) b r l c
 
 -- none may be opened
 abbrev pub IsSpent : (k b : ℕ) → Type 0
@@ -92,11 +84,7 @@ pub data ValuePart (opens : ℕ → Inclusion) (es : List Entity) (k : ℕ) (src
 
 -- The start tag that begins at a place is read up to p, right behind its name or one of these attributes and declarations.
 -- No fault of the tag stands before p: each declaration may be there, and with their pairs the limit is kept.
-pub record TagTo (main : Bool) (Includes : Inclusion) (src : List ℕ) (s : State) (p b c : ℕ) (written : List Attribute) : Type 0 where
-  pub name : Name
-  pub name_end : ℕ
-  pub is_name : IsQName src (s.at + 1) name name_end
-  pub no_xmlns : bytes_eq name.prefix (codes "xmlns") ≡ false
-  pub attributes : Attributes main Includes src name_end p b c written
-  pub declarable : AreDeclarable (namespace_decls_of written)
-  pub few_pairs : distinct_count (pairs_in (tree_so_far s.stack s.done) ++ listable_of (namespace_decls_of written)) ≤ most_pairs
+abbrev pub TagTo : (main : Bool) → Inclusion → List ℕ → State → (p b c : ℕ) → Name → List Attribute → Type 0
+TagTo main Includes src s p b c name written =
+    (n : ℕ) × IsQName src (s.at + 1) name n × (bytes_eq name.prefix (codes "xmlns") ≡ false) × Attributes main Includes src n p b c written
+    × AreDeclarable (namespace_decls_of written) × (distinct_count (pairs_in (tree_so_far s.stack s.done) ++ listable_of (namespace_decls_of written)) ≤ most_pairs)

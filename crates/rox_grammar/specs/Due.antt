@@ -54,6 +54,10 @@ pub data IsMissing (src : List ℕ) (p : ℕ) : DueItem → Fault → Type 0 whe
   no_byte : (b : ℕ) → length src ≤ p → IsMissing src p (a_byte b) fault.UnexpectedEndOfStream
   none_left : (kind : Due) → length src ≤ p → IsMissing src p (one_of kind) fault.UnexpectedEndOfStream
 
+-- one of the things that are due within a construct is missing, and this is the fault
+abbrev pub Misses : List ℕ → (DueIn : ℕ → DueItem → Type 0) → Fault → Type 0
+Misses src DueIn f = (p : ℕ) × (t : DueItem) × DueIn p t × IsMissing src p t f
+
 -- XML 2.5 [15], 2.6 [16], 2.7 [18]: in the text of a comment, processing instruction or CDATA section, from s up to where this stands
 pub data DueInText (end : Expected) (src : List ℕ) (s : ℕ) : ℕ → DueItem → Type 0 where
   its_chars : DueInText end src s s (chars_to (mark_from (expected_text end) src s))

@@ -21,7 +21,7 @@ use Rattle.rox_grammar.specs.WellNamed.{may_declare, is_known, same_expanded, Ar
 use Rattle.rox_grammar.specs.Entities.{Replacement, Entity, text_of}
 use Rattle.rox_grammar.specs.Document.{Behind, pairs_in, distinct_count, attributes_in, most_attributes, most_pairs}
 use Rattle.rox_grammar.specs.OpenElements.{Open, root, inside, State, depth_of, scope_of, tree_so_far, FitsLimits, HasTooManyNodes}
-use Rattle.rox_grammar.specs.Due.{DueItem, a_byte, a_qname, one_of, chars_to, IsMissing, DueInText, DueInPI, DueInEnd, DueInPair}
+use Rattle.rox_grammar.specs.Due.{a_byte, a_qname, one_of, chars_to, IsMissing, Misses, DueInText, DueInPI, DueInEnd, DueInPair}
 use Rattle.rox_grammar.specs.ContentPoints.{RootBegins, is_content, is_main, TagBegins, StepsOver, RefersTo, IsSpent, ContentPoint, ValuePart, TagTo}
 
 -- the bytes of a name as it is written, without the colon if there is no prefix
@@ -34,12 +34,12 @@ SpanIs src span bytes = slice src span.start span.end ≡ bytes
 
 -- ---- in a comment or a processing instruction that begins at i
 pub data InMisc (src : List ℕ) (i : ℕ) : Fault → Type 0 where
-  comment_lacks : (p : ℕ) (t : DueItem) (f : Fault) → text_at "<!--" src i ≡ true → DueInText expected.CommentEnd src (i + 4) p t → IsMissing src p t f → InMisc src i f
+  comment_lacks : (f : Fault) → text_at "<!--" src i ≡ true → Misses src (DueInText expected.CommentEnd src (i + 4)) f → InMisc src i f
   -- two dashes in the text, or one at its end
   double_dashes : (e : ℕ) → text_at "<!--" src i ≡ true → e ≡ first_text "-->" src (i + 4) → AreChars src (i + 4) e → text_at "-->" src e ≡ true → first_text "--" src (i + 4) < e
       → InMisc src i (fault.InvalidComment i)
   a_declaration : text_at "<?xml " src i ≡ true → InMisc src i (fault.UnexpectedDeclaration i)
-  instruction_lacks : (p : ℕ) (t : DueItem) (f : Fault) → text_at "<?" src i ≡ true → text_at "<?xml " src i ≡ false → DueInPI src i p t → IsMissing src p t f → InMisc src i f
+  instruction_lacks : (f : Fault) → text_at "<?" src i ≡ true → text_at "<?xml " src i ≡ false → Misses src (DueInPI src i) f → InMisc src i f
 
 -- ---- in comments and processing instructions outside the root element, which are read up to p, with these nodes before it
 pub data InMiscs (limit : ℕ) (src : List ℕ) (p : ℕ) (items : Forest Item) : Fault → Type 0 where
@@ -106,8 +106,8 @@ module _ (main : Bool) (Includes : Inclusion) (src : List ℕ) (s : State) (name
     -- `/` without `>`
     not_closed : (f : Fault) → byte src (spaces_end src p) ≡ code "/" → IsMissing src (spaces_end src p + 1) (a_byte (code ">")) f → InTagRest f
     -- an attribute or a declaration
-    in_pair : (q : ℕ) (t : DueItem) (f : Fault) → p < spaces_end src p → spaces_end src p < length src → byte src (spaces_end src p) ≢ code "/"
-        → byte src (spaces_end src p) ≢ code ">" → DueInPair src (spaces_end src p) q t → IsMissing src q t f → InTagRest f
+    in_pair : (f : Fault) → p < spaces_end src p → spaces_end src p < length src → byte src (spaces_end src p) ≢ code "/"
+        → byte src (spaces_end src p) ≢ code ">" → Misses src (DueInPair src (spaces_end src p)) f → InTagRest f
     ill_declared : (d j : ℕ) (a : Attribute) (f : Fault) → p < spaces_end src p → IsAttribute main Includes src (spaces_end src p) j c d a
         → is_namespace_decl a.name ≡ true → IllDeclared src (namespace_decls_of as') a f → InTagRest f
     -- with the next declaration, which may stand there
@@ -127,11 +127,11 @@ module _ (main : Bool) (Includes : Inclusion) (src : List ℕ) (s : State) (b : 
   pub data InTag : Fault → Type 0 where
     no_name : (f : Fault) → IsMissing src (s.at + 1) a_qname f → InTag f
     xmlns_prefix : (name : Name) (n : ℕ) → IsQName src (s.at + 1) name n → name.prefix ≡ codes "xmlns" → InTag (fault.InvalidElementNamePrefix (s.at + 1))
-    in_rest : (p c : ℕ) (as' : List Attribute) (f : Fault) (to : TagTo main Includes src s p b c as') → InTagRest main Includes src s to.name as' p c f → InTag f
+    in_rest : (p c : ℕ) (n : Name) (as' : List Attribute) (f : Fault) → TagTo main Includes src s p b c n as' → InTagRest main Includes src s n as' p c f → InTag f
 
 -- ---- in the end tag that begins at a place (XML 3.1 [42]), where `open_around` elements are open around the replacement text
 pub data InEnd (open_around : ℕ) (src : List ℕ) (s : State) : Fault → Type 0 where
-  lacks : (p : ℕ) (t : DueItem) (f : Fault) → DueInEnd src s.at p t → IsMissing src p t f → InEnd open_around src s f
+  lacks : (f : Fault) → Misses src (DueInEnd src s.at) f → InEnd open_around src s f
   other_name : (n j start : ℕ) (name : Name) (tag : Tag) (before : Forest Item) (up : Open) (expected actual : Span) → s.stack ≡ inside start tag before up → open_around < depth_of s.stack
       → IsEnd src s.at name n j → tag.name ≢ name → SpanIs src expected (spelled tag.name) → SpanIs src actual (spelled name)
       → InEnd open_around src s (fault.UnexpectedCloseTag expected actual s.at)
@@ -142,7 +142,7 @@ pub data InEnd (open_around : ℕ) (src : List ℕ) (s : State) : Fault → Type
 module _ (limit : ℕ) (es : List Entity) (k open_around : ℕ) (Includes : Inclusion) (src : List ℕ) (s : State) (b : ℕ) where
   pub data Stands : Fault → Type 0 where
     in_run : (f : Fault) → is_content k s.stack ≡ true → s.at < length src → byte src s.at ≢ code "<" → InRun es k Includes src s.at b f → Stands f
-    in_section : (p : ℕ) (t : DueItem) (f : Fault) → is_content k s.stack ≡ true → text_at "<![CDATA[" src s.at ≡ true → DueInText expected.CDataEnd src (s.at + 9) p t → IsMissing src p t f → Stands f
+    in_section : (f : Fault) → is_content k s.stack ≡ true → text_at "<![CDATA[" src s.at ≡ true → Misses src (DueInText expected.CDataEnd src (s.at + 9)) f → Stands f
     in_misc : (f : Fault) → is_content k s.stack ≡ true → InMisc src s.at f → Stands f
     in_tag : (f : Fault) → TagBegins src s.at (is_content k s.stack) → InTag (is_main k) Includes src s b f → Stands f
     in_end : (f : Fault) → is_content k s.stack ≡ true → InEnd open_around src s f → Stands f
@@ -152,18 +152,18 @@ module _ (limit : ℕ) (es : List Entity) (k open_around : ℕ) (Includes : Incl
     unclosed : (start : ℕ) (tag : Tag) (before : Forest Item) (up : Open) → s.stack ≡ inside start tag before up → length src ≤ s.at → is_main k ≡ true → Stands fault.UnclosedRootNode
     unclosed_in_replacement : open_around < depth_of s.stack → length src ≤ s.at → is_main k ≡ false → Stands fault.UnexpectedEndOfStream
     -- behind the construct that begins here
-    too_many_nodes : (c : ℕ) (t : State) → StepsOver k Includes src s b t c → HasTooManyNodes limit t.stack t.done → Stands fault.NodesLimitReached
+    too_many_nodes : (c : ℕ) (t : State) → StepsOver k Includes src s b t c → HasTooManyNodes limit (tree_so_far t.stack t.done) → Stands fault.NodesLimitReached
     -- behind the parts of a run up to a reference to an entity: a text is counted before the reference behind it is opened
     too_many_pieces : (stop p j c : ℕ) (front : Forest Item) (t : Replacement) → is_content k s.stack ≡ true → IsCharacterData src s.at stop → Parts (is_main k) Includes src false s.at stop p s.at b c front
-        → AreWellNamed (scope_of s.stack) front → p < stop → RefersTo es src p j t → HasTooManyNodes limit s.stack (join s.done front) → Stands fault.NodesLimitReached
+        → AreWellNamed (scope_of s.stack) front → p < stop → RefersTo es src p j t → HasTooManyNodes limit (tree_so_far s.stack (join s.done front)) → Stands fault.NodesLimitReached
 
 -- ---- at a point of content, where k replacement texts are open, around which `open_around` elements are open: in this source
 pub data AtPoint (opens : ℕ → Inclusion) (es : List Entity) (limit k open_around : ℕ) (src : List ℕ) (s : State) (b : ℕ) : List ℕ → Fault → Type 0 where
   at_place : (f : Fault) → Stands limit es k open_around (opens k) src s b f → AtPoint opens es limit k open_around src s b src f
   -- in the value of an attribute or a declaration, which stands behind p in the start tag here, or in a replacement text that is
   -- opened in it
-  in_value : (p n v e j c l i stop d : ℕ) (name : Name) (as' : List Attribute) (part : List ℕ) (f : Fault) → TagBegins src s.at (is_content k s.stack)
-      → TagTo (is_main k) (opens k) src s p b c as' → p < spaces_end src p → IsPair src (spaces_end src p) name n v e j
+  in_value : (p n v e j c l i stop d : ℕ) (tag_name name : Name) (as' : List Attribute) (part : List ℕ) (f : Fault) → TagBegins src s.at (is_content k s.stack)
+      → TagTo (is_main k) (opens k) src s p b c tag_name as' → p < spaces_end src p → IsPair src (spaces_end src p) name n v e j
       → ValuePart opens es k src (v + 1) e c l part i stop d → InValue es l (opens l) part i stop d f → AtPoint opens es limit k open_around src s b part f
 
 -- Of this text, with at most `limit` nodes, the fault stands in this source, in the part that begins where `Front` says what

@@ -16,7 +16,7 @@ use Rattle.rox_grammar.specs.TextStart.{after_bom}
 use Rattle.rox_grammar.specs.Entities.{Replacement, Entity, most_deep, no_entities, Includes}
 use Rattle.rox_grammar.specs.Doctype.{Request, Asked, IsSpace, IsExternalID, MayHaveNotation, CutsNotation, GivesReplacement, IsDefinition, BeginsEntity, IsPassed, SubsetTo}
 use Rattle.rox_grammar.specs.OpenElements.{root, FitsLimits}
-use Rattle.rox_grammar.specs.Due.{DueItem, a_byte, one_of, IsMissing, DueInXmlDecl, DueInEntity, DueInDoctype}
+use Rattle.rox_grammar.specs.Due.{a_byte, one_of, IsMissing, Misses, DueInXmlDecl, DueInEntity, DueInDoctype}
 use Rattle.rox_grammar.specs.ContentPoints.{is_main}
 use Rattle.rox_grammar.specs.Document.{PrologTo, Prolog}
 use Rattle.rox_grammar.specs.Faults.{InMiscs, FaultFrom}
@@ -28,7 +28,7 @@ module _ (limit : ℕ) (src : List ℕ) (i p : ℕ) (items : Forest Item) (asked
     in_miscs : (f : Fault) → InMiscs limit src p items f → InSubset asked src f
     -- a declaration that is passed over has no `>`
     not_passed : IsPassed src p → length src ≤ byte_from (λ c. c == code ">") src p → InSubset asked src (fault.UnknownToken i)
-    in_entity : (q : ℕ) (t : DueItem) (f : Fault) → text_at "<!ENTITY" src p ≡ true → DueInEntity src p q t → IsMissing src q t f → InSubset asked src f
+    in_entity : (f : Fault) → text_at "<!ENTITY" src p ≡ true → Misses src (DueInEntity src p) f → InSubset asked src f
     -- no `>` behind its definition, for which these are asked
     entity_open : (n m d e : ℕ) (parameter : Bool) (first : List Asked) (text : Option Replacement) (f : Fault) → BeginsEntity src p parameter n m d
         → IsDefinition src parameter d e first text → IsMissing src (spaces_end src e) (a_byte (code ">")) f → InSubset (asked ++ first) src f
@@ -37,10 +37,9 @@ module _ (limit : ℕ) (src : List ℕ) (i p : ℕ) (items : Forest Item) (asked
         → IsExternalID src d request e → CutsNotation src parameter e j → GivesReplacement answer text
         → InSubset (asked ++ record { request = request; answer = answer } ∷ []) src fault.UnexpectedEndOfStream
     -- in the declaration of what is answered (XML 4.3.1 [77])
-    in_answer : (n m d e j q : ℕ) (parameter : Bool) (request : Request) (answer : List ℕ) (t : DueItem) (f : Fault) → BeginsEntity src p parameter n m d
-        → IsExternalID src d request e → MayHaveNotation src parameter e j ⊎ CutsNotation src parameter e j → IsUtf8 answer
-        → text_at "<?xml " answer (after_bom answer) ≡ true → DueInXmlDecl answer (after_bom answer) q t → IsMissing answer q t f
-        → InSubset (asked ++ record { request = request; answer = Some answer } ∷ []) answer f
+    in_answer : (n m d e j : ℕ) (parameter : Bool) (request : Request) (answer : List ℕ) (f : Fault) → BeginsEntity src p parameter n m d → IsExternalID src d request e
+        → MayHaveNotation src parameter e j ⊎ CutsNotation src parameter e j → IsUtf8 answer → text_at "<?xml " answer (after_bom answer) ≡ true
+        → Misses answer (DueInXmlDecl answer (after_bom answer)) f → InSubset (asked ++ record { request = request; answer = Some answer } ∷ []) answer f
     end_lacks : (f : Fault) → byte src p ≡ code "]" → IsMissing src (spaces_end src (p + 1)) (one_of due.End) f → InSubset asked src f
     -- nothing that a subset holds or that ends it, or the end behind white space
     unknown : is_space (byte src p) ≡ false → text_at "<!ENTITY" src p ≡ false → text_at "<!--" src p ≡ false → text_at "<?" src p ≡ false → (IsPassed src p → ⊥)
@@ -49,7 +48,7 @@ module _ (limit : ℕ) (src : List ℕ) (i p : ℕ) (items : Forest Item) (asked
 -- ---- in the document type declaration that begins at i, before which these nodes stand (XML 2.8 [28]): what was asked until
 -- then, and the source
 pub data InDoctype (limit : ℕ) (src : List ℕ) (i : ℕ) (before : Forest Item) : List Asked → List ℕ → Fault → Type 0 where
-  head_lacks : (p : ℕ) (t : DueItem) (f : Fault) → DueInDoctype src i p t → IsMissing src p t f → InDoctype limit src i before [] src f
+  head_lacks : (f : Fault) → Misses src (DueInDoctype src i) f → InDoctype limit src i before [] src f
   -- the text ends where its name is due
   no_name : (n : ℕ) → IsSpace src (i + 9) n → length src ≤ n → InDoctype limit src i before [] src fault.UnexpectedEndOfStream
   in_subset : (p : ℕ) (items : Forest Item) (asked later : List Asked) (source : List ℕ) (f : Fault) → SubsetTo src i p items asked
@@ -64,7 +63,7 @@ opens_at es k = Includes es (most_deep - k) (is_main k)
 
 -- Of this text, where a document type declaration may stand or not, and after these were asked, the fault stands in this source.
 pub data RefusalOf (limit : ℕ) (allow : Bool) (text : List ℕ) : List Asked → List ℕ → Fault → Type 0 where
-  in_declaration : (p : ℕ) (t : DueItem) (f : Fault) → text_at "<?xml " text (after_bom text) ≡ true → DueInXmlDecl text (after_bom text) p t → IsMissing text p t f → RefusalOf limit allow text [] text f
+  in_declaration : (f : Fault) → text_at "<?xml " text (after_bom text) ≡ true → Misses text (DueInXmlDecl text (after_bom text)) f → RefusalOf limit allow text [] text f
   -- where no document type declaration stands, or before it
   without : (f : Fault) → FaultFrom (λ k. no_entities) [] limit text false (PrologTo text) text f → RefusalOf limit allow text [] text f
   not_allowed : (i : ℕ) (before : Forest Item) → allow ≡ false → PrologTo text i before → FitsLimits limit root before → text_at "<!DOCTYPE" text i ≡ true → RefusalOf limit allow text [] text fault.DtdDetected

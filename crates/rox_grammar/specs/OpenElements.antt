@@ -36,8 +36,6 @@ tree_so_far (inside start tag before up) done = tree_so_far up (join before (Con
 abbrev pub FitsLimits : (nodes_limit : ℕ) → Open → Forest Item → Type 0
 FitsLimits nodes_limit stack done = IsWithinLimits (max nodes_limit 1) (tree_so_far stack done)
 
--- it has too many nodes alone, the root node counted: attributes and pairs are counted first
-pub record HasTooManyNodes (nodes_limit : ℕ) (stack : Open) (done : Forest Item) : Type 0 where
-  pub attributes : attributes_in (tree_so_far stack done) ≤ most_attributes
-  pub namespaces : distinct_count (pairs_in (tree_so_far stack done)) ≤ most_pairs
-  pub nodes : nodes_limit < 1 + size (tree_so_far stack done)
+-- the tree has too many nodes alone, the root node counted: attributes and pairs are counted first
+abbrev pub HasTooManyNodes : (nodes_limit : ℕ) → Forest Item → Type 0
+HasTooManyNodes nodes_limit tree = (attributes_in tree ≤ most_attributes) × (distinct_count (pairs_in tree) ≤ most_pairs) × (nodes_limit < 1 + size tree)

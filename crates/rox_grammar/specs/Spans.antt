@@ -5,10 +5,8 @@ use Rattle.rox_grammar.specs.declared.fault.Fault.{Fault}
 use Rattle.rox_grammar.specs.declared.fault.Fault.TheVariants as fault
 
 -- it begins and ends between two characters of the source
-pub record IsTextSpan (src : List ℕ) (span : Span) : Type 0 where
-  pub ordered : span.start ≤ span.end
-  pub start : IsCharBoundary src span.start
-  pub end : IsCharBoundary src span.end
+abbrev pub IsTextSpan : List ℕ → Span → Type 0
+IsTextSpan src span = (span.start ≤ span.end) × IsCharBoundary src span.start × IsCharBoundary src span.end
 
 -- each name that the fault has is a text of the source
 abbrev pub NamesText : List ℕ → Fault → Type 0

@@ -11,9 +11,8 @@ abbrev pub may_declare : NamespaceDecl → Bool
 may_declare d = not (bytes_eq d.uri xmlns_uri) && (if is_xml d.prefix then bytes_eq d.uri xml_uri else not (bytes_eq d.uri xml_uri))
 
 -- each may be declared, and no two declare one prefix
-pub record AreDeclarable (ds : List NamespaceDecl) : Type 0 where
-  pub each : list_all may_declare ds ≡ true
-  pub apart : IsDistinct (λ d e. same_prefix d.prefix e.prefix) ds
+abbrev pub AreDeclarable : List NamespaceDecl → Type 0
+AreDeclarable ds = (list_all may_declare ds ≡ true) × IsDistinct (λ d e. same_prefix d.prefix e.prefix) ds
 
 -- NS 5: the prefix of an attribute is empty, `xml` or listed
 abbrev pub is_known : List NamespaceDecl → Name → Bool
@@ -24,20 +23,16 @@ abbrev pub same_expanded : List NamespaceDecl → Name → Name → Bool
 same_expanded scope m n = same_prefix (attribute_namespace scope m) (attribute_namespace scope n) && bytes_eq m.local n.local
 
 -- each prefix is known, and no two have one expanded name
-pub record AreDistinct (scope : List NamespaceDecl) (as' : List Attribute) : Type 0 where
-  pub known : list_all (λ a. is_known scope a.name) as' ≡ true
-  pub apart : IsDistinct (λ a b. same_expanded scope a.name b.name) as'
+abbrev pub AreDistinct : List NamespaceDecl → List Attribute → Type 0
+AreDistinct scope as' = (list_all (λ a. is_known scope a.name) as' ≡ true) × IsDistinct (λ a b. same_expanded scope a.name b.name) as'
 
 -- NS 5: the prefix of an element is empty or listed. So `xml` is refused, which NS 3 declares everywhere.
 abbrev pub may_name : List NamespaceDecl → Name → Bool
 may_name scope n = bytes_eq n.prefix [] || is_declared (Some n.prefix) scope
 
 -- of a tag whose element lists this scope
-pub record IsWellNamed (scope : List NamespaceDecl) (t : Tag) : Type 0 where
-  pub no_xmlns : bytes_eq t.name.prefix (codes "xmlns") ≡ false
-  pub declarations : AreDeclarable t.declarations
-  pub attributes : AreDistinct scope t.attributes
-  pub element : may_name scope t.name ≡ true
+abbrev pub IsWellNamed : List NamespaceDecl → Tag → Type 0
+IsWellNamed scope t = (bytes_eq t.name.prefix (codes "xmlns") ≡ false) × AreDeclarable t.declarations × AreDistinct scope t.attributes × (may_name scope t.name ≡ true)
 
 abbrev pub ItemWellNamed : List NamespaceDecl → Item → Type 0
 ItemWellNamed scope (Element start end t) = IsWellNamed scope t
@@ -46,5 +41,4 @@ ItemWellNamed scope other = Unit {0}
 -- of a row of siblings below an element that lists these
 abbrev pub AreWellNamed : List NamespaceDecl → Forest Item → Type 0
 AreWellNamed above Nil = Unit {0}
-AreWellNamed above (Cons item children rest) =
-    ItemWellNamed (scope_in above item) item × AreWellNamed (scope_in above item) children × AreWellNamed above rest
+AreWellNamed above (Cons item children rest) = ItemWellNamed (scope_in above item) item × AreWellNamed (scope_in above item) children × AreWellNamed above rest

@@ -120,7 +120,7 @@ module _ (text : List ℕ) (e : ℕ) (inside : e < length text) (ascii : byte te
       ap (take (j - i)) front ∙ take-take (j - i) (e - i) (drop i text) (omega (arith, own_long))
 
   named_same : (span : Span) (name : String Global) → IsTextSpan (take e text) span → Names (take e text) span name → Names text span name
-  named_same span name is names = λ there. names is ∙ slice_same span.start span.end is.ordered is.end.0
+  named_same span name is names = λ there. names is ∙ slice_same span.start span.end is.0 is.2.0
 
   one_name : (span : Span) (kind other : String Global → Error) (x : Error) → IsTextSpan (take e text) span → ((n : String Global) → kind n ≡ other n) → IsErrorWithName (take e text) span kind x → IsErrorWithName text span other x
   one_name span kind other x is same (inl (name, names, made)) = inl (name, named_same span name is names, made ∙ same name)

@@ -6,7 +6,7 @@ use Rattle.rox_grammar.specs.Chars.{is_space, is_name_char}
 use Rattle.rox_grammar.specs.Written.{Name, Attribute, Tag, Item}
 use Rattle.rox_grammar.specs.Names.{spaces_end}
 use Rattle.rox_grammar.specs.Constructs.{IsCData, IsEnd}
-use Rattle.rox_grammar.specs.Content.{IsAttribute, attribute, Attributes, no_more, one_more, TagEnds, opened, closed, IsTag, IsMisc, comment, instruction}
+use Rattle.rox_grammar.specs.Content.{IsAttribute, attribute, Attributes, no_more, one_more, TagEnds, opened, closed, IsTag, IsMisc, comment, instruction, start_tag}
 use Rattle.rox_grammar.specs.Entities.{no_entities}
 use Rattle.rox_theory.proofs.Productions.{comment_parts, pi_parts, cdata_parts, end_parts}
 use Rattle.rox_theory.proofs.Basics.{mark_from_le, run_end_le}
@@ -52,10 +52,5 @@ ends_forward src i j empty (closed _ slash greater) = omega (arith, run_end_le i
 
 -- a start tag
 pub tag_forward : (src : List ℕ) (i j b c : ℕ) (empty : Bool) (t : Tag) → IsTag true no_entities src i j b c empty t → i < j
-tag_forward src i j b c empty t is =
-    omega (
-      arith,
-      qname_le src (i + 1) t.name t.name_end is.is_name,
-      attributes_forward src t.name_end is.last b c is.written is.attributes,
-      ends_forward src is.last j empty is.ends,
-    )
+tag_forward src i j b c empty _ (start_tag n last name written begin is_name list end) =
+    omega (arith, qname_le src (i + 1) name n is_name, attributes_forward src n last b c written list, ends_forward src last j empty end)

@@ -36,29 +36,29 @@ from_placed opens es limit text declared Front source f utf8 (faults.FaultFrom.m
 from_placed opens es limit text declared Front source f utf8 (faults.FaultFrom.no_root items front fits) = inl refl
 from_placed opens es limit text declared Front source f utf8 (faults.FaultFrom.unknown_ahead p items front fits inside no_space no_less) = inl refl
 from_placed opens es limit text declared Front source f utf8 (faults.FaultFrom.at_point k open_around b _ s _ _ place fits (faults.AtPoint.at_place _ ill)) = inr (stands_placed source utf8 limit es k open_around (opens k) s b f ill)
-from_placed opens es limit text declared Front source f utf8 (faults.FaultFrom.at_point k open_around b src s _ _ place fits (faults.AtPoint.in_value p n v e j c l i stop d name _ _ _ opens' to space pair part ill)) =
+from_placed opens es limit text declared Front source f utf8 (faults.FaultFrom.at_point k open_around b src s _ _ place fits (faults.AtPoint.in_value p n v e j c l i stop d _ name _ _ _ opens' to space pair part ill)) =
     inr (value_placed source utf8 es l (opens l) i stop d f ill)
 from_placed opens es limit text declared Front source f utf8 (faults.FaultFrom.misc_around p items _ (inr behind) fits (faults.InMiscs.in_one _ ill)) = inl refl
 from_placed opens es limit text declared Front source f utf8 (faults.FaultFrom.misc_around p items _ (inr behind) fits (faults.InMiscs.one_too_many j item is over)) = inl refl
 from_placed opens es limit text declared Front source f utf8 (faults.FaultFrom.unknown_behind p items behind fits inside no_space no_comment no_instruction) = inl refl
 
 doctype_placed : (limit : ℕ) (text : List ℕ) (i : ℕ) (before : Forest Item) (asked : List Asked) (source : List ℕ) (f : Fault) → InDoctype limit text i before asked source f → IsOwn text source f
-doctype_placed limit text i before asked source f (refused.InDoctype.head_lacks p t _ due lacks) = inl refl
+doctype_placed limit text i before asked source f (refused.InDoctype.head_lacks _ lacks) = inl refl
 doctype_placed limit text i before asked source f (refused.InDoctype.no_name n is cut) = inl refl
 doctype_placed limit text i before asked source f (refused.InDoctype.in_subset p items _ _ _ _ to fits (refused.InSubset.in_miscs _ (faults.InMiscs.in_one _ ill))) = inl refl
 doctype_placed limit text i before asked source f (refused.InDoctype.in_subset p items _ _ _ _ to fits (refused.InSubset.in_miscs _ (faults.InMiscs.one_too_many j item is over))) = inl refl
 doctype_placed limit text i before asked source f (refused.InDoctype.in_subset p items _ _ _ _ to fits (refused.InSubset.not_passed is none)) = inl refl
-doctype_placed limit text i before asked source f (refused.InDoctype.in_subset p items _ _ _ _ to fits (refused.InSubset.in_entity q t _ is due lacks)) = inl refl
+doctype_placed limit text i before asked source f (refused.InDoctype.in_subset p items _ _ _ _ to fits (refused.InSubset.in_entity _ is lacks)) = inl refl
 doctype_placed limit text i before asked source f (refused.InDoctype.in_subset p items before' _ _ _ to fits (refused.InSubset.entity_open n m d e parameter first o _ begins definition lacks)) = inl refl
 doctype_placed limit text i before asked source f (refused.InDoctype.in_subset p items before' _ _ _ to fits (refused.InSubset.entity_cut n m d e j parameter request answer o begins id cuts gives)) = inl refl
-doctype_placed limit text i before asked source f (refused.InDoctype.in_subset p items first _ _ _ to fits (refused.InSubset.in_answer n m d e j q parameter request answer t _ begins id behind utf8 opens due lacks)) =
+doctype_placed limit text i before asked source f (refused.InDoctype.in_subset p items first _ _ _ to fits (refused.InSubset.in_answer n m d e j parameter request answer _ begins id behind utf8 opens (q, t, due, lacks))) =
     inr (declaration_placed source utf8 (after_bom source) q t f opens due lacks)
 doctype_placed limit text i before asked source f (refused.InDoctype.in_subset p items _ _ _ _ to fits (refused.InSubset.end_lacks _ is lacks)) = inl refl
 doctype_placed limit text i before asked source f (refused.InDoctype.in_subset p items _ _ _ _ to fits (refused.InSubset.unknown no_space no_entity no_comment no_instruction no_declaration no_bracket inside)) = inl refl
 doctype_placed limit text i before asked source f (refused.InDoctype.no_root items _ to fits none) = inl refl
 
 refusal_placed : (limit : ℕ) (allow : Bool) (text : List ℕ) (asked : List Asked) (source : List ℕ) (f : Fault) → IsUtf8 source → RefusalOf limit allow text asked source f → IsOwn text source f
-refusal_placed limit allow text asked source f utf8 (refused.RefusalOf.in_declaration p t _ opens due lacks) = inl refl
+refusal_placed limit allow text asked source f utf8 (refused.RefusalOf.in_declaration _ opens lacks) = inl refl
 refusal_placed limit allow text asked source f utf8 (refused.RefusalOf.without _ from) = inl refl
 refusal_placed limit allow text asked source f utf8 (refused.RefusalOf.not_allowed i before forbids ahead fits opens) = inl refl
 refusal_placed limit allow text asked source f utf8 (refused.RefusalOf.in_doctype i before _ _ _ may ahead fits opens inside) = doctype_placed limit text i before asked source f inside

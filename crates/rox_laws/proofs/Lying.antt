@@ -85,7 +85,7 @@ module _ (opens : ℕ → Inclusion) (es : List Entity) (text : List ℕ) where
   place_of : (Root : ℕ → Forest Item → Type 0) (k open_around b : ℕ) (src : List ℕ) (s : State) → ContentPoint opens es text Root k open_around src b s → IsOf text es src
   place_of Root k open_around b src s (places.ContentPoint.begins p items is) = inl refl
   place_of Root k open_around b src s (places.ContentPoint.goes _ _ l c _ t u before takes inner deep) = place_of Root k open_around l src t before
-  place_of Root k open_around b src s (places.ContentPoint.enters i at l c r stop p j from u front t before inner run parts named below refers may) = inr (_, t, refers.found, refl)
+  place_of Root k open_around b src s (places.ContentPoint.enters i at l c r stop p j from u front t before inner run parts named below refers may) = inr (_, t, refers.3, refl)
 
   place_root : (Root : ℕ → Forest Item → Type 0) (k open_around b : ℕ) (src : List ℕ) (s : State) → ContentPoint opens es text Root k open_around src b s → (p : ℕ) × (items : Forest Item) × Root p items
   place_root Root k open_around b src s (places.ContentPoint.begins p items is) = (p, items, is)
@@ -94,7 +94,7 @@ module _ (opens : ℕ → Inclusion) (es : List Entity) (text : List ℕ) where
 
   part_of : (k : ℕ) (src : List ℕ) (start end b l : ℕ) (part : List ℕ) (i stop d : ℕ) → IsOf text es src → ValuePart opens es k src start end b l part i stop d → IsOf text es part
   part_of k src start end b l part i stop d of places.ValuePart.itself = of
-  part_of k src start end b l part i stop d of (places.ValuePart.opened n x y z c r p j from front t before to below refers may) = inr (_, t, refers.found, refl)
+  part_of k src start end b l part i stop d of (places.ValuePart.opened n x y z c r p j from front t before to below refers may) = inr (_, t, refers.3, refl)
 
   from_of : (limit : ℕ) (declared : Bool) (Front : ℕ → Forest Item → Type 0) (source : List ℕ) (f : Fault) → FaultFrom opens es limit text declared Front source f
       → (source ≡ text) ⊎ (((p : ℕ) × (items : Forest Item) × Front p items) × IsOf text es source)
@@ -105,7 +105,7 @@ module _ (opens : ℕ → Inclusion) (es : List Entity) (text : List ℕ) where
   from_of limit declared Front source f (faults.FaultFrom.at_point k open_around b _ s _ _ place fits (faults.AtPoint.at_place _ ill)) =
       let root = place_root _ k open_around b source s place in
       inr ((root.0, root.1, root.2.0), place_of _ k open_around b source s place)
-  from_of limit declared Front source f (faults.FaultFrom.at_point k open_around b src s _ _ place fits (faults.AtPoint.in_value p n v e j c l i stop d name _ _ _ opens' to space pair part ill)) =
+  from_of limit declared Front source f (faults.FaultFrom.at_point k open_around b src s _ _ place fits (faults.AtPoint.in_value p n v e j c l i stop d _ name _ _ _ opens' to space pair part ill)) =
       let root = place_root _ k open_around b src s place in
       inr ((root.0, root.1, root.2.0), part_of k src (v + 1) e c l source i stop d (place_of _ k open_around b src s place) part)
   from_of limit declared Front source f (faults.FaultFrom.misc_around p items _ (inr behind) fits (faults.InMiscs.in_one _ ill)) = inl refl
@@ -114,22 +114,22 @@ module _ (opens : ℕ → Inclusion) (es : List Entity) (text : List ℕ) where
 
 -- in a document type declaration it is the text, or an answer as a whole
 in_doctype : (limit : ℕ) (text : List ℕ) (i : ℕ) (before : Forest Item) (asked : List Asked) (source : List ℕ) (f : Fault) → InDoctype limit text i before asked source f → (source ≡ text) ⊎ IsAnswerIn asked source
-in_doctype limit text i before asked source f (refused.InDoctype.head_lacks p t _ due lacks) = inl refl
+in_doctype limit text i before asked source f (refused.InDoctype.head_lacks _ lacks) = inl refl
 in_doctype limit text i before asked source f (refused.InDoctype.no_name n is cut) = inl refl
 in_doctype limit text i before asked source f (refused.InDoctype.in_subset p items _ _ _ _ to fits (refused.InSubset.in_miscs _ (faults.InMiscs.in_one _ ill))) = inl refl
 in_doctype limit text i before asked source f (refused.InDoctype.in_subset p items _ _ _ _ to fits (refused.InSubset.in_miscs _ (faults.InMiscs.one_too_many j item is over))) = inl refl
 in_doctype limit text i before asked source f (refused.InDoctype.in_subset p items _ _ _ _ to fits (refused.InSubset.not_passed is none)) = inl refl
-in_doctype limit text i before asked source f (refused.InDoctype.in_subset p items _ _ _ _ to fits (refused.InSubset.in_entity q t _ is due lacks)) = inl refl
+in_doctype limit text i before asked source f (refused.InDoctype.in_subset p items _ _ _ _ to fits (refused.InSubset.in_entity _ is lacks)) = inl refl
 in_doctype limit text i before asked source f (refused.InDoctype.in_subset p items before' _ _ _ to fits (refused.InSubset.entity_open n m d e parameter first o _ begins definition lacks)) = inl refl
 in_doctype limit text i before asked source f (refused.InDoctype.in_subset p items before' _ _ _ to fits (refused.InSubset.entity_cut n m d e j parameter request answer o begins id cuts gives)) = inl refl
-in_doctype limit text i before asked source f (refused.InDoctype.in_subset p items first _ _ _ to fits (refused.InSubset.in_answer n m d e j q parameter request answer t _ begins id behind utf8 opens due lacks)) =
+in_doctype limit text i before asked source f (refused.InDoctype.in_subset p items first _ _ _ to fits (refused.InSubset.in_answer n m d e j parameter request answer _ begins id behind utf8 opens (q, t, due, lacks))) =
     inr (record { request = request; answer = source; given = Contains-append_right first _ _ (0, omega arith, refl); part = inl refl })
 in_doctype limit text i before asked source f (refused.InDoctype.in_subset p items _ _ _ _ to fits (refused.InSubset.end_lacks _ is lacks)) = inl refl
 in_doctype limit text i before asked source f (refused.InDoctype.in_subset p items _ _ _ _ to fits (refused.InSubset.unknown no_space no_entity no_comment no_instruction no_declaration no_bracket inside)) = inl refl
 in_doctype limit text i before asked source f (refused.InDoctype.no_root items _ to fits none) = inl refl
 
 pub source_lies : (limit : ℕ) (allow : Bool) (text : List ℕ) (asked : List Asked) (source : List ℕ) (f : Fault) → RefusalOf limit allow text asked source f → (source ≡ text) ⊎ (IsLiteralIn text source ⊎ IsAnswerIn asked source)
-source_lies limit allow text asked source f (refused.RefusalOf.in_declaration p t _ opens due lacks) = inl refl
+source_lies limit allow text asked source f (refused.RefusalOf.in_declaration _ opens lacks) = inl refl
 source_lies limit allow text asked source f (refused.RefusalOf.without _ from) = inl refl
 source_lies limit allow text asked source f (refused.RefusalOf.not_allowed i before forbids ahead fits opens) = inl refl
 source_lies limit allow text asked source f (refused.RefusalOf.in_doctype i before _ _ _ may ahead fits opens inside) =

@@ -96,8 +96,8 @@ resolved_distinct : (above : List NamespaceDecl) (f : Forest Item) → PrefixesO
 resolved_distinct above Nil once h = tt
 resolved_distinct above (Cons (written.Element a e t) c r) once h =
     let scope = listed above t.declarations in
-    let inner = listed_once above t.declarations once (declarable_behind t.declarations h.0.declarations) in
-    ((inner, names_once scope [] t.attributes (distinct_behind scope t.attributes h.0.attributes)), resolved_distinct scope c inner h.1, resolved_distinct above r once h.2)
+    let inner = listed_once above t.declarations once (declarable_behind t.declarations h.0.1) in
+    ((inner, names_once scope [] t.attributes (distinct_behind scope t.attributes h.0.2)), resolved_distinct scope c inner h.1, resolved_distinct above r once h.2)
 resolved_distinct above (Cons (written.Text a e v b) c r) once h = ((tt, tt), resolved_distinct above c once h.1, resolved_distinct above r once h.2)
 resolved_distinct above (Cons (written.Comment a e t) c r) once h = ((tt, tt), resolved_distinct above c once h.1, resolved_distinct above r once h.2)
 resolved_distinct above (Cons (written.PI a e t o) c r) once h = ((tt, tt), resolved_distinct above c once h.1, resolved_distinct above r once h.2)

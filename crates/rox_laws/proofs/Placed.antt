@@ -27,7 +27,7 @@ use Rattle.rox_grammar.specs.State.{Open, root, inside, State}
 use Rattle.rox_grammar.specs.Due.{DueItem, a_name, a_qname, a_byte, a_text, one_of, a_gap, chars_to, IsMissing, DueInText, DueInPI, DueInEnd, DueInPair, DueInXmlDecl}
 use Rattle.rox_grammar.specs.Due as due
 use Rattle.rox_grammar.specs.ContentPoints.{TagBegins, of_root, in_content}
-use Rattle.rox_grammar.specs.Faults.{InMisc, InReferences, InRun, InValue, IllDeclared, IllNamed, cut_off, InTag, InEnd, Stands, FaultFrom}
+use Rattle.rox_grammar.specs.Faults.{InMisc, InReferences, InRun, InValue, IllDeclared, IllNamed, cut_off, InTag, InEnd, Stands}
 use Rattle.rox_grammar.specs.Faults as rows
 use Rattle.rox_theory.proofs.Productions.{ncname_parts, reference_parts}
 use Rattle.rox_theory.proofs.Basics.{within}
@@ -172,11 +172,11 @@ module _ (src : List ℕ) (utf8 : IsUtf8 src) where
   -- ---- the rows of content
 
   misc_placed : (i : ℕ) (f : Fault) → InMisc src i f → IsPlaced src f
-  misc_placed i f (rows.InMisc.comment_lacks p t _ opens is lacks) =
+  misc_placed i f (rows.InMisc.comment_lacks _ opens (p, t, is, lacks)) =
       lacks_placed src p t f (text_fits expected.CommentEnd (i + 4) p t (stands_fits (word_text word.CommentStart) src i (omega arith) opens) is) lacks
   misc_placed i f (rows.InMisc.double_dashes e opens ends chars closes dashes) = let two = (comment_bytes src i opens).0 in omega arith
   misc_placed i f (rows.InMisc.a_declaration opens) = let two = (instruction_bytes src i (declaration_bytes src i opens)).0 in omega arith
-  misc_placed i f (rows.InMisc.instruction_lacks p t _ opens none is lacks) = lacks_placed src p t f (instruction_fits i p t opens is) lacks
+  misc_placed i f (rows.InMisc.instruction_lacks _ opens none (p, t, is, lacks)) = lacks_placed src p t f (instruction_fits i p t opens is) lacks
 
   references_placed : (es : List Entity) (p : ℕ) (f : Fault) → InReferences es src p f → IsPlaced src f
   references_placed es p f (rows.InReferences.malformed amp no_character no_reference) = let there = within src p (λ z. omega arith) in omega arith
@@ -189,11 +189,11 @@ module _ (src : List ℕ) (utf8 : IsUtf8 src) where
   run_placed es k O i b f there (rows.InRun.no_char _ lacks) = lacks_placed src i _ f tt lacks
   run_placed es k O i b f there (rows.InRun.end_mark e ends chars has) = let le = from_bound (λ c. c == 60) src i (omega arith) in rw ends le
   run_placed es k O i b f there (rows.InRun.in_reference e p _ run from before ill) = references_placed es p f ill
-  run_placed es k O i b f there (rows.InRun.too_many stop p j c front t run parts before refers spent) = reference_inside src p refers.n j refers.is_reference
+  run_placed es k O i b f there (rows.InRun.too_many stop p j c front t run parts before refers spent) = reference_inside src p refers.0 j refers.1
 
   pub value_placed : (es : List Entity) (k : ℕ) (O : Inclusion) (i stop b : ℕ) (f : Fault) → InValue es k O src i stop b f → IsPlaced src f
   value_placed es k O i stop b f (rows.InValue.in_reference p _ from before ill) = references_placed es p f ill
-  value_placed es k O i stop b f (rows.InValue.too_many p j c front t to before refers spent) = reference_inside src p refers.n j refers.is_reference
+  value_placed es k O i stop b f (rows.InValue.too_many p j c front t to before refers spent) = reference_inside src p refers.0 j refers.1
   value_placed es k O i stop b f (rows.InValue.less p inner from before (inl is)) = let there = within src p (λ z. omega arith) in omega arith
   value_placed es k O i stop b f (rows.InValue.less p inner from before (inr (j, is))) = let there = character_within src p 60 j is in omega arith
   value_placed es k O i stop b f (rows.InValue.no_char q c inner from before is bad) = let there = char_within c src q is in omega arith
@@ -239,23 +239,23 @@ module _ (src : List ℕ) (utf8 : IsUtf8 src) where
   tag_placed : (main : Bool) (O : Inclusion) (s : State) (b : ℕ) (f : Fault) → s.at < length src → InTag main O src s b f → IsPlaced src f
   tag_placed main O s b f le (rows.InTag.no_name _ lacks) = lacks_placed src (s.at + 1) a_qname f (omega arith) lacks
   tag_placed main O s b f le (rows.InTag.xmlns_prefix name n is xmlns) = omega arith
-  tag_placed main O s b f le (rows.InTag.in_rest p c as' _ to (rows.InTagRest.cut past in_main)) = cut_placed s.stack
-  tag_placed main O s b f le (rows.InTag.in_rest p c as' _ to (rows.InTagRest.cut_in_replacement past inner)) = tt
-  tag_placed main O s b f le (rows.InTag.in_rest p c as' _ to (rows.InTagRest.no_rest before end)) = tt
-  tag_placed main O s b f le (rows.InTag.in_rest p c as' _ to (rows.InTagRest.no_space _ before no_slash no_end lacks)) = lacks_placed src p (one_of kinds.Space) f tt lacks
-  tag_placed main O s b f le (rows.InTag.in_rest p c as' _ to (rows.InTagRest.not_closed _ slash lacks)) = lacks_placed src (spaces_end src p + 1) (a_byte 62) f tt lacks
-  tag_placed main O s b f le (rows.InTag.in_rest p c as' _ to (rows.InTagRest.in_pair q t _ space before no_slash no_end is lacks)) = lacks_placed src q t f (pair_fits (spaces_end src p) q t (omega arith) is) lacks
-  tag_placed main O s b f le (rows.InTag.in_rest p c as' _ to (rows.InTagRest.ill_declared d j a _ space is declares ill)) =
+  tag_placed main O s b f le (rows.InTag.in_rest p c name as' _ to (rows.InTagRest.cut past in_main)) = cut_placed s.stack
+  tag_placed main O s b f le (rows.InTag.in_rest p c name as' _ to (rows.InTagRest.cut_in_replacement past inner)) = tt
+  tag_placed main O s b f le (rows.InTag.in_rest p c name as' _ to (rows.InTagRest.no_rest before end)) = tt
+  tag_placed main O s b f le (rows.InTag.in_rest p c name as' _ to (rows.InTagRest.no_space _ before no_slash no_end lacks)) = lacks_placed src p (one_of kinds.Space) f tt lacks
+  tag_placed main O s b f le (rows.InTag.in_rest p c name as' _ to (rows.InTagRest.not_closed _ slash lacks)) = lacks_placed src (spaces_end src p + 1) (a_byte 62) f tt lacks
+  tag_placed main O s b f le (rows.InTag.in_rest p c name as' _ to (rows.InTagRest.in_pair _ space before no_slash no_end (q, t, is, lacks))) = lacks_placed src q t f (pair_fits (spaces_end src p) q t (omega arith) is) lacks
+  tag_placed main O s b f le (rows.InTag.in_rest p c name as' _ to (rows.InTagRest.ill_declared d j a _ space is declares ill)) =
       let parts = parts_of main O src (spaces_end src p) j c d a is in
       let there = qname_within src (spaces_end src p) a.name a.name_end parts.is_name in
       declared_placed _ a f (omega (arith, parts.starts)) ill
-  tag_placed main O s b f le (rows.InTag.in_rest p c as' _ to (rows.InTagRest.too_many_pairs d j a space is declares may first over)) = tt
-  tag_placed main O s b f le (rows.InTag.in_rest p c as' _ to (rows.InTagRest.too_many_attributes j empty ends over)) = tt
-  tag_placed main O s b f le (rows.InTag.in_rest p c as' _ to (rows.InTagRest.ill_named j empty _ ends few ill)) =
-      named_placed s.at _ to.name (plain_attributes_of as') f (omega arith) (attributes_start as' (written_start main O to.name_end p b c as' to.attributes)) ill
+  tag_placed main O s b f le (rows.InTag.in_rest p c name as' _ to (rows.InTagRest.too_many_pairs d j a space is declares may first over)) = tt
+  tag_placed main O s b f le (rows.InTag.in_rest p c name as' _ to (rows.InTagRest.too_many_attributes j empty ends over)) = tt
+  tag_placed main O s b f le (rows.InTag.in_rest p c name as' _ to (rows.InTagRest.ill_named j empty _ ends few ill)) =
+      named_placed s.at _ name (plain_attributes_of as') f (omega arith) (attributes_start as' (written_start main O to.0 p b c as' to.3)) ill
 
   end_placed : (open_around : ℕ) (s : State) (f : Fault) → InEnd open_around src s f → IsPlaced src f
-  end_placed open_around s f (rows.InEnd.lacks p t _ is lacks) = lacks_placed src p t f (end_fits s.at p t is) lacks
+  end_placed open_around s f (rows.InEnd.lacks _ (p, t, is, lacks)) = lacks_placed src p t f (end_fits s.at p t is) lacks
   end_placed open_around s f (rows.InEnd.other_name n j start name tag before up expected actual stack deep is other holds holds') = let two = (end_bytes src s.at is.opens).0 in omega arith
   end_placed open_around s f (rows.InEnd.none_open n j name same is) = let two = (end_bytes src s.at is.opens).0 in omega arith
 
@@ -265,7 +265,7 @@ module _ (src : List ℕ) (utf8 : IsUtf8 src) where
 
   pub stands_placed : (limit : ℕ) (es : List Entity) (k open_around : ℕ) (O : Inclusion) (s : State) (b : ℕ) (f : Fault) → Stands limit es k open_around O src s b f → IsPlaced src f
   stands_placed limit es k open_around O s b f (rows.Stands.in_run _ inner before no_less ill) = run_placed es k O s.at b f before ill
-  stands_placed limit es k open_around O s b f (rows.Stands.in_section p t _ inner opens is lacks) =
+  stands_placed limit es k open_around O s b f (rows.Stands.in_section _ inner opens (p, t, is, lacks)) =
       lacks_placed src p t f (text_fits expected.CDataEnd (s.at + 9) p t (stands_fits (word_text word.CDataStart) src s.at (omega arith) opens) is) lacks
   stands_placed limit es k open_around O s b f (rows.Stands.in_misc _ inner ill) = misc_placed s.at f ill
   stands_placed limit es k open_around O s b f (rows.Stands.in_tag _ begins ill) = tag_placed _ O s b f (begins_less s.at _ begins) ill

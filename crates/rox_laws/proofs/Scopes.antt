@@ -75,7 +75,7 @@ declared_says p u before (d ∷ ds) h (suc k, l, e) =
 
 -- each item declares what may be declared
 pub item_declares : (scope : List NamespaceDecl) (item : Item) → ItemWellNamed scope item → DeclarableBehind [] (declared_at item)
-item_declares scope (Element start end tag) h = declarable_behind tag.declarations h.declarations
+item_declares scope (Element start end tag) h = declarable_behind tag.declarations h.1
 item_declares scope (Text start end value borrowed) h = tt
 item_declares scope (Comment start end text) h = tt
 item_declares scope (PI start end target value) h = tt

@@ -9,7 +9,7 @@ use Rattle.rox_grammar.specs.Written.{Name, NamespaceDecl, Tag, Item, Element, T
 use Rattle.rox_grammar.specs.Tree.{Node, node_in}
 use Rattle.rox_grammar.specs.Names.{byte, slice}
 use Rattle.rox_grammar.specs.Constructs.{IsCData, IsEnd}
-use Rattle.rox_grammar.specs.Content.{DataByte, literal, kept, is_literal, data_bytes_of, literals, line_ends, piece, Part, part_ends, as_written, from_reference, last_part, then_entity, IsTag, IsMisc, comment, instruction, IsElement, empty, nest, Content, ends, run, cdata, misc, node}
+use Rattle.rox_grammar.specs.Content.{DataByte, literal, kept, is_literal, data_bytes_of, literals, line_ends, piece, Part, part_ends, as_written, from_reference, last_part, then_entity, IsTag, start_tag, IsMisc, comment, instruction, IsElement, empty, nest, Content, ends, run, cdata, misc, node}
 use Rattle.rox_grammar.specs.RunParts.{Parts}
 use Rattle.rox_grammar.specs.Document.{Misc, no_misc, space, an_item, ParseOf, IsTreeOf}
 use Rattle.rox_theory.proofs.Productions.{comment_parts, pi_parts, end_parts, char_data_parts}
@@ -155,7 +155,7 @@ misc_markup src i j item (instruction _ n e _ is) =
     let bytes = instruction_bytes src i (pi_parts is).opens in other_mark src i bytes.1 (λ mark. omega (arith, bytes.2, mark))
 
 tag_markup : (src : List ℕ) (i j b c : ℕ) (is_empty : Bool) (t : Tag) → IsTag true no_entities src i j b c is_empty t → IsMarkup src i
-tag_markup src i j b c is_empty t is = other_mark src i is.begins (name_byte src (i + 1) t.name t.name_end is.is_name).no_mark
+tag_markup src i j b c is_empty _ (start_tag n last name written begin is_name list end) = other_mark src i begin (name_byte src (i + 1) name n is_name).no_mark
 
 end_markup : (src : List ℕ) (i : ℕ) (name : Name) (n j : ℕ) → IsEnd src i name n j → IsMarkup src i
 end_markup src i name n j is = let bytes = end_bytes src i (end_parts is).opens in other_mark src i bytes.1 (λ mark. omega (arith, bytes.2, mark))

@@ -9,7 +9,7 @@ use Rattle.rox_grammar.specs.Written.{Name, Attribute, NamespaceDecl, Tag, Item,
 use Rattle.rox_grammar.specs.Tree as tree
 use Rattle.rox_grammar.specs.Tree.{Node, attribute_in, node_in, resolved}
 use Rattle.rox_grammar.specs.Names.{byte, slice, spaces_end, IsQName, unprefixed, prefixed, colon_first}
-use Rattle.rox_grammar.specs.Content.{is_verbatim_value, Value, value_ends, line_end, white, other, a_character, an_entity, IsAttribute, attribute, Attributes, no_more, one_more, IsTag, DataByte, piece, last_part, then_entity, IsMisc, comment, instruction, IsElement, empty, nest, Content, ends, run, cdata, misc, node}
+use Rattle.rox_grammar.specs.Content.{is_verbatim_value, Value, value_ends, line_end, white, other, a_character, an_entity, IsAttribute, attribute, Attributes, no_more, one_more, IsTag, DataByte, piece, last_part, then_entity, IsMisc, comment, instruction, IsElement, empty, nest, Content, ends, run, cdata, misc, node, start_tag}
 use Rattle.rox_grammar.specs.RunParts.{Parts}
 use Rattle.rox_grammar.specs.Document.{Misc, no_misc, space, an_item, ParseOf, IsTreeOf}
 use Rattle.rox_theory.proofs.Productions.{ncname_parts}
@@ -156,11 +156,10 @@ all_stand src i j to b c ws before (one_more _ k _ _ d _ _ rest some (attribute 
     (omega arith, omega (arith, le), own_places src (spaces_end src i) k b d _ (attribute n v e name value is read), all_stand src k j to d c rest before more)
 
 tag_stands : (src : List ℕ) (i j b c : ℕ) (is_empty : Bool) (t : Tag) → IsTag true no_entities src i j b c is_empty t → Stand src i j t.attributes
-tag_stands src i j b c is_empty t is =
-    let all = all_stand src t.name_end is.last j b c is.written (ends_forward src is.last j is_empty is.ends) is.attributes in
-    let kept = some_stand src t.name_end j (λ a. not (is_namespace_decl a.name)) is.written all in
-    let from_start = further src i t.name_end j j _ (omega (arith, qname_le src (i + 1) t.name t.name_end is.is_name)) (omega arith) kept in
-    subst (λ (ws : List Attribute). Stand src i j ws) (sym is.has) from_start
+tag_stands src i j b c is_empty _ (start_tag n last name written begin is_name list end) =
+    let all = all_stand src n last j b c written (ends_forward src last j is_empty end) list in
+    let kept = some_stand src n j (λ a. not (is_namespace_decl a.name)) written all in
+    further src i n j j _ (omega (arith, qname_le src (i + 1) name n is_name)) (omega arith) kept
 
 -- ---- all elements
 

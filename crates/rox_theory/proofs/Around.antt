@@ -12,9 +12,10 @@ use Rattle.rox_grammar.specs.Chars.{is_space}
 use Rattle.rox_grammar.specs.FixedTexts.{word_text, at}
 use Rattle.rox_grammar.specs.Forest.{Forest, Nil, join, size}
 use Rattle.rox_grammar.specs.Written.{NamespaceDecl, Item, Comment, PI, merge, leaf}
+use Rattle.rox_grammar.specs.Tree.{scope_in}
 use Rattle.rox_grammar.specs.Names.{byte, spaces_end}
 use Rattle.rox_grammar.specs.Constructs.{IsXmlDecl, xml_decl}
-use Rattle.rox_grammar.specs.Content.{Inclusion, IsMisc, comment, instruction, IsElement, empty, nest, TagEnds, opened, closed}
+use Rattle.rox_grammar.specs.Content.{Inclusion, IsMisc, comment, instruction, IsElement, empty, nest, TagEnds, opened, closed, start_tag}
 use Rattle.rox_grammar.specs.TextStart.{after_bom, MayHaveXmlDecl, declared, not_declared}
 use Rattle.rox_grammar.specs.FixedTexts.{bom}
 use Rattle.rox_grammar.specs.Entities.{Entity}
@@ -72,7 +73,7 @@ tag_ends src i j is_empty (closed _ slash close) = ends_by src j (spaces_end src
 
 -- elements do
 pub element_ends : (main : Bool) (O : Inclusion) (src : List ℕ) (i j b c : ℕ) (one : Forest Item) → IsElement main O src i j b c one → Ends src j
-element_ends main O src i j b c one (empty _ _ _ _ t tag) = tag_ends src tag.last j true tag.ends
+element_ends main O src i j b c one (empty _ _ _ _ _ (start_tag n last name written begin is_name list end)) = tag_ends src last j true end
 element_ends main O src i j b c one (nest _ k m p _ _ d _ t kids tag inner end) = ends_by src j (spaces_end src p) 62 (end_parts end).next (end_parts end).closes (omega arith) (omega arith)
 
 -- the declaration does
@@ -107,8 +108,8 @@ element_stops main O src i j b c one is = from_tag (begins one is)
   where
     -- its first two bytes
     begins : (one : Forest Item) → IsElement main O src i j b c one → (byte src i ≡ 60) × IsNameByte src (i + 1)
-    begins one (empty _ _ _ _ t tag) = (tag.begins, name_byte src (i + 1) t.name t.name_end tag.is_name)
-    begins one (nest _ k m p _ _ d _ t kids tag inner end) = (tag.begins, name_byte src (i + 1) t.name t.name_end tag.is_name)
+    begins one (empty _ _ _ _ _ (start_tag n last name written begin is_name list end)) = (begin, name_byte src (i + 1) name n is_name)
+    begins one (nest _ k m p _ _ d _ _ kids (start_tag n last name written begin is_name list end) inner close) = (begin, name_byte src (i + 1) name n is_name)
 
     -- which are those of no other construct
     from_tag : (byte src i ≡ 60) × IsNameByte src (i + 1) → (byte src i ≡ 60) × (at word.DoctypeStart src i ≡ false) × Stops src i
@@ -182,7 +183,7 @@ module _ (src : List ℕ) (utf8 : IsUtf8 src) where
       let go : (j : ℕ) (item : Item) (t : State) → IsMisc src k j item → with_item limit (state k done root b) j item ≡ Ok t → misc limit n src t ≡ Ok u → MiscRead most b i done u =
       λ j item t is one rest.
       let p = misc_plain k j item is in
-      let both = item_read limit most (state k done root b) t j item more p.0 p.1 (p.2 _) fine' one in
+      let both = item_read limit most (state k done root b) t j item more p.0 p.1 (p.2 (scope_in [] item)) fine' one in
       let here : misc limit n src (state j (join done (leaf item)) root b) ≡ Ok u = subst (λ (t : State). misc limit n src t ≡ Ok u) both.0 rest in
       let next = misc_sound n limit most b j (join done (leaf item)) u more (ends_cut src j utf8 (misc_ends src k j item is)) (subst (IsValidState most) both.0 both.1) here in
       spaces_then most b i done u cut (item_then most b k j done item u is next)

@@ -8,7 +8,7 @@ use Rattle.std.specs.List.{list_any}
 use Rattle.rox_grammar.specs.Forest.{Forest, Nil, join}
 use Rattle.rox_grammar.specs.Written.{Item, Text, Attribute, Tag, leaf, merge}
 use Rattle.rox_grammar.specs.Names.{byte, slice, spaces_end}
-use Rattle.rox_grammar.specs.Content.{Inclusion, line_ends, literals, is_verbatim, piece, value_bytes, last_part, then_entity, Value, value_ends, line_end, white, other, a_character, an_entity, Attributes, no_more, one_more, attribute, IsTag, IsElement, empty, nest, Content, ends, run, cdata, misc, node}
+use Rattle.rox_grammar.specs.Content.{Inclusion, line_ends, literals, is_verbatim, piece, value_bytes, last_part, then_entity, Value, value_ends, line_end, white, other, a_character, an_entity, Attributes, no_more, one_more, attribute, IsTag, IsElement, empty, nest, Content, ends, run, cdata, misc, node, start_tag}
 use Rattle.rox_grammar.specs.RunParts.{Parts}
 use Rattle.rox_grammar.specs.Entities.{Entity, included_in_main, most_deep}
 use Rattle.rox_grammar.specs.Chars.{is_name_char, is_space}
@@ -131,14 +131,14 @@ module _ (of : Forest Item → ℕ) (is_measure : Measure of) (O : Inclusion) (w
       (omega (arith, h.0, n, q, l, y.0, spaces), omega (arith, h.0, h.1, n, q, l, y.1, spaces, u, w))
 
   tag_yields : (i j b c : ℕ) (is_empty : Bool) (t : Tag) → IsTag true O src i j b c is_empty t → Yields (1 + most_of t.attributes) i j
-  tag_yields i j b c is_empty t is =
-      let h = attributes_yield t.name_end is.last b c is.written is.attributes in
-      let n = qname_onward src (i + 1) t.name_end t.name is.is_name in
-      let e = tag_end_onward src is.last is_empty j is.ends in
-      let f : most_of t.attributes ≤ most_of is.written = subst (λ (as' : List Attribute). most_of as' ≤ most_of is.written) (sym is.has) (fewer is.written) in
-      let u = down i t.name_end (omega (arith, n)) in
-      let v = down is.last j (omega (arith, e)) in
-      (omega (arith, h.0, n, e), omega (arith, h.1, n, e, f, u, v))
+  tag_yields i j b c is_empty _ (start_tag n last name written begin is_name list end) =
+      let h = attributes_yield n last b c written list in
+      let q = qname_onward src (i + 1) n name is_name in
+      let e = tag_end_onward src last is_empty j end in
+      let f = fewer written in
+      let u = down i n (omega (arith, q)) in
+      let v = down last j (omega (arith, e)) in
+      (omega (arith, h.0, q, e), omega (arith, h.1, q, e, f, u, v))
 
   mutual
     pub element_yields : (i j b c : ℕ) (one : Forest Item) → IsElement true O src i j b c one → Yields (of one) i j

@@ -12,11 +12,12 @@ use Rattle.rox_grammar.specs.Search.{byte_from}
 use Rattle.rox_grammar.specs.Chars.{is_space, is_name_char, is_part_char}
 use Rattle.rox_grammar.specs.CharText.{IsCharText, NamespaceDeclChars}
 use Rattle.rox_grammar.specs.Forest.{Forest, Nil, Cons, join}
-use Rattle.rox_grammar.specs.Written.{Name, Attribute, NamespaceDecl, Tag, Item, Element, Text, Comment, PI, is_namespace_decl, namespace_decl_of, namespace_decls_of, plain_attributes_of, glue, merge}
+use Rattle.rox_grammar.specs.Written.{Name, Attribute, Tag, Item, Element, Text, Comment, PI, is_namespace_decl, namespace_decl_of, glue, merge}
 use Rattle.rox_grammar.specs.Tree.{none_if_empty}
 use Rattle.rox_grammar.specs.Names.{byte, slice, spaces_end, IsNCName, IsQName, unprefixed, prefixed, colon_first}
 use Rattle.rox_grammar.specs.Constructs.{IsComment, IsPI, IsCData}
-use Rattle.rox_grammar.specs.Content.{Inclusion, DataByte, IsAttribute, attribute, Attributes, no_more, one_more, TagEnds, opened, closed, IsTag, IsMisc, comment, instruction, IsElement, empty, nest, Content, ends, run, cdata, misc, node, line_ends, literals}
+use Rattle.rox_grammar.specs.Content.{Inclusion, DataByte, IsAttribute, attribute, Attributes, no_more, one_more, TagEnds, opened, closed, IsTag, IsMisc, comment, instruction, IsElement, empty, nest, Content, ends, run, cdata, misc, node, line_ends, literals, start_tag}
+use Rattle.rox_grammar.proofs.TagParts.{tag_parts}
 use Rattle.rox_grammar.specs.Entities.{Entity, Includes, included_in_main, most_deep}
 use Rattle.rox_grammar.specs.Doctype.{Asked, Subset, no_more as no_item, space as subset_space, an_item as subset_item, skipped_declaration, an_entity as an_entity_declared, IsDoctype, no_subset, with_subset}
 use Rattle.rox_grammar.specs.Document.{Misc, no_misc, space, an_item, ParseOf}
@@ -164,18 +165,15 @@ module _ (main : Bool) (O : Inclusion) (opens : OpensChars O) (src : List ℕ) (
 
   -- the tag that stands there
   tag_text : (i j b c : ℕ) (is_empty : Bool) (t : Tag) → IsTag main O src i j b c is_empty t → TagChars t
-  tag_text i j b c is_empty t tag =
-      let cut = cut_behind src i 60 (i + 1) utf8 tag.begins (omega arith) (omega arith) refl in
-      let name = local_name src (i + 1) t.name t.name_end utf8 cut tag.is_name in
-      let all = attributes_text t.name_end tag.last b c tag.written name.1 tag.attributes in
-      let declaring = filter (λ (a : Attribute). is_namespace_decl a.name) tag.written in
-      let declared : All NamespaceDeclChars (namespace_decls_of tag.written) =
-      All-map NamespaceDeclChars namespace_decl_of declaring (All-weaker WrittenChars (λ (a : Attribute). NamespaceDeclChars (namespace_decl_of a)) declared_text declaring (All-filter (λ (a : Attribute). is_namespace_decl a.name) WrittenChars tag.written all)) in
-      let others : All WrittenChars (plain_attributes_of tag.written) = All-filter (λ (a : Attribute). not (is_namespace_decl a.name)) WrittenChars tag.written all in
+  tag_text i j b c is_empty _ (start_tag n last name written begin is_name list end) =
+      let cut = cut_behind src i 60 (i + 1) utf8 begin (omega arith) (omega arith) refl in
+      let local = local_name src (i + 1) name n utf8 cut is_name in
+      let all = attributes_text n last b c written local.1 list in
+      let declaring = filter (λ (a : Attribute). is_namespace_decl a.name) written in
       record {
-        local = name.0;
-        declarations = subst (λ (ds : List NamespaceDecl). All NamespaceDeclChars ds) (sym tag.declares) declared;
-        attributes = subst (λ (as' : List Attribute). All WrittenChars as') (sym tag.has) others;
+        local = local.0;
+        declarations = All-map NamespaceDeclChars namespace_decl_of declaring (All-weaker WrittenChars (λ (a : Attribute). NamespaceDeclChars (namespace_decl_of a)) declared_text declaring (All-filter (λ (a : Attribute). is_namespace_decl a.name) WrittenChars written all));
+        attributes = All-filter (λ (a : Attribute). not (is_namespace_decl a.name)) WrittenChars written all;
       }
 
   mutual
@@ -197,7 +195,7 @@ module _ (main : Bool) (O : Inclusion) (opens : OpensChars O) (src : List ℕ) (
     pub element_items : (i j b c : ℕ) (one : Forest Item) → IsElement main O src i j b c one → ItemsChars one
     element_items i j b c one (empty _ _ _ _ t tag) = (tag_text i j b c true t tag, tt, tt)
     element_items i j b c one (nest _ k m p _ _ d _ t kids tag inner end) =
-        (tag_text i k b d false t tag, items_merged kids (content_items k m d c kids (tag_cut src tag.last k false utf8 tag.ends) inner), tt)
+        let p = tag_parts tag in (tag_text i k b d false t tag, items_merged kids (content_items k m d c kids (tag_cut src p.last k false utf8 p.ends) inner), tt)
 
 -- ---- what references open, by the number of texts that may still be open
 

@@ -4,7 +4,7 @@ use Rattle.std.proofs.Common.{arith, ◌∙◌}
 use Rattle.std.specs.Prelude.{◌≡◌, ℕ, zero, suc, ◌+◌, ◌≤◌, Bool, true, false, List, [], length, refl}
 use Rattle.rox_grammar.specs.Forest.{Forest}
 use Rattle.rox_grammar.specs.Written.{Item, Attribute, Tag}
-use Rattle.rox_grammar.specs.Content.{Inclusion, last_part, then_entity, Value, value_ends, line_end, white, other, a_character, an_entity, Attributes, no_more, one_more, attribute, IsTag, IsElement, empty, nest, Content, ends, run, cdata, misc, node}
+use Rattle.rox_grammar.specs.Content.{Inclusion, last_part, then_entity, Value, value_ends, line_end, white, other, a_character, an_entity, Attributes, no_more, one_more, attribute, IsTag, IsElement, empty, nest, Content, ends, run, cdata, misc, node, start_tag}
 use Rattle.rox_grammar.specs.RunParts.{Parts}
 use Rattle.rox_grammar.specs.Entities.{Entity, Includes, most_deep, no_entities, included_in_main}
 use Rattle.rox_grammar.specs.Expansion.{Counts}
@@ -44,21 +44,8 @@ module _ (main : Bool) (O P : Inclusion) (follows : Follows O P) (src : List ℕ
       )
 
   tag_count : (i j b c : ℕ) (is_empty : Bool) (t : Tag) → IsTag main O src i j b c is_empty t → (m : ℕ) → (n : ℕ) × IsTag main P src i j m n is_empty t × (m + b ≡ n + c)
-  tag_count i j b c is_empty t is m =
-      let x = attributes_count t.name_end is.last b c is.written is.attributes m in (
-        x.0,
-        record {
-          begins = is.begins;
-          is_name = is.is_name;
-          written = is.written;
-          last = is.last;
-          attributes = x.1;
-          ends = is.ends;
-          declares = is.declares;
-          has = is.has;
-        },
-        x.2,
-      )
+  tag_count i j b c is_empty _ (start_tag n last name written begin is_name list end) m =
+      let x = attributes_count n last b c written list m in (x.0, start_tag n last name written begin is_name x.1 end, x.2)
 
   mutual
     pub element_count : (i j b c : ℕ) (one : Forest Item) → IsElement main O src i j b c one → (m : ℕ) → (n : ℕ) × IsElement main P src i j m n one × (m + b ≡ n + c)
@@ -143,14 +130,4 @@ attributes_free main src i k b c as' (one_more _ j _ _ l _ _ rest spaces (attrib
     one_more i j k d d d _ rest spaces (attribute n v e name value is (value_free main src e (v + 1) b l value read d)) (attributes_free main src j k l c rest more d)
 
 pub tag_free : (main : Bool) (src : List ℕ) (i j b c : ℕ) (is_empty : Bool) (t : Tag) → IsTag main no_entities src i j b c is_empty t → (d : ℕ) → IsTag main no_entities src i j d d is_empty t
-tag_free main src i j b c is_empty t is d =
-    record {
-      begins = is.begins;
-      is_name = is.is_name;
-      written = is.written;
-      last = is.last;
-      attributes = attributes_free main src t.name_end is.last b c is.written is.attributes d;
-      ends = is.ends;
-      declares = is.declares;
-      has = is.has;
-    }
+tag_free main src i j b c is_empty _ (start_tag n last name written begin is_name list end) d = start_tag n last name written begin is_name (attributes_free main src n last b c written list d) end

@@ -8,6 +8,7 @@ use Rattle.rox_grammar.specs.Written.{Tag, Item, Text, Comment, PI}
 use Rattle.rox_grammar.specs.Tree.{none_if_empty}
 use Rattle.rox_grammar.specs.Names.{slice, spaces_end}
 use Rattle.rox_grammar.specs.Content.{Inclusion, IsCharacterData, IsMisc, comment, instruction, IsTag, IsElement, Content, literals, line_ends}
+use Rattle.rox_grammar.proofs.TagParts.{tag_parts}
 use Rattle.rox_grammar.specs.RunParts.{Parts}
 use Rattle.rox_grammar.specs.Entities.{Replacement, Entity, Spends, Includes, included_in_main, most_deep}
 use Rattle.rox_grammar.specs.State.{Open, root, inside}
@@ -60,8 +61,8 @@ module _ (context : Values) (O : Inclusion) (agrees : AgreesValue context.entiti
       misc_by item (comment _ e _ is) = by_kind a_comment (state i done stack b) _ (comment_kind src i (comment_parts is).opens) (j, slice src (i + 4) e, comment_complete src i e j is, refl)
       misc_by item (instruction _ n e _ is) = by_kind an_instruction (state i done stack b) _ (instruction_kind src i (pi_parts is).opens)
           (j, record { target = slice src (i + 2) n; value = none_if_empty (slice src (spaces_end src n) e) }, instruction_complete src i n e j is, refl)
-  takes_by open_around s t (takes_empty i j b c tag done stack is) = by_kind a_tag s t (tag_kind src i is.begins (name_byte src (i + 1) tag.name tag.name_end is.is_name)) (j, c, tag, true, is, refl)
-  takes_by open_around s t (takes_start i j b c tag done stack is) = by_kind a_tag s t (tag_kind src i is.begins (name_byte src (i + 1) tag.name tag.name_end is.is_name)) (j, c, tag, false, is, refl)
+  takes_by open_around s t (takes_empty i j b c tag done stack is) = let p = tag_parts is in by_kind a_tag s t (tag_kind src i p.begins (name_byte src (i + 1) tag.name tag.name_end p.is_name)) (j, c, tag, true, is, refl)
+  takes_by open_around s t (takes_start i j b c tag done stack is) = let p = tag_parts is in by_kind a_tag s t (tag_kind src i p.begins (name_byte src (i + 1) tag.name tag.name_end p.is_name)) (j, c, tag, false, is, refl)
   takes_by open_around s t (takes_end i p j b start tag done before up deep end) = by_kind an_end s t (end_kind src i (end_parts end).opens) (j, record { name = tag.name; name_end = p }, end_complete src i j p tag.name end, refl)
 
   closes_once : (openings_left j : ℕ) (done : Forest Item) (stack : Open) (t u : State) → Closes openings_left j done stack t → Closes openings_left j done stack u → t ≡ u
@@ -108,8 +109,8 @@ module _ (context : Values) (O : Inclusion) (src : List ℕ) where
   takes_within open_around s t (takes_cdata i e j b done stack is) = omega (arith, (cdata_bytes src i (cdata_parts is).opens).0)
   takes_within open_around s t (takes_misc i j b item done stack (comment _ e _ is)) = omega (arith, (comment_bytes src i (comment_parts is).opens).0)
   takes_within open_around s t (takes_misc i j b item done stack (instruction _ n e _ is)) = omega (arith, (instruction_bytes src i (pi_parts is).opens).0)
-  takes_within open_around s t (takes_empty i j b c tag done stack is) = omega (arith, (name_byte src (i + 1) tag.name tag.name_end is.is_name).within)
-  takes_within open_around s t (takes_start i j b c tag done stack is) = omega (arith, (name_byte src (i + 1) tag.name tag.name_end is.is_name).within)
+  takes_within open_around s t (takes_empty i j b c tag done stack is) = omega (arith, (name_byte src (i + 1) tag.name tag.name_end (tag_parts is).is_name).within)
+  takes_within open_around s t (takes_start i j b c tag done stack is) = omega (arith, (name_byte src (i + 1) tag.name tag.name_end (tag_parts is).is_name).within)
   takes_within open_around s t (takes_end i p j b start tag done before up deep end) = omega (arith, (end_bytes src i (end_parts end).opens).0)
 
 module _ (es : List Entity) (opener : ValueInclusion) (O : Inclusion) (agrees : AgreesValue es O opener) (once : OpensOnce O) (src : List ℕ) (utf8 : IsUtf8 src) where

@@ -11,7 +11,8 @@ use Rattle.rox_grammar.specs.Written.{Name, Tag, Item, Element, Text, Comment, P
 use Rattle.rox_grammar.specs.NameParts.{same_qname}
 use Rattle.rox_grammar.specs.Names.{byte, slice, spaces_end}
 use Rattle.rox_grammar.specs.Constructs.{IsEnd}
-use Rattle.rox_grammar.specs.Content.{Inclusion, IsTag, TagEnds, IsMisc, comment, instruction, literals, line_ends}
+use Rattle.rox_grammar.specs.Content.{Inclusion, IsTag, start_tag, TagEnds, IsMisc, comment, instruction, literals, line_ends}
+use Rattle.rox_grammar.proofs.TagParts.{tag_parts}
 use Rattle.rox_grammar.specs.Content as content
 use Rattle.rox_grammar.specs.Counts.{distinct_pairs}
 use Rattle.rox_reading.specs.Markup.{comment_at, Instruction, instruction_at, cdata_at, end_tag_at}
@@ -194,7 +195,7 @@ module _ (context : Context) (O : Inclusion) (values : AgreesValue context.value
       rw (read, opened) refl
 
   tag_found : (s : State) (j c : ℕ) (tag : Tag) (empty : Bool) → IsTag context.values.main O src s.at j s.openings_left c empty tag → IsValidState context.limit (after s j tag empty c) → step context src s ≡ Ok (after s j tag empty c)
-  tag_found s j c tag empty is fine = by_kind a_tag s _ (tag_kind src s.at is.begins (name_byte src (s.at + 1) tag.name tag.name_end is.is_name)) (read_tag s j c tag empty is fine)
+  tag_found s j c tag empty is fine = let p = tag_parts is in by_kind a_tag s _ (tag_kind src s.at p.begins (name_byte src (s.at + 1) tag.name tag.name_end p.is_name)) (read_tag s j c tag empty is fine)
 
   -- an end tag
   end_found : (i p j b start : ℕ) (tag : Tag) (done before : Forest Item) (up : Open) → context.open_around < depth_of up + 1 → IsEnd src i tag.name p j
@@ -227,11 +228,11 @@ module _ (context : Context) (O : Inclusion) (values : AgreesValue context.value
   tag_end i empty j (content.closed _ slash greater) = let l = within src (spaces_end src i + 1) (λ z. omega arith) in omega arith
 
   tag_moves : (i j b c : ℕ) (empty : Bool) (tag : Tag) → IsTag context.values.main O src i j b c empty tag → (i < length src) × (i < j) × (j ≤ length src)
-  tag_moves i j b c empty tag is =
-      let name = qname_le src (i + 1) tag.name tag.name_end is.is_name in
-      let more = tags.attributes_le context.values O values src utf8 tag.name_end is.last b c is.written is.attributes in
-      let ends = tags.ends_inside src is.last empty j is.ends in
-      (omega (arith, ends.0), omega (arith, ends.1), tag_end is.last empty j is.ends)
+  tag_moves i j b c empty _ (start_tag n last name written begin is_name list end) =
+      let le = qname_le src (i + 1) name n is_name in
+      let more = tags.attributes_le context.values O values src utf8 n last b c written list in
+      let ends = tags.ends_inside src last empty j end in
+      (omega (arith, ends.0), omega (arith, ends.1), tag_end last empty j end)
 
   misc_moves : (i j : ℕ) (item : Item) → IsMisc src i j item → (i < length src) × (i < j) × (j ≤ length src)
   misc_moves i j item (comment _ e _ is) =

@@ -12,6 +12,8 @@ use Rattle.rox_grammar.specs.Chars.{is_space}
 use Rattle.rox_grammar.specs.Search.{byte_from}
 use Rattle.rox_grammar.specs.Forest.{Forest, Nil, join}
 use Rattle.rox_grammar.specs.Written.{Item, Comment, PI, leaf}
+use Rattle.rox_grammar.specs.Tree.{scope_in}
+use Rattle.rox_grammar.specs.State.{scope_of}
 use Rattle.rox_grammar.specs.Names.{byte, spaces_end}
 use Rattle.rox_grammar.specs.FixedTexts.{at}
 use Rattle.rox_grammar.specs.Content.{IsMisc}
@@ -254,7 +256,7 @@ module _ (src : List ℕ) (utf8 : IsUtf8 src) where
     by_turn r (turn_item j item t is one) =
         let e = with_state d t in
         let p = misc_plain src utf8 i j item is in
-        let read = item_read limit most (spaced src d).state t j item limits p.0 p.1 (p.2 _) (fine_there most d.state (spaced src d).state refl refl fine) one in
+        let read = item_read limit most (spaced src d).state t j item limits p.0 p.1 (p.2 (scope_in (scope_of (spaced src d).state.stack) item)) (fine_there most d.state (spaced src d).state refl refl fine) one in
         let there : t.at ≡ j = ap (λ (s : State). s.at) read.0 in
         let next = ends_cut src j utf8 (misc_ends src i j item is) in
         let front = item_front d.state.at j item cut is in

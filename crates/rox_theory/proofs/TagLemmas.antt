@@ -14,6 +14,7 @@ use Rattle.rox_grammar.specs.Content.{Inclusion, IsAttribute, Attributes, no_mor
 use Rattle.rox_grammar.specs.Content as content
 use Rattle.rox_grammar.specs.WellNamed.{IsWellNamed, may_name}
 use Rattle.rox_grammar.proofs.NamesApart.{DistinctBehind, declarable_behind, distinct_behind, are_declarable, are_distinct}
+use Rattle.rox_grammar.proofs.TagParts.{tag_parts, tag_of}
 use Rattle.rox_grammar.specs.Document.{most_attributes, most_pairs}
 use Rattle.rox_grammar.specs.Counts.{listable, with_new}
 use Rattle.rox_reading.specs.Lexical.{qname_at}
@@ -159,8 +160,8 @@ module _ (context : Values) (O : Inclusion) (agrees : AgreesValue context.entiti
       let ends_le = ends_inside src r.1 x.0.empty x.1 r.3 in
       subst (λ (z : TagRead × ℕ). TagStands above count known i z.1 b z.0 × (i < z.1)) (ok_same _ _ h) (
         record {
-          is_tag = record { begins = begins; is_name = name; written = r.0; last = r.1; attributes = r.2; ends = r.3; declares = all.own; has = all.attributes };
-          well_named = record { no_xmlns = free; declarations = are_declarable _ declarable; attributes = are_distinct _ _ fine.1; element = fine.2 };
+          is_tag = tag_of (record { begins = begins; is_name = name; written = r.0; last = r.1; attributes = r.2; ends = r.3; declares = all.own; has = all.attributes });
+          well_named = (free, are_declarable x.0.held.own declarable, are_distinct (listed above x.0.held.own) x.0.held.attributes fine.1, fine.2);
           attributes = fine.0;
           pairs = pairs;
         },
@@ -172,13 +173,14 @@ module _ (context : Values) (O : Inclusion) (agrees : AgreesValue context.entiti
       → IsTag context.main O src i j b c empty t → IsWellNamed (listed above t.declarations) t → count + length t.attributes ≤ most_attributes
       → length (with_new known (listable t)) ≤ most_pairs → tag_at context cut above count known src i b ≡ Ok (record { tag = t; empty = empty; openings_left = c }, j)
   unfolding tag_at
-  tag_complete cut above count known i j b c t empty tag well few pairs =
+  tag_complete cut above count known i j b c t empty is_tag well few pairs =
+      let tag = tag_parts is_tag in
       let name = qname_complete src (i + 1) t.name t.name_end tag.is_name in
-      let free = well.no_xmlns in
+      let free = well.0 in
       let own = tag.declares in
       let has = tag.has in
-      let all = taken_complete known tag.written none_yet (rw own at (declarable_behind t.declarations well.declarations)) (rw own at pairs) in
+      let all = taken_complete known tag.written none_yet (rw own at (declarable_behind t.declarations well.1)) (rw own at pairs) in
       let all' : all_taken known tag.written none_yet ≡ Ok (record { own = t.declarations; attributes = t.attributes }) = rw (← own, ← has) at all in
       let rest = rest_complete (length src) cut known t.name_end tag.last b c tag.written empty j none_yet (record { own = t.declarations; attributes = t.attributes }) (omega arith) tag.attributes tag.ends all' in
-      let tested = tested_complete (listed above t.declarations) count i t.name t.attributes few (distinct_behind (listed above t.declarations) t.attributes well.attributes) well.element in
+      let tested = tested_complete (listed above t.declarations) count i t.name t.attributes few (distinct_behind (listed above t.declarations) t.attributes well.2) well.3 in
       rw (name, free, rest, tested) refl

@@ -1,9 +1,9 @@
 -- At most one start tag stands at a place, whatever the limits are, where as many texts may be opened.
 use Rattle.std.proofs.Common.{◌≡◌, ℕ, ◌+◌, ◌<◌, Bool, true, false, cond, List, Ok, refl, sym, ap, ◌∙◌, subst}
 use Rattle.std.specs.Str.{IsUtf8}
-use Rattle.rox_grammar.specs.Written.{Name, Attribute, Tag, namespace_decls_of, plain_attributes_of}
+use Rattle.rox_grammar.specs.Written.{Name, Attribute, Tag}
 use Rattle.rox_grammar.specs.Names.{spaces_end}
-use Rattle.rox_grammar.specs.Content.{Inclusion, IsAttribute, Attributes, no_more, one_more, TagEnds, IsTag}
+use Rattle.rox_grammar.specs.Content.{Inclusion, IsAttribute, Attributes, no_more, one_more, TagEnds, IsTag, start_tag}
 use Rattle.rox_reading.specs.Markup.{RawAttribute, TagItem, more, opened, closed, tag_item_at}
 use Rattle.rox_reading.specs.Values.{ReadText, value_at}
 use Rattle.rox_reading.specs.Tags.{Values, attribute_with}
@@ -83,14 +83,12 @@ module _ (context : Values) (O : Inclusion) (agrees : AgreesValue context.entiti
 
   -- a tag is read in one way, and as many texts may be opened behind it
   pub tag_once : (i j k b c d : ℕ) (s t : Tag) (x y : Bool) → IsTag context.main O src i j b c x s → IsTag context.main O src i k b d y t → (j ≡ k) × (c ≡ d) × (x ≡ y) × (s ≡ t)
-  tag_once i j k b c d s t x y p q =
-      let named = ok_one (s.name, s.name_end) (t.name, t.name_end) (qname_at src (i + 1)) (qname_complete src (i + 1) s.name s.name_end p.is_name) (qname_complete src (i + 1) t.name t.name_end q.is_name) in
-      let name : s.name ≡ t.name = ap (λ (n : Name × ℕ). n.0) named in
-      let at : s.name_end ≡ t.name_end = ap (λ (n : Name × ℕ). n.1) named in
-      let list = one_list t.name_end p.last q.last j k b c d p.written q.written x y (subst (λ (n : ℕ). Attributes context.main O src n p.last b c p.written) at p.attributes) q.attributes p.ends q.ends in
-      let declarations : s.declarations ≡ t.declarations = p.declares ∙ ap namespace_decls_of list.0 ∙ sym q.declares in
-      let attributes : s.attributes ≡ t.attributes = p.has ∙ ap plain_attributes_of list.0 ∙ sym q.has in
-      (list.1, list.3, list.2, rw (name, at, declarations, attributes) refl)
+  tag_once i j k b c d _ _ x y (start_tag n last name written begin is_name list end) (start_tag n' last' name' written' begin' is_name' list' end') =
+      let named = ok_one (name, n) (name', n') (qname_at src (i + 1)) (qname_complete src (i + 1) name n is_name) (qname_complete src (i + 1) name' n' is_name') in
+      let same : name ≡ name' = ap (λ (n : Name × ℕ). n.0) named in
+      let at : n ≡ n' = ap (λ (n : Name × ℕ). n.1) named in
+      let one = one_list n' last last' j k b c d written written' x y (subst (λ (n : ℕ). Attributes context.main O src n last b c written) at list) list' end end' in
+      (one.1, one.3, one.2, rw (same, at, one.0) refl)
 
   pub one_tag : (i j k b c d : ℕ) (s t : Tag) (x y : Bool) → IsTag context.main O src i j b c x s → IsTag context.main O src i k b d y t → (j ≡ k) × (s ≡ t) × (x ≡ y)
   one_tag i j k b c d s t x y p q = let once = tag_once i j k b c d s t x y p q in (once.0, once.3, once.2)

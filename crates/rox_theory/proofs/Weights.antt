@@ -1,5 +1,5 @@
 -- How large what a reference opens can be, by the number of texts that are opened.
-use Rattle.std.proofs.Common.{arith, subst, sym}
+use Rattle.std.proofs.Common.{arith, subst}
 use Rattle.std.proofs.lemmas.List.{length-append}
 use Rattle.std.specs.Prelude.{◌≡◌, ◌==◌, ℕ, zero, suc, ◌+◌, ◌-◌, ◌*◌, ◌≤◌, not, max, Bool, true, false, List, [], ◌∷◌, Some, length, if◌then◌else◌, bytes_eq}
 use Rattle.std.specs.List.{list_any}
@@ -7,7 +7,7 @@ use Rattle.rox_grammar.specs.Forest.{Forest, Nil, join}
 use Rattle.rox_grammar.specs.Written.{Item, Text, Attribute, Tag, leaf, merge}
 use Rattle.rox_grammar.specs.Tree.{none_if_empty}
 use Rattle.rox_grammar.specs.Names.{slice, spaces_end}
-use Rattle.rox_grammar.specs.Content.{Inclusion, DataByte, line_ends, literals, is_verbatim, piece, value_bytes, last_part, then_entity, Value, value_ends, line_end, white, other, a_character, an_entity, Attributes, no_more, one_more, attribute, IsTag, IsMisc, comment, instruction, IsElement, empty, nest, Content, ends, run, cdata, misc, node}
+use Rattle.rox_grammar.specs.Content.{Inclusion, DataByte, line_ends, literals, is_verbatim, piece, value_bytes, last_part, then_entity, Value, value_ends, line_end, white, other, a_character, an_entity, Attributes, no_more, one_more, attribute, IsTag, IsMisc, comment, instruction, IsElement, empty, nest, Content, ends, run, cdata, misc, node, start_tag}
 use Rattle.rox_grammar.specs.RunParts.{Parts}
 use Rattle.rox_grammar.specs.Entities.{Replacement, Entity, text_of}
 use Rattle.rox_grammar.specs.Expansion.{Counts, longest}
@@ -88,12 +88,12 @@ module _ (of : Forest Item → ℕ) (is_measure : Measure of) (main : Bool) (O :
       omega (arith, h, n, q, l, y, spaces)
 
   tag_weighs : (i j b c : ℕ) (is_empty : Bool) (t : Tag) → IsTag main O src i j b c is_empty t → 1 + most_of t.attributes + i + b * r ≤ j + c * r
-  tag_weighs i j b c is_empty t is =
-      let h = attributes_weigh t.name_end is.last b c is.written is.attributes in
-      let n = qname_onward src (i + 1) t.name_end t.name is.is_name in
-      let e = tag_end_onward src is.last is_empty j is.ends in
-      let f : most_of t.attributes ≤ most_of is.written = subst (λ (as' : List Attribute). most_of as' ≤ most_of is.written) (sym is.has) (fewer is.written) in
-      omega (arith, h, n, e, f)
+  tag_weighs i j b c is_empty _ (start_tag n last name written begin is_name list end) =
+      let h = attributes_weigh n last b c written list in
+      let q = qname_onward src (i + 1) n name is_name in
+      let e = tag_end_onward src last is_empty j end in
+      let f = fewer written in
+      omega (arith, h, q, e, f)
 
   mutual
     element_weighs : (i j b c : ℕ) (one : Forest Item) → IsElement main O src i j b c one → of one + i + b * r ≤ j + c * r
