@@ -1,5 +1,5 @@
 -- Documents, and their limits.
-use Rattle.std.specs.Prelude.{◌≡◌, ℕ, ◌+◌, ◌-◌, ◌^◌, ◌≤◌, ◌⊎◌, Option, Bool, true, false, ◌&&◌, List, [], ◌∷◌, ◌++◌, length, if◌then◌else◌, bytes_eq, sum_by, flat_map}
+use Rattle.std.specs.Prelude.{◌≡◌, ℕ, ◌+◌, ◌-◌, ◌^◌, ◌≤◌, Option, Bool, true, false, ◌&&◌, List, [], ◌∷◌, ◌++◌, length, if◌then◌else◌, bytes_eq, sum_by, flat_map}
 use Rattle.std.specs.List.{list_any}
 use Rattle.rox_grammar.specs.Chars.{is_space}
 use Rattle.rox_grammar.specs.Forest.{Forest, Nil, Cons, join, size}
@@ -9,7 +9,7 @@ use Rattle.rox_grammar.specs.Names.{byte}
 use Rattle.rox_grammar.specs.Content.{Inclusion, IsMisc, IsElement}
 use Rattle.rox_grammar.specs.TextStart.{after_bom, MayHaveXmlDecl}
 use Rattle.rox_grammar.specs.Entities.{Entity, most_within, included_in_main}
-use Rattle.rox_grammar.specs.Doctype.{Request, Asked, IsExternalID, MayHaveNotation, CutsNotation, BeginsEntity, SubsetTo, IsDoctype}
+use Rattle.rox_grammar.specs.Doctype.{Request, Asked, AsksAt, SubsetTo, IsDoctype}
 use Rattle.rox_grammar.specs.WellNamed.{AreWellNamed}
 
 -- XML 2.8 [27] Misc, any number of them: comments, processing instructions and white space
@@ -99,8 +99,7 @@ Permits allow dtd = dtd ≡ true → allow ≡ true
 -- After these were asked, in order, this is asked next: the declaration of an external entity is read up to p, where the
 -- request is made, and everything before it is as the grammar wants.
 pub data AsksNext (src : List ℕ) (asked : List Asked) (request : Request) (p : ℕ) : Type 0 where
-  at_entity : (begun i n m d e : ℕ) (before nodes : Forest Item) (parameter : Bool) → PrologTo src begun before → SubsetTo src begun i nodes asked
-      → BeginsEntity src i parameter n m d → IsExternalID src d request e → MayHaveNotation src parameter e p ⊎ CutsNotation src parameter e p → AsksNext src asked request p
+  at_entity : (begun i : ℕ) (before nodes : Forest Item) → PrologTo src begun before → SubsetTo src begun i nodes asked → AsksAt src i request p → AsksNext src asked request p
 
 -- What was asked, in order, while the text was read: for each its declaration stands next, after those before it. Nothing is asked
 -- where no document type declaration may stand.

@@ -14,7 +14,7 @@ use Rattle.rox_grammar.specs.Constructs.{text_at}
 use Rattle.rox_grammar.specs.Content.{Inclusion}
 use Rattle.rox_grammar.specs.TextStart.{after_bom}
 use Rattle.rox_grammar.specs.Entities.{Replacement, Entity, most_deep, no_entities, Includes}
-use Rattle.rox_grammar.specs.Doctype.{Request, Asked, IsSpace, IsExternalID, MayHaveNotation, CutsNotation, GivesReplacement, IsDefinition, BeginsEntity, IsPassed, SubsetTo}
+use Rattle.rox_grammar.specs.Doctype.{Request, Asked, IsSpace, IsExternalID, CutsNotation, GivesReplacement, IsDefinition, BeginsEntity, AsksAt, IsPassed, SubsetTo}
 use Rattle.rox_grammar.specs.OpenElements.{root, FitsLimits}
 use Rattle.rox_grammar.specs.Due.{DueItem, a_byte, one_of, IsMissing, DueInXmlDecl, DueInEntity, DueInDoctype}
 use Rattle.rox_grammar.specs.ContentPoints.{is_main}
@@ -37,10 +37,8 @@ module _ (limit : ℕ) (src : List ℕ) (i p : ℕ) (items : Forest Item) (asked
         → IsExternalID src d request e → CutsNotation src parameter e j → GivesReplacement answer text
         → InSubset (asked ++ record { request = request; answer = answer } ∷ []) src fault.UnexpectedEndOfStream
     -- in the declaration of what is answered (XML 4.3.1 [77])
-    in_answer : (n m d e j q : ℕ) (parameter : Bool) (request : Request) (answer : List ℕ) (t : DueItem) (f : Fault) → BeginsEntity src p parameter n m d
-        → IsExternalID src d request e → MayHaveNotation src parameter e j ⊎ CutsNotation src parameter e j → IsUtf8 answer
-        → text_at "<?xml " answer (after_bom answer) ≡ true → DueInXmlDecl answer (after_bom answer) q t → IsMissing answer q t f
-        → InSubset (asked ++ record { request = request; answer = Some answer } ∷ []) answer f
+    in_answer : (j q : ℕ) (request : Request) (answer : List ℕ) (t : DueItem) (f : Fault) → AsksAt src p request j → IsUtf8 answer → text_at "<?xml " answer (after_bom answer) ≡ true
+        → DueInXmlDecl answer (after_bom answer) q t → IsMissing answer q t f → InSubset (asked ++ record { request = request; answer = Some answer } ∷ []) answer f
     end_lacks : (f : Fault) → byte src p ≡ code "]" → IsMissing src (spaces_end src (p + 1)) (one_of due.End) f → InSubset asked src f
     -- nothing that a subset holds or that ends it, or the end behind white space
     unknown : is_space (byte src p) ≡ false → text_at "<!ENTITY" src p ≡ false → text_at "<!--" src p ≡ false → text_at "<?" src p ≡ false → (IsPassed src p → ⊥)

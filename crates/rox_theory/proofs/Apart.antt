@@ -120,7 +120,7 @@ top_subset : (src : List ℕ) (i j : ℕ) (items : Forest Item) (asked : List As
 top_subset src i j items asked es back (no_item _) h = h
 top_subset src i j items asked es back (subset_space _ _ _ _ _ here rest) h = top_subset src (i + 1) j items asked es back rest h
 top_subset src i j items asked es back (subset_item _ k _ item more _ _ is rest) h = top_item src i k item (join more back) is (top_subset src k j more asked es back rest h)
-top_subset src i j items asked es back (skipped_declaration _ k _ _ _ _ is rest) h = top_subset src k j items asked es back rest h
+top_subset src i j items asked es back (skipped_declaration _ _ _ _ _ _ _ rest) h = top_subset src _ j items asked es back rest h
 top_subset src i j items asked es back (an_entity _ k _ _ front more one others is rest) h = top_subset src k j items more others back rest h
 
 top_itself : (src : List ℕ) (i j : ℕ) (items : Forest Item) (asked : List Asked) (es : List Entity) (back : Forest Item) → IsDoctype src i j items asked es → Apart back → Apart (join items back)

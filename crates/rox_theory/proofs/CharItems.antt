@@ -226,7 +226,7 @@ subset_items : (src : List ℕ) (i j : ℕ) (items : Forest Item) (asked : List 
 subset_items src i j items asked es utf8 (no_item _) = tt
 subset_items src i j items asked es utf8 (subset_space _ _ _ _ _ here rest) = subset_items src (i + 1) j items asked es utf8 rest
 subset_items src i j items asked es utf8 (subset_item _ k _ item more _ _ is rest) = (misc_item src i k item utf8 is, tt, subset_items src k j more asked es utf8 rest)
-subset_items src i j items asked es utf8 (skipped_declaration _ k _ _ _ _ is rest) = subset_items src k j items asked es utf8 rest
+subset_items src i j items asked es utf8 (skipped_declaration _ _ _ _ _ _ _ rest) = subset_items src _ j items asked es utf8 rest
 subset_items src i j items asked es utf8 (an_entity_declared _ k _ _ front more one others is rest) = subset_items src k j items more others utf8 rest
 
 doctype_itself : (src : List ℕ) (i j : ℕ) (items : Forest Item) (asked : List Asked) (es : List Entity) → IsUtf8 src → IsDoctype src i j items asked es → ItemsChars items

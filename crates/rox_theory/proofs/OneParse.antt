@@ -63,7 +63,7 @@ bare_subset : (src : List ℕ) (i j : ℕ) (items : Forest Item) (asked : List A
 bare_subset src i j items asked es (no_more _) = (refl, refl)
 bare_subset src i j items asked es (dtd.space _ _ _ _ _ s m) = bare_subset src (i + 1) j items asked es m
 bare_subset src i j items asked es (dtd.an_item _ k _ item more _ _ one m) = bare_item src i k item more one (bare_subset src k j more asked es m)
-bare_subset src i j items asked es (skipped_declaration _ k _ _ _ _ one m) = bare_subset src k j items asked es m
+bare_subset src i j items asked es (skipped_declaration _ _ _ _ _ _ _ m) = bare_subset src _ j items asked es m
 bare_subset src i j items asked es (an_entity _ k _ _ first later one others is m) = bare_subset src k j items later others m
 
 bare_itself : (src : List ℕ) (i j : ℕ) (items : Forest Item) (asked : List Asked) (es : List Entity) → IsDoctype src i j items asked es → IsBare items

@@ -130,7 +130,7 @@ module _ (text : List ℕ) (es : List Entity) where
         let x = misc_made i k item is in
         let y = subset_made k j more asked others rest in
         (ap (λ (f : Forest Item). Cons item Nil f) y.0, (x.1.0, x.1.1, tt, y.1))
-    subset_made i j items asked others (skipped_declaration _ k _ _ _ _ is rest) = subset_made k j items asked others rest
+    subset_made i j items asked others (skipped_declaration _ _ _ _ _ _ _ rest) = subset_made _ j items asked others rest
     subset_made i j items asked others (an_entity_declared _ k _ _ first more one behind is rest) = subset_made k j items more behind rest
 
     written-join : (f g : Forest Item) → written_in src (join f g) ≡ join (written_in src f) (written_in src g)
