@@ -64,7 +64,7 @@ module _ (src : List ℕ) (utf8 : IsUtf8 src) (allow : Bool) where
   module _ (i begun : ℕ) (before : Forest Item) (declares : MayHaveXmlDecl src (after_bom src) i) (ahead : Misc src i begun before) where
     later_next : (o : Opened src begun) (asked : List Asked) (request : Request) (p : ℕ) → Later src (o.s + 1) asked request p → AsksNext src asked request p
     later_next o asked request p l =
-        at_entity begun l.j before l.nodes (record { declared_to = i; declaration = declares; misc = ahead }) (subset_to o.s l.es o.begins o.bracket l.items) l.asks
+        at_entity begun l.j before l.nodes (i, declares, ahead) (subset_to o.s l.es o.begins o.bracket l.items) l.asks
 
     later_asked : (o : Opened src begun) → allow ≡ true → (asked : List Asked) → HasLater src (o.s + 1) asked → HasAsked src allow asked
     later_asked o may asked not_yet = nothing

@@ -139,7 +139,7 @@ parse_apart src dtd asked tree whole =
     let after : Apart (join p.after Nil) = top_misc src p.end (length src) p.after Nil p.misc_after tt in
     let one = top_element true (included_in_main p.entities) (opens_apart p.entities most_deep true) src p.start p.end 255 p.openings_left p.one p.after p.element (subst (λ (f : Forest Item). Apart f) (join-nil p.after) after) in
     let nodes = top_doctype src p.begun p.start dtd p.nodes asked p.entities (join p.one p.after) p.doctype one in
-    let all = top_misc src p.prolog.declared_to p.begun p.before (join p.nodes (join p.one p.after)) p.prolog.misc nodes in
+    let all = top_misc src p.prolog.0 p.begun p.before (join p.nodes (join p.one p.after)) p.prolog.2 nodes in
     subst (λ (f : Forest Item). Apart f) (sym p.is_tree) all
 
 -- what stands behind stays there

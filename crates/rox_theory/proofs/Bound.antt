@@ -324,7 +324,7 @@ pub parse_bounded : (of : Forest Item → ℕ) → Measure of → (src : List �
 parse_bounded of is_measure src dtd asked tree whole =
     let p = parts src dtd asked tree whole in
     let w = 256 * longest p.entities in
-    let before = all_misc of is_measure src p.prolog.declared_to p.begun p.before p.prolog.misc in
+    let before = all_misc of is_measure src p.prolog.0 p.begun p.before p.prolog.2 in
     let nodes = all_doctype of is_measure src p.begun p.start dtd p.nodes asked p.entities p.doctype in
     let one = element_bounded of is_measure p.entities src p.start p.end 255 p.openings_left p.one p.element in
     let after = all_misc of is_measure src p.end (length src) p.after p.misc_after in

@@ -246,6 +246,6 @@ parse_items src dtd asked tree utf8 whole =
     let one = element_items true (included_in_main p.entities) (opens_chars p.entities texts most_deep true) src utf8 p.start p.end 255 p.openings_left p.one p.element in
     let nodes = doctype_items src p.begun p.start dtd p.nodes asked p.entities utf8 p.doctype in
     let after = misc_items src p.end (length src) p.after utf8 p.misc_after in
-    let before = misc_items src p.prolog.declared_to p.begun p.before utf8 p.prolog.misc in
+    let before = misc_items src p.prolog.0 p.begun p.before utf8 p.prolog.2 in
     subst (λ (f : Forest Item). ItemsChars f) (sym p.is_tree)
     (items_joined p.before (join p.nodes (join p.one p.after)) before (items_joined p.nodes (join p.one p.after) nodes (items_joined p.one p.after one after)))

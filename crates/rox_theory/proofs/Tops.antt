@@ -70,5 +70,5 @@ pub parse_merged : (src : List ℕ) (is : Bool) (asked : List Asked) (t : Forest
 parse_merged src is asked t whole =
     let p = parts src is asked t whole in
     ap merge p.is_tree
-    ∙ tops_merged true (included_in_main p.entities) src p.prolog.declared_to p.begun p.start p.end (length src) 255 p.openings_left is p.before p.nodes p.one p.after asked p.entities p.prolog.misc p.doctype p.element p.misc_after
+    ∙ tops_merged true (included_in_main p.entities) src p.prolog.0 p.begun p.start p.end (length src) 255 p.openings_left is p.before p.nodes p.one p.after asked p.entities p.prolog.2 p.doctype p.element p.misc_after
     ∙ sym p.is_tree
