@@ -1,6 +1,6 @@
 -- Where a document type declaration stands, no fault of it does that is met after the same answers.
 use Rattle.std.proofs.Common.{◌≡◌, ℕ, ◌+◌, ◌<◌, ◌≤◌, ◌⊎◌, ◌==◌, Bool, true, false, List, [], ◌∷◌, ◌++◌, Some, length, refl, sym, ap, ◌∙◌, subst, arith, inl, inr}
-use Rattle.std.specs.Prelude.{Option}
+use Rattle.std.specs.Prelude.{Option, None}
 use Rattle.std.specs.Str.{IsUtf8, IsCharBoundary}
 use Rattle.std.proofs.lemmas.Bool.{true≢false, false_from_ne_true}
 use Rattle.std.proofs.lemmas.List.{append-nil}
@@ -15,7 +15,7 @@ use Rattle.rox_grammar.specs.Written.{Item, merge, leaf}
 use Rattle.rox_grammar.specs.Names.{byte, spaces_end, IsName}
 use Rattle.rox_grammar.specs.TextStart.{after_bom, MayHaveXmlDecl, declared, not_declared}
 use Rattle.rox_grammar.specs.Entities.{Replacement, Entity}
-use Rattle.rox_grammar.specs.Doctype.{Request, Asked, IsQuoted, IsSpace, IsExternalID, system, public, MayHaveNotation, notation, no_notation, CutsNotation, name_cut_off, GivesReplacement, nothing, the_rest, IsDefinition, internal, external, BeginsEntity, external_entity, Subset, MayHaveExternalID, external_id, no_external_id, BeginsDoctype, IsDoctype, no_subset, with_subset, SubsetTo, subset_to}
+use Rattle.rox_grammar.specs.Doctype.{Request, Asked, IsQuoted, IsSpace, IsExternalID, system, public, MayHaveNotation, notation, no_notation, GivesReplacement, nothing, the_rest, IsDefinition, internal, external, BeginsEntity, Subset, MayHaveExternalID, external_id, no_external_id, BeginsDoctype, IsDoctype, no_subset, with_subset, SubsetTo, subset_to}
 use Rattle.rox_grammar.specs.Doctype as dtd
 use Rattle.rox_grammar.specs.Due.{DueItem, a_byte, a_name, IsMissing, none_left, DueInXmlDecl, DueInLiteral, its_quote, its_end, DueInExternalID, space_before, its_literal, space_between, second_literal, DueInEntity, DueInDoctype, none_of}
 use Rattle.rox_faults.proofs.DueForms.{a_space, a_quote, a_definition, subset_or_end, doctype_end, quote_is, quote_defines, letter_defines, subset_or_end_is, end_is}
@@ -24,12 +24,12 @@ use Rattle.rox_grammar.specs.Faults.{in_one, one_too_many}
 use Rattle.rox_grammar.specs.FaultsWithDoctype.{InDoctype, head_lacks, no_name, not_passed, in_entity, entity_open, entity_cut, in_answer, end_lacks, unknown, no_root, in_subset, in_miscs}
 use Rattle.rox_reading.proofs.Forests.{join_assoc, merge-more}
 use Rattle.rox_theory.specs.Answers.{SameAnswers}
-use Rattle.rox_theory.proofs.Basics.{within}
+use Rattle.rox_theory.proofs.Basics.{within, run_end_le}
 use Rattle.rox_theory.proofs.CharTexts.{cut_behind}
 use Rattle.rox_theory.proofs.Places.{begins_within, space_within}
 use Rattle.rox_theory.proofs.DeclarationLemmas.{stands_reads}
 use Rattle.rox_theory.proofs.LiteralLemmas.{quote_ascii}
-use Rattle.rox_theory.proofs.DoctypeParts.{begins_parts, DeclarationParts, declaration_parts, doctype_parts}
+use Rattle.rox_theory.proofs.DoctypeParts.{begins_parts, DeclarationParts, declaration_parts, CutsNotation, cuts_name, asks_parts, doctype_parts}
 use Rattle.rox_theory.proofs.DoctypeLemmas.{quoted_closes, quoted_cut, word_cut, six_cut, external_cut, external_byte, HeadCuts, head_cuts}
 use Rattle.rox_faults.proofs.FaultApart.{name_stands, byte_stands, space_stands, misc_begins, misc_apart}
 use Rattle.rox_faults.proofs.FaultPairs.{declaration_apart}
@@ -201,9 +201,15 @@ module _ (src : List ℕ) (utf8 : IsUtf8 src) where
         let same = definition_end src utf8 parameter d e b.e first asked text b.text definition (defines n m d parameter begins) in
         byte_stands src 62 (spaces_end src b.e) f (omega arith) b.closes (subst (λ (e : ℕ). IsMissing src (spaces_end src e) (a_byte 62) f) same lack)
 
-    -- it is not cut off before the name of its notation
-    pub not_cut : (n m d e j : ℕ) (parameter : Bool) (request : Request) → BeginsEntity src i parameter n m d → IsExternalID src d request e → CutsNotation src parameter e j → ⊥
-    not_cut n m d e j parameter request begins is (name_cut_off _ _ opens space past) =
+    -- it is not cut off behind what it asks, nor before the name of its notation
+    pub not_cut : (n m d e j : ℕ) (parameter : Bool) (request : Request) → BeginsEntity src i parameter n m d → IsExternalID src d request e → MayHaveNotation src parameter e j ⊎ CutsNotation src parameter e j → length src ≤ j → ⊥
+    not_cut n m d e j parameter request begins is (inl may) past =
+        let asks : IsDefinition src parameter d j (record { request = request; answer = None } ∷ []) None = external d e j request None None is may nothing in
+        let same = definition_end src utf8 parameter d j b.e (record { request = request; answer = None } ∷ []) asked None b.text asks (defines n m d parameter begins) in
+        let closes = b.closes in
+        let l = within src (spaces_end src b.e) (λ z. omega arith) in
+        absurd (omega (arith, run_end_le is_space src b.e))
+    not_cut n m d e j parameter request begins is (inr (cuts_name _ _ opens space _)) past =
         let there = notation_there d b.e e false asked b.text request refl (defines n m d false begins) is opens in
         let same = space_once src (spaces_end src e + 5) there.0 j there.1 space in
         let l = begins_within is_name_start src there.0 there.2.starts in
@@ -318,16 +324,18 @@ module _ (src : List ℕ) (utf8 : IsUtf8 src) where
       let r = c.front in
       let there = entity_there src utf8 c.k c.bracket p r.rest r.more r.gs r.left (begins_parts begins).opens in
       absurd (end_stands p there.0 there.1 there.3 (declaration_parts there.5) n m d e parameter first text f begins definition lack)
-  in_doctype_apart W limit i j before nodes after asked given es source f is few same (in_subset p items before' _ _ _ to fits (entity_cut n m d e x parameter request answer text begins external' cut gives)) =
+  in_doctype_apart W limit i j before nodes after asked given es source f is few same (in_subset p items before' _ _ _ to fits (entity_cut x request answer text asks past gives)) =
+      let w = asks_parts asks in
       let c = closed_there i j p items nodes before' given (record { request = request; answer = answer } ∷ []) es is to same in
       let r = c.front in
-      let there = entity_there src utf8 c.k c.bracket p r.rest r.more r.gs r.left (begins_parts begins).opens in
-      absurd (not_cut p there.0 there.1 there.3 (declaration_parts there.5) n m d e x parameter request begins external' cut)
-  in_doctype_apart W limit i j before nodes after asked given es source f is few same (in_subset p items before' _ _ _ to fits (in_answer x q request answer t _ (external_entity parameter n m d e begins external' may) text opens due' lack)) =
+      let there = entity_there src utf8 c.k c.bracket p r.rest r.more r.gs r.left (begins_parts w.begins).opens in
+      absurd (not_cut p there.0 there.1 there.3 (declaration_parts there.5) w.n w.m w.d w.e x w.parameter request w.begins w.external w.notation past)
+  in_doctype_apart W limit i j before nodes after asked given es source f is few same (in_subset p items before' _ _ _ to fits (in_answer x q request answer t _ asks text opens due' lack)) =
+      let w = asks_parts asks in
       let c = closed_there i j p items nodes before' given (record { request = request; answer = Some answer } ∷ []) es is to same in
       let r = c.front in
-      let there = entity_there src utf8 c.k c.bracket p r.rest r.more r.gs r.left (begins_parts begins).opens in
-      absurd (answer_apart p there.0 there.1 there.3 (declaration_parts there.5) n m d e q parameter request answer there.2 t f begins external' (subst (SameAnswers (record { request = request; answer = Some answer } ∷ [])) there.7 r.same) opens due' lack)
+      let there = entity_there src utf8 c.k c.bracket p r.rest r.more r.gs r.left (begins_parts w.begins).opens in
+      absurd (answer_apart p there.0 there.1 there.3 (declaration_parts there.5) w.n w.m w.d w.e q w.parameter request answer there.2 t f w.begins w.external (subst (SameAnswers (record { request = request; answer = Some answer } ∷ [])) there.7 r.same) opens due' lack)
   in_doctype_apart W limit i j before nodes after asked given es source f is few same (in_subset p items _ _ _ _ to fits (end_lacks _ bracket lack)) =
       let c = closed_there i j p items nodes asked given [] es is to (subst (λ (a : List Asked). SameAnswers a given) (sym (append-nil asked)) same) in
       let r = c.front in

@@ -17,7 +17,7 @@ use Rattle.rox_grammar.specs.Names.{byte, spaces_end}
 use Rattle.rox_grammar.specs.Content.{IsMisc, comment, instruction}
 use Rattle.rox_grammar.specs.TextStart.{after_bom}
 use Rattle.rox_grammar.specs.Entities.{Replacement, Entity}
-use Rattle.rox_grammar.specs.Doctype.{Request, Asked, IsDefinition, internal, external, external_entity, Subset, no_more, space, an_item, skipped_declaration, an_entity, BeginsDoctype, doctype_begins, IsDoctype, no_subset, with_subset, entry, SubsetTo, subset_to}
+use Rattle.rox_grammar.specs.Doctype.{Request, Asked, IsDefinition, internal, external, Subset, no_more, space, an_item, skipped_declaration, an_entity, BeginsDoctype, doctype_begins, IsDoctype, no_subset, with_subset, entry, SubsetTo, subset_to}
 use Rattle.rox_grammar.specs.State.{root, nodes_so_far, FitsLimits}
 use Rattle.rox_grammar.specs.Due.{DueItem, a_byte, IsMissing, none_left, DueInXmlDecl}
 use Rattle.rox_faults.proofs.DueForms.{subset_or_end, no_end, no_subset_or_end}
@@ -42,7 +42,7 @@ use Rattle.rox_theory.proofs.LiteralLemmas.{from_here}
 use Rattle.rox_theory.proofs.Places.{over_spaces}
 use Rattle.rox_theory.proofs.Leaves.{item_read, fine_there}
 use Rattle.rox_theory.proofs.Around.{ends_cut, misc_ends, misc_moves, misc_plain, comment_is, instruction_is}
-use Rattle.rox_theory.proofs.DoctypeParts.{declaration_parts, notation_past, IsPassedOver, passed_first}
+use Rattle.rox_theory.proofs.DoctypeParts.{declaration_parts, notation_past, asks_at, IsPassedOver, passed_first}
 use Rattle.rox_theory.proofs.DoctypeLemmas.{head_sound, definition_sound, doctype_head_sound, space_sound, name_or_end, if_sound}
 use Rattle.rox_theory.proofs.EntityLemmas.{either, answer_sound, EntityRead, EntityOutcome, entity_outcome, entity_moves}
 use Rattle.rox_theory.proofs.Subsets.{passed_moves}
@@ -170,7 +170,7 @@ module _ (src : List ℕ) (utf8 : IsUtf8 src) (limit most : ℕ) (less : limit �
           | inr cuts ↦ (
               let past : length src ≤ spaces_end src j = omega (arith, notation_past cuts, run_end_le is_space src j) in
               subst (In (asked0 ++ once request answer) src) (byte_past 62 src (spaces_end src j) f past ill)
-              (in_subset d.state.at items asked0 _ _ _ to fits (entity_cut begun.0 begun.1 head.1 s.0 j head.0.parameter request answer text begun.2 s.1 cuts gives)))
+              (in_subset d.state.at items asked0 _ _ _ to fits (entity_cut j request answer text (asks_at head.0.parameter begun.0 begun.1 head.1 s.0 begun.2 s.1 (inr cuts)) (notation_past cuts) gives)))
         ]
 
     -- the declaration of an answer
@@ -185,7 +185,7 @@ module _ (src : List ℕ) (utf8 : IsUtf8 src) (limit most : ℕ) (less : limit �
         let f = w.1 in
         subst (λ (a : Option (List ℕ)). Stands (asked0 ++ once request a) e) (sym w.2)
         (subst (Stands (asked0 ++ once request (Some t))) w.4
-        (in_subset d.state.at items asked0 _ _ _ to fits (in_answer j w.6.0 request t w.6.1 f (external_entity head.0.parameter begun.0 begun.1 head.1 s.0 begun.2 s.1 s.2) w.3 w.5 w.6.2 w.6.3)))
+        (in_subset d.state.at items asked0 _ _ _ to fits (in_answer j w.6.0 request t w.6.1 f (asks_at head.0.parameter begun.0 begun.1 head.1 s.0 begun.2 s.1 s.2) w.3 w.5 w.6.2 w.6.3)))
 
     pub entity_fails : EntityFails asked0 (entity_step src d)
     unfolding entity_step

@@ -57,10 +57,6 @@ module _ (src : List ℕ) where
     no_notation : (i : ℕ) → text_at "NDATA" src (spaces_end src i) ≡ false → MayHaveNotation false i (spaces_end src i)
     of_parameter : (i : ℕ) → MayHaveNotation true i i
 
-  -- The text is cut off where the name of a notation should stand: what is asked stands before it.
-  pub data CutsNotation : (parameter : Bool) → ℕ → ℕ → Type 0 where
-    name_cut_off : (i j : ℕ) → text_at "NDATA" src (spaces_end src i) ≡ true → IsSpace (spaces_end src i + 5) j → length src ≤ j → CutsNotation false i j
-
   -- XML 4.2 [73] EntityDef, [74] PEDef: from i up to j, with what is asked there and the text that is declared, if any
   pub data IsDefinition (parameter : Bool) : ℕ → ℕ → List Asked → Option Replacement → Type 0 where
     internal : (i e j : ℕ) → IsQuoted src i e j → IsDefinition parameter i j [] (Some (record { source = take e src; start = i + 1 }))
@@ -79,14 +75,16 @@ module _ (src : List ℕ) where
 
   -- the declaration of an external entity that begins at i asks this, read up to p
   pub data AsksAt (i : ℕ) (request : Request) (p : ℕ) : Type 0 where
-    external_entity : (parameter : Bool) (n m d e : ℕ) → BeginsEntity i parameter n m d → IsExternalID d request e → MayHaveNotation parameter e p ⊎ CutsNotation parameter e p
-        → AsksAt i request p
+    external_entity : (parameter : Bool) (n m d e : ℕ) → BeginsEntity i parameter n m d → IsExternalID d request e → MayHaveNotation parameter e p → AsksAt i request p
+    -- The text is cut off where the name of a notation should stand: what is asked stands before it.
+    name_cut_off : (n m d e : ℕ) → BeginsEntity i false n m d → IsExternalID d request e → text_at "NDATA" src (spaces_end src e) ≡ true → IsSpace (spaces_end src e + 5) p
+        → length src ≤ p → AsksAt i request p
 
   -- XML 4.2 [70] EntityDecl. A literal may hold any `&` and `%`, which 2.3 [9] forbids, and a reference to the entity itself, which
   -- 4.1 (No Recursion) forbids: what it holds counts where the entity is referred to.
   pub data IsEntityDeclaration (i : ℕ) : ℕ → List Asked → List Entity → Type 0 where
-    entity_declaration : (parameter : Bool) (n m d e : ℕ) (asked : List Asked) (text : Option Replacement) → BeginsEntity i parameter n m d → IsDefinition parameter d e asked text
-        → byte src (spaces_end src e) ≡ code ">" → IsEntityDeclaration i (spaces_end src e + 1) asked (entry (slice src n m) text)
+    entity_declaration : (parameter : Bool) (n m d e : ℕ) (asked : List Asked) (text : Option Replacement) → BeginsEntity i parameter n m d
+        → IsDefinition parameter d e asked text → byte src (spaces_end src e) ≡ code ">" → IsEntityDeclaration i (spaces_end src e + 1) asked (entry (slice src n m) text)
 
   -- XML 3.2 [45], 3.3 [52], 4.7 [82]: a declaration that is passed over stands here
   abbrev pub IsPassed : ℕ → Type 0
@@ -112,7 +110,8 @@ module _ (src : List ℕ) where
 
   -- XML 2.8 [28] doctypedecl up to its `>` or `[`, which stands at s. The name may have any colons, where NS 4 [16] wants a QName.
   pub data BeginsDoctype (i : ℕ) : ℕ → Type 0 where
-    doctype_begins : (n m x : ℕ) → text_at "<!DOCTYPE" src i ≡ true → IsSpace (i + 9) n → IsName src n m → MayHaveExternalID (spaces_end src m) x → BeginsDoctype i (spaces_end src x)
+    doctype_begins : (n m x : ℕ) → text_at "<!DOCTYPE" src i ≡ true → IsSpace (i + 9) n → IsName src n m → MayHaveExternalID (spaces_end src m) x
+        → BeginsDoctype i (spaces_end src x)
 
   -- the document type declaration that begins at i is read up to p, within its subset: its nodes, and what is asked
   pub data SubsetTo (i p : ℕ) (items : Forest Item) (asked : List Asked) : Type 0 where

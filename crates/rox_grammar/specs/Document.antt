@@ -31,8 +31,8 @@ pub data Prolog (src : List ℕ) (p : ℕ) : Bool → Forest Item → List Asked
 
 -- XML 2.1 [1] up to p, behind the root element: all nodes, where what `Front` says stands before the element
 pub data Behind (Includes : Inclusion) (src : List ℕ) (Front : ℕ → Forest Item → Type 0) (p : ℕ) : Forest Item → Type 0 where
-  element_and_misc : (i j openings_left : ℕ) (before one after : Forest Item) → Front i before → IsElement true Includes src i j most_within openings_left one → Misc src j p after
-      → AreWellNamed [] (join (join before one) after) → Behind Includes src Front p (join (join before one) after)
+  element_and_misc : (i j openings_left : ℕ) (before one after : Forest Item) → Front i before → IsElement true Includes src i j most_within openings_left one
+      → Misc src j p after → AreWellNamed [] (join (join before one) after) → Behind Includes src Front p (join (join before one) after)
 
 -- XML 2.1 [1], 2.8 [22] document: whether it has a document type declaration, what is asked for its entities, and its top nodes.
 pub record ParseOf (src : List ℕ) (dtd : Bool) (asked : List Asked) (tree : Forest Item) : Type 0 where
@@ -88,7 +88,7 @@ Permits allow dtd = dtd ≡ true → allow ≡ true
 -- After these were asked, in order, this is asked next: the declaration of an external entity is read up to p, where the
 -- request is made, and everything before it is as the grammar wants.
 pub data AsksNext (src : List ℕ) (asked : List Asked) (request : Request) (p : ℕ) : Type 0 where
-  at_entity : (begun i : ℕ) (before nodes : Forest Item) → PrologTo src begun before → SubsetTo src begun i nodes asked → AsksAt src i request p → AsksNext src asked request p
+  at_entity : (i j : ℕ) (before items : Forest Item) → PrologTo src i before → SubsetTo src i j items asked → AsksAt src j request p → AsksNext src asked request p
 
 -- What was asked, in order, while the text was read: for each its declaration stands next, after those before it. Nothing is asked
 -- where no document type declaration may stand.

@@ -50,7 +50,7 @@ doctype_placed limit text i before asked source f (refused.InDoctype.in_subset p
 doctype_placed limit text i before asked source f (refused.InDoctype.in_subset p items _ _ _ _ to fits (refused.InSubset.not_passed is none)) = inl refl
 doctype_placed limit text i before asked source f (refused.InDoctype.in_subset p items _ _ _ _ to fits (refused.InSubset.in_entity q t _ is due lacks)) = inl refl
 doctype_placed limit text i before asked source f (refused.InDoctype.in_subset p items before' _ _ _ to fits (refused.InSubset.entity_open n m d e parameter first o _ begins definition lacks)) = inl refl
-doctype_placed limit text i before asked source f (refused.InDoctype.in_subset p items before' _ _ _ to fits (refused.InSubset.entity_cut n m d e j parameter request answer o begins id cuts gives)) = inl refl
+doctype_placed limit text i before asked source f (refused.InDoctype.in_subset p items before' _ _ _ to fits (refused.InSubset.entity_cut j request answer o asks past gives)) = inl refl
 doctype_placed limit text i before asked source f (refused.InDoctype.in_subset p items first _ _ _ to fits (refused.InSubset.in_answer j q request answer t _ asks utf8 opens due lacks)) =
     inr (declaration_placed source utf8 (after_bom source) q t f opens due lacks)
 doctype_placed limit text i before asked source f (refused.InDoctype.in_subset p items _ _ _ _ to fits (refused.InSubset.end_lacks _ is lacks)) = inl refl

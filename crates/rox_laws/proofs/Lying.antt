@@ -123,7 +123,7 @@ in_doctype limit text i before asked source f (refused.InDoctype.in_subset p ite
 in_doctype limit text i before asked source f (refused.InDoctype.in_subset p items _ _ _ _ to fits (refused.InSubset.not_passed is none)) = inl refl
 in_doctype limit text i before asked source f (refused.InDoctype.in_subset p items _ _ _ _ to fits (refused.InSubset.in_entity q t _ is due lacks)) = inl refl
 in_doctype limit text i before asked source f (refused.InDoctype.in_subset p items before' _ _ _ to fits (refused.InSubset.entity_open n m d e parameter first o _ begins definition lacks)) = inl refl
-in_doctype limit text i before asked source f (refused.InDoctype.in_subset p items before' _ _ _ to fits (refused.InSubset.entity_cut n m d e j parameter request answer o begins id cuts gives)) = inl refl
+in_doctype limit text i before asked source f (refused.InDoctype.in_subset p items before' _ _ _ to fits (refused.InSubset.entity_cut j request answer o asks past gives)) = inl refl
 in_doctype limit text i before asked source f (refused.InDoctype.in_subset p items first _ _ _ to fits (refused.InSubset.in_answer j q request answer t _ asks utf8 opens due lacks)) =
     inr (record { request = request; answer = source; given = Contains-append_right first _ _ (0, omega arith, refl); part = inl refl })
 in_doctype limit text i before asked source f (refused.InDoctype.in_subset p items _ _ _ _ to fits (refused.InSubset.end_lacks _ is lacks)) = inl refl

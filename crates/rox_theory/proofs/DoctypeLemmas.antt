@@ -10,7 +10,7 @@ use Rattle.rox_grammar.specs.Chars.{is_space, is_name_start, is_name_char}
 use Rattle.rox_grammar.specs.Search.{byte_from}
 use Rattle.rox_grammar.specs.Names.{byte, slice, spaces_end, IsName}
 use Rattle.rox_grammar.specs.Entities.{Replacement}
-use Rattle.rox_grammar.specs.Doctype.{Request, IsQuoted, IsSpace, IsExternalID, system, public, MayHaveNotation, notation, no_notation, of_parameter, CutsNotation, name_cut_off, IsKind, BeginsEntity, entity_begins, MayHaveExternalID, external_id, no_external_id, BeginsDoctype, doctype_begins}
+use Rattle.rox_grammar.specs.Doctype.{Request, IsQuoted, IsSpace, IsExternalID, system, public, MayHaveNotation, notation, no_notation, of_parameter, IsKind, BeginsEntity, entity_begins, MayHaveExternalID, external_id, no_external_id, BeginsDoctype, doctype_begins}
 use Rattle.rox_grammar.specs.Doctype as grammar
 use Rattle.rox_reading.specs.Lexical.{byte_at, space_at, quote_at, name_at}
 use Rattle.rox_reading.specs.Doctype.{quoted_at, system_at, public_at, external_id_at, name_or_end_at, notation_at, Definition, inner, outer, definition_at, EntityHead, kind_at, entity_head_at, external_id_if, doctype_head_at}
@@ -22,7 +22,7 @@ use Rattle.rox_theory.proofs.DeclarationLemmas.{stands_reads, stands_fits}
 use Rattle.rox_theory.proofs.CharTexts.{cut_behind, run_cut}
 use Rattle.rox_theory.proofs.Places.{begins_within}
 use Rattle.rox_theory.proofs.StretchLemmas.{slice_length}
-use Rattle.rox_theory.proofs.DoctypeParts.{BeginsParts, begins_parts}
+use Rattle.rox_theory.proofs.DoctypeParts.{BeginsParts, begins_parts, CutsNotation, cuts_name}
 
 -- ---- white space
 
@@ -198,7 +198,7 @@ notation_sound false src i x h =
     let e : n.1 ≡ x.1 = ap (λ p. p.1) (ok_same _ _ h) in
     elim (name_or_end src s.1 n named) as (λ _. MayHaveNotation src false i x.1 ⊎ CutsNotation src false i x.1) [
       | inl name ↦ inl (subst (MayHaveNotation src false i) e (notation i s.1 n.1 is sp name.0))
-      | inr cut ↦ inr (let e' : s.1 ≡ x.1 = sym cut.1 ∙ e in name_cut_off i x.1 is (subst (IsSpace src (spaces_end src i + 5)) e' sp) (subst (λ (k : ℕ). length src ≤ k) e' cut.0))
+      | inr cut ↦ inr (let e' : s.1 ≡ x.1 = sym cut.1 ∙ e in cuts_name i x.1 is (subst (IsSpace src (spaces_end src i + 5)) e' sp) (subst (λ (k : ℕ). length src ≤ k) e' cut.0))
     ])))
     (λ none h. let e : spaces_end src i ≡ x.1 = ap (λ p. p.1) (ok_same _ _ h) in inl (subst (MayHaveNotation src false i) e (no_notation i none)))
 

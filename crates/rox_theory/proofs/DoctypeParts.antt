@@ -1,5 +1,5 @@
 -- The parts of a document type declaration, by name.
-use Rattle.std.proofs.Common.{◌≡◌, ℕ, ◌+◌, ◌<◌, ◌≤◌, ◌==◌, Bool, true, List, length, Option, refl, sym, subst}
+use Rattle.std.proofs.Common.{◌≡◌, ℕ, ◌+◌, ◌<◌, ◌≤◌, ◌⊎◌, ◌==◌, Bool, true, false, List, length, Option, refl, subst, inl, inr}
 use Rattle.rox_grammar.specs.declared.fault.Word.TheVariants as word
 use Rattle.rox_grammar.specs.FixedTexts.{at}
 use Rattle.rox_grammar.specs.Search.{byte_from}
@@ -7,7 +7,7 @@ use Rattle.rox_grammar.specs.Forest.{Forest}
 use Rattle.rox_grammar.specs.Written.{Item}
 use Rattle.rox_grammar.specs.Names.{byte, slice, spaces_end, IsName}
 use Rattle.rox_grammar.specs.Entities.{Replacement, Entity}
-use Rattle.rox_grammar.specs.Doctype.{Asked, IsSpace, IsDefinition, IsKind, CutsNotation, name_cut_off, BeginsEntity, entity_begins, entry, IsEntityDeclaration, entity_declaration, IsPassed, Subset, skipped_declaration, MayHaveExternalID, BeginsDoctype, doctype_begins}
+use Rattle.rox_grammar.specs.Doctype.{Request, Asked, IsSpace, IsExternalID, MayHaveNotation, IsDefinition, IsKind, BeginsEntity, entity_begins, AsksAt, external_entity, name_cut_off, entry, IsEntityDeclaration, entity_declaration, IsPassed, Subset, skipped_declaration, MayHaveExternalID, BeginsDoctype, doctype_begins}
 
 -- how a declaration of an entity begins
 pub record BeginsParts (src : List ℕ) (i : ℕ) (parameter : Bool) (n m d : ℕ) : Type 0 where
@@ -54,8 +54,31 @@ declaration_parts (entity_declaration parameter n m d e asked text begins defini
     }
 
 -- the text ends where the name of a notation should stand
+pub data CutsNotation (src : List ℕ) : (parameter : Bool) → ℕ → ℕ → Type 0 where
+  cuts_name : (i j : ℕ) → at word.NData src (spaces_end src i) ≡ true → IsSpace src (spaces_end src i + 5) j → length src ≤ j → CutsNotation src false i j
+
 pub notation_past : {src : List ℕ} {parameter : Bool} {i j : ℕ} → CutsNotation src parameter i j → length src ≤ j
-notation_past (name_cut_off _ _ opens space past) = past
+notation_past (cuts_name _ _ opens space past) = past
+
+-- what a declaration asks
+pub record AsksParts (src : List ℕ) (i : ℕ) (request : Request) (p : ℕ) : Type 0 where
+  pub parameter : Bool
+  pub n : ℕ
+  pub m : ℕ
+  pub d : ℕ
+  pub e : ℕ
+  pub begins : BeginsEntity src i parameter n m d
+  pub external : IsExternalID src d request e
+  pub notation : MayHaveNotation src parameter e p ⊎ CutsNotation src parameter e p
+
+pub asks_parts : {src : List ℕ} {i : ℕ} {request : Request} {p : ℕ} → AsksAt src i request p → AsksParts src i request p
+asks_parts (external_entity parameter n m d e begins id may) = record { parameter = parameter; n = n; m = m; d = d; e = e; begins = begins; external = id; notation = inl may }
+asks_parts {p = p} (name_cut_off n m d e begins id opens space past) = record { parameter = false; n = n; m = m; d = d; e = e; begins = begins; external = id; notation = inr (cuts_name e p opens space past) }
+
+pub asks_at : {src : List ℕ} {i : ℕ} {request : Request} {p : ℕ} (parameter : Bool) (n m d e : ℕ) → BeginsEntity src i parameter n m d → IsExternalID src d request e
+    → MayHaveNotation src parameter e p ⊎ CutsNotation src parameter e p → AsksAt src i request p
+asks_at parameter n m d e begins id (inl may) = external_entity parameter n m d e begins id may
+asks_at parameter n m d e begins id (inr (cuts_name _ _ opens space past)) = name_cut_off n m d e begins id opens space past
 
 -- a declaration that is passed over stands from i up to j
 pub record IsPassedOver (src : List ℕ) (i j : ℕ) : Type 0 where

@@ -10,7 +10,7 @@ use Rattle.rox_grammar.specs.Names.{byte, slice, spaces_end}
 use Rattle.rox_grammar.specs.FixedTexts.{at}
 use Rattle.rox_grammar.specs.TextStart.{after_bom, MayHaveXmlDecl, declared, not_declared}
 use Rattle.rox_grammar.specs.Entities.{Replacement, Entity}
-use Rattle.rox_grammar.specs.Doctype.{Request, Asked, IsExternalID, MayHaveNotation, notation, no_notation, of_parameter, CutsNotation, GivesReplacement, nothing, the_rest, IsDefinition, internal, external, BeginsEntity, AsksAt, external_entity, entry, IsEntityDeclaration, entity_declaration}
+use Rattle.rox_grammar.specs.Doctype.{Request, Asked, IsExternalID, MayHaveNotation, notation, no_notation, of_parameter, GivesReplacement, nothing, the_rest, IsDefinition, internal, external, BeginsEntity, AsksAt, external_entity, entry, IsEntityDeclaration, entity_declaration}
 use Rattle.rox_reading.specs.Lexical.{byte_at}
 use Rattle.rox_reading.specs.Markup.{xml_decl_at}
 use Rattle.rox_reading.specs.Refusals.{Refusal, here, there, refused, IsTextRefusal}
@@ -21,7 +21,7 @@ use Rattle.rox_reading.proofs.Settling.{once, declared_there, entity_run, inner_
 use Rattle.rox_theory.proofs.Basics.{ok_same, chosen, within, byte_sound, byte_complete, run_end_le}
 use Rattle.rox_theory.proofs.DeclarationLemmas.{declaration_sound, declaration_complete}
 use Rattle.rox_theory.proofs.CharTexts.{cut_behind}
-use Rattle.rox_theory.proofs.DoctypeParts.{declaration_parts, notation_past}
+use Rattle.rox_theory.proofs.DoctypeParts.{declaration_parts, CutsNotation, notation_past, asks_at}
 use Rattle.rox_theory.proofs.DoctypeLemmas.{quoted_le, external_cut, head_sound, head_complete, head_moves, definition_sound, inner_complete, outer_complete}
 
 -- what a result is
@@ -129,7 +129,7 @@ module _ (src : List ℕ) (utf8 : IsUtf8 src) where
         asks_here : AsksAt src d.state.at request j
         asks_here =
             let s = definition_sound head.0.parameter src head.1 (outer request, j) is in
-            external_entity head.0.parameter begun.0 begun.1 head.1 s.0 begun.2 s.1 s.2
+            asks_at head.0.parameter begun.0 begun.1 head.1 s.0 begun.2 s.1 s.2
 
         asked_once : (answer : Option (List ℕ)) → OnceAsked src d.state.at (once request answer)
         asked_once answer = inr (request, answer, j, refl, asks_here)
@@ -186,7 +186,7 @@ module _ (src : List ℕ) (utf8 : IsUtf8 src) where
     where
       by_definition : (text : Option Replacement) (asked : List Asked) → IsDefinition src parameter d e asked text → OnceAsked src i asked
       by_definition text asked (internal _ c _ q) = inl refl
-      by_definition text asked (external _ x _ request answer _ is may gives) = inr (request, answer, e, refl, external_entity parameter n m d x begins is (inl may))
+      by_definition text asked (external _ x _ request answer _ is may gives) = inr (request, answer, e, refl, external_entity parameter n m d x begins is may)
 
   -- what it is goes forward
   notation_moves : (parameter : Bool) (i j : ℕ) → MayHaveNotation src parameter i j → i ≤ j
