@@ -1,2 +1,3 @@
 pub mod CountForms
 pub mod NamesApart
+pub mod FirstEntity

@@ -17,6 +17,7 @@ use Rattle.rox_grammar.specs.Doctype.{Asked, IsQuoted, GivesReplacement, nothing
 use Rattle.rox_grammar.specs.Document.{Permits}
 use Rattle.rox_theory.specs.ParseParts.{MayHaveDoctype, doctype, no_doctype}
 use Rattle.rox_grammar.specs.State.{Open, root}
+use Rattle.rox_grammar.proofs.FirstEntity.{text_of_first}
 use Rattle.rox_reading.specs.Refusals.{Refusal, here, there, refused, lifted}
 use Rattle.rox_reading.specs.State.{State}
 use Rattle.rox_reading.specs.Machine.{at_place}
@@ -59,7 +60,7 @@ each_both (e ∷ es) more h k = (h.0, each_both es more h.1 k)
 each_named : (es : List Entity) → EachIsText es → AreTexts es
 each_named [] each name t h = cc h
 each_named (e ∷ es) each name t h =
-    chosen (bytes_eq e.name name) _ _ _ h
+    chosen (bytes_eq e.name name) _ _ _ (sym (text_of_first e es name) ∙ h)
     (λ this h. let is : e.text ≡ t = cc in subst IsText is each.0)
     (λ other h. each_named es each.1 name t h)
 
