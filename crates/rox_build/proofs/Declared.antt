@@ -9,6 +9,7 @@ use Rattle.std.specs.Ordering.{is_eq, nat_cmp, ordering_then}
 use Rattle.std.proofs.lemmas.Bool.{eqb-true}
 use Rattle.std.proofs.lemmas.Cmp.{nat_list_eq_equiv}
 use Rattle.rox_grammar.specs.Entities.{Replacement, Entity, text_of}
+use Rattle.rox_grammar.proofs.FirstEntity.{text_of_first}
 use Rattle.rox_scan.specs.DoctypeViews.{replacement_view}
 use Rattle.rox_scan.specs.declared.cursor.Cursor.{Cursor}
 use Rattle.rox_values.specs.DeclaredEntities.{AreDeclared}
@@ -35,6 +36,7 @@ looked_up (e ∷ es) name =
     by_code true k =
         let same : e.0.0 ≡ code_of e.0.1.now = eqb-true _ _ (sym k) in
         ap (λ (b : Bool). cond b (Some (replacement_view e.1)) (text_of (declarations es) name)) (subst (λ (n : ℕ). is_eq (ordering_then (nat_cmp (code_of name) n) (slice_cmp nat_cmp name e.0.1.now)) ≡ bytes_eq name e.0.1.now) (sym same) (named_alike name e.0.1.now) ∙ nat_list_eq_equiv.symm name e.0.1.now)
+        ∙ sym (text_of_first (record { name = e.0.1.now; text = replacement_view e.1 }) (declarations es) name)
     by_code false k = ap (λ (b : Bool). cond b (Some (replacement_view e.1)) (text_of (declarations es) name)) (named_otherwise name e.0.1.now e.0.0 (sym k))
 
 pub some_declare : (e : Entities) → (es : List Entity) × AreDeclared es e

@@ -110,7 +110,7 @@ parse_alone src s e openings_left one utf8 is named =
     record {
       start = 0;
       before = Nil;
-      prolog = record { declared_to = 0; declaration = subst (λ (k : ℕ). MayHaveXmlDecl text k 0) (sym (unmarked text first.0)) (not_declared 0 (undeclared text 0 (e - s) 255 openings_left (moved_items mv one) own)); misc = no_misc 0 };
+      prolog = (0, subst (λ (k : ℕ). MayHaveXmlDecl text k 0) (sym (unmarked text first.0)) (not_declared 0 (undeclared text 0 (e - s) 255 openings_left (moved_items mv one) own)), no_misc 0);
       end = e - s;
       openings_left = openings_left;
       one = moved_items mv one;

@@ -91,7 +91,7 @@ module _ (src : List ℕ) (s e : ℕ) (t : Tag) (kids : Forest Item) where
   pub in_root : (tops : Forest Item) (p : ParseWithout src tops) → StandsInEach s e t kids tops → StandsInEach s e t kids p.one
   in_root tops p is =
       elim (stands_join s e t kids p.before (join p.one p.after) (subst (StandsInEach s e t kids) p.is_tree is)) as (λ q. StandsInEach s e t kids p.one) [
-        | inl early ↦ absurd (none_around p.prolog.declared_to p.start p.before p.prolog.misc early)
+        | inl early ↦ absurd (none_around p.prolog.0 p.start p.before p.prolog.2 early)
         | inr later ↦ elim (stands_join s e t kids p.one p.after later) as (λ q. StandsInEach s e t kids p.one) [
           | inl within ↦ within
           | inr late ↦ absurd (none_around p.end (length src) p.after p.misc_after late)
@@ -108,8 +108,8 @@ up_to_around src s i j items (an_item _ k _ _ more (instruction _ n x _ is) rest
 pub tops_ordered : (src : List ℕ) (tops : Forest Item) → ParseWithout src tops → Ordered 0 (length src) tops
 tops_ordered src tops p =
     let one = ordered_join p.start p.end (length src) p.one p.after (element_ordered src p.start p.end 255 p.openings_left p.one p.element) (around_ordered src p.end (length src) p.after p.misc_after) in
-    let all = ordered_join p.prolog.declared_to p.start (length src) p.before (join p.one p.after) (around_ordered src p.prolog.declared_to p.start p.before p.prolog.misc) one in
-    subst (Ordered 0 (length src)) (sym p.is_tree) (wider p.prolog.declared_to (length src) 0 (length src) (join p.before (join p.one p.after)) (omega arith) (omega arith) all)
+    let all = ordered_join p.prolog.0 p.start (length src) p.before (join p.one p.after) (around_ordered src p.prolog.0 p.start p.before p.prolog.2) one in
+    subst (Ordered 0 (length src)) (sym p.is_tree) (wider p.prolog.0 (length src) 0 (length src) (join p.before (join p.one p.after)) (omega arith) (omega arith) all)
 
 -- a row that one element begins, with another within it
 exchanged_front : (mv : Move) (new : Forest Item) (s i j : ℕ) (t : Tag) (kids after : Forest Item) → i ≤ s → s < j
@@ -144,7 +144,7 @@ module _ (src other : List ℕ) (s e a z : ℕ) (t : Tag) (kids one : Forest Ite
       let o = one_element src p.start p.end 255 p.openings_left p.one p.element in
       let front = subst (λ (f : Forest Item). exchanged_items mv put_in s (join f p.after) ≡ join (exchanged_items mv put_in s f) (moved_items mv p.after)) (sym o.2)
       (exchanged_front mv put_in s p.start p.end o.0 o.1 p.after b0 (omega arith)) in
-      ap (exchanged_items mv put_in s) p.is_tree ∙ past_front mv put_in s p.before (join p.one p.after) (up_to_around src s p.prolog.declared_to p.start p.before p.prolog.misc) ∙ ap (join p.before) front
+      ap (exchanged_items mv put_in s) p.is_tree ∙ past_front mv put_in s p.before (join p.one p.after) (up_to_around src s p.prolog.0 p.start p.before p.prolog.2) ∙ ap (join p.before) front
 
   -- how long it is
   pub long_exchanged : moved (record { add = z - a; sub = e - s }) (length src) ≡ length (replaced src s e (slice other a z))
@@ -179,13 +179,13 @@ module _ (src other : List ℕ) (s e a z : ℕ) (t : Tag) (kids one : Forest Ite
       let first = element_begins src s e 255 255 hole is_hole in
       let second = element_begins text s (moved mv e) 255 255 put_in there in
       let none_there = undeclared text s (moved mv e) 255 255 put_in there in
-      let le_root = around_le src p.prolog.declared_to p.start p.before p.prolog.misc in
+      let le_root = around_le src p.prolog.0 p.start p.before p.prolog.2 in
       let le_after = around_le src p.end (length src) p.after p.misc_after in
       let mark = bom_cut src text s front first.0 second.0 none_there in
       record {
         start = p.start;
         before = p.before;
-        prolog = record { declared_to = p.prolog.declared_to; declaration = subst (λ (k : ℕ). MayHaveXmlDecl text k p.prolog.declared_to) mark (may_declare_cut src text s front first.0 second.0 none_there (after_bom src) p.prolog.declared_to (omega arith) p.prolog.declaration); misc = around_cut src text (s + 1) front p.prolog.declared_to p.start p.before (omega arith) p.prolog.misc };
+        prolog = (p.prolog.0, subst (λ (k : ℕ). MayHaveXmlDecl text k p.prolog.0) mark (may_declare_cut src text s front first.0 second.0 none_there (after_bom src) p.prolog.0 (omega arith) p.prolog.1), around_cut src text (s + 1) front p.prolog.0 p.start p.before (omega arith) p.prolog.2);
         end = moved mv p.end;
         openings_left = 255;
         one = exchanged_items mv put_in s p.one;

@@ -1,6 +1,6 @@
 -- Where a document type declaration stands, no fault of it does that is met after the same answers.
 use Rattle.std.proofs.Common.{◌≡◌, ℕ, ◌+◌, ◌<◌, ◌≤◌, ◌⊎◌, ◌==◌, Bool, true, false, List, [], ◌∷◌, ◌++◌, Some, length, refl, sym, ap, ◌∙◌, subst, arith, inl, inr}
-use Rattle.std.specs.Prelude.{Option}
+use Rattle.std.specs.Prelude.{Option, None}
 use Rattle.std.specs.Str.{IsUtf8, IsCharBoundary}
 use Rattle.std.proofs.lemmas.Bool.{true≢false, false_from_ne_true}
 use Rattle.std.proofs.lemmas.List.{append-nil}
@@ -15,7 +15,7 @@ use Rattle.rox_grammar.specs.Written.{Item, merge, leaf}
 use Rattle.rox_grammar.specs.Names.{byte, spaces_end, IsName}
 use Rattle.rox_grammar.specs.TextStart.{after_bom, MayHaveXmlDecl, declared, not_declared}
 use Rattle.rox_grammar.specs.Entities.{Replacement, Entity}
-use Rattle.rox_grammar.specs.Doctype.{Request, Asked, IsQuoted, IsSpace, IsExternalID, system, public, MayHaveNotation, notation, no_notation, CutsNotation, GivesReplacement, nothing, the_rest, IsDefinition, internal, external, BeginsEntity, IsEntityDeclaration, Subset, MayHaveExternalID, external_id, no_external_id, BeginsDoctype, IsDoctype, no_subset, with_subset, SubsetTo}
+use Rattle.rox_grammar.specs.Doctype.{Request, Asked, IsQuoted, IsSpace, IsExternalID, system, public, MayHaveNotation, notation, no_notation, GivesReplacement, nothing, the_rest, IsDefinition, internal, external, BeginsEntity, Subset, MayHaveExternalID, external_id, no_external_id, BeginsDoctype, IsDoctype, no_subset, with_subset, SubsetTo, subset_to}
 use Rattle.rox_grammar.specs.Doctype as dtd
 use Rattle.rox_grammar.specs.Due.{DueItem, a_byte, a_name, IsMissing, none_left, DueInXmlDecl, DueInLiteral, its_quote, its_end, DueInExternalID, space_before, its_literal, space_between, second_literal, DueInEntity, DueInDoctype, none_of}
 use Rattle.rox_faults.proofs.DueForms.{a_space, a_quote, a_definition, subset_or_end, doctype_end, quote_is, quote_defines, letter_defines, subset_or_end_is, end_is}
@@ -24,11 +24,12 @@ use Rattle.rox_grammar.specs.Faults.{in_one, one_too_many}
 use Rattle.rox_grammar.specs.FaultsWithDoctype.{InDoctype, head_lacks, no_name, not_passed, in_entity, entity_open, entity_cut, in_answer, end_lacks, unknown, no_root, in_subset, in_miscs}
 use Rattle.rox_reading.proofs.Forests.{join_assoc, merge-more}
 use Rattle.rox_theory.specs.Answers.{SameAnswers}
-use Rattle.rox_theory.proofs.Basics.{within}
+use Rattle.rox_theory.proofs.Basics.{within, run_end_le}
 use Rattle.rox_theory.proofs.CharTexts.{cut_behind}
 use Rattle.rox_theory.proofs.Places.{begins_within, space_within}
 use Rattle.rox_theory.proofs.DeclarationLemmas.{stands_reads}
 use Rattle.rox_theory.proofs.LiteralLemmas.{quote_ascii}
+use Rattle.rox_theory.proofs.DoctypeParts.{begins_parts, DeclarationParts, declaration_parts, CutsNotation, cuts_name, asks_parts, doctype_parts}
 use Rattle.rox_theory.proofs.DoctypeLemmas.{quoted_closes, quoted_cut, word_cut, six_cut, external_cut, external_byte, HeadCuts, head_cuts}
 use Rattle.rox_faults.proofs.FaultApart.{name_stands, byte_stands, space_stands, misc_begins, misc_apart}
 use Rattle.rox_faults.proofs.FaultPairs.{declaration_apart}
@@ -58,7 +59,7 @@ module _ (src : List ℕ) (utf8 : IsUtf8 src) where
 
   -- white space that is due and stands there
   spaced : (p j : ℕ) (f : Fault) → IsCharBoundary src p → IsSpace src p j → IsMissing src p a_space f → ⊥
-  spaced p j f cut is lack = space_stands src utf8 p f cut (let some = is.some in let all = is.all in omega arith) lack
+  spaced p j f cut is lack = space_stands src utf8 p f cut (let some = is.0 in let all = is.1 in omega arith) lack
 
   literal_apart : (i e j p : ℕ) (t : DueItem) (f : Fault) → IsQuoted src i e j → DueInLiteral src i p t → IsMissing src p t f → ⊥
   literal_apart i e j p t f is its_quote lack = quote_stands src i f is.0 lack
@@ -146,9 +147,9 @@ module _ (src : List ℕ) (utf8 : IsUtf8 src) where
       found parameter m e general opens same (dtd.MayHaveNotation.of_parameter _) = cc general
 
   -- so in a declaration of an entity nothing that is due lacks
-  module _ (i j : ℕ) (asked : List Asked) (es : List Entity) (b : IsEntityDeclaration src i j asked es) where
-    cuts : HeadCuts src i b.parameter b.n b.m b.d b.begins
-    cuts = head_cuts src i b.parameter b.n b.m b.d utf8 b.begins
+  module _ (i j : ℕ) (asked : List Asked) (es : List Entity) (b : DeclarationParts src i j asked es) where
+    cuts : HeadCuts src i b.parameter b.n b.m b.d b.head
+    cuts = head_cuts src i b.parameter b.n b.m b.d utf8 b.head
 
     -- its definition, where another says that it begins
     defines : (n m d : ℕ) (parameter : Bool) → BeginsEntity src i parameter n m d → IsDefinition src parameter d b.e asked b.text
@@ -162,21 +163,21 @@ module _ (src : List ℕ) (utf8 : IsUtf8 src) where
     kind_spaced k n parameter f (dtd.IsKind.general _ apart) percent lack = apart percent
 
     pub entity_apart : (q : ℕ) (t : DueItem) (f : Fault) → DueInEntity src i q t → IsMissing src q t f → ⊥
-    entity_apart q t f due.DueInEntity.space_before lack = spaced (i + 8) b.begins.k f cuts.at_word b.begins.space_before lack
+    entity_apart q t f due.DueInEntity.space_before lack = spaced (i + 8) b.head.k f cuts.at_word b.head.space_before lack
     entity_apart q t f (due.DueInEntity.space_of_kind k sp percent) lack =
-        let same = space_once src (i + 8) k b.begins.k sp b.begins.space_before in
-        kind_spaced b.begins.k b.n b.parameter f b.begins.is_kind (subst (λ (k : ℕ). byte src k ≡ 37) same percent) (subst (λ (k : ℕ). IsMissing src (k + 1) a_space f) same lack)
-    entity_apart q t f (due.DueInEntity.its_name k _ parameter sp kind) lack = name_stands src b.n b.m f b.begins.name (subst (λ (q : ℕ). IsMissing src q a_name f) (name_there k q parameter sp kind) lack)
+        let same = space_once src (i + 8) k b.head.k sp b.head.space_before in
+        kind_spaced b.head.k b.n b.parameter f b.head.is_kind (subst (λ (k : ℕ). byte src k ≡ 37) same percent) (subst (λ (k : ℕ). IsMissing src (k + 1) a_space f) same lack)
+    entity_apart q t f (due.DueInEntity.its_name k _ parameter sp kind) lack = name_stands src b.n b.m f b.head.name (subst (λ (q : ℕ). IsMissing src q a_name f) (name_there k q parameter sp kind) lack)
       where
         name_there : (k n : ℕ) (parameter : Bool) → IsSpace src (i + 8) k → dtd.IsKind src k parameter n → n ≡ b.n
         name_there k n parameter sp kind =
-            let same = space_once src (i + 8) k b.begins.k sp b.begins.space_before in
-            (kind_once src utf8 b.begins.k n b.n parameter b.parameter (subst (λ (k : ℕ). dtd.IsKind src k parameter n) same kind) b.begins.is_kind).1
+            let same = space_once src (i + 8) k b.head.k sp b.head.space_before in
+            (kind_once src utf8 b.head.k n b.n parameter b.parameter (subst (λ (k : ℕ). dtd.IsKind src k parameter n) same kind) b.head.is_kind).1
     entity_apart q t f (due.DueInEntity.space_behind k n _ parameter sp kind name) lack =
-        let same = space_once src (i + 8) k b.begins.k sp b.begins.space_before in
-        let at_name = (kind_once src utf8 b.begins.k n b.n parameter b.parameter (subst (λ (k : ℕ). dtd.IsKind src k parameter n) same kind) b.begins.is_kind).1 in
-        let end : q ≡ b.m = name.longest ∙ ap (λ (n : ℕ). run_end is_name_char src n) at_name ∙ sym b.begins.name.longest in
-        spaced b.m b.d f cuts.behind_name b.begins.space_behind (subst (λ (q : ℕ). IsMissing src q a_space f) end lack)
+        let same = space_once src (i + 8) k b.head.k sp b.head.space_before in
+        let at_name = (kind_once src utf8 b.head.k n b.n parameter b.parameter (subst (λ (k : ℕ). dtd.IsKind src k parameter n) same kind) b.head.is_kind).1 in
+        let end : q ≡ b.m = name.longest ∙ ap (λ (n : ℕ). run_end is_name_char src n) at_name ∙ sym b.head.name.longest in
+        spaced b.m b.d f cuts.behind_name b.head.space_behind (subst (λ (q : ℕ). IsMissing src q a_space f) end lack)
     entity_apart q t f (due.DueInEntity.its_definition parameter n m _ begins) lack = definition_stands q b.e parameter asked b.text f (defines n m q parameter begins) lack
     entity_apart q t f (due.DueInEntity.its_literal parameter n m d _ _ begins quote due') lack = in_literal d b.e q parameter asked b.text t f (defines n m d parameter begins) quote due' lack
     entity_apart q t f (due.DueInEntity.its_external_id parameter n m d _ _ begins due') lack = in_external d b.e q parameter asked b.text t f (defines n m d parameter begins) due' lack
@@ -200,13 +201,18 @@ module _ (src : List ℕ) (utf8 : IsUtf8 src) where
         let same = definition_end src utf8 parameter d e b.e first asked text b.text definition (defines n m d parameter begins) in
         byte_stands src 62 (spaces_end src b.e) f (omega arith) b.closes (subst (λ (e : ℕ). IsMissing src (spaces_end src e) (a_byte 62) f) same lack)
 
-    -- it is not cut off before the name of its notation
-    pub not_cut : (n m d e j : ℕ) (parameter : Bool) (request : Request) → BeginsEntity src i parameter n m d → IsExternalID src d request e → CutsNotation src parameter e j → ⊥
-    not_cut n m d e j parameter request begins is cut =
-        let there = notation_there d b.e e parameter asked b.text request cut.is_general (defines n m d parameter begins) is cut.opens in
-        let same = space_once src (spaces_end src e + 5) there.0 j there.1 cut.space_behind in
+    -- it is not cut off behind what it asks, nor before the name of its notation
+    pub not_cut : (n m d e j : ℕ) (parameter : Bool) (request : Request) → BeginsEntity src i parameter n m d → IsExternalID src d request e → MayHaveNotation src parameter e j ⊎ CutsNotation src parameter e j → length src ≤ j → ⊥
+    not_cut n m d e j parameter request begins is (inl may) past =
+        let asks : IsDefinition src parameter d j (record { request = request; answer = None } ∷ []) None = external d e j request None None is may nothing in
+        let same = definition_end src utf8 parameter d j b.e (record { request = request; answer = None } ∷ []) asked None b.text asks (defines n m d parameter begins) in
+        let closes = b.closes in
+        let l = within src (spaces_end src b.e) (λ z. omega arith) in
+        absurd (omega (arith, run_end_le is_space src b.e))
+    not_cut n m d e j parameter request begins is (inr (cuts_name _ _ opens space _)) past =
+        let there = notation_there d b.e e false asked b.text request refl (defines n m d false begins) is opens in
+        let same = space_once src (spaces_end src e + 5) there.0 j there.1 space in
         let l = begins_within is_name_start src there.0 there.2.starts in
-        let past = cut.cut in
         absurd (omega arith)
 
     -- nor is the declaration of its answer at fault
@@ -222,13 +228,16 @@ module _ (src : List ℕ) (utf8 : IsUtf8 src) where
   -- ---- up to the subset
 
   head_apart : (i s p : ℕ) (t : DueItem) (f : Fault) → BeginsDoctype src i s → (byte src s ≡ 62) ⊎ (byte src s ≡ 91) → DueInDoctype src i p t → IsMissing src p t f → ⊥
-  head_apart i s p t f b ends due.DueInDoctype.space_before lack =
+  head_apart i s p t f is ends due.DueInDoctype.space_before lack =
+      let b = doctype_parts is in
       let last : i + 8 + 1 ≡ i + 9 = omega arith in
       let cut = subst (IsCharBoundary src) last (word_cut word.DoctypeStart src i 8 69 utf8 b.opens (omega arith) refl (omega arith) (omega arith)) in
       spaced (i + 9) b.n f cut b.space_before lack
-  head_apart i s p t f b ends (due.DueInDoctype.its_name _ sp inside) lack =
+  head_apart i s p t f is ends (due.DueInDoctype.its_name _ sp inside) lack =
+      let b = doctype_parts is in
       name_stands src p b.m f (subst (λ (n : ℕ). IsName src n b.m) (space_once src (i + 9) b.n p b.space_before sp) b.name) lack
-  head_apart i s p t f b ends (due.DueInDoctype.its_external_id n m _ _ sp name due') lack =
+  head_apart i s p t f is ends (due.DueInDoctype.its_external_id n m _ _ sp name due') lack =
+      let b = doctype_parts is in
       let at_name = space_once src (i + 9) n b.n sp b.space_before in
       let end : m ≡ b.m = name.longest ∙ ap (λ (n : ℕ). run_end is_name_char src n) at_name ∙ sym b.name.longest in
       by_external (spaces_end src b.m) b.x b.external (subst (λ (m : ℕ). DueInExternalID src (spaces_end src m) p t) end due')
@@ -236,7 +245,7 @@ module _ (src : List ℕ) (utf8 : IsUtf8 src) where
       by_external : (x y : ℕ) → MayHaveExternalID src x y → DueInExternalID src x p t → ⊥
       by_external x y (external_id _ _ request is) due' = external_apart x y p request t f is due' lack
       by_external x y (no_external_id _ no_system no_public) due' = elim (external_due x p t due') as (λ _. ⊥) [ inl is ↦ true≢false (sym is ∙ no_system) | inr is ↦ true≢false (sym is ∙ no_public) ]
-  head_apart i s p t f b ends (due.DueInDoctype.its_end _ b') lack = lack_apart f (subst (λ (p : ℕ). IsMissing src p subset_or_end f) (doctype_once src utf8 i p s b' b).2 lack)
+  head_apart i s p t f b ends (due.DueInDoctype.its_end _ b') lack = lack_apart f (subst (λ (p : ℕ). IsMissing src p subset_or_end f) (doctype_once src utf8 i p s b' b) lack)
     where
       lack_apart : (f : Fault) → IsMissing src s subset_or_end f → ⊥
       lack_apart f (none_of _ below none) = true≢false (sym (subset_or_end_is (byte src s) ends) ∙ none)
@@ -249,7 +258,8 @@ module _ (src : List ℕ) (utf8 : IsUtf8 src) where
 
   -- it is not cut off before its name
   head_not_cut : (i s n : ℕ) → BeginsDoctype src i s → IsSpace src (i + 9) n → length src ≤ n → ⊥
-  head_not_cut i s n b sp past =
+  head_not_cut i s n is sp past =
+      let b = doctype_parts is in
       let same = space_once src (i + 9) b.n n b.space_before sp in
       let l = begins_within is_name_start src b.n b.name.starts in
       absurd (omega arith)
@@ -267,14 +277,14 @@ module _ (src : List ℕ) (utf8 : IsUtf8 src) where
 
   closed_there : (i j p : ℕ) (items nodes : Forest Item) (asked given more : List Asked) (es : List Entity) → IsDoctype src i j nodes given es → SubsetTo src i p items asked → SameAnswers (asked ++ more) given
       → Closed p items nodes asked given more
-  closed_there i j p items nodes asked given more es (no_subset _ s begins closes) to same =
-      let at_end = (doctype_once src utf8 i to.s s to.begins begins).2 in
-      let bracket : byte src s ≡ 91 = subst (λ (s : ℕ). byte src s ≡ 91) at_end to.opens in
+  closed_there i j p items nodes asked given more es (no_subset _ s begins closes) (subset_to t first begins' opens' read') same =
+      let at_end = doctype_once src utf8 i t s begins' begins in
+      let bracket : byte src s ≡ 91 = subst (λ (s : ℕ). byte src s ≡ 91) at_end opens' in
       absurd (omega arith)
-  closed_there i j p items nodes asked given more es (with_subset _ s k _ _ _ begins opens subset bracket closes) to same =
-      let at_end = (doctype_once src utf8 i to.s s to.begins begins).2 in
-      let read : Subset src (s + 1) p items asked to.declared = subst (λ (s : ℕ). Subset src (s + 1) p items asked to.declared) at_end to.read in
-      record { k = k; bracket = bracket; closes = closes; es = to.declared; fs = es; front = subset_front src utf8 k bracket (s + 1) p items nodes asked given more to.declared es read subset same }
+  closed_there i j p items nodes asked given more es (with_subset _ s k _ _ _ begins opens subset bracket closes) (subset_to t first begins' opens' read') same =
+      let at_end = doctype_once src utf8 i t s begins' begins in
+      let read : Subset src (s + 1) p items asked first = subst (λ (s : ℕ). Subset src (s + 1) p items asked first) at_end read' in
+      record { k = k; bracket = bracket; closes = closes; es = first; fs = es; front = subset_front src utf8 k bracket (s + 1) p items nodes asked given more first es read subset same }
 
   -- a fault in it is that of a limit
   pub in_doctype_apart : (W : Type 0) (limit i j : ℕ) (before nodes after : Forest Item) (asked given : List Asked) (es : List Entity) (source : List ℕ) (f : Fault) → IsDoctype src i j nodes given es
@@ -308,22 +318,24 @@ module _ (src : List ℕ) (utf8 : IsUtf8 src) where
       let c = closed_there i j p items nodes asked given [] es is to (subst (λ (a : List Asked). SameAnswers a given) (sym (append-nil asked)) same) in
       let r = c.front in
       let there = entity_there src utf8 c.k c.bracket p r.rest r.more r.gs r.left opens in
-      absurd (entity_apart p there.0 there.1 there.3 there.5 q t f due' lack)
+      absurd (entity_apart p there.0 there.1 there.3 (declaration_parts there.5) q t f due' lack)
   in_doctype_apart W limit i j before nodes after asked given es source f is few same (in_subset p items before' _ _ _ to fits (entity_open n m d e parameter first text _ begins definition lack)) =
       let c = closed_there i j p items nodes before' given first es is to same in
       let r = c.front in
-      let there = entity_there src utf8 c.k c.bracket p r.rest r.more r.gs r.left begins.opens in
-      absurd (end_stands p there.0 there.1 there.3 there.5 n m d e parameter first text f begins definition lack)
-  in_doctype_apart W limit i j before nodes after asked given es source f is few same (in_subset p items before' _ _ _ to fits (entity_cut n m d e x parameter request answer text begins external' cut gives)) =
+      let there = entity_there src utf8 c.k c.bracket p r.rest r.more r.gs r.left (begins_parts begins).opens in
+      absurd (end_stands p there.0 there.1 there.3 (declaration_parts there.5) n m d e parameter first text f begins definition lack)
+  in_doctype_apart W limit i j before nodes after asked given es source f is few same (in_subset p items before' _ _ _ to fits (entity_cut x request answer text asks past gives)) =
+      let w = asks_parts asks in
       let c = closed_there i j p items nodes before' given (record { request = request; answer = answer } ∷ []) es is to same in
       let r = c.front in
-      let there = entity_there src utf8 c.k c.bracket p r.rest r.more r.gs r.left begins.opens in
-      absurd (not_cut p there.0 there.1 there.3 there.5 n m d e x parameter request begins external' cut)
-  in_doctype_apart W limit i j before nodes after asked given es source f is few same (in_subset p items before' _ _ _ to fits (in_answer n m d e x parameter request answer _ begins external' may text opens (q, t, due', lack))) =
+      let there = entity_there src utf8 c.k c.bracket p r.rest r.more r.gs r.left (begins_parts w.begins).opens in
+      absurd (not_cut p there.0 there.1 there.3 (declaration_parts there.5) w.n w.m w.d w.e x w.parameter request w.begins w.external w.notation past)
+  in_doctype_apart W limit i j before nodes after asked given es source f is few same (in_subset p items before' _ _ _ to fits (in_answer x request answer _ asks text opens (q, t, due', lack))) =
+      let w = asks_parts asks in
       let c = closed_there i j p items nodes before' given (record { request = request; answer = Some answer } ∷ []) es is to same in
       let r = c.front in
-      let there = entity_there src utf8 c.k c.bracket p r.rest r.more r.gs r.left begins.opens in
-      absurd (answer_apart p there.0 there.1 there.3 there.5 n m d e q parameter request answer there.2 t f begins external' (subst (SameAnswers (record { request = request; answer = Some answer } ∷ [])) there.7 r.same) opens due' lack)
+      let there = entity_there src utf8 c.k c.bracket p r.rest r.more r.gs r.left (begins_parts w.begins).opens in
+      absurd (answer_apart p there.0 there.1 there.3 (declaration_parts there.5) w.n w.m w.d w.e q w.parameter request answer there.2 t f w.begins w.external (subst (SameAnswers (record { request = request; answer = Some answer } ∷ [])) there.7 r.same) opens due' lack)
   in_doctype_apart W limit i j before nodes after asked given es source f is few same (in_subset p items _ _ _ _ to fits (end_lacks _ bracket lack)) =
       let c = closed_there i j p items nodes asked given [] es is to (subst (λ (a : List Asked). SameAnswers a given) (sym (append-nil asked)) same) in
       let r = c.front in

@@ -32,6 +32,7 @@ use Rattle.rox_theory.specs.Openers.{AgreesValue}
 use Rattle.rox_theory.specs.ValidState.{AreNamed, IsValidState, state}
 use Rattle.rox_theory.specs.WithoutDoctype.{ParseWithout}
 use Rattle.rox_theory.proofs.Without.{parse_without}
+use Rattle.rox_theory.proofs.ParseParts.{behind_parts}
 use Rattle.rox_theory.proofs.Basics.{within}
 use Rattle.rox_theory.proofs.Constructions.{a_tag, kind_at, tag_kind, name_byte}
 use Rattle.rox_theory.proofs.Leaves.{fine_before, named_before}
@@ -143,7 +144,8 @@ module _ (opens : ℕ → Inclusion) (es : List Entity) (all : OpensAt opens es)
       whole : join (join p.before p.one) p.after ≡ join items rest
 
     behind_rest : (q : ℕ) (items : Forest Item) → Behind (opens 0) text Front q items → Rest q items
-    behind_rest q items behind =
+    behind_rest q items is =
+        let behind = behind_parts is in
         let there = element_stops true (opens 0) text behind.start behind.end 255 behind.openings_left behind.one behind.element in
         let same = start_there behind.start behind.before behind.ahead there.2 in
         let element : IsElement true (opens 0) text p.start behind.end 255 behind.openings_left behind.one = subst (λ (i : ℕ). IsElement true (opens 0) text i behind.end 255 behind.openings_left behind.one) (sym same.0) behind.element in
@@ -206,20 +208,20 @@ module _ (src : List ℕ) (utf8 : IsUtf8 src) (limit : ℕ) (tree : Forest Item)
   whole_fine few =
       let counts = limits_counted limit tree few in
       let merged : merge tree ≡ tree =
-      ap merge p.is_tree ∙ tops_merged true no_entities src p.prolog.declared_to p.start p.start p.end (length src) 255 p.openings_left false p.before Nil p.one p.after [] [] p.prolog.misc (no_doctype p.start) p.element p.misc_after ∙ sym p.is_tree in
+      ap merge p.is_tree ∙ tops_merged true no_entities src p.prolog.0 p.start p.start p.end (length src) 255 p.openings_left false p.before Nil p.one p.after [] [] p.prolog.2 (no_doctype p.start) p.element p.misc_after ∙ sym p.is_tree in
       let counted : 1 + size (merge tree) ≤ limit = rw merged (omega (arith, few.nodes)) in
       let whole : IsValidState limit (state (length src) tree root p.openings_left) = record { nodes = counted; attributes = counts.attributes; pairs = counts.namespaces; named = p.well_named } in
       subst (λ (f : Forest Item). IsValidState limit (state (length src) f root p.openings_left)) same_whole whole
 
   -- a declaration has one end
-  one_declaration : (d : ℕ) → MayHaveXmlDecl src (after_bom src) d → d ≡ p.prolog.declared_to
-  one_declaration d may = ok_one d p.prolog.declared_to (prolog src (after_bom src)) (prolog_complete src utf8 (after_bom src) d may) (prolog_complete src utf8 (after_bom src) p.prolog.declared_to p.prolog.declaration)
+  one_declaration : (d : ℕ) → MayHaveXmlDecl src (after_bom src) d → d ≡ p.prolog.0
+  one_declaration d may = ok_one d p.prolog.0 (prolog src (after_bom src)) (prolog_complete src utf8 (after_bom src) d may) (prolog_complete src utf8 (after_bom src) p.prolog.0 p.prolog.1)
 
   -- what is left up to the root element
   ahead_rest : (q : ℕ) (items : Forest Item) → PrologTo src q items → (rest : Forest Item) × Misc src q p.start rest × (p.before ≡ join items rest)
   ahead_rest q items ahead =
       let there = element_stops true no_entities src p.start p.end 255 p.openings_left p.one p.element in
-      misc_front src utf8 p.prolog.declared_to q p.start items p.before (subst (λ (d : ℕ). Misc src d q items) (one_declaration ahead.declared_to ahead.declaration) ahead.misc) p.prolog.misc there.2
+      misc_front src utf8 p.prolog.0 q p.start items p.before (subst (λ (d : ℕ). Misc src d q items) (one_declaration ahead.0 ahead.1) ahead.2) p.prolog.2 there.2
 
   plain_parsed : Parsed (λ k. no_entities) limit (IsWithinLimits limit tree) src (PrologTo src)
   plain_parsed =
@@ -251,7 +253,7 @@ no_doctype_over limit src source given asked f tree utf8 (without _ stands) pars
 no_doctype_over limit src source given asked f tree utf8 (not_allowed q items _ ahead fits here) parse = absurd (doctype_apart src utf8 limit tree (parse_without src asked tree parse).1 q items ahead here)
 no_doctype_over limit src source given asked f tree utf8 (in_doctype _ _ _ _ _ may _ _ _ _) parse = cc may
 no_doctype_over limit src source given asked f tree utf8 (rows.RefusalOf.behind _ _ _ _ may _) parse = cc may
-no_doctype_over limit src source given asked f tree utf8 (in_declaration _ here (q, t, due, lack)) parse = let p = (parse_without src asked tree parse).1 in absurd (declared_apart p.prolog.declared_to p.prolog.declaration)
+no_doctype_over limit src source given asked f tree utf8 (in_declaration _ here (q, t, due, lack)) parse = let p = (parse_without src asked tree parse).1 in absurd (declared_apart p.prolog.0 p.prolog.1)
   where
     declared_apart : (d : ℕ) → MayHaveXmlDecl src (after_bom src) d → ⊥
     declared_apart d (declared _ _ is) = declaration_apart src utf8 (after_bom src) d q t f is due lack

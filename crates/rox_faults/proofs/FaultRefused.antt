@@ -278,7 +278,7 @@ module _ (src : List ℕ) (utf8 : IsUtf8 src) (limit : ℕ) (allow : Bool) where
       let cut = prolog_cut src utf8 b i bom may in
       let first = state i Nil root 255 in
       let start : IsValidState most first = record { nodes = omega arith; attributes = omega arith; pairs = omega arith; named = tt } in
-      let ahead : PrologTo src i Nil = record { declared_to = i; declaration = may; misc = no_misc i } in
+      let ahead : PrologTo src i Nil = (i, may, no_misc i) in
       nothing_by Whole (misc limit (length src) src first) _
       (λ s read.
       let m = misc_sound src utf8 (length src) limit most 255 i Nil s less cut start read in

@@ -44,7 +44,7 @@ use Rattle.rox_faults.proofs.FaultMisc.{misc_front, misc_at, before_end, other_a
 use Rattle.rox_faults.proofs.FaultWay.{OpensAt}
 use Rattle.rox_faults.proofs.FaultNever.{Parsed, never, fault_over, no_doctype_there}
 use Rattle.rox_theory.specs.ParseParts.{ParseParts}
-use Rattle.rox_theory.proofs.ParseParts.{prolog_parts, parts}
+use Rattle.rox_theory.proofs.ParseParts.{behind_parts, prolog_parts, parts}
 
 -- what stands before a place
 place_front : (opens : ℕ → Inclusion) (es : List Entity) (text : List ℕ) (Root : ℕ → Forest Item → Type 0) (k open_around b : ℕ) (src : List ℕ) (s : grammar.State) → ContentPoint opens es text Root k open_around src b s → (p : ℕ) × (items : Forest Item) × Root p items
@@ -63,9 +63,9 @@ front_of opens es limit text behind_dtd Front source f (at_point k open_around b
     let r = place_front opens es text (λ p items. Front p items × RootBegins behind_dtd text p) k open_around b source s place in (r.0, r.1, r.2.0)
 front_of opens es limit text behind_dtd Front source f (at_point k open_around b src s _ _ place fits (in_value p n v e j c l i stop d _ name _ part _ opens' to space pair is ill)) =
     let r = place_front opens es text (λ p items. Front p items × RootBegins behind_dtd text p) k open_around b src s place in (r.0, r.1, r.2.0)
-front_of opens es limit text behind_dtd Front source f (misc_around p items _ (inr back) fits (in_one _ ill)) = (back.start, back.before, back.ahead)
-front_of opens es limit text behind_dtd Front source f (misc_around p items _ (inr back) fits (one_too_many j item is over)) = (back.start, back.before, back.ahead)
-front_of opens es limit text behind_dtd Front source f (unknown_behind p items back fits below a b c) = (back.start, back.before, back.ahead)
+front_of opens es limit text behind_dtd Front source f (misc_around p items _ (inr back) fits (in_one _ ill)) = let b = behind_parts back in (b.start, b.before, b.ahead)
+front_of opens es limit text behind_dtd Front source f (misc_around p items _ (inr back) fits (one_too_many j item is over)) = let b = behind_parts back in (b.start, b.before, b.ahead)
+front_of opens es limit text behind_dtd Front source f (unknown_behind p items back fits below a b c) = let b = behind_parts back in (b.start, b.before, b.ahead)
 
 -- a document type declaration begins where it stands
 begins_there : (src : List ℕ) (i p : ℕ) (dtd : Bool) (nodes : Forest Item) (asked : List Asked) (es : List Entity) → dtd ≡ true → MayHaveDoctype src i p dtd nodes asked es → at word.DoctypeStart src i ≡ true
@@ -91,18 +91,18 @@ module _ (limit : ℕ) (src : List ℕ) (utf8 : IsUtf8 src) (given : List Asked)
   begins_here = begins_there src p.begun p.start true p.nodes given p.entities refl p.doctype
 
   -- a declaration has one end
-  one_declaration : (d : ℕ) → MayHaveXmlDecl src (after_bom src) d → d ≡ p.prolog.declared_to
-  one_declaration d may = ok_one d p.prolog.declared_to (prolog src (after_bom src)) (prolog_complete src utf8 (after_bom src) d may) (prolog_complete src utf8 (after_bom src) p.prolog.declared_to p.prolog.declaration)
+  one_declaration : (d : ℕ) → MayHaveXmlDecl src (after_bom src) d → d ≡ p.prolog.0
+  one_declaration d may = ok_one d p.prolog.0 (prolog src (after_bom src)) (prolog_complete src utf8 (after_bom src) d may) (prolog_complete src utf8 (after_bom src) p.prolog.0 p.prolog.1)
 
   -- what is left up to there
   ahead_rest : (q : ℕ) (items : Forest Item) → PrologTo src q items → (rest : Forest Item) × Misc src q p.begun rest × (p.before ≡ join items rest)
   ahead_rest q items ahead =
-      misc_front src utf8 p.prolog.declared_to q p.begun items p.before (subst (λ (d : ℕ). Misc src d q items) (one_declaration ahead.declared_to ahead.declaration) ahead.misc) p.prolog.misc (doctype_stops src p.begun begins_here)
+      misc_front src utf8 p.prolog.0 q p.begun items p.before (subst (λ (d : ℕ). Misc src d q items) (one_declaration ahead.0 ahead.1) ahead.2) p.prolog.2 (doctype_stops src p.begun begins_here)
 
   -- the root element does not begin before it
   no_root_here : (q : ℕ) (items : Forest Item) → PrologTo src q items → Stops src q → at word.DoctypeStart src q ≡ false → ⊥
   no_root_here q items ahead stops none =
-      let same = one_misc src utf8 ahead.declared_to p.prolog.declared_to q p.begun items p.before (one_declaration ahead.declared_to ahead.declaration) ahead.misc stops p.prolog.misc (doctype_stops src p.begun begins_here) in
+      let same = one_misc src utf8 ahead.0 p.prolog.0 q p.begun items p.before (one_declaration ahead.0 ahead.1) ahead.2 stops p.prolog.2 (doctype_stops src p.begun begins_here) in
       true≢false (sym begins_here ∙ ap (at word.DoctypeStart src) (sym same.0) ∙ none)
 
   no_root_begins : (q : ℕ) (items : Forest Item) → PrologTo src q items → RootBegins false src q → ⊥
@@ -110,7 +110,8 @@ module _ (limit : ℕ) (src : List ℕ) (utf8 : IsUtf8 src) (given : List Asked)
       no_root_here q items ahead (record { no_space = no_spaces src q root_begins.0; no_comment = root_begins.1; no_instruction = root_begins.2 }) (root_begins.3 refl)
 
   no_root_behind : (q : ℕ) (items : Forest Item) → Behind no_entities src (PrologTo src) q items → ⊥
-  no_root_behind q items back =
+  no_root_behind q items is =
+      let back = behind_parts is in
       let there = element_stops true no_entities src back.start back.end 255 back.openings_left back.one back.element in
       no_root_here back.start back.before back.ahead there.2 there.1
 
@@ -118,7 +119,7 @@ module _ (limit : ℕ) (src : List ℕ) (utf8 : IsUtf8 src) (given : List Asked)
   few_nodes : IsWithinLimits limit tree → 1 + size (merge tree) ≤ limit
   few_nodes few =
       let merged : merge tree ≡ tree =
-      ap merge p.is_tree ∙ tops_merged true (included_in_main p.entities) src p.prolog.declared_to p.begun p.start p.end (length src) 255 p.openings_left true p.before p.nodes p.one p.after given p.entities p.prolog.misc p.doctype p.element p.misc_after ∙ sym p.is_tree in
+      ap merge p.is_tree ∙ tops_merged true (included_in_main p.entities) src p.prolog.0 p.begun p.start p.end (length src) 255 p.openings_left true p.before p.nodes p.one p.after given p.entities p.prolog.2 p.doctype p.element p.misc_after ∙ sym p.is_tree in
       rw merged (omega (arith, few.nodes))
 
   -- no fault stands before it but those of the limits
@@ -146,7 +147,7 @@ module _ (limit : ℕ) (src : List ℕ) (utf8 : IsUtf8 src) (given : List Asked)
 
   -- nor in the declaration
   declaration_never : (q : ℕ) (t : DueItem) (f : Fault) → at word.XmlDeclStart src (after_bom src) ≡ true → DueInXmlDecl src (after_bom src) q t → IsMissing src q t f → ⊥
-  declaration_never q t f here' due lack = declared_apart p.prolog.declared_to p.prolog.declaration
+  declaration_never q t f here' due lack = declared_apart p.prolog.0 p.prolog.1
     where
       declared_apart : (d : ℕ) → MayHaveXmlDecl src (after_bom src) d → ⊥
       declared_apart d (declared _ _ is) = declaration_apart src utf8 (after_bom src) d q t f is due lack
@@ -155,7 +156,7 @@ module _ (limit : ℕ) (src : List ℕ) (utf8 : IsUtf8 src) (given : List Asked)
   -- nor a fault in it, met after the same answers, but those of the limits
   inside_over : (i : ℕ) (before : Forest Item) (asked : List Asked) (source : List ℕ) (f : Fault) → PrologTo src i before → at word.DoctypeStart src i ≡ true → SameAnswers asked given → InDoctype limit src i before asked source f → IsOver (IsWithinLimits limit tree) f
   inside_over i before asked source f ahead is same ill =
-      let there = one_misc src utf8 ahead.declared_to p.prolog.declared_to i p.begun before p.before (one_declaration ahead.declared_to ahead.declaration) ahead.misc (doctype_stops src i is) p.prolog.misc (doctype_stops src p.begun begins_here) in
+      let there = one_misc src utf8 ahead.0 p.prolog.0 i p.begun before p.before (one_declaration ahead.0 ahead.1) ahead.2 (doctype_stops src i is) p.prolog.2 (doctype_stops src p.begun begins_here) in
       let ill' : InDoctype limit src p.begun p.before asked source f = subst (λ (i : ℕ). InDoctype limit src i p.before asked source f) there.0 (subst (λ (b : Forest Item). InDoctype limit src i b asked source f) (sym there.1) ill) in
       by_doctype p.start true p.nodes given p.entities refl p.doctype (λ few. subst (λ (t : Forest Item). 1 + size (merge t) ≤ limit) p.is_tree (few_nodes few)) same ill'
     where
@@ -239,8 +240,8 @@ module _ (limit : ℕ) (src : List ℕ) (utf8 : IsUtf8 src) (given : List Asked)
     declared_rest : (es : List Entity) (q : ℕ) (items : Forest Item) → Declared src asked es q items → ((rest : Forest Item) × Misc src q p.start rest × (before_root ≡ join items rest)) × (es ≡ p.entities)
     declared_rest es q items front =
         let a = prolog_parts src q true items asked es front in
-        let begun = one_misc src utf8 a.ahead.declared_to p.prolog.declared_to a.begun p.begun a.before p.before (one_declaration limit src utf8 given tree p a.ahead.declared_to a.ahead.declaration) a.ahead.misc
-        (doctype_stops src a.begun (begins_there src a.begun q true a.nodes asked es refl a.doctype)) p.prolog.misc (doctype_stops src p.begun (begins_here limit src utf8 given tree p)) in
+        let begun = one_misc src utf8 a.ahead.0 p.prolog.0 a.begun p.begun a.before p.before (one_declaration limit src utf8 given tree p a.ahead.0 a.ahead.1) a.ahead.2
+        (doctype_stops src a.begun (begins_there src a.begun q true a.nodes asked es refl a.doctype)) p.prolog.2 (doctype_stops src p.begun (begins_here limit src utf8 given tree p)) in
         let r = doctype_front src utf8 a.begun p.begun q p.start true true a.nodes p.nodes asked given es p.entities refl refl begun.0 same a.doctype p.doctype root_stops.2 in
         let whole : before_root ≡ join items r.0 =
         ap (λ (b : Forest Item). join b p.nodes) begun.1 ∙ ap (join a.before) r.2 ∙ sym (join_assoc a.before a.nodes r.0) ∙ ap (λ (f : Forest Item). join f r.0) (sym a.all) in

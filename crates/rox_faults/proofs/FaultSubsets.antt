@@ -18,9 +18,9 @@ use Rattle.rox_grammar.specs.Names.{byte, spaces_end}
 use Rattle.rox_grammar.specs.Content.{IsMisc, comment, instruction}
 use Rattle.rox_grammar.specs.TextStart.{after_bom}
 use Rattle.rox_grammar.specs.Entities.{Replacement, Entity}
-use Rattle.rox_grammar.specs.Doctype.{Request, Asked, IsDefinition, internal, external, IsPassedOver, Subset, no_more, space, an_item, skipped_declaration, an_entity, BeginsDoctype, IsDoctype, no_subset, with_subset, entry, SubsetTo}
+use Rattle.rox_grammar.specs.Doctype.{Request, Asked, IsDefinition, internal, external, Subset, no_more, space, an_item, skipped_declaration, an_entity, BeginsDoctype, doctype_begins, IsDoctype, no_subset, with_subset, entry, SubsetTo, subset_to}
 use Rattle.rox_grammar.specs.State.{root, nodes_so_far, FitsLimits}
-use Rattle.rox_grammar.specs.Due.{DueItem, a_byte, IsMissing, Misses, none_left, DueInXmlDecl}
+use Rattle.rox_grammar.specs.Due.{Misses, none_left, DueInXmlDecl}
 use Rattle.rox_faults.proofs.DueForms.{subset_or_end, no_end, no_subset_or_end}
 use Rattle.rox_grammar.specs.Due as dues
 use Rattle.rox_grammar.specs.Faults.{in_one, one_too_many}
@@ -44,6 +44,7 @@ use Rattle.rox_theory.proofs.LiteralLemmas.{from_here}
 use Rattle.rox_theory.proofs.Places.{over_spaces}
 use Rattle.rox_theory.proofs.Leaves.{item_read, fine_there}
 use Rattle.rox_theory.proofs.Around.{ends_cut, misc_ends, misc_moves, misc_plain, comment_is, instruction_is}
+use Rattle.rox_theory.proofs.DoctypeParts.{declaration_parts, notation_past, asks_at, IsPassedOver, passed_first}
 use Rattle.rox_theory.proofs.DoctypeLemmas.{head_sound, definition_sound, doctype_head_sound, space_sound, name_or_end, if_sound}
 use Rattle.rox_theory.proofs.EntityLemmas.{either, answer_sound, EntityRead, EntityOutcome, entity_outcome, entity_moves}
 use Rattle.rox_theory.proofs.Subsets.{passed_moves}
@@ -106,7 +107,7 @@ pub subset_then : (src : List ℕ) (i j k : ℕ) (xs ys : Forest Item) (a b : Li
 subset_then src i j k xs ys a b es fs (no_more _) rest = rest
 subset_then src i j k xs ys a b es fs (space _ _ _ _ _ is more) rest = space i k (join xs ys) (a ++ b) (es ++ fs) is (subset_then src (i + 1) j k xs ys a b es fs more rest)
 subset_then src i j k xs ys a b es fs (an_item _ l _ item items _ _ is more) rest = an_item i l k item (join items ys) (a ++ b) (es ++ fs) is (subset_then src l j k items ys a b es fs more rest)
-subset_then src i j k xs ys a b es fs (skipped_declaration _ l _ _ _ _ is more) rest = skipped_declaration i l k (join xs ys) (a ++ b) (es ++ fs) is (subset_then src l j k xs ys a b es fs more rest)
+subset_then src i j k xs ys a b es fs (skipped_declaration _ _ _ _ _ opens closes more) rest = skipped_declaration i k (join xs ys) (a ++ b) (es ++ fs) opens closes (subset_then src _ j k xs ys a b es fs more rest)
 subset_then src i j k xs ys a b es fs (an_entity _ l _ _ first asked one others is more) rest =
     subst (λ (d : List Entity). Subset src i k (join xs ys) ((first ++ asked) ++ b) d) (sym (append_assoc one others fs))
     (subst (λ (c : List Asked). Subset src i k (join xs ys) c (one ++ (others ++ fs))) (sym (append_assoc first asked b))
@@ -169,9 +170,9 @@ module _ (src : List ℕ) (utf8 : IsUtf8 src) (limit most : ℕ) (less : limit �
         elim s.2 as (λ _. In (asked0 ++ once request answer) src f) [
           | inl may ↦ in_subset d.state.at items asked0 _ _ _ to fits (entity_open begun.0 begun.1 head.1 j head.0.parameter (once request answer) text f begun.2 (external head.1 s.0 j request answer text s.1 may gives) (byte_fails 62 src (spaces_end src j) f ill))
           | inr cuts ↦ (
-              let past : length src ≤ spaces_end src j = omega (arith, cuts.cut, run_end_le is_space src j) in
+              let past : length src ≤ spaces_end src j = omega (arith, notation_past cuts, run_end_le is_space src j) in
               subst (In (asked0 ++ once request answer) src) (byte_past 62 src (spaces_end src j) f past ill)
-              (in_subset d.state.at items asked0 _ _ _ to fits (entity_cut begun.0 begun.1 head.1 s.0 j head.0.parameter request answer text begun.2 s.1 cuts gives)))
+              (in_subset d.state.at items asked0 _ _ _ to fits (entity_cut j request answer text (asks_at head.0.parameter begun.0 begun.1 head.1 s.0 begun.2 s.1 (inr cuts)) (notation_past cuts) gives)))
         ]
 
     -- the declaration of an answer
@@ -186,7 +187,7 @@ module _ (src : List ℕ) (utf8 : IsUtf8 src) (limit most : ℕ) (less : limit �
         let f = w.1 in
         subst (λ (a : Option (List ℕ)). Stands (asked0 ++ once request a) e) (sym w.2)
         (subst (Stands (asked0 ++ once request (Some t))) w.4
-        (in_subset d.state.at items asked0 _ _ _ to fits (in_answer begun.0 begun.1 head.1 s.0 j head.0.parameter request t f begun.2 s.1 s.2 w.3 w.5 w.6)))
+        (in_subset d.state.at items asked0 _ _ _ to fits (in_answer j request t f (asks_at head.0.parameter begun.0 begun.1 head.1 s.0 begun.2 s.1 s.2) w.3 w.5 w.6)))
 
     pub entity_fails : EntityFails asked0 (entity_step src d)
     unfolding entity_step
@@ -248,7 +249,7 @@ module _ (src : List ℕ) (utf8 : IsUtf8 src) (limit most : ℕ) (less : limit �
           (subst (λ (es : List Entity). Subset src (s + 1) k (join so.items Nil) (asked0 ++ []) es) (append-nil d.entities) (subset_then src (s + 1) d.state.at k so.items Nil asked0 [] d.entities [] so.read white)))
 
       to_here : SubsetTo src i (spaces_end src d.state.at) so.items asked0
-      to_here = record { s = s; begins = begins; opens = bracket; declared = d.entities; read = read_to }
+      to_here = subset_to s d.entities begins bracket read_to
 
       done_is : d.state.done ≡ join before so.items
       done_is = ap (λ (s : State). s.done) so.state_is
@@ -388,7 +389,7 @@ module _ (src : List ℕ) (utf8 : IsUtf8 src) (limit most : ℕ) (less : limit �
                 let moves = passed_moves src utf8 k (e + 1) passed in
                 let closes : byte src e ≡ 62 = eqb-true _ _ (from_here (λ c. c == 62) src k (ltb-true _ _ lt)) in
                 let next : Dtd = record { state = at_place (e + 1) d.state; entities = d.entities; replies = d.replies } in
-                let one : Subset src k (e + 1) Nil [] [] = skipped_declaration k (e + 1) (e + 1) Nil [] [] passed (no_more (e + 1)) in
+                let one : Subset src k (e + 1) Nil [] [] = passed_first src k (e + 1) (e + 1) Nil [] [] passed (no_more (e + 1)) in
                 let read' : Subset src (s + 1) (e + 1) so.items asked0 d.entities =
                 subst (λ (f : Forest Item). Subset src (s + 1) (e + 1) f asked0 d.entities) (join-nil so.items)
                 (subst (λ (a : List Asked). Subset src (s + 1) (e + 1) (join so.items Nil) a d.entities) (append-nil asked0)
@@ -411,12 +412,13 @@ module _ (src : List ℕ) (utf8 : IsUtf8 src) (limit most : ℕ) (less : limit �
           let read' : Subset src (s + 1) j so.items (asked0 ++ first) e.entities =
           subst (λ (f : Forest Item). Subset src (s + 1) j f (asked0 ++ first) e.entities) (join-nil so.items)
           (subst (λ (es : List Entity). Subset src (s + 1) j (join so.items Nil) (asked0 ++ first) es) (sym o.entities_are) (subset_then src (s + 1) k j so.items Nil asked0 first d.entities o.es read_to one')) in
-          let closes = o.is.closes in (
+          let is = declaration_parts o.is in
+          let closes = is.closes in (
             record {
               items = so.items;
               read = read';
               state_is = o.state_is ∙ ap (λ (t : State). state j t.done t.stack t.openings_left) so.state_is;
-              solid = solid_behind src j (spaces_end src o.is.e) 62 o.is.next closes refl;
+              solid = solid_behind src j (spaces_end src is.e) 62 is.next closes refl;
             },
             moves.3,
             subst (IsValidState most) (sym o.state_is) (fine_there most d.state (at_place j d.state) refl refl fine),
@@ -427,7 +429,7 @@ module _ (src : List ℕ) (utf8 : IsUtf8 src) (limit most : ℕ) (less : limit �
       out_outcome : length src ≤ d.state.at → Ended asked0 d
       out_outcome out =
           let same : d.state.at ≡ length src = omega (arith, cut.0) in
-          cut_off so.items (record { s = s; begins = begins; opens = bracket; declared = d.entities; read = subst (λ (j : ℕ). Subset src (s + 1) j so.items asked0 d.entities) same so.read })
+          cut_off so.items (subset_to s d.entities begins bracket (subst (λ (j : ℕ). Subset src (s + 1) j so.items asked0 d.entities) same so.read))
           (so.state_is ∙ ap (λ (j : ℕ). state j (join before so.items) root 255) same) (subst (λ (j : ℕ). is_space (byte src (j - 1)) ≡ false) same so.solid) fine
 
     -- the items, one after the other
@@ -480,7 +482,7 @@ module _ (src : List ℕ) (utf8 : IsUtf8 src) (limit most : ℕ) (less : limit �
       let sp = space_sound src (i + 9) n spaced in
       elim (name_or_end src n.1 name named) as (λ _. In [] src fault.UnexpectedEndOfStream) [
         | inl is ↦ (
-            let begins : BeginsDoctype src i head.1 = record { opens = opens; n = n.1; space_before = sp; m = name.1; name = is.0; x = y.1; external = if_sound src (spaces_end src name.1) y may; next = sym e } in
+            let begins : BeginsDoctype src i head.1 = subst (BeginsDoctype src i) e (doctype_begins n.1 name.1 y.1 opens sp is.0 (if_sound src (spaces_end src name.1) y may)) in
             head_lacks fault.UnexpectedEndOfStream (head.1, subset_or_end, dues.DueInDoctype.its_end head.1 begins, none_left _ out))
         | inr cut ↦ no_name n.1 sp cut.0
       ])))

@@ -65,6 +65,7 @@ use Rattle.rox_theory.proofs.FailedReadings.{bind_err, lifted_err, lifted_only, 
 use Rattle.rox_faults.proofs.FaultRows.{comment_fails, instruction_fails}
 use Rattle.rox_faults.proofs.FaultTags.{quote_fails, value_cut}
 use Rattle.rox_theory.proofs.NoEntities.{no_values, no_contents}
+use Rattle.rox_theory.proofs.ParseParts.{behind_parts, parts_behind}
 use Rattle.rox_faults.proofs.FaultPoints.{Refuses, refuses_here, From, fine_fits}
 use Rattle.rox_faults.proofs.FaultPlaces.{Here, tag_fails, tag_taken, tagged_takes, tag_goes, takes_cut, takes_opened, drive_fails}
 use Rattle.rox_grammar.specs.Document as document
@@ -260,7 +261,7 @@ module _ (src : List ℕ) (utf8 : IsUtf8 src) where
 
   -- before the root element
   pub ahead_on : (p q : ℕ) (done items : Forest Item) → PrologTo src p done → Misc src p q items → PrologTo src q (join done items)
-  ahead_on p q done items point more = record { declared_to = point.declared_to; declaration = point.declaration; misc = misc_append point.declared_to p q done items point.misc more }
+  ahead_on p q done items point more = (point.0, point.1, misc_append point.0 p q done items point.2 more)
 
   -- ---- the root element, and what is around it
 
@@ -296,8 +297,9 @@ module _ (src : List ℕ) (utf8 : IsUtf8 src) where
 
     -- behind the root element
     pub behind_on : (p q : ℕ) (done items : Forest Item) → Behind (opens 0) src Front p done → Misc src p q items → Behind (opens 0) src Front q (join done items)
-    behind_on p q done items point more =
-        record {
+    behind_on p q done items is more =
+        let point = behind_parts is in
+        parts_behind (record {
           start = point.start;
           before = point.before;
           ahead = point.ahead;
@@ -309,14 +311,14 @@ module _ (src : List ℕ) (utf8 : IsUtf8 src) where
           after = join point.after items;
           misc = misc_append point.end p q point.after items point.misc more;
           all = ap (λ (d : Forest Item). join d items) point.all ∙ join_assoc (join point.before point.one) point.after items;
-        }
+        })
 
     -- right behind it
     behind_root : (i openings_left : ℕ) (before one : Forest Item) (u : State) → Front i before → IsElement true (opens 0) src i u.at 255 openings_left one → u ≡ state u.at (join before one) root u.openings_left → IsValidState most u
         → Behind (opens 0) src Front u.at (join before one)
     behind_root i openings_left before one u ahead element is fine =
         let named : AreWellNamed [] (join before one) = (subst (IsValidState most) is fine).named in
-        record { start = i; before = before; ahead = ahead; end = u.at; openings_left = openings_left; one = one; element = element; well_named = named; after = Nil; misc = no_misc u.at; all = sym (join-nil (join before one)) }
+        parts_behind (record { start = i; before = before; ahead = ahead; end = u.at; openings_left = openings_left; one = one; element = element; well_named = named; after = Nil; misc = no_misc u.at; all = sym (join-nil (join before one)) })
 
     -- the root element and what follows it
     pub body_fails : (i : ℕ) (before : Forest Item) (e : Refusal) → IsCharBoundary src i → IsValidState most (state i before root 255) → Front i before → at word.CommentStart src i ≡ false → at word.PIStart src i ≡ false
@@ -453,7 +455,7 @@ module _ (src : List ℕ) (utf8 : IsUtf8 src) where
       let cut' = prolog_cut src utf8 b i bom may in
       let first = state i Nil root 255 in
       let start : IsValidState most first = record { nodes = omega arith; attributes = omega arith; pairs = omega arith; named = tt } in
-      let ahead : PrologTo src i Nil = record { declared_to = i; declaration = may; misc = no_misc i } in
+      let ahead : PrologTo src i Nil = (i, may, no_misc i) in
       asks_err (asks_nothing (lifted (misc limit (length src) src first))) _ e h
       (λ bad. lifted_only (misc limit (length src) src first) e bad (λ f bad same. (
         f,

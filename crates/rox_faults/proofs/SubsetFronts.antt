@@ -15,7 +15,7 @@ use Rattle.rox_grammar.specs.Written.{Item, leaf}
 use Rattle.rox_grammar.specs.Names.{byte, slice, spaces_end}
 use Rattle.rox_grammar.specs.Content.{IsMisc, comment, instruction}
 use Rattle.rox_grammar.specs.Entities.{Replacement, Entity}
-use Rattle.rox_grammar.specs.Doctype.{Request, Asked, IsQuoted, IsSpace, IsExternalID, MayHaveNotation, GivesReplacement, IsDefinition, internal, external, IsKind, BeginsEntity, entry, IsEntityDeclaration, IsPassedOver, Subset, no_more, space, an_item, skipped_declaration, an_entity, MayHaveExternalID, BeginsDoctype, IsDoctype, no_subset, with_subset}
+use Rattle.rox_grammar.specs.Doctype.{Request, Asked, IsQuoted, IsSpace, IsExternalID, MayHaveNotation, GivesReplacement, IsDefinition, internal, external, IsKind, BeginsEntity, entry, IsEntityDeclaration, Subset, no_more, space, an_item, skipped_declaration, an_entity, MayHaveExternalID, BeginsDoctype, IsDoctype, no_subset, with_subset}
 use Rattle.rox_grammar.specs.Doctype.{IsPassed}
 use Rattle.rox_reading.specs.Doctype.{external_id_at, notation_at, kind_at, external_id_if, answer_text}
 use Rattle.rox_reading.proofs.Forests.{join-nil}
@@ -23,6 +23,8 @@ use Rattle.rox_theory.specs.Answers.{SameAnswers}
 use Rattle.rox_theory.proofs.Productions.{comment_parts, pi_parts}
 use Rattle.rox_theory.proofs.DeclarationLemmas.{stands_reads}
 use Rattle.rox_theory.proofs.Constructions.{comment_bytes, instruction_bytes}
+use Rattle.rox_theory.proofs.DoctypeParts.{begins_parts, declaration_parts, IsPassedOver, passed_end, doctype_parts}
+use Rattle.rox_theory.proofs.DoctypeParts as parts
 use Rattle.rox_theory.proofs.DoctypeLemmas.{external_complete, external_byte, notation_complete, kind_complete, if_complete}
 use Rattle.rox_theory.proofs.EntityLemmas.{answer_complete}
 use Rattle.rox_theory.proofs.FailedReadings.{ok_one}
@@ -91,7 +93,7 @@ module _ (src : List ℕ) where
   -- ---- what asks nothing stands in one way
 
   pub space_once : (i j k : ℕ) → IsSpace src i j → IsSpace src i k → j ≡ k
-  space_once i j k a b = a.all ∙ sym b.all
+  space_once i j k a b = a.1 ∙ sym b.1
 
   pub quoted_once : (i e j d k : ℕ) → IsQuoted src i e j → IsQuoted src i d k → (e ≡ d) × (j ≡ k)
   quoted_once i e j d k a b = let same : e ≡ d = a.1 ∙ sym b.1 in (same, a.3 ∙ ap (λ (e : ℕ). e + 1) same ∙ sym b.3)
@@ -122,20 +124,24 @@ module _ (src : List ℕ) where
 
     -- the beginning of a declaration
     pub begins_once : (i n m d x y z : ℕ) (p q : Bool) → BeginsEntity src i p n m d → BeginsEntity src i q x y z → (p ≡ q) × (n ≡ x) × (m ≡ y) × (d ≡ z)
-    begins_once i n m d x y z p q a b =
+    begins_once i n m d x y z p q one other =
+        let a = begins_parts one in
+        let b = begins_parts other in
         let k = space_once (i + 8) a.k b.k a.space_before b.space_before in
         let kind = kind_once b.k n x p q (subst (λ (k : ℕ). IsKind src k p n) k a.is_kind) b.is_kind in
         let name : m ≡ y = a.name.longest ∙ ap (run_end is_name_char src) kind.1 ∙ sym b.name.longest in
-        (kind.0, kind.1, name, a.space_behind.all ∙ ap (spaces_end src) name ∙ sym b.space_behind.all)
+        (kind.0, kind.1, name, a.space_behind.1 ∙ ap (spaces_end src) name ∙ sym b.space_behind.1)
 
     -- and of a document type declaration
-    pub doctype_once : (i s t : ℕ) (a : BeginsDoctype src i s) (b : BeginsDoctype src i t) → (a.n ≡ b.n) × (a.m ≡ b.m) × (s ≡ t)
-    doctype_once i s t a b =
+    pub doctype_once : (i s t : ℕ) → BeginsDoctype src i s → BeginsDoctype src i t → s ≡ t
+    doctype_once i s t one other =
+        let a = doctype_parts one in
+        let b = doctype_parts other in
         let n : a.n ≡ b.n = space_once (i + 9) a.n b.n a.space_before b.space_before in
         let m : a.m ≡ b.m = a.name.longest ∙ ap (run_end is_name_char src) n ∙ sym b.name.longest in
         let may : MayHaveExternalID src (spaces_end src b.m) a.x = subst (λ (m : ℕ). MayHaveExternalID src (spaces_end src m) a.x) m a.external in
         let same = ok_one (tt, a.x) (tt, b.x) (external_id_if src (spaces_end src b.m)) (if_complete src (spaces_end src b.m) a.x utf8 may) (if_complete src (spaces_end src b.m) b.x utf8 b.external) in
-        (n, m, a.next ∙ ap (λ (x : Unit {0} × ℕ). spaces_end src x.1) same ∙ sym b.next)
+        a.next ∙ ap (λ (x : Unit {0} × ℕ). spaces_end src x.1) same ∙ sym b.next
 
     -- a definition has one end, whatever is answered
     pub definition_end : (p : Bool) (i j k : ℕ) (a b : List Asked) (t u : Option Replacement) → IsDefinition src p i j a t → IsDefinition src p i k b u → j ≡ k
@@ -165,16 +171,18 @@ module _ (src : List ℕ) where
     -- a declaration of an entity
     pub entity_once : (i j k : ℕ) (a b c d : List Asked) (es fs : List Entity) → IsEntityDeclaration src i j a es → IsEntityDeclaration src i k b fs → SameAnswers (a ++ c) (b ++ d)
         → (a ≡ b) × (j ≡ k) × (es ≡ fs) × SameAnswers c d
-    entity_once i j k a b c d es fs x y same =
+    entity_once i j k a b c d es fs one other same =
+        let x = declaration_parts one in
+        let y = declaration_parts other in
         let at = begins_once i x.n x.m x.d y.n y.m y.d x.parameter y.parameter x.begins y.begins in
-        let other : IsDefinition src x.parameter x.d y.e b y.text =
+        let definition : IsDefinition src x.parameter x.d y.e b y.text =
         subst (λ (p : Bool). IsDefinition src p x.d y.e b y.text) (sym at.0) (subst (λ (d : ℕ). IsDefinition src y.parameter d y.e b y.text) (sym at.3) y.definition) in
-        let end = definition_end x.parameter x.d x.e y.e a b x.text y.text x.definition other in
-        let one = definition_once x.parameter x.d x.e y.e a b c d x.text y.text x.definition other same in (
-          one.0,
+        let end = definition_end x.parameter x.d x.e y.e a b x.text y.text x.definition definition in
+        let first = definition_once x.parameter x.d x.e y.e a b c d x.text y.text x.definition definition same in (
+          first.0,
           x.next ∙ ap (λ (e : ℕ). spaces_end src e + 1) end ∙ sym y.next,
-          x.declares ∙ ap (λ (n : ℕ). entry (slice src n x.m) x.text) at.1 ∙ ap (λ (m : ℕ). entry (slice src y.n m) x.text) at.2 ∙ ap (entry (slice src y.n y.m)) one.1 ∙ sym y.declares,
-          one.2,
+          x.declares ∙ ap (λ (n : ℕ). entry (slice src n x.m) x.text) at.1 ∙ ap (λ (m : ℕ). entry (slice src y.n m) x.text) at.2 ∙ ap (entry (slice src y.n y.m)) first.1 ∙ sym y.declares,
+          first.2,
         )
 
     -- ---- what stands at a place up to the `]`
@@ -192,22 +200,22 @@ module _ (src : List ℕ) where
       item_there p rest more gs (no_more _) is = absurd (no_end (item_less p is))
       item_there p rest more gs (space _ _ _ _ _ white _) is = absurd (less_no_space src utf8 p (item_less p is) white)
       item_there p rest more gs (an_item _ j _ x others _ _ one left) is = (j, x, others, one, left, refl)
-      item_there p rest more gs (skipped_declaration _ j _ _ _ _ one left) is = absurd (item_no_passed p is one.opens)
-      item_there p rest more gs (an_entity _ j _ _ _ _ _ _ one left) is = absurd (item_no_entity p is one.begins.opens)
+      item_there p rest more gs (skipped_declaration _ _ _ _ _ passes closes left) is = absurd (item_no_passed p is passes)
+      item_there p rest more gs (an_entity _ j _ _ _ _ _ _ one left) is = absurd (item_no_entity p is (declaration_parts one).head.opens)
 
       pub passed_there : (p : ℕ) (rest : Forest Item) (more : List Asked) (gs : List Entity) → Left p rest more gs → IsPassed src p → (j : ℕ) × IsPassedOver src p j × Left j rest more gs
       passed_there p rest more gs (no_more _) is = absurd (no_end (passed_less p is))
       passed_there p rest more gs (space _ _ _ _ _ white _) is = absurd (less_no_space src utf8 p (passed_less p is) white)
       passed_there p rest more gs (an_item _ j _ x others _ _ one left) is = absurd (item_no_passed p (misc_opens p j x one) is)
-      passed_there p rest more gs (skipped_declaration _ j _ _ _ _ one left) is = (j, one, left)
-      passed_there p rest more gs (an_entity _ j _ _ _ _ _ _ one left) is = absurd (passed_no_entity p is one.begins.opens)
+      passed_there p rest more gs (skipped_declaration _ _ _ _ _ passes closes left) is = (passed_end src p, parts.passed_there passes closes, left)
+      passed_there p rest more gs (an_entity _ j _ _ _ _ _ _ one left) is = absurd (passed_no_entity p is (declaration_parts one).head.opens)
 
       pub entity_there : (p : ℕ) (rest : Forest Item) (more : List Asked) (gs : List Entity) → Left p rest more gs → at word.EntityStart src p ≡ true
           → (j : ℕ) × (first : List Asked) × (later : List Asked) × (one : List Entity) × (others : List Entity) × IsEntityDeclaration src p j first one × Left j rest later others × (more ≡ first ++ later) × (gs ≡ one ++ others)
       entity_there p rest more gs (no_more _) is = absurd (no_end (entity_less p is))
       entity_there p rest more gs (space _ _ _ _ _ white _) is = absurd (less_no_space src utf8 p (entity_less p is) white)
       entity_there p rest more gs (an_item _ j _ x others _ _ one left) is = absurd (item_no_entity p (misc_opens p j x one) is)
-      entity_there p rest more gs (skipped_declaration _ j _ _ _ _ one left) is = absurd (passed_no_entity p one.opens is)
+      entity_there p rest more gs (skipped_declaration _ _ _ _ _ passes closes left) is = absurd (passed_no_entity p passes is)
       entity_there p rest more gs (an_entity _ j _ _ first later one others is' left) is = (j, first, later, one, others, is', left, refl, refl)
 
       -- white space there
@@ -215,16 +223,16 @@ module _ (src : List ℕ) where
       space_there p rest more gs (no_more _) is = absurd (let z : is_space 93 ≡ true = subst (λ (b : ℕ). is_space b ≡ true) bracket is in cc z)
       space_there p rest more gs (space _ _ _ _ _ white left) is = left
       space_there p rest more gs (an_item _ j _ x others _ _ one left) is = absurd (less_no_space src utf8 p (item_less p (misc_opens p j x one)) is)
-      space_there p rest more gs (skipped_declaration _ j _ _ _ _ one left) is = absurd (less_no_space src utf8 p (passed_less p one.opens) is)
-      space_there p rest more gs (an_entity _ j _ _ _ _ _ _ one left) is = absurd (less_no_space src utf8 p (entity_less p one.begins.opens) is)
+      space_there p rest more gs (skipped_declaration _ _ _ _ _ passes closes left) is = absurd (less_no_space src utf8 p (passed_less p passes) is)
+      space_there p rest more gs (an_entity _ j _ _ _ _ _ _ one left) is = absurd (less_no_space src utf8 p (entity_less p (declaration_parts one).head.opens) is)
 
       -- nothing that a subset holds
       pub nothing_there : (p : ℕ) (rest : Forest Item) (more : List Asked) (gs : List Entity) → Left p rest more gs → is_space (byte src p) ≡ false → (OpensItem src p → ⊥) → (IsPassed src p → ⊥) → at word.EntityStart src p ≡ false → p ≡ k
       nothing_there p rest more gs (no_more _) no_space no_item no_passed no_entity = refl
       nothing_there p rest more gs (space _ _ _ _ _ white left) no_space no_item no_passed no_entity = absurd (true≢false (sym white ∙ no_space))
       nothing_there p rest more gs (an_item _ j _ x others _ _ one left) no_space no_item no_passed no_entity = absurd (no_item (misc_opens p j x one))
-      nothing_there p rest more gs (skipped_declaration _ j _ _ _ _ one left) no_space no_item no_passed no_entity = absurd (no_passed one.opens)
-      nothing_there p rest more gs (an_entity _ j _ _ _ _ _ _ one left) no_space no_item no_passed no_entity = absurd (true≢false (sym one.begins.opens ∙ no_entity))
+      nothing_there p rest more gs (skipped_declaration _ _ _ _ _ passes closes left) no_space no_item no_passed no_entity = absurd (no_passed passes)
+      nothing_there p rest more gs (an_entity _ j _ _ _ _ _ _ one left) no_space no_item no_passed no_entity = absurd (true≢false (sym (declaration_parts one).head.opens ∙ no_entity))
 
       -- what is read up to j is a front of the items up to the `]`
       pub record Front (j : ℕ) (xs ys : Forest Item) (a b c : List Asked) (es fs : List Entity) : Type 0 where
@@ -254,12 +262,11 @@ module _ (src : List ℕ) where
             entities = next.entities;
             same = next.same;
           }
-      subset_front i j xs ys a b c es fs (skipped_declaration _ m _ _ _ _ one front) all same =
-          let there = passed_there i ys b fs all one.opens in
-          let end : m ≡ there.0 = one.next ∙ sym there.1.next in
-          subset_front m j xs ys a b c es fs front (subst (λ (m : ℕ). Left m ys b fs) (sym end) there.2) same
+      subset_front i j xs ys a b c es fs (skipped_declaration _ _ _ _ _ passes _ front) all same =
+          let there = passed_there i ys b fs all passes in
+          subset_front (passed_end src i) j xs ys a b c es fs front (subst (λ (m : ℕ). Left m ys b fs) there.1.next there.2) same
       subset_front i j xs ys a b c es fs (an_entity _ m _ _ first later one others is front) all same =
-          let there = entity_there i ys b fs all is.begins.opens in
+          let there = entity_there i ys b fs all (declaration_parts is).head.opens in
           let split : SameAnswers (first ++ (later ++ c)) (there.1 ++ there.2) =
           subst (λ (a : List Asked). SameAnswers a (there.1 ++ there.2)) (append_assoc first later c) (subst (SameAnswers ((first ++ later) ++ c)) there.7 same) in
           let once = entity_once i m there.0 first there.1 (later ++ c) there.2 one there.3 is there.5 split in
@@ -282,18 +289,18 @@ module _ (src : List ℕ) where
     left_ends p k rest more gs end (no_more _) here = (refl, refl, refl, refl)
     left_ends p k rest more gs end (space _ _ _ _ _ white _) here = absurd (let z : is_space 93 ≡ true = subst (λ (b : ℕ). is_space b ≡ true) here white in cc z)
     left_ends p k rest more gs end (an_item _ j _ x others _ _ one left) here = absurd (let less = item_less p (misc_opens p j x one) in omega arith)
-    left_ends p k rest more gs end (skipped_declaration _ j _ _ _ _ one left) here = absurd (let less = passed_less p one.opens in omega arith)
-    left_ends p k rest more gs end (an_entity _ j _ _ _ _ _ _ one left) here = absurd (let less = entity_less p one.begins.opens in omega arith)
+    left_ends p k rest more gs end (skipped_declaration _ _ _ _ _ passes closes left) here = absurd (let less = passed_less p passes in omega arith)
+    left_ends p k rest more gs end (an_entity _ j _ _ _ _ _ _ one left) here = absurd (let less = entity_less p (declaration_parts one).head.opens in omega arith)
 
     -- a document type declaration is read in one way
     pub doctypes_once : (i j k : ℕ) (xs ys : Forest Item) (a b : List Asked) (es fs : List Entity) → IsDoctype src i j xs a es → IsDoctype src i k ys b fs → SameAnswers a b → (j ≡ k) × (xs ≡ ys) × (a ≡ b) × (es ≡ fs)
-    doctypes_once i j k xs ys a b es fs (no_subset _ s begins closes) (no_subset _ t begins' closes') same = (ap (λ (s : ℕ). s + 1) (doctype_once i s t begins begins').2, refl, refl, refl)
+    doctypes_once i j k xs ys a b es fs (no_subset _ s begins closes) (no_subset _ t begins' closes') same = (ap (λ (s : ℕ). s + 1) (doctype_once i s t begins begins'), refl, refl, refl)
     doctypes_once i j k xs ys a b es fs (no_subset _ s begins closes) (with_subset _ t l _ _ _ begins' opens subset bracket closes') same =
-        let at = (doctype_once i s t begins begins').2 in let here : byte src t ≡ 62 = subst (λ (s : ℕ). byte src s ≡ 62) at closes in absurd (omega arith)
+        let at = doctype_once i s t begins begins' in let here : byte src t ≡ 62 = subst (λ (s : ℕ). byte src s ≡ 62) at closes in absurd (omega arith)
     doctypes_once i j k xs ys a b es fs (with_subset _ t l _ _ _ begins opens subset bracket closes) (no_subset _ s begins' closes') same =
-        let at = (doctype_once i t s begins begins').2 in let here : byte src s ≡ 91 = subst (λ (t : ℕ). byte src t ≡ 91) at opens in absurd (omega arith)
+        let at = doctype_once i t s begins begins' in let here : byte src s ≡ 91 = subst (λ (t : ℕ). byte src t ≡ 91) at opens in absurd (omega arith)
     doctypes_once i j k xs ys a b es fs (with_subset _ s m _ _ _ begins opens subset bracket closes) (with_subset _ t l _ _ _ begins' opens' subset' bracket' closes') same =
-        let at = (doctype_once i s t begins begins').2 in
+        let at = doctype_once i s t begins begins' in
         let first : Subset src (t + 1) m xs a es = subst (λ (s : ℕ). Subset src (s + 1) m xs a es) at subset in
         let same' : SameAnswers (a ++ []) b = subst (λ (a : List Asked). SameAnswers a b) (sym (append-nil a)) same in
         let r = subset_front l bracket' (t + 1) m xs ys a b [] es fs first subset' same' in

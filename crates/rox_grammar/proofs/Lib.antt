@@ -1,3 +1,4 @@
 pub mod CountForms
 pub mod NamesApart
 pub mod TagParts
+pub mod FirstEntity

@@ -40,9 +40,8 @@ entry name (Some text) = record { name = name; text = text } ∷ []
 -- What stands between two places of a source.
 module _ (src : List ℕ) where
   -- the white space between two things, one at least: from i up to j
-  pub record IsSpace (i j : ℕ) : Type 0 where
-    pub some : i < j
-    pub all : j ≡ spaces_end src i
+  abbrev pub IsSpace : ℕ → ℕ → Type 0
+  IsSpace i j = (i < j) × (j ≡ spaces_end src i)
 
   -- XML 4.2.2 [75] ExternalID
   pub data IsExternalID : ℕ → Request → ℕ → Type 0 where
@@ -58,13 +57,6 @@ module _ (src : List ℕ) where
     no_notation : (i : ℕ) → text_at "NDATA" src (spaces_end src i) ≡ false → MayHaveNotation false i (spaces_end src i)
     of_parameter : (i : ℕ) → MayHaveNotation true i i
 
-  -- The text is cut off where the name of a notation should stand: what is asked stands before it.
-  pub record CutsNotation (parameter : Bool) (i j : ℕ) : Type 0 where
-    pub is_general : parameter ≡ false
-    pub opens : text_at "NDATA" src (spaces_end src i) ≡ true
-    pub space_behind : IsSpace (spaces_end src i + 5) j
-    pub cut : length src ≤ j
-
   -- XML 4.2 [73] EntityDef, [74] PEDef: from i up to j, with what is asked there and the text that is declared, if any
   pub data IsDefinition (parameter : Bool) : ℕ → ℕ → List Asked → Option Replacement → Type 0 where
     internal : (i e j : ℕ) → IsQuoted src i e j → IsDefinition parameter i j [] (Some (record { source = take e src; start = i + 1 }))
@@ -78,38 +70,25 @@ module _ (src : List ℕ) where
 
   -- XML 4.2 [70] EntityDecl up to its definition, which begins at d; its name stands from n up to m, and may have a colon, which NS 7
   -- forbids
-  pub record BeginsEntity (i : ℕ) (parameter : Bool) (n m d : ℕ) : Type 0 where
-    pub opens : text_at "<!ENTITY" src i ≡ true
-    pub k : ℕ
-    pub space_before : IsSpace (i + 8) k
-    pub is_kind : IsKind k parameter n
-    pub name : IsName src n m
-    pub space_behind : IsSpace m d
+  pub data BeginsEntity (i : ℕ) (parameter : Bool) (n m d : ℕ) : Type 0 where
+    entity_begins : (k : ℕ) → text_at "<!ENTITY" src i ≡ true → IsSpace (i + 8) k → IsKind k parameter n → IsName src n m → IsSpace m d → BeginsEntity i parameter n m d
+
+  -- the declaration of an external entity that begins at i asks this, read up to p
+  pub data AsksAt (i : ℕ) (request : Request) (p : ℕ) : Type 0 where
+    external_entity : (parameter : Bool) (n m d e : ℕ) → BeginsEntity i parameter n m d → IsExternalID d request e → MayHaveNotation parameter e p → AsksAt i request p
+    -- The text is cut off where the name of a notation should stand: what is asked stands before it.
+    name_cut_off : (n m d e : ℕ) → BeginsEntity i false n m d → IsExternalID d request e → text_at "NDATA" src (spaces_end src e) ≡ true → IsSpace (spaces_end src e + 5) p
+        → length src ≤ p → AsksAt i request p
 
   -- XML 4.2 [70] EntityDecl. A literal may hold any `&` and `%`, which 2.3 [9] forbids, and a reference to the entity itself, which
   -- 4.1 (No Recursion) forbids: what it holds counts where the entity is referred to.
-  pub record IsEntityDeclaration (i j : ℕ) (asked : List Asked) (declared : List Entity) : Type 0 where
-    pub parameter : Bool
-    pub n : ℕ
-    pub m : ℕ
-    pub d : ℕ
-    pub begins : BeginsEntity i parameter n m d
-    pub e : ℕ
-    pub text : Option Replacement
-    pub definition : IsDefinition parameter d e asked text
-    pub declares : declared ≡ entry (slice src n m) text
-    pub closes : byte src (spaces_end src e) ≡ code ">"
-    pub next : j ≡ spaces_end src e + 1
+  pub data IsEntityDeclaration (i : ℕ) : ℕ → List Asked → List Entity → Type 0 where
+    entity_declaration : (parameter : Bool) (n m d e : ℕ) (asked : List Asked) (text : Option Replacement) → BeginsEntity i parameter n m d
+        → IsDefinition parameter d e asked text → byte src (spaces_end src e) ≡ code ">" → IsEntityDeclaration i (spaces_end src e + 1) asked (entry (slice src n m) text)
 
   -- XML 3.2 [45], 3.3 [52], 4.7 [82]: a declaration that is passed over stands here
   abbrev pub IsPassed : ℕ → Type 0
   IsPassed i = (text_at "<!ELEMENT" src i ≡ true) ⊎ ((text_at "<!ATTLIST" src i ≡ true) ⊎ (text_at "<!NOTATION" src i ≡ true))
-
-  -- It is passed over to its first `>`, whatever it holds. So attributes have no defaults (3.3.2) and no types (3.3.3).
-  pub record IsPassedOver (i j : ℕ) : Type 0 where
-    pub opens : IsPassed i
-    pub closes : byte_from (λ c. c == code ">") src i < length src
-    pub next : j ≡ byte_from (λ c. c == code ">") src i + 1
 
   -- XML 2.8 [28b] intSubset, but for the references to parameter entities of [28a]: its comments and processing instructions, what is
   -- asked, and the entities that are declared, each in order
@@ -118,7 +97,9 @@ module _ (src : List ℕ) where
     space : (i j : ℕ) (items : Forest Item) (asked : List Asked) (es : List Entity) → is_space (byte src i) ≡ true → Subset (i + 1) j items asked es → Subset i j items asked es
     an_item : (i j k : ℕ) (item : Item) (items : Forest Item) (asked : List Asked) (es : List Entity) → IsMisc src i j item → Subset j k items asked es
         → Subset i k (join (leaf item) items) asked es
-    skipped_declaration : (i j k : ℕ) (items : Forest Item) (asked : List Asked) (es : List Entity) → IsPassedOver i j → Subset j k items asked es → Subset i k items asked es
+    -- It is passed over to its first `>`, whatever it holds. So attributes have no defaults (3.3.2) and no types (3.3.3).
+    skipped_declaration : (i k : ℕ) (items : Forest Item) (asked : List Asked) (es : List Entity) → IsPassed i → byte_from (λ c. c == code ">") src i < length src
+        → Subset (byte_from (λ c. c == code ">") src i + 1) k items asked es → Subset i k items asked es
     an_entity : (i j k : ℕ) (items : Forest Item) (first asked : List Asked) (one es : List Entity) → IsEntityDeclaration i j first one → Subset j k items asked es
         → Subset i k items (first ++ asked) (one ++ es)
 
@@ -128,23 +109,13 @@ module _ (src : List ℕ) where
     no_external_id : (i : ℕ) → text_at "SYSTEM" src i ≡ false → text_at "PUBLIC" src i ≡ false → MayHaveExternalID i i
 
   -- XML 2.8 [28] doctypedecl up to its `>` or `[`, which stands at s. The name may have any colons, where NS 4 [16] wants a QName.
-  pub record BeginsDoctype (i s : ℕ) : Type 0 where
-    pub opens : text_at "<!DOCTYPE" src i ≡ true
-    pub n : ℕ
-    pub space_before : IsSpace (i + 9) n
-    pub m : ℕ
-    pub name : IsName src n m
-    pub x : ℕ
-    pub external : MayHaveExternalID (spaces_end src m) x
-    pub next : s ≡ spaces_end src x
+  pub data BeginsDoctype (i : ℕ) : ℕ → Type 0 where
+    doctype_begins : (n m x : ℕ) → text_at "<!DOCTYPE" src i ≡ true → IsSpace (i + 9) n → IsName src n m → MayHaveExternalID (spaces_end src m) x
+        → BeginsDoctype i (spaces_end src x)
 
   -- the document type declaration that begins at i is read up to p, within its subset: its nodes, and what is asked
-  pub record SubsetTo (i p : ℕ) (items : Forest Item) (asked : List Asked) : Type 0 where
-    pub s : ℕ
-    pub begins : BeginsDoctype i s
-    pub opens : byte src s ≡ code "["
-    pub declared : List Entity
-    pub read : Subset (s + 1) p items asked declared
+  pub data SubsetTo (i p : ℕ) (items : Forest Item) (asked : List Asked) : Type 0 where
+    subset_to : (s : ℕ) (declared : List Entity) → BeginsDoctype i s → byte src s ≡ code "[" → Subset (s + 1) p items asked declared → SubsetTo i p items asked
 
   -- XML 2.8 [28] doctypedecl. Its name need not be that of the root element, as 2.8 (Root Element Type) wants.
   pub data IsDoctype : ℕ → ℕ → Forest Item → List Asked → List Entity → Type 0 where

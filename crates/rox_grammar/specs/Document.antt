@@ -1,5 +1,5 @@
 -- Documents, and their limits.
-use Rattle.std.specs.Prelude.{◌≡◌, ℕ, ◌+◌, ◌-◌, ◌^◌, ◌≤◌, ◌⊎◌, Option, Bool, true, false, ◌&&◌, List, [], ◌∷◌, ◌++◌, length, if◌then◌else◌, bytes_eq, sum_by, flat_map}
+use Rattle.std.specs.Prelude.{◌≡◌, ℕ, ◌+◌, ◌-◌, ◌^◌, ◌≤◌, Option, Bool, true, false, ◌&&◌, List, [], ◌∷◌, ◌++◌, length, if◌then◌else◌, bytes_eq, sum_by, flat_map}
 use Rattle.std.specs.List.{list_any}
 use Rattle.rox_grammar.specs.Chars.{is_space}
 use Rattle.rox_grammar.specs.Forest.{Forest, Nil, Cons, join, size}
@@ -9,7 +9,7 @@ use Rattle.rox_grammar.specs.Names.{byte}
 use Rattle.rox_grammar.specs.Content.{Inclusion, IsMisc, IsElement}
 use Rattle.rox_grammar.specs.TextStart.{after_bom, MayHaveXmlDecl}
 use Rattle.rox_grammar.specs.Entities.{Entity, most_within, included_in_main}
-use Rattle.rox_grammar.specs.Doctype.{Request, Asked, IsExternalID, MayHaveNotation, CutsNotation, BeginsEntity, SubsetTo, IsDoctype}
+use Rattle.rox_grammar.specs.Doctype.{Request, Asked, AsksAt, SubsetTo, IsDoctype}
 use Rattle.rox_grammar.specs.WellNamed.{AreWellNamed}
 
 -- XML 2.8 [27] Misc, any number of them: comments, processing instructions and white space
@@ -19,10 +19,8 @@ pub data Misc (src : List ℕ) : ℕ → ℕ → Forest Item → Type 0 where
   an_item : (i j k : ℕ) (item : Item) (items : Forest Item) → IsMisc src i j item → Misc src j k items → Misc src i k (join (leaf item) items)
 
 -- XML 2.8 [22] prolog, up to its document type declaration or the root element, at p: with these comments and processing instructions
-pub record PrologTo (src : List ℕ) (p : ℕ) (items : Forest Item) : Type 0 where
-  pub declared_to : ℕ
-  pub declaration : MayHaveXmlDecl src (after_bom src) declared_to
-  pub misc : Misc src declared_to p items
+abbrev pub PrologTo : List ℕ → ℕ → Forest Item → Type 0
+PrologTo src p items = (i : ℕ) × MayHaveXmlDecl src (after_bom src) i × Misc src i p items
 
 -- XML 2.8 [22] prolog, up to the root element at p: whether it has a document type declaration, its nodes, what is asked for its
 -- entities, and the entities
@@ -32,18 +30,9 @@ pub data Prolog (src : List ℕ) (p : ℕ) : Bool → Forest Item → List Asked
   without_doctype : (before : Forest Item) → PrologTo src p before → Prolog src p false before [] []
 
 -- XML 2.1 [1] up to p, behind the root element: all nodes, where what `Front` says stands before the element
-pub record Behind (Includes : Inclusion) (src : List ℕ) (Front : ℕ → Forest Item → Type 0) (p : ℕ) (items : Forest Item) : Type 0 where
-  pub start : ℕ
-  pub before : Forest Item
-  pub ahead : Front start before
-  pub end : ℕ
-  pub openings_left : ℕ
-  pub one : Forest Item
-  pub element : IsElement true Includes src start end most_within openings_left one
-  pub after : Forest Item
-  pub misc : Misc src end p after
-  pub all : items ≡ join (join before one) after
-  pub well_named : AreWellNamed [] items
+pub data Behind (Includes : Inclusion) (src : List ℕ) (Front : ℕ → Forest Item → Type 0) (p : ℕ) : Forest Item → Type 0 where
+  element_and_misc : (i j openings_left : ℕ) (before one after : Forest Item) → Front i before → IsElement true Includes src i j most_within openings_left one
+      → Misc src j p after → AreWellNamed [] (join (join before one) after) → Behind Includes src Front p (join (join before one) after)
 
 -- XML 2.1 [1], 2.8 [22] document: whether it has a document type declaration, what is asked for its entities, and its top nodes.
 pub record ParseOf (src : List ℕ) (dtd : Bool) (asked : List Asked) (tree : Forest Item) : Type 0 where
@@ -99,8 +88,7 @@ Permits allow dtd = dtd ≡ true → allow ≡ true
 -- After these were asked, in order, this is asked next: the declaration of an external entity is read up to p, where the
 -- request is made, and everything before it is as the grammar wants.
 pub data AsksNext (src : List ℕ) (asked : List Asked) (request : Request) (p : ℕ) : Type 0 where
-  at_entity : (begun i n m d e : ℕ) (before nodes : Forest Item) (parameter : Bool) → PrologTo src begun before → SubsetTo src begun i nodes asked
-      → BeginsEntity src i parameter n m d → IsExternalID src d request e → MayHaveNotation src parameter e p ⊎ CutsNotation src parameter e p → AsksNext src asked request p
+  at_entity : (i j : ℕ) (before items : Forest Item) → PrologTo src i before → SubsetTo src i j items asked → AsksAt src j request p → AsksNext src asked request p
 
 -- What was asked, in order, while the text was read: for each its declaration stands next, after those before it. Nothing is asked
 -- where no document type declaration may stand.

@@ -1,6 +1,6 @@
 -- Entities, and what a reference to one opens (XML 4.4). A replacement text is read as a source of its own, which ends where
 -- the text ends; its places count as those of the source that it lies in: the main text, or the rest of a resolver's answer.
-use Rattle.std.specs.Prelude.{◌≡◌, ℕ, zero, suc, ◌+◌, Bool, true, false, List, [], ◌∷◌, Option, Some, None, length, bytes_eq, if◌then◌else◌}
+use Rattle.std.specs.Prelude.{◌≡◌, ℕ, zero, suc, ◌+◌, Bool, true, false, List, Option, Some, length, bytes_eq, find, option_map}
 use Rattle.rox_grammar.specs.Constructs.{AreChars}
 use Rattle.rox_grammar.specs.Content.{Inclusion, Content, Value}
 
@@ -17,8 +17,7 @@ pub record Entity : Type 0 where
 -- XML 4.2: of several declarations of a name the first is binding. Those of parameter entities count too, whose names 4.1 keeps
 -- apart. The five names of 4.6 are not looked for here: a declaration of one of them, as of `lt`, means nothing, whatever it says.
 abbrev pub text_of : List Entity → List ℕ → Option Replacement
-text_of [] name = None
-text_of (e ∷ es) name = if bytes_eq e.name name then Some e.text else text_of es name
+text_of es name = option_map (λ e. e.text) (find (λ e. bytes_eq e.name name) es)
 
 -- a reference outside replacement texts may open so many more within the text that it opens
 abbrev pub most_within : ℕ

@@ -14,7 +14,7 @@ use Rattle.rox_grammar.specs.Constructs.{text_at}
 use Rattle.rox_grammar.specs.Content.{Inclusion}
 use Rattle.rox_grammar.specs.TextStart.{after_bom}
 use Rattle.rox_grammar.specs.Entities.{Replacement, Entity, most_deep, no_entities, Includes}
-use Rattle.rox_grammar.specs.Doctype.{Request, Asked, IsSpace, IsExternalID, MayHaveNotation, CutsNotation, GivesReplacement, IsDefinition, BeginsEntity, IsPassed, SubsetTo}
+use Rattle.rox_grammar.specs.Doctype.{Request, Asked, IsSpace, GivesReplacement, IsDefinition, BeginsEntity, AsksAt, IsPassed, SubsetTo}
 use Rattle.rox_grammar.specs.OpenElements.{root, FitsLimits}
 use Rattle.rox_grammar.specs.Due.{a_byte, one_of, IsMissing, Misses, DueInXmlDecl, DueInEntity, DueInDoctype}
 use Rattle.rox_grammar.specs.ContentPoints.{is_main}
@@ -32,13 +32,11 @@ module _ (limit : ℕ) (src : List ℕ) (i p : ℕ) (items : Forest Item) (asked
     -- no `>` behind its definition, for which these are asked
     entity_open : (n m d e : ℕ) (parameter : Bool) (first : List Asked) (text : Option Replacement) (f : Fault) → BeginsEntity src p parameter n m d
         → IsDefinition src parameter d e first text → IsMissing src (spaces_end src e) (a_byte (code ">")) f → InSubset (asked ++ first) src f
-    -- the text ends where the name of its notation is due
-    entity_cut : (n m d e j : ℕ) (parameter : Bool) (request : Request) (answer : Option (List ℕ)) (text : Option Replacement) → BeginsEntity src p parameter n m d
-        → IsExternalID src d request e → CutsNotation src parameter e j → GivesReplacement answer text
+    -- the text ends behind what is asked there, or where the name of its notation is due
+    entity_cut : (j : ℕ) (request : Request) (answer : Option (List ℕ)) (text : Option Replacement) → AsksAt src p request j → length src ≤ j → GivesReplacement answer text
         → InSubset (asked ++ record { request = request; answer = answer } ∷ []) src fault.UnexpectedEndOfStream
     -- in the declaration of what is answered (XML 4.3.1 [77])
-    in_answer : (n m d e j : ℕ) (parameter : Bool) (request : Request) (answer : List ℕ) (f : Fault) → BeginsEntity src p parameter n m d → IsExternalID src d request e
-        → MayHaveNotation src parameter e j ⊎ CutsNotation src parameter e j → IsUtf8 answer → text_at "<?xml " answer (after_bom answer) ≡ true
+    in_answer : (j : ℕ) (request : Request) (answer : List ℕ) (f : Fault) → AsksAt src p request j → IsUtf8 answer → text_at "<?xml " answer (after_bom answer) ≡ true
         → Misses answer (DueInXmlDecl answer (after_bom answer)) f → InSubset (asked ++ record { request = request; answer = Some answer } ∷ []) answer f
     end_lacks : (f : Fault) → byte src p ≡ code "]" → IsMissing src (spaces_end src (p + 1)) (one_of due.End) f → InSubset asked src f
     -- nothing that a subset holds or that ends it, or the end behind white space

@@ -50,8 +50,8 @@ doctype_placed limit text i before asked source f (refused.InDoctype.in_subset p
 doctype_placed limit text i before asked source f (refused.InDoctype.in_subset p items _ _ _ _ to fits (refused.InSubset.not_passed is none)) = inl refl
 doctype_placed limit text i before asked source f (refused.InDoctype.in_subset p items _ _ _ _ to fits (refused.InSubset.in_entity _ is lacks)) = inl refl
 doctype_placed limit text i before asked source f (refused.InDoctype.in_subset p items before' _ _ _ to fits (refused.InSubset.entity_open n m d e parameter first o _ begins definition lacks)) = inl refl
-doctype_placed limit text i before asked source f (refused.InDoctype.in_subset p items before' _ _ _ to fits (refused.InSubset.entity_cut n m d e j parameter request answer o begins id cuts gives)) = inl refl
-doctype_placed limit text i before asked source f (refused.InDoctype.in_subset p items first _ _ _ to fits (refused.InSubset.in_answer n m d e j parameter request answer _ begins id behind utf8 opens (q, t, due, lacks))) =
+doctype_placed limit text i before asked source f (refused.InDoctype.in_subset p items before' _ _ _ to fits (refused.InSubset.entity_cut j request answer o asks past gives)) = inl refl
+doctype_placed limit text i before asked source f (refused.InDoctype.in_subset p items first _ _ _ to fits (refused.InSubset.in_answer j request answer _ asks utf8 opens (q, t, due, lacks))) =
     inr (declaration_placed source utf8 (after_bom source) q t f opens due lacks)
 doctype_placed limit text i before asked source f (refused.InDoctype.in_subset p items _ _ _ _ to fits (refused.InSubset.end_lacks _ is lacks)) = inl refl
 doctype_placed limit text i before asked source f (refused.InDoctype.in_subset p items _ _ _ _ to fits (refused.InSubset.unknown no_space no_entity no_comment no_instruction no_declaration no_bracket inside)) = inl refl

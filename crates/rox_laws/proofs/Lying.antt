@@ -22,6 +22,7 @@ use Rattle.rox_grammar.specs.FaultsWithDoctype.{InDoctype, RefusalOf}
 use Rattle.rox_grammar.specs.FaultsWithDoctype as refused
 use Rattle.rox_laws.specs.Sources.{IsLiteralIn, IsAnswerIn}
 use Rattle.rox_theory.specs.ParseParts as parts_of
+use Rattle.rox_theory.proofs.DoctypeParts.{declaration_parts}
 use Rattle.rox_theory.proofs.ParseParts.{prolog_parts}
 
 -- ---- of an entity
@@ -59,11 +60,12 @@ subset_lies : (text : List ℕ) (i j : ℕ) (items : Forest Item) (asked : List 
 subset_lies text i j items asked es (doctype.Subset.no_more _) name t found = cc found
 subset_lies text i j items asked es (doctype.Subset.space _ _ _ _ _ is more) name t found = subset_lies text (i + 1) j items asked es more name t found
 subset_lies text i j items asked es (doctype.Subset.an_item _ k _ item rest _ _ is more) name t found = subset_lies text k j rest asked es more name t found
-subset_lies text i j items asked es (doctype.Subset.skipped_declaration _ k _ _ _ _ is more) name t found = subset_lies text k j items asked es more name t found
+subset_lies text i j items asked es (doctype.Subset.skipped_declaration _ _ _ _ _ opens closes more) name t found = subset_lies text _ j items asked es more name t found
 subset_lies text i j items asked es (doctype.Subset.an_entity _ k _ _ first later one others is more) name t found =
-    let found' : text_of (entry (slice text is.n is.m) is.text ++ others) name ≡ Some t = subst (λ (own : List Entity). text_of (own ++ others) name ≡ Some t) is.declares found in
-    elim (of_first (slice text is.n is.m) is.text others name t found') as (λ q. Lies text (first ++ later) t.source) [
-      | inl here ↦ lies_among text first (first ++ later) t.source (λ x. Contains-append_left first later x) (definition_lies text is.parameter is.d is.e first is.text t is.definition here)
+    let b = declaration_parts is in
+    let found' : text_of (entry (slice text b.n b.m) b.text ++ others) name ≡ Some t = subst (λ (own : List Entity). text_of (own ++ others) name ≡ Some t) b.declares found in
+    elim (of_first (slice text b.n b.m) b.text others name t found') as (λ q. Lies text (first ++ later) t.source) [
+      | inl here ↦ lies_among text first (first ++ later) t.source (λ x. Contains-append_left first later x) (definition_lies text b.parameter b.d b.e first b.text t b.definition here)
       | inr behind ↦ lies_among text later (first ++ later) t.source (λ x. Contains-append_right first later x) (subset_lies text k j items later others more name t behind)
     ]
 
@@ -121,8 +123,8 @@ in_doctype limit text i before asked source f (refused.InDoctype.in_subset p ite
 in_doctype limit text i before asked source f (refused.InDoctype.in_subset p items _ _ _ _ to fits (refused.InSubset.not_passed is none)) = inl refl
 in_doctype limit text i before asked source f (refused.InDoctype.in_subset p items _ _ _ _ to fits (refused.InSubset.in_entity _ is lacks)) = inl refl
 in_doctype limit text i before asked source f (refused.InDoctype.in_subset p items before' _ _ _ to fits (refused.InSubset.entity_open n m d e parameter first o _ begins definition lacks)) = inl refl
-in_doctype limit text i before asked source f (refused.InDoctype.in_subset p items before' _ _ _ to fits (refused.InSubset.entity_cut n m d e j parameter request answer o begins id cuts gives)) = inl refl
-in_doctype limit text i before asked source f (refused.InDoctype.in_subset p items first _ _ _ to fits (refused.InSubset.in_answer n m d e j parameter request answer _ begins id behind utf8 opens (q, t, due, lacks))) =
+in_doctype limit text i before asked source f (refused.InDoctype.in_subset p items before' _ _ _ to fits (refused.InSubset.entity_cut j request answer o asks past gives)) = inl refl
+in_doctype limit text i before asked source f (refused.InDoctype.in_subset p items first _ _ _ to fits (refused.InSubset.in_answer j request answer _ asks utf8 opens (q, t, due, lacks))) =
     inr (record { request = request; answer = source; given = Contains-append_right first _ _ (0, omega arith, refl); part = inl refl })
 in_doctype limit text i before asked source f (refused.InDoctype.in_subset p items _ _ _ _ to fits (refused.InSubset.end_lacks _ is lacks)) = inl refl
 in_doctype limit text i before asked source f (refused.InDoctype.in_subset p items _ _ _ _ to fits (refused.InSubset.unknown no_space no_entity no_comment no_instruction no_declaration no_bracket inside)) = inl refl

@@ -15,6 +15,7 @@ use Rattle.rox_grammar.specs.Document.{ParseOf}
 use Rattle.rox_reading.proofs.Forests.{size-resolved}
 use Rattle.roxmltree.specs.Places.{Place, nowhere, preorder, place}
 use Rattle.roxmltree.specs.NodeParts.{is_element_node, listed_of}
+use Rattle.rox_theory.proofs.ParseParts.{well_named}
 use Rattle.rox_laws.specs.NearestDeclaration.{declared_at, declared_in, upwards, NoneDeclares, IsNearest, IsElementAt, xml, listed_uri}
 use Rattle.roxmltree.proofs.Preorder.{at, Sits, length-preorder}
 use Rattle.roxmltree.proofs.Tops.{whole_sits}
@@ -226,7 +227,7 @@ listed_by_none (tree.PI start end target value) p h = refl
 module _ (src : List ℕ) (tops : Forest Item) (tree : Forest Node) (shown : tree ≡ document_tree (length src) tops) where
   pub found_is_nearest : {dtd : Bool} {asked : List Asked} → ParseOf src dtd asked tops → (id : ℕ) (p : Option (List ℕ)) (u : List ℕ) → IsElementAt tree id → p ≢ xml → (listed_uri tree id p ≡ Some u) ↔ IsNearest tops tree id p u
   found_is_nearest parse id p u =
-      subst (λ (t : Forest Node). IsElementAt t id → p ≢ xml → (listed_uri t id p ≡ Some u) ↔ IsNearest tops t id p u) (sym shown) (found_in (length src) tops parse.whole.well_named id p u)
+      subst (λ (t : Forest Node). IsElementAt t id → p ≢ xml → (listed_uri t id p ≡ Some u) ↔ IsNearest tops t id p u) (sym shown) (found_in (length src) tops (well_named parse) id p u)
 
   pub none_is_declared : (id : ℕ) (p : Option (List ℕ)) → IsElementAt tree id → p ≢ xml → (listed_uri tree id p ≡ None) ↔ NoneDeclares tops p (upwards tree id)
   none_is_declared id p =

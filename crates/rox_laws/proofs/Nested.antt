@@ -116,7 +116,7 @@ top_nested src i j items (an_item _ k _ item others is rest) = misc_nested src i
 parse_nested : (src : List ℕ) (tops : Forest Item) → ParseOf src false [] tops → Nested 0 (length src) tops
 parse_nested src tops q =
     let p = (parse_without src [] tops q).1 in
-    let front = from_before 0 p.prolog.declared_to p.start p.before (omega arith) (top_nested src p.prolog.declared_to p.start p.before p.prolog.misc) in
+    let front = from_before 0 p.prolog.0 p.start p.before (omega arith) (top_nested src p.prolog.0 p.start p.before p.prolog.2) in
     let one = element_nested src p.start p.end 255 p.openings_left p.one p.element in
     let back = top_nested src p.end (length src) p.after p.misc_after in
     let all = nested_join 0 p.start (length src) p.before (join p.one p.after) front (nested_join p.start p.end (length src) p.one p.after one back) in

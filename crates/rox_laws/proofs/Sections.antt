@@ -204,7 +204,7 @@ top_sound src i j items (an_item _ k _ item others is rest) = (misc_sound src i 
 parse_sound : (src : List ℕ) (tops : Forest Item) → ParseOf src false [] tops → EachNode (Sound src) tops
 parse_sound src tops q =
     let p = (parse_without src [] tops q).1 in
-    let front = top_sound src p.prolog.declared_to p.start p.before p.prolog.misc in
+    let front = top_sound src p.prolog.0 p.start p.before p.prolog.2 in
     let one = element_sound src p.start p.end 255 p.openings_left p.one p.element in
     let back = top_sound src p.end (length src) p.after p.misc_after in
     subst (λ (f : Forest Item). EachNode (Sound src) f) (sym p.is_tree)

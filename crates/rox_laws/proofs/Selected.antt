@@ -207,7 +207,7 @@ top_has src i j items (an_item _ k _ item others is rest) = (misc_has src i k it
 parse_has : (src : List ℕ) (tops : Forest Item) → ParseOf src false [] tops → EachNode (Has src) tops
 parse_has src tops q =
     let p = (parse_without src [] tops q).1 in
-    let front = top_has src p.prolog.declared_to p.start p.before p.prolog.misc in
+    let front = top_has src p.prolog.0 p.start p.before p.prolog.2 in
     let one = element_has src p.start p.end 255 p.openings_left p.one p.element in
     let back = top_has src p.end (length src) p.after p.misc_after in
     subst (λ (f : Forest Item). EachNode (Has src) f) (sym p.is_tree)

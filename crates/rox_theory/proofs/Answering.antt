@@ -8,7 +8,7 @@ use Rattle.rox_grammar.specs.Forest.{Forest, Nil}
 use Rattle.rox_grammar.specs.Written.{Item}
 use Rattle.rox_grammar.specs.FixedTexts.{at}
 use Rattle.rox_grammar.specs.TextStart.{after_bom, MayHaveXmlDecl}
-use Rattle.rox_grammar.specs.Doctype.{Request, Asked}
+use Rattle.rox_grammar.specs.Doctype.{Request, Asked, subset_to}
 use Rattle.rox_grammar.specs.Document.{Misc, AsksNext, at_entity, HasAsked, nothing, one_more}
 use Rattle.rox_grammar.specs.State.{root}
 use Rattle.rox_reading.specs.Refusals.{Refusal, here, there, refused, IsTextRefusal, lifted}
@@ -64,9 +64,7 @@ module _ (src : List ℕ) (utf8 : IsUtf8 src) (allow : Bool) where
   module _ (i begun : ℕ) (before : Forest Item) (declares : MayHaveXmlDecl src (after_bom src) i) (ahead : Misc src i begun before) where
     later_next : (o : Opened src begun) (asked : List Asked) (request : Request) (p : ℕ) → Later src (o.s + 1) asked request p → AsksNext src asked request p
     later_next o asked request p l =
-        let a = l.asks in
-        at_entity begun l.j a.n a.m a.d a.e before l.nodes a.parameter (record { declared_to = i; declaration = declares; misc = ahead })
-        (record { s = o.s; begins = o.begins; opens = o.bracket; declared = l.es; read = l.items }) a.begins a.external a.notation
+        at_entity begun l.j before l.nodes (i, declares, ahead) (subset_to o.s l.es o.begins o.bracket l.items) l.asks
 
     later_asked : (o : Opened src begun) → allow ≡ true → (asked : List Asked) → HasLater src (o.s + 1) asked → HasAsked src allow asked
     later_asked o may asked not_yet = nothing

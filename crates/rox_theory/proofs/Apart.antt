@@ -120,7 +120,7 @@ top_subset : (src : List ℕ) (i j : ℕ) (items : Forest Item) (asked : List As
 top_subset src i j items asked es back (no_item _) h = h
 top_subset src i j items asked es back (subset_space _ _ _ _ _ here rest) h = top_subset src (i + 1) j items asked es back rest h
 top_subset src i j items asked es back (subset_item _ k _ item more _ _ is rest) h = top_item src i k item (join more back) is (top_subset src k j more asked es back rest h)
-top_subset src i j items asked es back (skipped_declaration _ k _ _ _ _ is rest) h = top_subset src k j items asked es back rest h
+top_subset src i j items asked es back (skipped_declaration _ _ _ _ _ _ _ rest) h = top_subset src _ j items asked es back rest h
 top_subset src i j items asked es back (an_entity _ k _ _ front more one others is rest) h = top_subset src k j items more others back rest h
 
 top_itself : (src : List ℕ) (i j : ℕ) (items : Forest Item) (asked : List Asked) (es : List Entity) (back : Forest Item) → IsDoctype src i j items asked es → Apart back → Apart (join items back)
@@ -139,7 +139,7 @@ parse_apart src dtd asked tree whole =
     let after : Apart (join p.after Nil) = top_misc src p.end (length src) p.after Nil p.misc_after tt in
     let one = top_element true (included_in_main p.entities) (opens_apart p.entities most_deep true) src p.start p.end 255 p.openings_left p.one p.after p.element (subst (λ (f : Forest Item). Apart f) (join-nil p.after) after) in
     let nodes = top_doctype src p.begun p.start dtd p.nodes asked p.entities (join p.one p.after) p.doctype one in
-    let all = top_misc src p.prolog.declared_to p.begun p.before (join p.nodes (join p.one p.after)) p.prolog.misc nodes in
+    let all = top_misc src p.prolog.0 p.begun p.before (join p.nodes (join p.one p.after)) p.prolog.2 nodes in
     subst (λ (f : Forest Item). Apart f) (sym p.is_tree) all
 
 -- what stands behind stays there

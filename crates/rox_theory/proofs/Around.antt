@@ -44,6 +44,7 @@ use Rattle.rox_theory.proofs.CharTexts.{run_cut}
 use Rattle.rox_theory.proofs.Standing.{IsValidState}
 use Rattle.rox_theory.proofs.Leaves.{with_leaf, fine_there, fits_counted, item_read}
 use Rattle.rox_theory.proofs.MarkupLemmas.{comment_sound, comment_complete, instruction_sound, instruction_complete}
+use Rattle.rox_theory.proofs.DoctypeParts.{doctype_parts}
 
 -- ---- where a character begins
 
@@ -322,8 +323,8 @@ none_agree src = record { sound = none_sound src; complete = none_complete src; 
 
 -- how it begins
 pub doctype_opens : (src : List ℕ) (i j : ℕ) (items : Forest Item) (asked : List Asked) (es : List Entity) → IsDoctype src i j items asked es → at word.DoctypeStart src i ≡ true
-doctype_opens src i j items asked es (no_subset _ s begins closes) = begins.opens
-doctype_opens src i j items asked es (with_subset _ s k _ _ _ begins more subset ends closes) = begins.opens
+doctype_opens src i j items asked es (no_subset _ s begins closes) = (doctype_parts begins).opens
+doctype_opens src i j items asked es (with_subset _ s k _ _ _ begins more subset ends closes) = (doctype_parts begins).opens
 
 -- what comes before it stops
 pub begins_stop : (src : List ℕ) (i j : ℕ) (dtd : Bool) (items : Forest Item) (asked : List Asked) (es : List Entity) → MayHaveDoctype src i j dtd items asked es → Stops src j → Stops src i

@@ -13,7 +13,7 @@ use Rattle.rox_grammar.specs.RunParts.{Parts}
 use Rattle.rox_grammar.specs.Entities.{Entity, included_in_main, most_deep}
 use Rattle.rox_grammar.specs.Chars.{is_name_char, is_space}
 use Rattle.rox_grammar.specs.Names.{IsName}
-use Rattle.rox_grammar.specs.Doctype.{Asked, IsQuoted, IsExternalID, system, public, MayHaveNotation, notation, no_notation, of_parameter, IsDefinition, internal, external, IsKind, of_parameter as parameter_kind, general, IsEntityDeclaration, IsPassedOver, Subset, no_more as no_item, space as subset_space, an_item as subset_item, skipped_declaration, an_entity as an_entity_declared, MayHaveExternalID, external_id, no_external_id, BeginsDoctype, IsDoctype, no_subset, with_subset}
+use Rattle.rox_grammar.specs.Doctype.{Asked, IsQuoted, IsExternalID, system, public, MayHaveNotation, notation, no_notation, of_parameter, IsDefinition, internal, external, IsKind, of_parameter as parameter_kind, general, BeginsEntity, entity_begins, IsEntityDeclaration, entity_declaration, Subset, no_more as no_item, space as subset_space, an_item as subset_item, skipped_declaration, an_entity as an_entity_declared, MayHaveExternalID, external_id, no_external_id, BeginsDoctype, doctype_begins, IsDoctype, no_subset, with_subset}
 use Rattle.rox_grammar.specs.Document.{Misc, no_misc, space, an_item, ParseOf}
 use Rattle.rox_theory.specs.ParseParts.{MayHaveDoctype, doctype, no_doctype}
 use Rattle.rox_grammar.specs.Expansion.{longest}
@@ -23,6 +23,7 @@ use Rattle.rox_theory.proofs.Onward.{run_onward, reference_onward, value_char, p
 use Rattle.rox_theory.proofs.Following.{few_opened, few_opened_in_value}
 use Rattle.rox_theory.proofs.Weights.{piece_most, section_most, misc_most, counts_weigh, more_times}
 use Rattle.rox_theory.proofs.Measures.{Measure, most_of, fewer, by_bytes, by_count, count_in}
+use Rattle.rox_theory.proofs.DoctypeParts.{passed_end}
 use Rattle.rox_theory.proofs.ParseParts.{parts}
 
 -- ---- the main text
@@ -191,17 +192,17 @@ name_onward : (src : List ℕ) (i j : ℕ) → IsName src i j → i ≤ j
 name_onward src i j is = let h = run_onward is_name_char src i in omega (arith, h, is.longest)
 
 external_onward : (src : List ℕ) (i j : ℕ) (request : _) → IsExternalID src i request j → i ≤ j
-external_onward src i j request (system _ s e _ opens before quoted) = let h = quoted_onward src s e j quoted in omega (arith, h, before.some)
+external_onward src i j request (system _ s e _ opens before quoted) = let h = quoted_onward src s e j quoted in omega (arith, h, before.0)
 external_onward src i j request (public _ p d k s e _ opens before one between quoted) =
     let h = quoted_onward src s e j quoted in
     let g = quoted_onward src p d k one in
-    omega (arith, h, g, before.some, between.some)
+    omega (arith, h, g, before.0, between.0)
 
 notation_onward : (src : List ℕ) (parameter : Bool) (i j : ℕ) → MayHaveNotation src parameter i j → i ≤ j
 notation_onward src parameter i j (notation _ s _ opens before name) =
     let h = run_onward is_space src i in
     let g = name_onward src s j name in
-    omega (arith, h, g, before.some)
+    omega (arith, h, g, before.0)
 notation_onward src parameter i j (no_notation _ none) = run_onward is_space src i
 notation_onward src parameter i j (of_parameter _) = omega arith
 
@@ -213,27 +214,27 @@ definition_onward src parameter i j asked text (external _ n _ request answer _ 
     omega (arith, h, g)
 
 kind_onward : (src : List ℕ) (i : ℕ) (parameter : Bool) (j : ℕ) → IsKind src i parameter j → i ≤ j
-kind_onward src i parameter j (parameter_kind _ _ here behind) = omega (arith, behind.some)
+kind_onward src i parameter j (parameter_kind _ _ here behind) = omega (arith, behind.0)
 kind_onward src i parameter j (general _ here) = omega arith
 
 declaration_onward : (src : List ℕ) (i j : ℕ) (asked : List Asked) (declared : List Entity) → IsEntityDeclaration src i j asked declared → i ≤ j
-declaration_onward src i j asked declared is =
-    let k = kind_onward src is.begins.k is.parameter is.n is.begins.is_kind in
-    let n = name_onward src is.n is.m is.begins.name in
-    let d = definition_onward src is.parameter is.d is.e asked is.text is.definition in
-    let s = run_onward is_space src is.e in
-    omega (arith, is.begins.space_before.some, k, n, is.begins.space_behind.some, d, s, is.next)
+declaration_onward src i j asked declared (entity_declaration parameter n m d e _ text (entity_begins k _ before kind name behind) definition _) =
+    let p = kind_onward src k parameter n kind in
+    let q = name_onward src n m name in
+    let r = definition_onward src parameter d e asked text definition in
+    let s = run_onward is_space src e in
+    omega (arith, before.0, p, q, behind.0, r, s)
 
-passed_onward : (src : List ℕ) (i j : ℕ) → IsPassedOver src i j → i ≤ j
-passed_onward src i j is = let h = byte_onward (λ c. c == 62) src i in omega (arith, h, is.next)
+passed_onward : (src : List ℕ) (i : ℕ) → i ≤ passed_end src i
+passed_onward src i = let h = byte_onward (λ c. c == 62) src i in omega (arith, h)
 
 begins_onward : (src : List ℕ) (i s : ℕ) → BeginsDoctype src i s → i ≤ s
-begins_onward src i s is =
-    let n = name_onward src is.n is.m is.name in
-    let a = run_onward is_space src is.m in
-    let x = may_onward (spaces_end src is.m) is.x is.external in
-    let b = run_onward is_space src is.x in
-    omega (arith, is.space_before.some, n, a, x, b, is.next)
+begins_onward src i s (doctype_begins n m x _ before name may) =
+    let q = name_onward src n m name in
+    let a = run_onward is_space src m in
+    let y = may_onward (spaces_end src m) x may in
+    let b = run_onward is_space src x in
+    omega (arith, before.0, q, a, y, b)
   where
     may_onward : (i j : ℕ) → MayHaveExternalID src i j → i ≤ j
     may_onward i j (external_id _ _ request id) = external_onward src i j request id
@@ -285,9 +286,9 @@ module _ (of : Forest Item → ℕ) (is_measure : Measure of) where
       let h = all_subset src j l more asked es rest in
       let f = is_measure.joined (leaf item) more in
       omega (arith, x, h, f)
-  all_subset src i l items asked es (skipped_declaration _ j _ _ _ _ is rest) =
-      let x = passed_onward src i j is in
-      let h = all_subset src j l items asked es rest in
+  all_subset src i l items asked es (skipped_declaration _ _ _ _ _ opens closes rest) =
+      let x = passed_onward src i in
+      let h = all_subset src (passed_end src i) l items asked es rest in
       omega (arith, x, h)
   all_subset src i l items asked es (an_entity_declared _ j _ _ first more one others is rest) =
       let x = declaration_onward src i j first one is in
@@ -324,7 +325,7 @@ pub parse_bounded : (of : Forest Item → ℕ) → Measure of → (src : List �
 parse_bounded of is_measure src dtd asked tree whole =
     let p = parts src dtd asked tree whole in
     let w = 256 * longest p.entities in
-    let before = all_misc of is_measure src p.prolog.declared_to p.begun p.before p.prolog.misc in
+    let before = all_misc of is_measure src p.prolog.0 p.begun p.before p.prolog.2 in
     let nodes = all_doctype of is_measure src p.begun p.start dtd p.nodes asked p.entities p.doctype in
     let one = element_bounded of is_measure p.entities src p.start p.end 255 p.openings_left p.one p.element in
     let after = all_misc of is_measure src p.end (length src) p.after p.misc_after in

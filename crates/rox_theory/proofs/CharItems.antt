@@ -223,7 +223,7 @@ subset_items : (src : List ℕ) (i j : ℕ) (items : Forest Item) (asked : List 
 subset_items src i j items asked es utf8 (no_item _) = tt
 subset_items src i j items asked es utf8 (subset_space _ _ _ _ _ here rest) = subset_items src (i + 1) j items asked es utf8 rest
 subset_items src i j items asked es utf8 (subset_item _ k _ item more _ _ is rest) = (misc_item src i k item utf8 is, tt, subset_items src k j more asked es utf8 rest)
-subset_items src i j items asked es utf8 (skipped_declaration _ k _ _ _ _ is rest) = subset_items src k j items asked es utf8 rest
+subset_items src i j items asked es utf8 (skipped_declaration _ _ _ _ _ _ _ rest) = subset_items src _ j items asked es utf8 rest
 subset_items src i j items asked es utf8 (an_entity_declared _ k _ _ front more one others is rest) = subset_items src k j items more others utf8 rest
 
 doctype_itself : (src : List ℕ) (i j : ℕ) (items : Forest Item) (asked : List Asked) (es : List Entity) → IsUtf8 src → IsDoctype src i j items asked es → ItemsChars items
@@ -243,6 +243,6 @@ parse_items src dtd asked tree utf8 whole =
     let one = element_items true (included_in_main p.entities) (opens_chars p.entities texts most_deep true) src utf8 p.start p.end 255 p.openings_left p.one p.element in
     let nodes = doctype_items src p.begun p.start dtd p.nodes asked p.entities utf8 p.doctype in
     let after = misc_items src p.end (length src) p.after utf8 p.misc_after in
-    let before = misc_items src p.prolog.declared_to p.begun p.before utf8 p.prolog.misc in
+    let before = misc_items src p.prolog.0 p.begun p.before utf8 p.prolog.2 in
     subst (λ (f : Forest Item). ItemsChars f) (sym p.is_tree)
     (items_joined p.before (join p.nodes (join p.one p.after)) before (items_joined p.nodes (join p.one p.after) nodes (items_joined p.one p.after one after)))

@@ -13,10 +13,11 @@ use Rattle.rox_grammar.specs.Names.{byte, slice, spaces_end}
 use Rattle.rox_grammar.specs.FixedTexts.{at}
 use Rattle.rox_grammar.specs.TextStart.{after_bom}
 use Rattle.rox_grammar.specs.Entities.{Replacement, Entity}
-use Rattle.rox_grammar.specs.Doctype.{Asked, IsQuoted, GivesReplacement, nothing, the_rest, IsDefinition, internal, external, entry, IsEntityDeclaration, Subset, no_more, space, an_item, skipped_declaration, an_entity, BeginsDoctype, IsDoctype, no_subset, with_subset}
+use Rattle.rox_grammar.specs.Doctype.{Asked, IsQuoted, GivesReplacement, nothing, the_rest, IsDefinition, internal, external, entry, IsEntityDeclaration, entity_declaration, Subset, no_more, space, an_item, skipped_declaration, an_entity, BeginsDoctype, IsDoctype, no_subset, with_subset}
 use Rattle.rox_grammar.specs.Document.{Permits}
 use Rattle.rox_theory.specs.ParseParts.{MayHaveDoctype, doctype, no_doctype}
 use Rattle.rox_grammar.specs.State.{Open, root}
+use Rattle.rox_grammar.proofs.FirstEntity.{text_of_first}
 use Rattle.rox_reading.specs.Refusals.{Refusal, here, there, refused, lifted}
 use Rattle.rox_reading.specs.State.{State}
 use Rattle.rox_reading.specs.Machine.{at_place}
@@ -34,6 +35,7 @@ use Rattle.rox_theory.proofs.Constructions.{comment_bytes, instruction_bytes}
 use Rattle.rox_theory.proofs.LiteralLemmas.{quote_ascii}
 use Rattle.rox_theory.proofs.CharTexts.{cut_at, cut_behind}
 use Rattle.rox_theory.proofs.Leaves.{fine_there, fine_before}
+use Rattle.rox_theory.proofs.DoctypeParts.{passed_end}
 use Rattle.rox_theory.proofs.DoctypeLemmas.{quoted_closes, quoted_le, doctype_head_sound, doctype_head_complete}
 use Rattle.rox_theory.proofs.Around.{Stops, DoctypesAgree, bom_cut, prolog_cut, misc_sound, misc_complete, doctype_opens}
 use Rattle.rox_theory.proofs.EntityLemmas.{either}
@@ -58,7 +60,7 @@ each_both (e ∷ es) more h k = (h.0, each_both es more h.1 k)
 each_named : (es : List Entity) → EachIsText es → AreTexts es
 each_named [] each name t h = cc h
 each_named (e ∷ es) each name t h =
-    chosen (bytes_eq e.name name) _ _ _ h
+    chosen (bytes_eq e.name name) _ _ _ (sym (text_of_first e es name) ∙ h)
     (λ this h. let is : e.text ≡ t = cc in subst IsText is each.0)
     (λ other h. each_named es each.1 name t h)
 
@@ -81,17 +83,17 @@ module _ (src : List ℕ) (utf8 : IsUtf8 src) where
       ((rest, IsCharBoundary-start _ rest), tt)
 
   declared_text : (i j : ℕ) (asked : List Asked) (es : List Entity) → IsEntityDeclaration src i j asked es → EachIsText es
-  declared_text i j asked es b = let declares = b.declares in rw declares (by_definition b.text asked b.definition)
+  declared_text i j asked es (entity_declaration parameter n m d e first text begins definition closes) = by_definition text first definition
     where
-      by_definition : (text : Option Replacement) (asked : List Asked) → IsDefinition src b.parameter b.d b.e asked text → EachIsText (entry (slice src b.n b.m) text)
-      by_definition text asked (internal _ e _ q) = (quoted_text b.d e b.e q, tt)
-      by_definition text asked (external _ n _ request answer _ is may gives) = given_text (slice src b.n b.m) answer text gives
+      by_definition : (text : Option Replacement) (asked : List Asked) → IsDefinition src parameter d e asked text → EachIsText (entry (slice src n m) text)
+      by_definition text asked (internal _ c _ q) = (quoted_text d c e q, tt)
+      by_definition text asked (external _ x _ request answer _ is may gives) = given_text (slice src n m) answer text gives
 
   subset_texts : (i k : ℕ) (items : Forest Item) (asked : List Asked) (es : List Entity) → Subset src i k items asked es → EachIsText es
   subset_texts i k items asked es (no_more _) = tt
   subset_texts i k items asked es (space _ _ _ _ _ is rest) = subset_texts (i + 1) k items asked es rest
   subset_texts i k items asked es (an_item _ j _ item more _ _ is rest) = subset_texts j k more asked es rest
-  subset_texts i k items asked es (skipped_declaration _ j _ _ _ _ is rest) = subset_texts j k items asked es rest
+  subset_texts i k items asked es (skipped_declaration _ _ _ _ _ opens closes rest) = subset_texts (passed_end src i) k items asked es rest
   subset_texts i k items asked es (an_entity _ j _ _ first more one others is rest) = each_both one others (declared_text i j first one is) (subset_texts j k items more others rest)
 
   doctype_texts : (i j : ℕ) (items : Forest Item) (asked : List Asked) (es : List Entity) → IsDoctype src i j items asked es → EachIsText es

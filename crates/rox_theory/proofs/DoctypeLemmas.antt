@@ -10,7 +10,7 @@ use Rattle.rox_grammar.specs.Chars.{is_space, is_name_start, is_name_char}
 use Rattle.rox_grammar.specs.Search.{byte_from}
 use Rattle.rox_grammar.specs.Names.{byte, slice, spaces_end, IsName}
 use Rattle.rox_grammar.specs.Entities.{Replacement}
-use Rattle.rox_grammar.specs.Doctype.{Request, IsQuoted, IsSpace, IsExternalID, system, public, MayHaveNotation, notation, no_notation, of_parameter, CutsNotation, IsKind, BeginsEntity, MayHaveExternalID, external_id, no_external_id, BeginsDoctype}
+use Rattle.rox_grammar.specs.Doctype.{Request, IsQuoted, IsSpace, IsExternalID, system, public, MayHaveNotation, notation, no_notation, of_parameter, IsKind, BeginsEntity, entity_begins, MayHaveExternalID, external_id, no_external_id, BeginsDoctype, doctype_begins}
 use Rattle.rox_grammar.specs.Doctype as grammar
 use Rattle.rox_reading.specs.Lexical.{byte_at, space_at, quote_at, name_at}
 use Rattle.rox_reading.specs.Doctype.{quoted_at, system_at, public_at, external_id_at, name_or_end_at, notation_at, Definition, inner, outer, definition_at, EntityHead, kind_at, entity_head_at, external_id_if, doctype_head_at}
@@ -22,6 +22,7 @@ use Rattle.rox_theory.proofs.DeclarationLemmas.{stands_reads, stands_fits}
 use Rattle.rox_theory.proofs.CharTexts.{cut_behind, run_cut}
 use Rattle.rox_theory.proofs.Places.{begins_within}
 use Rattle.rox_theory.proofs.StretchLemmas.{slice_length}
+use Rattle.rox_theory.proofs.DoctypeParts.{BeginsParts, begins_parts, CutsNotation, cuts_name}
 
 -- ---- white space
 
@@ -32,15 +33,15 @@ space_sound src i x h =
     chosen (leb (length src) i) _ _ _ h (λ out e. cc) (λ inside h. chosen (is_space (byte src i)) _ _ _ h
     (λ is e.
     let next : spaces_end src i ≡ x.1 = ap (λ p. p.1) (ok_same _ _ e) in
-    subst (IsSpace src i) next (record { some = space_some src i (leb-false _ _ inside) is; all = refl }))
+    subst (IsSpace src i) next (space_some src i (leb-false _ _ inside) is, refl))
     (λ other e. cc))
 
 -- and what stands there is read
 pub space_complete : (src : List ℕ) (i j : ℕ) → IsUtf8 src → IsCharBoundary src i → IsSpace src i j → space_at src i ≡ Ok (tt, j)
 unfolding space_at
 space_complete src i j utf8 cut s =
-    let all = s.all in
-    let some : i < spaces_end src i = omega (arith, s.some) in
+    let all = s.1 in
+    let some : i < spaces_end src i = omega (arith, s.0) in
     let inside : i < length src = elim (cases_lt i (length src)) as (λ s. i < length src) [ inl l ↦ l | inr past ↦ absurd (omega (arith, run_past is_space src i past)) ] in
     let k = lt-leb (length src) i inside in
     let is : is_space (byte src i) ≡ true = begins_byte is_space (λ c h. omega (arith, space_ascii c h)) src i utf8 cut (some_run is_space src i some) in
@@ -48,7 +49,7 @@ space_complete src i j utf8 cut s =
 
 -- a character begins behind it
 pub space_cut : (src : List ℕ) (i j : ℕ) → IsUtf8 src → IsCharBoundary src i → IsSpace src i j → IsCharBoundary src j
-space_cut src i j utf8 cut s = let all = s.all in rw all (run_cut is_space src i utf8 cut)
+space_cut src i j utf8 cut s = let all = s.1 in rw all (run_cut is_space src i utf8 cut)
 
 -- ---- characters in quotes
 
@@ -151,10 +152,10 @@ external_complete src i request j utf8 (public _ p d k s e _ is sp q sp' q') =
 -- a character begins behind it, within the source
 pub external_cut : (src : List ℕ) (i : ℕ) (request : Request) (j : ℕ) → IsUtf8 src → IsExternalID src i request j → IsCharBoundary src j × (i < j) × (i < length src)
 external_cut src i request j utf8 (system _ s e _ is sp q) =
-    let some = sp.some in let le = quoted_le src s e j q in
+    let some = sp.0 in let le = quoted_le src s e j q in
     (quoted_cut src s e j utf8 q, omega arith, omega arith)
 external_cut src i request j utf8 (public _ p d k s e _ is sp q sp' q') =
-    let some = sp.some in let le = quoted_le src p d k q in let some' = sp'.some in let le' = quoted_le src s e j q' in
+    let some = sp.0 in let le = quoted_le src p d k q in let some' = sp'.0 in let le' = quoted_le src s e j q' in
     (quoted_cut src s e j utf8 q', omega arith, omega arith)
 
 -- its first byte
@@ -197,7 +198,7 @@ notation_sound false src i x h =
     let e : n.1 ≡ x.1 = ap (λ p. p.1) (ok_same _ _ h) in
     elim (name_or_end src s.1 n named) as (λ _. MayHaveNotation src false i x.1 ⊎ CutsNotation src false i x.1) [
       | inl name ↦ inl (subst (MayHaveNotation src false i) e (notation i s.1 n.1 is sp name.0))
-      | inr cut ↦ inr (let e' : s.1 ≡ x.1 = sym cut.1 ∙ e in record { is_general = refl; opens = is; space_behind = subst (IsSpace src (spaces_end src i + 5)) e' sp; cut = subst (λ (k : ℕ). length src ≤ k) e' cut.0 })
+      | inr cut ↦ inr (let e' : s.1 ≡ x.1 = sym cut.1 ∙ e in cuts_name i x.1 is (subst (IsSpace src (spaces_end src i + 5)) e' sp) (subst (λ (k : ℕ). length src ≤ k) e' cut.0))
     ])))
     (λ none h. let e : spaces_end src i ≡ x.1 = ap (λ p. p.1) (ok_same _ _ h) in inl (subst (MayHaveNotation src false i) e (no_notation i none)))
 
@@ -288,7 +289,7 @@ kind_complete src i parameter j utf8 (grammar.general _ apart) = let e = ne_eqb 
 
 kind_cut : (src : List ℕ) (i : ℕ) (parameter : Bool) (j : ℕ) → IsUtf8 src → IsCharBoundary src i → IsKind src i parameter j → IsCharBoundary src j × (i ≤ j)
 kind_cut src i parameter j utf8 cut (grammar.of_parameter _ _ is sp) =
-    let some = sp.some in
+    let some = sp.0 in
     (space_cut src (i + 1) j utf8 (cut_behind src i 37 (i + 1) utf8 is (omega arith) (omega arith) refl) sp, omega arith)
 kind_cut src i parameter j utf8 cut (grammar.general _ apart) = (cut, omega arith)
 
@@ -302,12 +303,12 @@ head_sound src i x opens h =
     subst (λ (x : EntityHead × ℕ). (n : ℕ) × (m : ℕ) × BeginsEntity src i x.0.parameter n m x.1 × (x.0.name ≡ slice src n m)) (ok_same _ _ h) (
       kind.1,
       name.1,
-      record { opens = opens; k = k.1; space_before = space_sound src (i + 8) k spaced; is_kind = kind_sound src k.1 kind kinded; name = n.0; space_behind = space_sound src name.1 d spaced' },
+      entity_begins k.1 opens (space_sound src (i + 8) k spaced) (kind_sound src k.1 kind kinded) n.0 (space_sound src name.1 d spaced'),
       n.1,
     )))))
 
 -- a character begins at each of its places
-pub record HeadCuts (src : List ℕ) (i : ℕ) (parameter : Bool) (n m d : ℕ) (b : BeginsEntity src i parameter n m d) : Type 0 where
+pub record HeadCuts (src : List ℕ) (i : ℕ) (parameter : Bool) (n m d : ℕ) (b : BeginsParts src i parameter n m d) : Type 0 where
   pub at_word : IsCharBoundary src (i + 8)
   pub at_kind : IsCharBoundary src b.k
   pub at_name : IsCharBoundary src n
@@ -315,7 +316,7 @@ pub record HeadCuts (src : List ℕ) (i : ℕ) (parameter : Bool) (n m d : ℕ) 
   pub at_definition : IsCharBoundary src d
   pub forward : i < d
 
-pub head_cuts : (src : List ℕ) (i : ℕ) (parameter : Bool) (n m d : ℕ) → IsUtf8 src → (b : BeginsEntity src i parameter n m d) → HeadCuts src i parameter n m d b
+pub head_cuts : (src : List ℕ) (i : ℕ) (parameter : Bool) (n m d : ℕ) → IsUtf8 src → (b : BeginsParts src i parameter n m d) → HeadCuts src i parameter n m d b
 head_cuts src i parameter n m d utf8 b =
     let last : i + 7 + 1 ≡ i + 8 = omega arith in
     let one = subst (IsCharBoundary src) last (word_cut word.EntityStart src i 7 89 utf8 b.opens (omega arith) refl (omega arith) (omega arith)) in
@@ -323,12 +324,13 @@ head_cuts src i parameter n m d utf8 b =
     let three = kind_cut src b.k parameter n utf8 two b.is_kind in
     let l = b.name.longest in
     let four : IsCharBoundary src m = rw l (run_cut is_name_char src n utf8 three.0) in
-    let some = b.space_before.some in let some' = b.space_behind.some in
+    let some = b.space_before.0 in let some' = b.space_behind.0 in
     record { at_word = one; at_kind = two; at_name = three.0; behind_name = four; at_definition = space_cut src m d utf8 four b.space_behind; forward = omega (arith, three.1, run_end_le is_name_char src n) }
 
 -- it goes forward
 pub head_moves : (src : List ℕ) (i : ℕ) (parameter : Bool) (n m d : ℕ) → IsUtf8 src → BeginsEntity src i parameter n m d → (i < d) × (i < length src)
-head_moves src i parameter n m d utf8 b =
+head_moves src i parameter n m d utf8 is =
+    let b = begins_parts is in
     let c = head_cuts src i parameter n m d utf8 b in
     let fits = stands_fits (word_text word.EntityStart) src i (omega arith) b.opens in
     (c.forward, omega arith)
@@ -337,7 +339,8 @@ head_moves src i parameter n m d utf8 b =
 pub head_complete : (src : List ℕ) (i : ℕ) (parameter : Bool) (n m d : ℕ) → IsUtf8 src → BeginsEntity src i parameter n m d
     → entity_head_at src i ≡ Ok (record { parameter = parameter; name = slice src n m }, d)
 unfolding entity_head_at
-head_complete src i parameter n m d utf8 b =
+head_complete src i parameter n m d utf8 is =
+    let b = begins_parts is in
     let c = head_cuts src i parameter n m d utf8 b in
     let one = space_complete src (i + 8) b.k utf8 c.at_word b.space_before in
     let two = kind_complete src b.k parameter n utf8 b.is_kind in
@@ -389,7 +392,7 @@ doctype_head_sound src i x utf8 opens h inside =
     let e : spaces_end src y.1 ≡ x.1 = ap (λ p. p.1) (ok_same _ _ h) in
     let m = if_sound src (spaces_end src name.1) y may in
     elim (name_or_end src n.1 name named) as (λ _. BeginsDoctype src i x.1) [
-      | inl is ↦ record { opens = opens; n = n.1; space_before = space_sound src (i + 9) n spaced; m = name.1; name = is.0; x = y.1; external = m; next = sym e }
+      | inl is ↦ subst (BeginsDoctype src i) e (doctype_begins n.1 name.1 y.1 opens (space_sound src (i + 9) n spaced) is.0 m)
       | inr cut ↦ absurd (
           let far = run_end_le is_space src name.1 in
           let same : name.1 ≡ n.1 = cut.1 in
@@ -400,11 +403,10 @@ doctype_head_sound src i x utf8 opens h inside =
 -- what stands there is read
 pub doctype_head_complete : (src : List ℕ) (i s : ℕ) → IsUtf8 src → BeginsDoctype src i s → doctype_head_at src i ≡ Ok (tt, s)
 unfolding doctype_head_at
-doctype_head_complete src i s utf8 b =
+doctype_head_complete src i s utf8 (doctype_begins n m x opens space name external) =
     let last : i + 8 + 1 ≡ i + 9 = omega arith in
-    let cut = subst (IsCharBoundary src) last (word_cut word.DoctypeStart src i 8 69 utf8 b.opens (omega arith) refl (omega arith) (omega arith)) in
-    let one = space_complete src (i + 9) b.n utf8 cut b.space_before in
-    let two = named_there src b.n b.m b.name in
-    let three = if_complete src (spaces_end src b.m) b.x utf8 b.external in
-    let next = b.next in
-    rw (one, two, three, ← next) refl
+    let cut = subst (IsCharBoundary src) last (word_cut word.DoctypeStart src i 8 69 utf8 opens (omega arith) refl (omega arith) (omega arith)) in
+    let one = space_complete src (i + 9) n utf8 cut space in
+    let two = named_there src n m name in
+    let three = if_complete src (spaces_end src m) x utf8 external in
+    rw (one, two, three) refl

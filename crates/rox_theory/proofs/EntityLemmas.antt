@@ -10,7 +10,7 @@ use Rattle.rox_grammar.specs.Names.{byte, slice, spaces_end}
 use Rattle.rox_grammar.specs.FixedTexts.{at}
 use Rattle.rox_grammar.specs.TextStart.{after_bom, MayHaveXmlDecl, declared, not_declared}
 use Rattle.rox_grammar.specs.Entities.{Replacement, Entity}
-use Rattle.rox_grammar.specs.Doctype.{Request, Asked, IsExternalID, MayHaveNotation, notation, no_notation, of_parameter, CutsNotation, GivesReplacement, nothing, the_rest, IsDefinition, internal, external, BeginsEntity, entry, IsEntityDeclaration}
+use Rattle.rox_grammar.specs.Doctype.{Request, Asked, IsExternalID, MayHaveNotation, notation, no_notation, of_parameter, GivesReplacement, nothing, the_rest, IsDefinition, internal, external, BeginsEntity, AsksAt, external_entity, entry, IsEntityDeclaration, entity_declaration}
 use Rattle.rox_reading.specs.Lexical.{byte_at}
 use Rattle.rox_reading.specs.Markup.{xml_decl_at}
 use Rattle.rox_reading.specs.Refusals.{Refusal, here, there, refused, IsTextRefusal}
@@ -21,6 +21,7 @@ use Rattle.rox_reading.proofs.Settling.{once, declared_there, entity_run, inner_
 use Rattle.rox_theory.proofs.Basics.{ok_same, chosen, within, byte_sound, byte_complete, run_end_le}
 use Rattle.rox_theory.proofs.DeclarationLemmas.{declaration_opens, declaration_sound, declaration_complete}
 use Rattle.rox_theory.proofs.CharTexts.{cut_behind}
+use Rattle.rox_theory.proofs.DoctypeParts.{declaration_parts, CutsNotation, notation_past, asks_at}
 use Rattle.rox_theory.proofs.DoctypeLemmas.{quoted_le, external_cut, head_sound, head_complete, head_moves, definition_sound, inner_complete, outer_complete}
 
 -- what a result is
@@ -66,20 +67,9 @@ answer_fault (Some t) e h =
 
 -- ---- what is asked
 
--- a declaration at i asks this, up to p
-pub record AsksHere (src : List ℕ) (i : ℕ) (request : Request) (p : ℕ) : Type 0 where
-  pub parameter : Bool
-  pub n : ℕ
-  pub m : ℕ
-  pub d : ℕ
-  pub begins : BeginsEntity src i parameter n m d
-  pub e : ℕ
-  pub external : IsExternalID src d request e
-  pub notation : MayHaveNotation src parameter e p ⊎ CutsNotation src parameter e p
-
 -- nothing is asked, or this once
 abbrev pub OnceAsked : List ℕ → ℕ → List Asked → Type 0
-OnceAsked src i asked = (asked ≡ []) ⊎ ((request : Request) × (answer : Option (List ℕ)) × (p : ℕ) × (asked ≡ once request answer) × AsksHere src i request p)
+OnceAsked src i asked = (asked ≡ []) ⊎ ((request : Request) × (answer : Option (List ℕ)) × (p : ℕ) × (asked ≡ once request answer) × AsksAt src i request p)
 
 -- ---- what is read stands there
 
@@ -94,7 +84,7 @@ abbrev pub EntityOutcome : List ℕ → Dtd → Asks Dtd → Type 0
 EntityOutcome src d (asked, Ok e) = EntityRead src d asked e
 EntityOutcome src d (asked, Err (here f)) = OnceAsked src d.state.at asked
 EntityOutcome src d (asked, Err (there source f)) = OnceAsked src d.state.at asked
-EntityOutcome src d (asked, Err (refused request p message)) = (asked ≡ []) × AsksHere src d.state.at request p
+EntityOutcome src d (asked, Err (refused request p message)) = (asked ≡ []) × AsksAt src d.state.at request p
 
 -- a fault of the text
 fault_outcome : (src : List ℕ) (d : Dtd) (asked : List Asked) (e : Refusal) → IsTextRefusal e → OnceAsked src d.state.at asked → EntityOutcome src d (asked, Err e)
@@ -110,7 +100,7 @@ next_text (r ∷ rs) h = h
 not_cut : (src : List ℕ) (parameter : Bool) (i p : ℕ) → byte src (spaces_end src p) ≡ 62 → MayHaveNotation src parameter i p ⊎ CutsNotation src parameter i p → MayHaveNotation src parameter i p
 not_cut src parameter i p closes (inl may) = may
 not_cut src parameter i p closes (inr cuts) =
-    let inside = within src (spaces_end src p) (λ z. omega arith) in let past = cuts.cut in
+    let inside = within src (spaces_end src p) (λ z. omega arith) in let past = notation_past cuts in
     absurd (omega (arith, run_end_le is_space src p))
 
 module _ (src : List ℕ) (utf8 : IsUtf8 src) where
@@ -127,29 +117,19 @@ module _ (src : List ℕ) (utf8 : IsUtf8 src) where
       entity_is asked text p j rs fine definition closes next =
           record {
             es = entry head.0.name text;
-            is = record {
-              parameter = head.0.parameter;
-              n = begun.0;
-              m = begun.1;
-              d = head.1;
-              begins = begun.2;
-              e = p;
-              text = text;
-              definition = definition;
-              declares = ap (λ (name : List ℕ). entry name text) begun.3;
-              closes = closes;
-              next = next;
-            };
+            is = subst (λ (name : List ℕ). IsEntityDeclaration src d.state.at j asked (entry name text)) (sym begun.3)
+                (subst (λ (j : ℕ). IsEntityDeclaration src d.state.at j asked (entry (slice src begun.0 begun.1) text)) (sym next)
+                (entity_declaration head.0.parameter begun.0 begun.1 head.1 p asked text begun.2 definition closes));
             state_is = refl;
             entities_are = refl;
             texts = fine;
           }
 
       module _ (request : Request) (j : ℕ) (is : definition_at head.0.parameter src head.1 ≡ Ok (outer request, j)) where
-        asks_here : AsksHere src d.state.at request j
+        asks_here : AsksAt src d.state.at request j
         asks_here =
             let s = definition_sound head.0.parameter src head.1 (outer request, j) is in
-            record { parameter = head.0.parameter; n = begun.0; m = begun.1; d = head.1; begins = begun.2; e = s.0; external = s.1; notation = s.2 }
+            asks_at head.0.parameter begun.0 begun.1 head.1 s.0 begun.2 s.1 s.2
 
         asked_once : (answer : Option (List ℕ)) → OnceAsked src d.state.at (once request answer)
         asked_once answer = inr (request, answer, j, refl, asks_here)
@@ -202,17 +182,16 @@ module _ (src : List ℕ) (utf8 : IsUtf8 src) where
 
   -- a declaration asks nothing, or once
   pub declared_asks : (i j : ℕ) (asked : List Asked) (es : List Entity) → IsEntityDeclaration src i j asked es → OnceAsked src i asked
-  declared_asks i j asked es b = by_definition b.text asked b.definition
+  declared_asks i j asked es (entity_declaration parameter n m d e first text begins definition closes) = by_definition text first definition
     where
-      by_definition : (text : Option Replacement) (asked : List Asked) → IsDefinition src b.parameter b.d b.e asked text → OnceAsked src i asked
-      by_definition text asked (internal _ e _ q) = inl refl
-      by_definition text asked (external _ n _ request answer _ is may gives) =
-          inr (request, answer, b.e, refl, record { parameter = b.parameter; n = b.n; m = b.m; d = b.d; begins = b.begins; e = n; external = is; notation = inl may })
+      by_definition : (text : Option Replacement) (asked : List Asked) → IsDefinition src parameter d e asked text → OnceAsked src i asked
+      by_definition text asked (internal _ c _ q) = inl refl
+      by_definition text asked (external _ x _ request answer _ is may gives) = inr (request, answer, e, refl, external_entity parameter n m d x begins is may)
 
   -- what it is goes forward
   notation_moves : (parameter : Bool) (i j : ℕ) → MayHaveNotation src parameter i j → i ≤ j
   notation_moves parameter i j (notation _ s _ is sp name) =
-      let l = name.longest in let some = sp.some in
+      let l = name.longest in let some = sp.0 in
       omega (arith, run_end_le is_space src i, run_end_le is_name_char src s)
   notation_moves parameter i j (no_notation _ none) = omega (arith, run_end_le is_space src i)
   notation_moves parameter i j (of_parameter _) = omega arith
@@ -223,7 +202,8 @@ module _ (src : List ℕ) (utf8 : IsUtf8 src) where
 
   -- it goes forward, and a character begins behind it
   pub entity_moves : (i j : ℕ) (asked : List Asked) (es : List Entity) → IsEntityDeclaration src i j asked es → (i < length src) × (i < j) × (j ≤ length src) × IsCharBoundary src j
-  entity_moves i j asked es b =
+  entity_moves i j asked es is =
+      let b = declaration_parts is in
       let h = head_moves src i b.parameter b.n b.m b.d utf8 b.begins in
       let l = within src (spaces_end src b.e) (λ z. omega (arith, b.closes)) in
       let next = b.next in
@@ -232,19 +212,17 @@ module _ (src : List ℕ) (utf8 : IsUtf8 src) where
 
   pub entity_complete : (d : Dtd) (j : ℕ) (asked : List Asked) (es : List Entity) → IsEntityDeclaration src d.state.at j asked es
       → Answered (entity_run src d) asked (record { state = at_place j d.state; entities = d.entities ++ es; replies = d.replies })
-  entity_complete d j asked es b =
-      let declares = b.declares in let next = b.next in
-      rw (declares, next) (by_definition b.text asked b.definition)
+  entity_complete d j asked es (entity_declaration parameter n m x e first text begins definition ends) = by_definition text first definition
     where
       head : EntityHead × ℕ
-      head = (record { parameter = b.parameter; name = slice src b.n b.m }, b.d)
+      head = (record { parameter = parameter; name = slice src n m }, x)
 
-      closes : byte_at 62 src (spaces_end src b.e) ≡ Ok (tt, spaces_end src b.e + 1)
-      closes = byte_complete 62 src (spaces_end src b.e) b.closes (λ z. omega arith)
+      closes : byte_at 62 src (spaces_end src e) ≡ Ok (tt, spaces_end src e + 1)
+      closes = byte_complete 62 src (spaces_end src e) ends (λ z. omega arith)
 
-      by_definition : (text : Option Replacement) (asked : List Asked) → IsDefinition src b.parameter b.d b.e asked text → Answered (entity_run src d) asked (declared_there d head.0 text (spaces_end src b.e + 1))
-      by_definition text asked (internal _ e _ q) =
-          inner_read src d head (head_complete src d.state.at b.parameter b.n b.m b.d utf8 b.begins) (record { source = take e src; start = b.d + 1 }) b.e (inner_complete b.parameter src b.d e b.e q) tt (spaces_end src b.e + 1) closes
-      by_definition text asked (external _ n _ request answer _ is may gives) =
-          outer_read src d head (head_complete src d.state.at b.parameter b.n b.m b.d utf8 b.begins) request b.e (outer_complete b.parameter src b.d n b.e request utf8 is may) answer text tt (spaces_end src b.e + 1)
+      by_definition : (text : Option Replacement) (asked : List Asked) → IsDefinition src parameter x e asked text → Answered (entity_run src d) asked (declared_there d head.0 text (spaces_end src e + 1))
+      by_definition text asked (internal _ c _ q) =
+          inner_read src d head (head_complete src d.state.at parameter n m x utf8 begins) (record { source = take c src; start = x + 1 }) e (inner_complete parameter src x c e q) tt (spaces_end src e + 1) closes
+      by_definition text asked (external _ c _ request answer _ is may gives) =
+          outer_read src d head (head_complete src d.state.at parameter n m x utf8 begins) request e (outer_complete parameter src x c e request utf8 is may) answer text tt (spaces_end src e + 1)
           (answer_complete answer text gives) closes

@@ -43,6 +43,7 @@ pub mod CharSigns
 pub mod CharItems
 pub mod Chains
 pub mod Derivations
+pub mod DoctypeParts
 pub mod DoctypeLemmas
 pub mod EntityLemmas
 pub mod ParseParts

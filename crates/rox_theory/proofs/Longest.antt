@@ -6,11 +6,12 @@ use Rattle.rox_grammar.specs.Forest.{Forest}
 use Rattle.rox_grammar.specs.Written.{Item}
 use Rattle.rox_grammar.specs.Names.{slice}
 use Rattle.rox_grammar.specs.Entities.{Replacement, Entity}
-use Rattle.rox_grammar.specs.Doctype.{Asked, GivesReplacement, nothing, the_rest, IsDefinition, internal, external, entry, IsEntityDeclaration, Subset, no_more, space, an_item, skipped_declaration, an_entity, IsDoctype, no_subset, with_subset}
+use Rattle.rox_grammar.specs.Doctype.{Asked, GivesReplacement, nothing, the_rest, IsDefinition, internal, external, entry, IsEntityDeclaration, entity_declaration, Subset, no_more, space, an_item, skipped_declaration, an_entity, IsDoctype, no_subset, with_subset}
 use Rattle.rox_grammar.specs.Document.{ParseOf}
 use Rattle.rox_theory.specs.ParseParts.{MayHaveDoctype, doctype, no_doctype}
 use Rattle.rox_grammar.specs.Expansion.{longest}
 use Rattle.rox_theory.specs.Answers.{AreShort}
+use Rattle.rox_theory.proofs.DoctypeParts.{passed_end}
 use Rattle.rox_theory.proofs.ParseParts.{parts}
 
 short_parts : (most : ℕ) (first later : List Asked) → AreShort most (first ++ later) → AreShort most first × AreShort most later
@@ -42,15 +43,14 @@ module _ (src : List ℕ) (most : ℕ) where
   entry_short name (Some t) h = omega (arith, h)
 
   declaration_short : (i j : ℕ) (asked : List Asked) (declared : List Entity) → IsEntityDeclaration src i j asked declared → AreShort most asked → longest declared ≤ max (length src) most
-  declaration_short i j asked declared is h =
-      subst (λ (es : List Entity). longest es ≤ max (length src) most) (sym is.declares)
-      (entry_short (slice src is.n is.m) is.text (definition_short is.parameter is.d is.e asked is.text is.definition h))
+  declaration_short i j asked declared (entity_declaration parameter n m d e _ text begins definition closes) h =
+      entry_short (slice src n m) text (definition_short parameter d e asked text definition h)
 
   subset_short : (i j : ℕ) (items : Forest Item) (asked : List Asked) (es : List Entity) → Subset src i j items asked es → AreShort most asked → longest es ≤ max (length src) most
   subset_short i j items asked es (no_more _) h = omega arith
   subset_short i j items asked es (space _ _ _ _ _ here rest) h = subset_short (i + 1) j items asked es rest h
   subset_short i j items asked es (an_item _ k _ item more _ _ is rest) h = subset_short k j more asked es rest h
-  subset_short i j items asked es (skipped_declaration _ k _ _ _ _ is rest) h = subset_short k j items asked es rest h
+  subset_short i j items asked es (skipped_declaration _ _ _ _ _ opens closes rest) h = subset_short (passed_end src i) j items asked es rest h
   subset_short i j items asked es (an_entity _ k _ _ first later one others is rest) h =
       let x = short_parts most first later h in
       longest_both (max (length src) most) one others (declaration_short i k first one is x.0) (subset_short k j items later others rest x.1)

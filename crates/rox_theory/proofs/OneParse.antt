@@ -63,7 +63,7 @@ bare_subset : (src : List ℕ) (i j : ℕ) (items : Forest Item) (asked : List A
 bare_subset src i j items asked es (no_more _) = (refl, refl)
 bare_subset src i j items asked es (dtd.space _ _ _ _ _ s m) = bare_subset src (i + 1) j items asked es m
 bare_subset src i j items asked es (dtd.an_item _ k _ item more _ _ one m) = bare_item src i k item more one (bare_subset src k j more asked es m)
-bare_subset src i j items asked es (skipped_declaration _ k _ _ _ _ one m) = bare_subset src k j items asked es m
+bare_subset src i j items asked es (skipped_declaration _ _ _ _ _ _ _ m) = bare_subset src _ j items asked es m
 bare_subset src i j items asked es (an_entity _ k _ _ first later one others is m) = bare_subset src k j items later others m
 
 bare_itself : (src : List ℕ) (i j : ℕ) (items : Forest Item) (asked : List Asked) (es : List Entity) → IsDoctype src i j items asked es → IsBare items
@@ -112,17 +112,20 @@ module _ (src : List ℕ) (utf8 : IsUtf8 src) where
         let read = ok_same _ _ (ap (λ (r : Asks Dtd). r.1) both) in
         (ap (λ (r : Asks Dtd). r.0) both, ap (λ (d : Dtd). d.state.at) read, ap (λ (d : Dtd). d.state.done) read, ap (λ (d : Dtd). d.entities) read)
 
+    same_joined : {a b c d e f g h : Forest Item} → a ≡ b → c ≡ d → e ≡ f → g ≡ h → join a (join c (join e g)) ≡ join b (join d (join f h))
+    same_joined p q r s = rw (p, q, r, s) refl
+
     -- for the same answers there is one parse
     pub one_parse : (d e : Bool) (a b : List Asked) (t u : Forest Item) → ParseOf src d a t → ParseOf src e b u → Permits allow d → Permits allow e → replies_of a ≡ replies_of b
         → (d ≡ e) × (a ≡ b) × (t ≡ u)
     one_parse d e a b t u first second permits permits' answers =
         let p = parts src d a t first in
         let q = parts src e b u second in
-        let declared = ok_one p.prolog.declared_to q.prolog.declared_to (prolog src (after_bom src)) (prolog_complete src utf8 (after_bom src) p.prolog.declared_to p.prolog.declaration) (prolog_complete src utf8 (after_bom src) q.prolog.declared_to q.prolog.declaration) in
+        let declared = ok_one p.prolog.0 q.prolog.0 (prolog src (after_bom src)) (prolog_complete src utf8 (after_bom src) p.prolog.0 p.prolog.1) (prolog_complete src utf8 (after_bom src) q.prolog.0 q.prolog.1) in
         let stops = element_stops true (included_in_main p.entities) src p.start p.end 255 p.openings_left p.one p.element in
         let stops' = element_stops true (included_in_main q.entities) src q.start q.end 255 q.openings_left q.one q.element in
-        let before = one_misc p.prolog.declared_to q.prolog.declared_to p.begun q.begun p.before q.before declared p.prolog.misc (begins_stop src p.begun p.start d p.nodes a p.entities p.doctype stops.2)
-        q.prolog.misc (begins_stop src q.begun q.start e q.nodes b q.entities q.doctype stops'.2) in
+        let before = one_misc p.prolog.0 q.prolog.0 p.begun q.begun p.before q.before declared p.prolog.2 (begins_stop src p.begun p.start d p.nodes a p.entities p.doctype stops.2)
+        q.prolog.2 (begins_stop src q.begun q.start e q.nodes b q.entities q.doctype stops'.2) in
         let kind : d ≡ e = sym (dtd_begins src p.begun p.start d p.nodes a p.entities p.doctype stops.1) ∙ ap (at word.DoctypeStart src) before.0 ∙ dtd_begins src q.begun q.start e q.nodes b q.entities q.doctype stops'.1 in
         let declares = one_doctype p.begun q.begun p.start q.start d e p.nodes q.nodes a b p.entities q.entities before.0 answers (named_there d a t p) (named_there e b u q)
         p.doctype stops.2 stops.1 permits q.doctype stops'.2 stops'.1 permits' in
@@ -131,7 +134,7 @@ module _ (src : List ℕ) (utf8 : IsUtf8 src) where
         subst (λ (es : List Entity). IsElement true (included_in_main es) src p.start q.end 255 q.openings_left q.one) (sym declares.3) (subst (λ (i : ℕ). IsElement true (included_in_main q.entities) src i q.end 255 q.openings_left q.one) (sym declares.1) q.element) in
         let element = element_once p.entities texts src utf8 p.start p.end q.end 255 p.openings_left q.openings_left p.one q.one p.element other in
         let after = one_misc p.end q.end (length src) (length src) p.after q.after element.0 p.misc_after (end_stops src) q.misc_after (end_stops src) in
-        (kind, declares.0, p.is_tree ∙ rw (before.1, declares.2, element.1, after.1) refl ∙ sym q.is_tree)
+        (kind, declares.0, p.is_tree ∙ same_joined before.1 declares.2 element.1 after.1 ∙ sym q.is_tree)
 
     -- and its readers see one tree
     pub one_tree : (limit most : ℕ) (d e : Bool) (a b : List Asked) (t u : Forest Node) → IsTreeOf src d a limit t → IsTreeOf src e b most u → Permits allow d → Permits allow e → replies_of a ≡ replies_of b

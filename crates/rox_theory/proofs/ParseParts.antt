@@ -1,10 +1,12 @@
 -- A parse and its parts say the same.
-use Rattle.std.proofs.Common.{ℕ, Bool, false, List, [], refl, sym, ap, ◌∙◌, subst}
+use Rattle.std.proofs.Common.{◌≡◌, ℕ, Bool, true, false, List, [], refl, sym, ap, ◌∙◌, subst}
 use Rattle.rox_grammar.specs.Forest.{Forest, Nil, join}
 use Rattle.rox_grammar.specs.Written.{Item}
+use Rattle.rox_grammar.specs.Content.{Inclusion, IsElement}
+use Rattle.rox_grammar.specs.WellNamed.{AreWellNamed}
 use Rattle.rox_grammar.specs.Entities.{Entity}
 use Rattle.rox_grammar.specs.Doctype.{Asked}
-use Rattle.rox_grammar.specs.Document.{Prolog, with_doctype, without_doctype, PrologTo, ParseOf}
+use Rattle.rox_grammar.specs.Document.{Misc, Prolog, with_doctype, without_doctype, PrologTo, Behind, element_and_misc, ParseOf}
 use Rattle.rox_theory.specs.ParseParts.{MayHaveDoctype, doctype, no_doctype, PrologParts, ParseParts}
 use Rattle.rox_reading.proofs.Forests.{join_assoc, join-nil}
 
@@ -20,9 +22,48 @@ parts_prolog src p dtd items asked es a = subst (λ (f : Forest Item). Prolog sr
     joined i p dtd before nodes asked es ahead (doctype _ j _ own after _ _ is behind) = with_doctype i j before own after asked es ahead is behind
     joined i p dtd before nodes asked es ahead (no_doctype _) = subst (λ (f : Forest Item). Prolog src i false f [] []) (sym (join-nil before)) (without_doctype before ahead)
 
+-- what stands up to a place behind the root element
+pub record BehindParts (Includes : Inclusion) (src : List ℕ) (Front : ℕ → Forest Item → Type 0) (p : ℕ) (items : Forest Item) : Type 0 where
+  pub start : ℕ
+  pub before : Forest Item
+  pub ahead : Front start before
+  pub end : ℕ
+  pub openings_left : ℕ
+  pub one : Forest Item
+  pub element : IsElement true Includes src start end 255 openings_left one
+  pub after : Forest Item
+  pub misc : Misc src end p after
+  pub all : items ≡ join (join before one) after
+  pub well_named : AreWellNamed [] items
+
+pub behind_parts : {Includes : Inclusion} {src : List ℕ} {Front : ℕ → Forest Item → Type 0} {p : ℕ} {items : Forest Item} → Behind Includes src Front p items → BehindParts Includes src Front p items
+behind_parts (element_and_misc i j c before one after ahead element misc named) =
+    record {
+      start = i;
+      before = before;
+      ahead = ahead;
+      end = j;
+      openings_left = c;
+      one = one;
+      element = element;
+      after = after;
+      misc = misc;
+      all = refl;
+      well_named = named;
+    }
+
+pub parts_behind : {Includes : Inclusion} {src : List ℕ} {Front : ℕ → Forest Item → Type 0} {p : ℕ} {items : Forest Item} → BehindParts Includes src Front p items → Behind Includes src Front p items
+parts_behind {Includes = Includes} {src = src} {Front = Front} {p = p} b =
+    subst (λ (f : Forest Item). Behind Includes src Front p f) (sym b.all)
+    (element_and_misc b.start b.end b.openings_left b.before b.one b.after b.ahead b.element b.misc (subst (AreWellNamed []) b.all b.well_named))
+
+-- the names in a parse
+pub well_named : {src : List ℕ} {dtd : Bool} {asked : List Asked} {tree : Forest Item} → ParseOf src dtd asked tree → AreWellNamed [] tree
+well_named p = (behind_parts p.whole).well_named
+
 abbrev pub parts : (src : List ℕ) (dtd : Bool) (asked : List Asked) (tree : Forest Item) → ParseOf src dtd asked tree → ParseParts src dtd asked tree
 parts src dtd asked tree p =
-    let b = p.whole in
+    let b = behind_parts p.whole in
     let a = prolog_parts src b.start dtd b.before asked p.entities b.ahead in
     record {
       begun = a.begun;
@@ -46,7 +87,7 @@ pub parsed : (src : List ℕ) (dtd : Bool) (asked : List Asked) (tree : Forest I
 parsed src dtd asked tree p =
     record {
       entities = p.entities;
-      whole = record {
+      whole = parts_behind (record {
         start = p.start;
         before = join p.before p.nodes;
         ahead = parts_prolog src p.start dtd (join p.before p.nodes) asked p.entities
@@ -59,5 +100,5 @@ parsed src dtd asked tree p =
         misc = p.misc_after;
         all = p.is_tree ∙ sym (join_assoc p.before p.nodes (join p.one p.after)) ∙ sym (join_assoc (join p.before p.nodes) p.one p.after);
         well_named = p.well_named;
-      };
+      });
     }

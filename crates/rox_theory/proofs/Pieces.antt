@@ -12,13 +12,13 @@ use Rattle.rox_grammar.specs.Content.{Inclusion, DataByte, literal, kept, is_lit
 use Rattle.rox_grammar.specs.RunParts.{Parts}
 use Rattle.rox_grammar.specs.Entities.{Entity, Includes, most_deep, included_in_main}
 use Rattle.rox_grammar.specs.Doctype.{Asked, Subset, no_more as no_item, space as subset_space, an_item as subset_item, skipped_declaration, an_entity as an_entity_declared, IsDoctype, no_subset, with_subset}
-use Rattle.rox_grammar.specs.Document.{Misc, no_misc, space, an_item, ParseOf}
+use Rattle.rox_grammar.specs.Document.{Misc, no_misc, space, an_item, Prolog, Behind, element_and_misc, ParseOf}
 use Rattle.rox_theory.specs.ParseParts.{MayHaveDoctype, doctype, no_doctype}
 use Rattle.rox_theory.proofs.Productions.{cdata_parts}
 use Rattle.rox_theory.proofs.Basics.{mark_from_le}
 use Rattle.rox_theory.proofs.DeclarationLemmas.{stands_fits}
 use Rattle.rox_theory.proofs.StretchLemmas.{slice_length}
-use Rattle.rox_theory.specs.Pieces.{Piece, written_in, Writes, parts_pieces, element_pieces, content_pieces, writes, pieces_of, merged, IsSourceIn, IsEmptySection, EmptyAreSections, OnlySectionsAreEmpty}
+use Rattle.rox_theory.specs.Pieces.{Piece, written_in, Writes, parts_pieces, element_pieces, content_pieces, writes, document_pieces, pieces_of, merged, IsSourceIn, IsEmptySection, EmptyAreSections, OnlySectionsAreEmpty}
 use Rattle.rox_theory.proofs.ParseParts.{prolog_parts}
 use Rattle.rox_reading.proofs.Forests.{join_assoc}
 
@@ -131,7 +131,7 @@ module _ (text : List ℕ) (es : List Entity) where
         let x = misc_made i k item is in
         let y = subset_made k j more asked others rest in
         (ap (λ (f : Forest Item). Cons item Nil f) y.0, (x.1.0, x.1.1, tt, y.1))
-    subset_made i j items asked others (skipped_declaration _ k _ _ _ _ is rest) = subset_made k j items asked others rest
+    subset_made i j items asked others (skipped_declaration _ _ _ _ _ _ _ rest) = subset_made _ j items asked others rest
     subset_made i j items asked others (an_entity_declared _ k _ _ first more one behind is rest) = subset_made k j items more behind rest
 
     written-join : (f g : Forest Item) → written_in src (join f g) ≡ join (written_in src f) (written_in src g)
@@ -160,17 +160,21 @@ opens_made text es (suc d) main =
     }
 
 -- a parse
+whole_made : (src : List ℕ) (dtd : Bool) (asked : List Asked) (es : List Entity) (tree : Forest Item) (w : Behind (included_in_main es) src (λ p items. Prolog src p dtd items asked es) (length src) tree)
+    → OnlySectionsAreEmpty src es tree (document_pieces src es (λ p items. Prolog src p dtd items asked es) (length src) tree w)
+whole_made src dtd asked es tree (element_and_misc i j c front one after prolog element others named) =
+    let known : IsSourceIn src es src = inl refl in
+    let a = prolog_parts src i dtd front asked es prolog in
+    let first = all_made src es src known a.ahead.0 a.begun a.before a.ahead.2 in
+    let nodes = doctype_made src es src known a.begun i dtd a.nodes asked es a.doctype in
+    let both = made_join src es a.before a.nodes (written_in src a.before) (written_in src a.nodes) first nodes in
+    let before : Made src es front (written_in src front) =
+    subst (λ (f : Forest Item). Made src es f (written_in src f)) (sym a.all) (subst (λ (f : Forest Piece). Made src es (join a.before a.nodes) f) (sym (written-join src es src known a.before a.nodes)) both) in
+    let root = element_made src es src known true (included_in_main es) (writes es most_deep true) (opens_made src es most_deep true) i j 255 c one element in
+    let behind = all_made src es src known j (length src) after others in
+    let back = made_join src es one after _ _ root behind in
+    let all = made_join src es front (join one after) _ _ before back in
+    record { made = join_assoc front one after ∙ all.0; sections = all.1 }
+
 pub parse_made : (src : List ℕ) (dtd : Bool) (asked : List Asked) (tree : Forest Item) (p : ParseOf src dtd asked tree) → OnlySectionsAreEmpty src p.entities tree (pieces_of src dtd asked tree p)
-parse_made src dtd asked tree p =
-    let known : IsSourceIn src p.entities src = inl refl in
-    let a = prolog_parts src p.whole.start dtd p.whole.before asked p.entities p.whole.ahead in
-    let first = all_made src p.entities src known a.ahead.declared_to a.begun a.before a.ahead.misc in
-    let nodes = doctype_made src p.entities src known a.begun p.whole.start dtd a.nodes asked p.entities a.doctype in
-    let both = made_join src p.entities a.before a.nodes (written_in src a.before) (written_in src a.nodes) first nodes in
-    let before : Made src p.entities p.whole.before (written_in src p.whole.before) =
-    subst (λ (f : Forest Item). Made src p.entities f (written_in src f)) (sym a.all) (subst (λ (f : Forest Piece). Made src p.entities (join a.before a.nodes) f) (sym (written-join src p.entities src known a.before a.nodes)) both) in
-    let one = element_made src p.entities src known true (included_in_main p.entities) (writes p.entities most_deep true) (opens_made src p.entities most_deep true) p.whole.start p.whole.end 255 p.whole.openings_left p.whole.one p.whole.element in
-    let after = all_made src p.entities src known p.whole.end (length src) p.whole.after p.whole.misc in
-    let back = made_join src p.entities p.whole.one p.whole.after _ _ one after in
-    let all = made_join src p.entities p.whole.before (join p.whole.one p.whole.after) _ _ before back in
-    record { made = p.whole.all ∙ join_assoc p.whole.before p.whole.one p.whole.after ∙ all.0; sections = all.1 }
+parse_made src dtd asked tree p = whole_made src dtd asked p.entities tree p.whole

@@ -18,7 +18,7 @@ use Rattle.rox_grammar.specs.Names.{byte, spaces_end}
 use Rattle.rox_grammar.specs.FixedTexts.{at}
 use Rattle.rox_grammar.specs.Content.{IsMisc}
 use Rattle.rox_grammar.specs.Entities.{Entity}
-use Rattle.rox_grammar.specs.Doctype.{Request, Asked, IsEntityDeclaration, IsPassedOver, Subset, no_more, space, an_item, skipped_declaration, an_entity}
+use Rattle.rox_grammar.specs.Doctype.{Request, Asked, AsksAt, IsEntityDeclaration, Subset, no_more, space, an_item, an_entity}
 use Rattle.rox_reading.specs.Markup.{comment_at, instruction_at}
 use Rattle.rox_reading.specs.Refusals.{Refusal, here, there, refused}
 use Rattle.rox_reading.specs.State.{State}
@@ -36,7 +36,8 @@ use Rattle.rox_theory.proofs.CharTexts.{cut_behind}
 use Rattle.rox_theory.proofs.Places.{over_spaces}
 use Rattle.rox_theory.proofs.Leaves.{fine_there, item_read}
 use Rattle.rox_theory.proofs.Around.{ends_cut, misc_ends, comment_is, instruction_is, misc_plain, misc_moves}
-use Rattle.rox_theory.proofs.EntityLemmas.{either, AsksHere, OnceAsked, EntityRead, EntityOutcome, entity_outcome, declared_asks, entity_moves}
+use Rattle.rox_theory.proofs.DoctypeParts.{IsPassedOver, passed_first}
+use Rattle.rox_theory.proofs.EntityLemmas.{either, OnceAsked, EntityRead, EntityOutcome, entity_outcome, declared_asks, entity_moves}
 
 -- ---- one turn
 
@@ -104,7 +105,7 @@ pub record Later (src : List ℕ) (i : ℕ) (asked : List Asked) (request : Requ
   pub nodes : Forest Item
   pub es : List Entity
   pub items : Subset src i j nodes asked es
-  pub asks : AsksHere src j request p
+  pub asks : AsksAt src j request p
 
 -- what was asked: each stands next, after those before it
 pub data HasLater (src : List ℕ) (i : ℕ) : List Asked → Type 0 where
@@ -200,7 +201,7 @@ module _ (src : List ℕ) (utf8 : IsUtf8 src) where
   once_later i asked cut (inl none) = subst (HasLater src i) (sym none) not_yet
   once_later i asked cut (inr (request, answer, p, is, asks)) = subst (HasLater src i) (sym is) (one_later [] request p answer (asks_later i request p cut asks))
     where
-      asks_later : (i : ℕ) (request : Request) (p : ℕ) → IsCharBoundary src i → AsksHere src (spaces_end src i) request p → Later src i [] request p
+      asks_later : (i : ℕ) (request : Request) (p : ℕ) → IsCharBoundary src i → AsksAt src (spaces_end src i) request p → Later src i [] request p
       asks_later i request p cut asks =
           record { j = spaces_end src i; nodes = Nil; es = []; items = spaces_front i (spaces_end src i) Nil [] [] cut (λ k items asked more rest. rest) (spaces_end src i) Nil [] [] (no_more (spaces_end src i)); asks = asks }
 
@@ -222,7 +223,7 @@ module _ (src : List ℕ) (utf8 : IsUtf8 src) where
   item_front i j item cut is = spaces_front i j (leaf item) [] [] cut (λ k items asked more rest. an_item (spaces_end src i) j k item items asked more is rest)
 
   passed_front : (i j : ℕ) → IsCharBoundary src i → IsPassedOver src (spaces_end src i) j → Fronts src i j Nil [] []
-  passed_front i j cut is = spaces_front i j Nil [] [] cut (λ k items asked more rest. skipped_declaration (spaces_end src i) j k items asked more is rest)
+  passed_front i j cut is = spaces_front i j Nil [] [] cut (λ k items asked more rest. passed_first src (spaces_end src i) j k items asked more is rest)
 
   -- one turn, where what follows it stands there
   module _ (limit most start n : ℕ) (d : Dtd) (limits : limit ≤ most) (cut : IsCharBoundary src d.state.at) (fine : IsValidState most d.state) (texts : AreTextReplies d.replies) (enough : length src ≤ d.state.at + suc n) (go : (e : Dtd) → IsCharBoundary src e.state.at → IsValidState most e.state → AreTextReplies e.replies → length src ≤ e.state.at + n → SubsetOutcome most src e (subset limit start n src e)) where

@@ -13,7 +13,7 @@ use Rattle.rox_grammar.specs.Written.{Item, leaf}
 use Rattle.rox_grammar.specs.Names.{byte, spaces_end}
 use Rattle.rox_grammar.specs.Content.{IsMisc, comment, instruction}
 use Rattle.rox_grammar.specs.Entities.{Entity}
-use Rattle.rox_grammar.specs.Doctype.{Asked, IsEntityDeclaration, IsPassedOver, Subset, no_more, space, an_item, skipped_declaration, an_entity}
+use Rattle.rox_grammar.specs.Doctype.{Asked, IsEntityDeclaration, Subset, no_more, space, an_item, skipped_declaration, an_entity}
 use Rattle.rox_grammar.specs.State.{Open}
 use Rattle.rox_reading.specs.Machine.{comment_step, instruction_step}
 use Rattle.rox_reading.specs.Doctype.{Reply, Asks, Dtd, subset}
@@ -31,6 +31,7 @@ use Rattle.rox_theory.proofs.Constructions.{comment_bytes, instruction_bytes}
 use Rattle.rox_theory.proofs.Places.{spaces_on}
 use Rattle.rox_theory.proofs.Leaves.{with_leaf, fine_before, read_item}
 use Rattle.rox_theory.proofs.Around.{no_spaces, misc_moves, misc_within}
+use Rattle.rox_theory.proofs.DoctypeParts.{declaration_parts, IsPassedOver, passed_end, passed_there}
 use Rattle.rox_theory.proofs.EntityLemmas.{entity_moves, entity_complete}
 use Rattle.rox_theory.proofs.Subsets.{passed_moves}
 
@@ -64,7 +65,7 @@ module _ (src : List ℕ) (utf8 : IsUtf8 src) where
   subset_le i k items asked es (no_more _) = omega arith
   subset_le i k items asked es (space _ _ _ _ _ is rest) = omega (arith, subset_le (i + 1) k items asked es rest)
   subset_le i k items asked es (an_item _ j _ item more _ _ is rest) = omega (arith, misc_moves src utf8 i j item is, subset_le j k more asked es rest)
-  subset_le i k items asked es (skipped_declaration _ j _ _ _ _ is rest) = omega (arith, (passed_moves src utf8 i j is).0, subset_le j k items asked es rest)
+  subset_le i k items asked es (skipped_declaration _ _ _ _ _ opens closes rest) = omega (arith, (passed_moves src utf8 i (passed_end src i) (passed_there opens closes)).0, subset_le (passed_end src i) k items asked es rest)
   subset_le i k items asked es (an_entity _ j _ _ first more one others is rest) = omega (arith, (entity_moves src utf8 i j first one is).1, subset_le j k items more others rest)
 
   module _ (limit start : ℕ) (stack : Open) (openings_left : ℕ) where
@@ -163,7 +164,7 @@ module _ (src : List ℕ) (utf8 : IsUtf8 src) where
     entity_read : (n i j : ℕ) (first : List Asked) (one es : List Entity) (done : Forest Item) → IsEntityDeclaration src i j first one
         → Continues (here_run (suc n) i done es) first limit start n src (here_at j done stack openings_left (es ++ one))
     entity_read n i j first one es done is =
-        let opens = is.begins.opens in
+        let opens = (declaration_parts is).head.opens in
         let here = word_byte word.EntityStart src i 60 (omega arith) refl opens in
         let inside = within src i (λ z. omega arith) in
         let e : spaces_end src i ≡ i = no_spaces src i here in
@@ -194,7 +195,9 @@ module _ (src : List ℕ) (utf8 : IsUtf8 src) where
         let whole = continued (here_run (suc n) i done es) [] asked limit start n src (here_at j (join done (leaf item)) stack openings_left es)
         (here_at (spaces_end src (k + 1) + 1) (join (join done (leaf item)) others) stack openings_left (es ++ more)) one next in
         subst (λ (f : Forest Item). Answered (here_run (suc n) i done es) asked (here_at (spaces_end src (k + 1) + 1) f stack openings_left (es ++ more))) (join_assoc done (leaf item) others) whole
-    subset_complete (suc n) i k items done asked more es (skipped_declaration _ j _ _ _ _ is rest) bracket closes fine enough =
+    subset_complete (suc n) i k items done asked more es (skipped_declaration _ _ _ _ _ opens ends rest) bracket closes fine enough =
+        let j = passed_end src i in
+        let is = passed_there opens ends in
         let moves = (passed_moves src utf8 i j is).0 in
         let next = subset_complete n j k items done asked more es rest bracket closes fine (omega (arith, enough, moves)) in
         continued (here_run (suc n) i done es) [] asked limit start n src (here_at j done stack openings_left es) (here_at (spaces_end src (k + 1) + 1) (join done items) stack openings_left (es ++ more)) (passed_read n i j done es is) next

@@ -33,7 +33,7 @@ subset_no_text : (src : List ℕ) (i j : ℕ) (items : Forest Item) (asked : Lis
 subset_no_text src i j items asked es (no_more _) = tt
 subset_no_text src i j items asked es (dtd.space _ _ _ _ _ s m) = subset_no_text src (i + 1) j items asked es m
 subset_no_text src i j items asked es (dtd.an_item _ k _ item more _ _ one m) = (misc_no_text src i k item one, subset_no_text src k j more asked es m)
-subset_no_text src i j items asked es (skipped_declaration _ k _ _ _ _ one m) = subset_no_text src k j items asked es m
+subset_no_text src i j items asked es (skipped_declaration _ _ _ _ _ _ _ m) = subset_no_text src _ j items asked es m
 subset_no_text src i j items asked es (an_entity _ k _ _ first later one others is m) = subset_no_text src k j items later others m
 
 doctype_itself_no_text : (src : List ℕ) (i j : ℕ) (items : Forest Item) (asked : List Asked) (es : List Entity) → IsDoctype src i j items asked es → HasNoText items
@@ -70,5 +70,5 @@ pub parse_merged : (src : List ℕ) (is : Bool) (asked : List Asked) (t : Forest
 parse_merged src is asked t whole =
     let p = parts src is asked t whole in
     ap merge p.is_tree
-    ∙ tops_merged true (included_in_main p.entities) src p.prolog.declared_to p.begun p.start p.end (length src) 255 p.openings_left is p.before p.nodes p.one p.after asked p.entities p.prolog.misc p.doctype p.element p.misc_after
+    ∙ tops_merged true (included_in_main p.entities) src p.prolog.0 p.begun p.start p.end (length src) 255 p.openings_left is p.before p.nodes p.one p.after asked p.entities p.prolog.2 p.doctype p.element p.misc_after
     ∙ sym p.is_tree

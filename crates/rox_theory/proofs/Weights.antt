@@ -1,5 +1,5 @@
 -- How large what a reference opens can be, by the number of texts that are opened.
-use Rattle.std.proofs.Common.{arith, subst}
+use Rattle.std.proofs.Common.{arith, subst, sym, ◌∙◌}
 use Rattle.std.proofs.lemmas.List.{length-append}
 use Rattle.std.specs.Prelude.{◌≡◌, ◌==◌, ℕ, zero, suc, ◌+◌, ◌-◌, ◌*◌, ◌≤◌, not, max, Bool, true, false, List, [], ◌∷◌, Some, length, if◌then◌else◌, bytes_eq}
 use Rattle.std.specs.List.{list_any}
@@ -11,6 +11,7 @@ use Rattle.rox_grammar.specs.Content.{Inclusion, DataByte, line_ends, literals, 
 use Rattle.rox_grammar.specs.RunParts.{Parts}
 use Rattle.rox_grammar.specs.Entities.{Replacement, Entity, text_of}
 use Rattle.rox_grammar.specs.Expansion.{Counts, longest}
+use Rattle.rox_grammar.proofs.FirstEntity.{text_of_first}
 use Rattle.rox_theory.proofs.Onward.{ends_shorten, signs_length, slice_short, reference_onward, value_char, part_bytes, qname_onward, eq_onward, tag_end_onward, end_onward, misc_onward, section_onward}
 use Rattle.rox_theory.proofs.Measures.{Measure, most_of, fewer}
 
@@ -138,7 +139,7 @@ module _ (of : Forest Item → ℕ) (is_measure : Measure of) (main : Bool) (O :
 
 longest_is : (es : List Entity) (name : List ℕ) (t : Replacement) → text_of es name ≡ Some t → length t.source - t.start ≤ longest es
 longest_is [] name t h = cc h
-longest_is (e ∷ es) name t h = at_test (bytes_eq e.name name) (longest_is es name t) h
+longest_is (e ∷ es) name t h = at_test (bytes_eq e.name name) (longest_is es name t) (sym (text_of_first e es name) ∙ h)
   where
     at_test : (b : Bool) → (text_of es name ≡ Some t → length t.source - t.start ≤ longest es) → (if b then Some e.text else text_of es name) ≡ Some t → length t.source - t.start ≤ max (length e.text.source - e.text.start) (longest es)
     at_test true more h = let same : e.text ≡ t = cc h in subst (λ (x : Replacement). length x.source - x.start ≤ max (length e.text.source - e.text.start) (longest es)) same (omega arith)

@@ -160,7 +160,7 @@ module _ (src : List ℕ) (utf8 : IsUtf8 src) where
           parsed src dtd.0 asked t (record {
             begun = s.at;
             before = ahead.0;
-            prolog = record { declared_to = i; declaration = may; misc = ahead.1 };
+            prolog = (i, may, ahead.1);
             start = d.state.at;
             nodes = dtd.1;
             entities = d.entities;
@@ -215,15 +215,15 @@ module _ (src : List ℕ) (utf8 : IsUtf8 src) where
 
   -- what comes before a document type declaration is read, and one begins behind it, if there is one
   before_read : (limit : ℕ) (dtd : Bool) (asked : List Asked) (t : Forest Item) (p : ParseParts src dtd asked t) → IsWithinLimits limit t
-      → (prolog src (after_bom src) ≡ Ok p.prolog.declared_to) × (misc limit (length src) src (state p.prolog.declared_to Nil root 255) ≡ Ok (state p.begun p.before root 255)) × (at word.DoctypeStart src p.begun ≡ dtd)
+      → (prolog src (after_bom src) ≡ Ok p.prolog.0) × (misc limit (length src) src (state p.prolog.0 Nil root 255) ≡ Ok (state p.begun p.before root 255)) × (at word.DoctypeStart src p.begun ≡ dtd)
   before_read limit dtd asked t p within =
       let stops = element_stops true (included_in_main p.entities) src p.start p.end 255 p.openings_left p.one p.element in
       let fine = (parse_fine limit dtd asked t p within).0 in
       let behind = fine_before limit p.end (length src) p.openings_left p.openings_left (join (join p.before p.nodes) p.one) p.after root fine in
       let element = fine_before limit p.start p.end 255 p.openings_left (join p.before p.nodes) p.one root behind in
       let front = fine_before limit p.begun p.start 255 255 p.before p.nodes root element in (
-        prolog_complete src utf8 (after_bom src) p.prolog.declared_to p.prolog.declaration,
-        misc_complete src utf8 (length src) limit 255 p.prolog.declared_to p.begun p.before Nil p.prolog.misc (begins_stop src p.begun p.start dtd p.nodes asked p.entities p.doctype stops.2)
+        prolog_complete src utf8 (after_bom src) p.prolog.0 p.prolog.1,
+        misc_complete src utf8 (length src) limit 255 p.prolog.0 p.begun p.before Nil p.prolog.2 (begins_stop src p.begun p.start dtd p.nodes asked p.entities p.doctype stops.2)
             (omega (arith, front.nodes)) (omega arith),
         dtd_begins src p.begun p.start dtd p.nodes asked p.entities p.doctype stops.1,
       )

@@ -26,7 +26,7 @@ parse_without src asked tree whole =
       record {
         start = p.start;
         before = p.before;
-        prolog = record { declared_to = p.prolog.declared_to; declaration = p.prolog.declaration; misc = subst (λ (k : ℕ). Misc src p.prolog.declared_to k p.before) none.0 p.prolog.misc };
+        prolog = (p.prolog.0, p.prolog.1, subst (λ (k : ℕ). Misc src p.prolog.0 k p.before) none.0 p.prolog.2);
         end = p.end;
         openings_left = one.0;
         one = p.one;
@@ -48,7 +48,7 @@ parse_with src tree p =
     parsed src false [] tree (record {
       begun = p.start;
       before = p.before;
-      prolog = record { declared_to = p.prolog.declared_to; declaration = p.prolog.declaration; misc = p.prolog.misc };
+      prolog = (p.prolog.0, p.prolog.1, p.prolog.2);
       start = p.start;
       nodes = Nil;
       entities = [];

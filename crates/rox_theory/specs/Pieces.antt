@@ -9,7 +9,7 @@ use Rattle.rox_grammar.specs.Constructs.{IsCData}
 use Rattle.rox_grammar.specs.Content.{Inclusion, line_ends, literals, is_verbatim, piece, Parts, last_part, then_entity, IsElement, empty, nest, Content, ends, run, cdata, misc, node}
 use Rattle.rox_grammar.specs.Entities.{Replacement, Entity, text_of, Includes, most_deep, included_in_main}
 use Rattle.rox_grammar.specs.Doctype.{Asked}
-use Rattle.rox_grammar.specs.Document.{ParseOf}
+use Rattle.rox_grammar.specs.Document.{Behind, element_and_misc, ParseOf}
 
 pub record Piece : Type 0 where
   pub source : List ℕ
@@ -58,11 +58,12 @@ writes es (suc d) main =
     }
 
 -- of a whole parse: the comments and processing instructions around the root element are written in the text itself
+abbrev pub document_pieces : (src : List ℕ) (es : List Entity) (Front : ℕ → Forest Item → Type 0) (p : ℕ) (items : Forest Item) → Behind (included_in_main es) src Front p items → Forest Piece
+document_pieces src es Front p items (element_and_misc i j c before one after _ element _ _) =
+    join (written_in src before) (join (element_pieces true (included_in_main es) (writes es most_deep true) src i j 255 c one element) (written_in src after))
+
 abbrev pub pieces_of : (src : List ℕ) (dtd : Bool) (asked : List Asked) (tree : Forest Item) → ParseOf src dtd asked tree → Forest Piece
-pieces_of src dtd asked tree p =
-    join (written_in src p.whole.before)
-    (join (element_pieces true (included_in_main p.entities) (writes p.entities most_deep true) src p.whole.start p.whole.end 255 p.whole.openings_left p.whole.one p.whole.element)
-    (written_in src p.whole.after))
+pieces_of src dtd asked tree p = document_pieces src p.entities _ (length src) tree p.whole
 
 -- These items, where below each of them every longest row of touching texts becomes one text: its value is theirs joined, and its
 -- range is that of the first. (At the top of a document there are no texts.)
