@@ -24,8 +24,6 @@ pub data DueItem : Type 0 where
   a_text : Expected → DueItem
   -- a byte of this kind
   one_of : Due → DueItem
-  -- white space, `?>` or the end
-  a_gap : DueItem
   -- Chars up to this place
   chars_to : ℕ → DueItem
 
@@ -45,7 +43,6 @@ pub data IsMissing (src : List ℕ) (p : ℕ) : DueItem → Fault → Type 0 whe
   other_byte : (b : ℕ) → p < length src → byte src p ≢ b → IsMissing src p (a_byte b) (fault.InvalidChar b (byte src p) p)
   other_text : (text : Expected) → stands (expected_text text) src p ≡ false → IsMissing src p (a_text text) (fault.InvalidString text p)
   none_of : (kind : Due) → p < length src → is_of kind (byte src p) ≡ false → IsMissing src p (one_of kind) (fault.InvalidChar2 kind (byte src p) p)
-  no_gap : p < length src → is_space (byte src p) ≡ false → text_at "?>" src p ≡ false → IsMissing src p a_gap (fault.InvalidChar2 due.Space (byte src p) p)
   -- XML 2.2 [2]: the longest stretch of Chars ends at q, before e, with this character
   no_char : (e q c : ℕ) → q ≡ run_end is_char (take e src) p → q < e → StandsAt c src q → is_char c ≡ false → IsMissing src p (chars_to e) (fault.NonXmlChar c q)
   -- `S` or `P`
@@ -83,12 +80,12 @@ pub data DueInPair (src : List ℕ) (i : ℕ) : ℕ → DueItem → Type 0 where
   closing : (name : Name) (n v : ℕ) → IsQName src i name n → IsEq src n v → IsQuote src v
       → (length src ≤ value_end src v) ⊎ AreChars src (v + 1) (value_end src v) → DueInPair src i (value_end src v) (a_byte (byte src v))
 
--- XML 2.8 [23]: in the declaration that begins at i, whose last pair needs no gap behind it
+-- XML 2.8 [23]: in the declaration that begins at i, where no white space is due behind the last pair, before `?>` and at the end
 pub data DueInXmlDecl (src : List ℕ) (i : ℕ) : ℕ → DueItem → Type 0 where
   its_version : DueInXmlDecl src i (spaces_end src (i + 5)) (a_text expected.Version)
   in_pair : (text : List ℕ) (j p : ℕ) (t : DueItem) → DeclarationTo src i text j → stands text src j ≡ true → DueInPair src j p t → DueInXmlDecl src i p t
   behind_pair : (text : List ℕ) (name : Name) (j n v e p : ℕ) → DeclarationTo src i text j → stands text src j ≡ true → text ≢ codes "standalone"
-      → IsPair src j name n v e p → DueInXmlDecl src i p a_gap
+      → IsPair src j name n v e p → p < length src → text_at "?>" src p ≡ false → DueInXmlDecl src i p (one_of due.Space)
   behind_last : (name : Name) (j n v e p : ℕ) → DeclarationTo src i (codes "standalone") j → text_at "standalone" src j ≡ true → IsPair src j name n v e p
       → DueInXmlDecl src i (spaces_end src p) (a_text expected.PIEnd)
   its_end : (j : ℕ) → DeclarationTo src i (codes "standalone") j → text_at "standalone" src j ≡ false → DueInXmlDecl src i j (a_text expected.PIEnd)
