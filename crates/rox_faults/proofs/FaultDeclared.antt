@@ -71,25 +71,25 @@ literal_fails src p s f is h =
 system_fails : (src : List ℕ) (i : ℕ) (f : Fault) → at word.System src i ≡ true → system_at src i ≡ Err f → Misses src (DueInExternalID src i) f
 unfolding system_at
 system_fails src i f is h =
-    bind_err (space_at src (i + 6)) _ f h (λ bad. (i + 6, a_space, dues.DueInExternalID.its_literal (i + 6) a_space (inl is) dues.DueInLiteral.space_before, space_fails src (i + 6) f bad))
+    bind_err (space_at src (i + 6)) _ f h (λ bad. (i + 6, a_space, dues.DueInExternalID.first (i + 6) a_space (inl is) dues.DueInLiteral.space_before, space_fails src (i + 6) f bad))
     (λ s spaced h. bind_err (quoted_at src s.1) _ f h
-    (λ bad. let w = literal_fails src (i + 6) s.1 f (space_sound src (i + 6) s spaced) bad in (w.0, w.1, dues.DueInExternalID.its_literal w.0 w.1 (inl is) w.2, w.3))
+    (λ bad. let w = literal_fails src (i + 6) s.1 f (space_sound src (i + 6) s spaced) bad in (w.0, w.1, dues.DueInExternalID.first w.0 w.1 (inl is) w.2, w.3))
     (λ x ok h. no_fault _ f h))
 
 public_fails : (src : List ℕ) (i : ℕ) (f : Fault) → at word.Public src i ≡ true → public_at src i ≡ Err f → Misses src (DueInExternalID src i) f
 unfolding public_at
 public_fails src i f is h =
-    bind_err (space_at src (i + 6)) _ f h (λ bad. (i + 6, a_space, dues.DueInExternalID.its_literal (i + 6) a_space (inr is) dues.DueInLiteral.space_before, space_fails src (i + 6) f bad))
+    bind_err (space_at src (i + 6)) _ f h (λ bad. (i + 6, a_space, dues.DueInExternalID.first (i + 6) a_space (inr is) dues.DueInLiteral.space_before, space_fails src (i + 6) f bad))
     (λ p spaced h.
     let sp = space_sound src (i + 6) p spaced in
     bind_err (quoted_at src p.1) _ f h
-    (λ bad. let w = literal_fails src (i + 6) p.1 f sp bad in (w.0, w.1, dues.DueInExternalID.its_literal w.0 w.1 (inr is) w.2, w.3))
+    (λ bad. let w = literal_fails src (i + 6) p.1 f sp bad in (w.0, w.1, dues.DueInExternalID.first w.0 w.1 (inr is) w.2, w.3))
     (λ id quoted h.
     let q = (quoted_sound src p.1 id quoted).0 in
     bind_err (space_at src id.1) _ f h
-    (λ bad. (id.1, a_space, dues.DueInExternalID.second_literal p.1 (quoted_end src p.1) id.1 id.1 a_space is sp q dues.DueInLiteral.space_before, space_fails src id.1 f bad))
+    (λ bad. (id.1, a_space, dues.DueInExternalID.second p.1 (quoted_end src p.1) id.1 id.1 a_space is sp q dues.DueInLiteral.space_before, space_fails src id.1 f bad))
     (λ s spaced' h. bind_err (quoted_at src s.1) _ f h
-    (λ bad. let w = literal_fails src id.1 s.1 f (space_sound src id.1 s spaced') bad in (w.0, w.1, dues.DueInExternalID.second_literal p.1 (quoted_end src p.1) id.1 w.0 w.1 is sp q w.2, w.3))
+    (λ bad. let w = literal_fails src id.1 s.1 f (space_sound src id.1 s spaced') bad in (w.0, w.1, dues.DueInExternalID.second p.1 (quoted_end src p.1) id.1 w.0 w.1 is sp q w.2, w.3))
     (λ x ok h. no_fault _ f h))))
 
 -- or that there is none

@@ -17,7 +17,7 @@ use Rattle.rox_grammar.specs.TextStart.{after_bom, MayHaveXmlDecl, declared, not
 use Rattle.rox_grammar.specs.Entities.{Replacement, Entity}
 use Rattle.rox_grammar.specs.Doctype.{Request, Asked, IsQuoted, IsSpace, IsExternalID, system, public, MayHaveNotation, notation, no_notation, CutsNotation, GivesReplacement, nothing, the_rest, IsDefinition, internal, external, BeginsEntity, IsEntityDeclaration, Subset, MayHaveExternalID, external_id, no_external_id, BeginsDoctype, IsDoctype, no_subset, with_subset, SubsetTo}
 use Rattle.rox_grammar.specs.Doctype as dtd
-use Rattle.rox_grammar.specs.Due.{DueItem, a_byte, a_name, IsMissing, none_left, DueInXmlDecl, DueInLiteral, DueInExternalID, its_literal, second_literal, DueInEntity, DueInDoctype, none_of}
+use Rattle.rox_grammar.specs.Due.{DueItem, a_byte, a_name, IsMissing, none_left, DueInXmlDecl, DueInLiteral, DueInExternalID, DueInEntity, DueInDoctype, none_of}
 use Rattle.rox_faults.proofs.DueForms.{a_space, a_quote, a_definition, subset_or_end, doctype_end, quote_is, quote_defines, letter_defines, subset_or_end_is, end_is}
 use Rattle.rox_grammar.specs.Due as due
 use Rattle.rox_grammar.specs.Faults.{in_one, one_too_many}
@@ -80,20 +80,20 @@ module _ (src : List ℕ) (utf8 : IsUtf8 src) where
       absurd (omega arith)
 
   external_apart : (i j p : ℕ) (request : Request) (t : DueItem) (f : Fault) → IsExternalID src i request j → DueInExternalID src i p t → IsMissing src p t f → ⊥
-  external_apart i j p request t f (system _ s e _ is sp q) (its_literal _ _ which due') lack =
+  external_apart i j p request t f (system _ s e _ is sp q) (due.DueInExternalID.first _ _ which due') lack =
       literal_apart (i + 6) s e j p t f (six_cut word.System src i 77 utf8 is (omega arith) refl (omega arith) (omega arith)) sp q due' lack
-  external_apart i j p request t f (system _ s e _ is sp q) (second_literal _ _ _ _ _ other _ _ _) lack = not_both i is other
-  external_apart i j p request t f (public _ s d k v e _ is sp q sp' q') (its_literal _ _ which due') lack =
+  external_apart i j p request t f (system _ s e _ is sp q) (due.DueInExternalID.second _ _ _ _ _ other _ _ _) lack = not_both i is other
+  external_apart i j p request t f (public _ s d k v e _ is sp q sp' q') (due.DueInExternalID.first _ _ which due') lack =
       literal_apart (i + 6) s d k p t f (six_cut word.Public src i 67 utf8 is (omega arith) refl (omega arith) (omega arith)) sp q due' lack
-  external_apart i j p request t f (public _ s d k v e _ is sp q sp' q') (second_literal s' d' k' _ _ other space' first due') lack =
+  external_apart i j p request t f (public _ s d k v e _ is sp q sp' q') (due.DueInExternalID.second s' d' k' _ _ other space' first due') lack =
       let at_first = space_once src (i + 6) s' s space' sp in
       let same = (quoted_once src s d' k' d k (subst (λ (s : ℕ). IsQuoted src s d' k') at_first first) q).1 in
       literal_apart k v e j p t f (quoted_cut src s d k utf8 q) sp' q' (subst (λ (k : ℕ). DueInLiteral src k p t) same due') lack
 
   -- where something is due in an external id, one begins
   external_due : (i p : ℕ) (t : DueItem) → DueInExternalID src i p t → (at word.System src i ≡ true) ⊎ (at word.Public src i ≡ true)
-  external_due i p t (its_literal _ _ which _) = which
-  external_due i p t (second_literal _ _ _ _ _ is _ _ _) = inr is
+  external_due i p t (due.DueInExternalID.first _ _ which _) = which
+  external_due i p t (due.DueInExternalID.second _ _ _ _ _ is _ _ _) = inr is
 
   -- with one of two letters
   word_byte : (i : ℕ) → (at word.System src i ≡ true) ⊎ (at word.Public src i ≡ true) → (byte src i ≡ 83) ⊎ (byte src i ≡ 80)

@@ -96,10 +96,10 @@ pub data DueInLiteral (src : List ℕ) (i : ℕ) : ℕ → DueItem → Type 0 wh
   its_quote : (s : ℕ) → IsSpace src i s → DueInLiteral src i s (one_of due.Quote)
   its_end : (s : ℕ) → IsSpace src i s → IsQuote src s → DueInLiteral src i (byte_from (λ c. c == byte src s) src (s + 1)) (a_byte (byte src s))
 
--- XML 4.2.2 [75]: in the external id that begins at i
+-- XML 4.2.2 [75]: in the external id that begins at i, in its first literal or its second
 pub data DueInExternalID (src : List ℕ) (i : ℕ) : ℕ → DueItem → Type 0 where
-  its_literal : (p : ℕ) (t : DueItem) → (text_at "SYSTEM" src i ≡ true) ⊎ (text_at "PUBLIC" src i ≡ true) → DueInLiteral src (i + 6) p t → DueInExternalID src i p t
-  second_literal : (s e j p : ℕ) (t : DueItem) → text_at "PUBLIC" src i ≡ true → IsSpace src (i + 6) s → IsQuoted src s e j → DueInLiteral src j p t → DueInExternalID src i p t
+  first : (p : ℕ) (t : DueItem) → (text_at "SYSTEM" src i ≡ true) ⊎ (text_at "PUBLIC" src i ≡ true) → DueInLiteral src (i + 6) p t → DueInExternalID src i p t
+  second : (s e j p : ℕ) (t : DueItem) → text_at "PUBLIC" src i ≡ true → IsSpace src (i + 6) s → IsQuoted src s e j → DueInLiteral src j p t → DueInExternalID src i p t
 
 -- XML 4.2 [70]: in the entity declaration that begins at i, up to its definition
 pub data DueInEntity (src : List ℕ) (i : ℕ) : ℕ → DueItem → Type 0 where
@@ -108,7 +108,8 @@ pub data DueInEntity (src : List ℕ) (i : ℕ) : ℕ → DueItem → Type 0 whe
   its_name : (k n : ℕ) (parameter : Bool) → IsSpace src (i + 8) k → IsKind src k parameter n → DueInEntity src i n a_name
   space_behind : (k n m : ℕ) (parameter : Bool) → IsSpace src (i + 8) k → IsKind src k parameter n → IsName src n m → DueInEntity src i m (one_of due.Space)
   its_definition : (parameter : Bool) (n m d : ℕ) → BeginsEntity src i parameter n m d → DueInEntity src i d (one_of due.EntityDefinition)
-  its_literal : (parameter : Bool) (n m d : ℕ) → BeginsEntity src i parameter n m d → IsQuote src d → DueInEntity src i (byte_from (λ c. c == byte src d) src (d + 1)) (a_byte (byte src d))
+  its_literal : (parameter : Bool) (n m d : ℕ) → BeginsEntity src i parameter n m d → IsQuote src d
+      → DueInEntity src i (byte_from (λ c. c == byte src d) src (d + 1)) (a_byte (byte src d))
   its_external_id : (parameter : Bool) (n m d p : ℕ) (t : DueItem) → BeginsEntity src i parameter n m d → DueInExternalID src d p t → DueInEntity src i p t
   space_of_notation : (n m d e : ℕ) (request : Request) → BeginsEntity src i false n m d → IsExternalID src d request e → text_at "NDATA" src (spaces_end src e) ≡ true
       → DueInEntity src i (spaces_end src e + 5) (one_of due.Space)
