@@ -10,8 +10,9 @@ use Rattle.rox_grammar.specs.Search.{stands}
 use Rattle.rox_grammar.specs.Chars.{is_space}
 use Rattle.rox_grammar.specs.Written.{Name}
 use Rattle.rox_grammar.specs.Names.{byte, spaces_end}
-use Rattle.rox_grammar.specs.Constructs.{IsPair, IsGap, some_space, no_space, MayBePair, is_pair, no_pair, version, encoding, standalone, IsXmlDecl, xml_decl}
+use Rattle.rox_grammar.specs.Constructs.{IsPair, MayBePair, is_pair, no_pair, version, encoding, standalone, IsXmlDecl, xml_decl}
 use Rattle.rox_theory.proofs.Basics.{within as byte_within}
+use Rattle.rox_theory.proofs.DeclarationLemmas.{IsFollowed}
 use Rattle.rox_exchange.specs.Local.{Fronts}
 use Rattle.rox_exchange.proofs.Cuts.{heads, fronts, stands_cut}
 use Rattle.rox_exchange.proofs.CutsLexical.{space_cut}
@@ -62,35 +63,30 @@ module _ (src to : List ℕ) (m : ℕ) (f : Fronts src to m) where
       starts_before c mark some none (m - i) (q - i) (drop i src) (drop i to) (fronts src to m f.same i (omega arith)) (omega arith)
       (get_or-drop i src (q - i) 0 ∙ ap (byte src) e ∙ is)
 
-  gap_le : (i j : ℕ) → IsGap src i j → i ≤ j
-  gap_le i j (some_space _ some) = omega arith
-  gap_le i j (no_space _ none) = omega arith
-
   pair_lt : (i n v e j : ℕ) (name : Name) → IsPair src i name n v e j → i < j
   pair_lt i n v e j name (is_name, eq, literal) =
       let next = literal.0.3 in
       omega (arith, qname_le src i name n is_name, eq_lt src n v eq, literal_lt src v e j literal)
 
   may_le : (w : Word) (i j : ℕ) → MayBePair (word_text w) src i j → i ≤ j
-  may_le w i j (is_pair name n v e k _ here is gap) = omega (arith, pair_lt i n v e k name is, gap_le k j gap)
+  may_le w i j (is_pair name n v e k here is gap) = omega (arith, pair_lt i n v e k name is, run_le is_space src k)
   may_le w i j (no_pair none) = omega arith
 
   -- where `>` stands at q, and white space or the end of the declaration is left before it
   module _ (q : ℕ) (below : q < m) (is_end : byte src q ≡ 62) (inside : q < length src) where
-    gap_cut : (i j : ℕ) → IsCharBoundary (take m src) i → j + 1 ≤ q → IsGap src i j → IsGap to i j × IsCharBoundary (take m src) j
-    gap_cut i j cut le (some_space _ some) =
-        let s = space_cut src to m f i j cut (omega arith) refl in
-        (subst (IsGap to i) (sym s.0) (some_space i (omega (arith, s.0))), s.1)
-    gap_cut i j cut le (no_space _ (inl out)) = absurd (omega arith)
-    gap_cut i j cut le (no_space _ (inr close)) = (no_space i (inr (sym (stands_cut src to m f.same (word_text word.PIEnd) i (omega arith)) ∙ close)), cut)
+    gap_cut : (i : ℕ) → i ≤ spaces_end src i → spaces_end src i + 1 ≤ q → spaces_end src i ≡ spaces_end to i → IsFollowed src i → IsFollowed to i
+    gap_cut i on le same (inl some) = inl (omega (arith, same))
+    gap_cut i on le same (inr (inl close)) = inr (inl (sym (stands_cut src to m f.same (word_text word.PIEnd) i (omega arith)) ∙ close))
+    gap_cut i on le same (inr (inr out)) = absurd (omega arith)
 
     may_cut : (w : Word) (i j : ℕ) → IsMissing 62 (word_text w) → IsCharBoundary (take m src) i → j + 1 ≤ q → MayBePair (word_text w) src i j → MayBePair (word_text w) to i j × IsCharBoundary (take m src) j
-    may_cut w i j lacks cut le (is_pair name n v e k _ here is gap) =
+    may_cut w i j lacks cut le (is_pair name n v e k here is gap) =
         let lt = pair_lt i n v e k name is in
-        let gl = gap_le k j gap in
+        let on = run_le is_space src k in
         let p = pair_cut src to m f i n v e k name cut (omega arith) is in
-        let g = gap_cut k j p.1 le gap in
-        (is_pair name n v e k j (sym (word_cut 62 (word_text w) i q (omega arith) lacks (omega arith) below is_end) ∙ here) p.0 g.0, g.1)
+        let s = space_cut src to m f k (spaces_end src k) p.1 (omega arith) refl in
+        let g = gap_cut k on le s.0 gap in
+        (subst (MayBePair (word_text w) to i) (sym s.0) (is_pair name n v e k (sym (word_cut 62 (word_text w) i q (omega arith) lacks (omega arith) below is_end) ∙ here) p.0 g), s.1)
     may_cut w i j lacks cut le (no_pair none) =
         (no_pair (sym (word_cut 62 (word_text w) i q (omega arith) lacks (omega arith) below is_end) ∙ none), cut)
 

@@ -11,7 +11,7 @@ use Rattle.rox_grammar.specs.Runs.{begins}
 use Rattle.rox_grammar.specs.Search.{byte_from}
 use Rattle.rox_grammar.specs.FixedTexts.{word_text, at}
 use Rattle.rox_grammar.specs.Names.{byte, spaces_end}
-use Rattle.rox_grammar.specs.Doctype.{Request, IsExternalID, BeginsEntity}
+use Rattle.rox_grammar.specs.Doctype.{Request, IsExternalID, BeginsEntity, IsSpace}
 use Rattle.rox_grammar.specs.Due.{DueItem, a_name, a_byte, IsMissing, Misses, no_name, no_external_id, none_left, DueInLiteral, DueInExternalID, DueInEntity, DueInDoctype}
 use Rattle.rox_faults.proofs.DueForms.{a_space, a_quote, a_definition, no_space, no_definition}
 use Rattle.rox_grammar.specs.Due as dues
@@ -20,7 +20,8 @@ use Rattle.rox_reading.specs.Doctype.{quoted_at, system_at, public_at, external_
 use Rattle.rox_theory.proofs.Basics.{chosen, run_end_le}
 use Rattle.rox_theory.proofs.DeclarationLemmas.{stands_fits}
 use Rattle.rox_theory.proofs.NameLemmas.{name_sound}
-use Rattle.rox_theory.proofs.LiteralLemmas.{quote_sound}
+use Rattle.rox_grammar.specs.Constructs.{IsQuote}
+use Rattle.rox_theory.proofs.LiteralLemmas.{quote_sound, quote_complete}
 use Rattle.rox_theory.proofs.DoctypeLemmas.{space_sound, quoted_end, quoted_sound, external_sound, kind_sound, name_or_end}
 use Rattle.rox_theory.proofs.FailedReadings.{bind_err, no_fault, byte_fails}
 use Rattle.rox_faults.proofs.FaultTags.{quote_fails}
@@ -41,42 +42,50 @@ name_fails src i f h =
     chosen (begins is_name_start src i) _ _ _ h (λ fine h. cc)
     (λ fails h. let is : fault.InvalidName i ≡ f = cc in subst (IsMissing src i a_name) is (no_name (λ j name. let s = name.starts in cc (sym fails ∙ s))))
 
--- a literal
-quoted_fails : (src : List ℕ) (i : ℕ) (f : Fault) → quoted_at src i ≡ Err f → Misses src (DueInLiteral src i) f
+-- a literal: its quote, or the one that ends it
+quoted_fails : (src : List ℕ) (i : ℕ) (f : Fault) → quoted_at src i ≡ Err f → (quote_at src i ≡ Err f) ⊎ (IsQuote src i × IsMissing src (quoted_end src i) (a_byte (byte src i)) f)
 unfolding quoted_at
 quoted_fails src i f h =
-    bind_err (quote_at src i) _ f h (λ bad. (i, a_quote, dues.DueInLiteral.its_quote, quote_fails src i f bad))
+    bind_err (quote_at src i) _ f h (λ bad. inl bad)
     (λ q quoted h.
     let quote = quote_sound src i q quoted in
     let q0 : q.0 ≡ byte src i = quote.1 in
     let q1 : q.1 ≡ i + 1 = quote.2 in
     bind_err (byte_at q.0 src (byte_from (λ c. c == q.0) src q.1)) _ f h
-    (λ bad. let bad' = rw (q0, q1) at bad in (quoted_end src i, a_byte (byte src i), dues.DueInLiteral.its_end quote.0, byte_fails (byte src i) src (quoted_end src i) f bad'))
+    (λ bad. let bad' = rw (q0, q1) at bad in inr (quote.0, byte_fails (byte src i) src (quoted_end src i) f bad'))
     (λ x ok h. no_fault _ f h))
+
+-- behind white space
+literal_fails : (src : List ℕ) (p s : ℕ) (f : Fault) → IsSpace src p s → quoted_at src s ≡ Err f → Misses src (DueInLiteral src p) f
+literal_fails src p s f is h =
+    elim (quoted_fails src s f h) as (λ _. Misses src (DueInLiteral src p) f) [
+      | inl bad ↦ (s, a_quote, dues.DueInLiteral.its_quote s is, quote_fails src s f bad)
+      | inr lack ↦ (quoted_end src s, a_byte (byte src s), dues.DueInLiteral.its_end s is lack.0, lack.1)
+    ]
 
 -- an external id
 system_fails : (src : List ℕ) (i : ℕ) (f : Fault) → at word.System src i ≡ true → system_at src i ≡ Err f → Misses src (DueInExternalID src i) f
 unfolding system_at
 system_fails src i f is h =
-    bind_err (space_at src (i + 6)) _ f h (λ bad. (i + 6, a_space, dues.DueInExternalID.space_before (inl is), space_fails src (i + 6) f bad))
+    bind_err (space_at src (i + 6)) _ f h (λ bad. (i + 6, a_space, dues.DueInExternalID.first (i + 6) a_space (inl is) dues.DueInLiteral.space_before, space_fails src (i + 6) f bad))
     (λ s spaced h. bind_err (quoted_at src s.1) _ f h
-    (λ bad. let w = quoted_fails src s.1 f bad in (w.0, w.1, dues.DueInExternalID.its_literal s.1 w.0 w.1 (inl is) (space_sound src (i + 6) s spaced) w.2, w.3))
+    (λ bad. let w = literal_fails src (i + 6) s.1 f (space_sound src (i + 6) s spaced) bad in (w.0, w.1, dues.DueInExternalID.first w.0 w.1 (inl is) w.2, w.3))
     (λ x ok h. no_fault _ f h))
 
 public_fails : (src : List ℕ) (i : ℕ) (f : Fault) → at word.Public src i ≡ true → public_at src i ≡ Err f → Misses src (DueInExternalID src i) f
 unfolding public_at
 public_fails src i f is h =
-    bind_err (space_at src (i + 6)) _ f h (λ bad. (i + 6, a_space, dues.DueInExternalID.space_before (inr is), space_fails src (i + 6) f bad))
+    bind_err (space_at src (i + 6)) _ f h (λ bad. (i + 6, a_space, dues.DueInExternalID.first (i + 6) a_space (inr is) dues.DueInLiteral.space_before, space_fails src (i + 6) f bad))
     (λ p spaced h.
     let sp = space_sound src (i + 6) p spaced in
     bind_err (quoted_at src p.1) _ f h
-    (λ bad. let w = quoted_fails src p.1 f bad in (w.0, w.1, dues.DueInExternalID.its_literal p.1 w.0 w.1 (inr is) sp w.2, w.3))
+    (λ bad. let w = literal_fails src (i + 6) p.1 f sp bad in (w.0, w.1, dues.DueInExternalID.first w.0 w.1 (inr is) w.2, w.3))
     (λ id quoted h.
     let q = (quoted_sound src p.1 id quoted).0 in
     bind_err (space_at src id.1) _ f h
-    (λ bad. (id.1, a_space, dues.DueInExternalID.space_between p.1 (quoted_end src p.1) id.1 is sp q, space_fails src id.1 f bad))
+    (λ bad. (id.1, a_space, dues.DueInExternalID.second p.1 (quoted_end src p.1) id.1 id.1 a_space is sp q dues.DueInLiteral.space_before, space_fails src id.1 f bad))
     (λ s spaced' h. bind_err (quoted_at src s.1) _ f h
-    (λ bad. let w = quoted_fails src s.1 f bad in (w.0, w.1, dues.DueInExternalID.second_literal p.1 (quoted_end src p.1) id.1 s.1 w.0 w.1 is sp q (space_sound src id.1 s spaced') w.2, w.3))
+    (λ bad. let w = literal_fails src id.1 s.1 f (space_sound src id.1 s spaced') bad in (w.0, w.1, dues.DueInExternalID.second p.1 (quoted_end src p.1) id.1 w.0 w.1 is sp q w.2, w.3))
     (λ x ok h. no_fault _ f h))))
 
 -- or that there is none
@@ -131,9 +140,11 @@ definition_fails src i n m d parameter f begins' h =
     (λ inside h. chosen (byte src d == 34 || byte src d == 39) _ _ _ h
     (λ quote h. bind_err (quoted_at src d) _ f h
     (λ bad.
-    let w = quoted_fails src d f bad in
     let quote' : (byte src d ≡ 39) ⊎ (byte src d ≡ 34) = elim (or_cases (byte src d == 34) (byte src d == 39) quote) as (λ s. (byte src d ≡ 39) ⊎ (byte src d ≡ 34)) [ inl a ↦ inr (eqb-true _ _ a) | inr b ↦ inl (eqb-true _ _ b) ] in
-    (w.0, w.1, dues.DueInEntity.its_literal parameter n m d w.0 w.1 begins' quote' w.2, w.3))
+    elim (quoted_fails src d f bad) as (λ _. Misses src (DueInEntity src i) f) [
+      | inl none ↦ no_fault _ f (sym (quote_complete src d quote') ∙ none)
+      | inr lack ↦ (quoted_end src d, a_byte (byte src d), dues.DueInEntity.its_literal parameter n m d begins' quote', lack.1)
+    ])
     (λ x ok h. no_fault _ f h))
     (λ bare h.
     let no_quote = or_parts (byte src d == 34) (byte src d == 39) bare in

@@ -17,7 +17,7 @@ use Rattle.rox_grammar.specs.TextStart.{after_bom, MayHaveXmlDecl, declared, not
 use Rattle.rox_grammar.specs.Entities.{Replacement, Entity}
 use Rattle.rox_grammar.specs.Doctype.{Request, Asked, IsQuoted, IsSpace, IsExternalID, system, public, MayHaveNotation, notation, no_notation, GivesReplacement, nothing, the_rest, IsDefinition, internal, external, BeginsEntity, Subset, MayHaveExternalID, external_id, no_external_id, BeginsDoctype, IsDoctype, no_subset, with_subset, SubsetTo, subset_to}
 use Rattle.rox_grammar.specs.Doctype as dtd
-use Rattle.rox_grammar.specs.Due.{DueItem, a_byte, a_name, IsMissing, none_left, DueInXmlDecl, DueInLiteral, its_quote, its_end, DueInExternalID, space_before, its_literal, space_between, second_literal, DueInEntity, DueInDoctype, none_of}
+use Rattle.rox_grammar.specs.Due.{DueItem, a_byte, a_name, IsMissing, none_left, DueInXmlDecl, DueInLiteral, DueInExternalID, DueInEntity, DueInDoctype, none_of}
 use Rattle.rox_faults.proofs.DueForms.{a_space, a_quote, a_definition, subset_or_end, doctype_end, quote_is, quote_defines, letter_defines, subset_or_end_is, end_is}
 use Rattle.rox_grammar.specs.Due as due
 use Rattle.rox_grammar.specs.Faults.{in_one, one_too_many}
@@ -61,11 +61,17 @@ module _ (src : List ℕ) (utf8 : IsUtf8 src) where
   spaced : (p j : ℕ) (f : Fault) → IsCharBoundary src p → IsSpace src p j → IsMissing src p a_space f → ⊥
   spaced p j f cut is lack = space_stands src utf8 p f cut (let some = is.0 in let all = is.1 in omega arith) lack
 
-  literal_apart : (i e j p : ℕ) (t : DueItem) (f : Fault) → IsQuoted src i e j → DueInLiteral src i p t → IsMissing src p t f → ⊥
-  literal_apart i e j p t f is its_quote lack = quote_stands src i f is.0 lack
-  literal_apart i e j p t f is (its_end quote) lack =
+  -- the quote that ends a literal
+  closing_apart : (i e j : ℕ) (f : Fault) → IsQuoted src i e j → IsMissing src (byte_from (λ c. c == byte src i) src (i + 1)) (a_byte (byte src i)) f → ⊥
+  closing_apart i e j f is lack =
       let closes : byte src (byte_from (λ c. c == byte src i) src (i + 1)) ≡ byte src i = ap (byte src) (sym is.1) ∙ quoted_closes src i e j is in
-      byte_stands src (byte src i) (byte_from (λ c. c == byte src i) src (i + 1)) f (elim quote as (λ _. 0 < byte src i) [ inl s ↦ omega arith | inr d ↦ omega arith ]) closes lack
+      byte_stands src (byte src i) (byte_from (λ c. c == byte src i) src (i + 1)) f (elim (is.0) as (λ _. 0 < byte src i) [ inl s ↦ omega arith | inr d ↦ omega arith ]) closes lack
+
+  literal_apart : (p s e j q : ℕ) (t : DueItem) (f : Fault) → IsCharBoundary src p → IsSpace src p s → IsQuoted src s e j → DueInLiteral src p q t → IsMissing src q t f → ⊥
+  literal_apart p s e j q t f cut sp is due.DueInLiteral.space_before lack = spaced p s f cut sp lack
+  literal_apart p s e j q t f cut sp is (due.DueInLiteral.its_quote _ sp') lack = quote_stands src s f is.0 (subst (λ (s : ℕ). IsMissing src s a_quote f) (space_once src p q s sp' sp) lack)
+  literal_apart p s e j q t f cut sp is (due.DueInLiteral.its_end s' sp' quote) lack =
+      closing_apart s e j f is (subst (λ (s : ℕ). IsMissing src (byte_from (λ c. c == byte src s) src (s + 1)) (a_byte (byte src s)) f) (space_once src p s' s sp' sp) lack)
 
   -- no external id begins with both words
   not_both : (i : ℕ) → at word.System src i ≡ true → at word.Public src i ≡ true → ⊥
@@ -75,30 +81,20 @@ module _ (src : List ℕ) (utf8 : IsUtf8 src) where
       absurd (omega arith)
 
   external_apart : (i j p : ℕ) (request : Request) (t : DueItem) (f : Fault) → IsExternalID src i request j → DueInExternalID src i p t → IsMissing src p t f → ⊥
-  external_apart i j p request t f (system _ s e _ is sp q) (space_before which) lack = spaced (i + 6) s f (six_cut word.System src i 77 utf8 is (omega arith) refl (omega arith) (omega arith)) sp lack
-  external_apart i j p request t f (system _ s e _ is sp q) (its_literal s' _ _ which sp' due') lack =
-      literal_apart s e j p t f q (subst (λ (s : ℕ). DueInLiteral src s p t) (space_once src (i + 6) s' s sp' sp) due') lack
-  external_apart i j p request t f (system _ s e _ is sp q) (space_between _ _ _ other _ _) lack = not_both i is other
-  external_apart i j p request t f (system _ s e _ is sp q) (second_literal _ _ _ _ _ _ other _ _ _ _) lack = not_both i is other
-  external_apart i j p request t f (public _ s d k v e _ is sp q sp' q') (space_before which) lack = spaced (i + 6) s f (six_cut word.Public src i 67 utf8 is (omega arith) refl (omega arith) (omega arith)) sp lack
-  external_apart i j p request t f (public _ s d k v e _ is sp q sp' q') (its_literal s' _ _ which space' due') lack =
-      literal_apart s d k p t f q (subst (λ (s : ℕ). DueInLiteral src s p t) (space_once src (i + 6) s' s space' sp) due') lack
-  external_apart i j p request t f (public _ s d k v e _ is sp q sp' q') (space_between s' d' _ other space' first) lack =
-      let at_first = space_once src (i + 6) s' s space' sp in
-      let same = (quoted_once src s d' p d k (subst (λ (s : ℕ). IsQuoted src s d' p) at_first first) q).1 in
-      spaced k v f (quoted_cut src s d k utf8 q) sp' (subst (λ (p : ℕ). IsMissing src p a_space f) same lack)
-  external_apart i j p request t f (public _ s d k v e _ is sp q sp' q') (second_literal s' d' k' v' _ _ other space' first space'' due') lack =
+  external_apart i j p request t f (system _ s e _ is sp q) (due.DueInExternalID.first _ _ which due') lack =
+      literal_apart (i + 6) s e j p t f (six_cut word.System src i 77 utf8 is (omega arith) refl (omega arith) (omega arith)) sp q due' lack
+  external_apart i j p request t f (system _ s e _ is sp q) (due.DueInExternalID.second _ _ _ _ _ other _ _ _) lack = not_both i is other
+  external_apart i j p request t f (public _ s d k v e _ is sp q sp' q') (due.DueInExternalID.first _ _ which due') lack =
+      literal_apart (i + 6) s d k p t f (six_cut word.Public src i 67 utf8 is (omega arith) refl (omega arith) (omega arith)) sp q due' lack
+  external_apart i j p request t f (public _ s d k v e _ is sp q sp' q') (due.DueInExternalID.second s' d' k' _ _ other space' first due') lack =
       let at_first = space_once src (i + 6) s' s space' sp in
       let same = (quoted_once src s d' k' d k (subst (λ (s : ℕ). IsQuoted src s d' k') at_first first) q).1 in
-      let at_second = space_once src k v' v (subst (λ (k : ℕ). IsSpace src k v') same space'') sp' in
-      literal_apart v e j p t f q' (subst (λ (v : ℕ). DueInLiteral src v p t) at_second due') lack
+      literal_apart k v e j p t f (quoted_cut src s d k utf8 q) sp' q' (subst (λ (k : ℕ). DueInLiteral src k p t) same due') lack
 
   -- where something is due in an external id, one begins
   external_due : (i p : ℕ) (t : DueItem) → DueInExternalID src i p t → (at word.System src i ≡ true) ⊎ (at word.Public src i ≡ true)
-  external_due i p t (space_before which) = which
-  external_due i p t (its_literal _ _ _ which _ _) = which
-  external_due i p t (space_between _ _ _ is _ _) = inr is
-  external_due i p t (second_literal _ _ _ _ _ _ is _ _ _ _) = inr is
+  external_due i p t (due.DueInExternalID.first _ _ which _) = which
+  external_due i p t (due.DueInExternalID.second _ _ _ _ _ is _ _ _) = inr is
 
   -- with one of two letters
   word_byte : (i : ℕ) → (at word.System src i ≡ true) ⊎ (at word.Public src i ≡ true) → (byte src i ≡ 83) ⊎ (byte src i ≡ 80)
@@ -123,10 +119,10 @@ module _ (src : List ℕ) (utf8 : IsUtf8 src) where
   definition_stands i j parameter asked text f (external _ n _ request answer _ is may gives) (none_left _ past) = let l = (external_cut src i request n utf8 is).2 in absurd (omega arith)
 
   -- what is due in its literal
-  in_literal : (i j p : ℕ) (parameter : Bool) (asked : List Asked) (text : Option Replacement) (t : DueItem) (f : Fault) → IsDefinition src parameter i j asked text → (byte src i ≡ 39) ⊎ (byte src i ≡ 34)
-      → DueInLiteral src i p t → IsMissing src p t f → ⊥
-  in_literal i j p parameter asked text t f (internal _ e _ q) quote due' lack = literal_apart i e j p t f q due' lack
-  in_literal i j p parameter asked text t f (external _ n _ request answer _ is may gives) quote due' lack = letter_no_quote i (external_byte src i request n is) quote
+  in_literal : (i j : ℕ) (parameter : Bool) (asked : List Asked) (text : Option Replacement) (f : Fault) → IsDefinition src parameter i j asked text → (byte src i ≡ 39) ⊎ (byte src i ≡ 34)
+      → IsMissing src (byte_from (λ c. c == byte src i) src (i + 1)) (a_byte (byte src i)) f → ⊥
+  in_literal i j parameter asked text f (internal _ e _ q) quote lack = closing_apart i e j f q lack
+  in_literal i j parameter asked text f (external _ n _ request answer _ is may gives) quote lack = letter_no_quote i (external_byte src i request n is) quote
 
   -- or in its external id
   in_external : (i j p : ℕ) (parameter : Bool) (asked : List Asked) (text : Option Replacement) (t : DueItem) (f : Fault) → IsDefinition src parameter i j asked text → DueInExternalID src i p t → IsMissing src p t f → ⊥
@@ -179,7 +175,7 @@ module _ (src : List ℕ) (utf8 : IsUtf8 src) where
         let end : q ≡ b.m = name.longest ∙ ap (λ (n : ℕ). run_end is_name_char src n) at_name ∙ sym b.head.name.longest in
         spaced b.m b.d f cuts.behind_name b.head.space_behind (subst (λ (q : ℕ). IsMissing src q a_space f) end lack)
     entity_apart q t f (due.DueInEntity.its_definition parameter n m _ begins) lack = definition_stands q b.e parameter asked b.text f (defines n m q parameter begins) lack
-    entity_apart q t f (due.DueInEntity.its_literal parameter n m d _ _ begins quote due') lack = in_literal d b.e q parameter asked b.text t f (defines n m d parameter begins) quote due' lack
+    entity_apart q t f (due.DueInEntity.its_literal parameter n m d begins quote) lack = in_literal d b.e parameter asked b.text f (defines n m d parameter begins) quote lack
     entity_apart q t f (due.DueInEntity.its_external_id parameter n m d _ _ begins due') lack = in_external d b.e q parameter asked b.text t f (defines n m d parameter begins) due' lack
     entity_apart q t f (due.DueInEntity.space_of_notation n m d e request begins is opens) lack =
         let there = notation_there d b.e e false asked b.text request refl (defines n m d false begins) is opens in

@@ -1,5 +1,5 @@
 -- The same for a name, Eq and a literal, and for the declaration.
-use Rattle.std.proofs.Common.{◌≡◌, ℕ, ◌+◌, ◌⊎◌, Bool, true, List, refl, sym, ap, ◌∙◌, subst, arith, inl, inr, false}
+use Rattle.std.proofs.Common.{◌≡◌, ℕ, ◌+◌, ◌<◌, ◌⊎◌, Bool, true, List, length, refl, sym, ap, ◌∙◌, subst, arith, inl, inr, false}
 use Rattle.std.specs.Str.{IsUtf8, IsCharBoundary}
 use Rattle.std.proofs.lemmas.Bool.{true≢false}
 use Rattle.rox_grammar.specs.declared.fault.Fault.{Fault}
@@ -11,10 +11,10 @@ use Rattle.rox_grammar.specs.Written.{Name}
 use Rattle.rox_grammar.specs.Names.{byte, spaces_end, IsQName}
 use Rattle.rox_grammar.specs.FixedTexts.{word_text, at}
 use Rattle.rox_grammar.specs.Search.{stands}
-use Rattle.rox_grammar.specs.Constructs.{AreChars, IsEq, IsLiteral, IsPair, IsGap, some_space, MayBePair, is_pair, no_pair, DeclarationTo, version, encoding, standalone, IsXmlDecl, xml_decl}
+use Rattle.rox_grammar.specs.Constructs.{AreChars, IsEq, IsLiteral, IsPair, MayBePair, is_pair, no_pair, DeclarationTo, version, encoding, standalone, IsXmlDecl, xml_decl}
 use Rattle.rox_grammar.specs.Constructs as constructs
-use Rattle.rox_grammar.specs.Due.{DueItem, a_byte, a_gap, a_text, chars_to, IsMissing, no_gap, none_left, DueInPair, its_name, equals, opening, its_value, closing, value_end, DueInXmlDecl, its_version, in_pair, behind_pair, behind_last, none_of}
-use Rattle.rox_faults.proofs.DueForms.{a_quote, quote_is}
+use Rattle.rox_grammar.specs.Due.{DueItem, a_byte, a_text, chars_to, IsMissing, none_left, DueInPair, its_name, equals, opening, its_value, closing, value_end, DueInXmlDecl, its_version, in_pair, behind_pair, behind_last, none_of}
+use Rattle.rox_faults.proofs.DueForms.{a_quote, a_space, quote_is}
 use Rattle.rox_grammar.specs.Due as due
 use Rattle.rox_reading.specs.Lexical.{qname_at}
 use Rattle.rox_reading.specs.Markup.{pair_at, pair_if}
@@ -24,10 +24,10 @@ use Rattle.rox_faults.proofs.NameSpans.{cut_behind}
 use Rattle.rox_theory.proofs.CharLemmas.{begins_byte, some_run}
 use Rattle.rox_theory.proofs.Places.{space_ascii}
 use Rattle.rox_theory.proofs.LiteralLemmas.{quote_ascii, literal_closes, literal_complete}
-use Rattle.rox_theory.proofs.DeclarationLemmas.{pair_complete, pair_cut, pair_if_complete, gap_before}
+use Rattle.rox_theory.proofs.DeclarationLemmas.{IsFollowed, pair_complete, pair_cut, pair_if_complete}
 use Rattle.rox_theory.proofs.FailedReadings.{ok_one}
 use Rattle.rox_faults.proofs.FaultTags.{value_cut}
-use Rattle.rox_faults.proofs.FaultApart.{qname_stands, byte_stands, word_stands, chars_stand}
+use Rattle.rox_faults.proofs.FaultApart.{qname_stands, byte_stands, space_stands, word_stands, chars_stand}
 
 -- a qualified name is read in one way
 pub one_qname : (src : List ℕ) (i m n : ℕ) (x y : Name) → IsQName src i x m → IsQName src i y n → (x ≡ y) × (m ≡ n)
@@ -79,34 +79,33 @@ module _ (src : List ℕ) (utf8 : IsUtf8 src) where
   one_may : (w : Word) (i j k : ℕ) → MayBePair (word_text w) src i j → MayBePair (word_text w) src i k → j ≡ k
   one_may w i j k a b = ap (λ (p : Unit {0} × ℕ). p.1) (ok_one (tt, j) (tt, k) (pair_if w src i) (pair_if_complete w src i j utf8 a) (pair_if_complete w src i k utf8 b))
 
-  -- a gap that is due and stands there
-  gap_stands : (i j : ℕ) (f : Fault) → IsCharBoundary src i → IsGap src i j → IsMissing src i a_gap f → ⊥
-  gap_stands i j f cut (some_space _ some) (no_gap inside no_space no_end) =
-      true≢false (sym (begins_byte is_space (λ c h. space_ascii c h) src i utf8 cut (some_run is_space src i some)) ∙ no_space)
-  gap_stands i j f cut (constructs.IsGap.no_space _ (inl end)) (no_gap inside no_space no_end) = absurd (omega arith)
-  gap_stands i j f cut (constructs.IsGap.no_space _ (inr here)) (no_gap inside no_space no_end) = true≢false (sym here ∙ no_end)
+  -- white space that is due behind a pair and stands there
+  gap_stands : (i : ℕ) (f : Fault) → IsCharBoundary src i → IsFollowed src i → i < length src → at word.PIEnd src i ≡ false → IsMissing src i a_space f → ⊥
+  gap_stands i f cut (inl some) inside no_end lack = space_stands src utf8 i f cut some lack
+  gap_stands i f cut (inr (inl here)) inside no_end lack = true≢false (sym here ∙ no_end)
+  gap_stands i f cut (inr (inr end)) inside no_end lack = absurd (omega arith)
 
   -- a pair that may stand does, with its gap, where its word does
-  may_is : (w : Word) (i k : ℕ) → at w src i ≡ true → MayBePair (word_text w) src i k → (name : Name) × (n : ℕ) × (v : ℕ) × (e : ℕ) × (j : ℕ) × IsPair src i name n v e j × IsGap src j k
-  may_is w i k here (is_pair name n v e j _ here' p gap) = (name, n, v, e, j, p, gap)
+  may_is : (w : Word) (i k : ℕ) → at w src i ≡ true → MayBePair (word_text w) src i k → (name : Name) × (n : ℕ) × (v : ℕ) × (e : ℕ) × (j : ℕ) × IsPair src i name n v e j × IsFollowed src j × (spaces_end src j ≡ k)
+  may_is w i k here (is_pair name n v e j here' p gap) = (name, n, v, e, j, p, gap, refl)
   may_is w i k here (no_pair none) = absurd (true≢false (sym here ∙ none))
 
   may_not : (w : Word) (i k : ℕ) → at w src i ≡ false → MayBePair (word_text w) src i k → k ≡ i
-  may_not w i k fails (is_pair name n v e j _ here p gap) = absurd (true≢false (sym here ∙ fails))
+  may_not w i k fails (is_pair name n v e j here p gap) = absurd (true≢false (sym here ∙ fails))
   may_not w i k fails (no_pair none) = refl
 
   -- the pair that stands where one begins, and the gap behind it: behind the last one all white space before the end
   pair_there : (i j p : ℕ) (text : List ℕ) → IsXmlDecl src i j → DeclarationTo src i text p → stands text src p ≡ true
-      → (name : Name) × (n : ℕ) × (v : ℕ) × (e : ℕ) × (k : ℕ) × IsPair src p name n v e k × (l : ℕ) × IsGap src k l × (text ≡ word_text word.Standalone → at word.PIEnd src l ≡ true)
+      → (name : Name) × (n : ℕ) × (v : ℕ) × (e : ℕ) × (k : ℕ) × IsPair src p name n v e k × IsFollowed src k × (text ≡ word_text word.Standalone → at word.PIEnd src (spaces_end src k) ≡ true)
   pair_there i j p text (xml_decl e s opens (standalone v _ (encoding _ _ (version _) one) two) three closes) (version _) here =
-      let m = may_is word.Version p v here one in (m.0, m.1, m.2, m.3, m.4, m.5, v, m.6, λ z. cc z)
+      let m = may_is word.Version p v here one in (m.0, m.1, m.2, m.3, m.4, m.5, m.6, λ z. cc z)
   pair_there i j p text (xml_decl e s opens (standalone v _ (encoding _ _ (version _) one) two) three closes) (encoding q _ (version _) may) here =
       let same : v ≡ p = one_may word.Version q v p one may in
-      let m = may_is word.Encoding p e here (subst (λ (v : ℕ). MayBePair (word_text word.Encoding) src v e) same two) in (m.0, m.1, m.2, m.3, m.4, m.5, e, m.6, λ z. cc z)
+      let m = may_is word.Encoding p e here (subst (λ (v : ℕ). MayBePair (word_text word.Encoding) src v e) same two) in (m.0, m.1, m.2, m.3, m.4, m.5, m.6, λ z. cc z)
   pair_there i j p text (xml_decl e s opens (standalone v _ (encoding _ _ (version _) one) two) three closes) (standalone w _ (encoding q _ (version _) may) may') here =
       let same : v ≡ w = one_may word.Version q v w one may in
       let same' : e ≡ p = one_may word.Encoding w e p (subst (λ (v : ℕ). MayBePair (word_text word.Encoding) src v e) same two) may' in
-      let m = may_is word.Standalone p s here (subst (λ (e : ℕ). MayBePair (word_text word.Standalone) src e s) same' three) in (m.0, m.1, m.2, m.3, m.4, m.5, s, m.6, λ z. closes)
+      let m = may_is word.Standalone p s here (subst (λ (e : ℕ). MayBePair (word_text word.Standalone) src e s) same' three) in (m.0, m.1, m.2, m.3, m.4, m.5, m.6, λ z. subst (λ (l : ℕ). at word.PIEnd src l ≡ true) (sym m.7) closes)
 
   -- where the last one begins
   last_begins : (i p q : ℕ) → DeclarationTo src i (word_text word.Standalone) p → DeclarationTo src i (word_text word.Standalone) q → p ≡ q
@@ -122,16 +121,14 @@ module _ (src : List ℕ) (utf8 : IsUtf8 src) where
       let there = pair_there i j p text is to here in
       let x = there.5 in
       pair_apart p there.1 there.2 there.3 there.4 q there.0 t f x.0 x.1 x.2 due' lack
-  declaration_apart i j q t f is (behind_pair text name p n v e _ to here other pair) lack =
+  declaration_apart i j q t f is (behind_pair text name p n v e _ to here other pair inside no_end) lack =
       let there = pair_there i j p text is to here in
       let same : there.4 ≡ q = one_pair p there.1 there.2 there.3 there.4 n v e q there.0 name there.5 pair in
-      gap_stands q there.6 f (pair_cut src p n v e q name utf8 pair) (subst (λ (k : ℕ). IsGap src k there.6) same there.7) lack
+      gap_stands q f (pair_cut src p n v e q name utf8 pair) (subst (IsFollowed src) same there.6) inside no_end lack
   declaration_apart i j q t f is (behind_last name p n v e k to here pair) lack =
       let there = pair_there i j p (word_text word.Standalone) is to here in
       let same : there.4 ≡ k = one_pair p there.1 there.2 there.3 there.4 n v e k there.0 name there.5 pair in
-      let ends = there.8 refl in
-      let behind : spaces_end src k ≡ there.6 = ap (spaces_end src) (sym same) ∙ gap_before src there.4 there.6 there.7 ends in
-      word_stands src expected.PIEnd there.6 f ends (subst (λ (l : ℕ). IsMissing src l (a_text expected.PIEnd) f) behind lack)
+      word_stands src expected.PIEnd (spaces_end src there.4) f (there.7 refl) (subst (λ (l : ℕ). IsMissing src (spaces_end src l) (a_text expected.PIEnd) f) (sym same) lack)
   declaration_apart i j q t f (xml_decl e s opens to three closes) (due.DueInXmlDecl.its_end _ to' none) lack =
       let first : e ≡ q = last_begins i e q to to' in
       let last : s ≡ q = may_not word.Standalone q s none (subst (λ (e : ℕ). MayBePair (word_text word.Standalone) src e s) first three) in

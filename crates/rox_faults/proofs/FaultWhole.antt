@@ -29,8 +29,8 @@ use Rattle.rox_grammar.specs.Document.{Behind, Misc, no_misc, space, an_item, Pr
 use Rattle.rox_grammar.specs.State.{root, nodes_so_far, FitsLimits}
 use Rattle.rox_reading.specs.Refusals.{Refusal, here, there, refused, lifted}
 use Rattle.rox_reading.specs.State.{State}
-use Rattle.rox_grammar.specs.Due.{a_byte, a_qname, a_gap, a_text, chars_to, IsMissing, no_gap, DueInPair, its_name, equals, opening, its_value, closing, value_end, DueInXmlDecl, its_version, in_pair, behind_pair, behind_last, Misses}
-use Rattle.rox_faults.proofs.DueForms.{a_quote}
+use Rattle.rox_grammar.specs.Due.{a_byte, a_qname, a_text, chars_to, IsMissing, DueInPair, its_name, equals, opening, its_value, closing, value_end, DueInXmlDecl, its_version, in_pair, behind_pair, behind_last, Misses}
+use Rattle.rox_faults.proofs.DueForms.{a_quote, a_space, no_space}
 use Rattle.rox_grammar.specs.Due as dues
 use Rattle.rox_grammar.specs.ContentPoints.{is_main, begins, of_root}
 use Rattle.rox_grammar.specs.Faults.{InMisc, no_root, unknown_ahead, unknown_behind, in_one, misc_around, one_too_many}
@@ -125,14 +125,14 @@ module _ (src : List ℕ) (utf8 : IsUtf8 src) where
       let bad' = rw (q0, sound.2) at h in
       (e, a_byte (byte src v), closing name.0 name.1 v is_name eq quote.0 (inr sound.0), byte_fails (byte src v) src e f bad')))))
 
-  -- a gap
-  gap_fails : (i : ℕ) (f : Fault) → gap_at src i ≡ Err f → IsMissing src i a_gap f
+  -- the white space behind it
+  gap_fails : (i : ℕ) (f : Fault) → gap_at src i ≡ Err f → (i < length src) × (stands (word_text word.PIEnd) src i ≡ false) × IsMissing src i a_space f
   unfolding gap_at
   gap_fails i f h =
       chosen (leb (length src) i) _ _ _ h (λ out h. cc)
       (λ inside h. chosen (is_space (byte src i)) _ _ _ h (λ space h. cc)
       (λ none h. chosen (stands (word_text word.PIEnd) src i) _ _ _ h (λ ends h. cc)
-      (λ other h. let is : fault.InvalidChar2 due.Space (byte src i) i ≡ f = cc in subst (IsMissing src i a_gap) is (no_gap (leb-false _ _ inside) none other))))
+      (λ other h. let is : fault.InvalidChar2 due.Space (byte src i) i ≡ f = cc in (leb-false _ _ inside, other, subst (IsMissing src i a_space) is (no_space (leb-false _ _ inside) none)))))
 
   -- what is due in the declaration
   abbrev pub Declares : ℕ → Fault → Type 0
@@ -145,7 +145,10 @@ module _ (src : List ℕ) (utf8 : IsUtf8 src) where
       chosen (stands (word_text w) src p) _ _ _ h
       (λ here h. bind_err (pair_at src p) _ f h
       (λ bad. let x = pair_fails p f bad in (x.0, x.1, in_pair (word_text w) p x.0 x.1 to here x.2, x.3))
-      (λ x read bad. let there = pair_sound src utf8 p x read in (x.1, a_gap, behind_pair (word_text w) there.0 p there.1 there.2 there.3 x.1 to here other there.4, gap_fails x.1 f bad)))
+      (λ x read bad.
+      let there = pair_sound src utf8 p x read in
+      let lack = gap_fails x.1 f bad in
+      (x.1, a_space, behind_pair (word_text w) there.0 p there.1 there.2 there.3 x.1 to here other there.4 lack.0 lack.1, lack.2)))
       (λ none h. cc)
 
   -- the declaration

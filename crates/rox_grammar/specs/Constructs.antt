@@ -54,15 +54,11 @@ IsLiteral src i e j = IsQuoted src i e j × AreChars src (i + 1) e × (e ≡ byt
 abbrev pub IsPair : List ℕ → (i : ℕ) → Name → (n v e j : ℕ) → Type 0
 IsPair src i name n v e j = IsQName src i name n × IsEq src n v × IsLiteral src v e j
 
--- white space, or none before `?>` and at the end
-pub data IsGap (src : List ℕ) : ℕ → ℕ → Type 0 where
-  some_space : (i : ℕ) → i < spaces_end src i → IsGap src i (spaces_end src i)
-  no_space : (i : ℕ) → (length src ≡ i) ⊎ (text_at "?>" src i ≡ true) → IsGap src i i
-
--- A pair that begins with this text, and a gap, or nothing where the text does not stand. The name may go on behind it, and the
--- value is any literal: XML 2.8 [24], [26], 4.3.3 [80], [81] and 2.9 [32] fix both.
+-- A pair that begins with this text, and white space, which may be none before `?>` and at the end; or nothing where the text does
+-- not stand. The name may go on behind it, and the value is any literal: XML 2.8 [24], [26], 4.3.3 [80], [81] and 2.9 [32] fix both.
 pub data MayBePair (text : List ℕ) (src : List ℕ) (i : ℕ) : ℕ → Type 0 where
-  is_pair : (name : Name) (n v e j k : ℕ) → stands text src i ≡ true → IsPair src i name n v e j → IsGap src j k → MayBePair text src i k
+  is_pair : (name : Name) (n v e j : ℕ) → stands text src i ≡ true → IsPair src i name n v e j
+      → (j < spaces_end src j) ⊎ ((text_at "?>" src j ≡ true) ⊎ (length src ≡ j)) → MayBePair text src i (spaces_end src j)
   no_pair : stands text src i ≡ false → MayBePair text src i i
 
 -- XML 2.8 [23]: the declaration that begins at i, up to a place where a pair may stand that begins with this text

@@ -1,6 +1,6 @@
 -- Character data, attribute values, tags, elements and content, each as a relation between two places of one source.
 use Prim.Native.Char.{code}
-use Rattle.std.specs.Prelude.{◌≡◌, ◌≢◌, ℕ, ◌+◌, ◌<◌, ◌≤◌, ◌⊎◌, ◌==◌, ◌||◌, Bool, true, false, not, List, [], ◌∷◌, ◌++◌, None, map, if◌then◌else◌}
+use Rattle.std.specs.Prelude.{◌≡◌, ◌≢◌, ℕ, ◌+◌, ◌<◌, ◌≤◌, ◌⊎◌, ◌==◌, ◌||◌, Bool, true, false, not, List, [], ◌∷◌, ◌++◌, None, map, if◌then◌else◌, ◌&&◌}
 use Rattle.std.specs.List.{list_any}
 use Rattle.std.specs.Char.{encode_utf8}
 use Rattle.rox_grammar.specs.Runs.{first_passes}
@@ -79,8 +79,7 @@ pub data IsCharacterData (src : List ℕ) (i j : ℕ) : Type 0 where
 
 -- a character from a reference in a value: within a replacement text white space gives a space, where XML 3.3.3 keeps it
 abbrev pub value_bytes : Bool → ℕ → List ℕ
-value_bytes true c = encode_utf8 c
-value_bytes false c = if c == code "\t" || (c == code "\n" || c == code "\r") then code " " ∷ [] else encode_utf8 c
+value_bytes main c = if not main && (c == code "\t" || (c == code "\n" || c == code "\r")) then code " " ∷ [] else encode_utf8 c
 
 -- `>`, or `/>` where the element is empty, after white space
 pub data TagEnds (src : List ℕ) : ℕ → Bool → ℕ → Type 0 where

@@ -24,8 +24,6 @@ pub data DueItem : Type 0 where
   a_text : Expected → DueItem
   -- a byte of this kind
   one_of : Due → DueItem
-  -- white space, `?>` or the end
-  a_gap : DueItem
   -- Chars up to this place
   chars_to : ℕ → DueItem
 
@@ -45,7 +43,6 @@ pub data IsMissing (src : List ℕ) (p : ℕ) : DueItem → Fault → Type 0 whe
   other_byte : (b : ℕ) → p < length src → byte src p ≢ b → IsMissing src p (a_byte b) (fault.InvalidChar b (byte src p) p)
   other_text : (text : Expected) → stands (expected_text text) src p ≡ false → IsMissing src p (a_text text) (fault.InvalidString text p)
   none_of : (kind : Due) → p < length src → is_of kind (byte src p) ≡ false → IsMissing src p (one_of kind) (fault.InvalidChar2 kind (byte src p) p)
-  no_gap : p < length src → is_space (byte src p) ≡ false → text_at "?>" src p ≡ false → IsMissing src p a_gap (fault.InvalidChar2 due.Space (byte src p) p)
   -- XML 2.2 [2]: the longest stretch of Chars ends at q, before e, with this character
   no_char : (e q c : ℕ) → q ≡ run_end is_char (take e src) p → q < e → StandsAt c src q → is_char c ≡ false → IsMissing src p (chars_to e) (fault.NonXmlChar c q)
   -- `S` or `P`
@@ -87,27 +84,26 @@ pub data DueInPair (src : List ℕ) (i : ℕ) : ℕ → DueItem → Type 0 where
   closing : (name : Name) (n v : ℕ) → IsQName src i name n → IsEq src n v → IsQuote src v
       → (length src ≤ value_end src v) ⊎ AreChars src (v + 1) (value_end src v) → DueInPair src i (value_end src v) (a_byte (byte src v))
 
--- XML 2.8 [23]: in the declaration that begins at i, whose last pair needs no gap behind it
+-- XML 2.8 [23]: in the declaration that begins at i, where no white space is due behind the last pair, before `?>` and at the end
 pub data DueInXmlDecl (src : List ℕ) (i : ℕ) : ℕ → DueItem → Type 0 where
   its_version : DueInXmlDecl src i (spaces_end src (i + 5)) (a_text expected.Version)
   in_pair : (text : List ℕ) (j p : ℕ) (t : DueItem) → DeclarationTo src i text j → stands text src j ≡ true → DueInPair src j p t → DueInXmlDecl src i p t
   behind_pair : (text : List ℕ) (name : Name) (j n v e p : ℕ) → DeclarationTo src i text j → stands text src j ≡ true → text ≢ codes "standalone"
-      → IsPair src j name n v e p → DueInXmlDecl src i p a_gap
+      → IsPair src j name n v e p → p < length src → text_at "?>" src p ≡ false → DueInXmlDecl src i p (one_of due.Space)
   behind_last : (name : Name) (j n v e p : ℕ) → DeclarationTo src i (codes "standalone") j → text_at "standalone" src j ≡ true → IsPair src j name n v e p
       → DueInXmlDecl src i (spaces_end src p) (a_text expected.PIEnd)
   its_end : (j : ℕ) → DeclarationTo src i (codes "standalone") j → text_at "standalone" src j ≡ false → DueInXmlDecl src i j (a_text expected.PIEnd)
 
--- XML 2.3 [9], [11], [12]: in a literal of any characters but the quote, which begins at i
+-- XML 2.3 [9], [11], [12]: in white space and a literal of any characters but the quote, from i on
 pub data DueInLiteral (src : List ℕ) (i : ℕ) : ℕ → DueItem → Type 0 where
-  its_quote : DueInLiteral src i i (one_of due.Quote)
-  its_end : IsQuote src i → DueInLiteral src i (byte_from (λ c. c == byte src i) src (i + 1)) (a_byte (byte src i))
+  space_before : DueInLiteral src i i (one_of due.Space)
+  its_quote : (s : ℕ) → IsSpace src i s → DueInLiteral src i s (one_of due.Quote)
+  its_end : (s : ℕ) → IsSpace src i s → IsQuote src s → DueInLiteral src i (byte_from (λ c. c == byte src s) src (s + 1)) (a_byte (byte src s))
 
--- XML 4.2.2 [75]: in the external id that begins at i
+-- XML 4.2.2 [75]: in the external id that begins at i, in its first literal or its second
 pub data DueInExternalID (src : List ℕ) (i : ℕ) : ℕ → DueItem → Type 0 where
-  space_before : (text_at "SYSTEM" src i ≡ true) ⊎ (text_at "PUBLIC" src i ≡ true) → DueInExternalID src i (i + 6) (one_of due.Space)
-  its_literal : (s p : ℕ) (t : DueItem) → (text_at "SYSTEM" src i ≡ true) ⊎ (text_at "PUBLIC" src i ≡ true) → IsSpace src (i + 6) s → DueInLiteral src s p t → DueInExternalID src i p t
-  space_between : (s e j : ℕ) → text_at "PUBLIC" src i ≡ true → IsSpace src (i + 6) s → IsQuoted src s e j → DueInExternalID src i j (one_of due.Space)
-  second_literal : (s e j v p : ℕ) (t : DueItem) → text_at "PUBLIC" src i ≡ true → IsSpace src (i + 6) s → IsQuoted src s e j → IsSpace src j v → DueInLiteral src v p t → DueInExternalID src i p t
+  first : (p : ℕ) (t : DueItem) → (text_at "SYSTEM" src i ≡ true) ⊎ (text_at "PUBLIC" src i ≡ true) → DueInLiteral src (i + 6) p t → DueInExternalID src i p t
+  second : (s e j p : ℕ) (t : DueItem) → text_at "PUBLIC" src i ≡ true → IsSpace src (i + 6) s → IsQuoted src s e j → DueInLiteral src j p t → DueInExternalID src i p t
 
 -- XML 4.2 [70]: in the entity declaration that begins at i, up to its definition
 pub data DueInEntity (src : List ℕ) (i : ℕ) : ℕ → DueItem → Type 0 where
@@ -116,7 +112,8 @@ pub data DueInEntity (src : List ℕ) (i : ℕ) : ℕ → DueItem → Type 0 whe
   its_name : (k n : ℕ) (parameter : Bool) → IsSpace src (i + 8) k → IsKind src k parameter n → DueInEntity src i n a_name
   space_behind : (k n m : ℕ) (parameter : Bool) → IsSpace src (i + 8) k → IsKind src k parameter n → IsName src n m → DueInEntity src i m (one_of due.Space)
   its_definition : (parameter : Bool) (n m d : ℕ) → BeginsEntity src i parameter n m d → DueInEntity src i d (one_of due.EntityDefinition)
-  its_literal : (parameter : Bool) (n m d p : ℕ) (t : DueItem) → BeginsEntity src i parameter n m d → IsQuote src d → DueInLiteral src d p t → DueInEntity src i p t
+  its_literal : (parameter : Bool) (n m d : ℕ) → BeginsEntity src i parameter n m d → IsQuote src d
+      → DueInEntity src i (byte_from (λ c. c == byte src d) src (d + 1)) (a_byte (byte src d))
   its_external_id : (parameter : Bool) (n m d p : ℕ) (t : DueItem) → BeginsEntity src i parameter n m d → DueInExternalID src d p t → DueInEntity src i p t
   space_of_notation : (n m d e : ℕ) (request : Request) → BeginsEntity src i false n m d → IsExternalID src d request e → text_at "NDATA" src (spaces_end src e) ≡ true
       → DueInEntity src i (spaces_end src e + 5) (one_of due.Space)

@@ -32,5 +32,4 @@ pub data IsQName (src : List ℕ) : ℕ → Name → ℕ → Type 0 where
   unprefixed : (i j : ℕ) → IsNCName src i j → byte src j ≢ code ":" → IsQName src i (record { prefix = []; local = slice src i j }) j
   prefixed : (i k j : ℕ) → IsNCName src i k → byte src k ≡ code ":" → IsNCName src (k + 1) j → byte src j ≢ code ":"
       → IsQName src i (record { prefix = slice src i k; local = slice src (k + 1) j }) j
-  colon_first : (i j : ℕ) → byte src i ≡ code ":" → IsNCName src (i + 1) j → byte src j ≢ code ":"
-      → IsQName src i (record { prefix = []; local = slice src (i + 1) j }) j
+  colon_first : (i j : ℕ) → byte src i ≡ code ":" → IsNCName src (i + 1) j → byte src j ≢ code ":" → IsQName src i (record { prefix = []; local = slice src (i + 1) j }) j

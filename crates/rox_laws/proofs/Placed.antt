@@ -17,14 +17,14 @@ use Rattle.rox_grammar.specs.ExpectedTexts.{expected_text}
 use Rattle.rox_grammar.specs.Search.{before_mark, mark_from, stands}
 use Rattle.rox_grammar.specs.Written.{Name, Attribute, NamespaceDecl, is_namespace_decl, plain_attributes_of}
 use Rattle.rox_grammar.specs.Names.{byte, spaces_end, IsName, IsQName, unprefixed, prefixed, colon_first}
-use Rattle.rox_grammar.specs.Constructs.{IsPair, IsGap, MayBePair, DeclarationTo}
+use Rattle.rox_grammar.specs.Constructs.{IsPair, MayBePair, DeclarationTo}
 use Rattle.rox_grammar.specs.Constructs as constructs
 use Rattle.rox_grammar.specs.References.{IsReference, IsCharacter, decimal, hexadecimal, named}
 use Rattle.rox_grammar.specs.Content.{Inclusion, Attributes}
 use Rattle.rox_grammar.specs.Content as content
 use Rattle.rox_grammar.specs.Entities.{Entity}
 use Rattle.rox_grammar.specs.State.{Open, root, inside, State}
-use Rattle.rox_grammar.specs.Due.{DueItem, a_name, a_qname, a_byte, a_text, one_of, a_gap, chars_to, IsMissing, DueInText, DueInPI, DueInEnd, DueInPair, DueInXmlDecl}
+use Rattle.rox_grammar.specs.Due.{DueItem, a_name, a_qname, a_byte, a_text, one_of, chars_to, IsMissing, DueInText, DueInPI, DueInEnd, DueInPair, DueInXmlDecl}
 use Rattle.rox_grammar.specs.Due as due
 use Rattle.rox_grammar.specs.ContentPoints.{TagBegins, of_root, in_content}
 use Rattle.rox_grammar.specs.Faults.{InMisc, InReferences, InRun, InValue, IllDeclared, IllNamed, cut_off, InTag, InEnd, Stands}
@@ -84,7 +84,6 @@ Fits src a_qname p = p ≤ length src
 Fits src (a_text w) p = p ≤ length src
 Fits src (a_byte b) p = Unit {0}
 Fits src (one_of kind) p = Unit {0}
-Fits src a_gap p = Unit {0}
 Fits src (chars_to e) p = Unit {0}
 
 lacks_placed : (src : List ℕ) (p : ℕ) (t : DueItem) (f : Fault) → Fits src t p → IsMissing src p t f → IsPlaced src f
@@ -93,7 +92,6 @@ lacks_placed src p t f fits (due.IsMissing.no_qname none) = fits
 lacks_placed src p t f fits (due.IsMissing.other_byte b there other) = omega arith
 lacks_placed src p t f fits (due.IsMissing.other_text w none) = fits
 lacks_placed src p t f fits (due.IsMissing.none_of kind there none) = omega arith
-lacks_placed src p t f fits (due.IsMissing.no_gap there none no_end) = omega arith
 lacks_placed src p t f fits (due.IsMissing.no_char e q c ends before is bad) = let there = char_within c src q is in omega arith
 lacks_placed src p t f fits (due.IsMissing.no_external_id (inl is) no_system no_public) = let there = within src p (λ z. omega arith) in omega arith
 lacks_placed src p t f fits (due.IsMissing.no_external_id (inr is) no_system no_public) = let there = within src p (λ z. omega arith) in omega arith
@@ -137,12 +135,8 @@ module _ (src : List ℕ) (utf8 : IsUtf8 src) where
       let low = quote_ascii (byte src v) literal.0.0 in
       subst (IsCharBoundary src) (sym literal.0.3) (cut_behind src e (byte src v) utf8 (literal_closes src v e j literal) (omega arith) (omega arith))
 
-  gap_cut : (j k : ℕ) → IsCharBoundary src j → IsGap src j k → IsCharBoundary src k
-  gap_cut j k cut (constructs.IsGap.some_space _ some) = run_cut is_space src j utf8 cut
-  gap_cut j k cut (constructs.IsGap.no_space _ none) = cut
-
   may_cut : (w : Word) (i k : ℕ) → IsCharBoundary src i → MayBePair (word_text w) src i k → IsCharBoundary src k
-  may_cut w i k cut (constructs.MayBePair.is_pair name n v e j _ stands pair gap) = gap_cut j k (pair_cut i n v e j name pair) gap
+  may_cut w i k cut (constructs.MayBePair.is_pair name n v e j stands pair gap) = run_cut is_space src j utf8 (pair_cut i n v e j name pair)
   may_cut w i k cut (constructs.MayBePair.no_pair none) = cut
 
   -- behind `<?xml` and white space
@@ -161,7 +155,7 @@ module _ (src : List ℕ) (utf8 : IsUtf8 src) where
   pub declaration_fits : (i p : ℕ) (t : DueItem) → at word.XmlDeclStart src i ≡ true → DueInXmlDecl src i p t → Fits src t p
   declaration_fits i p t opens due.DueInXmlDecl.its_version = (version_cut i opens).0
   declaration_fits i p t opens (due.DueInXmlDecl.in_pair text j _ _ to here is) = pair_fits j p t (begins_inside i text j to here) is
-  declaration_fits i p t opens (due.DueInXmlDecl.behind_pair text name j n v e _ to here other pair) = tt
+  declaration_fits i p t opens (due.DueInXmlDecl.behind_pair text name j n v e _ to here other pair below no_end) = tt
   declaration_fits i p t opens (due.DueInXmlDecl.behind_last name j n v e k to here pair) = (run_cut is_space src k utf8 (pair_cut j n v e k name pair)).0
   declaration_fits i p t opens (due.DueInXmlDecl.its_end _ (constructs.DeclarationTo.standalone v _ (constructs.DeclarationTo.encoding _ _ (constructs.DeclarationTo.version _) first_pair) second) none) =
       (may_cut word.Encoding v p (may_cut word.Version (spaces_end src (i + 5)) v (version_cut i opens) first_pair) second).0
