@@ -68,9 +68,7 @@ element_namespace scope name = uri_of scope (none_if_empty name.prefix)
 -- NS 6.2, 3: an attribute without prefix has none, and `xml` stands for its own
 abbrev pub attribute_namespace : List NamespaceDecl → Name → Option (List ℕ)
 attribute_namespace scope name =
-    if bytes_eq name.prefix [] then None
-    else if bytes_eq name.prefix (codes "xml") then Some xml_uri
-    else uri_of scope (Some name.prefix)
+    if bytes_eq name.prefix [] then None else if bytes_eq name.prefix (codes "xml") then Some xml_uri else uri_of scope (Some name.prefix)
 
 abbrev pub attribute_in : List NamespaceDecl → written.Attribute → Attribute
 attribute_in scope a =
@@ -83,8 +81,7 @@ scope_in above other = above
 
 -- an item as its readers see it, where it, or its parent if it is no element, lists these
 abbrev pub node_in : List NamespaceDecl → Item → Node
-node_in scope (written.Element start end tag) =
-    Element start end (element_namespace scope tag.name) tag.name.local scope (map (attribute_in scope) tag.attributes)
+node_in scope (written.Element start end tag) = Element start end (element_namespace scope tag.name) tag.name.local scope (map (attribute_in scope) tag.attributes)
 node_in scope (written.Text start end value borrowed) = Text start end value borrowed
 node_in scope (written.Comment start end text) = Comment start end text
 node_in scope (written.PI start end target value) = PI start end target value
@@ -92,8 +89,7 @@ node_in scope (written.PI start end target value) = PI start end target value
 -- a row of siblings below an element that lists these
 abbrev pub resolved : List NamespaceDecl → Forest Item → Forest Node
 resolved above Nil = Nil
-resolved above (Cons item children rest) =
-    Cons (node_in (scope_in above item) item) (resolved (scope_in above item) children) (resolved above rest)
+resolved above (Cons item children rest) = Cons (node_in (scope_in above item) item) (resolved (scope_in above item) children) (resolved above rest)
 
 -- the tree of a text of this length: the top nodes under a root node
 abbrev pub document_tree : ℕ → Forest Item → Forest Node
