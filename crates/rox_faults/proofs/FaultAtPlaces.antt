@@ -22,7 +22,7 @@ use Rattle.rox_grammar.specs.State.{Open, root, inside, is_root, depth_of, scope
 use Rattle.rox_grammar.specs.Due.{DueItem, IsMissing, no_qname, DueInText}
 use Rattle.rox_grammar.specs.Due as due
 use Rattle.rox_grammar.specs.ContentPoints.{is_main, is_content, TagBegins, of_root, in_content, IsSpent, MayOpen, ValuePart, itself, opened, TagTo}
-use Rattle.rox_grammar.specs.Faults.{InMisc, InRun, no_char, end_mark, in_reference, too_many, InValue, less, InEnd, lacks, other_name, none_open, Stands, in_run, in_section, in_misc, in_tag, in_end, unknown, unclosed, unclosed_in_replacement, too_many_nodes, too_many_pieces}
+use Rattle.rox_grammar.specs.Faults.{InMisc, InRun, no_char, end_mark, in_reference, too_many, InValue, less, InEnd, lacks, other_name, none_open, Stands, in_run, in_section, in_misc, in_tag, in_end, unknown, unclosed, too_many_nodes, too_many_pieces}
 use Rattle.rox_grammar.specs.Faults as faults
 use Rattle.rox_reading.specs.State.{State}
 use Rattle.rox_reading.specs.Markup.{EndTag, end_tag_at}
@@ -77,14 +77,14 @@ end_one src i j k m n x y a b =
     let e = ok_one (record { name = x; name_end = m }, j) (record { name = y; name_end = n }, k) (end_tag_at src i) (markup.end_complete src i j m x a) (markup.end_complete src i k n y b) in
     (ap (λ (t : EndTag × ℕ). t.0.name) e, ap (λ (t : EndTag × ℕ). t.0.name_end) e)
 
--- where no replacement text is open and content ends, no element is open
-ends_main : (k open_around : ℕ) (src : List ℕ) (e : State) → is_main k ≡ true → Ends k open_around src e → is_root e.stack ≡ true
-ends_main zero open_around src e main ends = ends
-ends_main (suc k) open_around src e main ends = cc main
+-- where content ends, no element is open in it
+root_depth : (stack : Open) → is_root stack ≡ true → depth_of stack ≡ 0
+root_depth root is = refl
+root_depth (inside start tag before up) is = cc is
 
-ends_inner : (k open_around : ℕ) (src : List ℕ) (e : State) → is_main k ≡ false → Ends k open_around src e → depth_of e.stack ≡ open_around
-ends_inner zero open_around src e main ends = cc main
-ends_inner (suc k) open_around src e main ends = ends.1
+ends_depth : (k open_around : ℕ) (src : List ℕ) (e : State) → Ends k open_around src e → depth_of e.stack ≤ open_around
+ends_depth zero open_around src e ends = omega (arith, root_depth e.stack ends)
+ends_depth (suc k) open_around src e ends = omega (arith, ends.1)
 
 module _ (opens : ℕ → Inclusion) (es : List Entity) (all : OpensAt opens es) (limit : ℕ) (W : Type 0) where
   abbrev There : (k open_around : ℕ) → List ℕ → State → Type 0
@@ -216,14 +216,9 @@ module _ (opens : ℕ → Inclusion) (es : List Entity) (all : OpensAt opens es)
         let bang = eq-eqb _ _ mark in
         let is : kind_at src s.at ≡ nothing = rw (same, more, bang, no_comment, no_section) refl in
         absurd (there_by opens es all limit W k open_around src here r nothing (omega arith) is)
-    stands_apart f (unclosed start tag before up stack past main) =
-        let same = trail_past here r.end r.trail past in
-        let at_root : is_root s.stack ≡ true = ap (λ (s : State). is_root s.stack) same ∙ ends_main k open_around src r.end main r.ends in
-        absurd (true≢false (sym at_root ∙ ap is_root stack))
-    stands_apart f (unclosed_in_replacement deep past inner) =
-        let same = trail_past here r.end r.trail past in
-        let depth : depth_of s.stack ≡ open_around = ap (λ (s : State). depth_of s.stack) same ∙ ends_inner k open_around src r.end inner r.ends in
-        absurd (omega arith)
+    stands_apart f (unclosed deep past) =
+        let same : depth_of s.stack ≡ depth_of r.end.stack = ap (λ (s : State). depth_of s.stack) (trail_past here r.end r.trail past) in
+        absurd (omega (arith, ends_depth k open_around src r.end r.ends))
     stands_apart f (too_many_nodes c t takes many) =
         let over = too_many_counted limit t.stack t.done many in
         let below = place_within k (opens k) src r.utf8 s t b c takes in

@@ -27,7 +27,7 @@ use Rattle.rox_grammar.specs.State.{State, scope_of, attributes_so_far, pairs_so
 use Rattle.rox_grammar.specs.Due.{DueItem, a_byte, IsMissing, DueInPair}
 use Rattle.rox_faults.proofs.DueForms.{a_space}
 use Rattle.rox_grammar.specs.ContentPoints.{TagTo}
-use Rattle.rox_grammar.specs.Faults.{IllDeclared, other_uri, uri_of_xml, uri_of_xmlns, again, IllNamed, unknown_attribute, twice, unknown_element, InTag, no_name, xmlns_prefix, cut, cut_in_replacement, no_rest, not_closed, in_pair, ill_declared, too_many_pairs, too_many_attributes, ill_named, in_rest}
+use Rattle.rox_grammar.specs.Faults.{IllDeclared, other_uri, uri_of_xml, uri_of_xmlns, again, IllNamed, unknown_attribute, twice, unknown_element, InTag, no_name, xmlns_prefix, cut, no_rest, not_closed, in_pair, ill_declared, too_many_pairs, too_many_attributes, ill_named, in_rest}
 use Rattle.rox_grammar.specs.Faults as faults
 use Rattle.rox_reading.specs.Markup as markup
 use Rattle.rox_reading.specs.Markup.{TagItem, tag_item_at}
@@ -272,9 +272,7 @@ module _ (context : Values) (O : Inclusion) (agrees : AgreesValue context.entiti
         let same : name ≡ tag.name = (one_qname src (s.at + 1) n tag.name_end name tag.name named is.is_name).0 in
         let prefix' : tag.name.prefix ≡ word_text word.Xmlns = ap (λ (n : Name). n.prefix) (sym same) ∙ prefix in
         absurd (true≢false (sym ((bytes_eq-Decides tag.name.prefix (word_text word.Xmlns)).1 prefix') ∙ well_named.0))
-    tag_apart f (in_rest p c name as' _ to (cut past main')) =
-        let x = tag_front p c name as' to in let l = next_within p j c empty x.0 x.2 in absurd (omega (arith, run_end_le is_space src p))
-    tag_apart f (in_rest p c name as' _ to (cut_in_replacement past main')) =
+    tag_apart f (in_rest p c name as' _ to (cut past)) =
         let x = tag_front p c name as' to in let l = next_within p j c empty x.0 x.2 in absurd (omega (arith, run_end_le is_space src p))
     tag_apart f (in_rest p c name as' _ to (no_rest below past)) = let x = tag_front p c name as' to in let l = next_within p j c empty x.0 x.2 in absurd (omega arith)
     tag_apart f (faults.InTag.in_rest p c name as' _ to (faults.InTagRest.no_space _ below no_slash no_close lack)) = let x = tag_front p c name as' to in absurd (space_apart p c x.0 f (to_cut p c name as' to) x.2 no_slash no_close lack)

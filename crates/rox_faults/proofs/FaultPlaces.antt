@@ -22,7 +22,7 @@ use Rattle.rox_grammar.specs.Counts.{listable, with_new, distinct_pairs}
 use Rattle.rox_grammar.specs.WellNamed.{IsWellNamed}
 use Rattle.rox_grammar.specs.State.{Open, root, inside, is_root, depth_of, scope_of, attributes_so_far, pairs_so_far, FitsLimits}
 use Rattle.rox_grammar.specs.ContentPoints.{TagTo, is_content, is_main, TagBegins, in_content, StepsOver, a_run as takes_run, a_section, a_misc, an_empty_tag, a_start_tag, an_end_tag, goes}
-use Rattle.rox_grammar.specs.Faults.{Stands, lacks, other_name, none_open, in_section, in_misc, in_tag, in_end, unknown, unclosed, unclosed_in_replacement, in_value, at_point}
+use Rattle.rox_grammar.specs.Faults.{Stands, lacks, other_name, none_open, in_section, in_misc, in_tag, in_end, unknown, unclosed, in_value, at_point}
 use Rattle.rox_reading.specs.Refusals.{Refusal, here}
 use Rattle.rox_reading.specs.State.{State}
 use Rattle.rox_reading.specs.Markup.{comment_at, instruction_at, cdata_at, end_tag_at}
@@ -310,7 +310,7 @@ module _ (opens : ℕ → Inclusion) (es : List Entity) (limit : ℕ) (text : Li
       chosen (eqb (depth_of s.stack) open_around) _ _ _ h (λ same h. no_fault _ e h)
       (λ apart h.
       let more : open_around < depth_of s.stack = (let other = eqb-false _ _ apart in omega arith) in
-      refuses_here es P src fault.UnexpectedEndOfStream e (cc h) (stands_here d (suc k) open_around deep src utf8 s fault.UnexpectedEndOfStream place fine (unclosed_in_replacement more past refl)))
+      refuses_here es P src fault.UnexpectedEndOfStream e (cc h) (stands_here d (suc k) open_around deep src utf8 s fault.UnexpectedEndOfStream place fine (unclosed more past)))
 
   -- a replacement text whose content fails
   text_fails : (d k open_around : ℕ) (deep : d + suc k ≡ most_deep) (src : List ℕ) (utf8 : IsUtf8 src) → OpenerFails opens es limit text declared Front d (suc k) open_around most (contents d (suc k) deep) less least → (n : ℕ) (s : State) (e : Refusal)
@@ -367,7 +367,7 @@ module _ (opens : ℕ → Inclusion) (es : List Entity) (limit : ℕ) (text : Li
     ends_open : (i openings_left : ℕ) (done : Forest Item) (stack : Open) → is_root stack ≡ false → length text ≤ i → Here 0 0 text (state i done stack openings_left) → IsValidState most (state i done stack openings_left) → P text fault.UnclosedRootNode
     ends_open i openings_left done root inner past place fine = cc inner
     ends_open i openings_left done (inside start tag before up) inner past place fine =
-        stands_here most_deep 0 0 refl text utf8 (state i done (inside start tag before up) openings_left) fault.UnclosedRootNode place fine (unclosed start tag before up refl past refl)
+        stands_here most_deep 0 0 refl text utf8 (state i done (inside start tag before up) openings_left) fault.UnclosedRootNode place fine (unclosed (omega arith) past)
 
     -- up to the end tag of the root element
     pub drive_fails : (n : ℕ) (s : State) (e : Refusal) → (is_root s.stack ≡ false → Here 0 0 text s) → IsValidState most s → IsCharBoundary text s.at → AreOpened text 0 s.stack → length text ≤ s.at + n

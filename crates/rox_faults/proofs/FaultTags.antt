@@ -31,7 +31,7 @@ use Rattle.rox_grammar.specs.OpenElements.{tree_so_far}
 use Rattle.rox_grammar.specs.Due.{a_byte, a_qname, chars_to, IsMissing, Misses, no_byte, none_left, DueInPair, its_name, equals, opening, its_value, closing, value_end}
 use Rattle.rox_faults.proofs.DueForms.{a_quote, no_space, no_quote}
 use Rattle.rox_grammar.specs.ContentPoints.{is_main, TagTo}
-use Rattle.rox_grammar.specs.Faults.{SpanIs, cut_off, IllDeclared, other_uri, uri_of_xml, uri_of_xmlns, again, IllNamed, unknown_attribute, twice, unknown_element, InTag, no_name, xmlns_prefix, cut, cut_in_replacement, no_rest, not_closed, in_pair, ill_declared, too_many_pairs, too_many_attributes, ill_named, in_rest}
+use Rattle.rox_grammar.specs.Faults.{SpanIs, cut_off, IllDeclared, other_uri, uri_of_xml, uri_of_xmlns, again, IllNamed, unknown_attribute, twice, unknown_element, InTag, no_name, xmlns_prefix, cut, no_rest, not_closed, in_pair, ill_declared, too_many_pairs, too_many_attributes, ill_named, in_rest}
 use Rattle.rox_grammar.specs.Faults as faults
 use Rattle.rox_reading.specs.Lexical.{byte_at, quote_at, qname_at}
 use Rattle.rox_reading.specs.Markup.{raw_value_at, attribute_at, TagItem, more, opened, closed, tag_item_at}
@@ -220,14 +220,14 @@ abbrev pub tag_values : List Entity → (d k : ℕ) → Values
 tag_values es d k = values_of es d (is_main k)
 
 -- one fault in two words
-cut_same : (stack : Open) → machine.cut_off_fault true stack ≡ cut_off stack
-cut_same root = refl
-cut_same (grammar.Open.inside start tag before up) = refl
+cut_same : (main : Bool) (stack : Open) → cut_off main stack ≡ machine.cut_off_fault main stack
+cut_same true root = refl
+cut_same true (grammar.Open.inside start tag before up) = refl
+cut_same false stack = refl
 
 -- a tag that is cut off
 cut_stands : (main : Bool) (O : Inclusion) (src : List ℕ) (s : State) (b p c : ℕ) (name : Name) (as' : List Attribute) → TagTo main O src s p b c name as' → length src ≤ p → InTag main O src s b (machine.cut_off_fault main s.stack)
-cut_stands true O src s b p c name as' to past = subst (InTag true O src s b) (sym (cut_same s.stack)) (in_rest p c name as' _ to (cut past refl))
-cut_stands false O src s b p c name as' to past = in_rest p c name as' _ to (cut_in_replacement past refl)
+cut_stands main O src s b p c name as' to past = subst (InTag main O src s b) (cut_same main s.stack) (in_rest p c name as' _ to (cut past))
 
 -- one more at the end
 attributes_more : (main : Bool) (O : Inclusion) (src : List ℕ) (k d i j b c : ℕ) (as' : List Attribute) (a : Attribute) → Attributes main O src i j b c as' → j < spaces_end src j → IsAttribute main O src (spaces_end src j) k c d a

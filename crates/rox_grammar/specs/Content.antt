@@ -45,10 +45,6 @@ line_ends (s ∷ ss) = if is_literal (code "\r") s then (if first_passes (is_lit
 abbrev pub literals : List ℕ → List DataByte
 literals bs = data_bytes_of false bs
 
--- no CR
-abbrev pub has_no_return : List ℕ → Bool
-has_no_return bs = not (list_any (λ b. b == code "\r") bs)
-
 -- no `&` and no CR
 abbrev pub is_verbatim : List ℕ → Bool
 is_verbatim bs = not (list_any (λ b. b == code "&" || b == code "\r") bs)
@@ -59,7 +55,7 @@ is_verbatim_value bs = not (list_any (λ b. b == code "&" || (b == code "\t" || 
 
 -- a CDATA section of this text, which is a slice of the source if it has no CR
 abbrev pub section : (start end : ℕ) → (text : List ℕ) → Item
-section start end text = Text start end (line_ends (literals text)) (has_no_return text)
+section start end text = Text start end (line_ends (literals text)) (not (list_any (λ b. b == code "\r") text))
 
 -- the text of a part, if it has a character
 abbrev pub piece : ℕ → ℕ → Bool → List DataByte → Forest Item

@@ -38,15 +38,12 @@ no_entities = record { content = λ name b items c. ⊥; value = λ name b v c. 
 -- an external entity's, which 3.1 (No External Entity References) forbids.
 abbrev pub Includes : List Entity → (openings_left : ℕ) → (main : Bool) → Inclusion
 Includes es zero main = no_entities
-Includes es (suc d) main =
-    record {
-      content = λ name b items c.
-          (t : Replacement) × (r : ℕ) × (l : ℕ) × (text_of es name ≡ Some t) × Spends main b r l c
-          × Content false (Includes es d false) t.source t.start (length t.source) r l items;
-      value = λ name b v c.
-          (t : Replacement) × (r : ℕ) × (l : ℕ) × (text_of es name ≡ Some t) × Spends main b r l c × AreChars t.source t.start (length t.source)
-          × Value false (Includes es d false) t.source (length t.source) t.start r l v;
-    }
+Includes es (suc d) main = record {
+  content = λ name b items c. (t : Replacement) × (r : ℕ) × (l : ℕ) × (text_of es name ≡ Some t) × Spends main b r l c
+      × Content false (Includes es d false) t.source t.start (length t.source) r l items;
+  value = λ name b v c. (t : Replacement) × (r : ℕ) × (l : ℕ) × (text_of es name ≡ Some t) × Spends main b r l c × AreChars t.source t.start (length t.source)
+      × Value false (Includes es d false) t.source (length t.source) t.start r l v;
+}
 
 -- at most ten replacement texts are open at once
 abbrev pub most_deep : ℕ

@@ -90,16 +90,17 @@ pub data IllNamed (src : List ℕ) (i : ℕ) (scope : List NamespaceDecl) (n : N
       → list_any (λ e. same_expanded scope e.name a.name) before ≡ true → SpanIs src name a.name.local → IllNamed src i scope n as' (fault.DuplicatedAttribute name a.start)
   unknown_element : (name : Span) → AreDistinct scope as' → may_name scope n ≡ false → SpanIs src name n.prefix → IllNamed src i scope n as' (fault.UnknownNamespace name (i + 1))
 
--- the main text ends right behind the name, an attribute or a declaration of a tag
-abbrev pub cut_off : Open → Fault
-cut_off root = fault.NoRootNode
-cut_off (inside start tag before up) = fault.UnclosedRootNode
+-- the main text or a replacement text ends where more is due: right behind the name, an attribute or a declaration of a tag, or
+-- where an element is open
+abbrev pub cut_off : (main : Bool) → Open → Fault
+cut_off true root = fault.NoRootNode
+cut_off true (inside start tag before up) = fault.UnclosedRootNode
+cut_off false stack = fault.UnexpectedEndOfStream
 
 -- ---- behind its name and these attributes and declarations, where the start tag that begins at a place is read up to p
 module _ (main : Bool) (Includes : Inclusion) (src : List ℕ) (s : State) (name : Name) (as' : List Attribute) (p c : ℕ) where
   pub data InTagRest : Fault → Type 0 where
-    cut : length src ≤ p → main ≡ true → InTagRest (cut_off s.stack)
-    cut_in_replacement : length src ≤ p → main ≡ false → InTagRest fault.UnexpectedEndOfStream
+    cut : length src ≤ p → InTagRest (cut_off main s.stack)
     -- white space up to the end
     no_rest : p < length src → length src ≤ spaces_end src p → InTagRest fault.UnexpectedEndOfStream
     no_space : (f : Fault) → p < length src → byte src p ≢ code "/" → byte src p ≢ code ">" → IsMissing src p (one_of due.Space) f → InTagRest f
@@ -149,8 +150,7 @@ module _ (limit : ℕ) (es : List Entity) (k open_around : ℕ) (Includes : Incl
     -- `<` at the end, or `<!` of neither a comment nor a section
     unknown : is_content k s.stack ≡ true → byte src s.at ≡ code "<"
         → (length src ≡ s.at + 1) ⊎ ((byte src (s.at + 1) ≡ code "!") × (text_at "<!--" src s.at ≡ false) × (text_at "<![CDATA[" src s.at ≡ false)) → Stands (fault.UnknownToken s.at)
-    unclosed : (start : ℕ) (tag : Tag) (before : Forest Item) (up : Open) → s.stack ≡ inside start tag before up → length src ≤ s.at → is_main k ≡ true → Stands fault.UnclosedRootNode
-    unclosed_in_replacement : open_around < depth_of s.stack → length src ≤ s.at → is_main k ≡ false → Stands fault.UnexpectedEndOfStream
+    unclosed : open_around < depth_of s.stack → length src ≤ s.at → Stands (cut_off (is_main k) s.stack)
     -- behind the construct that begins here
     too_many_nodes : (c : ℕ) (t : State) → StepsOver k Includes src s b t c → HasTooManyNodes limit (tree_so_far t.stack t.done) → Stands fault.NodesLimitReached
     -- behind the parts of a run up to a reference to an entity: a text is counted before the reference behind it is opened

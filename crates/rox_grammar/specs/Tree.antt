@@ -68,9 +68,7 @@ element_namespace scope name = uri_of scope (none_if_empty name.prefix)
 -- NS 6.2, 3: an attribute without prefix has none, and `xml` stands for its own
 abbrev pub attribute_namespace : List NamespaceDecl → Name → Option (List ℕ)
 attribute_namespace scope name =
-    if bytes_eq name.prefix [] then None
-    else if bytes_eq name.prefix (codes "xml") then Some xml_uri
-    else uri_of scope (Some name.prefix)
+    if bytes_eq name.prefix [] then None else if bytes_eq name.prefix (codes "xml") then Some xml_uri else uri_of scope (Some name.prefix)
 
 abbrev pub attribute_in : List NamespaceDecl → written.Attribute → Attribute
 attribute_in scope a =

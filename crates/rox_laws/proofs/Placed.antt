@@ -1,5 +1,5 @@
 -- The place of a fault of content lies in its source.
-use Rattle.std.proofs.Common.{◌≡◌, ℕ, ◌+◌, ◌<◌, ◌≤◌, ◌==◌, Bool, true, List, [], ◌∷◌, ◌++◌, length, drop, sym, ap, subst, inl, inr, arith, length-append, length-drop}
+use Rattle.std.proofs.Common.{◌≡◌, ℕ, ◌+◌, ◌<◌, ◌≤◌, ◌==◌, Bool, true, false, List, [], ◌∷◌, ◌++◌, length, drop, sym, ap, subst, inl, inr, arith, length-append, length-drop}
 use Rattle.std.specs.Char.{encode_utf8, len_utf8}
 use Rattle.std.specs.List.{starts_with}
 use Rattle.std.specs.Str.{IsUtf8, IsCharBoundary}
@@ -26,7 +26,7 @@ use Rattle.rox_grammar.specs.Entities.{Entity}
 use Rattle.rox_grammar.specs.State.{Open, root, inside, State}
 use Rattle.rox_grammar.specs.Due.{DueItem, a_name, a_qname, a_byte, a_text, one_of, chars_to, IsMissing, DueInText, DueInPI, DueInEnd, DueInPair, DueInXmlDecl}
 use Rattle.rox_grammar.specs.Due as due
-use Rattle.rox_grammar.specs.ContentPoints.{TagBegins, of_root, in_content}
+use Rattle.rox_grammar.specs.ContentPoints.{TagBegins, of_root, in_content, is_main}
 use Rattle.rox_grammar.specs.Faults.{InMisc, InReferences, InRun, InValue, IllDeclared, IllNamed, cut_off, InTag, InEnd, Stands}
 use Rattle.rox_grammar.specs.Faults as rows
 use Rattle.rox_theory.proofs.Productions.{ncname_parts, reference_parts}
@@ -226,15 +226,15 @@ module _ (src : List ℕ) (utf8 : IsUtf8 src) where
   named_placed i scope n as' f le starts (rows.IllNamed.twice before after a name are distinct known again holds) = one_starts before a after (subst StartsIn are starts)
   named_placed i scope n as' f le starts (rows.IllNamed.unknown_element name distinct unknown holds) = le
 
-  cut_placed : (stack : Open) → IsPlaced src (cut_off stack)
-  cut_placed root = tt
-  cut_placed (inside start tag before up) = tt
+  cut_placed : (main : Bool) (stack : Open) → IsPlaced src (cut_off main stack)
+  cut_placed true root = tt
+  cut_placed true (inside start tag before up) = tt
+  cut_placed false stack = tt
 
   tag_placed : (main : Bool) (O : Inclusion) (s : State) (b : ℕ) (f : Fault) → s.at < length src → InTag main O src s b f → IsPlaced src f
   tag_placed main O s b f le (rows.InTag.no_name _ lacks) = lacks_placed src (s.at + 1) a_qname f (omega arith) lacks
   tag_placed main O s b f le (rows.InTag.xmlns_prefix name n is xmlns) = omega arith
-  tag_placed main O s b f le (rows.InTag.in_rest p c name as' _ to (rows.InTagRest.cut past in_main)) = cut_placed s.stack
-  tag_placed main O s b f le (rows.InTag.in_rest p c name as' _ to (rows.InTagRest.cut_in_replacement past inner)) = tt
+  tag_placed main O s b f le (rows.InTag.in_rest p c name as' _ to (rows.InTagRest.cut past)) = cut_placed main s.stack
   tag_placed main O s b f le (rows.InTag.in_rest p c name as' _ to (rows.InTagRest.no_rest before end)) = tt
   tag_placed main O s b f le (rows.InTag.in_rest p c name as' _ to (rows.InTagRest.no_space _ before no_slash no_end lacks)) = lacks_placed src p (one_of kinds.Space) f tt lacks
   tag_placed main O s b f le (rows.InTag.in_rest p c name as' _ to (rows.InTagRest.not_closed _ slash lacks)) = lacks_placed src (spaces_end src p + 1) (a_byte 62) f tt lacks
@@ -265,7 +265,6 @@ module _ (src : List ℕ) (utf8 : IsUtf8 src) where
   stands_placed limit es k open_around O s b f (rows.Stands.in_tag _ begins ill) = tag_placed _ O s b f (begins_less s.at _ begins) ill
   stands_placed limit es k open_around O s b f (rows.Stands.in_end _ inner ill) = end_placed open_around s f ill
   stands_placed limit es k open_around O s b f (rows.Stands.unknown inner is other) = let before = within src s.at (λ z. omega arith) in omega arith
-  stands_placed limit es k open_around O s b f (rows.Stands.unclosed start tag before up stack past in_main) = tt
-  stands_placed limit es k open_around O s b f (rows.Stands.unclosed_in_replacement deep past inner) = tt
+  stands_placed limit es k open_around O s b f (rows.Stands.unclosed deep past) = cut_placed (is_main k) s.stack
   stands_placed limit es k open_around O s b f (rows.Stands.too_many_nodes c t takes over) = tt
   stands_placed limit es k open_around O s b f (rows.Stands.too_many_pieces stop p j c front t inner run parts well_named before refers over) = tt
