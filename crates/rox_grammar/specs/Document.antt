@@ -75,11 +75,8 @@ pub record IsWithinLimits (nodes_limit : ℕ) (tree : Forest Item) : Type 0 wher
   pub namespaces : distinct_count (pairs_in tree) ≤ most_pairs
 
 -- The text has a parse within the limits, with these answers for its external entities, and this is its tree as readers see it.
-pub record IsTreeOf (src : List ℕ) (dtd : Bool) (asked : List Asked) (nodes_limit : ℕ) (tree : Forest Node) : Type 0 where
-  pub written : Forest Item
-  pub parse : ParseOf src dtd asked written
-  pub within : IsWithinLimits nodes_limit written
-  pub shown : tree ≡ document_tree (length src) written
+pub data IsTreeOf (src : List ℕ) (dtd : Bool) (asked : List Asked) (nodes_limit : ℕ) : Forest Node → Type 0 where
+  document : (tops : Forest Item) → ParseOf src dtd asked tops → IsWithinLimits nodes_limit tops → IsTreeOf src dtd asked nodes_limit (document_tree (length src) tops)
 
 -- a document type declaration stands only where it may, and by XML 2.8 it always may
 abbrev pub Permits : (allow dtd : Bool) → Type 0
