@@ -25,8 +25,8 @@ PrologTo src p items = (i : ℕ) × MayHaveXmlDecl src (after_bom src) i × Misc
 -- XML 2.8 [22] prolog, up to the root element at p: whether it has a document type declaration, its nodes, what is asked for its
 -- entities, and the entities
 pub data Prolog (src : List ℕ) (p : ℕ) : Bool → Forest Item → List Asked → List Entity → Type 0 where
-  with_doctype : (i j : ℕ) (before items after : Forest Item) (asked : List Asked) (es : List Entity) → PrologTo src i before → IsDoctype src i j items asked es → Misc src j p after
-      → Prolog src p true (join before (join items after)) asked es
+  with_doctype : (i j : ℕ) (before items after : Forest Item) (asked : List Asked) (es : List Entity) → PrologTo src i before → IsDoctype src i j items asked es
+      → Misc src j p after → Prolog src p true (join before (join items after)) asked es
   without_doctype : (before : Forest Item) → PrologTo src p before → Prolog src p false before [] []
 
 -- XML 2.1 [1] up to p, behind the root element: all nodes, where what `Front` says stands before the element
