@@ -40,6 +40,8 @@ module _ (limit : ℕ) (src : List ℕ) (i p : ℕ) (items : Forest Item) (asked
         → text_at "<?xml " answer (after_bom answer) ≡ true → DueInXmlDecl answer (after_bom answer) q t → IsMissing answer q t f
         → InSubset (asked ++ record { request = request; answer = Some answer } ∷ []) answer f
     end_lacks : (f : Fault) → byte src p ≡ code "]" → IsMissing src (spaces_end src (p + 1)) (one_of due.End) f → InSubset asked src f
+    -- the text ends right behind `[` or an item
+    no_root : p ≡ length src → is_space (byte src (p - 1)) ≡ false → InSubset asked src fault.NoRootNode
     -- nothing that a subset holds or that ends it, or the end behind white space
     unknown : is_space (byte src p) ≡ false → text_at "<!ENTITY" src p ≡ false → text_at "<!--" src p ≡ false → text_at "<?" src p ≡ false → (IsPassed src p → ⊥)
         → byte src p ≢ code "]" → (p < length src) ⊎ (is_space (byte src (p - 1)) ≡ true) → InSubset asked src (fault.UnknownToken p)
@@ -52,9 +54,6 @@ pub data InDoctype (limit : ℕ) (src : List ℕ) (i : ℕ) (before : Forest Ite
   no_name : (n : ℕ) → IsSpace src (i + 9) n → length src ≤ n → InDoctype limit src i before [] src fault.UnexpectedEndOfStream
   in_subset : (p : ℕ) (items : Forest Item) (asked later : List Asked) (source : List ℕ) (f : Fault) → SubsetTo src i p items asked
       → FitsLimits limit root (join before items) → InSubset limit src i p (join before items) asked later source f → InDoctype limit src i before later source f
-  -- the text ends right behind `[` or an item
-  no_root : (items : Forest Item) (asked : List Asked) → SubsetTo src i (length src) items asked → FitsLimits limit root (join before items)
-      → is_space (byte src (length src - 1)) ≡ false → InDoctype limit src i before asked src fault.NoRootNode
 
 -- the meaning of a reference where so many replacement texts are open
 abbrev pub opens_at : List Entity → ℕ → Inclusion
