@@ -18,6 +18,7 @@ use Rattle.rox_theory.specs.WithoutDoctype.{ParseWithout}
 use Rattle.rox_theory.proofs.Without.{parse_without, parse_with}
 use Rattle.rox_theory.proofs.OneParse.{one_plain_parse}
 use Rattle.rox_theory.proofs.Around.{element_ends, ends_cut}
+use Rattle.rox_theory.proofs.ParseParts.{tree_parts, parts_tree}
 use Rattle.rox_exchange.specs.Local.{moved_items}
 use Rattle.rox_exchange.specs.ElementWith.{exchanged_items}
 use Rattle.rox_exchange.proofs.Order.{element_lt}
@@ -100,15 +101,16 @@ module _ (text : List ℕ) (tree : Forest Node) (id : ℕ) (utf8 : IsUtf8 text) 
 
   pub reparse_within : (limit : ℕ) → IsTreeOf text false [] limit tree → IsTreeOf (slice text (start_at tree id) (end_at tree id)) false [] limit
       (Cons (Root (end_at tree id - start_at tree id)) (shifted (record { add = 0; sub = start_at tree id }) (subtree tree id)) Nil)
-  reparse_within limit t =
+  reparse_within limit tree_is =
+      let t = tree_parts tree_is in
       let same : t.written ≡ w.tops = one_plain_parse text utf8 [] [] t.written w.tops t.parse (parse_with text w.tops w.parse) in
       subst (λ (f : Forest Node). IsTreeOf (slice text (row_start f) (row_end f)) false [] limit (Cons (Root (row_end f - row_start f)) (shifted (record { add = 0; sub = row_start f }) f) Nil))
-      (sym subtree_is) (record {
+      (sym subtree_is) (parts_tree (record {
         written = moved_items back own;
         parse = parse_with (slice text w.found.start w.found.end) (moved_items back own) (parse_alone text w.found.start w.found.end 255 own utf8 element_is named_is);
         within = own_within limit (subst (IsWithinLimits limit) same t.within);
         shown = shown_alone text w.found.start w.found.end 255 own utf8 element_is;
-      })
+      }))
 
   -- it begins and ends between characters of the text
   pub cut_is : (start_at tree id < end_at tree id) × IsCharBoundary text (start_at tree id) × IsCharBoundary text (end_at tree id)
@@ -129,7 +131,7 @@ same_tree text s t utf8 a b =
 
 -- the tree of a text, the limits aside
 pub tree_of_text : (text : List ℕ) (limit : ℕ) (tree : Forest Node) → IsTreeOf text false [] limit tree → HasTree text tree
-tree_of_text text limit tree t = record { written = t.written; parse = t.parse; shown = t.shown }
+tree_of_text text limit tree is = let t = tree_parts is in record { written = t.written; parse = t.parse; shown = t.shown }
 
 module _ (text : List ℕ) (tree : Forest Node) (id : ℕ) (other_text : List ℕ) (other : Forest Node) (at : ℕ) (utf8 : IsUtf8 text) (utf8' : IsUtf8 other_text)
     (w : Whole text tree id) (w' : Whole other_text other at) where

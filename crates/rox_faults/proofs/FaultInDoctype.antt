@@ -357,10 +357,10 @@ module _ (src : List ℕ) (utf8 : IsUtf8 src) where
       no_item : OpensItem src p → ⊥
       no_item (inl is) = true≢false (sym is ∙ no_comment)
       no_item (inr is) = true≢false (sym is ∙ no_instruction)
-  in_doctype_apart W limit i j before nodes after asked given es source f is few same (no_root items _ to fits solid) =
-      let c = closed_there i j (length src) items nodes asked given [] es is to (subst (λ (a : List Asked). SameAnswers a given) (sym (append-nil asked)) same) in
+  in_doctype_apart W limit i j before nodes after asked given es source f is few same (in_subset p items _ _ _ _ to fits (no_root ends solid)) =
+      let c = closed_there i j p items nodes asked given [] es is to (subst (λ (a : List Asked). SameAnswers a given) (sym (append-nil asked)) same) in
       let r = c.front in
-      absurd (past_end c.k r.rest r.more r.gs c.bracket r.left)
+      absurd (past_end c.k r.rest r.more r.gs c.bracket (subst (λ (p : ℕ). Subset src p c.k r.rest r.more r.gs) ends r.left))
     where
       -- at the end of the text none is left
       past_end : (k : ℕ) (rest : Forest Item) (more : List Asked) (gs : List Entity) → byte src k ≡ 93 → Subset src (length src) k rest more gs → ⊥

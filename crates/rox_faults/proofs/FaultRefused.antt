@@ -241,7 +241,7 @@ module _ (src : List ℕ) (utf8 : IsUtf8 src) (limit : ℕ) (allow : Bool) where
     ended_rest asked e (cut_off items to state_is solid fine) =
         let past : length src ≤ e.state.at = (let at_is : e.state.at ≡ length src = ap (λ (s : State). s.at) state_is in omega arith) in
         let within' = fine_fits limit most (state (length src) (join before items) root 255) (omega arith) (subst (IsValidState most) state_is fine) in
-        cut_rest asked e (in_doctype i before asked src fault.NoRootNode may ahead fits opens (rows.InDoctype.no_root items asked to within' solid)) past
+        cut_rest asked e (in_doctype i before asked src fault.NoRootNode may ahead fits opens (rows.InDoctype.in_subset (length src) items asked asked src fault.NoRootNode to within' (rows.InSubset.no_root refl solid))) past
 
     -- the declaration and the rest
     pub declared_whole : (rs : List Reply) → IsValidState most (state i before root 255) → AreTextReplies rs

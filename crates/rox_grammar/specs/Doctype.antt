@@ -77,8 +77,8 @@ module _ (src : List ℕ) where
   pub data AsksAt (i : ℕ) (request : Request) (p : ℕ) : Type 0 where
     external_entity : (parameter : Bool) (n m d e : ℕ) → BeginsEntity i parameter n m d → IsExternalID d request e → MayHaveNotation parameter e p → AsksAt i request p
     -- The text is cut off where the name of a notation should stand: what is asked stands before it.
-    name_cut_off : (n m d e : ℕ) → BeginsEntity i false n m d → IsExternalID d request e → text_at "NDATA" src (spaces_end src e) ≡ true → IsSpace (spaces_end src e + 5) p
-        → length src ≤ p → AsksAt i request p
+    name_cut_off : (n m d e : ℕ) → BeginsEntity i false n m d → IsExternalID d request e → text_at "NDATA" src (spaces_end src e) ≡ true
+        → IsSpace (spaces_end src e + 5) p → length src ≤ p → AsksAt i request p
 
   -- XML 4.2 [70] EntityDecl. A literal may hold any `&` and `%`, which 2.3 [9] forbids, and a reference to the entity itself, which
   -- 4.1 (No Recursion) forbids: what it holds counts where the entity is referred to.

@@ -25,8 +25,8 @@ PrologTo src p items = (i : ℕ) × MayHaveXmlDecl src (after_bom src) i × Misc
 -- XML 2.8 [22] prolog, up to the root element at p: whether it has a document type declaration, its nodes, what is asked for its
 -- entities, and the entities
 pub data Prolog (src : List ℕ) (p : ℕ) : Bool → Forest Item → List Asked → List Entity → Type 0 where
-  with_doctype : (i j : ℕ) (before items after : Forest Item) (asked : List Asked) (es : List Entity) → PrologTo src i before → IsDoctype src i j items asked es → Misc src j p after
-      → Prolog src p true (join before (join items after)) asked es
+  with_doctype : (i j : ℕ) (before items after : Forest Item) (asked : List Asked) (es : List Entity) → PrologTo src i before → IsDoctype src i j items asked es
+      → Misc src j p after → Prolog src p true (join before (join items after)) asked es
   without_doctype : (before : Forest Item) → PrologTo src p before → Prolog src p false before [] []
 
 -- XML 2.1 [1] up to p, behind the root element: all nodes, where what `Front` says stands before the element
@@ -75,11 +75,8 @@ pub record IsWithinLimits (nodes_limit : ℕ) (tree : Forest Item) : Type 0 wher
   pub namespaces : distinct_count (pairs_in tree) ≤ most_pairs
 
 -- The text has a parse within the limits, with these answers for its external entities, and this is its tree as readers see it.
-pub record IsTreeOf (src : List ℕ) (dtd : Bool) (asked : List Asked) (nodes_limit : ℕ) (tree : Forest Node) : Type 0 where
-  pub written : Forest Item
-  pub parse : ParseOf src dtd asked written
-  pub within : IsWithinLimits nodes_limit written
-  pub shown : tree ≡ document_tree (length src) written
+pub data IsTreeOf (src : List ℕ) (dtd : Bool) (asked : List Asked) (nodes_limit : ℕ) : Forest Node → Type 0 where
+  document : (tops : Forest Item) → ParseOf src dtd asked tops → IsWithinLimits nodes_limit tops → IsTreeOf src dtd asked nodes_limit (document_tree (length src) tops)
 
 -- a document type declaration stands only where it may, and by XML 2.8 it always may
 abbrev pub Permits : (allow dtd : Bool) → Type 0

@@ -33,12 +33,14 @@ module _ (limit : ℕ) (src : List ℕ) (i p : ℕ) (items : Forest Item) (asked
     entity_open : (n m d e : ℕ) (parameter : Bool) (first : List Asked) (text : Option Replacement) (f : Fault) → BeginsEntity src p parameter n m d
         → IsDefinition src parameter d e first text → IsMissing src (spaces_end src e) (a_byte (code ">")) f → InSubset (asked ++ first) src f
     -- the text ends behind what is asked there, or where the name of its notation is due
-    entity_cut : (j : ℕ) (request : Request) (answer : Option (List ℕ)) (text : Option Replacement) → AsksAt src p request j → length src ≤ j → GivesReplacement answer text
-        → InSubset (asked ++ record { request = request; answer = answer } ∷ []) src fault.UnexpectedEndOfStream
+    entity_cut : (j : ℕ) (request : Request) (answer : Option (List ℕ)) (text : Option Replacement) → AsksAt src p request j → length src ≤ j
+        → GivesReplacement answer text → InSubset (asked ++ record { request = request; answer = answer } ∷ []) src fault.UnexpectedEndOfStream
     -- in the declaration of what is answered (XML 4.3.1 [77])
     in_answer : (j : ℕ) (request : Request) (answer : List ℕ) (f : Fault) → AsksAt src p request j → IsUtf8 answer → text_at "<?xml " answer (after_bom answer) ≡ true
         → Misses answer (DueInXmlDecl answer (after_bom answer)) f → InSubset (asked ++ record { request = request; answer = Some answer } ∷ []) answer f
     end_lacks : (f : Fault) → byte src p ≡ code "]" → IsMissing src (spaces_end src (p + 1)) (one_of due.End) f → InSubset asked src f
+    -- the text ends right behind `[` or an item
+    no_root : p ≡ length src → is_space (byte src (p - 1)) ≡ false → InSubset asked src fault.NoRootNode
     -- nothing that a subset holds or that ends it, or the end behind white space
     unknown : is_space (byte src p) ≡ false → text_at "<!ENTITY" src p ≡ false → text_at "<!--" src p ≡ false → text_at "<?" src p ≡ false → (IsPassed src p → ⊥)
         → byte src p ≢ code "]" → (p < length src) ⊎ (is_space (byte src (p - 1)) ≡ true) → InSubset asked src (fault.UnknownToken p)
@@ -51,9 +53,6 @@ pub data InDoctype (limit : ℕ) (src : List ℕ) (i : ℕ) (before : Forest Ite
   no_name : (n : ℕ) → IsSpace src (i + 9) n → length src ≤ n → InDoctype limit src i before [] src fault.UnexpectedEndOfStream
   in_subset : (p : ℕ) (items : Forest Item) (asked later : List Asked) (source : List ℕ) (f : Fault) → SubsetTo src i p items asked
       → FitsLimits limit root (join before items) → InSubset limit src i p (join before items) asked later source f → InDoctype limit src i before later source f
-  -- the text ends right behind `[` or an item
-  no_root : (items : Forest Item) (asked : List Asked) → SubsetTo src i (length src) items asked → FitsLimits limit root (join before items)
-      → is_space (byte src (length src - 1)) ≡ false → InDoctype limit src i before asked src fault.NoRootNode
 
 -- the meaning of a reference where so many replacement texts are open
 abbrev pub opens_at : List Entity → ℕ → Inclusion
@@ -65,10 +64,10 @@ pub data RefusalOf (limit : ℕ) (allow : Bool) (text : List ℕ) : List Asked �
   -- where no document type declaration stands, or before it
   without : (f : Fault) → FaultFrom (λ k. no_entities) [] limit text false (PrologTo text) text f → RefusalOf limit allow text [] text f
   not_allowed : (i : ℕ) (before : Forest Item) → allow ≡ false → PrologTo text i before → FitsLimits limit root before → text_at "<!DOCTYPE" text i ≡ true → RefusalOf limit allow text [] text fault.DtdDetected
-  in_doctype : (i : ℕ) (before : Forest Item) (asked : List Asked) (source : List ℕ) (f : Fault) → allow ≡ true → PrologTo text i before → FitsLimits limit root before → text_at "<!DOCTYPE" text i ≡ true
-      → InDoctype limit text i before asked source f → RefusalOf limit allow text asked source f
-  behind : (asked : List Asked) (es : List Entity) (source : List ℕ) (f : Fault) → allow ≡ true → FaultFrom (opens_at es) es limit text true (λ p items. Prolog text p true items asked es) source f
-      → RefusalOf limit allow text asked source f
+  in_doctype : (i : ℕ) (before : Forest Item) (asked : List Asked) (source : List ℕ) (f : Fault) → allow ≡ true → PrologTo text i before
+      → FitsLimits limit root before → text_at "<!DOCTYPE" text i ≡ true → InDoctype limit text i before asked source f → RefusalOf limit allow text asked source f
+  behind : (asked : List Asked) (es : List Entity) (source : List ℕ) (f : Fault) → allow ≡ true
+      → FaultFrom (opens_at es) es limit text true (λ p items. Prolog text p true items asked es) source f → RefusalOf limit allow text asked source f
 
 -- The fault stands in this text where no document type declaration may stand. So no entity is declared, and it stands in the text
 -- itself.

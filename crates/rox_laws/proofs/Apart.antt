@@ -7,6 +7,7 @@ use Rattle.rox_grammar.specs.Doctype.{Asked}
 use Rattle.rox_grammar.specs.Document.{IsTreeOf}
 use Rattle.rox_theory.specs.Apart.{Apart}
 use Rattle.rox_theory.proofs.Apart.{parse_apart}
+use Rattle.rox_theory.proofs.ParseParts.{tree_parts}
 use Rattle.rox_laws.specs.TreeLaws.{TextsApart}
 
 -- names resolved change no text
@@ -23,5 +24,6 @@ resolved_apart above (Cons (Text a e v b) c (Cons (PI x y t o) d r)) h = (refl, 
 
 -- nor are they moved in a document
 pub texts_apart : {dtd : Bool} {asked : List Asked} (src : List ℕ) (limit : ℕ) (tree : Forest Node) → IsTreeOf src dtd asked limit tree → TextsApart tree
-texts_apart src limit tree h =
+texts_apart src limit tree is =
+    let h = tree_parts is in
     subst (λ (f : Forest Node). TextsApart f) (sym h.shown) (refl, resolved_apart [] h.written (parse_apart src _ _ h.written h.parse), tt)

@@ -15,6 +15,7 @@ use Rattle.rox_grammar.specs.Doctype.{Asked}
 use Rattle.rox_grammar.specs.Document.{IsTreeOf}
 use Rattle.rox_theory.specs.CharItems.{WrittenChars, ItemsChars}
 use Rattle.rox_theory.proofs.CharItems.{parse_items}
+use Rattle.rox_theory.proofs.ParseParts.{tree_parts}
 use Rattle.rox_laws.specs.TreeLaws.{IsCharText, NamespaceDeclChars, AttributeChars, AllChars}
 
 -- the URI of `xml`
@@ -68,6 +69,7 @@ resolved_chars above (Cons (written.PI a e t o) c r) h k = (k.0, resolved_chars 
 
 -- in a document
 pub tree_chars : {dtd : Bool} {asked : List Asked} (src : List ℕ) (limit : ℕ) (tree : Forest Node) → IsUtf8 src → IsTreeOf src dtd asked limit tree → AllChars tree
-tree_chars src limit tree utf8 h =
+tree_chars src limit tree utf8 is =
+    let h = tree_parts is in
     subst (λ (f : Forest Node). AllChars f) (sym h.shown)
     (tt, resolved_chars [] h.written (All-nil NamespaceDeclChars) (parse_items src _ _ h.written utf8 h.parse), tt)

@@ -55,7 +55,7 @@ doctype_placed limit text i before asked source f (refused.InDoctype.in_subset p
     inr (declaration_placed source utf8 (after_bom source) q t f opens due lacks)
 doctype_placed limit text i before asked source f (refused.InDoctype.in_subset p items _ _ _ _ to fits (refused.InSubset.end_lacks _ is lacks)) = inl refl
 doctype_placed limit text i before asked source f (refused.InDoctype.in_subset p items _ _ _ _ to fits (refused.InSubset.unknown no_space no_entity no_comment no_instruction no_declaration no_bracket inside)) = inl refl
-doctype_placed limit text i before asked source f (refused.InDoctype.no_root items _ to fits none) = inl refl
+doctype_placed limit text i before asked source f (refused.InDoctype.in_subset p items _ _ _ _ to fits (refused.InSubset.no_root ends none)) = inl refl
 
 refusal_placed : (limit : ℕ) (allow : Bool) (text : List ℕ) (asked : List Asked) (source : List ℕ) (f : Fault) → IsUtf8 source → RefusalOf limit allow text asked source f → IsOwn text source f
 refusal_placed limit allow text asked source f utf8 (refused.RefusalOf.in_declaration _ opens lacks) = inl refl

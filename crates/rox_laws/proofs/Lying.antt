@@ -128,7 +128,7 @@ in_doctype limit text i before asked source f (refused.InDoctype.in_subset p ite
     inr (record { request = request; answer = source; given = Contains-append_right first _ _ (0, omega arith, refl); part = inl refl })
 in_doctype limit text i before asked source f (refused.InDoctype.in_subset p items _ _ _ _ to fits (refused.InSubset.end_lacks _ is lacks)) = inl refl
 in_doctype limit text i before asked source f (refused.InDoctype.in_subset p items _ _ _ _ to fits (refused.InSubset.unknown no_space no_entity no_comment no_instruction no_declaration no_bracket inside)) = inl refl
-in_doctype limit text i before asked source f (refused.InDoctype.no_root items _ to fits none) = inl refl
+in_doctype limit text i before asked source f (refused.InDoctype.in_subset p items _ _ _ _ to fits (refused.InSubset.no_root ends none)) = inl refl
 
 pub source_lies : (limit : ℕ) (allow : Bool) (text : List ℕ) (asked : List Asked) (source : List ℕ) (f : Fault) → RefusalOf limit allow text asked source f → (source ≡ text) ⊎ (IsLiteralIn text source ⊎ IsAnswerIn asked source)
 source_lies limit allow text asked source f (refused.RefusalOf.in_declaration _ opens lacks) = inl refl

@@ -8,6 +8,7 @@ use Rattle.rox_grammar.specs.RunParts.{Parts}
 use Rattle.rox_grammar.specs.Document.{Misc, no_misc, space, an_item, ParseOf, IsTreeOf}
 use Rattle.rox_theory.proofs.Productions.{char_data_parts}
 use Rattle.rox_theory.proofs.Without.{parse_without}
+use Rattle.rox_theory.proofs.ParseParts.{tree_parts}
 use Rattle.rox_grammar.specs.Entities.{no_entities}
 use Rattle.rox_reading.proofs.Forests.{join-nil}
 use Rattle.rox_laws.specs.RangeLaws.{RangesNested}
@@ -150,6 +151,7 @@ resolved_nested above from to (Cons (PI a e t o) c r) h = (h.0, h.1, resolved_ne
 
 -- in a document
 pub ranges_nested : (src : List ℕ) (limit : ℕ) (tree : Forest Node) → IsTreeOf src false [] limit tree → RangesNested 0 (length src) tree
-ranges_nested src limit tree h =
+ranges_nested src limit tree is =
+    let h = tree_parts is in
     let tops = resolved_nested [] 0 (length src) h.written (parse_nested src h.written h.parse) in
     subst (λ (f : Forest Node). RangesNested 0 (length src) f) (sym h.shown) (omega arith, parse_some src h.written h.parse, tops, omega arith)

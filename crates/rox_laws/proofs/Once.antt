@@ -13,7 +13,7 @@ use Rattle.rox_grammar.specs.WellNamed.{AreWellNamed}
 use Rattle.rox_grammar.proofs.NamesApart.{DeclarableBehind, DistinctBehind, declarable_behind, distinct_behind}
 use Rattle.rox_grammar.specs.Doctype.{Asked}
 use Rattle.rox_grammar.specs.Document.{IsTreeOf}
-use Rattle.rox_theory.proofs.ParseParts.{well_named}
+use Rattle.rox_theory.proofs.ParseParts.{tree_parts, well_named}
 use Rattle.rox_laws.specs.TreeLaws.{PrefixesOnce, same_attribute_name, NamesOnce, NamesDistinct}
 
 -- neither of two tests
@@ -105,5 +105,6 @@ resolved_distinct above (Cons (written.PI a e t o) c r) once h = ((tt, tt), reso
 
 -- in a document
 pub names_distinct : {dtd : Bool} {asked : List Asked} (src : List ℕ) (limit : ℕ) (tree : Forest Node) → IsTreeOf src dtd asked limit tree → NamesDistinct tree
-names_distinct src limit tree h =
+names_distinct src limit tree is =
+    let h = tree_parts is in
     subst (λ (f : Forest Node). NamesDistinct f) (sym h.shown) ((tt, tt), resolved_distinct [] h.written tt (well_named h.parse), tt)

@@ -19,6 +19,7 @@ use Rattle.rox_theory.proofs.Pieces.{some_bytes, no_bytes, empty_section}
 use Rattle.rox_theory.proofs.DeclarationLemmas.{stands_reads}
 use Rattle.rox_theory.proofs.PartLemmas.{encode_some}
 use Rattle.rox_theory.proofs.Constructions.{comment_bytes, instruction_bytes, end_bytes, cdata_bytes, name_byte}
+use Rattle.rox_theory.proofs.ParseParts.{tree_parts}
 use Rattle.roxmltree.specs.EachNode.{EachNode}
 use Rattle.rox_laws.specs.EmptySections.{EmptySections, last, more, EmptyIsSections, EmptyTextsAreSections}
 use Rattle.rox_laws.proofs.EachNodeLemmas.{each_join, each_resolved}
@@ -212,7 +213,8 @@ parse_sound src tops q =
 
 -- in a document
 pub empty_texts : (src : List ℕ) (limit : ℕ) (f : Forest Node) → IsTreeOf src false [] limit f → EmptyTextsAreSections src f
-empty_texts src limit f h =
+empty_texts src limit f is =
+    let h = tree_parts is in
     subst (λ (f : Forest Node). EachNode (EmptyIsSections src) f) (sym h.shown)
     (tt, each_resolved (Sound src) (EmptyIsSections src) has [] h.written (parse_sound src h.written h.parse), tt)
   where

@@ -21,6 +21,7 @@ use Rattle.rox_theory.proofs.LiteralLemmas.{from_before, literal_plain, literal_
 use Rattle.rox_theory.proofs.StretchLemmas.{slice_cons, slice_none}
 use Rattle.rox_theory.proofs.AttributeParts.{AttributeParts, parts_of}
 use Rattle.rox_theory.proofs.ReferenceLemmas.{character_opens}
+use Rattle.rox_theory.proofs.ParseParts.{tree_parts}
 use Rattle.roxmltree.specs.NodeParts as says
 use Rattle.roxmltree.specs.EachNode.{EachNode}
 use Rattle.rox_laws.specs.RangeLaws.{AreInOrder, AttributesInOrder, IsWritten, AttributesWritten, SpellsName, SelectsAttribute, RangesSelect}
@@ -225,7 +226,8 @@ all_resolved src scope P holds from to (w ∷ ws) h = All-cons P _ _ (holds w h.
 -- of what a document's nodes have, what follows of each node of its own
 each_node : (src : List ℕ) (limit : ℕ) (f : Forest Node) (Q : Node → Type 0) → IsTreeOf src false [] limit f → Q (tree.Root (length src))
     → ((scope : List NamespaceDecl) (item : Item) → Has src item → Q (node_in scope item)) → EachNode Q f
-each_node src limit f Q h root has =
+each_node src limit f Q is root has =
+    let h = tree_parts is in
     subst (λ (f : Forest Node). EachNode Q f) (sym h.shown) (root, each_resolved (Has src) Q has [] h.written (parse_has src h.written h.parse), tt)
 
 pub attributes_written : (src : List ℕ) (limit : ℕ) (f : Forest Node) → IsTreeOf src false [] limit f → AttributesWritten src f

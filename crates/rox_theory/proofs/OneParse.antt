@@ -30,7 +30,7 @@ use Rattle.rox_theory.proofs.Whole.{asks_nothing_there}
 use Rattle.rox_theory.proofs.Once.{element_once}
 use Rattle.rox_theory.proofs.Around.{Stops, DoctypesAgree, none_agree, element_stops, end_stops, begins_stop, dtd_begins, misc_complete, prolog_complete}
 use Rattle.rox_theory.specs.ParseParts.{ParseParts}
-use Rattle.rox_theory.proofs.ParseParts.{parts}
+use Rattle.rox_theory.proofs.ParseParts.{tree_parts, parts}
 
 -- the same answers are the same replies
 pub same_replies : (a b : List Asked) → map (λ x. x.answer) a ≡ map (λ x. x.answer) b → replies_of a ≡ replies_of b
@@ -139,7 +139,9 @@ module _ (src : List ℕ) (utf8 : IsUtf8 src) where
     -- and its readers see one tree
     pub one_tree : (limit most : ℕ) (d e : Bool) (a b : List Asked) (t u : Forest Node) → IsTreeOf src d a limit t → IsTreeOf src e b most u → Permits allow d → Permits allow e → replies_of a ≡ replies_of b
         → t ≡ u
-    one_tree limit most d e a b t u p q permits permits' answers =
+    one_tree limit most d e a b t u one other permits permits' answers =
+        let p = tree_parts one in
+        let q = tree_parts other in
         p.shown ∙ ap (document_tree (length src)) (one_parse d e a b p.written q.written p.parse q.parse permits permits' answers).2 ∙ sym q.shown
 
   -- without a document type declaration there is one parse

@@ -1,12 +1,13 @@
 -- A parse and its parts say the same.
-use Rattle.std.proofs.Common.{◌≡◌, ℕ, Bool, true, false, List, [], refl, sym, ap, ◌∙◌, subst}
+use Rattle.std.proofs.Common.{◌≡◌, ℕ, Bool, true, false, List, [], length, refl, sym, ap, ◌∙◌, subst}
 use Rattle.rox_grammar.specs.Forest.{Forest, Nil, join}
 use Rattle.rox_grammar.specs.Written.{Item}
 use Rattle.rox_grammar.specs.Content.{Inclusion, IsElement}
 use Rattle.rox_grammar.specs.WellNamed.{AreWellNamed}
+use Rattle.rox_grammar.specs.Tree.{Node, document_tree}
 use Rattle.rox_grammar.specs.Entities.{Entity}
 use Rattle.rox_grammar.specs.Doctype.{Asked}
-use Rattle.rox_grammar.specs.Document.{Misc, Prolog, with_doctype, without_doctype, PrologTo, Behind, element_and_misc, ParseOf}
+use Rattle.rox_grammar.specs.Document.{Misc, Prolog, with_doctype, without_doctype, PrologTo, Behind, element_and_misc, ParseOf, IsWithinLimits, IsTreeOf, document}
 use Rattle.rox_theory.specs.ParseParts.{MayHaveDoctype, doctype, no_doctype, PrologParts, ParseParts}
 use Rattle.rox_reading.proofs.Forests.{join_assoc, join-nil}
 
@@ -102,3 +103,16 @@ parsed src dtd asked tree p =
         well_named = p.well_named;
       });
     }
+
+-- the tree of a text, and the parse that it is of
+pub record TreeParts (src : List ℕ) (dtd : Bool) (asked : List Asked) (limit : ℕ) (tree : Forest Node) : Type 0 where
+  pub written : Forest Item
+  pub parse : ParseOf src dtd asked written
+  pub within : IsWithinLimits limit written
+  pub shown : tree ≡ document_tree (length src) written
+
+pub tree_parts : {src : List ℕ} {dtd : Bool} {asked : List Asked} {limit : ℕ} {tree : Forest Node} → IsTreeOf src dtd asked limit tree → TreeParts src dtd asked limit tree
+tree_parts (document tops parse within) = record { written = tops; parse = parse; within = within; shown = refl }
+
+pub parts_tree : {src : List ℕ} {dtd : Bool} {asked : List Asked} {limit : ℕ} {tree : Forest Node} → TreeParts src dtd asked limit tree → IsTreeOf src dtd asked limit tree
+parts_tree {src = src} {dtd = dtd} {asked = asked} {limit = limit} t = subst (λ (f : Forest Node). IsTreeOf src dtd asked limit f) (sym t.shown) (document t.written t.parse t.within)

@@ -17,6 +17,7 @@ use Rattle.rox_theory.proofs.OneParse as once
 use Rattle.rox_theory.proofs.OneParse.{one_plain_parse}
 use Rattle.rox_theory.proofs.Tops.{parse_merged}
 use Rattle.rox_theory.proofs.Whole.{seen_parse, doctype_seen, plain_refused, asks_nothing_there}
+use Rattle.rox_theory.proofs.ParseParts.{tree_parts, parts_tree}
 use Rattle.rox_build.specs.Requests.{AreAllowed}
 use Rattle.rox_build.specs.Built.{Built}
 use Rattle.rox_tables.specs.Rows.{HoldsTree}
@@ -45,7 +46,7 @@ module _ (limit : ℕ) (allow : Bool) (allows : Request → Reply → Type 0) (s
         r.asked,
         r.allowed,
         subst (Permits allow) (sym r.seen) p.2,
-        record { written = r.tops; parse = subst (λ (dtd : Bool). ParseOf src dtd r.asked r.tops) (sym r.seen) p.0; within = p.1; shown = r.shown },
+        parts_tree (record { written = r.tops; parse = subst (λ (dtd : Bool). ParseOf src dtd r.asked r.tops) (sym r.seen) p.0; within = p.1; shown = r.shown }),
       )
 
   -- the tables have no two texts to join at the top
@@ -64,12 +65,12 @@ module _ (limit : ℕ) (allow : Bool) (allows : Request → Reply → Type 0) (s
         tree = document_tree (length src) b.tops;
         holds = holds;
         asked = b.asked;
-        parsed = record {
+        parsed = parts_tree (record {
           written = b.tops;
           parse = subst (λ (dtd : Bool). ParseOf src dtd b.asked b.tops) (sym b.seen) p.0;
           within = record { nodes = nodes; attributes = p.1.attributes; namespaces = p.1.namespaces };
           shown = refl;
-        };
+        });
         utf8 = utf8;
       }
 
@@ -77,13 +78,13 @@ module _ (limit : ℕ) (allow : Bool) (allows : Request → Reply → Type 0) (s
 
 -- what is refused where no document type declaration may stand has no tree without one
 pub refused_tree : (limit : ℕ) (src : List ℕ) (f : Fault) (tree : Forest Node) → IsUtf8 src → reading limit false [] src ≡ ([], Err (here f)) → IsTreeOf src false [] limit tree → ⊥
-refused_tree limit src f tree utf8 h p = plain_refused src utf8 limit [] [] (here f) p.written h p.parse p.within
+refused_tree limit src f tree utf8 h is = let p = tree_parts is in plain_refused src utf8 limit [] [] (here f) p.written h p.parse p.within
 
 -- without a document type declaration nothing was asked
 pub plain_tree : (src : List ℕ) (dtd : Bool) (asked : List Asked) (limit : ℕ) (tree : Forest Node) → IsUtf8 src → dtd ≡ false → IsTreeOf src dtd asked limit tree → IsTreeOf src false [] limit tree
 plain_tree src dtd asked limit tree utf8 none h =
     let plain : IsTreeOf src false asked limit tree = subst (λ (dtd : Bool). IsTreeOf src dtd asked limit tree) none h in
-    subst (λ (asked : List Asked). IsTreeOf src false asked limit tree) (asks_nothing_there src utf8 asked plain.written plain.parse) plain
+    subst (λ (asked : List Asked). IsTreeOf src false asked limit tree) (asks_nothing_there src utf8 asked (tree_parts plain).written (tree_parts plain).parse) plain
 
 -- nor has one where none may stand
 pub permitted_tree : (src : List ℕ) (dtd : Bool) (asked : List Asked) (limit : ℕ) (tree : Forest Node) → IsUtf8 src → Permits false dtd → IsTreeOf src dtd asked limit tree
@@ -97,11 +98,13 @@ one_tree src d e asked limit most s t utf8 h k = once.one_tree src utf8 true (do
 
 -- it tells whether there is a document type declaration, whatever is answered
 pub one_dtd : (src : List ℕ) (d e : Bool) (a b : List Asked) (limit most : ℕ) (s t : Forest Node) → IsUtf8 src → IsTreeOf src d a limit s → IsTreeOf src e b most t → d ≡ e
-one_dtd src d e a b limit most s t utf8 h k =
+one_dtd src d e a b limit most s t utf8 one other =
+    let h = tree_parts one in
+    let k = tree_parts other in
     let within : IsWithinLimits (limit + most) h.written = record { nodes = omega (arith, h.within.nodes); attributes = h.within.attributes; namespaces = h.within.namespaces } in
     let within' : IsWithinLimits (limit + most) k.written = record { nodes = omega (arith, k.within.nodes); attributes = k.within.attributes; namespaces = k.within.namespaces } in
     sym (doctype_seen src utf8 (limit + most) d a h.written h.parse within) ∙ doctype_seen src utf8 (limit + most) e b k.written k.parse within'
 
 -- which is that of its one parse
 pub parse_shown : (src : List ℕ) (limit : ℕ) (tree : Forest Node) (tops : Forest Item) → IsUtf8 src → IsTreeOf src false [] limit tree → ParseOf src false [] tops → tree ≡ document_tree (length src) tops
-parse_shown src limit tree tops utf8 h p = h.shown ∙ ap (document_tree (length src)) (one_plain_parse src utf8 [] [] h.written tops h.parse p)
+parse_shown src limit tree tops utf8 is p = let h = tree_parts is in h.shown ∙ ap (document_tree (length src)) (one_plain_parse src utf8 [] [] h.written tops h.parse p)

@@ -21,6 +21,7 @@ use Rattle.rox_faults.proofs.FaultRefused.{refusal_here, refusal_there}
 use Rattle.rox_faults.proofs.FaultSpans.{names_here, names_there}
 use Rattle.rox_faults.proofs.FaultWhole.{reading_faults}
 use Rattle.rox_theory.proofs.Whole.{refused_has_none}
+use Rattle.rox_theory.proofs.ParseParts.{TreeParts, tree_parts}
 use Rattle.rox_build.specs.Requests.{AreAllowed}
 use Rattle.rox_error.specs.FaultErrors.{position_at, IsErrorOf}
 use Rattle.rox_error.specs.declared.error.Error.{Error}
@@ -114,8 +115,11 @@ module _ (limit : ℕ) (allow : Bool) (allows : Request → Reply → Type 0) (s
 
     -- no parse has answers that begin so
     pub first_none : IsTextError e → (dtd : Bool) (later : List Asked) (tree : Forest Node) → Permits allow dtd → IsTreeOf src dtd (first.asked ++ later) limit tree → ⊥
-    first_none speaks dtd later tree permits t = by_case first.refusal (first.stops []) first.told
+    first_none speaks dtd later tree permits is_tree = by_case first.refusal (first.stops []) first.told
       where
+        t : TreeParts src dtd (first.asked ++ later) limit tree
+        t = tree_parts is_tree
+
         by_case : (r : Refusal) → reading limit allow (replies_of first.asked ++ with_refusal r []) src ≡ (first.asked, Err r) → IsErrorOfRefusal src r e → ⊥
         by_case (here f) h told = refused_has_none src utf8 allow (doctypes_agree src utf8 allow) limit _ first.asked later (here f) dtd t.written h tt t.parse t.within permits
         by_case (there source f) h told = refused_has_none src utf8 allow (doctypes_agree src utf8 allow) limit _ first.asked later (there source f) dtd t.written h tt t.parse t.within permits

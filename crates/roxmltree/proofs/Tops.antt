@@ -7,6 +7,7 @@ use Rattle.rox_grammar.specs.Tree.{Node, Root, Element, Text, Comment, PI, resol
 use Rattle.rox_grammar.specs.Document.{IsTreeOf}
 use Rattle.rox_theory.specs.Apart.{AnyElement}
 use Rattle.rox_theory.proofs.Apart.{parse_has}
+use Rattle.rox_theory.proofs.ParseParts.{tree_parts}
 use Rattle.rox_grammar.specs.Doctype.{Asked}
 use Rattle.roxmltree.specs.DocumentView.{DocumentView}
 use Rattle.roxmltree.specs.Places.{places, preorder, place, first, parent, ids, children}
@@ -98,5 +99,6 @@ element_stays above (Cons (written.PI start end target value) c r) h = element_s
 
 -- the tree of a text is a document
 pub is_document : {dtd : Bool} {asked : List Asked} (src : List ℕ) (limit : ℕ) (tree : Forest Node) → IsTreeOf src dtd asked limit tree → IsDocument (length src) tree
-is_document src limit tree h =
+is_document src limit tree is =
+    let h = tree_parts is in
     record { tops = resolved [] h.written; rooted = h.shown; element = element_stays [] h.written (parse_has src _ _ h.written h.parse) }

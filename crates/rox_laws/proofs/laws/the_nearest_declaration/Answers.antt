@@ -1,5 +1,6 @@
 use Rattle.std.proofs.Common.{◌≡◌, ◌↔◌, ℕ, List, Option, Some, None, subst, sym, ◌∙◌}
 use Rattle.std.specs.Option.{option_map}
+use Rattle.rox_theory.proofs.ParseParts.{tree_parts}
 use Rattle.rox_laws.specs.NearestDeclaration.{upwards, NoneDeclares, IsNearest, listed_uri}
 use Rattle.roxmltree.specs.NodeRef.{id_of, tree_of}
 use Rattle.rox_laws.proofs.Nearest.{found_is_nearest, none_is_declared, xml_is_never_listed, others_list_nothing}
@@ -23,7 +24,7 @@ pub returns-clause-never_xml : goal.returns-clause-never_xml
 returns-clause-never_xml c is_xml =
     let tree = tree_of c.args.node in
     let id = id_of c.args.node in
-    let parsed = c.whole.ensures.parsed.1 in
+    let parsed = tree_parts c.whole.ensures.parsed.1 in
     c.lookup_namespace_uri.ensures ∙ subst (λ (prefix : Option (List ℕ)). listed_uri tree id prefix ≡ None) (sym is_xml) (xml_is_never_listed _ parsed.written tree parsed.shown id)
 
 pub returns-clause-others : goal.returns-clause-others
