@@ -6,13 +6,15 @@ use Rattle.rox_grammar.specs.Chars.{is_space}
 use Rattle.rox_grammar.specs.Written.{Name, Attribute, Tag}
 use Rattle.rox_grammar.specs.Names.{byte, spaces_end}
 use Rattle.rox_grammar.specs.References.{predefined}
-use Rattle.rox_grammar.specs.Constructs.{IsLiteral, IsPair}
-use Rattle.rox_grammar.specs.Content.{Inclusion, DataByte, literal, Part, part_ends, as_written, from_reference, Value, value_ends, line_end, white, other, a_character, an_entity, is_verbatim_value, IsAttribute, attribute, Attributes, no_more, one_more, TagEnds, opened, closed, IsTag}
+use Rattle.rox_grammar.specs.Constructs.{IsLiteral}
+use Rattle.rox_grammar.specs.Content.{Inclusion, DataByte, literal, Part, part_ends, as_written, from_reference, Value, value_ends, line_end, white, other, a_character, an_entity, is_verbatim_value, IsAttribute, Attributes, no_more, one_more, TagEnds, opened, closed, IsTag}
 use Rattle.rox_exchange.specs.Local.{Fronts}
 use Rattle.rox_exchange.proofs.Cuts.{byte_cut, slice_cut, literal_cut}
 use Rattle.rox_exchange.proofs.Fronts.{from_here, behind}
 use Rattle.rox_exchange.proofs.CutsLexical.{space_cut, has_byte, has_other, qname_cut, eq_cut, reference_cut, reference_same, character_cut}
 use Rattle.rox_exchange.proofs.Order.{run_le, qname_le, eq_lt, literal_lt, attribute_lt, attributes_le, tag_ends_lt}
+use Rattle.rox_grammar.specs.Constructs.{IsPair}
+use Rattle.rox_grammar.specs.Content.{attribute}
 
 module _ (src to : List ℕ) (m : ℕ) (f : Fronts src to m) where
   -- a part

@@ -6,11 +6,12 @@ use Rattle.rox_grammar.specs.Chars.{is_space, is_name_char}
 use Rattle.rox_grammar.specs.Written.{Name, Attribute, Tag, Item}
 use Rattle.rox_grammar.specs.Names.{spaces_end}
 use Rattle.rox_grammar.specs.Constructs.{IsCData, IsEnd}
-use Rattle.rox_grammar.specs.Content.{IsAttribute, attribute, Attributes, no_more, one_more, TagEnds, opened, closed, IsTag, IsMisc, comment, instruction}
+use Rattle.rox_grammar.specs.Content.{IsAttribute, Attributes, no_more, one_more, TagEnds, opened, closed, IsTag, IsMisc, comment, instruction}
 use Rattle.rox_grammar.specs.Entities.{no_entities}
 use Rattle.rox_theory.proofs.Basics.{mark_from_le, run_end_le}
 use Rattle.rox_theory.proofs.NameLemmas.{qname_le}
 use Rattle.rox_theory.proofs.LiteralLemmas.{literal_le}
+use Rattle.rox_grammar.specs.Content.{attribute}
 
 -- a comment or an instruction
 pub misc_forward : (src : List ℕ) (i j : ℕ) (item : Item) → IsMisc src i j item → i < j

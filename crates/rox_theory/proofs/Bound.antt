@@ -8,7 +8,7 @@ use Rattle.std.specs.List.{list_any}
 use Rattle.rox_grammar.specs.Forest.{Forest, Nil, join}
 use Rattle.rox_grammar.specs.Written.{Item, Text, Attribute, Tag, leaf, merge}
 use Rattle.rox_grammar.specs.Names.{byte, slice, spaces_end}
-use Rattle.rox_grammar.specs.Content.{Inclusion, line_ends, literals, is_verbatim, piece, value_bytes, last_part, then_entity, Value, value_ends, line_end, white, other, a_character, an_entity, Attributes, no_more, one_more, attribute, IsTag, IsElement, empty, nest, Content, ends, run, cdata, misc, node}
+use Rattle.rox_grammar.specs.Content.{Inclusion, line_ends, literals, is_verbatim, piece, value_bytes, last_part, then_entity, Value, value_ends, line_end, white, other, a_character, an_entity, Attributes, no_more, one_more, IsTag, IsElement, empty, nest, Content, ends, run, cdata, misc, node}
 use Rattle.rox_grammar.specs.RunParts.{Parts}
 use Rattle.rox_grammar.specs.Entities.{Entity, included_in_main, most_deep}
 use Rattle.rox_grammar.specs.Chars.{is_name_char, is_space}
@@ -23,6 +23,7 @@ use Rattle.rox_theory.proofs.Following.{few_opened, few_opened_in_value}
 use Rattle.rox_theory.proofs.Weights.{piece_most, section_most, misc_most, counts_weigh, more_times}
 use Rattle.rox_theory.proofs.Measures.{Measure, most_of, fewer, by_bytes, by_count, count_in}
 use Rattle.rox_theory.proofs.ParseParts.{parts}
+use Rattle.rox_grammar.specs.Content.{attribute}
 
 -- ---- the main text
 

@@ -16,7 +16,7 @@ use Rattle.rox_grammar.specs.Written.{Name, Attribute, NamespaceDecl, Tag, Item,
 use Rattle.rox_grammar.specs.Tree.{none_if_empty}
 use Rattle.rox_grammar.specs.Names.{byte, slice, spaces_end, IsNCName, IsQName, unprefixed, prefixed, colon_first}
 use Rattle.rox_grammar.specs.Constructs.{IsComment, IsPI, IsCData}
-use Rattle.rox_grammar.specs.Content.{Inclusion, DataByte, IsAttribute, attribute, Attributes, no_more, one_more, TagEnds, opened, closed, IsTag, IsMisc, comment, instruction, IsElement, empty, nest, Content, ends, run, cdata, misc, node, line_ends, literals}
+use Rattle.rox_grammar.specs.Content.{Inclusion, DataByte, IsAttribute, Attributes, no_more, one_more, TagEnds, opened, closed, IsTag, IsMisc, comment, instruction, IsElement, empty, nest, Content, ends, run, cdata, misc, node, line_ends, literals}
 use Rattle.rox_grammar.specs.Entities.{Entity, Includes, included_in_main, most_deep}
 use Rattle.rox_grammar.specs.Doctype.{Asked, Subset, no_more as no_item, space as subset_space, an_item as subset_item, skipped_declaration, an_entity as an_entity_declared, IsDoctype, no_subset, with_subset}
 use Rattle.rox_grammar.specs.Document.{Misc, no_misc, space, an_item, ParseOf}
@@ -31,6 +31,7 @@ use Rattle.rox_theory.proofs.CharCuts.{name_char}
 use Rattle.rox_theory.proofs.CharSigns.{part_char, no_signs, text_front, items_joined, OpensChars, value_chars, parts_items}
 use Rattle.rox_theory.proofs.DoctypeAgreement.{texts_agree}
 use Rattle.rox_theory.proofs.ParseParts.{parts}
+use Rattle.rox_grammar.specs.Content.{attribute}
 
 -- ---- names
 

@@ -7,12 +7,13 @@ use Rattle.rox_grammar.specs.Forest.{Forest, Nil, join}
 use Rattle.rox_grammar.specs.Written.{Item, Text, Attribute, Tag, leaf, merge}
 use Rattle.rox_grammar.specs.Tree.{none_if_empty}
 use Rattle.rox_grammar.specs.Names.{slice, spaces_end}
-use Rattle.rox_grammar.specs.Content.{Inclusion, DataByte, line_ends, literals, is_verbatim, piece, value_bytes, last_part, then_entity, Value, value_ends, line_end, white, other, a_character, an_entity, Attributes, no_more, one_more, attribute, IsTag, IsMisc, comment, instruction, IsElement, empty, nest, Content, ends, run, cdata, misc, node}
+use Rattle.rox_grammar.specs.Content.{Inclusion, DataByte, line_ends, literals, is_verbatim, piece, value_bytes, last_part, then_entity, Value, value_ends, line_end, white, other, a_character, an_entity, Attributes, no_more, one_more, IsTag, IsMisc, comment, instruction, IsElement, empty, nest, Content, ends, run, cdata, misc, node}
 use Rattle.rox_grammar.specs.RunParts.{Parts}
 use Rattle.rox_grammar.specs.Entities.{Replacement, Entity, text_of}
 use Rattle.rox_grammar.specs.Expansion.{Counts, longest}
 use Rattle.rox_theory.proofs.Onward.{ends_shorten, signs_length, slice_short, reference_onward, value_char, part_bytes, qname_onward, eq_onward, tag_end_onward, end_onward, misc_onward, section_onward}
 use Rattle.rox_theory.proofs.Measures.{Measure, most_of, fewer}
+use Rattle.rox_grammar.specs.Content.{attribute}
 
 module _ (of : Forest Item → ℕ) (is_measure : Measure of) where
   -- the text of a part
