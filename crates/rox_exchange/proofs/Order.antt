@@ -1,5 +1,6 @@
 -- Each construct ends behind its start.
 use Rattle.std.proofs.Common.{ℕ, ◌+◌, ◌<◌, ◌≤◌, Bool, true, false, List, take, arith}
+use Rattle.rox_grammar.specs.Content.{attribute}
 use Rattle.rox_grammar.specs.Chars.{is_char, is_space, is_name_char, is_part_char}
 use Rattle.rox_grammar.specs.Forest.{Forest}
 use Rattle.rox_grammar.specs.Written.{Name, Attribute, Tag, Item}
@@ -8,7 +9,6 @@ use Rattle.rox_grammar.specs.Names.{spaces_end, IsName, IsNCName, IsQName, unpre
 use Rattle.rox_grammar.specs.References.{IsReference, IsCharacter, decimal, hexadecimal, named}
 use Rattle.rox_grammar.specs.Constructs.{AreChars, IsComment, IsPI, IsCData, IsEq, IsLiteral, IsEnd}
 use Rattle.rox_grammar.specs.Content.{Inclusion, IsAttribute, Attributes, no_more, one_more, TagEnds, opened, closed, IsTag, IsMisc, comment, instruction, IsElement, empty, nest, Content, ends, run, cdata, misc, node}
-use Rattle.rox_grammar.specs.Content.{attribute}
 
 pub run_le : (p : ℕ → Bool) (src : List ℕ) (i : ℕ) → i ≤ run_end p src i
 unfolding run_end
