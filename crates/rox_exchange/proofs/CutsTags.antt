@@ -13,6 +13,8 @@ use Rattle.rox_exchange.proofs.Cuts.{byte_cut, slice_cut, literal_cut}
 use Rattle.rox_exchange.proofs.Fronts.{from_here, behind}
 use Rattle.rox_exchange.proofs.CutsLexical.{space_cut, has_byte, has_other, qname_cut, eq_cut, reference_cut, reference_same, character_cut}
 use Rattle.rox_exchange.proofs.Order.{run_le, qname_le, eq_lt, literal_lt, attribute_lt, attributes_le, tag_ends_lt}
+use Rattle.rox_grammar.specs.Constructs.{IsPair}
+use Rattle.rox_grammar.specs.Content.{attribute}
 
 module _ (src to : List ℕ) (m : ℕ) (f : Fronts src to m) where
   -- a part

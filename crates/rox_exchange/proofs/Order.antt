@@ -1,5 +1,6 @@
 -- Each construct ends behind its start.
 use Rattle.std.proofs.Common.{ℕ, ◌+◌, ◌<◌, ◌≤◌, Bool, true, false, List, take, arith}
+use Rattle.rox_grammar.specs.Content.{attribute}
 use Rattle.rox_grammar.specs.Chars.{is_char, is_space, is_name_char, is_part_char}
 use Rattle.rox_grammar.specs.Forest.{Forest}
 use Rattle.rox_grammar.specs.Written.{Name, Attribute, Tag, Item}

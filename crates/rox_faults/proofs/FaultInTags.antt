@@ -49,6 +49,7 @@ use Rattle.rox_faults.proofs.FaultTags.{attribute_cut}
 use Rattle.rox_faults.proofs.FaultApart.{qname_stands, byte_stands, space_stands}
 use Rattle.rox_faults.proofs.FaultPairs.{one_qname, eq_one, pair_apart}
 use Rattle.rox_faults.proofs.StateCounts.{attributes_are, more_pairs_counted}
+use Rattle.rox_grammar.specs.Content.{attribute}
 
 -- ---- names
 

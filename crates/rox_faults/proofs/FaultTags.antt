@@ -19,7 +19,7 @@ use Rattle.rox_grammar.specs.NameParts.{local_span, prefix_span}
 use Rattle.rox_grammar.specs.Tree.{xml_uri, xmlns_uri, is_declared, listed, listable_of}
 use Rattle.rox_grammar.specs.Names.{byte, slice, spaces_end, IsQName, unprefixed, prefixed, colon_first}
 use Rattle.rox_grammar.specs.Constructs.{AreChars, IsEq, IsLiteral}
-use Rattle.rox_grammar.specs.Content.{Inclusion, IsAttribute, attribute, Attributes, no_more, one_more}
+use Rattle.rox_grammar.specs.Content.{Inclusion, IsAttribute, Attributes, no_more, one_more}
 use Rattle.rox_grammar.specs.WellNamed.{may_declare, is_known, same_expanded, may_name}
 use Rattle.rox_grammar.proofs.NamesApart.{DeclarableBehind, DistinctBehind, declarable_behind, are_declarable, are_distinct}
 use Rattle.rox_grammar.specs.Document.{attributes_in, most_attributes, most_pairs}
@@ -56,6 +56,7 @@ use Rattle.rox_faults.proofs.FaultRows.{local_holds, qname_inside}
 use Rattle.rox_faults.proofs.FaultPoints.{Refuses}
 use Rattle.rox_faults.proofs.FaultValues.{InPart, value_fails}
 use Rattle.rox_faults.proofs.StateCounts.{attributes_are, pairs_there, pairs_counted, more_pairs_there}
+use Rattle.rox_grammar.specs.Content.{attribute}
 
 -- a quote that is due
 pub quote_fails : (src : List ℕ) (i : ℕ) (f : Fault) → quote_at src i ≡ Err f → IsMissing src i a_quote f

@@ -12,6 +12,7 @@ use Rattle.rox_theory.proofs.Productions.{comment_parts, pi_parts, cdata_parts, 
 use Rattle.rox_theory.proofs.Basics.{mark_from_le, run_end_le}
 use Rattle.rox_theory.proofs.NameLemmas.{qname_le}
 use Rattle.rox_theory.proofs.LiteralLemmas.{literal_le}
+use Rattle.rox_grammar.specs.Content.{attribute}
 
 -- a comment or an instruction
 pub misc_forward : (src : List ℕ) (i j : ℕ) (item : Item) → IsMisc src i j item → i < j

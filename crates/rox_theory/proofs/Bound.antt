@@ -13,7 +13,7 @@ use Rattle.rox_grammar.specs.RunParts.{Parts}
 use Rattle.rox_grammar.specs.Entities.{Entity, included_in_main, most_deep}
 use Rattle.rox_grammar.specs.Chars.{is_name_char, is_space}
 use Rattle.rox_grammar.specs.Names.{IsName}
-use Rattle.rox_grammar.specs.Doctype.{Asked, IsQuoted, IsExternalID, system, public, MayHaveNotation, notation, no_notation, of_parameter, IsDefinition, internal, external, IsKind, of_parameter as parameter_kind, general, BeginsEntity, entity_begins, IsEntityDeclaration, entity_declaration, Subset, no_more as no_item, space as subset_space, an_item as subset_item, skipped_declaration, an_entity as an_entity_declared, MayHaveExternalID, external_id, no_external_id, BeginsDoctype, doctype_begins, IsDoctype, no_subset, with_subset}
+use Rattle.rox_grammar.specs.Doctype.{Asked, IsQuoted, IsExternalID, system, public, MayHaveNotation, notation, no_notation, of_parameter, IsDefinition, internal, external, IsKind, of_parameter as parameter_kind, general, entity_begins, IsEntityDeclaration, entity_declaration, Subset, no_more as no_item, space as subset_space, an_item as subset_item, skipped_declaration, an_entity as an_entity_declared, MayHaveExternalID, external_id, no_external_id, BeginsDoctype, doctype_begins, IsDoctype, no_subset, with_subset}
 use Rattle.rox_grammar.specs.Document.{Misc, no_misc, space, an_item, ParseOf}
 use Rattle.rox_theory.specs.ParseParts.{MayHaveDoctype, doctype, no_doctype}
 use Rattle.rox_grammar.specs.Expansion.{longest}
@@ -25,6 +25,7 @@ use Rattle.rox_theory.proofs.Weights.{piece_most, section_most, misc_most, count
 use Rattle.rox_theory.proofs.Measures.{Measure, most_of, fewer, by_bytes, by_count, count_in}
 use Rattle.rox_theory.proofs.DoctypeParts.{passed_end}
 use Rattle.rox_theory.proofs.ParseParts.{parts}
+use Rattle.rox_grammar.specs.Content.{attribute}
 
 -- ---- the main text
 

@@ -33,6 +33,7 @@ use Rattle.rox_theory.proofs.CharCuts.{name_char}
 use Rattle.rox_theory.proofs.CharSigns.{part_char, no_signs, text_front, items_joined, OpensChars, value_chars, parts_items}
 use Rattle.rox_theory.proofs.DoctypeAgreement.{texts_agree}
 use Rattle.rox_theory.proofs.ParseParts.{parts}
+use Rattle.rox_grammar.specs.Content.{attribute}
 
 -- ---- names
 

@@ -14,6 +14,7 @@ use Rattle.rox_grammar.specs.Expansion.{Counts, longest}
 use Rattle.rox_grammar.proofs.FirstEntity.{text_of_first}
 use Rattle.rox_theory.proofs.Onward.{ends_shorten, signs_length, slice_short, reference_onward, value_char, part_bytes, qname_onward, eq_onward, tag_end_onward, end_onward, misc_onward, section_onward}
 use Rattle.rox_theory.proofs.Measures.{Measure, most_of, fewer}
+use Rattle.rox_grammar.specs.Content.{attribute}
 
 module _ (of : Forest Item → ℕ) (is_measure : Measure of) where
   -- the text of a part
