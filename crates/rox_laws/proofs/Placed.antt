@@ -186,7 +186,7 @@ module _ (src : List ℕ) (utf8 : IsUtf8 src) where
   run_placed es k O i b f there (rows.InRun.no_char _ lacks) = lacks_placed src i _ f tt lacks
   run_placed es k O i b f there (rows.InRun.end_mark e ends chars has) = let le = from_bound (λ c. c == 60) src i (omega arith) in rw ends le
   run_placed es k O i b f there (rows.InRun.in_reference e p _ ends chars none from before ill) = references_placed es p f ill
-  run_placed es k O i b f there (rows.InRun.too_many stop p j c front t run parts before refers spent) = reference_inside src p refers.0 j refers.1
+  run_placed es k O i b f there (rows.InRun.too_many p j c front t (stop, run, parts, before, refers) spent) = reference_inside src p refers.0 j refers.1
 
   pub value_placed : (es : List Entity) (k : ℕ) (O : Inclusion) (i stop b : ℕ) (f : Fault) → InValue es k O src i stop b f → IsPlaced src f
   value_placed es k O i stop b f (rows.InValue.in_reference p _ from before ill) = references_placed es p f ill
@@ -196,7 +196,7 @@ module _ (src : List ℕ) (utf8 : IsUtf8 src) where
   value_placed es k O i stop b f (rows.InValue.no_char q c inner from before is bad) = let there = char_within c src q is in omega arith
 
   declared_placed : (before : List NamespaceDecl) (a : Attribute) (f : Fault) → a.start ≤ length src → IllDeclared src before a f → IsPlaced src f
-  declared_placed before a f le (rows.IllDeclared.other_uri is_xmlns is_xml not_xml not_xmlns) = le
+  declared_placed before a f le (rows.IllDeclared.other_uri is_xml not_xml not_xmlns) = le
   declared_placed before a f le (rows.IllDeclared.uri_of_xml not_xml is) = le
   declared_placed before a f le (rows.IllDeclared.uri_of_xmlns is) = le
   declared_placed before a f le (rows.IllDeclared.again name may is holds) = le
@@ -269,4 +269,4 @@ module _ (src : List ℕ) (utf8 : IsUtf8 src) where
   stands_placed limit es k open_around O s b f (rows.Stands.unknown inner is other) = let before = within src s.at (λ z. omega arith) in omega arith
   stands_placed limit es k open_around O s b f (rows.Stands.unclosed deep past) = cut_placed (is_main k) s.stack
   stands_placed limit es k open_around O s b f (rows.Stands.too_many_nodes c t takes over) = tt
-  stands_placed limit es k open_around O s b f (rows.Stands.too_many_pieces stop p j c front t inner run parts well_named before refers over) = tt
+  stands_placed limit es k open_around O s b f (rows.Stands.too_many_pieces p j c front t inner to well_named over) = tt
