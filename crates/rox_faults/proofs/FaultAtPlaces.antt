@@ -117,7 +117,7 @@ module _ (opens : ℕ → Inclusion) (es : List Entity) (all : OpensAt opens es)
         let run = run_there opens es all limit W k open_around b src s r below other in
         let below' : q < run.0 = subst (λ (j : ℕ). q < j) ((char_data_parts is).end ∙ sym (char_data_parts run.1).end) inside' in
         run_reference_apart es (is_main k) (opens k) src r.utf8 (content_declared k) s.at run.0 b run.2.openings_left q run.2.items f run.2.parts from below' ill
-    run_apart f below other (faults.InRun.too_many stop q j c front t is to inside' refers spent) =
+    run_apart f below other (faults.InRun.too_many q j c front t (stop, is, to, inside', refers) spent) =
         let found = (opened_there opens es all limit W k open_around b src s r stop q c j front t is to inside' refers).1 in
         let x = all.content k c found.openings_left (slice src (q + 1) refers.0) found.opened found.opens in
         spent_apart k c x.1 x.4 spent
@@ -227,7 +227,7 @@ module _ (opens : ℕ → Inclusion) (es : List Entity) (all : OpensAt opens es)
         (let fine = subst (IsValidState limit) (one_step opens es all limit W k open_around src here r (state_of t c) (takes_there opens es all limit W k open_around b src s r t c takes) below) (there.fine w) in
         let nodes = fine.nodes in
         omega arith))
-    stands_apart f (too_many_pieces stop q j c front t inner is to named below refers many) =
+    stands_apart f (too_many_pieces q j c front t inner (stop, is, to, below, refers) named many) =
         let over = too_many_counted limit s.stack (join s.done front) many in
         let there = opened_there opens es all limit W k open_around b src s r stop q c j front t is to below refers in
         let run = there.0 in let found = there.1 in

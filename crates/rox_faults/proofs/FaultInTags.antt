@@ -75,11 +75,9 @@ declared_both xs ys =
 
 -- a declaration that may be: rows 1, 2, 3 and 5
 declared_apart : (src : List ℕ) (before : List NamespaceDecl) (a : Attribute) (f : Fault) → may_declare (namespace_decl_of a) ≡ true → is_declared (namespace_decl_of a).prefix before ≡ false → IllDeclared src before a f → ⊥
-declared_apart src before a f may once (other_uri prefix local other reserved) =
+declared_apart src before a f may once (other_uri of_xml other reserved) =
     let both = and_parts (not (bytes_eq a.value xmlns_uri)) (cond (is_xml (namespace_decl_of a).prefix) (bytes_eq a.value xml_uri) (not (bytes_eq a.value xml_uri))) may in
-    let p : bytes_eq a.name.prefix (word_text word.Xmlns) ≡ true = (bytes_eq-Decides a.name.prefix (word_text word.Xmlns)).1 prefix in
-    let l : bytes_eq a.name.local (word_text word.Xml) ≡ true = (bytes_eq-Decides a.name.local (word_text word.Xml)).1 local in
-    let u : bytes_eq a.value xml_uri ≡ true = rw (p, l) at both.1 in
+    let u : bytes_eq a.value xml_uri ≡ true = subst (λ (b : Bool). cond b (bytes_eq a.value xml_uri) (not (bytes_eq a.value xml_uri)) ≡ true) of_xml both.1 in
     other ((bytes_eq-Decides a.value xml_uri).0 u)
 declared_apart src before a f may once (uri_of_xml no_xml uri) =
     let both = and_parts (not (bytes_eq a.value xmlns_uri)) (cond (is_xml (namespace_decl_of a).prefix) (bytes_eq a.value xml_uri) (not (bytes_eq a.value xml_uri))) may in

@@ -50,7 +50,7 @@ use Rattle.rox_theory.proofs.ParseParts.{behind_parts, prolog_parts, parts}
 place_front : (opens : ℕ → Inclusion) (es : List Entity) (text : List ℕ) (Root : ℕ → Forest Item → Type 0) (k open_around b : ℕ) (src : List ℕ) (s : grammar.State) → ContentPoint opens es text Root k open_around src b s → (p : ℕ) × (items : Forest Item) × Root p items
 place_front opens es text Root k open_around b src s (begins p items is) = (p, items, is)
 place_front opens es text Root k open_around b src s (goes _ _ d _ _ r _ place takes content deep) = place_front opens es text Root k open_around d src r place
-place_front opens es text Root k open_around b src s (enters l other d c r stop q j source t front text' place inner run to named below refers may) = place_front opens es text Root l other d source t place
+place_front opens es text Root k open_around b src s (enters l other d c r q j source t front text' place inner to named may) = place_front opens es text Root l other d source t place
 
 -- and before a fault
 front_of : (opens : ℕ → Inclusion) (es : List Entity) (limit : ℕ) (text : List ℕ) (behind_dtd : Bool) (Front : ℕ → Forest Item → Type 0) (source : List ℕ) (f : Fault) → FaultFrom opens es limit text behind_dtd Front source f

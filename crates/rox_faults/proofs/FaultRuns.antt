@@ -144,8 +144,8 @@ module _ (opens : ℕ → Inclusion) (es : List Entity) (limit : ℕ) (text : Li
       by_end u b q ss next part (ends_entity _ n j t ref none to found) named few many =
           let moves = reference_opens src q n j ref in
           stand opens es limit text declared Front k open_around src s fault.NodesLimitReached place fits
-          (too_many_pieces stop q j u.openings_left (join b.front (piece s.at stop false ss)) t inner run (b.to q u.openings_left (piece s.at stop false ss) (last_part u.at u.openings_left ss part)) named (omega (arith, moves.2))
-          (n, ref, none, found) (too_many_there limit s.stack (join s.done (join b.front (piece s.at stop false ss))) few many))
+          (too_many_pieces q j u.openings_left (join b.front (piece s.at stop false ss)) t inner
+          (stop, run, b.to q u.openings_left (piece s.at stop false ss) (last_part u.at u.openings_left ss part), omega (arith, moves.2), (n, ref, none, found)) named (too_many_there limit s.stack (join s.done (join b.front (piece s.at stop false ss))) few many))
 
       -- a text that is one node too many
       piece_over : (u : State) (b : Begun u) (q : ℕ) (ss : List DataByte) (v : List ℕ) (next : Next) (f : Fault) → IsValidState most u → Part (is_main k) src q u.at ss → Ends es src stop q next → line_ends ss ≡ v
@@ -183,11 +183,11 @@ module _ (opens : ℕ → Inclusion) (es : List Entity) (limit : ℕ) (text : Li
           named_last s.stack s.done (join b.front one) (subst (λ (o : Open). AreNamed o (join s.done (join b.front one))) t_stack (subst (AreNamed t.stack) t_done fine'.named)) in
           let below : q < stop = omega (arith, moves.2) in
           bind_err (opener limit es d (is_main k) r j t) _ e h
-          (λ bad. opener_fails src j r name t e found fine' (λ spent. in_it (fault.EntityReferenceLoop j) (too_many stop q j t.openings_left (join b.front one) r run to' below refers spent))
+          (λ bad. opener_fails src j r name t e found fine' (λ spent. in_it (fault.EntityReferenceLoop j) (too_many q j t.openings_left (join b.front one) r (stop, run, to', below, refers) spent))
           (λ l may.
           subst (λ (o : Open). At opens es limit text declared Front (suc k) (depth_of o) r.source (state r.start t.done o l)) (sym t_stack)
           (subst (λ (f : Forest Item). At opens es limit text declared Front (suc k) (depth_of s.stack) r.source (state r.start f s.stack l)) (sym t_done)
-          (enters k open_around s.openings_left t.openings_left l stop q j src (place_of s) (join b.front one) r place inner run to' named below refers may))) bad)
+          (enters k open_around s.openings_left t.openings_left l q j src (place_of s) (join b.front one) r place inner (stop, run, to', below, refers) named may))) bad)
           (λ v opened h.
           let o = agrees.sound most name r j t v less found fine' opened in
           let v_is = o.3 in

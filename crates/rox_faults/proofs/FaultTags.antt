@@ -145,7 +145,7 @@ uri_fails src before a f h =
     (λ local h. chosen (bytes_eq a.value xml_uri) _ _ _ h (λ uri h. cc)
     (λ other h.
     let e : fault.InvalidXmlPrefixUri a.start ≡ f = cc in
-    subst (IllDeclared src before a) e (other_uri ((bytes_eq-Decides a.name.prefix (word_text word.Xmlns)).0 prefix) ((bytes_eq-Decides a.name.local (word_text word.Xml)).0 local)
+    subst (IllDeclared src before a) e (other_uri (rw (prefix, local) refl)
     (λ same. let k = (bytes_eq-Decides a.value xml_uri).1 same in cc (sym other ∙ k)) (λ same. let k = (bytes_eq-Decides a.value xmlns_uri).1 same in cc (sym free ∙ k)))))
     (λ local h. chosen (bytes_eq a.value xml_uri) _ _ _ h
     (λ uri h. let e : fault.UnexpectedXmlUri a.start ≡ f = cc in subst (IllDeclared src before a) e (uri_of_xml (rw (prefix, local) refl) ((bytes_eq-Decides a.value xml_uri).0 uri)))

@@ -317,5 +317,5 @@ module _ (opens : ℕ → Inclusion) (es : List Entity) (all : OpensAt opens es)
       → (k open_around b : ℕ) (src : List ℕ) (s : grammar.State) → ContentPoint opens es text Root k open_around src b s → Reached k open_around src (state_of s b)
   place_reached text Root at_root k open_around b src s (begins p items is) = at_root p items is
   place_reached text Root at_root k open_around b src s (goes _ _ c _ _ r _ place takes inner deep) = goes_reached k open_around c src r (place_reached text Root at_root k open_around c src r place) s b takes inner
-  place_reached text Root at_root k open_around b src s (enters l other c e _ stop p j source r front t place inner is to named below refers may) =
+  place_reached text Root at_root k open_around b src s (enters l other c e _ p j source r front t place inner (stop, is, to, below, refers) named may) =
       enters_reached l other c source r (place_reached text Root at_root l other c source r place) stop p e j b front t is to below refers may

@@ -38,12 +38,12 @@ pub data TagBegins (src : List ℕ) (i : ℕ) : Bool → Type 0 where
 module _ (k : ℕ) (Includes : Inclusion) (src : List ℕ) (s : State) where
   pub data StepsOver : ℕ → State → ℕ → Type 0 where
     a_run : (j b c : ℕ) (items : Forest Item) → is_content k s.stack ≡ true → IsCharacterData src s.at j → Parts (is_main k) Includes src (is_verbatim (slice src s.at j)) s.at j j s.at b c items
-        → AreWellNamed (scope_of s.stack) items → StepsOver b (record { at = j; done = join s.done items; stack = s.stack }) c
+        → AreWellNamed (scope_of s.stack) items → StepsOver b (record s { at = j; done = join s.done items }) c
     a_section : (e j b : ℕ) → is_content k s.stack ≡ true → IsCData src s.at e j
-        → StepsOver b (record { at = j; done = join s.done (leaf (section s.at j (slice src (s.at + 9) e))); stack = s.stack }) b
-    a_misc : (j b : ℕ) (item : Item) → is_content k s.stack ≡ true → IsMisc src s.at j item → StepsOver b (record { at = j; done = join s.done (leaf item); stack = s.stack }) b
+        → StepsOver b (record s { at = j; done = join s.done (leaf (section s.at j (slice src (s.at + 9) e))) }) b
+    a_misc : (j b : ℕ) (item : Item) → is_content k s.stack ≡ true → IsMisc src s.at j item → StepsOver b (record s { at = j; done = join s.done (leaf item) }) b
     an_empty_tag : (j b c : ℕ) (t : Tag) → IsTag (is_main k) Includes src s.at j b c true t → IsWellNamed (listed (scope_of s.stack) t.declarations) t
-        → StepsOver b (record { at = j; done = join s.done (leaf (Element s.at j t)); stack = s.stack }) c
+        → StepsOver b (record s { at = j; done = join s.done (leaf (Element s.at j t)) }) c
     a_start_tag : (j b c : ℕ) (t : Tag) → IsTag (is_main k) Includes src s.at j b c false t → IsWellNamed (listed (scope_of s.stack) t.declarations) t
         → StepsOver b (record { at = j; done = Nil; stack = inside s.at t s.done s.stack }) c
     an_end_tag : (n j b start : ℕ) (t : Tag) (before : Forest Item) (up : Open) → s.stack ≡ inside start t before up → IsEnd src s.at t.name n j
@@ -52,6 +52,10 @@ module _ (k : ℕ) (Includes : Inclusion) (src : List ℕ) (s : State) where
 -- a reference to an entity stands at p and ends at j: its replacement text
 abbrev pub RefersTo : List Entity → List ℕ → (p j : ℕ) → Replacement → Type 0
 RefersTo es src p j t = (n : ℕ) × IsReference src p n j × (predefined (slice src (p + 1) n) ≡ None) × (text_of es (slice src (p + 1) n) ≡ Some t)
+
+-- the run at i is read up to a reference to an entity, which stands at p: the items before it, and its replacement text
+abbrev pub RunTo : List Entity → (main : Bool) → Inclusion → List ℕ → (i p j b c : ℕ) → Forest Item → Replacement → Type 0
+RunTo es main Includes src i p j b c front t = (e : ℕ) × IsCharacterData src i e × Parts main Includes src false i e p i b c front × (p < e) × RefersTo es src p j t
 
 -- where k replacement texts are open and b openings are left, one more may be opened, with r left in it
 abbrev pub MayOpen : (k b r : ℕ) → Type 0
@@ -63,15 +67,15 @@ IsSpent k b = (r : ℕ) → MayOpen k b r → ⊥
 
 -- A point that content reaches from the left: with k replacement texts open, around which `open_around` elements are open, in this
 -- source, with b openings left, and what is read and open there. `opens k` is the meaning of a reference there.
-pub data ContentPoint (opens : ℕ → Inclusion) (es : List Entity) (text : List ℕ) (Root : ℕ → Forest Item → Type 0) : (k open_around : ℕ) → List ℕ → ℕ → State → Type 0 where
+pub data ContentPoint (opens : ℕ → Inclusion) (es : List Entity) (text : List ℕ) (Root : ℕ → Forest Item → Type 0) : (k around : ℕ) → List ℕ → ℕ → State → Type 0 where
   begins : (p : ℕ) (items : Forest Item) → Root p items → ContentPoint opens es text Root 0 0 text most_within (record { at = p; done = items; stack = root })
   -- no element is closed that a replacement text did not open
-  goes : (k open_around b c : ℕ) (src : List ℕ) (s t : State) → ContentPoint opens es text Root k open_around src b s → StepsOver k (opens k) src s b t c → is_content k t.stack ≡ true → open_around ≤ depth_of t.stack
-      → ContentPoint opens es text Root k open_around src c t
+  goes : (k open_around b c : ℕ) (src : List ℕ) (s t : State) → ContentPoint opens es text Root k open_around src b s → StepsOver k (opens k) src s b t c
+      → is_content k t.stack ≡ true → open_around ≤ depth_of t.stack → ContentPoint opens es text Root k open_around src c t
   -- the run at a place is read up to a reference, whose replacement text is opened
-  enters : (k open_around b c r stop p j : ℕ) (src : List ℕ) (s : State) (front : Forest Item) (t : Replacement) → ContentPoint opens es text Root k open_around src b s → is_content k s.stack ≡ true → IsCharacterData src s.at stop
-      → Parts (is_main k) (opens k) src false s.at stop p s.at b c front → AreWellNamed (scope_of s.stack) front → p < stop → RefersTo es src p j t → MayOpen k c r
-      → ContentPoint opens es text Root (suc k) (depth_of s.stack) t.source r (record { at = t.start; done = join s.done front; stack = s.stack })
+  enters : (k open_around b c r p j : ℕ) (src : List ℕ) (s : State) (front : Forest Item) (t : Replacement) → ContentPoint opens es text Root k open_around src b s
+      → is_content k s.stack ≡ true → RunTo es (is_main k) (opens k) src s.at p j b c front t → AreWellNamed (scope_of s.stack) front → MayOpen k c r
+      → ContentPoint opens es text Root (suc k) (depth_of s.stack) t.source r (record s { at = t.start; done = join s.done front })
 
 -- A part of a value: from i up to stop of a source, where l replacement texts are open and d openings are left. It is the value
 -- itself, which stands from `start` up to `end` of src where k are open and b are left, or a replacement text that is opened in it,

@@ -11,18 +11,18 @@ use Rattle.rox_grammar.specs.Chars.{is_space, is_char}
 use Rattle.rox_grammar.specs.Runs.{StandsAt}
 use Rattle.rox_grammar.specs.Search.{byte_from}
 use Rattle.rox_grammar.specs.Forest.{Forest, join, size}
-use Rattle.rox_grammar.specs.Written.{Name, Attribute, NamespaceDecl, Tag, Item, is_namespace_decl, namespace_decl_of, namespace_decls_of, plain_attributes_of, leaf}
+use Rattle.rox_grammar.specs.Written.{Name, Attribute, NamespaceDecl, Tag, Item, is_namespace_decl, namespace_decl_of, namespace_decls_of, plain_attributes_of, merge, leaf}
 use Rattle.rox_grammar.specs.Tree.{xml_uri, xmlns_uri, is_declared, listed, listable_of, is_xml}
 use Rattle.rox_grammar.specs.Names.{byte, slice, spaces_end, IsQName}
 use Rattle.rox_grammar.specs.Constructs.{text_at, first_text, AreChars, IsPair, IsEnd}
 use Rattle.rox_grammar.specs.References.{IsReference, IsCharacter, predefined}
-use Rattle.rox_grammar.specs.Content.{Inclusion, Parts, IsCharacterData, Value, IsAttribute, TagEnds, IsMisc}
+use Rattle.rox_grammar.specs.Content.{Inclusion, Value, IsAttribute, TagEnds, IsMisc}
 use Rattle.rox_grammar.specs.WellNamed.{may_declare, is_known, same_expanded, AreDistinct, may_name, AreWellNamed}
 use Rattle.rox_grammar.specs.Entities.{Replacement, Entity, text_of}
 use Rattle.rox_grammar.specs.Document.{Behind, pairs_in, distinct_count, attributes_in, most_attributes, most_pairs}
 use Rattle.rox_grammar.specs.OpenElements.{Open, root, inside, State, depth_of, scope_of, tree_so_far, FitsLimits, HasTooManyNodes}
 use Rattle.rox_grammar.specs.Due.{a_byte, a_qname, one_of, chars_to, IsMissing, Misses, DueInText, DueInPI, DueInEnd, DueInPair}
-use Rattle.rox_grammar.specs.ContentPoints.{RootBegins, is_content, is_main, TagBegins, StepsOver, RefersTo, IsSpent, ContentPoint, ValuePart, TagTo}
+use Rattle.rox_grammar.specs.ContentPoints.{RootBegins, is_content, is_main, TagBegins, StepsOver, RefersTo, RunTo, IsSpent, ContentPoint, ValuePart, TagTo}
 
 -- the bytes of a name as it is written, without the colon if there is no prefix
 abbrev pub spelled : Name → List ℕ
@@ -44,13 +44,13 @@ pub data InMisc (src : List ℕ) (i : ℕ) : Fault → Type 0 where
 -- ---- in comments and processing instructions outside the root element, which are read up to p, with these nodes before it
 pub data InMiscs (limit : ℕ) (src : List ℕ) (p : ℕ) (items : Forest Item) : Fault → Type 0 where
   in_one : (f : Fault) → InMisc src p f → InMiscs limit src p items f
-  one_too_many : (j : ℕ) (item : Item) → IsMisc src p j item → limit < 1 + size (tree_so_far root (join items (leaf item))) → InMiscs limit src p items fault.NodesLimitReached
+  one_too_many : (j : ℕ) (item : Item) → IsMisc src p j item → limit < 1 + size (merge (join items (leaf item))) → InMiscs limit src p items fault.NodesLimitReached
 
 -- ---- references, in a run or a value (XML 4.1)
 pub data InReferences (es : List Entity) (src : List ℕ) (p : ℕ) : Fault → Type 0 where
   malformed : byte src p ≡ code "&" → ((c j : ℕ) → IsCharacter src p c j → ⊥) → ((n j : ℕ) → IsReference src p n j → ⊥) → InReferences es src p (fault.MalformedEntityReference p)
-  undeclared : (n j : ℕ) (name : Span) → IsReference src p n j → predefined (slice src (p + 1) n) ≡ None → text_of es (slice src (p + 1) n) ≡ None → SpanIs src name (slice src (p + 1) n)
-      → InReferences es src p (fault.UnknownEntityReference name p)
+  undeclared : (n j : ℕ) (name : Span) → IsReference src p n j → predefined (slice src (p + 1) n) ≡ None → text_of es (slice src (p + 1) n) ≡ None
+      → SpanIs src name (slice src (p + 1) n) → InReferences es src p (fault.UnknownEntityReference name p)
 
 -- ---- in a run that begins at i (XML 2.4), where k replacement texts are open and b openings are left
 pub data InRun (es : List Entity) (k : ℕ) (Includes : Inclusion) (src : List ℕ) (i b : ℕ) : Fault → Type 0 where
@@ -59,7 +59,7 @@ pub data InRun (es : List Entity) (k : ℕ) (Includes : Inclusion) (src : List �
   -- any of its references
   in_reference : (e p : ℕ) (f : Fault) → IsCharacterData src i e → i ≤ p → p < e → InReferences es src p f → InRun es k Includes src i b f
   -- the first one that may open none
-  too_many : (stop p j c : ℕ) (front : Forest Item) (t : Replacement) → IsCharacterData src i stop → Parts (is_main k) Includes src false i stop p i b c front → p < stop → RefersTo es src p j t → IsSpent k c
+  too_many : (p j c : ℕ) (front : Forest Item) (t : Replacement) → RunTo es (is_main k) Includes src i p j b c front t → IsSpent k c
       → InRun es k Includes src i b (fault.EntityReferenceLoop j)
 
 -- ---- in a part of a value, from i up to stop (XML 3.3.3), where k replacement texts are open and b openings are left
@@ -76,8 +76,8 @@ pub data InValue (es : List Entity) (k : ℕ) (Includes : Inclusion) (src : List
 -- ---- a declaration that a start tag holds behind these (Namespaces in XML 1.0 section 3)
 pub data IllDeclared (src : List ℕ) (before : List NamespaceDecl) (a : Attribute) : Fault → Type 0 where
   -- `xmlns:xml`
-  other_uri : a.name.prefix ≡ codes "xmlns" → a.name.local ≡ codes "xml" → a.value ≢ xml_uri → a.value ≢ xmlns_uri → IllDeclared src before a (fault.InvalidXmlPrefixUri a.start)
-  uri_of_xml : (is_xml (namespace_decl_of a).prefix ≡ false) → a.value ≡ xml_uri → IllDeclared src before a (fault.UnexpectedXmlUri a.start)
+  other_uri : is_xml (namespace_decl_of a).prefix ≡ true → a.value ≢ xml_uri → a.value ≢ xmlns_uri → IllDeclared src before a (fault.InvalidXmlPrefixUri a.start)
+  uri_of_xml : is_xml (namespace_decl_of a).prefix ≡ false → a.value ≡ xml_uri → IllDeclared src before a (fault.UnexpectedXmlUri a.start)
   uri_of_xmlns : a.value ≡ xmlns_uri → IllDeclared src before a (fault.UnexpectedXmlnsUri a.start)
   again : (name : Span) → may_declare (namespace_decl_of a) ≡ true → is_declared (namespace_decl_of a).prefix before ≡ true → SpanIs src name a.name.local → IllDeclared src before a (fault.DuplicatedNamespace name a.start)
 
@@ -133,8 +133,8 @@ module _ (main : Bool) (Includes : Inclusion) (src : List ℕ) (s : State) (b : 
 -- ---- in the end tag that begins at a place (XML 3.1 [42]), where `open_around` elements are open around the replacement text
 pub data InEnd (open_around : ℕ) (src : List ℕ) (s : State) : Fault → Type 0 where
   lacks : (f : Fault) → Misses src (DueInEnd src s.at) f → InEnd open_around src s f
-  other_name : (n j start : ℕ) (name : Name) (tag : Tag) (before : Forest Item) (up : Open) (expected actual : Span) → s.stack ≡ inside start tag before up → open_around < depth_of s.stack
-      → IsEnd src s.at name n j → tag.name ≢ name → SpanIs src expected (spelled tag.name) → SpanIs src actual (spelled name)
+  other_name : (n j start : ℕ) (name : Name) (tag : Tag) (before : Forest Item) (up : Open) (expected actual : Span) → s.stack ≡ inside start tag before up
+      → open_around < depth_of s.stack → IsEnd src s.at name n j → tag.name ≢ name → SpanIs src expected (spelled tag.name) → SpanIs src actual (spelled name)
       → InEnd open_around src s (fault.UnexpectedCloseTag expected actual s.at)
   -- the replacement text has no element open
   none_open : (n j : ℕ) (name : Name) → depth_of s.stack ≡ open_around → IsEnd src s.at name n j → InEnd open_around src s (fault.UnexpectedEntityCloseTag s.at)
@@ -154,8 +154,8 @@ module _ (limit : ℕ) (es : List Entity) (k open_around : ℕ) (Includes : Incl
     -- behind the construct that begins here
     too_many_nodes : (c : ℕ) (t : State) → StepsOver k Includes src s b t c → HasTooManyNodes limit (tree_so_far t.stack t.done) → Stands fault.NodesLimitReached
     -- behind the parts of a run up to a reference to an entity: a text is counted before the reference behind it is opened
-    too_many_pieces : (stop p j c : ℕ) (front : Forest Item) (t : Replacement) → is_content k s.stack ≡ true → IsCharacterData src s.at stop → Parts (is_main k) Includes src false s.at stop p s.at b c front
-        → AreWellNamed (scope_of s.stack) front → p < stop → RefersTo es src p j t → HasTooManyNodes limit (tree_so_far s.stack (join s.done front)) → Stands fault.NodesLimitReached
+    too_many_pieces : (p j c : ℕ) (front : Forest Item) (t : Replacement) → is_content k s.stack ≡ true → RunTo es (is_main k) Includes src s.at p j b c front t
+        → AreWellNamed (scope_of s.stack) front → HasTooManyNodes limit (tree_so_far s.stack (join s.done front)) → Stands fault.NodesLimitReached
 
 -- ---- at a point of content, where k replacement texts are open, around which `open_around` elements are open: in this source
 pub data AtPoint (opens : ℕ → Inclusion) (es : List Entity) (limit k open_around : ℕ) (src : List ℕ) (s : State) (b : ℕ) : List ℕ → Fault → Type 0 where
@@ -171,8 +171,8 @@ pub data AtPoint (opens : ℕ → Inclusion) (es : List Entity) (limit k open_ar
 -- Positions and names of the fault count in the source. The flag says that a document type declaration stands before.
 module _ (opens : ℕ → Inclusion) (es : List Entity) (limit : ℕ) (text : List ℕ) (declared : Bool) (Front : ℕ → Forest Item → Type 0) where
   pub data FaultFrom : List ℕ → Fault → Type 0 where
-    misc_around : (p : ℕ) (items : Forest Item) (f : Fault) → Front p items ⊎ Behind (opens 0) text Front p items → FitsLimits limit root items → InMiscs limit text p items f
-        → FaultFrom text f
+    misc_around : (p : ℕ) (items : Forest Item) (f : Fault) → Front p items ⊎ Behind (opens 0) text Front p items → FitsLimits limit root items
+        → InMiscs limit text p items f → FaultFrom text f
     no_root : (items : Forest Item) → Front (length text) items → FitsLimits limit root items → FaultFrom text fault.NoRootNode
     unknown_ahead : (p : ℕ) (items : Forest Item) → Front p items → FitsLimits limit root items → p < length text → is_space (byte text p) ≡ false
         → byte text p ≢ code "<" → FaultFrom text (fault.UnknownToken p)

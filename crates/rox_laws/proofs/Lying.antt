@@ -87,12 +87,12 @@ module _ (opens : ℕ → Inclusion) (es : List Entity) (text : List ℕ) where
   place_of : (Root : ℕ → Forest Item → Type 0) (k open_around b : ℕ) (src : List ℕ) (s : State) → ContentPoint opens es text Root k open_around src b s → IsOf text es src
   place_of Root k open_around b src s (places.ContentPoint.begins p items is) = inl refl
   place_of Root k open_around b src s (places.ContentPoint.goes _ _ l c _ t u before takes inner deep) = place_of Root k open_around l src t before
-  place_of Root k open_around b src s (places.ContentPoint.enters i at l c r stop p j from u front t before inner run parts named below refers may) = inr (_, t, refers.3, refl)
+  place_of Root k open_around b src s (places.ContentPoint.enters i at l c r p j from u front t before inner (stop, run, parts, below, refers) named may) = inr (_, t, refers.3, refl)
 
   place_root : (Root : ℕ → Forest Item → Type 0) (k open_around b : ℕ) (src : List ℕ) (s : State) → ContentPoint opens es text Root k open_around src b s → (p : ℕ) × (items : Forest Item) × Root p items
   place_root Root k open_around b src s (places.ContentPoint.begins p items is) = (p, items, is)
   place_root Root k open_around b src s (places.ContentPoint.goes _ _ l c _ t u before takes inner deep) = place_root Root k open_around l src t before
-  place_root Root k open_around b src s (places.ContentPoint.enters i at l c r stop p j from u front t before inner run parts named below refers may) = place_root Root i at l from u before
+  place_root Root k open_around b src s (places.ContentPoint.enters i at l c r p j from u front t before inner to named may) = place_root Root i at l from u before
 
   part_of : (k : ℕ) (src : List ℕ) (start end b l : ℕ) (part : List ℕ) (i stop d : ℕ) → IsOf text es src → ValuePart opens es k src start end b l part i stop d → IsOf text es part
   part_of k src start end b l part i stop d of places.ValuePart.itself = of

@@ -183,7 +183,7 @@ module _ (src : List ℕ) (utf8 : IsUtf8 src) where
   run_placed es k O i b f there (rows.InRun.no_char _ lacks) = lacks_placed src i _ f tt lacks
   run_placed es k O i b f there (rows.InRun.end_mark e ends chars has) = let le = from_bound (λ c. c == 60) src i (omega arith) in rw ends le
   run_placed es k O i b f there (rows.InRun.in_reference e p _ run from before ill) = references_placed es p f ill
-  run_placed es k O i b f there (rows.InRun.too_many stop p j c front t run parts before refers spent) = reference_inside src p refers.0 j refers.1
+  run_placed es k O i b f there (rows.InRun.too_many p j c front t (stop, run, parts, before, refers) spent) = reference_inside src p refers.0 j refers.1
 
   pub value_placed : (es : List Entity) (k : ℕ) (O : Inclusion) (i stop b : ℕ) (f : Fault) → InValue es k O src i stop b f → IsPlaced src f
   value_placed es k O i stop b f (rows.InValue.in_reference p _ from before ill) = references_placed es p f ill
@@ -193,7 +193,7 @@ module _ (src : List ℕ) (utf8 : IsUtf8 src) where
   value_placed es k O i stop b f (rows.InValue.no_char q c inner from before is bad) = let there = char_within c src q is in omega arith
 
   declared_placed : (before : List NamespaceDecl) (a : Attribute) (f : Fault) → a.start ≤ length src → IllDeclared src before a f → IsPlaced src f
-  declared_placed before a f le (rows.IllDeclared.other_uri is_xmlns is_xml not_xml not_xmlns) = le
+  declared_placed before a f le (rows.IllDeclared.other_uri is_xml not_xml not_xmlns) = le
   declared_placed before a f le (rows.IllDeclared.uri_of_xml not_xml is) = le
   declared_placed before a f le (rows.IllDeclared.uri_of_xmlns is) = le
   declared_placed before a f le (rows.IllDeclared.again name may is holds) = le
@@ -250,8 +250,8 @@ module _ (src : List ℕ) (utf8 : IsUtf8 src) where
 
   end_placed : (open_around : ℕ) (s : State) (f : Fault) → InEnd open_around src s f → IsPlaced src f
   end_placed open_around s f (rows.InEnd.lacks _ (p, t, is, lacks)) = lacks_placed src p t f (end_fits s.at p t is) lacks
-  end_placed open_around s f (rows.InEnd.other_name n j start name tag before up expected actual stack deep is other holds holds') = let two = (end_bytes src s.at is.opens).0 in omega arith
-  end_placed open_around s f (rows.InEnd.none_open n j name same is) = let two = (end_bytes src s.at is.opens).0 in omega arith
+  end_placed open_around s f (rows.InEnd.other_name n j start name tag before up expected actual stack deep is other holds holds') = let two = (end_bytes src s.at (end_parts is).opens).0 in omega arith
+  end_placed open_around s f (rows.InEnd.none_open n j name same is) = let two = (end_bytes src s.at (end_parts is).opens).0 in omega arith
 
   begins_less : (i : ℕ) (inner : Bool) → TagBegins src i inner → i < length src
   begins_less i inner (of_root is) = within src i (λ z. omega arith)
@@ -267,4 +267,4 @@ module _ (src : List ℕ) (utf8 : IsUtf8 src) where
   stands_placed limit es k open_around O s b f (rows.Stands.unknown inner is other) = let before = within src s.at (λ z. omega arith) in omega arith
   stands_placed limit es k open_around O s b f (rows.Stands.unclosed deep past) = cut_placed (is_main k) s.stack
   stands_placed limit es k open_around O s b f (rows.Stands.too_many_nodes c t takes over) = tt
-  stands_placed limit es k open_around O s b f (rows.Stands.too_many_pieces stop p j c front t inner run parts well_named before refers over) = tt
+  stands_placed limit es k open_around O s b f (rows.Stands.too_many_pieces p j c front t inner to well_named over) = tt

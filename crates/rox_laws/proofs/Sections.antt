@@ -156,7 +156,7 @@ misc_markup src i j item (instruction _ n e _ is) =
     let bytes = instruction_bytes src i (pi_parts is).opens in other_mark src i bytes.1 (λ mark. omega (arith, bytes.2, mark))
 
 tag_markup : (src : List ℕ) (i j b c : ℕ) (is_empty : Bool) (t : Tag) → IsTag true no_entities src i j b c is_empty t → IsMarkup src i
-tag_markup src i j b c is_empty _ (start_tag n last name written begin is_name list end) = other_mark src i begin (name_byte src (i + 1) name n is_name).no_mark
+tag_markup src i j b c is_empty _ (start_tag n _ name written begin is_name list end) = other_mark src i begin (name_byte src (i + 1) name n is_name).no_mark
 
 end_markup : (src : List ℕ) (i : ℕ) (name : Name) (n j : ℕ) → IsEnd src i name n j → IsMarkup src i
 end_markup src i name n j is = let bytes = end_bytes src i (end_parts is).opens in other_mark src i bytes.1 (λ mark. omega (arith, bytes.2, mark))

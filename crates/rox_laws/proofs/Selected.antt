@@ -161,7 +161,7 @@ tag_stands : (src : List ℕ) (i j b c : ℕ) (is_empty : Bool) (t : Tag) → Is
 tag_stands src i j b c is_empty _ (start_tag n last name written begin is_name list end) =
     let all = all_stand src n last j b c written (ends_forward src last j is_empty end) list in
     let kept = some_stand src n j (λ a. not (is_namespace_decl a.name)) written all in
-    further src i n j j _ (omega (arith, qname_le src (i + 1) name n is_name)) (omega arith) kept
+    further src i n j j (filter (λ a. not (is_namespace_decl a.name)) written) (omega (arith, qname_le src (i + 1) name n is_name)) (omega arith) kept
 
 -- ---- all elements
 
