@@ -16,7 +16,7 @@ use Rattle.rox_theory.proofs.Basics.{run_end_le}
 use Rattle.rox_theory.proofs.CharLemmas.{run_within}
 use Rattle.rox_theory.proofs.NameLemmas.{qname_le, qname_sound}
 use Rattle.rox_build.specs.BuilderState.{HasName, open_name}
-use Rattle.rox_build.specs.SpelledNames.{before_colon, spelled_name, IsNamed}
+use Rattle.rox_build.specs.SpelledNames.{before_colon, spelled_name, SpellsName}
 use Rattle.rox_build.specs.declared.builder.OpenElement.{OpenElement}
 use Rattle.rox_build.specs.declared.tag.StartTag.{StartTag}
 use Rattle.rox_build.proofs.Items.{stands_within}
@@ -128,7 +128,7 @@ unprefixed_name o named bare = nothing (open_name o).prefix (not-false _ (sym na
 -- the name of a tag that is read stands where the tag says
 pub tag_is_named : (context : Values) (cut : Fault) (above : List NamespaceDecl) (count : ℕ) (known : List NamespaceDecl) (src : List ℕ) (i openings_left : ℕ) (r : TagRead) (j : ℕ) (t : StartTag)
     → IsUtf8 src → slice_index src i ≡ 60 → tag_at context cut above count known src i openings_left ≡ Ok (r, j) → name_view t.name ≡ r.tag.name → t.name_end ≡ r.tag.name_end → t.name_start ≡ i + 1
-    → IsNamed src t
+    → SpellsName src t
 tag_is_named context cut above count known src i openings_left r j t utf8 here read name name_end name_start =
     let named = tag_named context cut above count known src i openings_left r j read in
     let is = qname_sound src (i + 1) (r.tag.name, r.tag.name_end) named in

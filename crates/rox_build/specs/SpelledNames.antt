@@ -23,8 +23,8 @@ is_prefixed name = not (length name.prefix == 0)
 abbrev pub bytes_view : NameBytes → Name
 bytes_view n = record { prefix = n.prefix.now; local = n.local.now }
 
--- the name of a tag stands in this text where the tag says
-pub record IsNamed (text : List ℕ) (tag : StartTag) : Type 0 where
+-- the name of a tag is spelled where the tag says, in this text
+pub record SpellsName (text : List ℕ) (tag : StartTag) : Type 0 where
   pub ordered : tag.name_start ≤ tag.name_end
   pub within : tag.name_end ≤ length text
   pub spells : spelled_name (slice_range text tag.name_start tag.name_end) ≡ name_view tag.name

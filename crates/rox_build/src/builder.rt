@@ -178,7 +178,7 @@ impl<'input> Builder<'input> {
     ghost use Rattle.rox_values.specs.Values.{piece_view};
     ghost use Rattle.rox_build.specs.BuilderState.{Represents, AreSound, Adds, IsReady, KeepsOpen, opened_in, last_row, tables_of};
     ghost use Rattle.rox_build.specs.Outcomes.{AddsNode, AddsText, Flushes, OpensElement};
-    ghost use Rattle.rox_build.specs.SpelledNames.{IsNamed};
+    ghost use Rattle.rox_build.specs.SpelledNames.{SpellsName};
     ghost use Rattle.rox_build.specs.Putting.{Closes, EndsRun, IsInnermostScope, IsOfRoot, JoinsText, MayHaveMore, MayPutClose, MayPutLeaf, MayPutOpen, PutsClose, PutsLeaf, PutsOpen, PutsOwned, PutsText, Settles, WaitsForMore};
     ghost use Rattle.rox_build.specs.Readiness.{MayMakeRow, MayPutText};
     ghost use Rattle.rox_tables.specs.Rows.{HoldsTree};
@@ -597,7 +597,7 @@ impl<'input> Builder<'input> {
         start: usize,
         tag: &StartTag<'input>,
     ) -> Result<(), Failure>
-        requires { IsNamed text.now tag.now }
+        requires { SpellsName text.now tag.now }
         ensures { OpensElement self.old self.new result text.now start tag.now }
     {
         self.flush(alloc)?;

@@ -12,7 +12,7 @@ use Rattle.rox_build.specs.BuilderState.{IsNode, IsConsistent, IsOpened, ScansTo
 use Rattle.rox_build.specs.declared.builder.OpenElement.{OpenElement}
 use Rattle.rox_build.proofs.SameNames.{opened_named}
 use Rattle.rox_build.proofs.SpelledNames.{tag_is_named}
-use Rattle.rox_build.specs.SpelledNames.{IsNamed}
+use Rattle.rox_build.specs.SpelledNames.{SpellsName}
 use Rattle.rox_tables.specs.declared.rows.tables.NodeKind.TheVariants as kind
 use Rattle.rox_build.proofs.Declared.{some_declare}
 use Rattle.rox_build.proofs.Lifting.{refused_too}
@@ -177,4 +177,4 @@ open_element-requires c =
     let v = c.in_ok-tag.ensures.value d.0 d.1 in
     let cursor = c.args.cursor.now in
     let named = tag_is_named _ _ _ _ _ cursor.text.now cursor.pos _ _ _ c.in_ok-tag.tag cursor.utf8 c.requires.here v.1 v.2.name v.2.name_end c.in_ok-tag.ensures.starts in
-    subst (λ (text : List ℕ). IsNamed text c.in_ok-tag.tag) (sym (ap (λ x. x.now) c.any_start_tag.ensures.source)) named
+    subst (λ (text : List ℕ). SpellsName text c.in_ok-tag.tag) (sym (ap (λ x. x.now) c.any_start_tag.ensures.source)) named

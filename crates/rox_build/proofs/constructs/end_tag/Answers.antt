@@ -63,9 +63,9 @@ returns-in_default c = record {
   goes = tt;
 }
 
--- names whose bytes are compared
-alike : (r : Bool) (m n a b : Name) → r ≡ same_qname m n → m ≡ a → n ≡ b → same_qname a b ≡ r
-alike r m n a b is one other = sym (is ∙ ap (λ (x : Name). same_qname x n) one ∙ ap (same_qname a) other)
+-- two names, by their bytes
+compared : (r : Bool) (m n a b : Name) → r ≡ same_qname m n → m ≡ a → n ≡ b → same_qname a b ≡ r
+compared r m n a b is one other = sym (is ∙ ap (λ (x : Name). same_qname x n) one ∙ ap (same_qname a) other)
 
 pub open_name-opened-requires : goal.open_name-opened-requires
 open_name-opened-requires c =
@@ -92,7 +92,7 @@ returns-then-not-same_qname c = record {
       let split : b.opened.items ≡ outer ++ o ∷ [] = sym c.deref.ensures.value ∙ last_split os o k.3.0 (k.3.1 o) in
       let opened = c.open_name-opened.ensures in
       let closed = c.bytes_of-closed.ensures in
-      let other : same_qname (open_name o) t.name ≡ false = alike _ _ _ _ _ c.same_qname.ensures opened closed ∙ c.if-not-same_qname.true in
+      let other : same_qname (open_name o) t.name ≡ false = compared _ _ _ _ _ c.same_qname.ensures opened closed ∙ c.if-not-same_qname.true in
       let x = c.name_span-expected.ensures ∙ ap (λ (m : Name). name_span m o.name_start o.name_end) opened in
       let y = c.name_span-found.ensures ∙ ap (λ (m : Name). name_span m (pos + 2) t.name_end) closed in
       ap lifted (end_is (context_of limit es c.args.context) src s pos j t h.here c.in_ok-tag.ensures.value (let k = opened_deep end s.stack s.done b h.shows in let l = c.len.ensures in let m = c.if-len-context.false in lt-leb _ _ (omega arith))
@@ -114,7 +114,7 @@ returns c = record {
       let o = c.in-Some.open.now in
       let outer = take (length os - 1) os in
       let split : b.opened.items ≡ outer ++ o ∷ [] = sym c.deref.ensures.value ∙ last_split os o k.3.0 (k.3.1 o) in
-      let same : same_qname (open_name o) t.name ≡ true = alike _ _ _ _ _ c.same_qname.ensures c.open_name-opened.ensures c.bytes_of-closed.ensures ∙ c.if-not-same_qname.false in
+      let same : same_qname (open_name o) t.name ≡ true = compared _ _ _ _ _ c.same_qname.ensures c.open_name-opened.ensures c.bytes_of-closed.ensures ∙ c.if-not-same_qname.false in
       rw (end_is (context_of limit es c.args.context) src s pos d.pos t h.here c.in_ok-tag.ensures.value (let k = opened_deep end s.stack s.done b h.shows in let l = c.len.ensures in let m = c.if-len-context.false in lt-leb _ _ (omega arith)))
       (closed_stepped limit end s c.args.cursor.now d b c.close.new.self outer o pos t.name_end t.name h split same c.close.ensures.kept.tables c.close.ensures.kept.limit c.close.ensures.kept.openings_left c.in_ok-close.ensures.ok);
   goes =
