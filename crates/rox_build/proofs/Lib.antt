@@ -25,5 +25,6 @@ pub mod PlainTags
 pub mod RootTags
 pub mod SameBytes
 pub mod SameNames
+pub mod SpelledNames
 pub mod Rooted
 pub mod Documents

@@ -26,7 +26,7 @@ use Rattle.rox_tables.specs.Scopes.{PrefixesOnce}
 use Rattle.rox_tables.specs.TagScopes.{lists_in}
 use Rattle.rox_build.specs.ElementRow.{Tagged}
 use Rattle.rox_build.specs.PlainTag.{HoldSame}
-use Rattle.rox_build.specs.BuilderState.{names_in, IsRowWithin, AreSound, IsOpenWithin, HasName, IsNamespaceOf, IsOpened, IsConsistent, Grown, IsNode, IsOpening, Adds, ScansTo}
+use Rattle.rox_build.specs.BuilderState.{names_in, IsRowWithin, AreSound, IsOpenWithin, HasName, IsNamespaceOf, IsOpened, IsConsistent, Grown, IsNode, IsOpening, Adds, ScansTo, open_name}
 use Rattle.std.specs.Result.{OnOk}
 use Rattle.rox_tables.specs.declared.rows.tables.NodeKind.TheVariants as kind
 use Rattle.rox_tables.specs.declared.rows.tables.ElementTables.{ElementTables}
@@ -222,6 +222,6 @@ pub fine_more : (r : Result (Unit {0}) Failure) (t : ElementTables) (os : List O
     → ((x : OpenElement) → IsOpened src tag x → HasName x) → OnOk r (IsConsistent u.tables u.opened.items)
 fine_more (Ok x) t os u src tag f tables (o, is, by) within once space named =
     let w = subst (λ (s : ℕ). (s < length t.scopes.items) × PrefixesOnce (scope_at (lists_in t) s)) (sym by.scope) (within, once) in
-    let n : IsNamespaceOf t o.scope (name_view o.name) o.namespace = rw (by.scope, by.name, by.namespace) space in
+    let n : IsNamespaceOf t o.scope (open_name o) o.namespace = rw (by.scope, by.name, by.namespace) space in
     subst (λ (t : ElementTables). IsConsistent t u.opened.items) (sym tables) (fine_opened t os u.opened.items o f is (w.0, w.1, named o by, n))
 fine_more (Err e) t os u src tag f tables h within once space named = tt

@@ -30,8 +30,9 @@ use Rattle.rox_theory.proofs.NameLemmas.{qname_sound, qname_complete, qname_le}
 use Rattle.rox_scan.proofs.RunLemmas.{run_stops_ascii}
 use Rattle.rox_build.proofs.Items.{stands_within}
 use Rattle.rox_build.proofs.PlainTags.{end_tag_is}
-use Rattle.rox_build.specs.BuilderState.{name_count, HasName, IsConsistent, IsOpened, IsOpenWithin}
+use Rattle.rox_build.specs.BuilderState.{name_count, HasName, IsConsistent, IsOpened, IsOpenWithin, open_name}
 use Rattle.rox_build.specs.PlainTag.{MayOpenBelow}
+use Rattle.rox_build.specs.SpelledNames.{is_prefixed}
 use Rattle.rox_tables.specs.declared.rows.tables.ElementTables.{ElementTables}
 use Rattle.rox_build.specs.declared.builder.OpenElement.{OpenElement}
 use Rattle.rox_build.specs.declared.tag.StartTag.{StartTag}
@@ -167,7 +168,7 @@ part_same src dst i j n e b us ud cut is at same stop some ascii fails =
       longest = sym (run_same is_part_char src dst i j n us ud cut run same (stands_within dst (j + n) b stop some) (rw stop ascii) (rw stop fails));
     })
 
-colon_apart : is_part_char 58 ≡ false
+pub colon_apart : is_part_char 58 ≡ false
 unfolding is_part_char is_name_char is_name_start
 colon_apart = refl
 
@@ -176,8 +177,14 @@ unfolding is_part_char is_name_char is_name_start
 close_apart = refl
 
 -- behind a colon a character begins
-behind_colon : (src : List ℕ) (k : ℕ) → IsUtf8 src → slice_index src k ≡ 58 → IsCharBoundary src (k + 1)
+pub behind_colon : (src : List ℕ) (k : ℕ) → IsUtf8 src → slice_index src k ≡ 58 → IsCharBoundary src (k + 1)
 behind_colon src k utf8 colon = IsCharBoundary-after_ascii src k utf8 (stands_within src k 58 colon (omega arith)) (rw colon (omega arith))
+
+-- a name ends in the source
+pub name_inside : (src : List ℕ) (i : ℕ) (name : Name) (e : ℕ) → IsUtf8 src → IsCharBoundary src i → IsQName src i name e → e ≤ length src
+name_inside src i name e utf8 cut (unprefixed _ _ part last) = rw part.longest (run_boundary is_part_char src i utf8 cut).0
+name_inside src i name e utf8 cut (prefixed _ k _ front colon part last) = rw part.longest (run_boundary is_part_char src (k + 1) utf8 (behind_colon src k utf8 colon)).0
+name_inside src i name e utf8 cut (colon_first _ _ colon part last) = rw part.longest (run_boundary is_part_char src (i + 1) utf8 (behind_colon src i utf8 colon)).0
 
 slice_same : (src dst : List ℕ) (i j n a b k e m f : ℕ) → take n (drop i src) ≡ take n (drop j dst) → a + b ≤ n → k ≡ i + a → e ≡ k + b → m ≡ j + a → f ≡ m + b → slice_range dst m f ≡ slice_range src k e
 slice_same src dst i j n a b k e m f same le ka eb ma fb =
@@ -231,7 +238,7 @@ named_same src dst i j n name us ud cut read same stop =
 -- ---- of a start tag
 
 -- the name that is read of it
-tag_named : (context : Values) (cut : Fault) (above : List NamespaceDecl) (count : ℕ) (known : List NamespaceDecl) (src : List ℕ) (i openings_left : ℕ) (r : TagRead) (j : ℕ)
+pub tag_named : (context : Values) (cut : Fault) (above : List NamespaceDecl) (count : ℕ) (known : List NamespaceDecl) (src : List ℕ) (i openings_left : ℕ) (r : TagRead) (j : ℕ)
     → tag_at context cut above count known src i openings_left ≡ Ok (r, j) → qname_at src (i + 1) ≡ Ok (r.tag.name, r.tag.name_end)
 unfolding tag_at
 tag_named context cut above count known src i openings_left r j h =
@@ -252,12 +259,16 @@ opened_named context cut above count known src i openings_left r j t o utf8 here
     let n = name_count o in
     let start : o.name_start ≡ i + 1 = by.name_start ∙ name_start in
     let end : o.name_end ≡ r.tag.name_end = by.name_end ∙ name_end in
-    let view : name_view o.name ≡ r.tag.name = ap name_view by.name ∙ name in
+    let view : open_name o ≡ r.tag.name = by.name ∙ name in
     let at : r.tag.name_end ≡ i + 1 + n = omega arith in
     let named' : qname_at src (i + 1) ≡ Ok (r.tag.name, i + 1 + n) = named ∙ ap (λ (e : ℕ). Ok (r.tag.name, e)) at in
     let bytes : take n o.source.now ≡ take n (drop (i + 1) src) = ap (take n) (by.source ∙ ap (λ (k : ℕ). drop k src) name_start) in
+    let inside = name_inside src (i + 1) r.tag.name r.tag.name_end utf8 cut (qname_sound src (i + 1) (r.tag.name, r.tag.name_end) named) in
+    let long = ap length by.source ∙ length-drop t.name_start src in
     record {
       ordered = omega arith;
+      within = omega arith;
+      prefixed = by.prefixed ∙ ap is_prefixed (sym by.name);
       read = λ dst k other same stop. named_same src dst (i + 1) k n r.tag.name utf8 other cut named' (sym bytes ∙ same) stop ∙ ap (λ (m : Name). Ok (m, k + n)) (sym view);
     }
 
@@ -285,8 +296,8 @@ same_itself name =
 
 -- it has the bytes of the name of the element that it closes
 pub end_tag_close : (src : List ℕ) (i j : ℕ) (o : OpenElement) → HasName o → IsUtf8 src → take (name_count o) o.source.now ≡ take (name_count o) (drop (i + 2) src) → slice_index src (i + 2 + name_count o) ≡ 62 → j ≡ i + 2 + name_count o + 1
-    → end_tag_at src i ≡ Ok (record { name = name_view o.name; name_end = i + 2 + name_count o }, j)
+    → end_tag_at src i ≡ Ok (record { name = open_name o; name_end = i + 2 + name_count o }, j)
 end_tag_close src i j o named utf8 same stop end =
     let e = i + 2 + name_count o in
     let spaces : e ≡ run_end is_space src e = sym (run_stops_ascii is_space src e utf8 (stands_within src e 62 stop (omega arith)) (rw stop (omega arith)) (rw stop refl)) in
-    rw end (end_tag_is src i (name_view o.name) e e (named.read src (i + 2) utf8 same stop) spaces stop)
+    rw end (end_tag_is src i (open_name o) e e (named.read src (i + 2) utf8 same stop) spaces stop)

@@ -26,7 +26,6 @@ use Rattle.rox_reading.specs.Markup.{Instruction, EndTag, comment_at, instructio
 use Rattle.rox_grammar.specs.Content.{is_verbatim}
 use Rattle.rox_reading.specs.Values.{ReadText, raw_character_data_at}
 use Rattle.rox_reading.proofs.Forests.{pairs-join, attribute_count-join, pairs-merge, attribute_count-merge}
-use Rattle.rox_grammar.specs.Failures.{name_view}
 use Rattle.rox_values.specs.Values.{section_text}
 use Rattle.rox_build.specs.OpenRows.{top}
 use Rattle.rox_tables.specs.declared.rows.tables.ElementTables.{ElementTables}
@@ -36,7 +35,7 @@ use Rattle.rox_scan.proofs.MarkLemmas.{stands_fits, stands_reads}
 use Rattle.rox_scan.specs.declared.cursor.Cursor.{Cursor}
 use Rattle.rox_grammar.specs.declared.failure.Failure.{Failure}
 use Rattle.rox_build.proofs.Lifting.{refuses}
-use Rattle.rox_build.specs.BuilderState.{OpenRow, opened, opened_in, open_lines, line_in, names_in, IsRowWithin, Represents, Adds, IsInState, KeepsState, ScansTo}
+use Rattle.rox_build.specs.BuilderState.{OpenRow, opened, opened_in, open_lines, line_in, names_in, IsRowWithin, Represents, Adds, IsInState, KeepsState, ScansTo, open_name}
 use Rattle.rox_tables.specs.Rows.{node_rows}
 use Rattle.rox_build.specs.declared.builder.Builder.{Builder}
 
@@ -194,19 +193,19 @@ outer_not_nil t [] x h = cc h
 outer_not_nil t (y ∷ outer) x h = cc h
 
 pub closed_other : (t : ElementTables) (o : Open) (outer : List OpenElement) (x : OpenElement) (i n j : ℕ) (name : Name) (done : Forest Item) (openings_left : ℕ) → opened_in t (outer ++ x ∷ []) ≡ open_lines o
-    → same_qname (name_view x.name) name ≡ false
-    → closed_by i name n j done o openings_left ≡ Err (fault.UnexpectedCloseTag (name_span (name_view x.name) x.name_start x.name_end) (name_span name (i + 2) n) i)
+    → same_qname (open_name x) name ≡ false
+    → closed_by i name n j done o openings_left ≡ Err (fault.UnexpectedCloseTag (name_span (open_name x) x.name_start x.name_end) (name_span name (i + 2) n) i)
 unfolding closed_by
 closed_other t root outer x i n j name done openings_left h other = absurd (outer_not_nil t outer x h)
 closed_other t (inside start tag before up) outer x i n j name done openings_left h other =
     let v = top_view t start tag before up outer x h in
-    let a : name_view x.name ≡ tag.name = ap (λ (l : OpenRow). l.name) v in
-    let g : name_span (name_view x.name) x.name_start x.name_end ≡ name_span tag.name (start + 1) tag.name_end = ap (λ (l : OpenRow). name_span l.name l.name_start l.name_end) v in
+    let a : open_name x ≡ tag.name = ap (λ (l : OpenRow). l.name) v in
+    let g : name_span (open_name x) x.name_start x.name_end ≡ name_span tag.name (start + 1) tag.name_end = ap (λ (l : OpenRow). name_span l.name l.name_start l.name_end) v in
     let d : same_qname tag.name name ≡ false = subst (λ (m : Name). same_qname m name ≡ false) a other in
     rw d (ap (λ (sp : Span). Err (fault.UnexpectedCloseTag sp (name_span name (i + 2) n) i)) (sym g))
 
 pub closed_stepped : (limit end : ℕ) (s : State) (c d : Cursor) (b u : Builder) (outer : List OpenElement) (x : OpenElement) (i n : ℕ) (name : Name) → IsInState limit end s c b → b.opened.items ≡ outer ++ x ∷ []
-    → same_qname (name_view x.name) name ≡ true → u.tables ≡ b.tables → u.nodes_limit ≡ b.nodes_limit → u.openings_left ≡ b.openings_left
+    → same_qname (open_name x) name ≡ true → u.tables ≡ b.tables → u.nodes_limit ≡ b.nodes_limit → u.openings_left ≡ b.openings_left
     → ((total start : ℕ) (t : Tag) (before : Forest Item) (up : Open) (done : Forest Item) → Represents total (inside start t before up) done b → Represents total up (join before (Cons (Element start d.pos t) (merge done) Nil)) u)
     → (r : State) × (lifted (closed_by i name n d.pos s.done s.stack s.openings_left) ≡ Ok r) × IsInState limit end r d u
 unfolding closed_by
@@ -216,7 +215,7 @@ closed_stepped limit end s c d b u outer x i n name h os same tables limits open
     by_stack root e = absurd (outer_not_nil b.tables outer x (sym (ap (opened_in b.tables) os) ∙ h.shows.open_rows ∙ ap open_lines (sym e)))
     by_stack (inside start tag before up) e =
         let v = top_view b.tables start tag before up outer x (sym (ap (opened_in b.tables) os) ∙ h.shows.open_rows ∙ ap open_lines (sym e)) in
-        let a : name_view x.name ≡ tag.name = ap (λ (l : OpenRow). l.name) v in
+        let a : open_name x ≡ tag.name = ap (λ (l : OpenRow). l.name) v in
         let k : same_qname tag.name name ≡ true = subst (λ (m : Name). same_qname m name ≡ true) a same in
         let sh = close end start tag before up s.done (subst (λ (o : Open). Represents end o s.done b) (sym e) h.shows) in
         let done = join before (Cons (Element start d.pos tag) (merge s.done) Nil) in

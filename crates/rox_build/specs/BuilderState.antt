@@ -24,6 +24,7 @@ use Rattle.rox_values.specs.Refusals.{IsFailure, IsRefusal}
 use Rattle.rox_values.specs.Values.{next_view}
 use Rattle.rox_values.specs.declared.parse_error.ParseError.{ParseError}
 use Rattle.rox_build.specs.OpenRows.{top, so_far}
+use Rattle.rox_build.specs.SpelledNames.{before_colon, is_prefixed, spelled_name}
 use Rattle.rox_build.specs.PendingText.{waiting, IsItsSlice}
 use Rattle.rox_tables.specs.Scopes.{PrefixesOnce}
 use Rattle.rox_tables.specs.TagScopes.{HasBindings, lists_in}
@@ -43,6 +44,14 @@ use Rattle.rox_build.specs.declared.builder.Builder.{Builder}
 abbrev pub tables_of : Builder → Tables
 tables_of b = record { nodes = b.nodes; attributes = b.tables.attributes; namespaces = b.tables.namespaces.items; listed = b.tables.listed; scopes = b.tables.scopes }
 
+-- how many bytes the name of an open element has
+abbrev pub name_count : OpenElement → ℕ
+name_count o = o.name_end - o.name_start
+
+-- its name
+abbrev pub open_name : OpenElement → Name
+open_name o = spelled_name (take (name_count o) o.source.now)
+
 -- what is kept of an open element
 pub record OpenRow : Type 0 where
   pub row : ℕ
@@ -52,7 +61,7 @@ pub record OpenRow : Type 0 where
   pub scope : List NamespaceDecl
 
 abbrev pub opened : List (List NamespaceDecl) → OpenElement → OpenRow
-opened lists o = record { row = o.row; name = name_view o.name; name_start = o.name_start; name_end = o.name_end; scope = scope_at lists o.scope }
+opened lists o = record { row = o.row; name = open_name o; name_start = o.name_start; name_end = o.name_end; scope = scope_at lists o.scope }
 
 -- the open elements, outermost first
 abbrev pub open_lines : Open → List OpenRow
@@ -137,15 +146,18 @@ abbrev pub Adds : ℕ → Result (Unit {0}) Failure → Builder → Result State
 Adds end (Ok x) b read = (s : State) × (read ≡ Ok s) × Represents end s.stack s.done b
 Adds end (Err e) b read = Fails e read
 
--- how many bytes its name has
-abbrev pub name_count : OpenElement → ℕ
-name_count o = o.name_end - o.name_start
-
 -- its name is read wherever the bytes of the name stand before `>`
 pub record HasName (o : OpenElement) : Type 0 where
   pub ordered : o.name_start ≤ o.name_end
+  pub within : name_count o ≤ length o.source.now
+  pub prefixed : o.prefixed ≡ is_prefixed (open_name o)
   pub read : (src : List ℕ) (i : ℕ) → IsUtf8 src → take (name_count o) o.source.now ≡ take (name_count o) (drop i src) → slice_index src (i + name_count o) ≡ 62
-      → qname_at src i ≡ Ok (name_view o.name, i + name_count o)
+      → qname_at src i ≡ Ok (open_name o, i + name_count o)
+
+-- this is a prefix, or none, for which the name of an open element may be looked through
+pub record MayHavePrefix (o : OpenElement) (prefix : List ℕ) : Type 0 where
+  pub named : HasName o
+  pub apart : before_colon prefix ≡ length prefix
 
 -- this is the namespace of an element of this name in this scope
 pub record IsNamespaceOf (t : ElementTables) (scope : ℕ) (name : Name) (namespace : Option ℕ) : Type 0 where
@@ -154,11 +166,12 @@ pub record IsNamespaceOf (t : ElementTables) (scope : ℕ) (name : Name) (namesp
 
 -- the scope of an open element is in the table, and has each prefix once, and its name and its namespace are known
 abbrev pub IsOpenWithin : ElementTables → OpenElement → Type 0
-IsOpenWithin t o = (o.scope < length t.scopes.items) × PrefixesOnce (scope_at (lists_in t) o.scope) × HasName o × IsNamespaceOf t o.scope (name_view o.name) o.namespace
+IsOpenWithin t o = (o.scope < length t.scopes.items) × PrefixesOnce (scope_at (lists_in t) o.scope) × HasName o × IsNamespaceOf t o.scope (open_name o) o.namespace
 
 -- an element that a tag of this text opens
 pub record IsOpened (text : List ℕ) (tag : StartTag) (o : OpenElement) : Type 0 where
-  pub name : o.name ≡ tag.name
+  pub name : open_name o ≡ name_view tag.name
+  pub prefixed : o.prefixed ≡ is_prefixed (name_view tag.name)
   pub name_start : o.name_start ≡ tag.name_start
   pub name_end : o.name_end ≡ tag.name_end
   pub scope : o.scope ≡ tag.element.scope

@@ -1,4 +1,5 @@
 pub mod Requests
+pub mod SpelledNames
 pub mod OpenRows
 pub mod DataParts
 pub mod OpenedTexts

@@ -1,5 +1,5 @@
 -- What the parts of a plain tag need, and what is read of them.
-use Rattle.std.specs.Prelude.{◌≡◌, ℕ, ◌+◌, ◌<◌, ◌≤◌, ◌^◌, true, false, List, [], Option, Ok, IfSome, IfNone, length, map, slice_index}
+use Rattle.std.specs.Prelude.{◌≡◌, ℕ, ◌+◌, ◌<◌, ◌≤◌, ◌^◌, true, false, List, Option, Ok, IfSome, IfNone, length, map, slice_index}
 use Rattle.std.specs.Str.{IsCharBoundary}
 use Rattle.rox_grammar.specs.Chars.{is_part_char, is_space}
 use Rattle.rox_grammar.specs.Failures.{name_view}
@@ -19,7 +19,7 @@ use Rattle.rox_tables.specs.declared.namespaces.unresolved_attribute.UnresolvedA
 use Rattle.rox_tables.specs.declared.namespaces.seen_names.SeenNames.{SeenNames}
 use Rattle.rox_tables.specs.declared.rows.tables.AttributeNamespace.{AttributeNamespace}
 use Rattle.rox_tables.specs.declared.rows.tables.ElementTables.{ElementTables}
-use Rattle.rox_build.specs.BuilderState.{IsNamespaceOf}
+use Rattle.rox_build.specs.BuilderState.{IsNamespaceOf, MayHavePrefix, open_name}
 use Rattle.rox_build.specs.ElementRow.{scope_in_tables}
 use Rattle.rox_build.specs.PlainTag.{BeginsValue, EndsNear, HasPlainValue, HasScope, IsAttributeName, IsFirstPart, IsPlainAttribute, MayOpenAt, MayOpenBelow, MayPut, PutsPlain, SeesValue, few_in}
 use Rattle.rox_build.specs.declared.builder.OpenElement.{OpenElement}
@@ -106,9 +106,10 @@ pub record MayNameIn (t : ElementTables) (n i : ℕ) : Type 0 where
   pub small : i < 2 ^ 63
 
 -- the same below this open element
-pub record MayNameBelow (t : ElementTables) (o : OpenElement) (i : ℕ) : Type 0 where
+pub record MayNameBelow (t : ElementTables) (o : OpenElement) (name : Name) (i : ℕ) : Type 0 where
   pub scope : HasScope t o.scope
-  pub parent : IsNamespaceOf t o.scope (name_view o.name) o.namespace
+  pub parent : IsNamespaceOf t o.scope (open_name o) o.namespace
+  pub named : MayHavePrefix o name.prefix
   pub small : i < 2 ^ 63
 
 -- a tag of a name alone stands here, whose name ends at this place
@@ -122,7 +123,7 @@ pub record MayReadBareTag (src : List ℕ) (i j : ℕ) (t : ElementTables) (o : 
 pub record MayReadNearTag (src : List ℕ) (p : TagPlace) (t : ElementTables) (o : OpenElement) : Type 0 where
   pub here : MayOpenAt src p.start t o
   pub near : EndsNear src (p.start + 1) p.part
-  pub bare : o.name.prefix.now ≡ []
+  pub bare : o.prefixed ≡ false
 
 -- the same of a name whose first part ends there
 pub record MayReadPlainTag (src : List ℕ) (p : TagPlace) (t : ElementTables) (o : OpenElement) : Type 0 where

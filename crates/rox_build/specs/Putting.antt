@@ -19,6 +19,7 @@ use Rattle.rox_build.specs.ElementRow.{scope_in_tables}
 use Rattle.rox_build.specs.Outcomes.{AddsNode, AddsText, OpensElement}
 use Rattle.rox_build.specs.PendingText.{waiting}
 use Rattle.rox_build.specs.Readiness.{MayPutRow}
+use Rattle.rox_build.specs.SpelledNames.{SpellsName}
 use Rattle.rox_build.specs.declared.builder.Builder.{Builder}
 use Rattle.rox_build.specs.declared.builder.FirstTables.{FirstTables}
 use Rattle.rox_build.specs.declared.pending.Pending.TheVariants as pending
@@ -97,7 +98,7 @@ pub record PutsLeaf (old new : Builder) (i j : ℕ) (k : NodeKind) : Type 0 wher
 pub record MayPutOpen (b : Builder) (above : ℕ) (text : List ℕ) (i : ℕ) (tag : StartTag) : Type 0 where
   pub row : MayPutRow b above i
   pub depth : vec_len b.opened < vec_capacity b.opened
-  pub within : tag.name_start ≤ length text
+  pub named : SpellsName text tag
 
 -- the element is open
 pub record PutsOpen (old new : Builder) (text : List ℕ) (i : ℕ) (tag : StartTag) : Type 0 where

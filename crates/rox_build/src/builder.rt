@@ -17,7 +17,6 @@ use crate::pending::{JoinedText, Pending};
 use crate::tag::{Buffers, StartTag};
 use rox_grammar::failure::Failure;
 use rox_grammar::fault::Fault;
-use rox_grammar::name::QName;
 use rox_scan::runs::is_at;
 use rox_tables::namespaces::bindings::PrefixBindings;
 use rox_tables::namespaces::namespace_table::NamespaceTable;
@@ -36,14 +35,14 @@ use rox_values::text_value::TextValue;
 use std::alloc::{AllocError, Global};
 use std::collections::BTreeSet;
 
-/// An element that is open: its row, its scope, its name, which stands from `name_start` up to `name_end`, the namespace of that,
-/// and the source from its name on.
+/// An element that is open: its row, its scope, the namespace of its name, whether that has a prefix, where it stands, and the
+/// source from there on, whose first bytes spell it. There may be many, so they are kept small.
 #[derive(Clone, Copy)]
 pub struct OpenElement<'input> {
     pub row: u32,
     pub scope: u32,
     pub namespace: Option<u16>,
-    pub name: QName<'input>,
+    pub prefixed: bool,
     pub name_start: usize,
     pub name_end: usize,
     pub source: &'input [u8],
@@ -179,6 +178,7 @@ impl<'input> Builder<'input> {
     ghost use Rattle.rox_values.specs.Values.{piece_view};
     ghost use Rattle.rox_build.specs.BuilderState.{Represents, AreSound, Adds, IsReady, KeepsOpen, opened_in, last_row, tables_of};
     ghost use Rattle.rox_build.specs.Outcomes.{AddsNode, AddsText, Flushes, OpensElement};
+    ghost use Rattle.rox_build.specs.SpelledNames.{SpellsName};
     ghost use Rattle.rox_build.specs.Putting.{Closes, EndsRun, IsInnermostScope, IsOfRoot, JoinsText, MayHaveMore, MayPutClose, MayPutLeaf, MayPutOpen, PutsClose, PutsLeaf, PutsOpen, PutsOwned, PutsText, Settles, WaitsForMore};
     ghost use Rattle.rox_build.specs.Readiness.{MayMakeRow, MayPutText};
     ghost use Rattle.rox_tables.specs.Rows.{HoldsTree};
@@ -597,7 +597,7 @@ impl<'input> Builder<'input> {
         start: usize,
         tag: &StartTag<'input>,
     ) -> Result<(), Failure>
-        requires within { tag.now.name_start ≤ length text.now }
+        requires { SpellsName text.now tag.now }
         ensures { OpensElement self.old self.new result text.now start tag.now }
     {
         self.flush(alloc)?;
@@ -609,11 +609,11 @@ impl<'input> Builder<'input> {
         let source = from_place(text, tag.name_start);
         let element = OpenElement {
             row,
-            name: tag.name,
             name_start: tag.name_start,
             name_end: tag.name_end,
             scope: tag.element.scope,
             namespace: tag.element.namespace,
+            prefixed: !tag.name.prefix.is_empty(),
             source,
         };
         push_with_room(&mut self.opened, element, ROOM_TO_OPEN)?;
@@ -746,11 +746,11 @@ impl<'input> Builder<'input> {
         let source = from_place(text, tag.name_start);
         self.opened.push_reserved(OpenElement {
             row,
-            name: tag.name,
             name_start: tag.name_start,
             name_end: tag.name_end,
             scope: tag.element.scope,
             namespace: tag.element.namespace,
+            prefixed: !tag.name.prefix.is_empty(),
             source,
         });
     }

@@ -4,24 +4,24 @@
 ghost use Rattle.std.specs.Prelude.{◌≡◌, ◌<◌, ◌+◌, ℕ, List};
 ghost use Rattle.rox_grammar.specs.declared.fault.Word.TheVariants as word;
 ghost use Rattle.rox_reading.specs.Machine as machine;
-ghost use Rattle.rox_grammar.specs.Failures.{name_view};
 ghost use Rattle.rox_grammar.specs.Forest.{Forest};
 ghost use Rattle.rox_grammar.specs.Written.{Item};
 ghost use Rattle.rox_grammar.specs.NameParts.{local_span, same_qname};
 ghost use Rattle.rox_grammar.specs.State.{Open};
 ghost use Rattle.rox_reading.specs.Refusals.{lifted};
 ghost use Rattle.rox_build.specs.BuilderState.{Represents};
+ghost use Rattle.rox_build.specs.SpelledNames.{bytes_view};
 ghost use Rattle.rox_build.specs.Outcomes.{ParsesAs, ScansAs, ScansIn, ScansWithin};
 ghost use Rattle.rox_build.specs.Readiness.{MayRead, MayReadDeclared, MayReadOpening, MayReadTag};
 
 use crate::builder::Builder;
+use crate::open_names::{NameBytes, bytes_of, open_name};
 use crate::root_tag::any_start_tag;
+use crate::same_front::same_stretch;
 use crate::tag::TagContext;
 use rox_grammar::failure::Failure;
 use rox_grammar::fault::{Fault, Span, Word};
-use rox_grammar::name::QName;
 use rox_scan::cursor::Cursor;
-use rox_tables::compare::same_text;
 use rox_tables::rows::storage::StringStorage;
 use rox_tables::rows::tables::{NodeKind, PI};
 use rox_values::context::Context;
@@ -153,8 +153,8 @@ pub fn element<'input>(
 }
 
 /// Where the local part of a name stands that ends at `end`.
-fn local_span(name: QName<'_>, end: usize) -> Span
-    ensures { result ≡ local_span (name_view name.entry) end }
+fn local_span(name: NameBytes<'_>, end: usize) -> Span
+    ensures { result ≡ local_span (bytes_view name.entry) end }
 {
     Span {
         start: end.saturating_sub(name.local.len()),
@@ -164,8 +164,8 @@ fn local_span(name: QName<'_>, end: usize) -> Span
 
 /// Where a name is written, which ends at `end` in a tag whose name may begin at `start`: without the colon if there is no
 /// prefix.
-fn name_span(name: QName<'_>, start: usize, end: usize) -> Span
-    ensures { result ≡ machine.name_span (name_view name.entry) start end }
+fn name_span(name: NameBytes<'_>, start: usize, end: usize) -> Span
+    ensures { result ≡ machine.name_span (bytes_view name.entry) start end }
 {
     if name.prefix.is_empty() {
         local_span(name, end)
@@ -176,10 +176,10 @@ fn name_span(name: QName<'_>, start: usize, end: usize) -> Span
 
 /// Whether two names are written alike.
 #[inline(always)]
-pub fn same_qname(one: QName<'_>, other: QName<'_>) -> bool
-    ensures { result ≡ same_qname (name_view one.entry) (name_view other.entry) }
+fn same_qname(one: NameBytes<'_>, other: NameBytes<'_>) -> bool
+    ensures { result ≡ same_qname (bytes_view one.entry) (bytes_view other.entry) }
 {
-    same_text(one.prefix, other.prefix) && same_text(one.local, other.local)
+    same_stretch(one.prefix, other.prefix) && same_stretch(one.local, other.local)
 }
 
 /// An end tag, from `</`.
@@ -202,9 +202,11 @@ pub fn end_tag<'input>(
     let Some(open) = builder.opened.last() else {
         return Err(Failure::Fault(Fault::UnexpectedEntityCloseTag(start)));
     };
-    if !same_qname(open.name, tag.name) {
-        let expected = name_span(open.name, open.name_start, open.name_end);
-        let found = name_span(tag.name, start + 2, tag.name_end);
+    let opened = open_name(open);
+    let closed = bytes_of(tag.name);
+    if !same_qname(opened, closed) {
+        let expected = name_span(opened, open.name_start, open.name_end);
+        let found = name_span(closed, start + 2, tag.name_end);
         return Err(Failure::Fault(Fault::UnexpectedCloseTag(expected, found, start)));
     }
     builder.close(alloc, cursor.pos)?;

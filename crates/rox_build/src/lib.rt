@@ -5,6 +5,7 @@ pub mod builder;
 pub mod constructs;
 pub mod content;
 pub mod dtd;
+mod open_names;
 pub mod pending;
 pub mod plain_constructs;
 pub mod plain_tag;

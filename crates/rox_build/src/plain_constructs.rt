@@ -226,7 +226,7 @@ fn plain_element<'input>(
     if depth == 0 {
         return NOT_READ;
     }
-    if !builder.opened[depth - 1].name.prefix.is_empty() {
+    if builder.opened[depth - 1].prefixed {
         return other_element(text, start, builder, near);
     }
     let parent = &builder.opened[depth - 1];

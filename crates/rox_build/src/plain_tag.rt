@@ -16,6 +16,7 @@ ghost use Rattle.rox_build.specs.PlainParts.{EndsEmpty, EndsFirstPart, EndsNearP
 ghost use Rattle.rox_build.specs.PlainTag.{BeginsValue, HasPlainValue, HasQuoteBefore, HasScope, IsAttributeName, IsBareTag, IsBeforeLast, IsNearAttribute, IsPlainAttribute, IsPlainName, IsQuoteAt, IsQuoteBehindEquals, IsValueStart, MayPut, MayReadAttributes, PutsPlain, ReadsAttributes, ReadsTag, SeesValue};
 
 use crate::builder::OpenElement;
+use crate::open_names::has_prefix;
 use crate::spaced_value::{spaced_value, spaced_value_ends};
 use crate::tag::{MOST_ATTRIBUTES, StartTag, byte_count};
 use rox_grammar::name::QName;
@@ -815,7 +816,7 @@ pub fn bare_start_tag<'input>(
     ensures { IfSome result (λ t. IsBareTag elements.entry.now parent.entry.now text.entry.now start
         openings t) }
 {
-    if !parent.name.prefix.is_empty() {
+    if parent.prefixed {
         return None;
     }
     let name_at = after_byte(text, start, b'<');
@@ -871,14 +872,14 @@ fn tag_namespace(
     at: usize,
     parent: &OpenElement<'_>,
 ) -> Option<Option<u16>>
-    requires { MayNameBelow elements.now parent.now at }
+    requires { MayNameBelow elements.now parent.now (name_view name) at }
     ensures { FindsElementNamespace elements.entry.now parent.entry.now.scope
         (name_view name.entry) result }
 {
-    if name.prefix.is_empty() && parent.name.prefix.is_empty() {
+    if name.prefix.is_empty() && !parent.prefixed {
         return Some(parent.namespace);
     }
-    if parent.namespace.is_some() && same_text(name.prefix, parent.name.prefix) {
+    if parent.namespace.is_some() && has_prefix(parent, name.prefix) {
         return Some(parent.namespace);
     }
     other_namespace(elements, name, at, parent.scope)

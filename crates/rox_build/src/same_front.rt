@@ -3,6 +3,7 @@
 ghost use Rattle.std.specs.Prelude.{◌≡◌, ◌<◌, ℕ, slice_index, bytes_eq};
 ghost use Rattle.rox_build.specs.SameFronts.{HaveSixteen, IsSameFront};
 
+use rox_tables::compare::{LONG, Pair, same_short};
 use std::simd::prelude::*;
 
 /// How many of the first sixteen bytes come before one that differs, or more where none does.
@@ -37,4 +38,18 @@ pub fn same_front(one: &[u8], other: &[u8], count: usize) -> bool
         return false;
     }
     same_long(&one[..count], &other[..count])
+}
+
+/// Whether two stretches of bytes are the same: `one == other`, but in line for short ones, which names are.
+#[inline(always)]
+pub fn same_stretch(one: &[u8], other: &[u8]) -> bool
+    ensures { result ≡ bytes_eq one.now other.now }
+{
+    if one.len() != other.len() {
+        return false;
+    }
+    if one.len() >= LONG {
+        return same_long(one, other);
+    }
+    same_short(Pair { one, other })
 }

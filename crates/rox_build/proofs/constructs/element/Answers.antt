@@ -1,5 +1,5 @@
 use Rattle.std.specs.Prelude.{OnOk}
-use Rattle.std.proofs.Common.{◌≡◌, ◌++◌, ◌∷◌, [], length, arith, ℕ, true, false, Bool, refl, sym, ap, subst, ◌∙◌, List}
+use Rattle.std.proofs.Common.{◌≡◌, ◌++◌, ◌∷◌, [], ℕ, true, false, Bool, refl, sym, ap, subst, ◌∙◌, List}
 use Rattle.std.proofs.lemmas.Result.{err_from_is_err_and}
 use Rattle.rox_grammar.specs.Written.{Element, NamespaceDecl}
 use Rattle.rox_grammar.specs.State.{scope_of}
@@ -10,8 +10,9 @@ use Rattle.rox_values.specs.Contexts.{context_of}
 use Rattle.rox_build.specs.ElementRow.{Tagged}
 use Rattle.rox_build.specs.BuilderState.{IsNode, IsConsistent, IsOpened, ScansTo}
 use Rattle.rox_build.specs.declared.builder.OpenElement.{OpenElement}
-use Rattle.rox_build.proofs.Items.{stands_within}
 use Rattle.rox_build.proofs.SameNames.{opened_named}
+use Rattle.rox_build.proofs.SpelledNames.{tag_is_named}
+use Rattle.rox_build.specs.SpelledNames.{SpellsName}
 use Rattle.rox_tables.specs.declared.rows.tables.NodeKind.TheVariants as kind
 use Rattle.rox_build.proofs.Declared.{some_declare}
 use Rattle.rox_build.proofs.Lifting.{refused_too}
@@ -172,8 +173,8 @@ returns-in_err-open_element c = record {
 
 pub open_element-requires : goal.open_element-requires
 open_element-requires c =
-    let src = c.args.cursor.now.text.now in
-    let within = stands_within src c.args.cursor.now.pos 60 c.requires.here (omega arith) in
-    let starts = c.in_ok-tag.ensures.starts in
-    let same = ap (λ x. length x.now) c.any_start_tag.ensures.source in
-    omega arith
+    let d = some_declare c.args.context.entities.now in
+    let v = c.in_ok-tag.ensures.value d.0 d.1 in
+    let cursor = c.args.cursor.now in
+    let named = tag_is_named _ _ _ _ _ cursor.text.now cursor.pos _ _ _ c.in_ok-tag.tag cursor.utf8 c.requires.here v.1 v.2.name v.2.name_end c.in_ok-tag.ensures.starts in
+    subst (λ (text : List ℕ). SpellsName text c.in_ok-tag.tag) (sym (ap (λ x. x.now) c.any_start_tag.ensures.source)) named

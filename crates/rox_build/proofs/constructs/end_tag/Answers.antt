@@ -1,20 +1,23 @@
-use Rattle.std.proofs.Common.{◌≡◌, ◌++◌, ◌∷◌, [], ◌-◌, refl, sym, subst, ap, ◌∙◌, List, arith, length, take, Err}
+use Rattle.std.proofs.Common.{◌≡◌, ◌+◌, Bool, true, false, ◌++◌, ◌∷◌, [], ◌-◌, refl, sym, subst, ap, ◌∙◌, List, arith, length, take, Err}
 use Rattle.std.proofs.lemmas.Bool.{lt-leb, le-leb}
 use Rattle.std.proofs.lemmas.Result.{err_from_is_err_and}
 use Rattle.std.proofs.Common.{slice_get, None, inl, inr}
 use Rattle.std.proofs.lemmas.Option.{slice_get_cases}
 use Rattle.rox_scan.specs.Views.{end_tag_view}
-use Rattle.rox_grammar.specs.Failures.{name_view}
+use Rattle.rox_grammar.specs.NameParts.{same_qname}
+use Rattle.rox_grammar.specs.Written.{Name}
 use Rattle.rox_reading.specs.Machine.{name_span}
 use Rattle.rox_values.specs.Contexts.{context_of}
 use Rattle.rox_reading.specs.Refusals.{here, lifted}
-use Rattle.rox_build.specs.BuilderState.{IsConsistent, IsOpenWithin, opened_in}
+use Rattle.rox_build.specs.BuilderState.{IsConsistent, IsOpenWithin, opened_in, open_name}
 use Rattle.rox_build.specs.declared.builder.OpenElement.{OpenElement}
 use Rattle.rox_grammar.specs.declared.fault.Span.{Span}
 use Rattle.rox_grammar.specs.declared.fault.Fault.TheVariants as fault
 use Rattle.rox_tables.proofs.Stable.{all_take}
 use Rattle.rox_tables.specs.declared.rows.tables.ElementTables.{ElementTables}
+use Rattle.rox_build.proofs.SameNames.{all_last}
 use Rattle.rox_build.proofs.Showing.{last_split}
+use Rattle.std.specs.List.{AllByRecursion}
 use Rattle.rox_build.proofs.Stepping.{end_is, end_fails, end_below, opened_deep, closed_at_root, closed_other, closed_stepped}
 use Rattle.rox_build.proofs.constructs.end_tag.Goals as goal
 
@@ -60,6 +63,20 @@ returns-in_default c = record {
   goes = tt;
 }
 
+-- two names, by their bytes
+compared : (r : Bool) (m n a b : Name) → r ≡ same_qname m n → m ≡ a → n ≡ b → same_qname a b ≡ r
+compared r m n a b is one other = sym (is ∙ ap (λ (x : Name). same_qname x n) one ∙ ap (same_qname a) other)
+
+pub open_name-opened-requires : goal.open_name-opened-requires
+open_name-opened-requires c =
+    let b = c.args.builder.now in
+    let k = c.in-Some.ensures.item in
+    let os = c.deref.result.now in
+    let o = c.in-Some.open.now in
+    let outer = take (length os - 1) os in
+    let split : b.opened.items ≡ outer ++ o ∷ [] = sym c.deref.ensures.value ∙ last_split os o k.3.0 (k.3.1 o) in
+    (all_last (IsOpenWithin b.tables) outer o (subst (AllByRecursion (IsOpenWithin b.tables)) split c.requires.fine.elements)).2
+
 pub returns-then-not-same_qname : goal.returns-then-not-same_qname
 returns-then-not-same_qname c = record {
   value = λ limit end es s h.
@@ -73,12 +90,14 @@ returns-then-not-same_qname c = record {
       let o = c.in-Some.open.now in
       let outer = take (length os - 1) os in
       let split : b.opened.items ≡ outer ++ o ∷ [] = sym c.deref.ensures.value ∙ last_split os o k.3.0 (k.3.1 o) in
-      let other = sym c.same_qname.ensures ∙ c.if-not-same_qname.true in
-      let x = c.name_span-expected.ensures in
-      let y = c.name_span-found.ensures in
+      let opened = c.open_name-opened.ensures in
+      let closed = c.bytes_of-closed.ensures in
+      let other : same_qname (open_name o) t.name ≡ false = compared _ _ _ _ _ c.same_qname.ensures opened closed ∙ c.if-not-same_qname.true in
+      let x = c.name_span-expected.ensures ∙ ap (λ (m : Name). name_span m o.name_start o.name_end) opened in
+      let y = c.name_span-found.ensures ∙ ap (λ (m : Name). name_span m (pos + 2) t.name_end) closed in
       ap lifted (end_is (context_of limit es c.args.context) src s pos j t h.here c.in_ok-tag.ensures.value (let k = opened_deep end s.stack s.done b h.shows in let l = c.len.ensures in let m = c.if-len-context.false in lt-leb _ _ (omega arith))
       ∙ closed_other b.tables s.stack outer o pos t.name_end j t.name s.done s.openings_left (sym (ap (opened_in b.tables) split) ∙ h.shows.open_rows) other)
-      ∙ sym (ap (λ (sp : Span). Err (here (fault.UnexpectedCloseTag sp c.name_span-found.result pos))) x ∙ ap (λ (sp : Span). Err (here (fault.UnexpectedCloseTag (name_span (name_view o.name) o.name_start o.name_end) sp pos))) y);
+      ∙ sym (ap (λ (sp : Span). Err (here (fault.UnexpectedCloseTag sp c.name_span-found.result pos))) x ∙ ap (λ (sp : Span). Err (here (fault.UnexpectedCloseTag (name_span (open_name o) o.name_start o.name_end) sp pos))) y);
   goes = tt;
 }
 
@@ -95,7 +114,7 @@ returns c = record {
       let o = c.in-Some.open.now in
       let outer = take (length os - 1) os in
       let split : b.opened.items ≡ outer ++ o ∷ [] = sym c.deref.ensures.value ∙ last_split os o k.3.0 (k.3.1 o) in
-      let same = sym c.same_qname.ensures ∙ c.if-not-same_qname.false in
+      let same : same_qname (open_name o) t.name ≡ true = compared _ _ _ _ _ c.same_qname.ensures c.open_name-opened.ensures c.bytes_of-closed.ensures ∙ c.if-not-same_qname.false in
       rw (end_is (context_of limit es c.args.context) src s pos d.pos t h.here c.in_ok-tag.ensures.value (let k = opened_deep end s.stack s.done b h.shows in let l = c.len.ensures in let m = c.if-len-context.false in lt-leb _ _ (omega arith)))
       (closed_stepped limit end s c.args.cursor.now d b c.close.new.self outer o pos t.name_end t.name h split same c.close.ensures.kept.tables c.close.ensures.kept.limit c.close.ensures.kept.openings_left c.in_ok-close.ensures.ok);
   goes =

@@ -11,8 +11,8 @@ use Rattle.rox_build.proofs.Showing.{innermost_row}
 use Rattle.rox_build.proofs.Stepping.{top_scope}
 use Rattle.rox_grammar.specs.declared.fault.Fault.TheVariants as fault
 use Rattle.rox_reading.specs.Tags.{Values}
-use Rattle.rox_build.proofs.Items.{stands_within}
 use Rattle.rox_build.proofs.SameNames.{opened_named}
+use Rattle.rox_build.proofs.SpelledNames.{tag_is_named}
 use Rattle.rox_build.proofs.Opening.{is_opening, fine_by, fine_more, namespace_by, tag_is, open_stepped}
 use Rattle.rox_build.proofs.plain_constructs.bare_element.Goals as goal
 
@@ -74,10 +74,9 @@ put_open-requires c = record {
         start = omega (arith, c.requires.room.short, c.args.cursor.now.cut.0);
       };
   depth = c.has_room_to_open.ensures c.if-not-has_room_to_open.false;
-  within =
-      let src = c.args.cursor.now.text.now in
+  named =
       let x = c.in-Some-bare_start_tag.ensures.read in
-      let within = stands_within src c.args.cursor.now.pos 60 c.requires.here (omega arith) in
-      let starts = x.starts in
-      omega arith;
+      let t = c.in-Some-bare_start_tag.bare.tag in
+      let context : Values = record { main = true; entities = []; opener = λ text i openings_left. Ok ([], openings_left) } in
+      tag_is_named context fault.NoRootNode _ _ _ c.args.cursor.now.text.now c.args.cursor.now.pos t.openings_left _ _ t c.args.cursor.now.utf8 c.requires.here (x.read context fault.NoRootNode) x.tagged.name x.tagged.name_end x.starts;
 }

@@ -15,6 +15,7 @@ use Rattle.rox_reading.specs.Tags.{Values}
 use Rattle.rox_build.proofs.Items.{stands_within}
 use Rattle.rox_build.proofs.SameNames.{below_last, opened_named}
 use Rattle.rox_build.proofs.Growing.{grown_shows}
+use Rattle.rox_build.proofs.SpelledNames.{tag_is_named}
 use Rattle.rox_build.proofs.Opening.{cut_back, grown_by, is_node, is_opening, fine_by, fine_kept, fine_more, fine_same, namespace_by, tag_is, empty_stepped, open_stepped}
 use Rattle.std.proofs.lemmas.Str.{IsCharBoundary-after_ascii}
 use Rattle.rox_build.proofs.PlainTags.{near_cut, near_ends}
@@ -72,12 +73,11 @@ put_open-requires c = record {
         start = omega (arith, c.requires.room.short, c.requires.start.0);
       };
   depth = c.has_room_to_open.ensures c.if-not-has_room_to_open.false;
-  within =
-      let src = c.args.text.now in
+  named =
       let x = c.in-Some.ensures.read in
-      let within = stands_within src c.args.start 60 c.requires.here (omega arith) in
-      let starts = x.starts in
-      omega arith;
+      let t = c.in-Some.read.tag in
+      let context : Values = record { main = true; entities = []; opener = λ text i openings_left. Ok ([], openings_left) } in
+      tag_is_named context fault.NoRootNode _ _ _ c.args.text.now c.args.start t.openings_left _ _ t c.utf8.text c.requires.here (x.read context fault.NoRootNode) x.tagged.name x.tagged.name_end x.starts;
 }
 
 pub put_leaf-requires : goal.put_leaf-requires
@@ -194,8 +194,8 @@ returns-in_default c =
       fine = fine_same old left c.args.builder.now.opened.items same c.requires.room.fine;
     }
 
-pub returns-then-not-is_empty : goal.returns-then-not-is_empty
-returns-then-not-is_empty c = record {
+pub returns-then-index : goal.returns-then-index
+returns-then-index c = record {
   value = λ less context end s here behind start stop h.
       let shows = h.shows in
       c.other_element.ensures.value less context end s here behind start stop (record {

@@ -4,11 +4,10 @@ use Rattle.std.proofs.lemmas.Bool.{lt-leb, eqb-true}
 use Rattle.std.proofs.lemmas.List.{take_rest}
 use Rattle.rox_reading.specs.Markup.{end_tag_at}
 use Rattle.rox_reading.specs.State.{depth_of}
-use Rattle.rox_grammar.specs.Failures.{name_view}
 use Rattle.rox_tables.proofs.Stable.{all_take}
 use Rattle.rox_tables.specs.declared.rows.tables.ElementTables.{ElementTables}
 use Rattle.rox_build.specs.declared.builder.OpenElement.{OpenElement}
-use Rattle.rox_build.specs.BuilderState.{IsConsistent, IsOpenWithin, HasName, name_count}
+use Rattle.rox_build.specs.BuilderState.{IsConsistent, IsOpenWithin, HasName, name_count, open_name}
 use Rattle.rox_build.proofs.Showing.{last_split}
 use Rattle.rox_build.proofs.Stepping.{end_is, opened_deep, closed_stepped}
 use Rattle.rox_build.proofs.SameNames.{all_last, same_itself, end_tag_close}
@@ -33,11 +32,11 @@ returns c = record {
       let j = c.after_byte-end.result in
       let same : take (name_count o) o.source.now ≡ take (name_count o) (drop (pos + 2) src) =
       rw (← start) (c.same_front.ensures.same c.if-not-same_front.false ∙ ap (take (name_count o)) (take_rest c.as_bytes.result.now c.after_byte-name.result ∙ ap (drop c.after_byte-name.result) c.as_bytes.ensures.value)) in
-      let tag : end_tag_at src pos ≡ Ok (record { name = name_view o.name; name_end = pos + 2 + name_count o }, j) =
+      let tag : end_tag_at src pos ≡ Ok (record { name = open_name o; name_end = pos + 2 + name_count o }, j) =
       end_tag_close src pos j o named cursor.utf8 same (rw (← start) closes) (rw (← start) c.after_byte-end.ensures.place) in
       let within : leb (depth_of s.stack) context.open_around ≡ false = (let d = opened_deep end s.stack s.done b h.shows in let l = c.len.ensures in let m = c.if-len-open_around.false in lt-leb _ _ (omega arith)) in
       rw (end_is context src s pos j _ h.here tag within)
-      (closed_stepped context.limit end s cursor _ b c.put_close.new.self outer o pos (pos + 2 + name_count o) (name_view o.name) h split (same_itself (name_view o.name)) c.put_close.ensures.closes.kept.tables c.put_close.ensures.closes.kept.limit c.put_close.ensures.closes.kept.openings_left c.put_close.ensures.closes.ok);
+      (closed_stepped context.limit end s cursor _ b c.put_close.new.self outer o pos (pos + 2 + name_count o) (open_name o) h split (same_itself (open_name o)) c.put_close.ensures.closes.kept.tables c.put_close.ensures.closes.kept.limit c.put_close.ensures.closes.kept.openings_left c.put_close.ensures.closes.ok);
   other = λ no. absurd (cc no);
   ready = λ _ n h. c.put_close.ensures.ready n (ready_fewer (n + 1) n c.args.builder.now (omega arith) h);
   goes =

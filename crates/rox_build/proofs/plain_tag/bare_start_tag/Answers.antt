@@ -1,6 +1,5 @@
-use Rattle.std.proofs.Common.{◌≡◌, ◌≤◌, ◌+◌, ◌==◌, ◌∷◌, ℕ, List, [], true, false, Some, length, map, refl, sym, ◌∙◌, arith, Ok, slice_index}
+use Rattle.std.proofs.Common.{◌≡◌, ◌≤◌, ◌+◌, [], false, Some, length, map, refl, sym, arith, Ok, slice_index}
 use Rattle.std.specs.Option.{option_map}
-use Rattle.std.proofs.lemmas.Bool.{eqb-true}
 use Rattle.std.proofs.lemmas.List.{append-nil}
 use Rattle.rox_grammar.specs.Document.{most_attributes}
 use Rattle.rox_grammar.specs.Tree.{listed, element_namespace}
@@ -12,16 +11,14 @@ use Rattle.rox_tables.specs.Rows.{namespace_view, namespace_at, attribute_rows}
 use Rattle.rox_tables.specs.Scopes.{places_in}
 use Rattle.rox_tables.specs.declared.rows.tables.ElementData.{ElementData}
 use Rattle.rox_tables.proofs.Listing.{listed-none}
+use Rattle.rox_build.specs.BuilderState.{open_name}
 use Rattle.rox_build.specs.ElementRow.{scope_in_tables}
 use Rattle.rox_build.specs.PlainTag.{ArePlainAttributes, holding}
 use Rattle.rox_build.proofs.Items.{stands_within}
 use Rattle.rox_build.proofs.PlainTags.{few_found, plain_element, plain_count, plain_starts, opens_there, no_space}
+use Rattle.rox_build.proofs.SpelledNames.{unprefixed_name}
 use Rattle.rox_build.proofs.Starting.{tag_made, tested_known, tested_passes}
 use Rattle.rox_build.proofs.plain_tag.bare_start_tag.Goals as goal
-
-nothing : (xs : List ℕ) → (length xs == 0) ≡ true → xs ≡ []
-nothing [] h = refl
-nothing (x ∷ xs) h = absurd (omega (arith, eqb-true _ _ h))
 
 pub returns : goal.returns
 returns c =
@@ -55,7 +52,7 @@ returns c =
     tested_passes (listed above []) count i name x.written (rw none (tested_known above count (i + 1) name x.written fits (x.tested above finds) refl)) in
     let element : ElementData = record { local = c.near_name-local.result; attributes_from = c.len-count.result; attributes_until = c.len-count.result; scope = o.scope; namespace = o.namespace } in
     let within = c.requires.below.parent in
-    let bare : o.name.prefix.now ≡ [] = nothing o.name.prefix.now (sym c.is_empty.ensures ∙ c.if-not-is_empty.false) in
+    let bare : (open_name o).prefix ≡ [] = unprefixed_name o within.2 c.if-parent.false in
     let space : option_map (λ i. (namespace_at namespaces i).uri) o.namespace ≡ element_namespace above name = rw bare at within.3.is in
     record {
       read = record {

@@ -10,9 +10,11 @@ use Rattle.rox_tables.specs.Rows.{namespace_view, namespace_at, attribute_rows}
 use Rattle.rox_tables.specs.declared.rows.tables.ElementTables.{ElementTables}
 use Rattle.rox_tables.specs.declared.rows.tables.ElementData.{ElementData}
 use Rattle.rox_tables.proofs.Listing.{listed-none}
+use Rattle.rox_build.specs.BuilderState.{open_name}
 use Rattle.rox_build.specs.ElementRow.{scope_in_tables}
 use Rattle.rox_build.specs.PlainTag.{ArePlainAttributes, few_in, holding}
 use Rattle.rox_build.proofs.PlainTags.{near_cut, scope_found, plain_element, plain_count}
+use Rattle.rox_build.proofs.SpelledNames.{unprefixed_name}
 use Rattle.rox_build.proofs.Starting.{tag_made, tested_known, tested_passes}
 use Rattle.rox_build.proofs.plain_tag.near_start_tag.Goals as goal
 
@@ -51,8 +53,8 @@ returns c =
     let until = c.len-last.ensures in
     let most : length (attribute_rows new.attributes) ≤ most_attributes = (let k = c.if-last-gt-MOST_ATTRIBUTES.false in omega arith) in
     let fits : count + length x.written ≤ most_attributes = omega arith in
-    let bare : o.name.prefix.now ≡ [] = c.requires.bare in
     let within = c.requires.here.below.parent in
+    let bare : (open_name o).prefix ≡ [] = unprefixed_name o within.2 c.requires.bare in
     let space : option_map (λ i. (namespace_at namespaces i).uri) o.namespace ≡ element_namespace above name = rw bare at within.3.is in
     let is = rw start at c.near_name-local.ensures in
     let none = listed-none above in

@@ -15,6 +15,7 @@ use Rattle.rox_tables.proofs.Listing.{listed-none}
 use Rattle.rox_build.specs.ElementRow.{scope_in_tables}
 use Rattle.rox_build.specs.PlainTag.{ArePlainAttributes, few_in, holding}
 use Rattle.rox_build.proofs.PlainTags.{scope_found, plain_element, plain_count}
+use Rattle.rox_build.proofs.SpelledNames.{name_apart}
 use Rattle.rox_build.proofs.Starting.{tag_made, tested_known, tested_passes}
 use Rattle.rox_build.proofs.plain_tag.plain_start_tag.Goals as goal
 
@@ -22,6 +23,7 @@ pub tag_namespace-requires : goal.tag_namespace-requires
 tag_namespace-requires c = record {
   scope = record { places = c.requires.here.below.places; scopes = c.requires.here.below.scopes; within = c.requires.here.below.parent.0; once = c.requires.here.below.parent.1 };
   parent = c.requires.here.below.parent.3;
+  named = record { named = c.requires.here.below.parent.2; apart = name_apart c.args.text.now c.after_byte-name_start.result (name_view c.in_ok-name.name.name) c.in_ok-name.name.end c.utf8.text c.after_byte-name_start.ensures.cut c.in_ok-name.ensures.value };
   small = first_of (search rules, grind (arith, common_steps));
 }
 

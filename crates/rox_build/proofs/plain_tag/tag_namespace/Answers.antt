@@ -1,19 +1,19 @@
 use Rattle.std.proofs.Common.{◌≡◌, sym, ◌∙◌, map, rules, arith}
 use Rattle.std.proofs.lemmas.Grind.{common_steps}
-use Rattle.std.proofs.lemmas.Slice.Eq.{bytes_eq-Decides}
 use Rattle.rox_grammar.specs.Failures.{name_view}
 use Rattle.rox_tables.specs.Rows.{namespace_view}
+use Rattle.rox_build.specs.BuilderState.{open_name}
 use Rattle.rox_build.specs.ElementRow.{scope_in_tables}
 use Rattle.rox_build.proofs.PlainTags.{named_by}
 use Rattle.rox_build.proofs.plain_tag.tag_namespace.Goals as goal
 
-pub returns-then-same_text : goal.returns-then-same_text
-returns-then-same_text c = record {
+pub returns-then-has_prefix : goal.returns-then-has_prefix
+returns-then-has_prefix c = record {
   is = first_of (search rules, grind (arith, common_steps));
   known =
       let t = c.args.elements.now in
       let o = c.args.parent.now in
       let name = c.args.name in
-      let same : o.name.prefix.now ≡ name.prefix.now = sym ((bytes_eq-Decides name.prefix.now o.name.prefix.now).0 (sym c.same_text.ensures ∙ c.if-same_text.true)) in
+      let same : (open_name o).prefix ≡ name.prefix.now = c.has_prefix.ensures c.if-has_prefix.true in
       named_by (map namespace_view t.namespaces.items.items) (scope_in_tables t o.scope) (name_view name) o.namespace (sym c.is_some.ensures ∙ c.if-is_some.true) (rw same at c.requires.parent.is);
 }

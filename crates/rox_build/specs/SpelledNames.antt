@@ -1,0 +1,30 @@
+-- Names, and the bytes that spell them.
+use Prim.Native.Char.{code}
+use Rattle.std.specs.Prelude.{◌≡◌, ◌≤◌, ◌==◌, ◌+◌, ℕ, Bool, not, List, [], length, take, drop, slice_range, nat_lt, if◌then◌else◌}
+use Rattle.std.specs.List.{position_or_len}
+use Rattle.rox_grammar.specs.Failures.{name_view}
+use Rattle.rox_grammar.specs.Written.{Name}
+use Rattle.rox_build.specs.declared.open_names.NameBytes.{NameBytes}
+use Rattle.rox_build.specs.declared.tag.StartTag.{StartTag}
+
+-- how many bytes come before the first colon, or all
+abbrev pub before_colon : List ℕ → ℕ
+before_colon bs = position_or_len (λ b. b == code ":") bs
+
+-- the name that bytes spell, split at the first colon, which may stand in front
+unfoldable pub spelled_name : List ℕ → Name
+spelled_name bs =
+    if nat_lt (before_colon bs) (length bs) then record { prefix = take (before_colon bs) bs; local = drop (before_colon bs + 1) bs }
+    else record { prefix = []; local = bs }
+
+abbrev pub is_prefixed : Name → Bool
+is_prefixed name = not (length name.prefix == 0)
+
+abbrev pub bytes_view : NameBytes → Name
+bytes_view n = record { prefix = n.prefix.now; local = n.local.now }
+
+-- the name of a tag is spelled where the tag says, in this text
+pub record SpellsName (text : List ℕ) (tag : StartTag) : Type 0 where
+  pub ordered : tag.name_start ≤ tag.name_end
+  pub within : tag.name_end ≤ length text
+  pub spells : spelled_name (slice_range text tag.name_start tag.name_end) ≡ name_view tag.name
