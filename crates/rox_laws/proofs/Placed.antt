@@ -29,7 +29,7 @@ use Rattle.rox_grammar.specs.Due as due
 use Rattle.rox_grammar.specs.ContentPoints.{TagBegins, of_root, in_content, is_main}
 use Rattle.rox_grammar.specs.Faults.{InMisc, InReferences, InRun, InValue, IllDeclared, IllNamed, cut_off, InTag, InEnd, Stands}
 use Rattle.rox_grammar.specs.Faults as rows
-use Rattle.rox_theory.proofs.Productions.{ncname_parts, reference_parts}
+use Rattle.rox_theory.proofs.Productions.{end_parts, ncname_parts, reference_parts}
 use Rattle.rox_theory.proofs.Basics.{within}
 use Rattle.rox_theory.proofs.Constructions.{comment_bytes, instruction_bytes, end_bytes}
 use Rattle.rox_theory.proofs.DeclarationLemmas.{stands_reads, stands_fits}
