@@ -16,7 +16,7 @@ use Rattle.rox_grammar.specs.Tree.{xml_uri, xmlns_uri, is_declared, listed, list
 use Rattle.rox_grammar.specs.Names.{byte, slice, spaces_end, IsQName}
 use Rattle.rox_grammar.specs.Constructs.{text_at, first_text, AreChars, IsPair, IsEnd}
 use Rattle.rox_grammar.specs.References.{IsReference, IsCharacter, predefined}
-use Rattle.rox_grammar.specs.Content.{Inclusion, Value, IsAttribute, TagEnds, IsMisc}
+use Rattle.rox_grammar.specs.Content.{Inclusion, IsCharacterData, Value, IsAttribute, TagEnds, IsMisc}
 use Rattle.rox_grammar.specs.WellNamed.{may_declare, is_known, same_expanded, AreDistinct, may_name, AreWellNamed}
 use Rattle.rox_grammar.specs.Entities.{Replacement, Entity, text_of}
 use Rattle.rox_grammar.specs.Document.{Behind, pairs_in, distinct_count, attributes_in, most_attributes, most_pairs}
