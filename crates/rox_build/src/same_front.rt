@@ -1,4 +1,4 @@
-//! Bytes that are compared sixteen at a time.
+//! Bytes that are compared: sixteen at a time, or in line.
 
 ghost use Rattle.std.specs.Prelude.{◌≡◌, ◌<◌, ℕ, slice_index, bytes_eq};
 ghost use Rattle.rox_build.specs.SameFronts.{HaveSixteen, IsSameFront};
