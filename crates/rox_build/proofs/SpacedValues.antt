@@ -182,8 +182,8 @@ unfolding value_bit_at
 return_alone main es src stop i here other = rw (here, other) refl
 
 reference_on : (src : List ℕ) (i c j : ℕ) → IsCharacter src i c j → i < j
-reference_on src i c j (decimal _ _ _ amp hash is) = let some = (number_parts is).some in let next = (number_parts is).next in omega arith
-reference_on src i c j (hexadecimal _ _ _ amp hash x is) = let some = (number_parts is).some in let next = (number_parts is).next in omega arith
+reference_on src i c j (decimal _ _ _ opens is) = let some = (number_parts is).some in let next = (number_parts is).next in omega arith
+reference_on src i c j (hexadecimal _ _ _ opens is) = let some = (number_parts is).some in let next = (number_parts is).next in omega arith
 reference_on src i c j (named _ n _ _ is known) = omega (arith, reference_onward src i n j is)
 
 -- a reference to a character ends behind its `&`

@@ -2,6 +2,7 @@
 use Rattle.std.proofs.Common.{◌≡◌, ◌≢◌, ℕ, ◌+◌, ◌^◌, ◌<◌, ◌≤◌, Bool, false, List, [], take, refl, sym, ap, ◌∙◌, subst, arith, inl, inr}
 use Rattle.std.specs.Str.{IsCharBoundary}
 use Rattle.std.proofs.lemmas.Bool.{cases_Bool, cases_lt}
+use Rattle.std.specs.Prelude.{codes}
 use Rattle.rox_grammar.specs.declared.fault.Word.TheVariants as word
 use Rattle.rox_grammar.specs.FixedTexts.{word_text, at}
 use Rattle.rox_grammar.specs.Chars.{is_space, is_name_start, is_name_char, is_part_char}
@@ -113,14 +114,14 @@ module _ (src to : List ℕ) (m : ℕ) (f : Fronts src to m) where
 
   -- a reference to a character
   pub character_cut : (i c j : ℕ) → j ≤ m → IsCharacter src i c j → IsCharacter to i c j
-  character_cut i c j fits (decimal _ _ _ amp hash is) =
+  character_cut i c j fits (decimal _ _ _ opens is) =
       let some = (number_parts is).some in
       let next = (number_parts is).next in
-      decimal i c j (has_byte 38 i (omega arith) amp) (has_byte 35 (i + 1) (omega arith) hash) (number_cut 10 is_digit (i + 2) c j fits is)
-  character_cut i c j fits (hexadecimal _ _ _ amp hash x is) =
+      decimal i c j (sym (stands_cut src to m f.same (codes "&#") i (omega arith)) ∙ opens) (number_cut 10 is_digit (i + 2) c j fits is)
+  character_cut i c j fits (hexadecimal _ _ _ opens is) =
       let some = (number_parts is).some in
       let next = (number_parts is).next in
-      hexadecimal i c j (has_byte 38 i (omega arith) amp) (has_byte 35 (i + 1) (omega arith) hash) (has_byte 120 (i + 2) (omega arith) x) (number_cut 16 is_hex_digit (i + 3) c j fits is)
+      hexadecimal i c j (sym (stands_cut src to m f.same (codes "&#x") i (omega arith)) ∙ opens) (number_cut 16 is_hex_digit (i + 3) c j fits is)
   character_cut i c j fits (named _ n _ _ is known) =
       named i n c j (reference_cut i n j fits is) (ap predefined (sym (reference_same i n j fits is)) ∙ known)
 

@@ -1,5 +1,6 @@
 -- Names, references and the constructs that hold no others stand wherever the same bytes follow.
 use Rattle.std.proofs.Common.{◌≡◌, ◌≢◌, ℕ, ◌+◌, ◌^◌, ◌<◌, ◌≤◌, ◌⊎◌, ◌==◌, Bool, List, [], refl, sym, ap, ◌∙◌, subst, arith}
+use Rattle.std.specs.Prelude.{codes}
 use Rattle.rox_grammar.specs.declared.fault.Word.TheVariants as word
 use Rattle.rox_grammar.specs.FixedTexts.{word_text}
 use Rattle.rox_grammar.specs.Chars.{is_space, is_name_start, is_name_char, is_part_char}
@@ -112,11 +113,11 @@ module _ (m : Move) (src to : List ℕ) where
 
   -- a reference to a character
   pub character_moves : (i k c j : ℕ) → Follows m src i to k → IsCharacter src i c j → IsCharacter to k c (moved m j)
-  character_moves i k c j f (decimal _ _ _ amp hash is) =
-      decimal k c (moved m j) (byte_is 38 i k f amp) (byte_is 35 (i + 1) (k + 1) (on m src to i k 1 f) hash)
+  character_moves i k c j f (decimal _ _ _ opens is) =
+      decimal k c (moved m j) (sym (stands_moves m src to (codes "&#") i k f) ∙ opens)
       (number_moves 10 is_digit (i + 2) (k + 2) c j (on m src to i k 2 f) is)
-  character_moves i k c j f (hexadecimal _ _ _ amp hash x is) =
-      hexadecimal k c (moved m j) (byte_is 38 i k f amp) (byte_is 35 (i + 1) (k + 1) (on m src to i k 1 f) hash) (byte_is 120 (i + 2) (k + 2) (on m src to i k 2 f) x)
+  character_moves i k c j f (hexadecimal _ _ _ opens is) =
+      hexadecimal k c (moved m j) (sym (stands_moves m src to (codes "&#x") i k f) ∙ opens)
       (number_moves 16 is_hex_digit (i + 3) (k + 3) c j (on m src to i k 3 f) is)
   character_moves i k c j f (named _ n _ _ is known) =
       named k (moved m n) c (moved m j) (reference_moves i k n j f is) (ap predefined (sym (reference_name i k n j f is)) ∙ known)

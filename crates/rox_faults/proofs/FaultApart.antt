@@ -100,14 +100,14 @@ module _ (src : List ℕ) (utf8 : IsUtf8 src) where
   -- one of both begins where a fault of them stands
   pub misc_begins : (i : ℕ) (f : Fault) → InMisc src i f → (at word.CommentStart src i ≡ true) ⊎ (at word.PIStart src i ≡ true)
   misc_begins i f (comment_lacks _ opens lacks) = inl opens
-  misc_begins i f (double_dashes e opens end chars closes before) = inl opens
+  misc_begins i f (double_dashes e opens to before) = inl opens
   misc_begins i f (a_declaration opens) = inr (declaration_bytes src i opens)
   misc_begins i f (instruction_lacks _ opens none lacks) = inr opens
 
   -- a fault of them stands in none that stands there
   pub misc_apart : (i j : ℕ) (item : Item) (f : Fault) → IsMisc src i j item → InMisc src i f → ⊥
   misc_apart i j item f (comment _ e _ is) (comment_lacks _ opens (q, t, due', lack)) = comment_apart i e j q t f is due' lack
-  misc_apart i j item f (comment _ e _ is) (double_dashes k opens end chars closes before) =
+  misc_apart i j item f (comment _ e _ is) (double_dashes k opens (end, chars, closes) before) =
       let p = comment_parts is in
       let same = comment_ends src (i + 4) e p.dashes p.closes in
       let dashes = p.dashes in
@@ -115,6 +115,6 @@ module _ (src : List ℕ) (utf8 : IsUtf8 src) where
   misc_apart i j item f (comment _ e _ is) (a_declaration opens) = not_both src i (comment_parts is).opens (declaration_bytes src i opens)
   misc_apart i j item f (comment _ e _ is) (instruction_lacks _ opens none lacks) = not_both src i (comment_parts is).opens opens
   misc_apart i j item f (instruction _ n e _ is) (comment_lacks _ opens lacks) = not_both src i opens (pi_parts is).opens
-  misc_apart i j item f (instruction _ n e _ is) (double_dashes k opens end chars closes before) = not_both src i opens (pi_parts is).opens
+  misc_apart i j item f (instruction _ n e _ is) (double_dashes k opens to before) = not_both src i opens (pi_parts is).opens
   misc_apart i j item f (instruction _ n e _ is) (a_declaration opens) = true≢false (sym opens ∙ (pi_parts is).no_declaration)
   misc_apart i j item f (instruction _ n e _ is) (instruction_lacks _ opens none (q, t, due', lack)) = instruction_apart i n e j q t f is due' lack

@@ -132,7 +132,7 @@ module _ (src : List ℕ) (utf8 : IsUtf8 src) where
       chosen (has_mark double_dash text.0 || byte text.0 (length text.0 - 1) == 45) _ _ _ h
       (λ ill h.
       let is : fault.InvalidComment i ≡ f = cc in
-      subst (InMisc src i) is (double_dashes e opens refl s.0 s.1 (dashes_before src (i + 4) e s.1 (rw is_text at ill))))
+      subst (InMisc src i) is (double_dashes e opens (refl, s.0, s.1) (dashes_before src (i + 4) e s.1 (rw is_text at ill))))
       (λ fine h. no_fault _ f h))
 
   -- a processing instruction

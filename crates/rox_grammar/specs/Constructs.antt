@@ -20,19 +20,22 @@ first_text text src i = mark_from (codes text) src i
 abbrev pub AreChars : List ℕ → ℕ → ℕ → Type 0
 AreChars src i j = run_end is_char (take j src) i ≡ j
 
+-- Chars from i up to e, where the text stands first
+abbrev pub IsTextTo : String → List ℕ → ℕ → ℕ → Type 0
+IsTextTo text src i e = (e ≡ first_text text src i) × AreChars src i e × (text_at text src e ≡ true)
+
 -- XML 2.5 [15] Comment; its text ends at e, where its first two dashes stand: it holds no two, nor one at its end
 pub data IsComment (src : List ℕ) (i e : ℕ) : ℕ → Type 0 where
-  comment : text_at "<!--" src i ≡ true → e ≡ first_text "--" src (i + 4) → AreChars src (i + 4) e → text_at "-->" src e ≡ true → IsComment src i e (e + 3)
+  comment : text_at "<!--" src i ≡ true → IsTextTo "--" src (i + 4) e → text_at "-->" src e ≡ true → IsComment src i e (e + 3)
 
 -- XML 2.6 [16] PI; its target ends at n, and its value at e. White space behind the target may be none, and of the names only
 -- `xml` with a space behind it is no target: 2.6 [17] wants white space and forbids `xml` in any letters, NS 7 a colon.
 pub data IsPI (src : List ℕ) (i n e : ℕ) : ℕ → Type 0 where
-  pi : text_at "<?" src i ≡ true → text_at "<?xml " src i ≡ false → IsName src (i + 2) n → e ≡ first_text "?>" src (spaces_end src n)
-      → AreChars src (spaces_end src n) e → text_at "?>" src e ≡ true → IsPI src i n e (e + 2)
+  pi : text_at "<?" src i ≡ true → text_at "<?xml " src i ≡ false → IsName src (i + 2) n → IsTextTo "?>" src (spaces_end src n) e → IsPI src i n e (e + 2)
 
 -- XML 2.7 [18] CDSect; its text ends at e
 pub data IsCData (src : List ℕ) (i e : ℕ) : ℕ → Type 0 where
-  cd_sect : text_at "<![CDATA[" src i ≡ true → e ≡ first_text "]]>" src (i + 9) → AreChars src (i + 9) e → text_at "]]>" src e ≡ true → IsCData src i e (e + 3)
+  cd_sect : text_at "<![CDATA[" src i ≡ true → IsTextTo "]]>" src (i + 9) e → IsCData src i e (e + 3)
 
 -- XML 2.3 [25] Eq
 abbrev pub IsEq : List ℕ → (i j : ℕ) → Type 0

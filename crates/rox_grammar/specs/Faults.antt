@@ -14,7 +14,7 @@ use Rattle.rox_grammar.specs.Forest.{Forest, join, size}
 use Rattle.rox_grammar.specs.Written.{Name, Attribute, NamespaceDecl, Tag, Item, is_namespace_decl, namespace_decl_of, namespace_decls_of, plain_attributes_of, merge, leaf}
 use Rattle.rox_grammar.specs.Tree.{xml_uri, xmlns_uri, is_declared, listed, listable_of, is_xml}
 use Rattle.rox_grammar.specs.Names.{byte, slice, spaces_end, IsQName}
-use Rattle.rox_grammar.specs.Constructs.{text_at, first_text, AreChars, IsPair, IsEnd}
+use Rattle.rox_grammar.specs.Constructs.{text_at, first_text, AreChars, IsTextTo, IsPair, IsEnd}
 use Rattle.rox_grammar.specs.References.{IsReference, IsCharacter, predefined}
 use Rattle.rox_grammar.specs.Content.{Inclusion, IsCharacterData, Value, IsAttribute, TagEnds, IsMisc}
 use Rattle.rox_grammar.specs.WellNamed.{may_declare, is_known, same_expanded, AreDistinct, may_name, AreWellNamed}
@@ -36,8 +36,7 @@ SpanIs src span bytes = slice src span.start span.end ≡ bytes
 pub data InMisc (src : List ℕ) (i : ℕ) : Fault → Type 0 where
   comment_lacks : (f : Fault) → text_at "<!--" src i ≡ true → Misses src (DueInText expected.CommentEnd src (i + 4)) f → InMisc src i f
   -- two dashes in the text, or one at its end
-  double_dashes : (e : ℕ) → text_at "<!--" src i ≡ true → e ≡ first_text "-->" src (i + 4) → AreChars src (i + 4) e → text_at "-->" src e ≡ true → first_text "--" src (i + 4) < e
-      → InMisc src i (fault.InvalidComment i)
+  double_dashes : (e : ℕ) → text_at "<!--" src i ≡ true → IsTextTo "-->" src (i + 4) e → first_text "--" src (i + 4) < e → InMisc src i (fault.InvalidComment i)
   a_declaration : text_at "<?xml " src i ≡ true → InMisc src i (fault.UnexpectedDeclaration i)
   instruction_lacks : (f : Fault) → text_at "<?" src i ≡ true → text_at "<?xml " src i ≡ false → Misses src (DueInPI src i) f → InMisc src i f
 

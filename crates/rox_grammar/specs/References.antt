@@ -4,6 +4,7 @@ use Rattle.std.specs.Prelude.{◌≡◌, ℕ, ◌+◌, ◌*◌, ◌-◌, ◌^◌
 use Rattle.std.specs.List.{prefix_len}
 use Rattle.rox_grammar.specs.Chars.{is_between, is_char}
 use Rattle.rox_grammar.specs.Names.{byte, slice, IsName}
+use Rattle.rox_grammar.specs.Constructs.{text_at}
 
 abbrev pub is_digit : ℕ → Bool
 is_digit b = is_between (code "0") (code "9") b
@@ -48,7 +49,6 @@ pub data IsReference (src : List ℕ) (i n : ℕ) : ℕ → Type 0 where
 
 -- XML 4.1 [66], 4.6: from i up to j a reference to the character c
 pub data IsCharacter (src : List ℕ) : ℕ → ℕ → ℕ → Type 0 where
-  decimal : (i c j : ℕ) → byte src i ≡ code "&" → byte src (i + 1) ≡ code "#" → IsNumber 10 is_digit src (i + 2) c j → IsCharacter src i c j
-  hexadecimal : (i c j : ℕ) → byte src i ≡ code "&" → byte src (i + 1) ≡ code "#" → byte src (i + 2) ≡ code "x" → IsNumber 16 is_hex_digit src (i + 3) c j
-      → IsCharacter src i c j
+  decimal : (i c j : ℕ) → text_at "&#" src i ≡ true → IsNumber 10 is_digit src (i + 2) c j → IsCharacter src i c j
+  hexadecimal : (i c j : ℕ) → text_at "&#x" src i ≡ true → IsNumber 16 is_hex_digit src (i + 3) c j → IsCharacter src i c j
   named : (i n c j : ℕ) → IsReference src i n j → predefined (slice src (i + 1) n) ≡ Some c → IsCharacter src i c j

@@ -30,6 +30,7 @@ use Rattle.rox_grammar.specs.ContentPoints.{TagBegins, of_root, in_content, is_m
 use Rattle.rox_grammar.specs.Faults.{InMisc, InReferences, InRun, InValue, IllDeclared, IllNamed, cut_off, InTag, InEnd, Stands}
 use Rattle.rox_grammar.specs.Faults as rows
 use Rattle.rox_theory.proofs.Productions.{end_parts, ncname_parts, reference_parts}
+use Rattle.rox_theory.proofs.ReferenceStarts.{hash_bytes, hex_bytes}
 use Rattle.rox_theory.proofs.Basics.{within}
 use Rattle.rox_theory.proofs.Constructions.{comment_bytes, instruction_bytes, end_bytes}
 use Rattle.rox_theory.proofs.DeclarationLemmas.{stands_reads, stands_fits}
@@ -65,8 +66,8 @@ qname_within src i name j (prefixed _ k _ part colon more no_colon) = begins_wit
 qname_within src i name j (colon_first _ _ colon part no_colon) = within src i (λ z. omega arith)
 
 character_within : (src : List ℕ) (i c j : ℕ) → IsCharacter src i c j → i < length src
-character_within src i c j (decimal _ _ _ amp hash number) = within src i (λ z. omega arith)
-character_within src i c j (hexadecimal _ _ _ amp hash x number) = within src i (λ z. omega arith)
+character_within src i c j (decimal _ _ _ opens number) = let amp = (hash_bytes src i opens).0 in within src i (λ z. omega arith)
+character_within src i c j (hexadecimal _ _ _ opens number) = let amp = (hex_bytes src i opens).0 in within src i (λ z. omega arith)
 character_within src i c j (named _ n _ _ reference is) = let amp = (reference_parts reference).opens in within src i (λ z. omega arith)
 
 reference_inside : (src : List ℕ) (i n j : ℕ) → IsReference src i n j → j ≤ length src
@@ -168,7 +169,7 @@ module _ (src : List ℕ) (utf8 : IsUtf8 src) where
   misc_placed : (i : ℕ) (f : Fault) → InMisc src i f → IsPlaced src f
   misc_placed i f (rows.InMisc.comment_lacks _ opens (p, t, is, lacks)) =
       lacks_placed src p t f (text_fits expected.CommentEnd (i + 4) p t (stands_fits (word_text word.CommentStart) src i (omega arith) opens) is) lacks
-  misc_placed i f (rows.InMisc.double_dashes e opens ends chars closes dashes) = let two = (comment_bytes src i opens).0 in omega arith
+  misc_placed i f (rows.InMisc.double_dashes e opens to dashes) = let two = (comment_bytes src i opens).0 in omega arith
   misc_placed i f (rows.InMisc.a_declaration opens) = let two = (instruction_bytes src i (declaration_bytes src i opens)).0 in omega arith
   misc_placed i f (rows.InMisc.instruction_lacks _ opens none (p, t, is, lacks)) = lacks_placed src p t f (instruction_fits i p t opens is) lacks
 

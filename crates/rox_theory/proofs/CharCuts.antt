@@ -15,6 +15,7 @@ use Rattle.rox_grammar.specs.Runs.{run_end, passing}
 use Rattle.rox_grammar.specs.Names.{byte, slice}
 use Rattle.rox_grammar.specs.Constructs.{AreChars}
 use Rattle.rox_grammar.specs.References.{is_digit, is_hex_digit, IsNumber, IsReference, IsCharacter, decimal, hexadecimal, named}
+use Rattle.rox_theory.proofs.ReferenceStarts.{hash_bytes, hex_bytes}
 use Rattle.rox_theory.proofs.Productions.{number_parts, reference_parts}
 use Rattle.rox_theory.proofs.Basics.{within}
 use Rattle.rox_theory.proofs.NameLemmas.{slice_nil}
@@ -154,7 +155,8 @@ reference_text src i n j utf8 r =
 
 -- one to a character
 pub character_text : (src : List ℕ) (i c j : ℕ) → IsUtf8 src → IsCharacter src i c j → IsCharText (slice src i j) × IsCharBoundary src j
-character_text src i c j utf8 (decimal _ _ _ amp hash m) =
+character_text src i c j utf8 (decimal _ _ _ opens m) =
+    let bytes = hash_bytes src i opens in let amp = bytes.0 in let hash = bytes.1 in
     let e = (number_parts m).e in
     let first = known src i 38 amp (omega arith) (omega arith) in
     let second = known src (i + 1) 35 hash (omega arith) (omega arith) in
@@ -163,7 +165,8 @@ character_text src i c j utf8 (decimal _ _ _ amp hash m) =
     let rest = number_text 10 is_digit src (i + 2) c j digit_range m in
     let front = stretches_joined src i (i + 1) (i + 2) (omega arith) (omega arith) (omega (arith, second.1)) first.0 second' in
     (stretches_joined src i (i + 2) j (omega arith) rest.1 rest.2 front rest.0, cut_behind src e 59 j utf8 (number_parts m).closes (omega arith) (omega arith) (number_parts m).next)
-character_text src i c j utf8 (hexadecimal _ _ _ amp hash hex m) =
+character_text src i c j utf8 (hexadecimal _ _ _ opens m) =
+    let bytes = hex_bytes src i opens in let amp = bytes.0 in let hash = bytes.1 in let hex = bytes.2 in
     let e = (number_parts m).e in
     let first = known src i 38 amp (omega arith) (omega arith) in
     let second = known src (i + 1) 35 hash (omega arith) (omega arith) in

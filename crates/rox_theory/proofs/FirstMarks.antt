@@ -10,16 +10,12 @@ use Rattle.rox_grammar.specs.declared.fault.Word.TheVariants as word
 use Rattle.rox_grammar.specs.Search.{stands, before_mark, mark_from, byte_from}
 use Rattle.rox_grammar.specs.Names.{byte, slice}
 use Rattle.rox_reading.specs.Lexical.{has_mark}
-use Rattle.rox_theory.proofs.DeclarationLemmas.{stands_split, stands_reads, stands_fits}
+use Rattle.rox_theory.proofs.Productions.{two_dashes_begin}
+use Rattle.rox_theory.proofs.DeclarationLemmas.{stands_reads, stands_fits}
 use Rattle.rox_theory.proofs.Places.{stands_two}
 use Rattle.rox_theory.proofs.Basics.{mark_from_le}
 use Rattle.rox_theory.proofs.LiteralLemmas.{from_here}
 use Rattle.rox_theory.proofs.StretchLemmas.{slice_length}
-
--- where the source goes on with a mark, it stands
-stands_from_split : (mark src rest : List ℕ) (i : ℕ) → drop i src ≡ mark ++ rest → stands mark src i ≡ true
-unfolding stands
-stands_from_split mark src rest i h = (starts_is Decides-eqb (drop i src) mark _ refl).1 rest h
 
 -- ---- in a list
 
@@ -165,7 +161,7 @@ comment_ends src i e is closes =
     let from = mark_from_le double_dash src i in
     let le = mark_first (word_text word.CommentEnd) src i e (omega arith) closes in
     let here = mark_stands (word_text word.CommentEnd) src i (omega arith) in
-    let two = stands_from_split double_dash src (62 ∷ drop 3 (drop k src)) k (stands_split (word_text word.CommentEnd) src k here) in
+    let two = two_dashes_begin src k here in
     let ge = mark_first double_dash src i k (mark_from_le (word_text word.CommentEnd) src i) two in
     omega arith
 
@@ -174,7 +170,7 @@ pub dashes_end : (src : List ℕ) (i e : ℕ) → i ≤ e → (has_mark double_d
     → stands (word_text word.CommentEnd) src e ≡ true → e ≡ mark_from double_dash src i
 dashes_end src i e from free closes =
     let fits = stands_fits (word_text word.CommentEnd) src e (omega arith) closes in
-    let two = stands_from_split double_dash src (62 ∷ drop 3 (drop e src)) e (stands_split (word_text word.CommentEnd) src e closes) in
+    let two = two_dashes_begin src e closes in
     let le = mark_first double_dash src i e from two in
     elim (cases_lt (mark_from double_dash src i) e) as (λ s. e ≡ mark_from double_dash src i) [
       | inl before ↦ absurd (false≢true (sym free ∙ two_dashes src i e from (omega arith) before))

@@ -6,6 +6,7 @@ pub mod CharLemmas
 pub mod LiteralLemmas
 pub mod FirstMarks
 pub mod StretchLemmas
+pub mod ReferenceStarts
 pub mod ReferenceLemmas
 pub mod CharTexts
 pub mod CharCuts

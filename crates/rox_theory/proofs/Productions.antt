@@ -1,8 +1,11 @@
 -- What the rows of the smallest productions say, by name, and the rows from that.
-use Rattle.std.proofs.Common.{◌≡◌, ◌≢◌, ℕ, ◌+◌, ◌<◌, ◌≤◌, ◌^◌, ◌==◌, Bool, true, false, List, refl, sym, subst}
+use Rattle.std.proofs.Common.{◌≡◌, ◌≢◌, ℕ, ◌+◌, ◌<◌, ◌≤◌, ◌^◌, ◌==◌, Bool, true, false, List, ◌∷◌, drop, refl, sym, subst}
+use Rattle.std.specs.Prelude.{codes}
+use Rattle.std.proofs.lemmas.Bool.Decides.{Decides-eqb}
+use Rattle.std.proofs.lemmas.Slice.Eq.{starts_is}
 use Rattle.rox_grammar.specs.Chars.{is_char, is_name_start, is_part_char}
 use Rattle.rox_grammar.specs.Runs.{run_end, begins}
-use Rattle.rox_grammar.specs.Search.{byte_from}
+use Rattle.rox_grammar.specs.Search.{stands, byte_from}
 use Rattle.rox_grammar.specs.Written.{Name}
 use Rattle.rox_grammar.specs.Names.{byte, slice, spaces_end, IsName, IsNCName, ncname, IsQName}
 use Rattle.rox_grammar.specs.Constructs.{text_at, first_text, AreChars, IsComment, comment, IsPI, pi, IsCData, cd_sect, IsEnd, end_tag}
@@ -53,6 +56,14 @@ pub reference_made : {src : List ℕ} {i n j : ℕ} → ReferenceParts src i n j
 reference_made {src} {i} {n} p = subst (IsReference src i n) (sym p.next) (entity_ref p.opens p.name p.closes)
 
 -- ---- a comment
+
+-- where a `-->` stands, two dashes do
+pub two_dashes_begin : (src : List ℕ) (e : ℕ) → text_at "-->" src e ≡ true → text_at "--" src e ≡ true
+unfolding stands
+two_dashes_begin src e h =
+    let begins = (starts_is Decides-eqb (drop e src) (codes "-->") true (sym h)).0 refl in
+    (starts_is Decides-eqb (drop e src) (codes "--") _ refl).1 (62 ∷ drop 3 (drop e src)) begins
+
 pub record CommentParts (src : List ℕ) (i e j : ℕ) : Type 0 where
   pub opens : text_at "<!--" src i ≡ true
   pub dashes : e ≡ first_text "--" src (i + 4)
@@ -61,10 +72,10 @@ pub record CommentParts (src : List ℕ) (i e j : ℕ) : Type 0 where
   pub next : j ≡ e + 3
 
 pub comment_parts : {src : List ℕ} {i e j : ℕ} → IsComment src i e j → CommentParts src i e j
-comment_parts (comment opens dashes chars closes) = record { opens = opens; dashes = dashes; chars = chars; closes = closes; next = refl }
+comment_parts (comment opens (dashes, chars, two) closes) = record { opens = opens; dashes = dashes; chars = chars; closes = closes; next = refl }
 
 pub comment_made : {src : List ℕ} {i e j : ℕ} → CommentParts src i e j → IsComment src i e j
-comment_made {src} {i} {e} p = subst (IsComment src i e) (sym p.next) (comment p.opens p.dashes p.chars p.closes)
+comment_made {src} {i} {e} p = subst (IsComment src i e) (sym p.next) (comment p.opens (p.dashes, p.chars, two_dashes_begin src e p.closes) p.closes)
 
 -- ---- a processing instruction
 pub record PIParts (src : List ℕ) (i n e j : ℕ) : Type 0 where
@@ -77,10 +88,10 @@ pub record PIParts (src : List ℕ) (i n e j : ℕ) : Type 0 where
   pub next : j ≡ e + 2
 
 pub pi_parts : {src : List ℕ} {i n e j : ℕ} → IsPI src i n e j → PIParts src i n e j
-pi_parts (pi opens no_declaration target end chars closes) = record { opens = opens; no_declaration = no_declaration; target = target; end = end; chars = chars; closes = closes; next = refl }
+pi_parts (pi opens no_declaration target (end, chars, closes)) = record { opens = opens; no_declaration = no_declaration; target = target; end = end; chars = chars; closes = closes; next = refl }
 
 pub pi_made : {src : List ℕ} {i n e j : ℕ} → PIParts src i n e j → IsPI src i n e j
-pi_made {src} {i} {n} {e} p = subst (IsPI src i n e) (sym p.next) (pi p.opens p.no_declaration p.target p.end p.chars p.closes)
+pi_made {src} {i} {n} {e} p = subst (IsPI src i n e) (sym p.next) (pi p.opens p.no_declaration p.target (p.end, p.chars, p.closes))
 
 -- ---- a CDATA section
 pub record CDataParts (src : List ℕ) (i e j : ℕ) : Type 0 where
@@ -91,10 +102,10 @@ pub record CDataParts (src : List ℕ) (i e j : ℕ) : Type 0 where
   pub next : j ≡ e + 3
 
 pub cdata_parts : {src : List ℕ} {i e j : ℕ} → IsCData src i e j → CDataParts src i e j
-cdata_parts (cd_sect opens end chars closes) = record { opens = opens; end = end; chars = chars; closes = closes; next = refl }
+cdata_parts (cd_sect opens (end, chars, closes)) = record { opens = opens; end = end; chars = chars; closes = closes; next = refl }
 
 pub cdata_made : {src : List ℕ} {i e j : ℕ} → CDataParts src i e j → IsCData src i e j
-cdata_made {src} {i} {e} p = subst (IsCData src i e) (sym p.next) (cd_sect p.opens p.end p.chars p.closes)
+cdata_made {src} {i} {e} p = subst (IsCData src i e) (sym p.next) (cd_sect p.opens (p.end, p.chars, p.closes))
 
 -- ---- an end tag
 pub record EndParts (src : List ℕ) (i : ℕ) (name : Name) (n j : ℕ) : Type 0 where

@@ -11,6 +11,7 @@ use Rattle.rox_grammar.specs.Names.{byte, slice}
 use Rattle.rox_grammar.specs.References.{is_digit, is_hex_digit, number, bytes_end, character, predefined, IsNumber, digits, IsReference, entity_ref, IsCharacter, decimal, hexadecimal, named}
 use Rattle.rox_reading.specs.Values.{Reference, character_of, entity_at, named_or, number_at, name_reference_at, reference_at}
 use Rattle.rox_theory.specs.Openers.{IsStop}
+use Rattle.rox_theory.proofs.ReferenceStarts.{hash_bytes, hash_stands, hex_bytes, hex_stands}
 use Rattle.rox_theory.proofs.Productions.{number_parts, reference_parts}
 use Rattle.rox_theory.proofs.Basics.{ok_same, chosen, within, run_end_le}
 use Rattle.rox_theory.proofs.NameLemmas.{begins_here}
@@ -79,10 +80,10 @@ reference_sound src i x amp h =
     (λ hash h. chosen (eqb (byte src (i + 2)) 120) _ _ _ h
     (λ hex h.
     let m = number_sound 16 is_hex_digit src i (i + 3) x h in
-    number_read src i m.0 x.1 x.0 m.2 (hexadecimal i m.0 x.1 amp (eqb-true _ _ hash) (eqb-true _ _ hex) m.1))
+    number_read src i m.0 x.1 x.0 m.2 (hexadecimal i m.0 x.1 (hex_stands src i amp (eqb-true _ _ hash) (eqb-true _ _ hex)) m.1))
     (λ dec h.
     let m = number_sound 10 is_digit src i (i + 2) x h in
-    number_read src i m.0 x.1 x.0 m.2 (decimal i m.0 x.1 amp (eqb-true _ _ hash) m.1)))
+    number_read src i m.0 x.1 x.0 m.2 (decimal i m.0 x.1 (hash_stands src i amp (eqb-true _ _ hash)) m.1)))
     (λ name h. chosen (begins is_name_start src (i + 1)) _ _ _ h
     (λ starts h. chosen (eqb (byte src (run_end is_name_char src (i + 1))) 59) _ _ _ h
     (λ closes h.
@@ -121,15 +122,16 @@ name_complete src i n j r =
 -- a reference to a character is read
 pub character_complete : (src : List ℕ) (i c j : ℕ) → IsCharacter src i c j → reference_at src i ≡ Ok (character_of c, j)
 unfolding reference_at
-character_complete src i c j (decimal _ _ _ amp hash m) =
-    let t = eq-eqb _ _ hash in
+character_complete src i c j (decimal _ _ _ opens m) =
+    let t = eq-eqb _ _ (hash_bytes src i opens).1 in
     let some = (number_parts m).some in let end = (number_parts m).end in
     let digit = digit_range (byte src (i + 2)) (bytes_pass is_digit src (i + 2) (i + 2) (omega arith) (omega arith)) in
     let dec = ne_eqb (byte src (i + 2)) 120 (λ z. omega arith) in
     let n = number_complete 10 is_digit src i (i + 2) c j m in
     rw (t, dec, n) refl
-character_complete src i c j (hexadecimal _ _ _ amp hash hex m) =
-    let t = eq-eqb _ _ hash in
+character_complete src i c j (hexadecimal _ _ _ opens m) =
+    let bytes = hex_bytes src i opens in let hex = bytes.2 in
+    let t = eq-eqb _ _ bytes.1 in
     let x = eq-eqb _ _ hex in
     let n = number_complete 16 is_hex_digit src i (i + 3) c j m in
     rw (t, x, n) refl
@@ -146,8 +148,8 @@ reference_opens src i n j r = let l = (reference_parts r).name.longest in let ne
 
 -- a reference begins with `&`, and has a byte
 pub character_opens : (src : List ℕ) (i c j : ℕ) → IsCharacter src i c j → (byte src i ≡ 38) × (i < j)
-character_opens src i c j (decimal _ _ _ amp hash m) = let some = (number_parts m).some in let next = (number_parts m).next in (amp, omega arith)
-character_opens src i c j (hexadecimal _ _ _ amp hash hex m) = let some = (number_parts m).some in let next = (number_parts m).next in (amp, omega arith)
+character_opens src i c j (decimal _ _ _ opens m) = let some = (number_parts m).some in let next = (number_parts m).next in ((hash_bytes src i opens).0, omega arith)
+character_opens src i c j (hexadecimal _ _ _ opens m) = let some = (number_parts m).some in let next = (number_parts m).next in ((hex_bytes src i opens).0, omega arith)
 character_opens src i c j (named _ n _ _ r is) = let l = (reference_parts r).name.longest in let next = (reference_parts r).next in ((reference_parts r).opens, omega (arith, run_end_le is_name_char src (i + 1)))
 
 -- a stop is in no name
@@ -209,10 +211,12 @@ reference_inside src i stop n j utf8 from long closes r =
 
 -- a reference that begins before a stop ends before it
 pub character_inside : (src : List ℕ) (i stop c j : ℕ) → IsUtf8 src → i < stop → stop ≤ length src → (stop < length src → IsStop (byte src stop)) → IsCharacter src i c j → j ≤ stop
-character_inside src i stop c j utf8 from long closes (decimal _ _ _ amp hash m) =
+character_inside src i stop c j utf8 from long closes (decimal _ _ _ opens m) =
+    let hash = (hash_bytes src i opens).1 in
     let apart : stop ≢ i + 1 = λ same. let h = rw (← same) at hash in (stop_apart _ (closes (let l = within src (i + 1) (λ z. omega arith) in omega arith))).2 h in
     number_inside 10 is_digit src (i + 2) stop c j (omega arith) long closes stop_no_digit m
-character_inside src i stop c j utf8 from long closes (hexadecimal _ _ _ amp hash hex m) =
+character_inside src i stop c j utf8 from long closes (hexadecimal _ _ _ opens m) =
+    let bytes = hex_bytes src i opens in let hash = bytes.1 in let hex = bytes.2 in
     let apart : stop ≢ i + 1 = λ same. let h = rw (← same) at hash in (stop_apart _ (closes (let l = within src (i + 1) (λ z. omega arith) in omega arith))).2 h in
     let apart' : stop ≢ i + 2 = λ same. let h = rw (← same) at hex in (stop_apart _ (closes (let l = within src (i + 2) (λ z. omega arith) in omega arith))).3 h in
     number_inside 16 is_hex_digit src (i + 3) stop c j (omega arith) long closes stop_no_hex m
