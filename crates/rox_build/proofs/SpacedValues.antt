@@ -182,9 +182,9 @@ unfolding value_bit_at
 return_alone main es src stop i here other = rw (here, other) refl
 
 reference_on : (src : List ℕ) (i c j : ℕ) → IsCharacter src i c j → i < j
-reference_on src i c j (decimal _ _ _ opens is) = let some = (number_parts is).some in let next = (number_parts is).next in omega arith
-reference_on src i c j (hexadecimal _ _ _ opens is) = let some = (number_parts is).some in let next = (number_parts is).next in omega arith
-reference_on src i c j (named _ n _ _ is known) = omega (arith, reference_onward src i n j is)
+reference_on src i c j (decimal opens is) = let some = (number_parts is).some in let next = (number_parts is).next in omega arith
+reference_on src i c j (hexadecimal opens is) = let some = (number_parts is).some in let next = (number_parts is).next in omega arith
+reference_on src i c j (named n is known) = omega (arith, reference_onward src i n j is)
 
 -- a reference to a character ends behind its `&`
 pub character_on : (src : List ℕ) (i c j : ℕ) → slice_index src i ≡ 38 → reference_at src i ≡ Ok (character_of c, j) → i < j

@@ -114,16 +114,16 @@ module _ (src to : List ℕ) (m : ℕ) (f : Fronts src to m) where
 
   -- a reference to a character
   pub character_cut : (i c j : ℕ) → j ≤ m → IsCharacter src i c j → IsCharacter to i c j
-  character_cut i c j fits (decimal _ _ _ opens is) =
+  character_cut i c j fits (decimal opens is) =
       let some = (number_parts is).some in
       let next = (number_parts is).next in
-      decimal i c j (sym (stands_cut src to m f.same (codes "&#") i (omega arith)) ∙ opens) (number_cut 10 is_digit (i + 2) c j fits is)
-  character_cut i c j fits (hexadecimal _ _ _ opens is) =
+      decimal (sym (stands_cut src to m f.same (codes "&#") i (omega arith)) ∙ opens) (number_cut 10 is_digit (i + 2) c j fits is)
+  character_cut i c j fits (hexadecimal opens is) =
       let some = (number_parts is).some in
       let next = (number_parts is).next in
-      hexadecimal i c j (sym (stands_cut src to m f.same (codes "&#x") i (omega arith)) ∙ opens) (number_cut 16 is_hex_digit (i + 3) c j fits is)
-  character_cut i c j fits (named _ n _ _ is known) =
-      named i n c j (reference_cut i n j fits is) (ap predefined (sym (reference_same i n j fits is)) ∙ known)
+      hexadecimal (sym (stands_cut src to m f.same (codes "&#x") i (omega arith)) ∙ opens) (number_cut 16 is_hex_digit (i + 3) c j fits is)
+  character_cut i c j fits (named n is known) =
+      named n (reference_cut i n j fits is) (ap predefined (sym (reference_same i n j fits is)) ∙ known)
 
   -- no declaration begins where `?` comes so soon
   undeclared : (i e : ℕ) → i + 2 ≤ e → e + 2 ≤ m → at word.XmlDeclStart src i ≡ false → byte to e ≡ 63 → at word.XmlDeclStart to i ≡ false

@@ -113,14 +113,14 @@ module _ (m : Move) (src to : List ℕ) where
 
   -- a reference to a character
   pub character_moves : (i k c j : ℕ) → Follows m src i to k → IsCharacter src i c j → IsCharacter to k c (moved m j)
-  character_moves i k c j f (decimal _ _ _ opens is) =
-      decimal k c (moved m j) (sym (stands_moves m src to (codes "&#") i k f) ∙ opens)
+  character_moves i k c j f (decimal opens is) =
+      decimal (sym (stands_moves m src to (codes "&#") i k f) ∙ opens)
       (number_moves 10 is_digit (i + 2) (k + 2) c j (on m src to i k 2 f) is)
-  character_moves i k c j f (hexadecimal _ _ _ opens is) =
-      hexadecimal k c (moved m j) (sym (stands_moves m src to (codes "&#x") i k f) ∙ opens)
+  character_moves i k c j f (hexadecimal opens is) =
+      hexadecimal (sym (stands_moves m src to (codes "&#x") i k f) ∙ opens)
       (number_moves 16 is_hex_digit (i + 3) (k + 3) c j (on m src to i k 3 f) is)
-  character_moves i k c j f (named _ n _ _ is known) =
-      named k (moved m n) c (moved m j) (reference_moves i k n j f is) (ap predefined (sym (reference_name i k n j f is)) ∙ known)
+  character_moves i k c j f (named n is known) =
+      named (moved m n) (reference_moves i k n j f is) (ap predefined (sym (reference_name i k n j f is)) ∙ known)
 
   -- a comment
   pub comment_moves : (i k e j : ℕ) → Follows m src i to k → IsComment src i e j → IsComment to k (moved m e) (moved m j)

@@ -49,9 +49,9 @@ module _ (src : List ℕ) where
   reference_lt i n j is = omega (arith, name_le (i + 1) n (reference_parts is).name)
 
   pub character_lt : (i c j : ℕ) → IsCharacter src i c j → i < j
-  character_lt i c j (decimal _ _ _ opens is) = let some = (number_parts is).some in let next = (number_parts is).next in omega arith
-  character_lt i c j (hexadecimal _ _ _ opens is) = let some = (number_parts is).some in let next = (number_parts is).next in omega arith
-  character_lt i c j (named _ n _ _ is known) = let next = (reference_parts is).next in omega (arith, reference_lt i n j is)
+  character_lt i c j (decimal opens is) = let some = (number_parts is).some in let next = (number_parts is).next in omega arith
+  character_lt i c j (hexadecimal opens is) = let some = (number_parts is).some in let next = (number_parts is).next in omega arith
+  character_lt i c j (named n is known) = let next = (reference_parts is).next in omega (arith, reference_lt i n j is)
 
   pub attribute_lt : (main : Bool) (Includes : Inclusion) (i j b c : ℕ) (a : Attribute) → IsAttribute main Includes src i j b c a → i < j
   attribute_lt main Includes i j b c a (attribute n v e name value (is_name, eq, literal) read) =

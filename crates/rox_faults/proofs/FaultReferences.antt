@@ -63,13 +63,13 @@ module _ (b : ℕ) (none : NoPart b) (src : List ℕ) (utf8 : IsUtf8 src) where
 
   -- so behind its `&` a reference holds none
   character_apart : (i c j q : ℕ) → IsCharacter src i c j → i < q → q < j → byte src q ≡ b → ⊥
-  character_apart i c j q (decimal _ _ _ opens m) from below here =
+  character_apart i c j q (decimal opens m) from below here =
       let hash = (hash_bytes src i opens).1 in
       elim (cases_eq q (i + 1)) as (λ s. ⊥) [
         | inl same ↦ none.no_hash (sym here ∙ ap (byte src) same ∙ hash)
         | inr apart ↦ number_apart 10 is_digit (i + 2) c j q none.no_digit m (omega arith) below here
       ]
-  character_apart i c j q (hexadecimal _ _ _ opens m) from below here =
+  character_apart i c j q (hexadecimal opens m) from below here =
       let bytes = hex_bytes src i opens in let hash = bytes.1 in let hex = bytes.2 in
       elim (cases_eq q (i + 1)) as (λ s. ⊥) [
         | inl same ↦ none.no_hash (sym here ∙ ap (byte src) same ∙ hash)
@@ -78,14 +78,14 @@ module _ (b : ℕ) (none : NoPart b) (src : List ℕ) (utf8 : IsUtf8 src) where
           | inr apart' ↦ number_apart 16 is_hex_digit (i + 3) c j q none.no_hex m (omega arith) below here
         ]
       ]
-  character_apart i c j q (named _ n _ _ r is) from below here = name_apart i n j q r from below here
+  character_apart i c j q (named n r is) from below here = name_apart i n j q r from below here
 
 -- a reference to a character is neither malformed nor undeclared
 character_stands : (es : List Entity) (src : List ℕ) (p c j : ℕ) (f : Fault) → IsCharacter src p c j → InReferences es src p f → ⊥
 character_stands es src p c j f is (malformed amp no_character no_reference) = no_character c j is
-character_stands es src p c j f (decimal _ _ _ opens m) (undeclared n k name ref none nothing holds) = name_no_hash src (p + 1) (reference_parts ref).name.starts (hash_bytes src p opens).1
-character_stands es src p c j f (hexadecimal _ _ _ opens m) (undeclared n k name ref none nothing holds) = name_no_hash src (p + 1) (reference_parts ref).name.starts (hex_bytes src p opens).1
-character_stands es src p c j f (named _ m _ _ r is) (undeclared n k name ref none nothing holds) =
+character_stands es src p c j f (decimal opens m) (undeclared n k name ref none nothing holds) = name_no_hash src (p + 1) (reference_parts ref).name.starts (hash_bytes src p opens).1
+character_stands es src p c j f (hexadecimal opens m) (undeclared n k name ref none nothing holds) = name_no_hash src (p + 1) (reference_parts ref).name.starts (hex_bytes src p opens).1
+character_stands es src p c j f (named m r is) (undeclared n k name ref none nothing holds) =
     let same : m ≡ n = (reference_parts r).name.longest ∙ sym (reference_parts ref).name.longest in
     let is' : predefined (slice src (p + 1) n) ≡ Some c = subst (λ (m : ℕ). predefined (slice src (p + 1) m) ≡ Some c) same is in
     cc (sym none ∙ is')

@@ -48,7 +48,7 @@ pub data IsReference (src : List ℕ) (i n : ℕ) : ℕ → Type 0 where
   entity_ref : byte src i ≡ code "&" → IsName src (i + 1) n → byte src n ≡ code ";" → IsReference src i n (n + 1)
 
 -- XML 4.1 [66], 4.6: from i up to j a reference to the character c
-pub data IsCharacter (src : List ℕ) : ℕ → ℕ → ℕ → Type 0 where
-  decimal : (i c j : ℕ) → text_at "&#" src i ≡ true → IsNumber 10 is_digit src (i + 2) c j → IsCharacter src i c j
-  hexadecimal : (i c j : ℕ) → text_at "&#x" src i ≡ true → IsNumber 16 is_hex_digit src (i + 3) c j → IsCharacter src i c j
-  named : (i n c j : ℕ) → IsReference src i n j → predefined (slice src (i + 1) n) ≡ Some c → IsCharacter src i c j
+pub data IsCharacter (src : List ℕ) (i c j : ℕ) : Type 0 where
+  decimal : text_at "&#" src i ≡ true → IsNumber 10 is_digit src (i + 2) c j → IsCharacter src i c j
+  hexadecimal : text_at "&#x" src i ≡ true → IsNumber 16 is_hex_digit src (i + 3) c j → IsCharacter src i c j
+  named : (n : ℕ) → IsReference src i n j → predefined (slice src (i + 1) n) ≡ Some c → IsCharacter src i c j

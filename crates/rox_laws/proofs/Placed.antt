@@ -66,9 +66,9 @@ qname_within src i name j (prefixed _ k _ part colon more no_colon) = begins_wit
 qname_within src i name j (colon_first _ _ colon part no_colon) = within src i (λ z. omega arith)
 
 character_within : (src : List ℕ) (i c j : ℕ) → IsCharacter src i c j → i < length src
-character_within src i c j (decimal _ _ _ opens number) = let amp = (hash_bytes src i opens).0 in within src i (λ z. omega arith)
-character_within src i c j (hexadecimal _ _ _ opens number) = let amp = (hex_bytes src i opens).0 in within src i (λ z. omega arith)
-character_within src i c j (named _ n _ _ reference is) = let amp = (reference_parts reference).opens in within src i (λ z. omega arith)
+character_within src i c j (decimal opens number) = let amp = (hash_bytes src i opens).0 in within src i (λ z. omega arith)
+character_within src i c j (hexadecimal opens number) = let amp = (hex_bytes src i opens).0 in within src i (λ z. omega arith)
+character_within src i c j (named n reference is) = let amp = (reference_parts reference).opens in within src i (λ z. omega arith)
 
 reference_inside : (src : List ℕ) (i n j : ℕ) → IsReference src i n j → j ≤ length src
 reference_inside src i n j is =

@@ -155,7 +155,7 @@ reference_text src i n j utf8 r =
 
 -- one to a character
 pub character_text : (src : List ℕ) (i c j : ℕ) → IsUtf8 src → IsCharacter src i c j → IsCharText (slice src i j) × IsCharBoundary src j
-character_text src i c j utf8 (decimal _ _ _ opens m) =
+character_text src i c j utf8 (decimal opens m) =
     let bytes = hash_bytes src i opens in let amp = bytes.0 in let hash = bytes.1 in
     let e = (number_parts m).e in
     let first = known src i 38 amp (omega arith) (omega arith) in
@@ -165,7 +165,7 @@ character_text src i c j utf8 (decimal _ _ _ opens m) =
     let rest = number_text 10 is_digit src (i + 2) c j digit_range m in
     let front = stretches_joined src i (i + 1) (i + 2) (omega arith) (omega arith) (omega (arith, second.1)) first.0 second' in
     (stretches_joined src i (i + 2) j (omega arith) rest.1 rest.2 front rest.0, cut_behind src e 59 j utf8 (number_parts m).closes (omega arith) (omega arith) (number_parts m).next)
-character_text src i c j utf8 (hexadecimal _ _ _ opens m) =
+character_text src i c j utf8 (hexadecimal opens m) =
     let bytes = hex_bytes src i opens in let amp = bytes.0 in let hash = bytes.1 in let hex = bytes.2 in
     let e = (number_parts m).e in
     let first = known src i 38 amp (omega arith) (omega arith) in
@@ -179,4 +179,4 @@ character_text src i c j utf8 (hexadecimal _ _ _ opens m) =
     let front = stretches_joined src i (i + 1) (i + 2) (omega arith) (omega arith) (omega (arith, second.1)) first.0 second' in
     let front' = stretches_joined src i (i + 2) (i + 3) (omega arith) (omega arith) (omega (arith, third.1)) front third' in
     (stretches_joined src i (i + 3) j (omega arith) rest.1 rest.2 front' rest.0, cut_behind src e 59 j utf8 (number_parts m).closes (omega arith) (omega arith) (number_parts m).next)
-character_text src i c j utf8 (named _ n _ _ r is) = reference_text src i n j utf8 r
+character_text src i c j utf8 (named n r is) = reference_text src i n j utf8 r

@@ -77,9 +77,9 @@ of_name name c h =
 
 -- a reference to a character
 pub referenced : (src : List ℕ) (i c j : ℕ) → IsUtf8 src → IsCharacter src i c j → Referenced src c j
-referenced src i c j utf8 (decimal _ _ _ opens m) = of_number 10 _ src (i + 2) c j utf8 m
-referenced src i c j utf8 (hexadecimal _ _ _ opens m) = of_number 16 _ src (i + 3) c j utf8 m
-referenced src i c j utf8 (named _ n _ _ r is) = (of_name (slice src (i + 1) n) c is, cut_behind src n 59 j utf8 (reference_parts r).closes (omega arith) (omega arith) (reference_parts r).next)
+referenced src i c j utf8 (decimal opens m) = of_number 10 _ src (i + 2) c j utf8 m
+referenced src i c j utf8 (hexadecimal opens m) = of_number 16 _ src (i + 3) c j utf8 m
+referenced src i c j utf8 (named n r is) = (of_name (slice src (i + 1) n) c is, cut_behind src n 59 j utf8 (reference_parts r).closes (omega arith) (omega arith) (reference_parts r).next)
 
 -- ---- signs
 

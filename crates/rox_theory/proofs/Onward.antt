@@ -68,9 +68,9 @@ pub reference_onward : (src : List ℕ) (i n j : ℕ) → IsReference src i n j 
 reference_onward src i n j is = let h = run_onward is_name_char src (i + 1) in omega (arith, h, (reference_parts is).name.longest, (reference_parts is).next)
 
 pub char_bytes : (src : List ℕ) (i c n : ℕ) → IsCharacter src i c n → length (encode_utf8 c) + i ≤ n
-char_bytes src i c n (decimal _ _ _ opens is) = let h = encode_most c in omega (arith, h, (number_parts is).some, (number_parts is).next)
-char_bytes src i c n (hexadecimal _ _ _ opens is) = let h = encode_most c in omega (arith, h, (number_parts is).some, (number_parts is).next)
-char_bytes src i c n (named _ m _ _ is pre) =
+char_bytes src i c n (decimal opens is) = let h = encode_most c in omega (arith, h, (number_parts is).some, (number_parts is).next)
+char_bytes src i c n (hexadecimal opens is) = let h = encode_most c in omega (arith, h, (number_parts is).some, (number_parts is).next)
+char_bytes src i c n (named m is pre) =
     let small : c < 128 = subst (λ (o : Option ℕ). some_or o < 128) pre (names_small (slice src (i + 1) m)) in
     let one = length-encode c in
     let is_one = len_utf8_ascii c small in

@@ -66,7 +66,7 @@ pub data IsRead (src : List ℕ) (i : ℕ) : Reference → ℕ → Type 0 where
 -- a name, by whether it is predefined
 named_read : (src : List ℕ) (i n j : ℕ) (o : Option ℕ) → IsReference src i n j → predefined (slice src (i + 1) n) ≡ o → IsRead src i (named_or o (record { start = i + 1; end = n })) j
 named_read src i n j None r is = is_entity n j r is
-named_read src i n j (Some c) r is = is_character c j (named i n c j r is)
+named_read src i n j (Some c) r is = is_character c j (named n r is)
 
 -- a number
 number_read : (src : List ℕ) (i c j : ℕ) (r : Reference) → r ≡ character_of c → IsCharacter src i c j → IsRead src i r j
@@ -80,10 +80,10 @@ reference_sound src i x amp h =
     (λ hash h. chosen (eqb (byte src (i + 2)) 120) _ _ _ h
     (λ hex h.
     let m = number_sound 16 is_hex_digit src i (i + 3) x h in
-    number_read src i m.0 x.1 x.0 m.2 (hexadecimal i m.0 x.1 (hex_stands src i amp (eqb-true _ _ hash) (eqb-true _ _ hex)) m.1))
+    number_read src i m.0 x.1 x.0 m.2 (hexadecimal (hex_stands src i amp (eqb-true _ _ hash) (eqb-true _ _ hex)) m.1))
     (λ dec h.
     let m = number_sound 10 is_digit src i (i + 2) x h in
-    number_read src i m.0 x.1 x.0 m.2 (decimal i m.0 x.1 (hash_stands src i amp (eqb-true _ _ hash)) m.1)))
+    number_read src i m.0 x.1 x.0 m.2 (decimal (hash_stands src i amp (eqb-true _ _ hash)) m.1)))
     (λ name h. chosen (begins is_name_start src (i + 1)) _ _ _ h
     (λ starts h. chosen (eqb (byte src (run_end is_name_char src (i + 1))) 59) _ _ _ h
     (λ closes h.
@@ -122,20 +122,20 @@ name_complete src i n j r =
 -- a reference to a character is read
 pub character_complete : (src : List ℕ) (i c j : ℕ) → IsCharacter src i c j → reference_at src i ≡ Ok (character_of c, j)
 unfolding reference_at
-character_complete src i c j (decimal _ _ _ opens m) =
+character_complete src i c j (decimal opens m) =
     let t = eq-eqb _ _ (hash_bytes src i opens).1 in
     let some = (number_parts m).some in let end = (number_parts m).end in
     let digit = digit_range (byte src (i + 2)) (bytes_pass is_digit src (i + 2) (i + 2) (omega arith) (omega arith)) in
     let dec = ne_eqb (byte src (i + 2)) 120 (λ z. omega arith) in
     let n = number_complete 10 is_digit src i (i + 2) c j m in
     rw (t, dec, n) refl
-character_complete src i c j (hexadecimal _ _ _ opens m) =
+character_complete src i c j (hexadecimal opens m) =
     let bytes = hex_bytes src i opens in let hex = bytes.2 in
     let t = eq-eqb _ _ bytes.1 in
     let x = eq-eqb _ _ hex in
     let n = number_complete 16 is_hex_digit src i (i + 3) c j m in
     rw (t, x, n) refl
-character_complete src i c j (named _ n _ _ r is) =
+character_complete src i c j (named n r is) =
     name_complete src i n j r ∙ ap (λ (o : Option ℕ). Ok (named_or o (record { start = i + 1; end = n }), j)) is
 
 -- and so is one to an entity
@@ -148,9 +148,9 @@ reference_opens src i n j r = let l = (reference_parts r).name.longest in let ne
 
 -- a reference begins with `&`, and has a byte
 pub character_opens : (src : List ℕ) (i c j : ℕ) → IsCharacter src i c j → (byte src i ≡ 38) × (i < j)
-character_opens src i c j (decimal _ _ _ opens m) = let some = (number_parts m).some in let next = (number_parts m).next in ((hash_bytes src i opens).0, omega arith)
-character_opens src i c j (hexadecimal _ _ _ opens m) = let some = (number_parts m).some in let next = (number_parts m).next in ((hex_bytes src i opens).0, omega arith)
-character_opens src i c j (named _ n _ _ r is) = let l = (reference_parts r).name.longest in let next = (reference_parts r).next in ((reference_parts r).opens, omega (arith, run_end_le is_name_char src (i + 1)))
+character_opens src i c j (decimal opens m) = let some = (number_parts m).some in let next = (number_parts m).next in ((hash_bytes src i opens).0, omega arith)
+character_opens src i c j (hexadecimal opens m) = let some = (number_parts m).some in let next = (number_parts m).next in ((hex_bytes src i opens).0, omega arith)
+character_opens src i c j (named n r is) = let l = (reference_parts r).name.longest in let next = (reference_parts r).next in ((reference_parts r).opens, omega (arith, run_end_le is_name_char src (i + 1)))
 
 -- a stop is in no name
 stop_no_name : (b : ℕ) → IsStop b → is_name_char b ≡ false
@@ -211,13 +211,13 @@ reference_inside src i stop n j utf8 from long closes r =
 
 -- a reference that begins before a stop ends before it
 pub character_inside : (src : List ℕ) (i stop c j : ℕ) → IsUtf8 src → i < stop → stop ≤ length src → (stop < length src → IsStop (byte src stop)) → IsCharacter src i c j → j ≤ stop
-character_inside src i stop c j utf8 from long closes (decimal _ _ _ opens m) =
+character_inside src i stop c j utf8 from long closes (decimal opens m) =
     let hash = (hash_bytes src i opens).1 in
     let apart : stop ≢ i + 1 = λ same. let h = rw (← same) at hash in (stop_apart _ (closes (let l = within src (i + 1) (λ z. omega arith) in omega arith))).2 h in
     number_inside 10 is_digit src (i + 2) stop c j (omega arith) long closes stop_no_digit m
-character_inside src i stop c j utf8 from long closes (hexadecimal _ _ _ opens m) =
+character_inside src i stop c j utf8 from long closes (hexadecimal opens m) =
     let bytes = hex_bytes src i opens in let hash = bytes.1 in let hex = bytes.2 in
     let apart : stop ≢ i + 1 = λ same. let h = rw (← same) at hash in (stop_apart _ (closes (let l = within src (i + 1) (λ z. omega arith) in omega arith))).2 h in
     let apart' : stop ≢ i + 2 = λ same. let h = rw (← same) at hex in (stop_apart _ (closes (let l = within src (i + 2) (λ z. omega arith) in omega arith))).3 h in
     number_inside 16 is_hex_digit src (i + 3) stop c j (omega arith) long closes stop_no_hex m
-character_inside src i stop c j utf8 from long closes (named _ n _ _ r is) = reference_inside src i stop n j utf8 from long closes r
+character_inside src i stop c j utf8 from long closes (named n r is) = reference_inside src i stop n j utf8 from long closes r
