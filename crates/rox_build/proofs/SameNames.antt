@@ -182,9 +182,9 @@ behind_colon src k utf8 colon = IsCharBoundary-after_ascii src k utf8 (stands_wi
 
 -- a name ends in the source
 pub name_inside : (src : List ℕ) (i : ℕ) (name : Name) (e : ℕ) → IsUtf8 src → IsCharBoundary src i → IsQName src i name e → e ≤ length src
-name_inside src i name e utf8 cut (unprefixed _ _ part last) = rw part.longest (run_boundary is_part_char src i utf8 cut).0
-name_inside src i name e utf8 cut (prefixed _ k _ front colon part last) = rw part.longest (run_boundary is_part_char src (k + 1) utf8 (behind_colon src k utf8 colon)).0
-name_inside src i name e utf8 cut (colon_first _ _ colon part last) = rw part.longest (run_boundary is_part_char src (i + 1) utf8 (behind_colon src i utf8 colon)).0
+name_inside src i name e utf8 cut (unprefixed _ _ part last) = rw (ncname_parts part).longest (run_boundary is_part_char src i utf8 cut).0
+name_inside src i name e utf8 cut (prefixed _ k _ front colon part last) = rw (ncname_parts part).longest (run_boundary is_part_char src (k + 1) utf8 (behind_colon src k utf8 colon)).0
+name_inside src i name e utf8 cut (colon_first _ _ colon part last) = rw (ncname_parts part).longest (run_boundary is_part_char src (i + 1) utf8 (behind_colon src i utf8 colon)).0
 
 slice_same : (src dst : List ℕ) (i j n a b k e m f : ℕ) → take n (drop i src) ≡ take n (drop j dst) → a + b ≤ n → k ≡ i + a → e ≡ k + b → m ≡ j + a → f ≡ m + b → slice_range dst m f ≡ slice_range src k e
 slice_same src dst i j n a b k e m f same le ka eb ma fb =

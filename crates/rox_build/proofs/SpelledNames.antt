@@ -12,6 +12,7 @@ use Rattle.rox_grammar.specs.Written.{Name, NamespaceDecl}
 use Rattle.rox_grammar.specs.declared.fault.Fault.{Fault}
 use Rattle.rox_reading.specs.Lexical.{qname_at}
 use Rattle.rox_reading.specs.Tags.{Values, TagRead, tag_at}
+use Rattle.rox_theory.proofs.Productions.{ncname_parts}
 use Rattle.rox_theory.proofs.Basics.{run_end_le}
 use Rattle.rox_theory.proofs.CharLemmas.{run_within}
 use Rattle.rox_theory.proofs.NameLemmas.{qname_le, qname_sound}
@@ -46,7 +47,7 @@ slice_rest src i j n k is le =
 no_colon : (src : List ℕ) (i e k : ℕ) → IsUtf8 src → IsCharBoundary src i → IsNCName src i e → e ≤ length src → i + k < e → (slice_index src (i + k) == 58) ≡ false
 no_colon src i e k utf8 cut part inside less =
     ne_eqb _ 58 (λ colon.
-    let long = part.longest in
+    let long = (ncname_parts part).longest in
     let within = run_within is_part_char src i (i + k) utf8 cut (omega arith) (omega arith) (omega (arith, colon)) (rw colon colon_apart) in
     omega arith)
 

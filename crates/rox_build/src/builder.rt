@@ -69,9 +69,9 @@ pub struct Builder<'input> {
     pub ghost shallow: { vec_len opened + written pending < vec_len nodes.rows },
 }
 
-/// So many elements may be open before their table grows, as many as most texts open, of less than 1 KB: pieces of that size the C
+/// So many elements may be open before their table grows, more than most texts open, of less than 1 KB: pieces of that size the C
 /// library keeps at hand. While it is full, each construct is left to the general step.
-pub const ROOM_TO_OPEN: usize = 12;
+pub const ROOM_TO_OPEN: usize = 20;
 
 /// So many scopes find room before their table grows: most texts have few.
 pub const ROOM_FOR_SCOPES: usize = 4;

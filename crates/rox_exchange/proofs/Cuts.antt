@@ -15,7 +15,7 @@ use Rattle.rox_grammar.specs.Chars.{is_char}
 use Rattle.rox_grammar.specs.FixedTexts.{word_text}
 use Rattle.rox_grammar.specs.declared.fault.Word.TheVariants as word
 use Rattle.rox_grammar.specs.Names.{byte, slice, IsName}
-use Rattle.rox_grammar.specs.Constructs.{AreChars, IsComment, IsLiteral}
+use Rattle.rox_grammar.specs.Constructs.{AreChars, IsComment, IsAttValue}
 use Rattle.rox_grammar.specs.FixedTexts.{double_dash}
 use Rattle.rox_grammar.specs.Content.{IsCharacterData, character_data}
 use Rattle.rox_reading.specs.Lexical.{has_mark}
@@ -138,7 +138,7 @@ module _ (src to : List ℕ) (m : ℕ) (same : take m src ≡ take m to) where
       })
 
   -- a literal
-  pub literal_cut : (i e j : ℕ) → j ≤ m → IsLiteral src i e j → IsLiteral to i e j
+  pub literal_cut : (i e j : ℕ) → j ≤ m → IsAttValue src i e j → IsAttValue to i e j
   unfolding run_end
   literal_cut i e j fits is =
       let next = is.0.3 in

@@ -6,7 +6,7 @@ use Rattle.rox_grammar.specs.Chars.{is_space}
 use Rattle.rox_grammar.specs.Written.{Name, Attribute, Tag}
 use Rattle.rox_grammar.specs.Names.{byte, spaces_end}
 use Rattle.rox_grammar.specs.References.{predefined}
-use Rattle.rox_grammar.specs.Constructs.{IsLiteral, IsPair}
+use Rattle.rox_grammar.specs.Constructs.{IsAttValue, IsPair}
 use Rattle.rox_grammar.specs.Content.{Inclusion, DataByte, literal, Part, part_ends, as_written, from_reference, Value, value_ends, line_end, white, other, a_character, an_entity, is_verbatim_value, IsAttribute, attribute, Attributes, no_more, one_more, TagEnds, opened, closed, IsTag, start_tag}
 use Rattle.rox_exchange.specs.Local.{Fronts}
 use Rattle.rox_exchange.proofs.Cuts.{byte_cut, slice_cut, literal_cut}
@@ -60,7 +60,7 @@ module _ (src to : List ℕ) (m : ℕ) (f : Fronts src to m) where
       (value_cut main Includes j p d c w fits more)
 
   -- a character begins behind a literal
-  pub behind_literal : (i e j : ℕ) → j ≤ m → IsLiteral src i e j → IsCharBoundary (take m src) j
+  pub behind_literal : (i e j : ℕ) → j ≤ m → IsAttValue src i e j → IsCharBoundary (take m src) j
   behind_literal i e j fits is =
       let next = is.0.3 in
       let end = is.0.1 in

@@ -8,7 +8,7 @@ use Rattle.rox_grammar.specs.Search.{mark_from, byte_from}
 use Rattle.rox_grammar.specs.Written.{Name}
 use Rattle.rox_grammar.specs.Names.{byte, slice, spaces_end, IsName, IsNCName, IsQName, unprefixed, prefixed, colon_first}
 use Rattle.rox_grammar.specs.References.{is_digit, is_hex_digit, number, character, predefined, IsNumber, IsReference, IsCharacter, decimal, hexadecimal, named}
-use Rattle.rox_grammar.specs.Constructs.{IsComment, IsPI, IsCData, IsEq, IsLiteral, IsEnd}
+use Rattle.rox_grammar.specs.Constructs.{IsComment, IsPI, IsCData, IsEq, IsAttValue, IsEnd}
 use Rattle.rox_grammar.specs.FixedTexts.{double_dash}
 use Rattle.rox_grammar.specs.Content.{IsCharacterData, character_data}
 use Rattle.rox_grammar.specs.Exchange.{Move, moved}
@@ -174,7 +174,7 @@ module _ (m : Move) (src to : List ℕ) where
       })
 
   -- a literal
-  pub literal_moves : (i k e j : ℕ) → Follows m src i to k → IsLiteral src i e j → IsLiteral to k (moved m e) (moved m j)
+  pub literal_moves : (i k e j : ℕ) → Follows m src i to k → IsAttValue src i e j → IsAttValue to k (moved m e) (moved m j)
   literal_moves i k e j f is =
       let at = f.at in
       let next = is.0.3 in

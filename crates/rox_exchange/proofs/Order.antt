@@ -7,7 +7,7 @@ use Rattle.rox_grammar.specs.Written.{Name, Attribute, Tag, Item}
 use Rattle.rox_grammar.specs.Runs.{run_end}
 use Rattle.rox_grammar.specs.Names.{spaces_end, IsName, IsNCName, IsQName, unprefixed, prefixed, colon_first}
 use Rattle.rox_grammar.specs.References.{IsReference, IsCharacter, decimal, hexadecimal, named}
-use Rattle.rox_grammar.specs.Constructs.{AreChars, IsComment, IsPI, IsCData, IsEq, IsLiteral, IsEnd}
+use Rattle.rox_grammar.specs.Constructs.{AreChars, IsComment, IsPI, IsCData, IsEq, IsAttValue, IsEnd}
 use Rattle.rox_grammar.specs.Content.{Inclusion, IsAttribute, Attributes, no_more, one_more, TagEnds, opened, closed, IsTag, IsMisc, comment, instruction, IsElement, empty, nest, Content, ends, run, cdata, misc, node, attribute, start_tag}
 use Rattle.rox_theory.proofs.Productions.{ncname_parts, number_parts, reference_parts, comment_parts, pi_parts, cdata_parts, end_parts, char_data_parts}
 
@@ -33,7 +33,7 @@ module _ (src : List ℕ) where
   pub eq_lt : (i j : ℕ) → IsEq src i j → i < j
   eq_lt i j is = let l = is.1 in omega (arith, run_le is_space src i, run_le is_space src (spaces_end src i + 1))
 
-  pub literal_lt : (i e j : ℕ) → IsLiteral src i e j → i < e
+  pub literal_lt : (i e j : ℕ) → IsAttValue src i e j → i < e
   literal_lt i e j is = omega (arith, chars_le (i + 1) e is.1)
 
   pub comment_le : (i e j : ℕ) → IsComment src i e j → i + 4 ≤ e

@@ -13,7 +13,7 @@ use Rattle.rox_grammar.specs.Forest.{Forest, Nil, join}
 use Rattle.rox_grammar.specs.Written.{Name, Attribute, Tag, Item, Element}
 use Rattle.rox_grammar.specs.Tree.{listed}
 use Rattle.rox_grammar.specs.Names.{byte, slice, spaces_end, IsQName}
-use Rattle.rox_grammar.specs.Constructs.{AreChars, IsEq, IsLiteral, IsEnd}
+use Rattle.rox_grammar.specs.Constructs.{AreChars, IsEq, IsAttValue, IsEnd}
 use Rattle.rox_grammar.specs.Content.{Inclusion, IsMisc, Value}
 use Rattle.rox_grammar.specs.Entities.{Replacement, Entity, text_of, most_deep}
 use Rattle.rox_grammar.specs.State as grammar
@@ -299,7 +299,7 @@ module _ (opens : ℕ → Inclusion) (es : List Entity) (all : OpensAt opens es)
 
   -- nor in a value of a start tag at a place
   pub value_apart : (k open_around b p c n v e j l i stop d : ℕ) (src part : List ℕ) (s : grammar.State) (tag_name : Name) (as' : List Attribute) (name : Name) (f : Fault) → There k open_around src (state_of s b) → TagBegins src s.at (is_content k s.stack)
-      → TagTo (is_main k) (opens k) src s p b c tag_name as' → IsQName src (spaces_end src p) name n → IsEq src n v → IsLiteral src v e j → ValuePart opens es k src (v + 1) e c l part i stop d → InValue es l (opens l) part i stop d f → ⊥
+      → TagTo (is_main k) (opens k) src s p b c tag_name as' → IsQName src (spaces_end src p) name n → IsEq src n v → IsAttValue src v e j → ValuePart opens es k src (v + 1) e c l part i stop d → InValue es l (opens l) part i stop d f → ⊥
   value_apart k open_around b p c n v e j l i stop d src part s tag_name as' name f r begins to named eq literal is ill =
       let there = tag_there k open_around b src s r begins in
       part_apart l part i stop d f (part_read k src (v + 1) e c l part i stop d (literal_read there.0 there.1 there.2 there.3) is) ill

@@ -16,7 +16,7 @@ use Rattle.rox_grammar.specs.Runs.{begins}
 use Rattle.rox_grammar.specs.Written.{Name, Attribute, NamespaceDecl, Tag, is_namespace_decl, namespace_decl_of, namespace_decls_of, plain_attributes_of}
 use Rattle.rox_grammar.specs.Tree.{xml_uri, xmlns_uri, is_declared, listed, is_xml, listable_of}
 use Rattle.rox_grammar.specs.Names.{byte, spaces_end, IsQName, unprefixed, prefixed, colon_first}
-use Rattle.rox_grammar.specs.Constructs.{IsEq, IsLiteral}
+use Rattle.rox_grammar.specs.Constructs.{IsEq, IsAttValue}
 use Rattle.rox_grammar.specs.Content.{Inclusion, Value, IsAttribute, attribute, Attributes, no_more, one_more, TagEnds, opened, closed, IsTag, start_tag}
 use Rattle.rox_grammar.proofs.TagParts.{TagParts, tag_parts}
 use Rattle.rox_grammar.specs.WellNamed.{may_declare, is_known, same_expanded, IsWellNamed}
@@ -217,13 +217,13 @@ module _ (context : Values) (O : Inclusion) (agrees : AgreesValue context.entiti
     pair_in p q c rest t f (it_goes k d _ more spaces (attribute n v e name value is' read)) no_slash no_close due lack = pair_apart src utf8 (spaces_end src p) n v e k q name t f is'.0 is'.1 is'.2 due lack
 
     -- the value of an attribute that stands behind
-    value_in : (p n v e k c : ℕ) (rest : List Attribute) (name : Name) → Next context.main O src p empty j c rest → IsQName src (spaces_end src p) name n → IsEq src n v → IsLiteral src v e k
+    value_in : (p n v e k c : ℕ) (rest : List Attribute) (name : Name) → Next context.main O src p empty j c rest → IsQName src (spaces_end src p) name n → IsEq src n v → IsAttValue src v e k
         → (d : ℕ) × (w : List ℕ) × Value context.main O src e (v + 1) c d w
     value_in p n v e k c rest name next named eq literal =
         let x = name_follows p j c n empty rest name next named in
         let a = x.2 in let is' = parts_of context.main O src (spaces_end src p) x.0 c x.1 a x.5 in
         let same : v ≡ is'.v = eq_one src n a.name_end v is'.v (one_qname src (spaces_end src p) n a.name_end name a.name named is'.is_name).1 eq is'.eq in
-        let literal' : IsLiteral src is'.v e k = subst (λ (v : ℕ). IsLiteral src v e k) same literal in
+        let literal' : IsAttValue src is'.v e k = subst (λ (v : ℕ). IsAttValue src v e k) same literal in
         let end : is'.e ≡ e = sym (literal_complete src is'.v is'.e x.0 is'.literal) ∙ literal_complete src is'.v e k literal' in
         let value : Value context.main O src e (is'.v + 1) c x.1 a.value = subst (λ (e : ℕ). Value context.main O src e (is'.v + 1) c x.1 a.value) end is'.value in
         (x.1, a.value, subst (λ (v : ℕ). Value context.main O src e (v + 1) c x.1 a.value) (sym same) value)
@@ -295,6 +295,6 @@ module _ (context : Values) (O : Inclusion) (agrees : AgreesValue context.entiti
         absurd (named_in f (subst (λ (t : Tag). IllNamed src s.at (listed (scope_of s.stack) t.declarations) t.name t.attributes f) (same_tag p k c x name as' to ends) ill))
 
     -- and a value in it is read
-    pub value_there : (p c n v e' k : ℕ) (tag_name : Name) (as' : List Attribute) (name : Name) → TagTo context.main O src s p b c tag_name as' → IsQName src (spaces_end src p) name n → IsEq src n v → IsLiteral src v e' k
+    pub value_there : (p c n v e' k : ℕ) (tag_name : Name) (as' : List Attribute) (name : Name) → TagTo context.main O src s p b c tag_name as' → IsQName src (spaces_end src p) name n → IsEq src n v → IsAttValue src v e' k
         → (d : ℕ) × (w : List ℕ) × Value context.main O src e' (v + 1) c d w
     value_there p c n v e' k tag_name as' name to named eq literal = let x = tag_front p c tag_name as' to in value_in p n v e' k c x.0 name x.2 named eq literal

@@ -11,9 +11,9 @@ use Rattle.rox_grammar.specs.Written.{Name}
 use Rattle.rox_grammar.specs.Names.{byte, spaces_end, IsQName}
 use Rattle.rox_grammar.specs.FixedTexts.{word_text, at}
 use Rattle.rox_grammar.specs.Search.{stands}
-use Rattle.rox_grammar.specs.Constructs.{AreChars, IsEq, IsLiteral, IsPair, MayBePair, is_pair, no_pair, DeclarationTo, version, encoding, standalone, IsXmlDecl, xml_decl}
+use Rattle.rox_grammar.specs.Constructs.{AreChars, IsEq, IsAttValue, IsPair, MayBePair, is_pair, no_pair, DeclarationTo, version, encoding, standalone, IsXmlDecl, xml_decl}
 use Rattle.rox_grammar.specs.Constructs as constructs
-use Rattle.rox_grammar.specs.Due.{DueItem, a_byte, a_text, chars_to, IsMissing, none_left, DueInPair, its_name, equals, opening, its_value, closing, value_end, DueInXmlDecl, its_version, in_pair, behind_pair, behind_last, none_of}
+use Rattle.rox_grammar.specs.Due.{DueItem, a_byte, a_text, chars_to, IsMissing, none_left, DueInPair, its_name, equals, opening, its_value, closing, value_end, DueInXmlDecl, its_version, in_pair, behind_pair, behind_standalone, none_of}
 use Rattle.rox_faults.proofs.DueForms.{a_quote, a_space, quote_is}
 use Rattle.rox_grammar.specs.Due as due
 use Rattle.rox_reading.specs.Lexical.{qname_at}
@@ -47,7 +47,7 @@ eq_one src m n v w same a b = a.1 ∙ ap (λ (k : ℕ). spaces_end src (spaces_e
 
 module _ (src : List ℕ) (utf8 : IsUtf8 src) where
   -- in a name, Eq and a literal
-  pub pair_apart : (i n v e j q : ℕ) (name : Name) (t : DueItem) (f : Fault) → IsQName src i name n → IsEq src n v → IsLiteral src v e j → DueInPair src i q t → IsMissing src q t f → ⊥
+  pub pair_apart : (i n v e j q : ℕ) (name : Name) (t : DueItem) (f : Fault) → IsQName src i name n → IsEq src n v → IsAttValue src v e j → DueInPair src i q t → IsMissing src q t f → ⊥
   pair_apart i n v e j q name t f named eq literal its_name lack = qname_stands src i n name f named lack
   pair_apart i n v e j q name t f named eq literal (equals name' m is) lack =
       let same : m ≡ n = (one_qname src i m n name' name is named).1 in
@@ -125,7 +125,7 @@ module _ (src : List ℕ) (utf8 : IsUtf8 src) where
       let there = pair_there i j p text is to here in
       let same : there.4 ≡ q = one_pair p there.1 there.2 there.3 there.4 n v e q there.0 name there.5 pair in
       gap_stands q f (pair_cut src p n v e q name utf8 pair) (subst (IsFollowed src) same there.6) inside no_end lack
-  declaration_apart i j q t f is (behind_last name p n v e k to here pair) lack =
+  declaration_apart i j q t f is (behind_standalone name p n v e k to here pair) lack =
       let there = pair_there i j p (word_text word.Standalone) is to here in
       let same : there.4 ≡ k = one_pair p there.1 there.2 there.3 there.4 n v e k there.0 name there.5 pair in
       word_stands src expected.PIEnd (spaces_end src there.4) f (there.7 refl) (subst (λ (l : ℕ). IsMissing src (spaces_end src l) (a_text expected.PIEnd) f) (sym same) lack)

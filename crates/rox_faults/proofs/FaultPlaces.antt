@@ -13,7 +13,7 @@ use Rattle.rox_grammar.specs.Written.{Name, Attribute, Tag, Item, Element, Text,
 use Rattle.rox_grammar.specs.NameParts.{same_qname}
 use Rattle.rox_grammar.specs.Tree.{listed}
 use Rattle.rox_grammar.specs.Names.{byte, spaces_end, IsQName}
-use Rattle.rox_grammar.specs.Constructs.{IsEq, IsLiteral, IsEnd}
+use Rattle.rox_grammar.specs.Constructs.{IsEq, IsAttValue, IsEnd}
 use Rattle.rox_grammar.specs.Content.{Inclusion, IsTag, literals, line_ends}
 use Rattle.rox_grammar.proofs.TagParts.{tag_parts}
 use Rattle.rox_grammar.specs.Entities.{Entity, most_deep}
@@ -220,7 +220,7 @@ module _ (opens : ℕ → Inclusion) (es : List Entity) (limit : ℕ) (text : Li
         by_kind (ill_value p c n v stop j tag_name as' name to spaces is_name eq literal ill) = refuses_by es src e (λ part f. in_one p c n v stop j tag_name as' name to spaces is_name eq literal part f) ill
           where
             in_one : (p c n v stop j : ℕ) (tag_name : Name) (as' : List Attribute) (name : Name) → TagTo (is_main k) (opens k) src (place_of s) p s.openings_left c tag_name as' → p < spaces_end src p → IsQName src (spaces_end src p) name n → IsEq src n v
-                → IsLiteral src v stop j → (part : List ℕ) (f : Fault) → InPart opens es k src (v + 1) stop c part f → P part f
+                → IsAttValue src v stop j → (part : List ℕ) (f : Fault) → InPart opens es k src (v + 1) stop c part f → P part f
             in_one p c n v stop j tag_name as' name to spaces is_name eq literal part f (in_part l i stop' openings_left part_is ill) =
                 at_point k open_around s.openings_left src (place_of s) part f place (fits_at s fine)
                 (in_value p n v stop j c l i stop' openings_left tag_name name as' part f begins to spaces (is_name, eq, literal) part_is ill)

@@ -18,7 +18,7 @@ use Rattle.rox_grammar.specs.Written.{Name, Attribute, NamespaceDecl, is_namespa
 use Rattle.rox_grammar.specs.NameParts.{local_span, prefix_span}
 use Rattle.rox_grammar.specs.Tree.{xml_uri, xmlns_uri, is_declared, listed, listable_of}
 use Rattle.rox_grammar.specs.Names.{byte, slice, spaces_end, IsQName, unprefixed, prefixed, colon_first}
-use Rattle.rox_grammar.specs.Constructs.{AreChars, IsEq, IsLiteral}
+use Rattle.rox_grammar.specs.Constructs.{AreChars, IsEq, IsAttValue}
 use Rattle.rox_grammar.specs.Content.{Inclusion, IsAttribute, Attributes, no_more, one_more}
 use Rattle.rox_grammar.specs.WellNamed.{may_declare, is_known, same_expanded, may_name}
 use Rattle.rox_grammar.proofs.NamesApart.{DeclarableBehind, DistinctBehind, declarable_behind, are_declarable, are_distinct}
@@ -282,7 +282,7 @@ module _ (opens : ℕ → Inclusion) (es : List Entity) (agrees : (d l : ℕ) �
     pub data TagFails (e : Refusal) : Type 0 where
       itself : (f : Fault) → here f ≡ e → Fails f → TagFails e
       ill_value : (p c n v stop j : ℕ) (tag_name : Name) (as' : List Attribute) (name : Name) → TagTo (is_main level) (opens level) src s p b c tag_name as' → p < spaces_end src p → IsQName src (spaces_end src p) name n → IsEq src n v
-          → IsLiteral src v stop j → Refuses es (InPart opens es level src (v + 1) stop c) src e → TagFails e
+          → IsAttValue src v stop j → Refuses es (InPart opens es level src (v + 1) stop c) src e → TagFails e
 
     -- their declarations may be there, within the limit
     abbrev MayStand : List Attribute → Type 0

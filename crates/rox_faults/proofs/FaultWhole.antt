@@ -29,7 +29,7 @@ use Rattle.rox_grammar.specs.Document.{Behind, Misc, no_misc, space, an_item, Pr
 use Rattle.rox_grammar.specs.State.{root, nodes_so_far, FitsLimits}
 use Rattle.rox_reading.specs.Refusals.{Refusal, here, there, refused, lifted}
 use Rattle.rox_reading.specs.State.{State}
-use Rattle.rox_grammar.specs.Due.{a_byte, a_qname, a_text, chars_to, IsMissing, DueInPair, its_name, equals, opening, its_value, closing, value_end, DueInXmlDecl, its_version, in_pair, behind_pair, behind_last, Misses}
+use Rattle.rox_grammar.specs.Due.{a_byte, a_qname, a_text, chars_to, IsMissing, DueInPair, its_name, equals, opening, its_value, closing, value_end, DueInXmlDecl, its_version, in_pair, behind_pair, behind_standalone, Misses}
 use Rattle.rox_faults.proofs.DueForms.{a_quote, a_space, no_space}
 use Rattle.rox_grammar.specs.Due as dues
 use Rattle.rox_grammar.specs.ContentPoints.{is_main, begins, of_root}
@@ -174,7 +174,7 @@ module _ (src : List ℕ) (utf8 : IsUtf8 src) where
       chosen (stands (word_text word.Standalone) src e.1) _ _ _ read''
       (λ there read''.
       let last = pair_sound src utf8 e.1 s read'' in
-      (spaces_end src s.1, a_text expected.PIEnd, behind_last last.0 e.1 last.1 last.2 last.3 s.1 to_standalone there last.4, bad))
+      (spaces_end src s.1, a_text expected.PIEnd, behind_standalone last.0 e.1 last.1 last.2 last.3 s.1 to_standalone there last.4, bad))
       (λ none same.
       let behind_first = pair_if_ends word.Version src p v.1 utf8 (λ none. absurd (true≢false (sym here ∙ none))) first_pair in
       let behind_second = pair_if_ends word.Encoding src v.1 e.1 utf8 (λ none. behind_first) second in

@@ -24,12 +24,12 @@ AreChars src i j = run_end is_char (take j src) i ≡ j
 abbrev pub IsTextTo : String → List ℕ → ℕ → ℕ → Type 0
 IsTextTo text src i e = (e ≡ first_text text src i) × AreChars src i e × (text_at text src e ≡ true)
 
--- XML 2.5 [15] Comment; its text ends at e, where its first two dashes stand: it holds no two, nor one at its end
+-- XML 2.5 [15] Comment; its text ends at e, where the first two dashes behind `<!--` stand. So it holds no two, nor one at its end.
 pub data IsComment (src : List ℕ) (i e : ℕ) : ℕ → Type 0 where
   comment : text_at "<!--" src i ≡ true → IsTextTo "--" src (i + 4) e → text_at "-->" src e ≡ true → IsComment src i e (e + 3)
 
 -- XML 2.6 [16] PI; its target ends at n, and its value at e. White space behind the target may be none, and of the names only
--- `xml` with a space behind it is no target: 2.6 [17] wants white space and forbids `xml` in any letters, NS 7 a colon.
+-- `xml` with a space behind it is no target: [16] wants white space, [17] forbids `xml` in any letters, and NS 7 a colon.
 pub data IsPI (src : List ℕ) (i n e : ℕ) : ℕ → Type 0 where
   pi : text_at "<?" src i ≡ true → text_at "<?xml " src i ≡ false → IsName src (i + 2) n → IsTextTo "?>" src (spaces_end src n) e → IsPI src i n e (e + 2)
 
@@ -37,7 +37,7 @@ pub data IsPI (src : List ℕ) (i n e : ℕ) : ℕ → Type 0 where
 pub data IsCData (src : List ℕ) (i e : ℕ) : ℕ → Type 0 where
   cd_sect : text_at "<![CDATA[" src i ≡ true → IsTextTo "]]>" src (i + 9) e → IsCData src i e (e + 3)
 
--- XML 2.3 [25] Eq
+-- XML 2.8 [25] Eq
 abbrev pub IsEq : List ℕ → (i j : ℕ) → Type 0
 IsEq src i j = (byte src (spaces_end src i) ≡ code "=") × (j ≡ spaces_end src (spaces_end src i + 1))
 
@@ -49,13 +49,13 @@ IsQuote src i = (byte src i ≡ code "'") ⊎ (byte src i ≡ code "\"")
 abbrev pub IsQuoted : List ℕ → (i e j : ℕ) → Type 0
 IsQuoted src i e j = IsQuote src i × (e ≡ byte_from (λ c. c == byte src i) src (i + 1)) × (e < length src) × (j ≡ e + 1)
 
--- XML 2.3 [10] one with Chars and no `<`
-abbrev pub IsLiteral : List ℕ → (i e j : ℕ) → Type 0
-IsLiteral src i e j = IsQuoted src i e j × AreChars src (i + 1) e × (e ≡ byte_from (λ c. c == code "<") (take e src) (i + 1))
+-- XML 2.3 [10] AttValue: one with Chars and no `<`
+abbrev pub IsAttValue : List ℕ → (i e j : ℕ) → Type 0
+IsAttValue src i e j = IsQuoted src i e j × AreChars src (i + 1) e × (e ≡ byte_from (λ c. c == code "<") (take e src) (i + 1))
 
--- XML 3.1 [41]: a name, Eq, and a literal
+-- XML 3.1 [41], and of a declaration 2.8 [24]: a name up to n, Eq up to v, and there a value in quotes, the last of which stands at e
 abbrev pub IsPair : List ℕ → (i : ℕ) → Name → (n v e j : ℕ) → Type 0
-IsPair src i name n v e j = IsQName src i name n × IsEq src n v × IsLiteral src v e j
+IsPair src i name n v e j = IsQName src i name n × IsEq src n v × IsAttValue src v e j
 
 -- A pair that begins with this text, and white space, which may be none before `?>` and at the end; or nothing where the text does
 -- not stand. The name may go on behind it, and the value is any literal: XML 2.8 [24], [26], 4.3.3 [80], [81] and 2.9 [32] fix both.
@@ -64,7 +64,8 @@ pub data MayBePair (text : List ℕ) (src : List ℕ) (i : ℕ) : ℕ → Type 0
       → (j < spaces_end src j) ⊎ ((text_at "?>" src j ≡ true) ⊎ (length src ≡ j)) → MayBePair text src i (spaces_end src j)
   no_pair : stands text src i ≡ false → MayBePair text src i i
 
--- XML 2.8 [23]: the declaration that begins at i, up to a place where a pair may stand that begins with this text
+-- XML 2.8 [23]: the declaration that begins at i, up to the place where the pair may stand that begins with this text; `version` has
+-- to stand
 pub data DeclarationTo (src : List ℕ) (i : ℕ) : List ℕ → ℕ → Type 0 where
   version : text_at "version" src (spaces_end src (i + 5)) ≡ true → DeclarationTo src i (codes "version") (spaces_end src (i + 5))
   encoding : (p q : ℕ) → DeclarationTo src i (codes "version") p → MayBePair (codes "version") src p q → DeclarationTo src i (codes "encoding") q

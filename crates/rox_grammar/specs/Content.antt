@@ -3,7 +3,6 @@ use Prim.Native.Char.{code}
 use Rattle.std.specs.Prelude.{◌≡◌, ◌≢◌, ℕ, ◌+◌, ◌<◌, ◌≤◌, ◌⊎◌, ◌==◌, ◌||◌, Bool, true, false, not, List, [], ◌∷◌, ◌++◌, None, map, if◌then◌else◌, ◌&&◌}
 use Rattle.std.specs.List.{list_any}
 use Rattle.std.specs.Char.{encode_utf8}
-use Rattle.std.specs.Prelude.{◌&&◌}
 use Rattle.rox_grammar.specs.Runs.{first_passes}
 use Rattle.rox_grammar.specs.Search.{byte_from}
 use Rattle.rox_grammar.specs.Forest.{Forest, Nil, Cons, join}
@@ -113,8 +112,8 @@ module _ (main : Bool) (Includes : Inclusion) (src : List ℕ) where
 
   -- XML 3.1 [41] Attribute
   pub data IsAttribute (i j b c : ℕ) : Attribute → Type 0 where
-    attribute : (n v e : ℕ) (name : Name) (value : List ℕ) → IsPair src i name n v e j → Value e (v + 1) b c value
-        → IsAttribute i j b c (record { start = i; name_end = n; value_start = v + 1; end = j; name = name; value = value; borrowed = is_verbatim_value (slice src (v + 1) e) })
+    attribute : (n v e : ℕ) (name : Name) (value : List ℕ) → IsPair src i name n v e j → Value e (v + 1) b c value → IsAttribute i j b c
+        (record { start = i; name_end = n; value_start = v + 1; end = j; name = name; value = value; borrowed = is_verbatim_value (slice src (v + 1) e) })
 
   -- attributes, each after white space
   pub data Attributes : ℕ → ℕ → ℕ → ℕ → List Attribute → Type 0 where

@@ -53,11 +53,13 @@ module _ (k : ℕ) (Includes : Inclusion) (src : List ℕ) (s : State) where
 abbrev pub RefersTo : List Entity → List ℕ → (p j : ℕ) → Replacement → Type 0
 RefersTo es src p j t = (n : ℕ) × IsReference src p n j × (predefined (slice src (p + 1) n) ≡ None) × (text_of es (slice src (p + 1) n) ≡ Some t)
 
--- the run at i is read up to a reference to an entity, which stands at p: the items before it, and its replacement text
+-- the run at i is read up to a reference to an entity, which stands from p up to j: the items before it, the openings that are left at i
+-- and at p, and its replacement text
 abbrev pub RunTo : List Entity → (main : Bool) → Inclusion → List ℕ → (i p j b c : ℕ) → Forest Item → Replacement → Type 0
 RunTo es main Includes src i p j b c front t = (e : ℕ) × IsCharacterData src i e × Parts main Includes src false i e p i b c front × (p < e) × RefersTo es src p j t
 
--- where k replacement texts are open and b openings are left, one more may be opened, with r left in it
+-- where k replacement texts are open and b openings are left, one more may be opened, with r left in it, whatever is left at its end
+-- and behind it
 abbrev pub MayOpen : (k b r : ℕ) → Type 0
 MayOpen k b r = (k < most_deep) × (l : ℕ) × (c : ℕ) × Spends (is_main k) b r l c
 
@@ -67,7 +69,8 @@ IsSpent k b = (r : ℕ) → MayOpen k b r → ⊥
 
 -- A point that content reaches from the left: with k replacement texts open, around which `open_around` elements are open, in this
 -- source, with b openings left, and what is read and open there. `opens k` is the meaning of a reference there.
-pub data ContentPoint (opens : ℕ → Inclusion) (es : List Entity) (text : List ℕ) (Root : ℕ → Forest Item → Type 0) : (k around : ℕ) → List ℕ → ℕ → State → Type 0 where
+pub data ContentPoint (opens : ℕ → Inclusion) (es : List Entity) (text : List ℕ) (Root : ℕ → Forest Item → Type 0)
+    : (k open_around : ℕ) → List ℕ → ℕ → State → Type 0 where
   begins : (p : ℕ) (items : Forest Item) → Root p items → ContentPoint opens es text Root 0 0 text most_within (record { at = p; done = items; stack = root })
   -- no element is closed that a replacement text did not open
   goes : (k open_around b c : ℕ) (src : List ℕ) (s t : State) → ContentPoint opens es text Root k open_around src b s → StepsOver k (opens k) src s b t c
@@ -86,7 +89,7 @@ pub data ValuePart (opens : ℕ → Inclusion) (es : List Entity) (k : ℕ) (src
       → Value (is_main l) (opens l) part p i d c front → p < stop → RefersTo es part p j t → MayOpen l c r
       → ValuePart opens es k src start end b (suc l) t.source t.start (length t.source) r
 
--- The start tag that begins at a place is read up to p, right behind its name or one of these attributes and declarations.
+-- The start tag that begins at a place is read up to p, right behind this name or one of these attributes and declarations.
 -- No fault of the tag stands before p: each declaration may be there, and with their pairs the limit is kept.
 abbrev pub TagTo : (main : Bool) → Inclusion → List ℕ → State → (p b c : ℕ) → Name → List Attribute → Type 0
 TagTo main Includes src s p b c name written =

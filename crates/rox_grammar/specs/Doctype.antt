@@ -73,7 +73,7 @@ module _ (src : List ℕ) where
   pub data BeginsEntity (i : ℕ) (parameter : Bool) (n m d : ℕ) : Type 0 where
     entity_begins : (k : ℕ) → text_at "<!ENTITY" src i ≡ true → IsSpace (i + 8) k → IsKind k parameter n → IsName src n m → IsSpace m d → BeginsEntity i parameter n m d
 
-  -- the declaration of an external entity that begins at i asks this, read up to p
+  -- XML 4.2.2: the declaration of an external entity that begins at i asks this, read up to p
   pub data AsksAt (i : ℕ) (request : Request) (p : ℕ) : Type 0 where
     external_entity : (parameter : Bool) (n m d e : ℕ) → BeginsEntity i parameter n m d → IsExternalID d request e → MayHaveNotation parameter e p → AsksAt i request p
     -- The text is cut off where the name of a notation should stand: what is asked stands before it.
@@ -108,7 +108,7 @@ module _ (src : List ℕ) where
     external_id : (i j : ℕ) (request : Request) → IsExternalID i request j → MayHaveExternalID i j
     no_external_id : (i : ℕ) → text_at "SYSTEM" src i ≡ false → text_at "PUBLIC" src i ≡ false → MayHaveExternalID i i
 
-  -- XML 2.8 [28] doctypedecl up to its `>` or `[`, which stands at s. The name may have any colons, where NS 4 [16] wants a QName.
+  -- XML 2.8 [28] doctypedecl from i up to its `>` or `[`. The name may have any colons, where NS 5 [16] wants a QName.
   pub data BeginsDoctype (i : ℕ) : ℕ → Type 0 where
     doctype_begins : (n m x : ℕ) → text_at "<!DOCTYPE" src i ≡ true → IsSpace (i + 9) n → IsName src n m → MayHaveExternalID (spaces_end src m) x
         → BeginsDoctype i (spaces_end src x)

@@ -84,13 +84,13 @@ pub data DueInPair (src : List ℕ) (i : ℕ) : ℕ → DueItem → Type 0 where
   closing : (name : Name) (n v : ℕ) → IsQName src i name n → IsEq src n v → IsQuote src v
       → (length src ≤ value_end src v) ⊎ AreChars src (v + 1) (value_end src v) → DueInPair src i (value_end src v) (a_byte (byte src v))
 
--- XML 2.8 [23]: in the declaration that begins at i, where no white space is due behind the last pair, before `?>` and at the end
+-- XML 2.8 [23]: in the declaration that begins at i. White space is due behind a pair, but for `standalone`, before `?>` and at the end.
 pub data DueInXmlDecl (src : List ℕ) (i : ℕ) : ℕ → DueItem → Type 0 where
   its_version : DueInXmlDecl src i (spaces_end src (i + 5)) (a_text expected.Version)
   in_pair : (text : List ℕ) (j p : ℕ) (t : DueItem) → DeclarationTo src i text j → stands text src j ≡ true → DueInPair src j p t → DueInXmlDecl src i p t
   behind_pair : (text : List ℕ) (name : Name) (j n v e p : ℕ) → DeclarationTo src i text j → stands text src j ≡ true → text ≢ codes "standalone"
       → IsPair src j name n v e p → p < length src → text_at "?>" src p ≡ false → DueInXmlDecl src i p (one_of due.Space)
-  behind_last : (name : Name) (j n v e p : ℕ) → DeclarationTo src i (codes "standalone") j → text_at "standalone" src j ≡ true → IsPair src j name n v e p
+  behind_standalone : (name : Name) (j n v e p : ℕ) → DeclarationTo src i (codes "standalone") j → text_at "standalone" src j ≡ true → IsPair src j name n v e p
       → DueInXmlDecl src i (spaces_end src p) (a_text expected.PIEnd)
   its_end : (j : ℕ) → DeclarationTo src i (codes "standalone") j → text_at "standalone" src j ≡ false → DueInXmlDecl src i j (a_text expected.PIEnd)
 
@@ -105,7 +105,7 @@ pub data DueInExternalID (src : List ℕ) (i : ℕ) : ℕ → DueItem → Type 0
   first : (p : ℕ) (t : DueItem) → (text_at "SYSTEM" src i ≡ true) ⊎ (text_at "PUBLIC" src i ≡ true) → DueInLiteral src (i + 6) p t → DueInExternalID src i p t
   second : (s e j p : ℕ) (t : DueItem) → text_at "PUBLIC" src i ≡ true → IsSpace src (i + 6) s → IsQuoted src s e j → DueInLiteral src j p t → DueInExternalID src i p t
 
--- XML 4.2 [70]: in the entity declaration that begins at i, up to its definition
+-- XML 4.2 [70]: in the entity declaration that begins at i, up to the end of its definition
 pub data DueInEntity (src : List ℕ) (i : ℕ) : ℕ → DueItem → Type 0 where
   space_before : DueInEntity src i (i + 8) (one_of due.Space)
   space_of_kind : (k : ℕ) → IsSpace src (i + 8) k → byte src k ≡ code "%" → DueInEntity src i (k + 1) (one_of due.Space)

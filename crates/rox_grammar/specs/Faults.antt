@@ -54,7 +54,8 @@ pub data InReferences (es : List Entity) (src : List ℕ) (p : ℕ) : Fault → 
 -- ---- in a run that begins at i (XML 2.4), where k replacement texts are open and b openings are left
 pub data InRun (es : List Entity) (k : ℕ) (Includes : Inclusion) (src : List ℕ) (i b : ℕ) : Fault → Type 0 where
   no_char : (f : Fault) → IsMissing src i (chars_to (byte_from (λ c. c == code "<") src i)) f → InRun es k Includes src i b f
-  end_mark : (e : ℕ) → e ≡ byte_from (λ c. c == code "<") src i → AreChars src i e → first_text "]]>" src i < e → InRun es k Includes src i b (fault.InvalidCharacterData e)
+  end_mark : (e : ℕ) → e ≡ byte_from (λ c. c == code "<") src i → AreChars src i e → first_text "]]>" src i < e
+      → InRun es k Includes src i b (fault.InvalidCharacterData e)
   -- any of its references
   in_reference : (e p : ℕ) (f : Fault) → IsCharacterData src i e → i ≤ p → p < e → InReferences es src p f → InRun es k Includes src i b f
   -- the first one that may open none
@@ -127,7 +128,7 @@ module _ (main : Bool) (Includes : Inclusion) (src : List ℕ) (s : State) (b : 
   pub data InTag : Fault → Type 0 where
     no_name : (f : Fault) → IsMissing src (s.at + 1) a_qname f → InTag f
     xmlns_prefix : (name : Name) (n : ℕ) → IsQName src (s.at + 1) name n → name.prefix ≡ codes "xmlns" → InTag (fault.InvalidElementNamePrefix (s.at + 1))
-    in_rest : (p c : ℕ) (n : Name) (as' : List Attribute) (f : Fault) → TagTo main Includes src s p b c n as' → InTagRest main Includes src s n as' p c f → InTag f
+    in_rest : (p c : ℕ) (name : Name) (as' : List Attribute) (f : Fault) → TagTo main Includes src s p b c name as' → InTagRest main Includes src s name as' p c f → InTag f
 
 -- ---- in the end tag that begins at a place (XML 3.1 [42]), where `open_around` elements are open around the replacement text
 pub data InEnd (open_around : ℕ) (src : List ℕ) (s : State) : Fault → Type 0 where
@@ -149,6 +150,7 @@ module _ (limit : ℕ) (es : List Entity) (k open_around : ℕ) (Includes : Incl
     -- `<` at the end, or `<!` of neither a comment nor a section
     unknown : is_content k s.stack ≡ true → byte src s.at ≡ code "<"
         → (length src ≡ s.at + 1) ⊎ ((byte src (s.at + 1) ≡ code "!") × (text_at "<!--" src s.at ≡ false) × (text_at "<![CDATA[" src s.at ≡ false)) → Stands (fault.UnknownToken s.at)
+    -- the text ends where an element is open that it opened; around the main text none is
     unclosed : open_around < depth_of s.stack → length src ≤ s.at → Stands (cut_off (is_main k) s.stack)
     -- behind the construct that begins here
     too_many_nodes : (c : ℕ) (t : State) → StepsOver k Includes src s b t c → HasTooManyNodes limit (tree_so_far t.stack t.done) → Stands fault.NodesLimitReached
@@ -168,7 +170,7 @@ pub data AtPoint (opens : ℕ → Inclusion) (es : List Entity) (limit k open_ar
 -- Of this text, with at most `limit` nodes, the fault stands in this source, in the part that begins where `Front` says what
 -- stands before: before the root element, in it, or behind it. All before it is as the grammar wants and within the limits.
 -- Positions and names of the fault count in the source. The flag says that a document type declaration stands before.
-module _ (opens : ℕ → Inclusion) (es : List Entity) (limit : ℕ) (text : List ℕ) (declared : Bool) (Front : ℕ → Forest Item → Type 0) where
+module _ (opens : ℕ → Inclusion) (es : List Entity) (limit : ℕ) (text : List ℕ) (dtd : Bool) (Front : ℕ → Forest Item → Type 0) where
   pub data FaultFrom : List ℕ → Fault → Type 0 where
     misc_around : (p : ℕ) (items : Forest Item) (f : Fault) → Front p items ⊎ Behind (opens 0) text Front p items → FitsLimits limit root items
         → InMiscs limit text p items f → FaultFrom text f
@@ -176,7 +178,7 @@ module _ (opens : ℕ → Inclusion) (es : List Entity) (limit : ℕ) (text : Li
     unknown_ahead : (p : ℕ) (items : Forest Item) → Front p items → FitsLimits limit root items → p < length text → is_space (byte text p) ≡ false
         → byte text p ≢ code "<" → FaultFrom text (fault.UnknownToken p)
     at_point : (k open_around b : ℕ) (src : List ℕ) (s : State) (source : List ℕ) (f : Fault)
-        → ContentPoint opens es text (λ p items. Front p items × RootBegins declared text p) k open_around src b s → FitsLimits limit s.stack s.done
+        → ContentPoint opens es text (λ p items. Front p items × RootBegins dtd text p) k open_around src b s → FitsLimits limit s.stack s.done
         → AtPoint opens es limit k open_around src s b source f → FaultFrom source f
     unknown_behind : (p : ℕ) (items : Forest Item) → Behind (opens 0) text Front p items → FitsLimits limit root items → p < length text
         → is_space (byte text p) ≡ false → text_at "<!--" text p ≡ false → text_at "<?" text p ≡ false → FaultFrom text (fault.UnknownToken p)

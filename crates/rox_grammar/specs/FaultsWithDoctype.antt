@@ -32,7 +32,7 @@ module _ (limit : ℕ) (src : List ℕ) (i p : ℕ) (items : Forest Item) (asked
     -- no `>` behind its definition, for which these are asked
     entity_open : (n m d e : ℕ) (parameter : Bool) (first : List Asked) (text : Option Replacement) (f : Fault) → BeginsEntity src p parameter n m d
         → IsDefinition src parameter d e first text → IsMissing src (spaces_end src e) (a_byte (code ">")) f → InSubset (asked ++ first) src f
-    -- the text ends behind what is asked there, or where the name of its notation is due
+    -- the text ends right behind the definition of an external entity, as `entity_open` says too, or where the name of its notation is due
     entity_cut : (j : ℕ) (request : Request) (answer : Option (List ℕ)) (text : Option Replacement) → AsksAt src p request j → length src ≤ j
         → GivesReplacement answer text → InSubset (asked ++ record { request = request; answer = answer } ∷ []) src fault.UnexpectedEndOfStream
     -- in the declaration of what is answered (XML 4.3.1 [77])

@@ -38,7 +38,7 @@ predefined name =
     else if bytes_eq name (codes "apos") then Some (code "'")
     else None
 
--- digits from d up to e, then `;`, of a Char below 2^32
+-- XML 4.1 [66]: from d on digits, and `;`. Their number is below 2^32, and gives the Char c.
 pub data IsNumber (base : ℕ) (is : ℕ → Bool) (src : List ℕ) (d c : ℕ) : ℕ → Type 0 where
   digits : (e : ℕ) → e ≡ bytes_end is src d → d < e → byte src e ≡ code ";" → number base (slice src d e) < 2 ^ 32 → c ≡ character (number base (slice src d e))
       → is_char c ≡ true → IsNumber base is src d c (e + 1)

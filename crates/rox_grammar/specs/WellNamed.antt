@@ -5,8 +5,8 @@ use Rattle.rox_grammar.specs.Forest.{Forest, Nil, Cons}
 use Rattle.rox_grammar.specs.Written.{Name, Attribute, NamespaceDecl, Tag, Item, Element}
 use Rattle.rox_grammar.specs.Tree.{xml_uri, xmlns_uri, same_prefix, is_xml, is_declared, scope_in, attribute_namespace}
 
--- NS 3: `xml` and only `xml` may be bound to its URI, and nothing to that of `xmlns`. NS 3 also forbids the prefix `xmlns`, and
--- the empty text for a prefix; and by NS 2.2 the value is a URI.
+-- NS 3: `xml` and only `xml` may be bound to its URI, and nothing to that of `xmlns`. NS 3 also forbids the prefix `xmlns`,
+-- NS 5 (No Prefix Undeclaring) the empty text for a prefix; and by NS 2.2 the value is a URI.
 abbrev pub may_declare : NamespaceDecl → Bool
 may_declare d = not (bytes_eq d.uri xmlns_uri) && (if is_xml d.prefix then bytes_eq d.uri xml_uri else not (bytes_eq d.uri xml_uri))
 

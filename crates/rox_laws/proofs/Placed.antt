@@ -157,7 +157,7 @@ module _ (src : List ℕ) (utf8 : IsUtf8 src) where
   declaration_fits i p t opens due.DueInXmlDecl.its_version = (version_cut i opens).0
   declaration_fits i p t opens (due.DueInXmlDecl.in_pair text j _ _ to here is) = pair_fits j p t (begins_inside i text j to here) is
   declaration_fits i p t opens (due.DueInXmlDecl.behind_pair text name j n v e _ to here other pair below no_end) = tt
-  declaration_fits i p t opens (due.DueInXmlDecl.behind_last name j n v e k to here pair) = (run_cut is_space src k utf8 (pair_cut j n v e k name pair)).0
+  declaration_fits i p t opens (due.DueInXmlDecl.behind_standalone name j n v e k to here pair) = (run_cut is_space src k utf8 (pair_cut j n v e k name pair)).0
   declaration_fits i p t opens (due.DueInXmlDecl.its_end _ (constructs.DeclarationTo.standalone v _ (constructs.DeclarationTo.encoding _ _ (constructs.DeclarationTo.version _) first_pair) second) none) =
       (may_cut word.Encoding v p (may_cut word.Version (spaces_end src (i + 5)) v (version_cut i opens) first_pair) second).0
 

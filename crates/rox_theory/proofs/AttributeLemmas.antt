@@ -7,7 +7,7 @@ use Rattle.rox_grammar.specs.Chars.{is_space, is_name_start}
 use Rattle.rox_grammar.specs.Runs.{begins}
 use Rattle.rox_grammar.specs.Written.{Name, Attribute}
 use Rattle.rox_grammar.specs.Names.{byte, slice, spaces_end, IsQName, unprefixed, prefixed, colon_first}
-use Rattle.rox_grammar.specs.Constructs.{IsEq, IsLiteral}
+use Rattle.rox_grammar.specs.Constructs.{IsEq, IsAttValue}
 use Rattle.rox_grammar.specs.Content.{Inclusion, IsAttribute, TagEnds}
 use Rattle.rox_grammar.specs.Content as content
 use Rattle.rox_reading.specs.Lexical.{byte_at, quote_at, qname_at}
@@ -30,7 +30,7 @@ pub record RawStands (src : List ℕ) (i j : ℕ) (raw : RawAttribute) : Type 0 
   pub v : ℕ
   pub eq : IsEq src raw.name_end v
   pub value_start : raw.value_start ≡ v + 1
-  pub literal : IsLiteral src v raw.value_end j
+  pub literal : IsAttValue src v raw.value_end j
 
 -- an attribute that is read stands there, its value apart
 pub raw_sound : (src : List ℕ) → IsUtf8 src → (i : ℕ) (x : RawAttribute × ℕ) → attribute_at src i ≡ Ok x → RawStands src i x.1 x.0
@@ -57,7 +57,7 @@ raw_sound src utf8 i x h =
     let l = literal_sound src v quote.0 c.0 same (leb-false _ _ some) in
     let next : d.1 ≡ e + 1 = rw t1 at b.1 in
     let x0 : ◌≡◌ {A = RawAttribute × ℕ} (record { start = i; name = n.0; name_end = n.1; value_start = q.1; value_end = t.1 }, d.1) x = ok_same _ _ h in
-    let l' : IsLiteral src v t.1 d.1 = subst (λ (m : ℕ). IsLiteral src v m d.1) (sym t1) (subst (λ (m : ℕ). IsLiteral src v e m) (sym next) l) in
+    let l' : IsAttValue src v t.1 d.1 = subst (λ (m : ℕ). IsAttValue src v m d.1) (sym t1) (subst (λ (m : ℕ). IsAttValue src v e m) (sym next) l) in
     subst (λ (y : RawAttribute × ℕ). RawStands src i y.1 y.0) x0
     (record { starts = refl; is_name = qname_sound src i n named; v = v; eq = (eq.0, ap (spaces_end src) eq.1); value_start = q1; literal = l' })))))))
 
@@ -177,11 +177,11 @@ quote_stop b (inl h) = inr (inl h)
 quote_stop b (inr h) = inr (inr h)
 
 -- a literal ends where a quote stops it
-pub literal_stop : (src : List ℕ) (v e j : ℕ) → IsLiteral src v e j → IsStop (byte src e)
+pub literal_stop : (src : List ℕ) (v e j : ℕ) → IsAttValue src v e j → IsStop (byte src e)
 literal_stop src v e j l = rw (literal_closes src v e j l) (quote_stop (byte src v) l.0.0)
 
 -- the place behind its quote
-value_cut : (src : List ℕ) → IsUtf8 src → (v e j : ℕ) → IsLiteral src v e j → IsCharBoundary src (v + 1)
+value_cut : (src : List ℕ) → IsUtf8 src → (v e j : ℕ) → IsAttValue src v e j → IsCharBoundary src (v + 1)
 value_cut src utf8 v e j l = let q = quote_ascii (byte src v) l.0.0 in cut_behind src v (byte src v) (v + 1) utf8 refl (omega arith) (omega arith) refl
 
 module _ (context : Values) (O : Inclusion) (agrees : AgreesValue context.entities O context.opener) (src : List ℕ) (utf8 : IsUtf8 src) where

@@ -2,7 +2,7 @@
 use Rattle.std.proofs.Common.{◌≡◌, ℕ, ◌+◌, Bool, List, refl, subst}
 use Rattle.rox_grammar.specs.Written.{Attribute}
 use Rattle.rox_grammar.specs.Names.{slice, IsQName}
-use Rattle.rox_grammar.specs.Constructs.{IsEq, IsLiteral}
+use Rattle.rox_grammar.specs.Constructs.{IsEq, IsAttValue}
 use Rattle.rox_grammar.specs.Content.{Inclusion, is_verbatim_value, Value, IsAttribute, attribute}
 
 pub record AttributeParts (main : Bool) (O : Inclusion) (src : List ℕ) (i j b c : ℕ) (a : Attribute) : Type 0 where
@@ -11,7 +11,7 @@ pub record AttributeParts (main : Bool) (O : Inclusion) (src : List ℕ) (i j b 
   pub v : ℕ
   pub eq : IsEq src a.name_end v
   pub e : ℕ
-  pub literal : IsLiteral src v e j
+  pub literal : IsAttValue src v e j
   pub value_start : a.value_start ≡ v + 1
   pub end : a.end ≡ j
   pub value : Value main O src e (v + 1) b c a.value
