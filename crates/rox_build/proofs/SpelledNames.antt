@@ -64,8 +64,8 @@ name_spelled src i name e utf8 cut (prefixed _ k _ front colon part last) =
     let long = slice_long src i e inside in
     let le = run_end_le is_part_char src i in
     let le' = run_end_le is_part_char src (k + 1) in
-    let x = front.longest in
-    let y = part.longest in
+    let x = (ncname_parts front).longest in
+    let y = (ncname_parts part).longest in
     let at : i + (k - i) ≡ k = omega arith in
     let bs = slice_range src i e in
     let there : before_colon bs ≡ k - i = position_or_len_is (λ b. b == 58) bs (k - i) 0 (omega arith)
@@ -78,7 +78,7 @@ name_spelled src i name e utf8 cut (colon_first _ _ colon part last) =
     let inside = name_inside src i (record { prefix = []; local = slice_range src (i + 1) e }) e utf8 cut (colon_first i e colon part last) in
     let long = slice_long src i e inside in
     let le = run_end_le is_part_char src (i + 1) in
-    let y = part.longest in
+    let y = (ncname_parts part).longest in
     let bs = slice_range src i e in
     let there : before_colon bs ≡ 0 = position_or_len_is (λ b. b == 58) bs 0 0 (omega arith) (λ m less. absurd (omega arith))
     (λ more. rw (slice_byte src i e 0 (omega arith), add-zero i) (eq-eqb _ 58 colon)) in
