@@ -36,7 +36,7 @@ use Rattle.rox_grammar.specs.Names.{spaces_end}
 use Rattle.rox_grammar.specs.Written.{Name, Attribute, NamespaceDecl, is_namespace_decl}
 use Rattle.rox_reading.specs.Lexical.{qname_at, byte_at, quote_at}
 use Rattle.rox_reading.specs.Markup.{RawAttribute, TagItem, more, opened, closed, attribute_at, raw_value_at, tag_item_at, end_tag_at}
-use Rattle.rox_reading.specs.Values.{ValueInclusion, value_at}
+use Rattle.rox_reading.specs.Values.{ValueInclusion, is_special, value_at}
 use Rattle.rox_reading.specs.Tags.{Values, attributes_at, names_tested, attribute_with}
 use Rattle.rox_tables.specs.Bindings.{FindsBinding}
 use Rattle.rox_tables.specs.Rows.{AttributeRow, NamespaceWithin, namespace_view, attribute, attribute_uri}
@@ -46,13 +46,15 @@ use Rattle.rox_tables.specs.ResolvedNames.{AddsResolved, row_of_unresolved}
 use Rattle.rox_tables.specs.declared.namespaces.bindings.PrefixBindings.{PrefixBindings}
 use Rattle.rox_tables.specs.declared.namespaces.unresolved_attribute.UnresolvedAttribute.{UnresolvedAttribute}
 use Rattle.rox_tables.proofs.Stable.{all_append}
-use Rattle.rox_build.specs.PlainTag.{HasPlainValue, HasScope, few_in, IsValueStart, IsPlainAttribute, AddsPlain, PlainSoFar, ArePlainAttributes, EndsNear, holding}
+use Rattle.rox_build.specs.PlainTag.{EndsVerbatim, HasPlainValue, HasScope, few_in, IsValueStart, IsPlainAttribute, AddsPlain, PlainSoFar, ArePlainAttributes, EndsNear, holding}
 use Rattle.std.specs.Str.{IsUtf8, IsCharBoundary}
 use Rattle.std.proofs.lemmas.Bool.Decides.{nat_tests}
 use Rattle.std.proofs.lemmas.Str.{IsCharBoundary-after_ascii}
 use Rattle.rox_grammar.specs.Chars.{is_space, is_name_start, is_name_char, is_part_char}
 use Rattle.rox_scan.specs.ByteSets.{AllPass, EndsSet, is_part_byte, is_value_byte}
 use Rattle.std.proofs.lemmas.Bool.{cases_eq}
+use Rattle.rox_scan.specs.Lookahead.{ends_value}
+use Rattle.rox_scan.proofs.LongerLemmas.{looked_on, looked_value, value_near}
 use Rattle.rox_scan.proofs.NearLemmas.{near_plain, short_value, value_cut, part_cut, part_stops}
 use Rattle.rox_scan.proofs.NearLemmas.{part_begins as letter_begins}
 use Rattle.rox_scan.proofs.TableLemmas.{agree_below, agree_at}
@@ -127,6 +129,21 @@ value_closed src i e q utf8 cut quote onward within passes stops here =
       here = eqb-true _ _ here;
       onward = onward;
       cut = end;
+      is = refl;
+    }
+
+-- the same of one that goes on behind them
+pub value_went_on : (src : List ℕ) (i n j q : ℕ) → IsUtf8 src → IsCharBoundary src i → (q == 39 || q == 34) ≡ true → i ≤ n → n ≤ length src → AllPass is_value_byte src i n
+    → (n < length src → is_value_byte (slice_index src n) ≡ false) → EndsVerbatim src n q j → HasPlainValue src i q j (slice_range src i j)
+value_went_on src i n j q utf8 cut quote onward within passes stops ends =
+    let near = value_near src q i n utf8 quote cut onward within passes stops in
+    let look = looked_on is_special (ends_value q src) src i n j true true utf8 cut near ends.looked in
+    record {
+      read = looked_value src q i j true quote look ends.here;
+      verbatim = sym look.verbatim_is;
+      here = eqb-true _ _ ends.here;
+      onward = look.onward;
+      cut = look.cut;
       is = refl;
     }
 

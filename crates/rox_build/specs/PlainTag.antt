@@ -13,7 +13,7 @@ use Rattle.rox_grammar.specs.Failures.{name_view}
 use Rattle.rox_grammar.specs.Content.{is_verbatim_value}
 use Rattle.rox_reading.specs.Lexical.{qname_at}
 use Rattle.rox_reading.specs.Markup.{RawAttribute, more, attribute_at, raw_value_at, tag_item_at}
-use Rattle.rox_reading.specs.Values.{ValueInclusion, value_at}
+use Rattle.rox_reading.specs.Values.{ValueInclusion, is_special, value_at}
 use Rattle.rox_reading.specs.Tags.{TagSoFar, Values, attribute_with, attributes_at, names_tested, tag_at}
 use Rattle.rox_tables.specs.Bindings.{FindsBinding}
 use Rattle.rox_tables.specs.Rows.{AttributeRow, AreScopes, NamespaceWithin, namespace_view, attribute, attribute_rows}
@@ -27,6 +27,7 @@ use Rattle.rox_tables.specs.Storage.{storage_bytes, is_borrowed}
 use Rattle.rox_tables.specs.declared.rows.tables.ElementTables.{ElementTables}
 use Rattle.rox_grammar.specs.Document.{most_pairs}
 use Rattle.rox_scan.specs.ByteSets.{EndsSet, is_part_byte, is_value_byte}
+use Rattle.rox_scan.specs.Lookahead.{IsLookahead, ends_value}
 use Rattle.rox_scan.specs.ScanResults.{Finds}
 use Rattle.rox_tables.specs.TagScopes.{HasBindings}
 use Rattle.rox_build.specs.BuilderState.{IsOpenWithin}
@@ -75,6 +76,11 @@ pub record HasPlainValue (src : List ℕ) (i quote j : ℕ) (value : List ℕ) :
 pub record BeginsValue (src : List ℕ) (i q : ℕ) : Type 0 where
   pub cut : IsCharBoundary src i
   pub quote : (q == 39 || q == 34) ≡ true
+
+-- what is left of a value from i on stands for itself, and its quote stands at j behind it
+pub record EndsVerbatim (src : List ℕ) (i q j : ℕ) : Type 0 where
+  pub looked : IsLookahead (ends_value q src) is_special src i j true
+  pub here : (slice_index src j == q) ≡ true
 
 -- the same where each byte up to j stands for itself
 pub record SeesValue (src : List ℕ) (i q j : ℕ) : Type 0 where

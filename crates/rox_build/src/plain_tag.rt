@@ -13,7 +13,7 @@ ghost use Rattle.rox_reading.specs.Values.{is_special};
 ghost use Rattle.std.specs.List.{AllByRecursion};
 ghost use Rattle.rox_tables.specs.SeenNames.{AreSeen};
 ghost use Rattle.rox_build.specs.PlainParts.{EndsEmpty, EndsFirstPart, EndsNearPart, EndsPart, EndsTag, FindsAttributeNamespace, FindsElementNamespace, FindsPlainAttribute, IsNextItem, IsSomePlace, IsWholeName, MayNameBelow, MayNameIn, MayPutNamed, MayPutPart, MayReadBareTag, MayReadNearTag, MayReadPlainTag, PutsSome, SeesEnd, SeesStart};
-ghost use Rattle.rox_build.specs.PlainTag.{BeginsValue, HasPlainValue, HasQuoteBefore, HasScope, IsAttributeName, IsBareTag, IsBeforeLast, IsNearAttribute, IsPlainAttribute, IsPlainName, IsQuoteAt, IsQuoteBehindEquals, IsValueStart, MayPut, MayReadAttributes, PutsPlain, ReadsAttributes, ReadsTag, SeesValue};
+ghost use Rattle.rox_build.specs.PlainTag.{BeginsValue, EndsVerbatim, HasPlainValue, HasQuoteBefore, HasScope, IsAttributeName, IsBareTag, IsBeforeLast, IsNearAttribute, IsPlainAttribute, IsPlainName, IsQuoteAt, IsQuoteBehindEquals, IsValueStart, MayPut, MayReadAttributes, PutsPlain, ReadsAttributes, ReadsTag, SeesValue};
 
 use crate::builder::OpenElement;
 use crate::open_names::has_prefix;
@@ -95,15 +95,14 @@ fn second_part<'input>(text: &'input str, start: usize, colon: usize) -> Option<
     Some(PlainName { name, end })
 }
 
-/// Where the value ends that begins at `start`, behind this quote, if it stands for itself, or 0: by a longer look, as it has other
+/// Where a value with this quote ends, if what is left of it from `at` on stands for itself, or 0: by a longer look, as it has other
 /// bytes too.
 #[inline(never)]
-fn verbatim_value_end(text: &str, start: usize, quote: u8) -> usize
-    requires { BeginsValue text.now start quote }
-    ensures { 0 < result → HasPlainValue text.now start quote result
-        (slice_range text.now start result) }
+fn verbatim_value_end(text: &str, at: usize, quote: u8) -> usize
+    requires { BeginsValue text.now at quote }
+    ensures { 0 < result → EndsVerbatim text.now at quote result }
 {
-    let look = scan_value(Cursor { text, pos: start }, Quote { byte: quote });
+    let look = scan_value(Cursor { text, pos: at }, Quote { byte: quote });
     if look.is_verbatim && is_at(text, look.end, quote) {
         look.end
     } else {
@@ -125,7 +124,7 @@ fn plain_value_end(text: &str, start: usize, quote: u8, near: usize) -> Option<u
     if changes(text, near) {
         return None;
     }
-    let end = verbatim_value_end(text, start, quote);
+    let end = verbatim_value_end(text, near, quote);
     if end == 0 {
         return None;
     }

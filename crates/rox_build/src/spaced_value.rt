@@ -15,7 +15,7 @@ ghost use Rattle.rox_build.specs.PlainTag.{BeginsValue};
 use rox_scan::byte_set::{ByteSet, ValueByte, skip_set};
 use rox_scan::cursor::Cursor;
 use rox_scan::lookahead::{StretchByte, after_char, changes, is_special};
-use rox_scan::nibbles::classes;
+use rox_scan::nibbles::by_low;
 use rox_scan::runs::is_at;
 use rox_tables::rows::recent_texts::{Recent, owned_value};
 use rox_tables::rows::storage::StringStorage;
@@ -26,10 +26,10 @@ use std::simd::prelude::*;
 /// The bytes of a value that stand for themselves, white space, and `&`.
 struct SpacedByte;
 
-// Classes that a byte of the set has none of, and any other has one.
-const SPACED_LOW: [u8; 16] = [1, 1, 3, 1, 1, 1, 1, 3, 1, 16, 16, 1, 5, 16, 1, 9];
-
-const SPACED_HIGH: [u8; 16] = [1, 17, 2, 4, 0, 0, 0, 0, 0, 0, 0, 0, 0, 0, 8, 0];
+// The controls of the set, and the bytes above them that are none of it, each at its low half.
+const SPACED_EXCEPTIONS: [u8; 16] = [
+    1, 0, b'"', 0, 0, 0, 0, b'\'', 0, b'\t', b'\n', 0, b'<', b'\r', 0, 239,
+];
 
 impl ByteSet for SpacedByte {
     ghost test = { is_spaced_byte };
@@ -42,9 +42,8 @@ impl ByteSet for SpacedByte {
 
     #[inline(always)]
     fn others(block: u8x16) -> u64 {
-        classes(SPACED_LOW, SPACED_HIGH, block)
-            .simd_ne(u8x16::splat(0))
-            .to_bitmask()
+        let exceptions = by_low(SPACED_EXCEPTIONS, block).simd_eq(block);
+        (block.simd_lt(u8x16::splat(32)) ^ exceptions).to_bitmask()
     }
 }
 

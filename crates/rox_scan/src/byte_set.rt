@@ -13,7 +13,7 @@ ghost use Rattle.rox_scan.specs.ScanResults.{EndsNear, Finds, TellsAscii};
 
 use crate::chars::{Class, PartChar};
 use crate::cursor::Cursor;
-use crate::nibbles::classes;
+use crate::nibbles::{by_low, classes};
 use crate::runs::run_end;
 use std::simd::prelude::*;
 
@@ -44,12 +44,10 @@ static VALUE_BYTES: [u8; 256] = *b"\
     ################################\
     ###############.################";
 
-// Classes that each byte of the set has one of, and no other.
-const VALUE_LOW: [u8; 16] = [
-    15, 15, 14, 15, 15, 15, 14, 14, 15, 15, 15, 15, 13, 15, 15, 7,
+// What ends a run of them beside controls, each at its low half.
+const VALUE_ENDS: [u8; 16] = [
+    1, 0, b'"', 0, 0, 0, b'&', b'\'', 0, 0, 0, 0, b'<', 0, 0, 239,
 ];
-
-const VALUE_HIGH: [u8; 16] = [0, 0, 1, 2, 4, 4, 4, 4, 4, 4, 4, 4, 4, 4, 8, 4];
 
 impl ByteSet for ValueByte {
     ghost test = { near.is_value_byte };
@@ -61,9 +59,8 @@ impl ByteSet for ValueByte {
 
     #[inline(always)]
     fn others(block: u8x16) -> u64 {
-        classes(VALUE_LOW, VALUE_HIGH, block)
-            .simd_eq(u8x16::splat(0))
-            .to_bitmask()
+        let ends = by_low(VALUE_ENDS, block).simd_eq(block);
+        (block.simd_lt(u8x16::splat(32)) | ends).to_bitmask()
     }
 }
 
@@ -105,10 +102,8 @@ impl ByteSet for CommentByte {
 /// The bytes that begin no character but a Char, or go on with one.
 pub struct CharByte;
 
-// Classes that a byte of the set has none of, and any other has one.
-const CHAR_LOW: [u8; 16] = [3, 3, 3, 3, 3, 3, 3, 3, 3, 2, 2, 3, 3, 2, 3, 11];
-
-const CHAR_HIGH: [u8; 16] = [1, 2, 0, 0, 0, 0, 0, 0, 0, 0, 0, 0, 0, 0, 8, 0];
+// The controls of the set, and the byte above them that is none of it, each at its low half.
+const CHAR_EXCEPTIONS: [u8; 16] = [1, 0, 0, 0, 0, 0, 0, 0, 0, b'\t', b'\n', 0, 0, b'\r', 0, 239];
 
 impl ByteSet for CharByte {
     ghost test = { near.is_char_byte };
@@ -120,9 +115,8 @@ impl ByteSet for CharByte {
 
     #[inline(always)]
     fn others(block: u8x16) -> u64 {
-        classes(CHAR_LOW, CHAR_HIGH, block)
-            .simd_ne(u8x16::splat(0))
-            .to_bitmask()
+        let exceptions = by_low(CHAR_EXCEPTIONS, block).simd_eq(block);
+        (block.simd_lt(u8x16::splat(32)) ^ exceptions).to_bitmask()
     }
 }
 
@@ -153,10 +147,10 @@ impl ByteSet for PartByte {
 /// White space (XML 1.0 [3] S).
 pub struct SpaceByte;
 
-// Classes that each byte of the set has one of, and no other.
-const SPACE_LOW: [u8; 16] = [1, 0, 0, 0, 0, 0, 0, 0, 0, 2, 2, 0, 0, 2, 0, 0];
-
-const SPACE_HIGH: [u8; 16] = [2, 0, 1, 0, 0, 0, 0, 0, 0, 0, 0, 0, 0, 0, 0, 0];
+// White space, each byte at its low half.
+const SPACES: [u8; 16] = [
+    b' ', 0, 0, 0, 0, 0, 0, 0, 0, b'\t', b'\n', 0, 0, b'\r', 0, 0,
+];
 
 impl ByteSet for SpaceByte {
     ghost test = { spec.is_space };
@@ -169,9 +163,7 @@ impl ByteSet for SpaceByte {
 
     #[inline(always)]
     fn others(block: u8x16) -> u64 {
-        classes(SPACE_LOW, SPACE_HIGH, block)
-            .simd_eq(u8x16::splat(0))
-            .to_bitmask()
+        by_low(SPACES, block).simd_ne(block).to_bitmask()
     }
 }
 

@@ -17,7 +17,7 @@ ghost use Rattle.rox_scan.specs.ScanResults.{HasWideAt};
 use crate::byte_set::{ByteSet, skip_set};
 use crate::cursor::Cursor;
 use crate::lookahead::{Lookahead, after_char, is_mark_at};
-use crate::nibbles::classes;
+use crate::nibbles::by_low;
 use crate::runs::{after_byte, is_at};
 use crate::search::{before_either, byte_from, has_mark};
 use rox_grammar::fault::Fault;
@@ -38,10 +38,10 @@ static TEXT_BYTES: [u8; 256] = *b"\
     ################################\
     ###############.################";
 
-// Classes that a byte of the set has none of, and any other has one.
-const TEXT_LOW: [u8; 16] = [3, 3, 3, 3, 3, 3, 7, 3, 3, 2, 2, 3, 11, 19, 3, 35];
-
-const TEXT_HIGH: [u8; 16] = [1, 2, 4, 8, 0, 16, 0, 0, 0, 0, 0, 0, 0, 0, 32, 0];
+// The controls of the set, and the bytes above them that are none of it, each at its low half.
+const TEXT_EXCEPTIONS: [u8; 16] = [
+    1, 0, 0, 0, 0, 0, b'&', 0, 0, b'\t', b'\n', 0, b'<', b']', 0, 239,
+];
 
 impl ByteSet for TextByte {
     ghost test = { near.is_text_byte };
@@ -53,9 +53,8 @@ impl ByteSet for TextByte {
 
     #[inline(always)]
     fn others(block: u8x16) -> u64 {
-        classes(TEXT_LOW, TEXT_HIGH, block)
-            .simd_ne(u8x16::splat(0))
-            .to_bitmask()
+        let exceptions = by_low(TEXT_EXCEPTIONS, block).simd_eq(block);
+        (block.simd_lt(u8x16::splat(32)) ^ exceptions).to_bitmask()
     }
 }
 

@@ -17,7 +17,7 @@ ghost use Rattle.rox_scan.specs.ScanResults.{Finds, HasCharAt, MayHaveMark};
 use crate::byte_set::{ByteSet, CharByte, CommentByte, ValueByte, skip_set};
 use crate::chars::{Class, XmlChar};
 use crate::cursor::{Cursor, Quote};
-use crate::nibbles::classes;
+use crate::nibbles::by_low;
 use crate::runs::char_at;
 use std::simd::prelude::*;
 
@@ -96,10 +96,10 @@ pub fn changes(text: &str, at: usize) -> bool
 /// The bytes of a stretch of a value: all but `&` and white space that is no space.
 pub struct StretchByte;
 
-// Classes that a byte of the set has none of, and any other has one.
-const STRETCH_LOW: [u8; 16] = [0, 0, 0, 0, 0, 0, 2, 0, 0, 1, 1, 0, 0, 1, 0, 0];
-
-const STRETCH_HIGH: [u8; 16] = [1, 0, 2, 0, 0, 0, 0, 0, 0, 0, 0, 0, 0, 0, 0, 0];
+// What ends a stretch, each byte at its low half.
+const STRETCH_ENDS: [u8; 16] = [
+    1, 0, 0, 0, 0, 0, b'&', 0, 0, b'\t', b'\n', 0, 0, b'\r', 0, 0,
+];
 
 impl ByteSet for StretchByte {
     ghost test = { near.is_stretch_byte };
@@ -112,19 +112,15 @@ impl ByteSet for StretchByte {
 
     #[inline(always)]
     fn others(block: u8x16) -> u64 {
-        classes(STRETCH_LOW, STRETCH_HIGH, block)
-            .simd_ne(u8x16::splat(0))
-            .to_bitmask()
+        by_low(STRETCH_ENDS, block).simd_eq(block).to_bitmask()
     }
 }
 
 /// The bytes of a stretch of a run: all but `&` and CR.
 pub struct RunByte;
 
-// Classes that a byte of the set has none of, and any other has one.
-const RUN_LOW: [u8; 16] = [0, 0, 0, 0, 0, 0, 2, 0, 0, 0, 0, 0, 0, 1, 0, 0];
-
-const RUN_HIGH: [u8; 16] = [1, 0, 2, 0, 0, 0, 0, 0, 0, 0, 0, 0, 0, 0, 0, 0];
+// What ends a stretch, each byte at its low half.
+const RUN_ENDS: [u8; 16] = [1, 0, 0, 0, 0, 0, b'&', 0, 0, 0, 0, 0, 0, b'\r', 0, 0];
 
 impl ByteSet for RunByte {
     ghost test = { near.is_run_byte };
@@ -137,9 +133,7 @@ impl ByteSet for RunByte {
 
     #[inline(always)]
     fn others(block: u8x16) -> u64 {
-        classes(RUN_LOW, RUN_HIGH, block)
-            .simd_ne(u8x16::splat(0))
-            .to_bitmask()
+        by_low(RUN_ENDS, block).simd_eq(block).to_bitmask()
     }
 }
 

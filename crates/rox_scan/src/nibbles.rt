@@ -1,5 +1,6 @@
 //! Classes of bytes by their halves: a byte's class has the bits that both tables have, one at its low four bits and one at its
-//! high four. Sixteen bytes are looked up at once.
+//! high four. Where no two of a few bytes have the same low half, one table tells them: it has each at its own low half, and at the
+//! others a byte with a different one. Sixteen bytes are looked up at once.
 
 ghost use Rattle.std.specs.Prelude.{◌≡◌, map};
 ghost use Rattle.rox_scan.specs.Nibbles.{at_low, at_high, class_of};
@@ -8,7 +9,7 @@ use std::simd::prelude::*;
 
 /// What the table has at the low half of each byte.
 #[inline(always)]
-fn by_low(table: [u8; 16], block: u8x16) -> u8x16
+pub fn by_low(table: [u8; 16], block: u8x16) -> u8x16
     ensures { result ≡ map (at_low table) block }
 {
     u8x16::from_array(table).swizzle_dyn_within::<16>(block & u8x16::splat(15))

@@ -25,7 +25,7 @@ use rox_grammar::fault::Fault;
 use rox_scan::byte_set::{ByteSet, skip_set};
 use rox_scan::cursor::Cursor;
 use rox_scan::lookahead::{StretchByte, is_special};
-use rox_scan::nibbles::classes;
+use rox_scan::nibbles::by_low;
 use rox_scan::runs::is_at;
 use rox_scan::tag::RawAttribute;
 use std::simd::prelude::*;
@@ -113,10 +113,10 @@ fn expand_in_value<'input>(
 /// The bytes of a stretch of a value within a replacement text: all but `<`, `&` and white space that is no space.
 struct InnerByte;
 
-// Classes that a byte of the set has none of, and any other has one.
-const INNER_LOW: [u8; 16] = [0, 0, 0, 0, 0, 0, 2, 0, 0, 1, 1, 0, 4, 1, 0, 0];
-
-const INNER_HIGH: [u8; 16] = [1, 0, 2, 4, 0, 0, 0, 0, 0, 0, 0, 0, 0, 0, 0, 0];
+// What ends a stretch, each byte at its low half.
+const INNER_ENDS: [u8; 16] = [
+    1, 0, 0, 0, 0, 0, b'&', 0, 0, b'\t', b'\n', 0, b'<', b'\r', 0, 0,
+];
 
 impl ByteSet for InnerByte {
     ghost test = { is_inner_byte };
@@ -129,9 +129,7 @@ impl ByteSet for InnerByte {
 
     #[inline(always)]
     fn others(block: u8x16) -> u64 {
-        classes(INNER_LOW, INNER_HIGH, block)
-            .simd_ne(u8x16::splat(0))
-            .to_bitmask()
+        by_low(INNER_ENDS, block).simd_eq(block).to_bitmask()
     }
 }
 

@@ -1,10 +1,11 @@
 -- The mask is held against the definition at each of the 256 bytes, by computing.
-use Rattle.std.proofs.Common.{not, refl, arith}
-use Rattle.rox_scan.specs.Nibbles.{class_of}
+use Rattle.std.proofs.Common.{not, refl, arith, bit_xor}
+use Rattle.std.proofs.lemmas.Simd.{zip2_of_maps}
+use Rattle.rox_scan.specs.Nibbles.{at_low}
 use Rattle.rox_scan.specs.ByteSets.{is_char_byte}
-use Rattle.rox_scan.specs.declared.byte_set.TheConstants.{CHAR_LOW, CHAR_HIGH}
+use Rattle.rox_scan.specs.declared.byte_set.TheConstants.{CHAR_EXCEPTIONS}
 use Rattle.rox_scan.proofs.TableLemmas.{agree_below}
-use Rattle.rox_scan.proofs.LaneLemmas.{masked, against, differs}
+use Rattle.rox_scan.proofs.LaneLemmas.{masked, against, map_same, equals, below}
 use Rattle.rox_scan.proofs.byte_set.CharByteByteSet.others.Goals as goal
 
 pub returns : goal.returns
@@ -13,4 +14,6 @@ returns c =
     let v = c.args.block in
     let long = c.fits-block.0 in
     masked _ (λ b. not (is_char_byte b)) v _ (omega (arith, long)) c.fits-block.1
-    (against differs (class_of CHAR_LOW CHAR_HIGH) 0 16 v long c.classes.ensures) refl
+    (zip2_of_maps bit_xor (λ x. below x 32) (λ x. equals (at_low CHAR_EXCEPTIONS x) x) v
+    (against below (λ x. x) 32 16 v long (map_same v))
+    (zip2_of_maps equals (at_low CHAR_EXCEPTIONS) (λ x. x) v c.by_low.ensures (map_same v))) refl

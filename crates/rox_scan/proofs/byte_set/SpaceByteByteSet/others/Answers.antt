@@ -1,10 +1,11 @@
 -- The mask is held against the definition at each of the 256 bytes, by computing.
 use Rattle.std.proofs.Common.{not, refl, arith}
+use Rattle.std.proofs.lemmas.Simd.{zip2_of_maps}
 use Rattle.rox_grammar.specs.Chars.{is_space}
-use Rattle.rox_scan.specs.Nibbles.{class_of}
-use Rattle.rox_scan.specs.declared.byte_set.TheConstants.{SPACE_LOW, SPACE_HIGH}
+use Rattle.rox_scan.specs.Nibbles.{at_low}
+use Rattle.rox_scan.specs.declared.byte_set.TheConstants.{SPACES}
 use Rattle.rox_scan.proofs.TableLemmas.{agree_below}
-use Rattle.rox_scan.proofs.LaneLemmas.{masked, against, equals}
+use Rattle.rox_scan.proofs.LaneLemmas.{masked, map_same, differs}
 use Rattle.rox_scan.proofs.byte_set.SpaceByteByteSet.others.Goals as goal
 
 pub returns : goal.returns
@@ -13,4 +14,4 @@ returns c =
     let v = c.args.block in
     let long = c.fits-block.0 in
     masked _ (λ b. not (is_space b)) v _ (omega (arith, long)) c.fits-block.1
-    (against equals (class_of SPACE_LOW SPACE_HIGH) 0 16 v long c.classes.ensures) refl
+    (zip2_of_maps differs (at_low SPACES) (λ x. x) v c.by_low.ensures (map_same v)) refl

@@ -1,10 +1,11 @@
 -- The mask is held against the definition at each of the 256 bytes, by computing.
 use Rattle.std.proofs.Common.{not, refl, arith}
-use Rattle.rox_scan.specs.Nibbles.{class_of}
+use Rattle.std.proofs.lemmas.Simd.{zip2_of_maps}
+use Rattle.rox_scan.specs.Nibbles.{at_low}
 use Rattle.rox_scan.specs.ByteSets.{is_value_byte}
-use Rattle.rox_scan.specs.declared.byte_set.TheConstants.{VALUE_LOW, VALUE_HIGH}
+use Rattle.rox_scan.specs.declared.byte_set.TheConstants.{VALUE_ENDS}
 use Rattle.rox_scan.proofs.TableLemmas.{agree_below}
-use Rattle.rox_scan.proofs.LaneLemmas.{masked, against, equals}
+use Rattle.rox_scan.proofs.LaneLemmas.{masked, against, either, map_same, equals, below}
 use Rattle.rox_scan.proofs.byte_set.ValueByteByteSet.others.Goals as goal
 
 pub returns : goal.returns
@@ -13,4 +14,6 @@ returns c =
     let v = c.args.block in
     let long = c.fits-block.0 in
     masked _ (λ b. not (is_value_byte b)) v _ (omega (arith, long)) c.fits-block.1
-    (against equals (class_of VALUE_LOW VALUE_HIGH) 0 16 v long c.classes.ensures) refl
+    (either (λ x. below x 32) (λ x. equals (at_low VALUE_ENDS x) x) v
+    (against below (λ x. x) 32 16 v long (map_same v))
+    (zip2_of_maps equals (at_low VALUE_ENDS) (λ x. x) v c.by_low.ensures (map_same v))) refl

@@ -1,10 +1,11 @@
 -- The mask is held against the definition at each of the 256 bytes, by computing.
 use Rattle.std.proofs.Common.{not, refl, arith}
-use Rattle.rox_scan.specs.Nibbles.{class_of}
+use Rattle.std.proofs.lemmas.Simd.{zip2_of_maps}
+use Rattle.rox_scan.specs.Nibbles.{at_low}
 use Rattle.rox_scan.specs.ByteSets.{is_run_byte}
-use Rattle.rox_scan.specs.declared.lookahead.TheConstants.{RUN_LOW, RUN_HIGH}
+use Rattle.rox_scan.specs.declared.lookahead.TheConstants.{RUN_ENDS}
 use Rattle.rox_scan.proofs.TableLemmas.{agree_below}
-use Rattle.rox_scan.proofs.LaneLemmas.{masked, against, differs}
+use Rattle.rox_scan.proofs.LaneLemmas.{masked, map_same, equals}
 use Rattle.rox_scan.proofs.lookahead.RunByteByteSet.others.Goals as goal
 
 pub returns : goal.returns
@@ -13,4 +14,4 @@ returns c =
     let v = c.args.block in
     let long = c.fits-block.0 in
     masked _ (λ b. not (is_run_byte b)) v _ (omega (arith, long)) c.fits-block.1
-    (against differs (class_of RUN_LOW RUN_HIGH) 0 16 v long c.classes.ensures) refl
+    (zip2_of_maps equals (at_low RUN_ENDS) (λ x. x) v c.by_low.ensures (map_same v)) refl

@@ -1,10 +1,11 @@
 -- The mask is held against the definition at each of the 256 bytes, by computing.
 use Rattle.std.proofs.Common.{not, refl, arith}
-use Rattle.rox_scan.specs.Nibbles.{class_of}
+use Rattle.std.proofs.lemmas.Simd.{zip2_of_maps}
+use Rattle.rox_scan.specs.Nibbles.{at_low}
 use Rattle.rox_values.specs.Values.{is_inner_byte}
-use Rattle.rox_values.specs.declared.attribute_value.TheConstants.{INNER_LOW, INNER_HIGH}
+use Rattle.rox_values.specs.declared.attribute_value.TheConstants.{INNER_ENDS}
 use Rattle.rox_scan.proofs.TableLemmas.{agree_below}
-use Rattle.rox_scan.proofs.LaneLemmas.{masked, against, differs}
+use Rattle.rox_scan.proofs.LaneLemmas.{masked, map_same, equals}
 use Rattle.rox_values.proofs.attribute_value.InnerByteByteSet.others.Goals as goal
 
 pub returns : goal.returns
@@ -13,4 +14,4 @@ returns c =
     let v = c.args.block in
     let long = c.fits-block.0 in
     masked _ (λ b. not (is_inner_byte b)) v _ (omega (arith, long)) c.fits-block.1
-    (against differs (class_of INNER_LOW INNER_HIGH) 0 16 v long c.classes.ensures) refl
+    (zip2_of_maps equals (at_low INNER_ENDS) (λ x. x) v c.by_low.ensures (map_same v)) refl
