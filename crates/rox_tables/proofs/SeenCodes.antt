@@ -1,20 +1,21 @@
 -- Which codes of names were seen.
-use Rattle.std.proofs.Common.{◌≡◌, ℕ, ◌+◌, ◌<◌, ◌≤◌, ◌∷◌, ◌++◌, [], List, Bool, true, false, length, length-append, set, get_or, drop, bytes_eq, ◌&&◌, ◌*◌, ◌/◌, ◌%◌, ◌^◌, eqb, refl, sym, ap, ◌∙◌, subst, inl, inr, arith}
+use Rattle.std.proofs.Common.{◌≡◌, ℕ, ◌+◌, ◌<◌, ◌≤◌, ◌∷◌, ◌++◌, [], List, Bool, true, false, length, length-append, map, set, get_or, drop, bytes_eq, ◌&&◌, ◌*◌, ◌/◌, ◌%◌, ◌^◌, eqb, refl, sym, ap, ◌∙◌, subst, inl, inr, arith}
 use Rattle.std.specs.List.{AllByRecursion, list_any}
 use Rattle.std.proofs.lemmas.Bool.{cases_eq}
 use Rattle.std.specs.Int.{bit_at, w64}
 use Rattle.std.specs.Int.Bits.{bit_and, bit_or}
 use Rattle.std.proofs.lemmas.Nat.Bits.{shr_and_one, bit_at_set_same, bit_at_set_other}
 use Rattle.std.proofs.lemmas.List.{get_or-set_same, get_or-set_other}
-use Rattle.std.proofs.lemmas.List.{drop-append-le}
+use Rattle.std.proofs.lemmas.List.{drop-append-le, drop-map, drop_more}
 use Rattle.std.proofs.Math.ListN.{drop_of_length-le}
 use Rattle.std.proofs.lemmas.Slice.Eq.{bytes_eq-Decides}
 use Rattle.rox_grammar.specs.Written.{NamespaceDecl}
 use Rattle.rox_grammar.specs.Tree.{same_prefix}
-use Rattle.rox_tables.specs.Rows.{AttributeRow, attribute_uri}
-use Rattle.rox_tables.specs.StoredAttributes.{data_of}
+use Rattle.rox_tables.specs.Rows.{AttributeRow, attribute_rows, attribute_uri}
+use Rattle.rox_tables.specs.StoredAttributes.{data_of, row_in}
 use Rattle.rox_tables.specs.ResolvedNames.{has_expanded}
 use Rattle.rox_tables.specs.declared.rows.tables.AttributeNamespace.{AttributeNamespace}
+use Rattle.rox_tables.specs.declared.rows.attributes.AttributeTable.{AttributeTable}
 use Rattle.rox_tables.specs.declared.rows.stored_attribute.StoredAttribute.{StoredAttribute}
 use Rattle.rox_tables.specs.declared.namespaces.seen_names.SeenNames.{SeenNames}
 use Rattle.rox_tables.specs.SeenNames.{name_code, HasCode, HasNameOf, HaveCodes, AreSeen, SeesName}
@@ -108,8 +109,26 @@ pub few_seen : (seen : SeenNames) (rows : List AttributeRow) → seen.from ≡ l
 few_seen seen rows from = record { from = omega arith; codes = λ more. absurd (omega (arith, from, more)) }
 
 -- one at most
-pub one_seen : (seen : SeenNames) (rows : List AttributeRow) → seen.from ≤ length rows → length rows ≤ seen.from + 2 → AreSeen seen rows
+pub one_seen : (seen : SeenNames) (rows : List AttributeRow) → seen.from ≤ length rows → length rows ≤ seen.from + 3 → AreSeen seen rows
 one_seen seen rows within few = record { from = within; codes = λ more. absurd (omega (arith, few, more)) }
+
+-- the last three of these
+last_three : {X : Type 0} → (xs : List X) (i : ℕ) (x y z : X) → length xs ≡ i + 3 → x ≡ get_or xs i x → y ≡ get_or xs (i + 1) y → z ≡ get_or xs (i + 1 + 1) z
+    → drop i xs ≡ x ∷ y ∷ z ∷ []
+last_three xs i x y z count first second third =
+    let rest = drop_more xs (i + 1 + 1) z (omega (arith, count)) ∙ ap (λ w. w ∷ drop (i + 1 + 1 + 1) xs) (sym third) ∙ ap (λ ws. z ∷ ws) (drop_of_length-le xs (omega (arith, count))) in
+    let two = drop_more xs (i + 1) y (omega (arith, count)) ∙ ap (λ w. w ∷ drop (i + 1 + 1) xs) (sym second) ∙ ap (λ ws. y ∷ ws) rest in
+    drop_more xs i x (omega (arith, count)) ∙ ap (λ w. w ∷ drop (i + 1) xs) (sym first) ∙ ap (λ ws. x ∷ ws) two
+
+-- three attributes of the tag have codes that were seen
+pub three_seen : (seen : SeenNames) (t : AttributeTable) (x y z : StoredAttribute) → length t.items.items ≡ seen.from + 3
+    → x ≡ get_or t.items.items seen.from x → y ≡ get_or t.items.items (seen.from + 1) y → z ≡ get_or t.items.items (seen.from + 1 + 1) z
+    → HasNameOf seen.codes (data_of x) → HasNameOf seen.codes (data_of y) → HasNameOf seen.codes (data_of z) → HaveCodes seen (attribute_rows t)
+three_seen seen t x y z count first second third a b c =
+    let items = last_three t.items.items seen.from x y z count first second third in
+    let row = row_in t.unusual.items in
+    let rows : drop seen.from (attribute_rows t) ≡ row x ∷ row y ∷ row z ∷ [] = drop-map row seen.from t.items.items ∙ ap (map row) items in
+    subst (AllByRecursion (λ (a : AttributeRow). HasNameOf seen.codes a.0)) (sym rows) (a, (b, (c, tt)))
 
 -- no row has a name whose code was not seen
 pub none_rows : (namespaces : List NamespaceDecl) (s : AttributeNamespace) (local : List ℕ) (codes : List ℕ) (rows : List AttributeRow)

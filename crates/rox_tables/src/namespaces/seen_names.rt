@@ -1,6 +1,6 @@
 //! Which local names the attributes of a tag have had: a filter that spares most of them from being compared with those before.
 
-ghost use Rattle.std.specs.Prelude.{◌≡◌, ◌+◌, ◌<◌, ◌≤◌, length, ◌++◌, ◌∷◌, [], List, false, drop};
+ghost use Rattle.std.specs.Prelude.{◌≡◌, ◌+◌, ◌<◌, ◌≤◌, length, ◌++◌, ◌∷◌, [], List, bytes_eq, false, drop};
 ghost use Rattle.std.specs.List.{list_any};
 ghost use Rattle.rox_grammar.specs.Written.{NamespaceDecl};
 ghost use Rattle.rox_tables.specs.Rows.{AttributeRow, attribute_rows};
@@ -8,12 +8,12 @@ ghost use Rattle.rox_tables.specs.ResolvedNames.{has_expanded};
 ghost use Rattle.rox_tables.specs.declared.rows.tables.AttributeNamespace.{AttributeNamespace};
 ghost use Rattle.rox_tables.specs.SeenNames.{name_sum, AreFirst, AreSeen, IsNameCode, KeepsCodes, PutsCode, SeesAll, TellsSeen};
 
-use crate::compare::{WORD, same_text, word_at};
+use crate::compare::{WORD, word_at};
 use crate::rows::attributes::AttributeTable;
 use crate::rows::recent_texts::Recent;
 
-/// The attributes of a tag that are in the table: where they begin, and which codes their names have. The first two have theirs
-/// put there with the third; until then the codes are those of a tag before.
+/// The attributes of a tag that are in the table: where they begin, and which codes their names have. The first three have theirs
+/// put there with the fourth; until then the codes are those of a tag before.
 #[derive(Drop)]
 pub struct SeenNames {
     pub from: usize,
@@ -37,7 +37,7 @@ const CODES: usize = 1024;
 const WIDTH: usize = 64;
 
 /// Up to so many attributes of a tag have no codes yet: most tags have no more.
-const WITHOUT_CODES: usize = 2;
+const WITHOUT_CODES: usize = 3;
 
 /// By what the sum of a name's bytes is multiplied: 2^64 by the golden ratio, which scatters sums that are near to one another.
 const SCATTER: u64 = 0x9E3779B97F4A7C15;
@@ -68,6 +68,19 @@ fn name_code(local: &str) -> usize
     ensures { IsNameCode local.now result }
 {
     (name_sum(local.as_bytes()).wrapping_mul(SCATTER) >> 54) as usize
+}
+
+/// Whether two names have the same length, first byte and last: equal ones do, and most others do not.
+#[inline(always)]
+fn look_same(one: &str, other: &str) -> bool
+    ensures { result ≡ false → bytes_eq one.entry.now other.entry.now ≡ false }
+{
+    let (one, other) = (one.as_bytes(), other.as_bytes());
+    let count = one.len();
+    if count != other.len() {
+        return false;
+    }
+    count == 0 || one[0] == other[0] && one[count - 1] == other[count - 1]
 }
 
 impl SeenNames {
@@ -119,8 +132,12 @@ impl SeenNames {
             return;
         }
         self.put(attributes.items[self.from].local);
+        if count == 1 {
+            return;
+        }
+        self.put(attributes.items[self.from + 1].local);
         if count == WITHOUT_CODES {
-            self.put(attributes.items[self.from + 1].local);
+            self.put(attributes.items[self.from + 2].local);
         }
     }
 
@@ -135,8 +152,8 @@ impl SeenNames {
         }
     }
 
-    /// Whether an attribute of the tag may have this local name, which is seen behind them. The second name is compared with the
-    /// first; where no name had its code, none is.
+    /// Whether an attribute of the tag may have this local name, which is seen behind them. The second and the third are looked at
+    /// beside those before them; where no name had the code of another, none has it.
     #[inline(always)]
     pub(crate) fn may_have(&mut self, attributes: &AttributeTable<'_>, local: &str) -> bool
         requires { AreSeen self.old (attribute_rows attributes.now) }
@@ -147,7 +164,10 @@ impl SeenNames {
             return false;
         }
         if count < WITHOUT_CODES {
-            return same_text(attributes.items[self.from].local, local);
+            if look_same(attributes.items[self.from].local, local) {
+                return true;
+            }
+            return count > 1 && look_same(attributes.items[self.from + 1].local, local);
         }
         self.put_few(attributes);
         self.put(local)
