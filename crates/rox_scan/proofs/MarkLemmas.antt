@@ -37,6 +37,14 @@ stands_from_split mark src rest i h = (starts_is Decides-eqb (drop i src) mark _
 pub stands_reads : (mark src : List ℕ) (i j : ℕ) → stands mark src i ≡ true → j < length mark → get_or src (i + j) 0 ≡ get_or mark j 0
 stands_reads mark src i j h within = at_reads 0 src mark i _ (stands_split mark src i h) j within
 
+-- a text that is short, or differs in the second byte, does not begin with the mark
+pub differs_early : (mark rest : List ℕ) → 1 < length mark → (1 < length rest → get_or rest 1 0 ≡ get_or mark 1 0 → ⊥) → starts_with ◌==◌ rest mark ≡ false
+differs_early mark rest some apart =
+    fails (starts_with ◌==◌ rest mark) (λ h.
+    let split = (starts_is Decides-eqb rest mark true (sym h)).0 refl in
+    let fits = front_fits rest mark _ split in
+    apart (omega (arith, fits)) (at_reads 0 rest mark 0 _ split 1 some))
+
 pub stands_fits : (mark src : List ℕ) (i : ℕ) → 0 < length mark → stands mark src i ≡ true → i + length mark ≤ length src
 stands_fits mark src i some h =
     let fits = front_fits (drop i src) mark _ (stands_split mark src i h) in

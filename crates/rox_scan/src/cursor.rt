@@ -20,6 +20,9 @@ pub struct Cursor<'input> {
     pub ghost cut: { IsCharBoundary text.now pos },
 }
 
+/// Fixed texts of up to so many bytes are compared in line.
+const WIDEST: usize = 8;
+
 /// A quote, `'` or `"`, in which a value stands.
 #[derive(Clone, Copy)]
 pub struct Quote {
@@ -156,13 +159,18 @@ impl<'input> Cursor<'input> {
         Ok(&self.text[start..self.pos])
     }
 
-    /// Whether the fixed text stands here.
+    /// Whether the fixed text stands here. A long one is compared out of line: most that are none differ in their second byte.
     #[inline]
-    #[tactic(auto, unfolding(rox_grammar::specs::Search::stands))]
+    #[tactic(auto, using(crate::proofs::MarkLemmas::differs_early), unfolding(rox_grammar::specs::Search::stands))]
     pub fn starts(&self, word: Word) -> bool
         ensures { result ≡ stands (word_text word) self.now.text.now self.now.pos }
     {
-        self.text.as_bytes()[self.pos..].starts_with(word.text())
+        let rest = &self.text.as_bytes()[self.pos..];
+        let word = word.text();
+        if word.len() > WIDEST && (rest.len() < 2 || rest[1] != word[1]) {
+            return false;
+        }
+        rest.starts_with(word)
     }
 
     /// Moves past a fixed text that stands here.
