@@ -43,7 +43,7 @@ use rox_tables::rows::tables::{AttributeNamespace, ElementData, ElementTables};
 use std::alloc::Global;
 
 /// So long is a name at most behind which `=` and a quote are seen with it.
-const MOST_NAME: usize = 13;
+const MOST_NAME: usize = 14;
 
 /// A name, and where it ends.
 #[derive(Clone, Copy)]
