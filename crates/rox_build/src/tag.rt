@@ -1,12 +1,12 @@
 //! Start tags: attributes and declarations, each tested in order (XML 1.0 section 3.1, Namespaces in XML 1.0).
 
-ghost use Rattle.std.specs.Prelude.{◌≡◌, ◌<◌, ◌+◌, ◌-◌, ◌^◌, ◌∷◌, [], Bool, false, true, List, ℕ, length, map, drop, Ok, Err, OnOk, IfOk, slice_index, ◌++◌};
+ghost use Rattle.std.specs.Prelude.{◌≡◌, ◌<◌, ◌+◌, ◌-◌, ◌^◌, ◌∷◌, [], Bool, false, true, List, ℕ, length, map, drop, Ok, Err, OnOk, IfOk, ◌++◌};
 ghost use Rattle.rox_grammar.specs.Written.{NamespaceDecl};
 ghost use Rattle.rox_reading.specs.Tags.{TagSoFar, attributes_at, tag_at};
 ghost use Rattle.rox_grammar.specs.Failures.{name_view};
 ghost use Rattle.rox_tables.specs.TagScopes.{lists_in};
 ghost use Rattle.rox_build.specs.ElementRow.{MakesElement, GivesTag, scope_in_tables};
-ghost use Rattle.rox_build.specs.Readiness.{IsBehind, MayReadBelow, MayResolve};
+ghost use Rattle.rox_build.specs.Readiness.{IsBehind, MayReadTagBelow, MayResolve};
 ghost use Rattle.rox_scan.specs.Views.{attribute_view};
 ghost use Rattle.rox_grammar.specs.Entities.{Entity};
 ghost use Rattle.rox_values.specs.DeclaredEntities.{AreDeclared, values_in};
@@ -309,9 +309,7 @@ pub fn start_tag<'input>(
     around: TagContext,
     context: Context<'_, 'input>,
 ) -> Result<StartTag<'input>, ParseError<'input>>
-    requires there { cursor.old.pos < length cursor.old.text.now }
-    requires here { slice_index cursor.old.text.now cursor.old.pos ≡ 60 }
-    requires below { MayReadBelow elements.old around.above }
+    requires { MayReadTagBelow cursor.old elements.old around.above }
     ensures source { cursor.new.text ≡ cursor.old.text }
     ensures starts { IfOk result (λ t. t.name_start ≡ cursor.old.pos + 1) }
     ensures value { (es : List Entity) → AreDeclared es context.entry.entities.now
