@@ -2,10 +2,10 @@
 
 ghost use Rattle.std.specs.Prelude.{◌≡◌, ◌<◌, ◌+◌, ◌-◌, ◌^◌, ◌∷◌, [], Bool, false, true, List, ℕ, length, map, drop, Ok, Err, OnOk, IfOk, ◌++◌};
 ghost use Rattle.rox_grammar.specs.Written.{NamespaceDecl};
-ghost use Rattle.rox_reading.specs.Tags.{TagSoFar, attributes_at, tag_at};
+ghost use Rattle.rox_reading.specs.Tags.{TagSoFar, attributes_at};
 ghost use Rattle.rox_grammar.specs.Failures.{name_view};
 ghost use Rattle.rox_tables.specs.TagScopes.{lists_in};
-ghost use Rattle.rox_build.specs.ElementRow.{MakesElement, GivesTag, scope_in_tables};
+ghost use Rattle.rox_build.specs.ElementRow.{MakesElement, ReadsStartTag};
 ghost use Rattle.rox_build.specs.Readiness.{IsBehind, MayReadTagBelow, MayResolve};
 ghost use Rattle.rox_scan.specs.Views.{attribute_view};
 ghost use Rattle.rox_grammar.specs.Entities.{Entity};
@@ -310,15 +310,8 @@ pub fn start_tag<'input>(
     context: Context<'_, 'input>,
 ) -> Result<StartTag<'input>, ParseError<'input>>
     requires { MayReadTagBelow cursor.old elements.old around.above }
-    ensures source { cursor.new.text ≡ cursor.old.text }
-    ensures starts { IfOk result (λ t. t.name_start ≡ cursor.old.pos + 1) }
-    ensures value { (es : List Entity) → AreDeclared es context.entry.entities.now
-        → GivesTag elements.old elements.new cursor.new result
-        (scope_in_tables elements.old around.above)
-        (tag_at (values_in es context.entry) around.cut (scope_in_tables elements.old around.above)
-        (length (attribute_rows elements.old.attributes))
-        (map namespace_view elements.old.namespaces.items.items) cursor.old.text.now cursor.old.pos
-        around.openings_left) }
+    ensures { ReadsStartTag context.entry around cursor.old cursor.new elements.old elements.new
+        result }
 {
     let small = byte_count(cursor.text);
     cursor.advance();
