@@ -1,7 +1,7 @@
 //! The start tag of a root element that is read at one look, with its declarations. Where it is not plain, the general way reads it
 //! from its `<`.
 
-ghost use Rattle.std.specs.Prelude.{◌≡◌, ◌<◌, ◌+◌, List, IfOk, IfSome, length, map, slice_index, true};
+ghost use Rattle.std.specs.Prelude.{◌≡◌, IfOk, IfSome, length, slice_index, true};
 ghost use Rattle.rox_build.specs.ElementRow.{ReadsStartTag};
 ghost use Rattle.rox_build.specs.Readiness.{MayReadTagBelow};
 ghost use Rattle.rox_build.specs.RootTag.{BeginsScopes, DeclaresOwn, GivesRootTag, IsBlank, IsNamedAttribute, ListsOwn, MayBeNamed, MayDeclareOwn, MayReadRoot, MayReadRootTag, ReadsRoot, ReadsRootTag};

@@ -35,7 +35,7 @@ attributes-requires c =
       scopes = subst (λ n. AreScopes n old.scopes.items) (sym own) c.requires.below.scopes;
       kept = c.requires.below.kept;
     } in
-    record { tables = tables }
+    tables
 
 pub scope_of_tag-requires : goal.scope_of_tag-requires
 scope_of_tag-requires c =
