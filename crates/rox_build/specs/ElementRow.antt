@@ -1,17 +1,20 @@
 -- What the code holds of a start tag that was read, against the tag.
-use Rattle.std.specs.Prelude.{◌≡◌, ℕ, ◌<◌, ◌≤◌, List, ◌++◌, length, map, OnOk, IfOk, IfErr, Result, Ok, Err}
+use Rattle.std.specs.Prelude.{◌≡◌, ℕ, ◌<◌, ◌≤◌, ◌+◌, List, ◌++◌, length, map, OnOk, IfOk, IfErr, Result, Ok, Err}
 use Rattle.std.specs.List.{AllByRecursion}
 use Rattle.std.specs.Option.{option_map}
+use Rattle.rox_grammar.specs.Entities.{Entity}
 use Rattle.rox_grammar.specs.Written.{Attribute, Name, NamespaceDecl, Tag}
 use Rattle.rox_grammar.specs.Tree.{listed, attribute_in, element_namespace}
 use Rattle.rox_grammar.specs.Document.{most_pairs, most_attributes}
 use Rattle.rox_grammar.specs.Counts.{listable, with_new}
 use Rattle.rox_grammar.specs.declared.failure.Failure.{Failure}
 use Rattle.rox_reading.specs.Refusals.{Refusal}
-use Rattle.rox_reading.specs.Tags.{TagRead, tested_at}
+use Rattle.rox_reading.specs.Tags.{TagRead, tag_at, tested_at}
 use Rattle.rox_grammar.specs.Failures.{Fails, name_view}
 use Rattle.rox_scan.specs.declared.cursor.Cursor.{Cursor}
+use Rattle.rox_values.specs.DeclaredEntities.{AreDeclared, values_in}
 use Rattle.rox_values.specs.Refusals.{IsRefusal}
+use Rattle.rox_values.specs.declared.context.Context.{Context}
 use Rattle.rox_values.specs.declared.parse_error.ParseError.{ParseError}
 use Rattle.rox_tables.specs.Rows.{namespace_view, attribute, namespace_at, scope_at, NamespaceWithin, OptionWithin, AreScopes, AttributeRow, attribute_rows}
 use Rattle.rox_tables.specs.Scopes.{ArePlaces, PrefixesOnce}
@@ -19,6 +22,7 @@ use Rattle.rox_tables.specs.TagScopes.{lists_in, HasBindings}
 use Rattle.rox_tables.specs.declared.rows.tables.ElementData.{ElementData}
 use Rattle.rox_tables.specs.declared.rows.tables.ElementTables.{ElementTables}
 use Rattle.rox_build.specs.declared.tag.StartTag.{StartTag}
+use Rattle.rox_build.specs.declared.tag.TagContext.{TagContext}
 
 -- The table of attributes has grown by these, in this scope.
 pub record HasAttributes (old new : List AttributeRow) (namespaces : List NamespaceDecl) (scope : List NamespaceDecl) (written : List Attribute) : Type 0 where
@@ -61,6 +65,15 @@ GivesTag old new after (Err e) above read = IsRefusal e read
 -- the namespaces that the scope at this place lists
 abbrev pub scope_in_tables : ElementTables → ℕ → List NamespaceDecl
 scope_in_tables t i = scope_at (lists_in t) i
+
+-- The start tag at the cursor was read below what is told, whatever entities are declared, or refused; its name stands behind its `<`,
+-- and the cursor stays in its text.
+pub record ReadsStartTag (context : Context) (around : TagContext) (old new : Cursor) (t after : ElementTables) (result : Result StartTag ParseError) : Type 0 where
+  pub source : new.text ≡ old.text
+  pub starts : IfOk result (λ tag. tag.name_start ≡ old.pos + 1)
+  pub value : (es : List Entity) → AreDeclared es context.entities.now
+      → GivesTag t after new result (scope_in_tables t around.above)
+      (tag_at (values_in es context) around.cut (scope_in_tables t around.above) (length (attribute_rows t.attributes)) (map namespace_view t.namespaces.items.items) old.text.now old.pos around.openings_left)
 
 -- an element of this scope, whose name stands at this place, has its names tested, and then its attributes are in the table
 pub record MakesElement (old new : ElementTables) (scope at : ℕ) (name : Name) (written : List Attribute) (result : Result ElementData Failure) : Type 0 where

@@ -66,6 +66,11 @@ pub record MayReadAsking {R : Type 0} (can : R → Type 0) (resolver : Option R)
   pub may : MayAsk can resolver
   pub fine : IsConsistent b.tables b.opened.items
 
+-- this holds where something is read, and the resolver may be asked, if there is one
+pub record MayAskHere {R : Type 0} (place : Type 0) (can : R → Type 0) (resolver : Option R) : Type 0 where
+  pub here : place
+  pub may : MayAsk can resolver
+
 -- there is room for the row of a text from i up to j, and no text may go on that would touch it
 pub record MayPutText (b : Builder) (i j : ℕ) : Type 0 where
   pub ready : IsReady 1 b

@@ -1,5 +1,5 @@
 -- What the code holds of a start tag, against what is read of it.
-use Rattle.std.specs.Prelude.{◌≡◌, ◌⊎◌, ℕ, ◌≤◌, Bool, if◌then◌else◌, List, Option, length, map, drop, OnOk, Result, Ok, Err}
+use Rattle.std.specs.Prelude.{◌≡◌, ◌⊎◌, ℕ, ◌≤◌, Bool, false, if◌then◌else◌, List, Option, length, map, drop, OnOk, Result, Ok, Err}
 use Rattle.std.specs.Borrow.{Bor}
 use Rattle.rox_grammar.specs.Document.{most_pairs}
 use Rattle.rox_grammar.specs.Entities.{Entity}
@@ -9,9 +9,10 @@ use Rattle.rox_grammar.specs.declared.fault.Fault.{Fault}
 use Rattle.rox_grammar.specs.Written.{Attribute, NamespaceDecl}
 use Rattle.rox_reading.specs.Markup.{RawAttribute, more, opened, closed, tag_item_at}
 use Rattle.rox_reading.specs.Refusals.{Refusal}
-use Rattle.rox_reading.specs.Tags.{TagSoFar, TagRest, Values, attribute_with, taken}
+use Rattle.rox_reading.specs.Tags.{TagSoFar, TagRest, Values, attribute_with, attributes_at, taken}
 use Rattle.rox_reading.specs.Values.{ReadText, value_at}
 use Rattle.rox_build.specs.declared.tag.Buffers.{Buffers}
+use Rattle.rox_build.specs.declared.tag.OpenTag.{OpenTag}
 use Rattle.rox_build.specs.declared.tag.TagPart.{TagPart}
 use Rattle.rox_build.specs.declared.tag.TagPart.TheVariants as part
 use Rattle.rox_values.specs.declared.parse_error.ParseError.TheVariants as error
@@ -97,3 +98,14 @@ pub record TakesAttribute (old new : ElementTables) (b after : Buffers) (own : O
   pub took : (known : List NamespaceDecl) (before : List ℕ) (h : TagSoFar) → own.from ≡ length before
       → HoldsTag known before (map namespace_view old.namespaces.items.items) old.listed.items own.xml b.taken.items h
       → AddsAttribute known before (map namespace_view new.namespaces.items.items) new.listed.items after.taken.items result (taken known a h)
+
+-- the tag's attributes and declarations are read, up to its end, and put behind what the tables and the buffers hold, unless one is
+-- refused; the cursor stays in its text
+pub record ReadsAttributes (context : Context) (tag : OpenTag) (old new : Cursor) (t u : ElementTables) (b after : Buffers) (result : Result (Bool × Bool × ℕ) ParseError) : Type 0 where
+  pub tables : OnOk result (IsReadingTag u after.prefix_set.keys tag.own)
+  pub kept : OnOk result (KeepsScopes t u)
+  pub source : new.text ≡ old.text
+  pub took : (es : List Entity) (known : List NamespaceDecl) (before : List ℕ) (h : TagSoFar) → AreDeclared es context.entities.now → tag.own ≡ length before
+      → HoldsTag known before (map namespace_view t.namespaces.items.items) t.listed.items false b.taken.items h
+      → AddsAttributes known before (map namespace_view u.namespaces.items.items) u.listed.items after.taken.items new result
+      (attributes_at (length old.text.now) (values_in es context) tag.cut known old.text.now old.pos tag.openings_left h)

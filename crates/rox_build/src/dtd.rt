@@ -10,7 +10,7 @@ ghost use Rattle.rox_build.specs.Requests.{Allows, MayAsk};
 ghost use Rattle.rox_scan.specs.DoctypeViews.{definition_view, request_view};
 ghost use Rattle.rox_build.specs.Asking.{AskOutcome, IsDefined};
 ghost use Rattle.rox_build.specs.Outcomes.{MayStep};
-ghost use Rattle.rox_build.specs.Readiness.{MayRead, MayReadAsking};
+ghost use Rattle.rox_build.specs.Readiness.{MayAskHere, MayRead, MayReadAsking};
 ghost use Rattle.rox_build.specs.TextParts.{ReadsDeclaration, ReadsEntity, ReadsItem};
 
 use crate::builder::Builder;
@@ -69,8 +69,9 @@ fn entity<'input, R: EntityResolver<'input>>(
     entities: &mut Entities<'input>,
     resolver: &Option<R>,
 ) -> Result<(), ParseError<'input>>
-    requires here { stands (word_text word.EntityStart) cursor.old.text.now cursor.old.pos ≡ true }
-    requires may { MayAsk R.can_resolve resolver.now }
+    requires { MayAskHere
+        (stands (word_text word.EntityStart) cursor.old.text.now cursor.old.pos ≡ true)
+        R.can_resolve resolver.now }
     ensures { ReadsEntity (Allows R.allows resolver.now) cursor.old cursor.new entities.old
         entities.new result }
 {
@@ -95,8 +96,7 @@ fn item<'input, R: EntityResolver<'input>>(
     resolver: &Option<R>,
     start: usize,
 ) -> Result<bool, ParseError<'input>>
-    requires here { MayStep cursor.old builder.old }
-    requires may { MayAsk R.can_resolve resolver.now }
+    requires { MayAskHere (MayStep cursor.old builder.old) R.can_resolve resolver.now }
     ensures { ReadsItem (Allows R.allows resolver.now) start cursor.old cursor.new builder.old
         builder.new entities.old entities.new result }
 {
@@ -158,8 +158,8 @@ pub fn document_type<'input, R: EntityResolver<'input>>(
     entities: &mut Entities<'input>,
     resolver: &Option<R>,
 ) -> Result<(), ParseError<'input>>
-    requires start { MayRead word.DoctypeStart cursor.old builder.old }
-    requires may { MayAsk R.can_resolve resolver.now }
+    requires { MayAskHere (MayRead word.DoctypeStart cursor.old builder.old) R.can_resolve
+        resolver.now }
     ensures { ReadsDeclaration (Allows R.allows resolver.now)
         (λ limit. reading.doctype_step limit cursor.old.text.now)
         cursor.old cursor.new builder.old builder.new entities.old entities.new result }

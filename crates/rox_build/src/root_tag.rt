@@ -1,12 +1,8 @@
 //! The start tag of a root element that is read at one look, with its declarations. Where it is not plain, the general way reads it
 //! from its `<`.
 
-ghost use Rattle.std.specs.Prelude.{◌≡◌, ◌<◌, ◌+◌, List, IfOk, IfSome, length, map, slice_index, true};
-ghost use Rattle.rox_grammar.specs.Entities.{Entity};
-ghost use Rattle.rox_reading.specs.Tags.{tag_at};
-ghost use Rattle.rox_values.specs.DeclaredEntities.{AreDeclared, values_in};
-ghost use Rattle.rox_tables.specs.Rows.{attribute_rows, namespace_view};
-ghost use Rattle.rox_build.specs.ElementRow.{GivesTag, scope_in_tables};
+ghost use Rattle.std.specs.Prelude.{◌≡◌, IfOk, IfSome, length, slice_index, true};
+ghost use Rattle.rox_build.specs.ElementRow.{ReadsStartTag};
 ghost use Rattle.rox_build.specs.Readiness.{MayReadTagBelow};
 ghost use Rattle.rox_build.specs.RootTag.{BeginsScopes, DeclaresOwn, GivesRootTag, IsBlank, IsNamedAttribute, ListsOwn, MayBeNamed, MayDeclareOwn, MayReadRoot, MayReadRootTag, ReadsRoot, ReadsRootTag};
 
@@ -290,15 +286,8 @@ pub fn any_start_tag<'input>(
     context: Context<'_, 'input>,
 ) -> Result<StartTag<'input>, ParseError<'input>>
     requires { MayReadTagBelow cursor.old elements.old around.above }
-    ensures source { cursor.new.text ≡ cursor.old.text }
-    ensures starts { IfOk result (λ t. t.name_start ≡ cursor.old.pos + 1) }
-    ensures value { (es : List Entity) → AreDeclared es context.entry.entities.now
-        → GivesTag elements.old elements.new cursor.new result
-        (scope_in_tables elements.old around.above)
-        (tag_at (values_in es context.entry) around.cut (scope_in_tables elements.old around.above)
-        (length (attribute_rows elements.old.attributes))
-        (map namespace_view elements.old.namespaces.items.items) cursor.old.text.now cursor.old.pos
-        around.openings_left) }
+    ensures { ReadsStartTag context.entry around cursor.old cursor.new elements.old elements.new
+        result }
 {
     let (text, start) = (cursor.text, cursor.pos);
     if let Some(read) = first_tag(alloc, text, start, elements, buffers, around.openings_left)? {

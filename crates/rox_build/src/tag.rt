@@ -1,22 +1,15 @@
 //! Start tags: attributes and declarations, each tested in order (XML 1.0 section 3.1, Namespaces in XML 1.0).
 
-ghost use Rattle.std.specs.Prelude.{◌≡◌, ◌<◌, ◌+◌, ◌-◌, ◌^◌, ◌∷◌, [], Bool, false, true, List, ℕ, length, map, drop, Ok, Err, OnOk, IfOk, slice_index, ◌++◌};
-ghost use Rattle.rox_grammar.specs.Written.{NamespaceDecl};
-ghost use Rattle.rox_reading.specs.Tags.{TagSoFar, attributes_at, tag_at};
+ghost use Rattle.std.specs.Prelude.{◌≡◌, ◌<◌, ◌^◌, List, length, map, IfOk};
 ghost use Rattle.rox_grammar.specs.Failures.{name_view};
-ghost use Rattle.rox_tables.specs.TagScopes.{lists_in};
-ghost use Rattle.rox_build.specs.ElementRow.{MakesElement, GivesTag, scope_in_tables};
-ghost use Rattle.rox_build.specs.Readiness.{IsBehind, MayReadBelow, MayResolve};
+ghost use Rattle.rox_build.specs.ElementRow.{MakesElement, ReadsStartTag};
+ghost use Rattle.rox_build.specs.Readiness.{IsBehind, MayReadTagBelow, MayResolve};
 ghost use Rattle.rox_scan.specs.Views.{attribute_view};
 ghost use Rattle.rox_grammar.specs.Entities.{Entity};
 ghost use Rattle.rox_values.specs.DeclaredEntities.{AreDeclared, values_in};
 ghost use Rattle.rox_values.specs.Values.{piece_view};
-ghost use Rattle.rox_tables.specs.Rows.{namespace_view, scope_at, attribute_rows};
-ghost use Rattle.rox_tables.specs.Scopes.{entries};
-ghost use Rattle.rox_tables.specs.PrefixSet.{IsPrefixSet};
-ghost use Rattle.rox_tables.specs.TagDeclarations.{Declares, unresolved_view};
-ghost use Rattle.rox_build.specs.TagState.{HoldsTag, IsReadingTag, KeepsScopes, GivesAttribute, ReadsTagPart, TakesAttribute, AddsAttributes, IsStored, value_of};
-ghost use Rattle.rox_grammar.specs.Tree.{listed};
+ghost use Rattle.rox_tables.specs.TagDeclarations.{unresolved_view};
+ghost use Rattle.rox_build.specs.TagState.{IsReadingTag, GivesAttribute, ReadsAttributes, ReadsTagPart, TakesAttribute, IsStored, value_of};
 
 use crate::plain_tag::near_attribute;
 use rox_grammar::failure::Failure;
@@ -219,19 +212,9 @@ fn attributes<'input>(
     tag: OpenTag,
     context: Context<'_, 'input>,
 ) -> Result<(bool, bool, u32), ParseError<'input>>
-    requires tables { IsReadingTag elements.old buffers.old.prefix_set.keys tag.own }
-    ensures tables { OnOk result (IsReadingTag elements.new buffers.new.prefix_set.keys tag.own) }
-    ensures kept { OnOk result (KeepsScopes elements.old elements.new) }
-    ensures source { cursor.new.text ≡ cursor.old.text }
-    ensures took { (es : List Entity) (known : List NamespaceDecl) (before : List ℕ) (h : TagSoFar)
-        → AreDeclared es context.entry.entities.now → tag.own ≡ length before
-        → HoldsTag known before (map namespace_view elements.old.namespaces.items.items)
-        elements.old.listed.items false buffers.old.taken.items h
-        → AddsAttributes known before (map namespace_view elements.new.namespaces.items.items)
-        elements.new.listed.items buffers.new.taken.items cursor.new result
-        (attributes_at (length cursor.old.text.now)
-        (values_in es context.entry) tag.cut known cursor.old.text.now cursor.old.pos
-        tag.openings_left h) }
+    requires { IsReadingTag elements.old buffers.old.prefix_set.keys tag.own }
+    ensures { ReadsAttributes context.entry tag cursor.old cursor.new elements.old elements.new
+        buffers.old buffers.new result }
 {
     let mut xml = false;
     let mut openings_left = tag.openings_left;
@@ -309,18 +292,9 @@ pub fn start_tag<'input>(
     around: TagContext,
     context: Context<'_, 'input>,
 ) -> Result<StartTag<'input>, ParseError<'input>>
-    requires there { cursor.old.pos < length cursor.old.text.now }
-    requires here { slice_index cursor.old.text.now cursor.old.pos ≡ 60 }
-    requires below { MayReadBelow elements.old around.above }
-    ensures source { cursor.new.text ≡ cursor.old.text }
-    ensures starts { IfOk result (λ t. t.name_start ≡ cursor.old.pos + 1) }
-    ensures value { (es : List Entity) → AreDeclared es context.entry.entities.now
-        → GivesTag elements.old elements.new cursor.new result
-        (scope_in_tables elements.old around.above)
-        (tag_at (values_in es context.entry) around.cut (scope_in_tables elements.old around.above)
-        (length (attribute_rows elements.old.attributes))
-        (map namespace_view elements.old.namespaces.items.items) cursor.old.text.now cursor.old.pos
-        around.openings_left) }
+    requires { MayReadTagBelow cursor.old elements.old around.above }
+    ensures { ReadsStartTag context.entry around cursor.old cursor.new elements.old elements.new
+        result }
 {
     let small = byte_count(cursor.text);
     cursor.advance();

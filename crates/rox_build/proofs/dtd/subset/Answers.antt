@@ -104,4 +104,4 @@ returns g c = record {
 pub item-requires : goal.item-requires
 item-requires g c =
     let here : MayStep c.loop-turn.cursor c.loop-turn.builder = record { there = leb-false _ _ (sym c.is_at_end.ensures ∙ c.if-is_at_end.false); fine = c.loop-turn.invariant.fine } in
-    λ k. ((refl, tt), (here, c.requires.may))
+    λ k. ((refl, tt), record { here = here; may = c.requires.may })
