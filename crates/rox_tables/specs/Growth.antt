@@ -63,7 +63,9 @@ pub record GivesBack {A : Type 0} (old new : Vec A Global) : Type 0 where
   pub room : vec_capacity new ≤ vec_capacity old
   pub none : vec_len old ≡ 0 → 65536 < vec_capacity old → vec_capacity new ≡ 0
 
--- how many rows a text of so many bytes is to have room for at first: at most one of each kind in 12 bytes, and some more
+-- how many rows a text of so many bytes is to have room for at first: at most one of each kind in 12 bytes, and some more; for one node
+-- at least
 pub record IsFirstRoom (bytes : ℕ) (rows : RowCounts) : Type 0 where
   pub nodes : rows.nodes ≤ bytes / 12 + 16
+  pub some : 0 < rows.nodes
   pub attributes : rows.attributes ≤ bytes / 12 + 10

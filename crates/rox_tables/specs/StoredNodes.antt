@@ -1,6 +1,6 @@
 -- The rows of nodes as their table stores them.
 use Rattle.std.specs.declared.alloc.Global.{Global}
-use Rattle.std.specs.Prelude.{ℕ, ◌+◌, ◌-◌, ◌*◌, ◌^◌, ◌<◌, ◌≤◌, ◌≡◌, ◌==◌, ◌&&◌, Bool, true, false, not, List, [], ◌∷◌, Some, None, Result, IfOk, IfErr, OnOk, Vec, vec_len, vec_capacity, length, take, set, get_or, nat_lt, if◌then◌else◌}
+use Rattle.std.specs.Prelude.{ℕ, ◌+◌, ◌-◌, ◌*◌, ◌/◌, ◌^◌, ◌<◌, ◌≤◌, ◌≡◌, ◌==◌, ◌&&◌, Bool, true, false, not, List, [], ◌∷◌, Some, None, Result, IfOk, IfErr, OnOk, Vec, vec_len, vec_capacity, length, take, set, get_or, nat_lt, if◌then◌else◌}
 use Rattle.std.specs.Mem.{manually_drop_value}
 use Rattle.std.specs.List.{list_all}
 use Rattle.rox_tables.specs.Storage.{is_borrowed}
@@ -55,6 +55,10 @@ abbrev pub high_at : List HighPlaces → ℕ → HighPlaces
 high_at [] i = no_high
 high_at (h ∷ hs) Prim.Native.Nat.zero = h
 high_at (h ∷ hs) (Prim.Native.Nat.suc i) = high_at hs i
+
+-- those of the root node, in a text of so many bytes
+abbrev pub root_high : ℕ → List HighPlaces
+root_high bytes = if nat_lt bytes (2 ^ 32) then [] else record { start = 0; end = bytes / 2 ^ 32 } ∷ []
 
 -- the rows: the first have upper halves of their places, and those behind have none
 abbrev pub whole_rows : List PI → List HighPlaces → List StoredNode → List NodeData

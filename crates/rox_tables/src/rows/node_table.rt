@@ -1,6 +1,6 @@
 //! The table of nodes.
 
-ghost use Rattle.std.specs.Prelude.{◌≡◌, ◌<◌, ◌≤◌, ◌+◌, ◌-◌, ◌^◌, true, length, get_or, vec_len, vec_capacity, if◌then◌else◌, is_ok, IfOk, OnOk, OnErr};
+ghost use Rattle.std.specs.Prelude.{◌≡◌, ◌<◌, ◌≤◌, ◌+◌, ◌-◌, ◌^◌, ◌∷◌, [], true, length, get_or, vec_len, vec_capacity, if◌then◌else◌, is_ok, IfOk, OnOk, OnErr};
 ghost use Rattle.std.proofs.Props.{props};
 ghost use Rattle.rox_tables.specs.StoredNodes as stored;
 ghost use Rattle.rox_tables.specs.StoredNodes.{are_within};
@@ -44,6 +44,28 @@ fn high_places(high: &[HighPlaces], index: usize) -> HighPlaces
         return high[index];
     }
     HighPlaces { start: 0, end: 0 }
+}
+
+/// The upper halves of the root node's places, where the text is of 4 GiB or more. The only error is want of memory.
+#[cold]
+#[inline(never)]
+fn far_root(alloc: Global, end: u32) -> Result<Vec<HighPlaces>, AllocError>
+    ensures { IfOk result (λ high. high.items ≡ record { start = 0; end = end } ∷ []) }
+{
+    let mut high = Vec::with_capacity(alloc, 1)?;
+    high.push_reserved(HighPlaces { start: 0, end });
+    Ok(high)
+}
+
+/// The same of a text of so many bytes: none where they are 0.
+#[inline(always)]
+fn root_high(alloc: Global, bytes: usize) -> Result<Vec<HighPlaces>, AllocError>
+    ensures { IfOk result (λ high. high.items ≡ stored.root_high bytes) }
+{
+    if bytes < FIRST_HIGH {
+        return Ok(Vec::new(alloc));
+    }
+    far_root(alloc, high_half(bytes))
 }
 
 /// Fills up with upper halves of 0, and makes room for one more. The only error is want of memory.
@@ -151,23 +173,25 @@ impl<'input> NodeTable<'input> {
         bytes: usize,
         room: usize,
     ) -> Result<NodeTable<'input>, AllocError>
+        requires { 0 < room }
         ensures { IfOk result (IsRootAlone bytes) }
     {
-        let rows = first_room(alloc, room, FEWEST_ROWS)?;
-        let mut table = NodeTable {
-            rows,
-            instructions: Vec::new(alloc),
-            high: Vec::new(alloc),
-            last_owned: 0,
-        };
-        table.push(NodeData {
+        let mut rows = first_room(alloc, room, FEWEST_ROWS)?;
+        // Its row is put before there is a table: what is not lent need not lie in memory.
+        rows.push_reserved(StoredNode {
             start: 0,
-            end: bytes,
+            end: low_half(bytes),
             parent: 0,
             subtree_end: 0,
-            kind: NodeKind::Root,
-        })?;
-        Ok(table)
+            kind: StoredKind::Root,
+        });
+        let high = root_high(alloc, bytes)?;
+        Ok(NodeTable {
+            rows,
+            instructions: Vec::new(alloc),
+            high,
+            last_owned: 0,
+        })
     }
 
     /// How many nodes there are.
