@@ -124,19 +124,18 @@ fn read<'input, 'w, R: EntityResolver<'input> + Drop>(
         return Err(Error::OutOfMemory);
     };
     let mut builder = Builder::of_root(alloc, first, opt.nodes_limit);
-    match build(
+    let dtd = match build(
         alloc,
         text,
         opt.allow_dtd,
         &opt.entity_resolver,
         &mut builder,
     ) {
-        Ok(dtd) => {
-            let tables = builder.finish();
-            Ok(Document::from_tables(text, opt.document_key, dtd, tables))
-        }
-        Err(refused) => Err(told(alloc, text, refused)),
-    }
+        Ok(dtd) => dtd,
+        Err(refused) => return Err(told(alloc, text, refused)),
+    };
+    let tables = builder.finish();
+    Ok(Document::from_tables(text, opt.document_key, dtd, tables))
 }
 
 /// What a caller is told of a refusal.

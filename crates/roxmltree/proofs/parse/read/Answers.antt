@@ -19,8 +19,8 @@ from_tables-requires g c =
     let b = given c.args.opt.nodes_limit _ c.args.opt.allow_dtd allows c.args.text.now c.in-Ok-build.dtd c.finish-tables.result _ c.of_root-builder.ensures.limit c.finish-tables.ensures c.in-Ok-build.ensures.ok in
     built_document c.args.opt.nodes_limit c.args.opt.allow_dtd allows c.args.text.now c.utf8.text c.finish-tables.result c.in-Ok-build.dtd b
 
-pub returns-in-Ok-build-clause-tree : goal.returns-in-Ok-build-clause-tree
-returns-in-Ok-build-clause-tree g c =
+pub returns-clause-tree : goal.returns-clause-tree
+returns-clause-tree g c =
     let allows = Allows g.R.EntityResolver.allows c.args.opt.entity_resolver in
     let b = given c.args.opt.nodes_limit _ c.args.opt.allow_dtd allows c.args.text.now c.in-Ok-build.dtd c.finish-tables.result _ c.of_root-builder.ensures.limit c.finish-tables.ensures c.in-Ok-build.ensures.ok in
     let is = c.from_tables.ensures _ (built_holds c.args.opt.nodes_limit c.args.opt.allow_dtd allows c.args.text.now c.utf8.text c.finish-tables.result c.in-Ok-build.dtd b) in
@@ -34,20 +34,20 @@ returns-in-Ok-build-clause-tree g c =
       shown = ap (λ d. d.tree) is;
     }
 
-pub returns-in-Ok-build-clause-text : goal.returns-in-Ok-build-clause-text
-returns-in-Ok-build-clause-text g c =
+pub returns-clause-text : goal.returns-clause-text
+returns-clause-text g c =
     let allows = Allows g.R.EntityResolver.allows c.args.opt.entity_resolver in
     let b = given c.args.opt.nodes_limit _ c.args.opt.allow_dtd allows c.args.text.now c.in-Ok-build.dtd c.finish-tables.result _ c.of_root-builder.ensures.limit c.finish-tables.ensures c.in-Ok-build.ensures.ok in
     ap (λ d. d.text) (c.from_tables.ensures _ (built_holds c.args.opt.nodes_limit c.args.opt.allow_dtd allows c.args.text.now c.utf8.text c.finish-tables.result c.in-Ok-build.dtd b))
 
-pub returns-in-Ok-build-clause-key : goal.returns-in-Ok-build-clause-key
-returns-in-Ok-build-clause-key g c =
+pub returns-clause-key : goal.returns-clause-key
+returns-clause-key g c =
     let allows = Allows g.R.EntityResolver.allows c.args.opt.entity_resolver in
     let b = given c.args.opt.nodes_limit _ c.args.opt.allow_dtd allows c.args.text.now c.in-Ok-build.dtd c.finish-tables.result _ c.of_root-builder.ensures.limit c.finish-tables.ensures c.in-Ok-build.ensures.ok in
     ap (λ d. d.key) (c.from_tables.ensures _ (built_holds c.args.opt.nodes_limit c.args.opt.allow_dtd allows c.args.text.now c.utf8.text c.finish-tables.result c.in-Ok-build.dtd b))
 
-pub returns-clause-told : goal.returns-clause-told
-returns-clause-told g c some =
+pub returns-in-Err-clause-told : goal.returns-in-Err-clause-told
+returns-in-Err-clause-told g c some =
     let allows = Allows g.R.EntityResolver.allows c.args.opt.entity_resolver in
     let refused = subst (λ (n : ℕ). BuiltRefusal n c.args.opt.allow_dtd allows c.args.text.now c.in-Err.refused) c.of_root-builder.ensures.limit c.in-Err.ensures.refused in
     is_first c.args.opt.nodes_limit c.args.opt.allow_dtd allows c.args.text.now c.utf8.text c.in-Err.refused _ some refused c.told.ensures
