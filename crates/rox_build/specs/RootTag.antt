@@ -12,7 +12,7 @@ use Rattle.rox_reading.specs.Tags.{TagSoFar, Values, attributes_at, names_tested
 use Rattle.rox_reading.specs.Tags as tags
 use Rattle.rox_tables.specs.Bindings.{AreBindingsOf}
 use Rattle.rox_tables.specs.Rows.{AttributeRow, NamespaceWithin, namespace_view, attribute, attribute_rows}
-use Rattle.rox_tables.specs.TagDeclarations.{Declared, Declares, HasOwn, unresolved_view}
+use Rattle.rox_tables.specs.TagDeclarations.{Declares, DeclaresNew, HasOwn}
 use Rattle.rox_tables.specs.TagScopes.{lists_in}
 use Rattle.rox_tables.specs.declared.namespaces.bindings.PrefixBindings.{PrefixBindings}
 use Rattle.rox_tables.specs.declared.namespaces.unresolved_attribute.UnresolvedAttribute.{UnresolvedAttribute}
@@ -56,8 +56,7 @@ pub record ListsDeclaration (old new : ElementTables) (src : List ℕ) (i j : �
   pub plain : IsPlainAttribute src i one
   pub is : is_namespace_decl (name_view one.name) ≡ true
   pub end : one.end ≡ j
-  pub declared : (h : TagSoFar) → Declares [] [] (map namespace_view old.namespaces.items.items) old.listed.items false h.own
-      → Declared [] [] (map namespace_view new.namespaces.items.items) new.listed.items (Ok false) h (tags.declared [] (unresolved_view one) h)
+  pub listed : DeclaresNew old.namespaces.items.items old.listed.items new.namespaces.items.items new.listed.items one
 
 -- The attributes and declarations of a root element up to this place, each of them plain: these declare so much, and those are in the
 -- table, which had these rows before, in what is declared.
@@ -145,16 +144,9 @@ pub record MayBeNamed (src : List ℕ) (i : ℕ) : Type 0 where
   pub cut : IsCharBoundary src i
   pub begins : 62 < slice_index src i
 
--- so may a declaration, where all that is declared is the tag's own
-pub record MayDeclareOwn (src : List ℕ) (i : ℕ) (t : ElementTables) (keys : List (Option (Bor (List ℕ)))) : Type 0 where
-  pub cut : IsCharBoundary src i
-  pub begins : 62 < slice_index src i
-  pub own : HasOwn t.namespaces.items.items t.listed.items keys 0
-
 -- what begins here was declared, if it is a declaration that is read at one look, up to this place
-pub record DeclaresOwn (old new : ElementTables) (keys : List (Option (Bor (List ℕ)))) (src : List ℕ) (i : ℕ) (result : Option ℕ) : Type 0 where
+pub record DeclaresOwn (old new : ElementTables) (src : List ℕ) (i : ℕ) (result : Option ℕ) : Type 0 where
   pub others : new ≡ record old { namespaces = new.namespaces; listed = new.listed }
-  pub own : IfSome result (λ _. HasOwn new.namespaces.items.items new.listed.items keys 0)
   pub lists : IfSome result (λ j. ListsDeclaration old new src i j)
 
 -- the scope of the root element lists all that is listed, if that is little
