@@ -385,14 +385,16 @@ none_of : {X : Type 0} (xs : List X) → length xs ≡ 0 → xs ≡ []
 none_of [] h = refl
 none_of (x ∷ xs) h = absurd (omega arith)
 
-pub blank : (t : ElementTables) → length t.namespaces.items.items ≡ 0 → length t.listed.items ≡ 0 → length t.scopes.items ≡ 1 → IsBlank t
-blank t n l s =
+pub blank : (t : ElementTables) → length t.namespaces.items.items ≡ 0 → length t.listed.items ≡ 0 → length t.scopes.items ≡ 1 → AreNoBindings t.present → IsBlank t
+blank t n l s p =
     let names = none_of t.namespaces.items.items n in
     let listed = none_of t.listed.items l in
     record {
       namespaces = names;
+      listed = listed;
       lists = ap (λ ns. lists_of (map namespace_view ns) t.listed.items t.scopes.items) names ∙ ap (λ ls. lists_of [] ls t.scopes.items) listed ∙ blank_lists t.scopes.items s;
       scopes = s;
+      present = p;
     }
 
 pub has_scope : (t : ElementTables) (keys : List (Option (Bor (List ℕ)))) → HasOwn t.namespaces.items.items t.listed.items keys 0 → HasRootScope t → plain.HasScope t 1
@@ -600,7 +602,7 @@ alike_same t = record { rows = refl; names = refl; lists = refl; below = λ abov
 pub alike_blank : (old now : ElementTables) → IsBlank old → attribute_rows now.attributes ≡ attribute_rows old.attributes → now.namespaces.items.items ≡ [] → now.listed.items ≡ []
     → now.scopes.items ≡ first_places 0 ∷ [] → AreNoBindings now.present → HoldAlike old now
 alike_blank old now blank rows names listed scopes present =
-    let none : IsBlank now = record { namespaces = names; lists = ap (λ ns. lists_of (map namespace_view ns) now.listed.items now.scopes.items) names ∙ ap (λ ls. lists_of [] ls now.scopes.items) listed ∙ blank_lists now.scopes.items (ap length scopes); scopes = ap length scopes } in
+    let none : IsBlank now = record { namespaces = names; listed = listed; lists = ap (λ ns. lists_of (map namespace_view ns) now.listed.items now.scopes.items) names ∙ ap (λ ls. lists_of [] ls now.scopes.items) listed ∙ blank_lists now.scopes.items (ap length scopes); scopes = ap length scopes; present = present } in
     let lists = none.lists ∙ sym blank.lists in
     record {
       rows = rows;

@@ -31,12 +31,6 @@ pub record IsNamedAttribute (src : List ℕ) (i : ℕ) (n : NamedAttribute) : Ty
   pub named : IsAttributeName src i n.name
   pub value : HasPlainValue src (n.name.end + 2) (slice_index src (n.name.end + 1)) n.value.end n.value.text.now
 
--- nothing is declared, and there is the scope of the root node alone
-pub record IsBlank (t : ElementTables) : Type 0 where
-  pub namespaces : t.namespaces.items.items ≡ []
-  pub lists : lists_in t ≡ [] ∷ []
-  pub scopes : length t.scopes.items ≡ 1
-
 -- a scope of the first so many places
 abbrev pub first_places : ℕ → Scope
 first_places n = scope.Few (record { from = 0; until = n })
@@ -44,6 +38,14 @@ first_places n = scope.Few (record { from = 0; until = n })
 -- the places of prefixes are those of no scope
 abbrev pub AreNoBindings : PrefixBindings → Type 0
 AreNoBindings x = (namespaces : List NamespaceDecl) (lists : List (List NamespaceDecl)) → AreBindingsOf namespaces lists x
+
+-- nothing is declared, and there is the scope of the root node alone
+pub record IsBlank (t : ElementTables) : Type 0 where
+  pub namespaces : t.namespaces.items.items ≡ []
+  pub listed : t.listed.items ≡ []
+  pub lists : lists_in t ≡ [] ∷ []
+  pub scopes : length t.scopes.items ≡ 1
+  pub present : AreNoBindings t.present
 
 -- the tables have the scope of the root node and that of its element, which lists all that is listed
 pub record HasRootScope (t : ElementTables) : Type 0 where
@@ -166,3 +168,8 @@ pub record BeginsScopes {E : Type 0} (old new : ElementTables) (result : Result 
   pub listed : OnOk result (new.listed.items ≡ [])
   pub present : OnOk result (AreNoBindings new.present)
   pub others : new ≡ record old { listed = new.listed; scopes = new.scopes; present = new.present }
+
+-- the scope of the root element is there, which lists nothing, behind that of the root node
+pub record BeginsOwn {E : Type 0} (old new : ElementTables) (result : Result (Unit {0}) E) : Type 0 where
+  pub scopes : OnOk result (new.scopes.items ≡ first_places 0 ∷ first_places 0 ∷ [])
+  pub others : new ≡ record old { scopes = new.scopes }

@@ -4,7 +4,7 @@
 ghost use Rattle.std.specs.Prelude.{◌≡◌, IfOk, IfSome, length, slice_index, true};
 ghost use Rattle.rox_build.specs.ElementRow.{ReadsStartTag};
 ghost use Rattle.rox_build.specs.Readiness.{MayReadTagBelow};
-ghost use Rattle.rox_build.specs.RootTag.{BeginsScopes, DeclaresOwn, GivesRootTag, IsBlank, IsNamedAttribute, ListsOwn, MayBeNamed, MayReadRoot, MayReadRootTag, ReadsRoot, ReadsRootTag};
+ghost use Rattle.rox_build.specs.RootTag.{BeginsOwn, BeginsScopes, DeclaresOwn, GivesRootTag, IsBlank, IsNamedAttribute, ListsOwn, MayBeNamed, MayReadRoot, MayReadRootTag, ReadsRoot, ReadsRootTag};
 
 use crate::plain_tag::{
     NamedAttribute, PlainTag, TagEnd, next_item, other_namespace, plain_name, plain_value,
@@ -20,6 +20,7 @@ use rox_tables::namespaces::namespace_decl::{declare_new, is_namespace_decl};
 use rox_tables::namespaces::namespace_table::NamespaceTable;
 use rox_tables::namespaces::prefix_set::FEW;
 use rox_tables::namespaces::unresolved_attribute::UnresolvedAttribute;
+use rox_tables::rows::growth::push;
 use rox_tables::rows::storage::StringStorage;
 use rox_tables::rows::tables::{ElementData, ElementTables, Scope, Stretch};
 use rox_values::context::Context;
@@ -211,11 +212,25 @@ fn is_blank(elements: &ElementTables<'_>) -> bool
     if elements.scopes.len() != 1 {
         return false;
     }
-    true
+    elements.present.is_of_none()
+}
+
+/// Puts the scope of a root element there, which lists nothing yet, behind that of the root node. The only error is want of memory.
+#[inline(always)]
+fn begin_root(elements: &mut ElementTables<'_>) -> Result<(), AllocError>
+    requires { length elements.old.scopes.items ≡ 1 }
+    ensures { BeginsOwn elements.old elements.new result }
+{
+    elements.scopes[0] = Scope::Few(Stretch { from: 0, until: 0 });
+    push(
+        &mut elements.scopes,
+        Scope::Few(Stretch { from: 0, until: 0 }),
+    )
 }
 
 /// Puts the scope of the root node there, where nothing is declared.
-#[inline(always)]
+#[cold]
+#[inline(never)]
 fn begin_scopes(alloc: Global, elements: &mut ElementTables<'_>) -> Result<(), AllocError>
     ensures { BeginsScopes elements.old elements.new result }
 {
@@ -246,10 +261,7 @@ fn first_tag<'input>(
         return Ok(None);
     }
     let attributes = elements.attributes.len();
-    begin_scopes(alloc, elements)?;
-    elements
-        .scopes
-        .push(Scope::Few(Stretch { from: 0, until: 0 }))?;
+    begin_root(elements)?;
     let mut lacking = false;
     if let Some(read) = root_tag(text, start, elements, buffers, openings_left, &mut lacking) {
         return Ok(Some(read));

@@ -196,7 +196,7 @@ pub fn declare_new<'input>(
         name: prefix,
         uri: taken.value,
     };
-    let place = namespaces.add(Key { namespace })?;
-    push_with_room(listed, place, FIRST_ROOM)?;
+    let added = namespaces.add(Key { namespace })?;
+    push_with_room(listed, added, FIRST_ROOM)?;
     Ok(true)
 }

@@ -28,14 +28,14 @@ returns c = λ _ keys has.
     let listed = c.args.listed.now.items in
     let after = c.push_with_room.new.to.items in
     let one = pair (prefix_view c.declared_prefix-prefix.result) (storage_bytes c.args.taken.value) in
-    let place = c.in_ok-place.place in
+    let place = c.in_ok-added.added in
     let ds = map namespace_view old in
     let none : is_declared one.prefix ds ≡ false = ap (λ rows. is_declared one.prefix (map namespace_view rows)) (sym c.as_slice-pairs.ensures.value) ∙ sym c.has_prefix.ensures ∙ c.if-has_prefix.false in
-    let table : map namespace_view rows ≡ with_new ds (one ∷ []) = c.in_ok-place.ensures.items ∙ with_absent ds one (absent_row old one none) in
-    let last = row_last {E = Fault} (Ok place) old rows one c.in_ok-place.ensures.items c.in_ok-place.ensures.place in
+    let table : map namespace_view rows ≡ with_new ds (one ∷ []) = c.in_ok-added.ensures.items ∙ with_absent ds one (absent_row old one none) in
+    let last = row_last {E = Fault} (Ok place) old rows one c.in_ok-added.ensures.items c.in_ok-added.ensures.place in
     let was = length-map old namespace_view in
     let long = length-map rows namespace_view in
-    let more = ap length c.in_ok-place.ensures.items ∙ length-append ds (one ∷ []) in
+    let more = ap length c.in_ok-added.ensures.items ∙ length-append ds (one ∷ []) in
     let count : length rows ≡ length old + 1 = omega (arith, was, long, more) in
     let there : place < length rows = last.0 in
     let at : namespace_at (map namespace_view rows) place ≡ one = last.1 in
