@@ -4,12 +4,10 @@ use Rattle.std.specs.Borrow.{Bor}
 use Rattle.std.specs.List.{AllByRecursion}
 use Rattle.std.specs.Str.{IsCharBoundary}
 use Rattle.rox_grammar.specs.declared.fault.Fault.{Fault}
-use Rattle.rox_grammar.specs.Document.{most_pairs}
 use Rattle.rox_grammar.specs.Failures.{name_view}
 use Rattle.rox_grammar.specs.Tree.{attribute_in, listable_of}
 use Rattle.rox_grammar.specs.Written.{Attribute, NamespaceDecl, is_namespace_decl}
-use Rattle.rox_reading.specs.Tags.{TagSoFar, Values, attributes_at, names_tested}
-use Rattle.rox_reading.specs.Tags as tags
+use Rattle.rox_reading.specs.Tags.{Values, attributes_at, names_tested}
 use Rattle.rox_tables.specs.Bindings.{AreBindingsOf}
 use Rattle.rox_tables.specs.Rows.{AttributeRow, NamespaceWithin, namespace_view, attribute, attribute_rows}
 use Rattle.rox_tables.specs.TagDeclarations.{Declares, DeclaresNew, HasOwn}

@@ -1,4 +1,4 @@
-use Rattle.std.proofs.Common.{rules, ◌≡◌, ◌-◌, ◌+◌, [], slice_index, refl, sym, ap, ◌∙◌, arith}
+use Rattle.std.proofs.Common.{rules, ◌≡◌, ◌-◌, ◌+◌, slice_index, refl, sym, ap, ◌∙◌, arith}
 use Rattle.rox_grammar.specs.Failures.{name_view}
 use Rattle.rox_tables.specs.declared.rows.storage.StringStorage.TheVariants.{Borrowed}
 use Rattle.rox_tables.specs.declared.namespaces.unresolved_attribute.UnresolvedAttribute.{UnresolvedAttribute}
