@@ -385,14 +385,16 @@ none_of : {X : Type 0} (xs : List X) → length xs ≡ 0 → xs ≡ []
 none_of [] h = refl
 none_of (x ∷ xs) h = absurd (omega arith)
 
-pub blank : (t : ElementTables) → length t.namespaces.items.items ≡ 0 → length t.listed.items ≡ 0 → length t.scopes.items ≡ 1 → IsBlank t
-blank t n l s =
+pub blank : (t : ElementTables) → length t.namespaces.items.items ≡ 0 → length t.listed.items ≡ 0 → length t.scopes.items ≡ 1 → AreNoBindings t.present → IsBlank t
+blank t n l s p =
     let names = none_of t.namespaces.items.items n in
     let listed = none_of t.listed.items l in
     record {
       namespaces = names;
+      listed = listed;
       lists = ap (λ ns. lists_of (map namespace_view ns) t.listed.items t.scopes.items) names ∙ ap (λ ls. lists_of [] ls t.scopes.items) listed ∙ blank_lists t.scopes.items s;
       scopes = s;
+      present = p;
     }
 
 pub has_scope : (t : ElementTables) (keys : List (Option (Bor (List ℕ)))) → HasOwn t.namespaces.items.items t.listed.items keys 0 → HasRootScope t → plain.HasScope t 1
@@ -428,26 +430,27 @@ holds_start t keys src start h =
       so_far = subst (λ ns. RootSoFar ns [] src start (attribute_rows t.attributes) start (attribute_rows t.attributes)) (sym none) (root_starts src start (attribute_rows t.attributes));
     }
 
-pub holds_declared : (old mid new : ElementTables) (keys next : List (Option (Bor (List ℕ)))) (src : List ℕ) (start : ℕ) (rows : List AttributeRow) (i k j : ℕ)
+pub holds_declared : (old mid new : ElementTables) (keys : List (Option (Bor (List ℕ)))) (src : List ℕ) (start : ℕ) (rows : List AttributeRow) (i k j : ℕ)
     → HoldsRoot old keys src start rows i → mid ≡ record old { namespaces = mid.namespaces; listed = mid.listed } → new ≡ record mid { scopes = new.scopes }
-    → new.scopes.items ≡ first_places 0 ∷ first_places (length mid.listed.items) ∷ [] → HasOwn mid.namespaces.items.items mid.listed.items next 0 → ListsDeclaration old mid src k j
-    → i ≤ k → k ≡ spaces_end src i → (k ≡ i → ⊥) → (slice_index src k == 47) ≡ false → (slice_index src k == 62) ≡ false → HoldsRoot new next src start rows j
-holds_declared old mid new keys next src start rows i k j g one two scopes own d onward spaces some slash close =
+    → new.scopes.items ≡ first_places 0 ∷ first_places (length mid.listed.items) ∷ [] → ListsDeclaration old mid src k j
+    → i ≤ k → k ≡ spaces_end src i → (k ≡ i → ⊥) → (slice_index src k == 47) ≡ false → (slice_index src k == 62) ≡ false → HoldsRoot new keys src start rows j
+holds_declared old mid new keys src start rows i k j g one two scopes d onward spaces some slash close =
     let namespaces = map namespace_view old.namespaces.items.items in
     let after = map namespace_view mid.namespaces.items.items in
     let h : TagSoFar = record { own = g.own; attributes = g.so_far.written } in
-    let made = d.declared h g.declares in
+    let listed = d.listed keys g.has in
+    let made = listed.value [] [] h refl g.declares in
     let present : mid.present ≡ old.present = ap (λ (t : ElementTables). t.present) one in
     let attributes : mid.attributes ≡ old.attributes = ap (λ (t : ElementTables). t.attributes) one in
     let read = root_declared namespaces after g.own made.0 src start rows i k (attribute_rows old.attributes) d.one g.so_far onward spaces some slash close d.plain d.is g.declares.names_are made.2.names_are made.1 in
-    let held : HoldsRoot (record mid { scopes = new.scopes }) next src start rows j = record {
+    let held : HoldsRoot (record mid { scopes = new.scopes }) keys src start rows j = record {
       own = made.0;
       declares = made.2;
-      has = own;
+      has = listed.own;
       scope = record { scopes = scopes; present = subst AreNoBindings (sym present) g.scope.present };
       so_far = subst (λ (e : ℕ). RootSoFar after made.0 src start rows e (attribute_rows mid.attributes)) d.end (subst (λ (rs : List AttributeRow). RootSoFar after made.0 src start rows d.one.end rs) (ap attribute_rows (sym attributes)) read);
     } in
-    subst (λ (t : ElementTables). HoldsRoot t next src start rows j) (sym two) held
+    subst (λ (t : ElementTables). HoldsRoot t keys src start rows j) (sym two) held
 
 pub holds_more : (t new : ElementTables) (keys : List (Option (Bor (List ℕ)))) (src : List ℕ) (start from : ℕ) (rows : List AttributeRow) (i k j : ℕ)
     → HoldsRoot t keys src start rows i → new ≡ record t { attributes = new.attributes } → from ≡ length rows
@@ -599,7 +602,7 @@ alike_same t = record { rows = refl; names = refl; lists = refl; below = λ abov
 pub alike_blank : (old now : ElementTables) → IsBlank old → attribute_rows now.attributes ≡ attribute_rows old.attributes → now.namespaces.items.items ≡ [] → now.listed.items ≡ []
     → now.scopes.items ≡ first_places 0 ∷ [] → AreNoBindings now.present → HoldAlike old now
 alike_blank old now blank rows names listed scopes present =
-    let none : IsBlank now = record { namespaces = names; lists = ap (λ ns. lists_of (map namespace_view ns) now.listed.items now.scopes.items) names ∙ ap (λ ls. lists_of [] ls now.scopes.items) listed ∙ blank_lists now.scopes.items (ap length scopes); scopes = ap length scopes } in
+    let none : IsBlank now = record { namespaces = names; listed = listed; lists = ap (λ ns. lists_of (map namespace_view ns) now.listed.items now.scopes.items) names ∙ ap (λ ls. lists_of [] ls now.scopes.items) listed ∙ blank_lists now.scopes.items (ap length scopes); scopes = ap length scopes; present = present } in
     let lists = none.lists ∙ sym blank.lists in
     record {
       rows = rows;

@@ -35,7 +35,8 @@ use Rattle.rox_scan.proofs.MarkLemmas.{stands_fits, stands_reads}
 use Rattle.rox_scan.specs.declared.cursor.Cursor.{Cursor}
 use Rattle.rox_grammar.specs.declared.failure.Failure.{Failure}
 use Rattle.rox_build.proofs.Lifting.{refuses}
-use Rattle.rox_build.specs.BuilderState.{OpenRow, opened, opened_in, open_lines, line_in, names_in, IsRowWithin, Represents, Adds, IsInState, KeepsState, ScansTo, open_name}
+use Rattle.rox_build.specs.Putting.{KeepsRows}
+use Rattle.rox_build.specs.BuilderState.{OpenRow, opened, opened_in, open_lines, line_in, names_in, IsRowWithin, Represents, Adds, IsConsistent, IsInState, KeepsOpen, KeepsState, ScansTo, open_name}
 use Rattle.rox_tables.specs.Rows.{node_rows}
 use Rattle.rox_build.specs.declared.builder.Builder.{Builder}
 
@@ -331,3 +332,17 @@ state_kept limit end s c d b u h same k =
       attributes = ap length k.attributes ∙ h.attributes;
       openings_left_is = k.openings_left ∙ h.openings_left_is;
     }
+
+-- so it does where it has other room for rows
+pub rows_kept : (limit end : ℕ) (s : State) (c : Cursor) (b u : Builder) → KeepsRows b u → IsInState limit end s c b → IsInState limit end s c u
+rows_kept limit end s c b u k h = record {
+  here = h.here;
+  limit_is = k.kept.limit ∙ h.limit_is;
+  shows = k.shows end s.stack s.done h.shows;
+  namespaces = ap names_in k.kept.tables ∙ h.namespaces;
+  attributes = ap (λ (t : ElementTables). length (attribute_rows t.attributes)) k.kept.tables ∙ h.attributes;
+  openings_left_is = k.kept.openings_left ∙ h.openings_left_is;
+}
+
+pub fine_open : (b u : Builder) → KeepsOpen b u → IsConsistent b.tables b.opened.items → IsConsistent u.tables u.opened.items
+fine_open b u k fine = rw (k.tables, k.opened) fine

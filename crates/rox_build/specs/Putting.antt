@@ -50,6 +50,11 @@ pub record EndsRun (old new : Builder) (result : Result (Unit {0}) AllocError) :
   pub ok : OnOk result ((end : ℕ) (stack : Open) (done : Forest Item) → Represents end stack done old → Represents end stack done new)
   pub kept : KeepsOpen old new
 
+-- the builder holds the same, whatever room it has for rows
+pub record KeepsRows (old new : Builder) : Type 0 where
+  pub shows : (end : ℕ) (stack : Open) (done : Forest Item) → Represents end stack done old → Represents end stack done new
+  pub kept : KeepsOpen old new
+
 -- the builder holds this piece of a text behind what it showed before
 abbrev pub HasAdded : Builder → Builder → Item → Type 0
 HasAdded old new item = (total at : ℕ) (s : State) → Represents total s.stack s.done old → Adds total (Ok tt) new (with_item old.nodes_limit s at item)

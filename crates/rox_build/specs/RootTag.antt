@@ -4,15 +4,13 @@ use Rattle.std.specs.Borrow.{Bor}
 use Rattle.std.specs.List.{AllByRecursion}
 use Rattle.std.specs.Str.{IsCharBoundary}
 use Rattle.rox_grammar.specs.declared.fault.Fault.{Fault}
-use Rattle.rox_grammar.specs.Document.{most_pairs}
 use Rattle.rox_grammar.specs.Failures.{name_view}
 use Rattle.rox_grammar.specs.Tree.{attribute_in, listable_of}
 use Rattle.rox_grammar.specs.Written.{Attribute, NamespaceDecl, is_namespace_decl}
-use Rattle.rox_reading.specs.Tags.{TagSoFar, Values, attributes_at, names_tested}
-use Rattle.rox_reading.specs.Tags as tags
+use Rattle.rox_reading.specs.Tags.{Values, attributes_at, names_tested}
 use Rattle.rox_tables.specs.Bindings.{AreBindingsOf}
 use Rattle.rox_tables.specs.Rows.{AttributeRow, NamespaceWithin, namespace_view, attribute, attribute_rows}
-use Rattle.rox_tables.specs.TagDeclarations.{Declared, Declares, HasOwn, unresolved_view}
+use Rattle.rox_tables.specs.TagDeclarations.{Declares, DeclaresNew, HasOwn}
 use Rattle.rox_tables.specs.TagScopes.{lists_in}
 use Rattle.rox_tables.specs.declared.namespaces.bindings.PrefixBindings.{PrefixBindings}
 use Rattle.rox_tables.specs.declared.namespaces.unresolved_attribute.UnresolvedAttribute.{UnresolvedAttribute}
@@ -31,12 +29,6 @@ pub record IsNamedAttribute (src : List ℕ) (i : ℕ) (n : NamedAttribute) : Ty
   pub named : IsAttributeName src i n.name
   pub value : HasPlainValue src (n.name.end + 2) (slice_index src (n.name.end + 1)) n.value.end n.value.text.now
 
--- nothing is declared, and there is the scope of the root node alone
-pub record IsBlank (t : ElementTables) : Type 0 where
-  pub namespaces : t.namespaces.items.items ≡ []
-  pub lists : lists_in t ≡ [] ∷ []
-  pub scopes : length t.scopes.items ≡ 1
-
 -- a scope of the first so many places
 abbrev pub first_places : ℕ → Scope
 first_places n = scope.Few (record { from = 0; until = n })
@@ -44,6 +36,14 @@ first_places n = scope.Few (record { from = 0; until = n })
 -- the places of prefixes are those of no scope
 abbrev pub AreNoBindings : PrefixBindings → Type 0
 AreNoBindings x = (namespaces : List NamespaceDecl) (lists : List (List NamespaceDecl)) → AreBindingsOf namespaces lists x
+
+-- nothing is declared, and there is the scope of the root node alone
+pub record IsBlank (t : ElementTables) : Type 0 where
+  pub namespaces : t.namespaces.items.items ≡ []
+  pub listed : t.listed.items ≡ []
+  pub lists : lists_in t ≡ [] ∷ []
+  pub scopes : length t.scopes.items ≡ 1
+  pub present : AreNoBindings t.present
 
 -- the tables have the scope of the root node and that of its element, which lists all that is listed
 pub record HasRootScope (t : ElementTables) : Type 0 where
@@ -56,8 +56,7 @@ pub record ListsDeclaration (old new : ElementTables) (src : List ℕ) (i j : �
   pub plain : IsPlainAttribute src i one
   pub is : is_namespace_decl (name_view one.name) ≡ true
   pub end : one.end ≡ j
-  pub declared : (h : TagSoFar) → Declares [] [] (map namespace_view old.namespaces.items.items) old.listed.items false h.own
-      → Declared [] [] (map namespace_view new.namespaces.items.items) new.listed.items (Ok false) h (tags.declared [] (unresolved_view one) h)
+  pub listed : DeclaresNew old.namespaces.items.items old.listed.items new.namespaces.items.items new.listed.items one
 
 -- The attributes and declarations of a root element up to this place, each of them plain: these declare so much, and those are in the
 -- table, which had these rows before, in what is declared.
@@ -145,16 +144,9 @@ pub record MayBeNamed (src : List ℕ) (i : ℕ) : Type 0 where
   pub cut : IsCharBoundary src i
   pub begins : 62 < slice_index src i
 
--- so may a declaration, where all that is declared is the tag's own
-pub record MayDeclareOwn (src : List ℕ) (i : ℕ) (t : ElementTables) (keys : List (Option (Bor (List ℕ)))) : Type 0 where
-  pub cut : IsCharBoundary src i
-  pub begins : 62 < slice_index src i
-  pub own : HasOwn t.namespaces.items.items t.listed.items keys 0
-
 -- what begins here was declared, if it is a declaration that is read at one look, up to this place
-pub record DeclaresOwn (old new : ElementTables) (keys : List (Option (Bor (List ℕ)))) (src : List ℕ) (i : ℕ) (result : Option ℕ) : Type 0 where
+pub record DeclaresOwn (old new : ElementTables) (src : List ℕ) (i : ℕ) (result : Option ℕ) : Type 0 where
   pub others : new ≡ record old { namespaces = new.namespaces; listed = new.listed }
-  pub own : IfSome result (λ _. HasOwn new.namespaces.items.items new.listed.items keys 0)
   pub lists : IfSome result (λ j. ListsDeclaration old new src i j)
 
 -- the scope of the root element lists all that is listed, if that is little
@@ -174,3 +166,8 @@ pub record BeginsScopes {E : Type 0} (old new : ElementTables) (result : Result 
   pub listed : OnOk result (new.listed.items ≡ [])
   pub present : OnOk result (AreNoBindings new.present)
   pub others : new ≡ record old { listed = new.listed; scopes = new.scopes; present = new.present }
+
+-- the scope of the root element is there, which lists nothing, behind that of the root node
+pub record BeginsOwn {E : Type 0} (old new : ElementTables) (result : Result (Unit {0}) E) : Type 0 where
+  pub scopes : OnOk result (new.scopes.items ≡ first_places 0 ∷ first_places 0 ∷ [])
+  pub others : new ≡ record old { scopes = new.scopes }

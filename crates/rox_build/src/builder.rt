@@ -179,7 +179,7 @@ impl<'input> Builder<'input> {
     ghost use Rattle.rox_build.specs.BuilderState.{Represents, AreSound, Adds, IsReady, KeepsOpen, opened_in, last_row, tables_of};
     ghost use Rattle.rox_build.specs.Outcomes.{AddsNode, AddsText, Flushes, OpensElement};
     ghost use Rattle.rox_build.specs.SpelledNames.{SpellsName};
-    ghost use Rattle.rox_build.specs.Putting.{Closes, EndsRun, IsInnermostScope, IsOfRoot, JoinsText, MayHaveMore, MayPutClose, MayPutLeaf, MayPutOpen, PutsClose, PutsLeaf, PutsOpen, PutsOwned, PutsText, Settles, WaitsForMore};
+    ghost use Rattle.rox_build.specs.Putting.{Closes, EndsRun, IsInnermostScope, IsOfRoot, JoinsText, KeepsRows, MayHaveMore, MayPutClose, MayPutLeaf, MayPutOpen, PutsClose, PutsLeaf, PutsOpen, PutsOwned, PutsText, Settles, WaitsForMore};
     ghost use Rattle.rox_build.specs.Readiness.{MayMakeRow, MayPutText};
     ghost use Rattle.rox_tables.specs.Rows.{HoldsTree};
     ghost use Rattle.rox_grammar.specs.Tree.{document_tree};
@@ -642,6 +642,18 @@ impl<'input> Builder<'input> {
         }
         let permitted = (self.nodes_limit as usize).saturating_sub(self.nodes.len());
         self.nodes.room().min(permitted)
+    }
+
+    /// Makes room for rows of what stands from `at` on, where a text and what follows it would find none. The only error is want of
+    /// memory.
+    #[inline(never)]
+    pub fn make_room(&mut self, at: usize) -> Result<(), AllocError>
+        ensures { KeepsRows self.old self.new }
+    {
+        if self.nodes.room() < 2 {
+            self.nodes.make_room(at, at)?;
+        }
+        Ok(())
     }
 
     /// Whether there is room for one more open element.

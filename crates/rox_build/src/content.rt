@@ -429,8 +429,9 @@ pub fn content<'input>(
         if builder.is_at_root() {
             return Ok(());
         }
-        // So many may be read that there is room for more.
+        // So many may be read that there is room for more, or none is left.
         if read > 0 && rows - read < 2 {
+            builder.make_room(cursor.pos)?;
             continue;
         }
         if left == 0 {

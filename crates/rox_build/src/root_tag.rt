@@ -4,29 +4,28 @@
 ghost use Rattle.std.specs.Prelude.{◌≡◌, IfOk, IfSome, length, slice_index, true};
 ghost use Rattle.rox_build.specs.ElementRow.{ReadsStartTag};
 ghost use Rattle.rox_build.specs.Readiness.{MayReadTagBelow};
-ghost use Rattle.rox_build.specs.RootTag.{BeginsScopes, DeclaresOwn, GivesRootTag, IsBlank, IsNamedAttribute, ListsOwn, MayBeNamed, MayDeclareOwn, MayReadRoot, MayReadRootTag, ReadsRoot, ReadsRootTag};
+ghost use Rattle.rox_build.specs.RootTag.{BeginsOwn, BeginsScopes, DeclaresOwn, GivesRootTag, IsBlank, IsNamedAttribute, ListsOwn, MayBeNamed, MayReadRoot, MayReadRootTag, ReadsRoot, ReadsRootTag};
 
 use crate::plain_tag::{
     NamedAttribute, PlainTag, TagEnd, next_item, other_namespace, plain_name, plain_value,
     prefixed_name, put_attribute, quote_before, quote_behind_equals, tag_end, whole_name,
 };
 use crate::tag::{Buffers, MOST_ATTRIBUTES, StartTag, TagContext, start_tag};
-use rox_grammar::failure::Failure;
 use rox_scan::byte_set::{PartByte, ValueByte, part_end, skip_set};
 use rox_scan::cursor::Cursor;
 use rox_scan::runs::{after_byte, is_at};
 use rox_tables::compare::same_text;
 use rox_tables::namespaces::bindings::PrefixBindings;
-use rox_tables::namespaces::namespace_decl::{declare_namespace, is_namespace_decl};
+use rox_tables::namespaces::namespace_decl::{declare_new, is_namespace_decl};
 use rox_tables::namespaces::namespace_table::NamespaceTable;
 use rox_tables::namespaces::prefix_set::FEW;
 use rox_tables::namespaces::unresolved_attribute::UnresolvedAttribute;
+use rox_tables::rows::growth::push;
 use rox_tables::rows::storage::StringStorage;
 use rox_tables::rows::tables::{ElementData, ElementTables, Scope, Stretch};
 use rox_values::context::Context;
 use rox_values::parse_error::ParseError;
 use std::alloc::{AllocError, Global};
-use std::collections::BTreeSet;
 
 /// The scope of a root element: the row behind that of the root node.
 const OWN: u32 = 1;
@@ -76,12 +75,10 @@ fn declared<'input>(
     text: &'input str,
     start: usize,
     elements: &mut ElementTables<'input>,
-    prefix_set: &mut BTreeSet<Option<&'input str>>,
     lacking: &mut bool,
 ) -> Option<usize>
-    requires { MayDeclareOwn text.now start elements.old prefix_set.old.keys }
-    ensures { DeclaresOwn elements.old elements.new prefix_set.new.keys text.entry.now start
-        result }
+    requires { MayBeNamed text.now start }
+    ensures { DeclaresOwn elements.old elements.new text.entry.now start result }
 {
     let read = named_attribute(text, start)?;
     if !is_namespace_decl(read.name.name) {
@@ -98,20 +95,13 @@ fn declared<'input>(
         name: read.name.name,
         value: StringStorage::Borrowed(read.value.text),
     };
-    match declare_namespace(
-        &mut elements.namespaces,
-        &mut elements.listed,
-        prefix_set,
-        0,
-        false,
-        one,
-    ) {
-        Ok(false) => Some(end),
-        Err(Failure::Memory) => {
+    match declare_new(&mut elements.namespaces, &mut elements.listed, one) {
+        Ok(true) => Some(end),
+        Ok(false) => None,
+        Err(_) => {
             *lacking = true;
             None
         }
-        _ => None,
     }
 }
 
@@ -153,7 +143,7 @@ fn root_attributes<'input>(
             return tag_end(text, next.at);
         }
         if may_declare(text, next.at) {
-            at = declared(text, next.at, elements, &mut buffers.prefix_set, lacking)?;
+            at = declared(text, next.at, elements, lacking)?;
             if !list_own(elements) {
                 return None;
             }
@@ -222,11 +212,25 @@ fn is_blank(elements: &ElementTables<'_>) -> bool
     if elements.scopes.len() != 1 {
         return false;
     }
-    true
+    elements.present.is_of_none()
+}
+
+/// Puts the scope of a root element there, which lists nothing yet, behind that of the root node. The only error is want of memory.
+#[inline(always)]
+fn begin_root(elements: &mut ElementTables<'_>) -> Result<(), AllocError>
+    requires { length elements.old.scopes.items ≡ 1 }
+    ensures { BeginsOwn elements.old elements.new result }
+{
+    elements.scopes[0] = Scope::Few(Stretch { from: 0, until: 0 });
+    push(
+        &mut elements.scopes,
+        Scope::Few(Stretch { from: 0, until: 0 }),
+    )
 }
 
 /// Puts the scope of the root node there, where nothing is declared.
-#[inline(always)]
+#[cold]
+#[inline(never)]
 fn begin_scopes(alloc: Global, elements: &mut ElementTables<'_>) -> Result<(), AllocError>
     ensures { BeginsScopes elements.old elements.new result }
 {
@@ -257,10 +261,7 @@ fn first_tag<'input>(
         return Ok(None);
     }
     let attributes = elements.attributes.len();
-    begin_scopes(alloc, elements)?;
-    elements
-        .scopes
-        .push(Scope::Few(Stretch { from: 0, until: 0 }))?;
+    begin_root(elements)?;
     let mut lacking = false;
     if let Some(read) = root_tag(text, start, elements, buffers, openings_left, &mut lacking) {
         return Ok(Some(read));

@@ -1,6 +1,7 @@
 -- A declaration of a start tag, step by step.
-use Rattle.std.proofs.Common.{◌≡◌, ℕ, subst, map, ◌+◌, ◌<◌, ◌≤◌, ◌||◌, ◌&&◌, not, Option, Bool, true, false, List, [], ◌∷◌, ◌++◌, length, drop, refl, sym, ap, ◌∙◌, arith, Result, Ok, Err, length-append, append_assoc, le-ltb, lt-ltb}
+use Rattle.std.proofs.Common.{◌≡◌, ℕ, zero, suc, get_or, subst, map, ◌+◌, ◌<◌, ◌≤◌, ◌||◌, ◌&&◌, not, Option, Bool, true, false, List, [], ◌∷◌, ◌++◌, length, drop, refl, sym, ap, ◌∙◌, arith, Result, Ok, Err, length-append, append_assoc, le-ltb, lt-ltb}
 use Rattle.std.specs.List.{slice_range}
+use Rattle.std.specs.Result.{is_ok}
 use Rattle.std.proofs.lemmas.List.{append-nil, map-append, length-map, drop-append-le}
 use Rattle.std.proofs.lemmas.List.Elements.{filter-append}
 use Rattle.std.proofs.lemmas.List.Folds.{list_any-append}
@@ -8,9 +9,9 @@ use Rattle.rox_grammar.specs.declared.fault.Fault.{Fault}
 use Rattle.rox_grammar.specs.declared.fault.Fault.TheVariants as fault
 use Rattle.rox_grammar.specs.Written.{Attribute, NamespaceDecl, namespace_decl_of}
 use Rattle.rox_grammar.specs.NameParts.{local_span}
-use Rattle.rox_grammar.specs.Tree.{is_declared, listed, is_xml, listable_of}
+use Rattle.rox_grammar.specs.Tree.{is_declared, listed, is_xml, listable_of, same_prefix}
 use Rattle.rox_grammar.specs.Document.{most_pairs}
-use Rattle.rox_grammar.specs.Counts.{with_new}
+use Rattle.rox_grammar.specs.Counts.{has_pair, with_new}
 use Rattle.rox_reading.specs.Tags.{TagSoFar, uri_tested, declared}
 use Rattle.rox_grammar.specs.Failures.{Fails}
 use Rattle.rox_grammar.specs.declared.failure.Failure.{Failure}
@@ -267,3 +268,46 @@ kept_listed a b n p (more, l) h =
     let next = map namespace_view b.namespaces.items.items in
     let same : next ≡ namespaces ++ [] = ap (λ v. map namespace_view v.items.items) n ∙ sym (append-nil namespaces) in
     keeps_grown namespaces next (lists_in a) (lists_in b) b.present [] more same l (subst (AreBindingsOf namespaces (lists_in a)) (sym p) h)
+
+-- ---- a prefix that no pair has
+
+-- the row at this place has the prefix
+pub declared_at : (rows : List Namespace) (i : ℕ) (d : Namespace) (p : Option (List ℕ)) → i < length rows → same_prefix (namespace_view (get_or rows i d)).prefix p ≡ true → is_declared p (map namespace_view rows) ≡ true
+declared_at [] i d p lt same = absurd (omega arith)
+declared_at (r ∷ rows) zero d p lt same = rw same refl
+declared_at (r ∷ rows) (suc i) d p lt same = or_right (same_prefix (namespace_view r).prefix p) _ (declared_at rows i d p (omega arith) same)
+  where
+    or_right : (a b : Bool) → b ≡ true → (a || b) ≡ true
+    or_right true b h = refl
+    or_right false b h = h
+
+none_or : (a b : Bool) → (a || b) ≡ false → b ≡ false
+none_or true b h = cc h
+none_or false b h = h
+
+-- its pair is new
+absent_pair : (ds : List NamespaceDecl) (d : NamespaceDecl) → is_declared d.prefix ds ≡ false → has_pair ds d ≡ false
+absent_pair [] d h = refl
+absent_pair (e ∷ ds) d h = rw (none_own (same_prefix e.prefix d.prefix) _ h, absent_pair ds d (none_or (same_prefix e.prefix d.prefix) _ h)) refl
+
+pub absent_row : (rows : List Namespace) (d : NamespaceDecl) → is_declared d.prefix (map namespace_view rows) ≡ false → has_pair (map namespace_view rows) d ≡ false
+absent_row rows d h = absent_pair (map namespace_view rows) d h
+
+-- and none is listed
+pub absent_listed : (ds : List NamespaceDecl) (places : List ℕ) (p : Option (List ℕ)) → is_declared p ds ≡ false → ArePlaces (length ds) places → is_declared p (entries ds places) ≡ false
+absent_listed ds [] p h ok = refl
+absent_listed ds (i ∷ places) p h (lt, ok) = rw (at ds i h lt, absent_listed ds places p h ok) refl
+  where
+    at : (es : List NamespaceDecl) (k : ℕ) → is_declared p es ≡ false → k < length es → same_prefix (namespace_at es k).prefix p ≡ false
+    at [] k h lt = absurd (omega arith)
+    at (e ∷ es) zero h lt = none_own (same_prefix e.prefix p) _ h
+    at (e ∷ es) (suc k) h lt = at es k (none_or (same_prefix e.prefix p) _ h) (omega arith)
+
+-- the table with a pair that is new
+pub with_absent : (ds : List NamespaceDecl) (d : NamespaceDecl) → has_pair ds d ≡ false → ds ++ d ∷ [] ≡ with_new ds (d ∷ [])
+with_absent ds d h = rw h refl
+
+-- a URI that was tested
+pub passed_uri : (a : Attribute) (r : Result (Unit {0}) Fault) → r ≡ uri_tested a → is_ok r ≡ true → uri_tested a ≡ Ok tt
+passed_uri a (Ok tt) is h = sym is
+passed_uri a (Err f) is h = cc h

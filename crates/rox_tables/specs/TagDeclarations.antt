@@ -1,5 +1,5 @@
 -- What the tables hold of the declarations of a start tag, against what is read of it.
-use Rattle.std.specs.Prelude.{◌≡◌, ℕ, ◌≤◌, Bool, List, ◌++◌, Option, drop, length, map, Result, Ok, Err, OnOk}
+use Rattle.std.specs.Prelude.{◌≡◌, ℕ, ◌≤◌, Bool, false, List, ◌++◌, Option, drop, length, map, Result, Ok, Err, OnOk}
 use Rattle.std.specs.Borrow.{Bor}
 use Rattle.std.specs.List.{list_any}
 use Rattle.rox_grammar.specs.declared.failure.Failure.{Failure}
@@ -68,3 +68,7 @@ pub record DeclaresOne (old : List Namespace) (listed : List ℕ) (new : List Na
   pub value : (known : List NamespaceDecl) (before : List ℕ) (h : TagSoFar)
       → from ≡ length before → Declares known before (map namespace_view old) listed xml h.own
       → Declared known before (map namespace_view new) after result h (declared known (unresolved_view taken) h)
+
+-- The same of a declaration, not of `xml`, that is listed behind those of its tag, which are all that is listed.
+abbrev pub DeclaresNew : (old : List Namespace) (listed : List ℕ) (new : List Namespace) (after : List ℕ) → UnresolvedAttribute → Type 0
+DeclaresNew old listed new after taken = (keys : List (Option (Bor (List ℕ)))) → HasOwn old listed keys 0 → DeclaresOne old listed new after keys 0 false taken (Ok false)

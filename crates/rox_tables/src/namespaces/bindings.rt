@@ -67,6 +67,16 @@ impl<'input> PrefixBindings<'input> {
         }
     }
 
+    /// Whether these are the places of no scope.
+    #[inline(always)]
+    pub fn is_of_none(&self) -> bool
+        ensures { result ≡ true
+            → (namespaces : List NamespaceDecl) (lists : List (List NamespaceDecl))
+            → AreBindingsOf namespaces lists self.now }
+    {
+        self.layers.is_empty()
+    }
+
     /// The place of a prefix, or of the default.
     #[inline]
     pub fn get(&self, prefix: Option<&str>) -> Option<Binding>

@@ -1,23 +1,26 @@
 //! The declarations of a start tag, one by one (XML 1.0 section 3.1, Namespaces in XML 1.0 section 3).
 
-ghost use Rattle.std.specs.Prelude.{◌≡◌, ◌<◌, ◌+◌, ◌-◌, ◌^◌, List, ℕ, length, map, Ok, Err, OnOk};
+ghost use Rattle.std.specs.Prelude.{◌≡◌, ◌<◌, ◌+◌, ◌-◌, ◌^◌, List, ℕ, length, map, true, Ok, Err, IfOk, OnOk};
 ghost use Rattle.rox_grammar.specs.Written.{Attribute, NamespaceDecl, Name, is_namespace_decl};
 ghost use Rattle.rox_grammar.specs.NameParts.{local_span, prefix_span};
+ghost use Rattle.rox_grammar.specs.Tree.{is_declared};
 ghost use Rattle.rox_reading.specs.Tags as spec;
 ghost use Rattle.rox_grammar.specs.Failures.{name_view};
+ghost use Rattle.rox_tables.specs.Rows.{namespace_view};
 ghost use Rattle.rox_tables.specs.Scopes.{prefix_view};
-ghost use Rattle.rox_tables.specs.TagDeclarations.{unresolved_view, DeclaresOne, HasOwn};
+ghost use Rattle.rox_tables.specs.TagDeclarations.{unresolved_view, DeclaresNew, DeclaresOne, HasOwn};
 
 use crate::compare::same_text;
-use crate::namespaces::namespace_table::{FIRST_ROOM, NamespaceTable};
-use crate::namespaces::prefix_set::add_prefix;
-use crate::namespaces::scope::{XML_URI, XMLNS_URI, is_own, is_xml};
+use crate::namespaces::namespace_table::{FIRST_ROOM, Key, NamespaceTable};
+use crate::namespaces::prefix_set::{FEW, add_prefix};
+use crate::namespaces::scope::{XML_URI, XMLNS_URI, is_own, is_xml, same_prefix};
 use crate::namespaces::unresolved_attribute::UnresolvedAttribute;
 use crate::rows::growth::push_with_room;
 use crate::rows::tables::Namespace;
 use rox_grammar::failure::Failure;
 use rox_grammar::fault::{Fault, Span};
 use rox_grammar::name::QName;
+use std::alloc::AllocError;
 use std::collections::BTreeSet;
 
 /// Where the local part of a name stands that ends at `end`.
@@ -155,4 +158,45 @@ pub fn declare_namespace<'input>(
     push_with_room(listed, place, FIRST_ROOM)?;
     add_prefix(prefix_set, namespaces.as_slice(), &listed[own..], prefix)?;
     Ok(xml)
+}
+
+/// Whether one of these pairs has this prefix, or is the default.
+#[inline(always)]
+fn has_prefix(pairs: &[Namespace<'_>], prefix: Option<&str>) -> bool
+    ensures { result ≡ is_declared (prefix_view prefix.entry) (map namespace_view pairs.now) }
+{
+    for pair in pairs {
+        if same_prefix(pair.name, prefix) {
+            return true;
+        }
+    }
+    false
+}
+
+/// The same of a tag that all that is listed is of, where no pair has the prefix: then the pair is new, and nothing is looked for. Else,
+/// or where there are many, it answers false.
+#[inline(always)]
+pub fn declare_new<'input>(
+    namespaces: &mut NamespaceTable<'input>,
+    listed: &mut Vec<u16>,
+    taken: UnresolvedAttribute<'input>,
+) -> Result<bool, AllocError>
+    ensures { IfOk result (λ new. new ≡ true → DeclaresNew namespaces.old.items.items
+        listed.old.items namespaces.new.items.items listed.new.items taken.entry) }
+{
+    if taken.test_uri().is_err() {
+        return Ok(false);
+    }
+    let prefix = taken.declared_prefix();
+    let pairs = namespaces.as_slice();
+    if pairs.len() >= FEW || listed.len() >= FEW || is_xml(prefix) || has_prefix(pairs, prefix) {
+        return Ok(false);
+    }
+    let namespace = Namespace {
+        name: prefix,
+        uri: taken.value,
+    };
+    let added = namespaces.add(Key { namespace })?;
+    push_with_room(listed, added, FIRST_ROOM)?;
+    Ok(true)
 }

@@ -173,7 +173,7 @@ impl<'input> NamespaceTable<'input> {
 
     /// Puts a new pair at the end of the table. The only error is want of memory.
     #[inline(always)]
-    fn add(&mut self, key: Key<'input>) -> Result<u16, AllocError>
+    pub(crate) fn add(&mut self, key: Key<'input>) -> Result<u16, AllocError>
         requires { IsNewPair self.old.items.items (namespace_view key.namespace) }
         ensures { IfOk result (λ i. AddsPair (namespace_view key.entry.namespace) i
             self.old.items.items self.new.items.items) }

@@ -249,7 +249,7 @@ impl<'input> NodeTable<'input> {
     /// error is want of memory.
     #[cold]
     #[inline(never)]
-    fn make_room(&mut self, start: usize, end: usize) -> Result<(), AllocError>
+    pub fn make_room(&mut self, start: usize, end: usize) -> Result<(), AllocError>
         ensures { MakesNodeRoom self.old self.new result }
     {
         let text_end = self.text_end();

@@ -8,7 +8,7 @@ use Rattle.rox_values.specs.Contexts.{context_of}
 use Rattle.rox_build.proofs.Looping.{drives_on, drive_fails, drive_done, drive_cut, drive_spent}
 use Rattle.rox_build.specs.BuilderState.{ScansTo}
 use Rattle.rox_build.proofs.Twice.{drives_past}
-use Rattle.rox_build.proofs.Stepping.{state_kept}
+use Rattle.rox_build.proofs.Stepping.{fine_open, rows_kept, state_kept}
 use Rattle.rox_build.proofs.content.content.Goals as goal
 
 pub returns-then-is_at_root : goal.returns-then-is_at_root
@@ -60,7 +60,7 @@ returns-then-is_at_end c = record {
 pub loop-left-preserved-then-rows-read-lt2 : goal.loop-left-preserved-then-rows-read-lt2
 loop-left-preserved-then-rows-read-lt2 c = record {
   source = c.plain_stretch-read.ensures.goes.source ∙ c.loop-left.invariant.source;
-  fine = c.plain_stretch-read.ensures.goes.fine;
+  fine = fine_open c.plain_stretch-read.new.builder c.make_room.new.self c.make_room.ensures.kept c.plain_stretch-read.ensures.goes.fine;
   reads = λ limit end es s declared sees.
       let src = c.args.cursor.now.text.now in
       let context = context_of limit es c.args.context in
@@ -68,7 +68,8 @@ loop-left-preserved-then-rows-read-lt2 c = record {
       let k = c.plain_stretch-read.result in
       let few : k ≤ c.loop-left.left = (let n = c.plain_stretch-read.ensures.count in let m = c.min-rows.ensures in omega arith) in
       let g0 = c.loop-left.invariant.reads limit end es s declared sees in
-      drives_past context end src _ c.loop-left.left k _ _ _ _ g0 few (rw s0 at (c.plain_stretch-read.ensures.value context end g0.s refl g0.sees));
+      let g = drives_past context end src _ c.loop-left.left k _ _ _ _ g0 few (rw s0 at (c.plain_stretch-read.ensures.value context end g0.s refl g0.sees)) in
+      record { s = g.s; sees = rows_kept limit end g.s _ c.plain_stretch-read.new.builder c.make_room.new.self c.make_room.ensures g.sees; same = g.same };
 }
 
 pub loop-left-preserved-then-plain_main_line : goal.loop-left-preserved-then-plain_main_line
@@ -133,10 +134,10 @@ returns-in_err-general_step c = record {
       let inner : is_root g.s.stack ≡ false = sym (c.is_at_root.ensures end g.s.stack g.s.done g.sees.shows) ∙ c.if-is_at_root.false in
       let inside : g.s.at < length src = rw (s1, g.sees.here) at (leb-false _ _ (sym c.is_at_end.ensures ∙ c.if-is_at_end.false)) in
       let still = (let o = c.plain_main_line.ensures.other c.if-plain_main_line.false in state_kept limit end g.s _ _ _ _ g.sees o.0 o.1) in
-      let q = err_from_is_err_and c.from_residual.result c.from_residual.ensures.1 in
+      let q = err_from_is_err_and c.from_residual-in_err-general_step.result c.from_residual-in_err-general_step.ensures.1 in
       let fails : IsRefusal c.in_err-general_step.field-0.0 (step context src g.s) = rw s2 at (c.in_err-general_step.ensures.value limit end es g.s declared still) in
       rw (q.1, q.2) (drive_fails context end src _ n (n - 1) _ _ c.in_err-general_step.field-0.0 g one inner inside fails);
-  goes = let q = err_from_is_err_and c.from_residual.result c.from_residual.ensures.1 in rw q.1 tt;
+  goes = let q = err_from_is_err_and c.from_residual-in_err-general_step.result c.from_residual-in_err-general_step.ensures.1 in rw q.1 tt;
 }
 
 pub returns-then-is_at_root-2 : goal.returns-then-is_at_root-2

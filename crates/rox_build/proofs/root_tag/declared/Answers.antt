@@ -1,4 +1,4 @@
-use Rattle.std.proofs.Common.{rules, ◌≡◌, ◌-◌, ◌+◌, [], slice_index, refl, sym, ap, ◌∙◌, arith}
+use Rattle.std.proofs.Common.{rules, ◌≡◌, ◌-◌, ◌+◌, slice_index, refl, sym, ap, ◌∙◌, arith}
 use Rattle.rox_grammar.specs.Failures.{name_view}
 use Rattle.rox_tables.specs.declared.rows.storage.StringStorage.TheVariants.{Borrowed}
 use Rattle.rox_tables.specs.declared.namespaces.unresolved_attribute.UnresolvedAttribute.{UnresolvedAttribute}
@@ -6,8 +6,8 @@ use Rattle.rox_build.specs.PlainTag.{IsValueStart, IsPlainAttribute}
 use Rattle.rox_build.proofs.PlainTags.{attribute_reads, value_is, value_starts, quote_is_some}
 use Rattle.rox_build.proofs.root_tag.declared.Goals as goal
 
-pub returns-in-Ok-false : goal.returns-in-Ok-false
-returns-in-Ok-false c =
+pub returns-in-Ok-true : goal.returns-in-Ok-true
+returns-in-Ok-true c =
     let src = c.args.text.now in
     let i = c.args.start in
     let read = c.in_ok-read.read in
@@ -51,12 +51,13 @@ returns-in-Ok-false c =
     } in
     record {
       others = search rules;
-      own = search rules;
       lists = record {
         one = one;
         plain = plain;
         is = sym c.is_namespace_decl.ensures ∙ c.if-not-is_namespace_decl.false;
         end = refl;
-        declared = λ h declares. rw c.in-Ok-false.field-0-test at (c.in-Ok-false.ensures.value [] [] h refl declares);
+        listed = λ keys has.
+            let x = c.in-Ok-true.ensures c.in-Ok-true.field-0-test keys has in
+            record { own = x.own; lists = x.lists; grown = x.grown; value = x.value };
       };
     }

@@ -8,11 +8,11 @@ use Rattle.rox_build.proofs.root_tag.first_tag.Goals as goal
 pub returns : goal.returns
 returns c =
     let old = c.args.elements.now in
-    let new = c.begin_scopes-2.new.elements in
-    let begun = c.in_ok-begin_scopes-2.ensures in
+    let new = c.begin_scopes.new.elements in
+    let begun = c.in_ok-begin_scopes.ensures in
     let more = c.in_default.ensures.grown.more in
     let held = attribute_rows old.attributes in
-    let before : attribute_rows c.begin_scopes.new.elements.attributes ≡ held = ap (λ (t : ElementTables). attribute_rows t.attributes) c.in_ok-begin_scopes.ensures.others in
+    let before : attribute_rows c.begin_root.new.elements.attributes ≡ held = ap (λ (t : ElementTables). attribute_rows t.attributes) c.in_ok-begin_root.ensures.others in
     let rows : attribute_rows new.attributes ≡ held =
     ap (λ (t : ElementTables). attribute_rows t.attributes) begun.others ∙ c.truncate.ensures ∙ ap (take c.len-attributes.result) (c.in_default.ensures.grown.rows ∙ ap (λ rs. rs ++ more) before)
     ∙ take-append-le c.len-attributes.result held more (omega (arith, c.len-attributes.ensures)) ∙ take_all c.len-attributes.result held (omega (arith, c.len-attributes.ensures)) in

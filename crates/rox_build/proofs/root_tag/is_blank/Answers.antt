@@ -7,4 +7,4 @@ returns c = λ one.
     let t = c.args.elements.now in
     let k = t.listed.ok.0 in
     let m = t.scopes.ok.0 in
-    blank t (omega (arith, ap length c.as_slice.ensures.value)) (omega (arith, k)) (omega (arith, m))
+    blank t (omega (arith, ap length c.as_slice.ensures.value)) (omega (arith, k)) (omega (arith, m)) (c.is_of_none.ensures one)

@@ -60,8 +60,8 @@ loop-at-preserved-else-not-list_own c =
       from = l.invariant.from;
       seen = subst (λ a. AreSeen l.buffers.seen (attribute_rows a)) (sym attributes) l.invariant.seen;
       cut = subst (IsCharBoundary src) d.lists.end d.lists.plain.cut;
-      holds = holds_declared l.elements mid new l.buffers.prefix_set.keys c.declared.new.prefix_set.keys src c.args.start rows l.at k c.in_ok-at.at
-          g d.others c.list_own.ensures.others scopes d.own d.lists near.ensures.end.onward near.ensures.end.place (λ same. omega (arith, same, begins.0)) on.0 on.1;
+      holds = holds_declared l.elements mid new l.buffers.prefix_set.keys src c.args.start rows l.at k c.in_ok-at.at
+          g d.others c.list_own.ensures.others scopes d.lists near.ensures.end.onward near.ensures.end.place (λ same. omega (arith, same, begins.0)) on.0 on.1;
     }
 
 pub put_attribute-requires : goal.put_attribute-requires
