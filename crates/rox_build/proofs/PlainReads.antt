@@ -11,8 +11,8 @@ use Rattle.rox_build.specs.declared.builder.Builder.{Builder}
 pub keeps_all : (b : Builder) → KeepsState b b
 keeps_all b = record { nodes = refl; opened = refl; pending = refl; joined = refl; limit = refl; openings_left = refl; others = refl; attributes = refl }
 
-pub reads_not : (such : machine.Context → Type 0) (read : machine.Context → List ℕ → State → Result State Refusal) (c : Cursor) (b : Builder) → IsConsistent b.tables b.opened.items → ReadsIf such read c c b b false
-reads_not such read c b fine = record {
+pub reads_not : (leaves : ℕ → Builder → Type 0) (such : machine.Context → Type 0) (read : machine.Context → List ℕ → State → Result State Refusal) (c : Cursor) (b : Builder) → IsConsistent b.tables b.opened.items → ReadsIf leaves such read c c b b false
+reads_not leaves such read c b fine = record {
   value = λ yes. absurd (cc yes);
   other = λ _. (refl, refl);
   ready = λ yes. absurd (cc yes);
@@ -21,7 +21,7 @@ reads_not such read c b fine = record {
 
 pub runs_not : (c : Cursor) (b : Builder) → IsConsistent b.tables b.opened.items → ReadsRun c c b b false
 runs_not c b fine = record {
-  reads = reads_not _ _ c b fine;
+  reads = reads_not _ _ _ c b fine;
   tables = refl;
   opened = refl;
   behind = λ yes. absurd (cc yes);

@@ -17,6 +17,7 @@ use Rattle.rox_values.specs.declared.context.Context.{Context}
 use Rattle.rox_values.specs.declared.parse_error.ParseError.{ParseError}
 use Rattle.rox_build.specs.BuilderState.{Adds, GoesOn, IsConsistent, IsInState, IsNode, IsOpened, IsOpening, IsReady, KeepsOpen, KeepsState, KeepsTables, ParsesTo, Represents, RepresentsFlushed, ScansTo}
 use Rattle.rox_build.specs.PendingText.{waiting}
+use Rattle.rox_build.specs.Readiness.{IsApart}
 use Rattle.rox_build.specs.declared.builder.Builder.{Builder}
 use Rattle.rox_build.specs.declared.builder.OpenElement.{OpenElement}
 use Rattle.rox_build.specs.declared.tag.StartTag.{StartTag}
@@ -54,7 +55,7 @@ pub record ReadsAt (read : machine.Context → List ℕ → State → Result Sta
       → ScansTo context.limit end (Ok tt) behind after (read context src s)
   pub other : 2 ^ 32 ≤ j → KeepsState b after
   pub cut : j < 2 ^ 32 → IsCharBoundary src j
-  pub ready : j < 2 ^ 32 → (n : ℕ) → IsReady (n + 1) b → IsReady n after
+  pub ready : j < 2 ^ 32 → (n : ℕ) → IsReady (n + 1) b → IsApart n after
   pub fine : IsConsistent after.tables after.opened.items
 
 -- the same, and nothing at all changed where nothing was read

@@ -1,5 +1,5 @@
 -- What a look at a construct needs, and what it makes of the cursor and the builder: it reads the construct if it is plain.
-use Rattle.std.specs.Prelude.{◌≡◌, ℕ, ◌+◌, ◌<◌, ◌≤◌, ◌^◌, true, false, Bool, List, Result, Ok, length, slice_index}
+use Rattle.std.specs.Prelude.{◌≡◌, ◌≢◌, ℕ, ◌+◌, ◌<◌, ◌≤◌, ◌^◌, true, false, Bool, List, Result, Ok, length, slice_index}
 use Rattle.std.specs.Str.{IsCharBoundary}
 use Rattle.rox_grammar.specs.Chars.{is_part_char}
 use Rattle.rox_grammar.specs.FixedTexts.{word_text}
@@ -16,8 +16,9 @@ use Rattle.rox_build.specs.BuilderState.{GoesOn, IsConsistent, IsInState, IsRead
 use Rattle.rox_build.specs.PendingText.{waiting}
 use Rattle.rox_build.specs.PlainSteps.{Reads}
 use Rattle.rox_build.specs.PlainTag.{EndsNear}
-use Rattle.rox_build.specs.Readiness.{HasRoom}
+use Rattle.rox_build.specs.Readiness.{HasRoom, IsApart}
 use Rattle.rox_build.specs.declared.builder.Builder.{Builder}
+use Rattle.rox_build.specs.declared.pending.Pending.TheVariants as pending
 
 -- this word stands here, and there is room for one row more
 pub record MayReadWord (word : Word) (c : Cursor) (b : Builder) : Type 0 where
@@ -66,17 +67,27 @@ pub record MayReadRows (rows : ℕ) (b : Builder) : Type 0 where
 abbrev pub any_context : machine.Context → Type 0
 any_context context = Unit {0}
 
--- what stands here was read, as this reading does in such a context, and took the room of one row at most; or nothing was
-pub record ReadsIf (such : machine.Context → Type 0) (read : machine.Context → List ℕ → State → Result State Refusal) (old new : Cursor) (b after : Builder) (result : Bool) : Type 0 where
+-- no text is open that a run which stands here would go on with
+abbrev pub StandsApart : Cursor → Builder → Type 0
+StandsApart c b = slice_index c.text.now c.pos ≢ 60 → b.pending ≡ pending.None
+
+-- there is room for the row of a run, and no text is open that it would go on with
+pub record MayReadRun (src : List ℕ) (b : Builder) : Type 0 where
+  pub room : HasRoom src b
+  pub apart : b.pending ≡ pending.None
+
+-- what stands here was read, as this reading does in such a context, and took the room of one row at most, which leaves so much; or
+-- nothing was
+pub record ReadsIf (leaves : ℕ → Builder → Type 0) (such : machine.Context → Type 0) (read : machine.Context → List ℕ → State → Result State Refusal) (old new : Cursor) (b after : Builder) (result : Bool) : Type 0 where
   pub value : result ≡ true → (context : machine.Context) (end : ℕ) (s : State) → such context → IsInState context.limit end s old b
       → ScansTo context.limit end (Ok tt) new after (read context old.text.now s)
   pub other : result ≡ false → (new ≡ old) × (after ≡ b)
-  pub ready : result ≡ true → (n : ℕ) → IsReady (n + 1) b → IsReady n after
+  pub ready : result ≡ true → (n : ℕ) → IsReady (n + 1) b → leaves n after
   pub goes : GoesOn old new after
 
 -- the same of character data before `<`
 pub record ReadsRun (old new : Cursor) (b after : Builder) (result : Bool) : Type 0 where
-  pub reads : ReadsIf any_context machine.character_data_step old new b after result
+  pub reads : ReadsIf IsReady any_context machine.character_data_step old new b after result
   pub tables : after.tables ≡ b.tables
   pub opened : after.opened ≡ b.opened
   pub behind : result ≡ true → slice_index old.text.now new.pos ≡ 60
@@ -88,10 +99,10 @@ pub record ReadsStep (such : machine.Context → Type 0) (old new : Cursor) (b a
   pub other : result ≡ false → (new ≡ old) × KeepsState b after
   pub goes : GoesOn old new after
 
--- the same where it took the room of one row at most
+-- the same where it took the room of one row at most, and no text may go on behind it
 pub record ReadsMarkup (such : machine.Context → Type 0) (old new : Cursor) (b after : Builder) (result : Bool) : Type 0 where
   pub reads : ReadsStep such old new b after result
-  pub ready : result ≡ true → (n : ℕ) → IsReady (n + 1) b → IsReady n after
+  pub ready : result ≡ true → (n : ℕ) → IsReady (n + 1) b → IsApart n after
 
 -- so many constructs were read, where so many elements are open around the text
 pub record ReadsRows (around rows : ℕ) (old new : Cursor) (b after : Builder) (n : ℕ) : Type 0 where

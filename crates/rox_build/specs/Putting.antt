@@ -18,7 +18,7 @@ use Rattle.rox_build.specs.BuilderState.{Adds, IsConsistent, IsReady, KeepsOpen,
 use Rattle.rox_build.specs.ElementRow.{scope_in_tables}
 use Rattle.rox_build.specs.Outcomes.{AddsNode, AddsText, OpensElement}
 use Rattle.rox_build.specs.PendingText.{waiting}
-use Rattle.rox_build.specs.Readiness.{MayPutRow}
+use Rattle.rox_build.specs.Readiness.{IsApart, MayPutRow}
 use Rattle.rox_build.specs.SpelledNames.{SpellsName}
 use Rattle.rox_build.specs.declared.builder.Builder.{Builder}
 use Rattle.rox_build.specs.declared.builder.FirstTables.{FirstTables}
@@ -97,7 +97,7 @@ pub record MayPutLeaf (b : Builder) (above i j : ℕ) (k : NodeKind) : Type 0 wh
 -- the node has its row
 pub record PutsLeaf (old new : Builder) (i j : ℕ) (k : NodeKind) : Type 0 where
   pub adds : AddsNode old new (Ok tt) i j k
-  pub ready : (n : ℕ) → IsReady (n + 1) old → IsReady n new
+  pub ready : (n : ℕ) → IsReady (n + 1) old → IsApart n new
 
 -- there is room for the element that this tag opens at i
 pub record MayPutOpen (b : Builder) (above : ℕ) (text : List ℕ) (i : ℕ) (tag : StartTag) : Type 0 where
@@ -108,7 +108,7 @@ pub record MayPutOpen (b : Builder) (above : ℕ) (text : List ℕ) (i : ℕ) (t
 -- the element is open
 pub record PutsOpen (old new : Builder) (text : List ℕ) (i : ℕ) (tag : StartTag) : Type 0 where
   pub adds : OpensElement old new (Ok tt) text i tag
-  pub ready : (n : ℕ) → IsReady (n + 1) old → IsReady n new
+  pub ready : (n : ℕ) → IsReady (n + 1) old → IsApart n new
 
 -- the innermost open element ends here
 pub record Closes (old new : Builder) (result : Result (Unit {0}) AllocError) (end : ℕ) : Type 0 where
@@ -125,4 +125,4 @@ pub record MayPutClose (b : Builder) (j : ℕ) : Type 0 where
 -- it ended, and took no room
 pub record PutsClose (old new : Builder) (j : ℕ) : Type 0 where
   pub closes : Closes old new (Ok tt) j
-  pub ready : (n : ℕ) → IsReady n old → IsReady n new
+  pub ready : (n : ℕ) → IsReady n old → IsApart n new

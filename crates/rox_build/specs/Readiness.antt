@@ -24,6 +24,11 @@ pub record HasRoom (src : List ℕ) (b : Builder) : Type 0 where
   pub ready : IsReady 1 b
   pub fine : IsConsistent b.tables b.opened.items
 
+-- there is room for so many rows more, and no text may go on
+pub record IsApart (n : ℕ) (b : Builder) : Type 0 where
+  pub ready : IsReady n b
+  pub apart : b.pending ≡ pending.None
+
 -- this word stands here, and what the builder holds is consistent
 pub record MayRead (word : Word) (c : Cursor) (b : Builder) : Type 0 where
   pub here : stands (word_text word) c.text.now c.pos ≡ true

@@ -8,8 +8,8 @@ ghost use Rattle.rox_reading.specs.Machine as machine;
 ghost use Rattle.rox_reading.specs.Refusals.{lifted};
 ghost use Rattle.rox_build.specs.BuilderState.{IsConsistent};
 ghost use Rattle.rox_build.specs.Outcomes.{MayStep, ReadsAt, ReadsWhole};
-ghost use Rattle.rox_build.specs.PlainOutcomes.{MayReadBare, MayReadEnd, MayReadNear, MayReadPart, MayReadPlain, MayReadRows, MayReadWord, ReadsIf, ReadsMarkup, ReadsRows, ReadsRun, ReadsStep, any_context};
-ghost use Rattle.rox_build.specs.Readiness.{HasRoom, MayReadAt};
+ghost use Rattle.rox_build.specs.PlainOutcomes.{MayReadBare, MayReadEnd, MayReadNear, MayReadPart, MayReadPlain, MayReadRows, MayReadRun, MayReadWord, ReadsIf, ReadsMarkup, ReadsRows, ReadsRun, ReadsStep, StandsApart, any_context};
+ghost use Rattle.rox_build.specs.Readiness.{HasRoom, IsApart, MayReadAt};
 
 use crate::builder::Builder;
 use crate::plain_tag::{TagPlace, bare_start_tag, near_start_tag, plain_start_tag};
@@ -29,15 +29,20 @@ const MOST_BYTES: usize = 4294967295;
 /// Stands for the place behind a construct that was not read.
 const NOT_READ: usize = usize::MAX;
 
-/// Character data, up to the next `<`, if it is a slice of the source, and no text is open that it goes on with.
+/// Whether no text is open that a run which stands here would go on with.
+#[inline(always)]
+fn stands_apart(cursor: &Cursor<'_>, builder: &Builder<'_>) -> bool
+    ensures { result ≡ true → StandsApart cursor.now builder.now }
+{
+    is_at(cursor.text, cursor.pos, b'<') || !builder.is_text_open()
+}
+
+/// Character data, up to the next `<`, if it is a slice of the source, where no text is open that it would go on with.
 #[inline(always)]
 fn plain_character_data<'input>(cursor: &mut Cursor<'input>, builder: &mut Builder<'input>) -> bool
-    requires { HasRoom cursor.old.text.now builder.old }
+    requires { MayReadRun cursor.old.text.now builder.old }
     ensures { ReadsRun cursor.old cursor.new builder.old builder.new result }
 {
-    if builder.is_text_open() {
-        return false;
-    }
     let start = cursor.pos;
     let text = cursor.text;
     let near = skip_set::<TextByte>(text, start);
@@ -102,7 +107,7 @@ pub fn plain_main_line<'input>(
 #[inline(always)]
 fn plain_end_tag(cursor: &mut Cursor<'_>, builder: &mut Builder<'_>, open_around: usize) -> bool
     requires { MayReadEnd cursor.old builder.old }
-    ensures { ReadsIf (λ k. k.open_around ≡ open_around)
+    ensures { ReadsIf IsApart (λ k. k.open_around ≡ open_around)
         (λ k src s. lifted (machine.end_step k src s)) cursor.old cursor.new builder.old
         builder.new result }
 {
@@ -138,8 +143,8 @@ fn bare_element<'input>(
     near: usize,
 ) -> bool
     requires { MayReadBare cursor.old near builder.old }
-    ensures { ReadsIf any_context machine.tag_step cursor.old cursor.new builder.old builder.new
-        result }
+    ensures { ReadsIf IsApart any_context machine.tag_step cursor.old cursor.new builder.old
+        builder.new result }
 {
     // Most tags have more than a name, which is seen first.
     if !is_at(cursor.text, near, b'>') || !builder.has_room_to_open() {
@@ -256,7 +261,7 @@ fn plain_element<'input>(
 #[inline(always)]
 fn plain_comment<'input>(cursor: &mut Cursor<'input>, builder: &mut Builder<'input>) -> bool
     requires { MayReadWord word.CommentStart cursor.old builder.old }
-    ensures { ReadsIf any_context (λ k src s. lifted (machine.comment_step k.limit src s))
+    ensures { ReadsIf IsApart any_context (λ k src s. lifted (machine.comment_step k.limit src s))
         cursor.old cursor.new builder.old builder.new result }
 {
     let start = cursor.pos;
@@ -355,6 +360,10 @@ pub fn plain_stretch<'input>(
     if cursor.text.len() > MOST_BYTES {
         return 0;
     }
+    // No text is open behind markup, so that this is seen once.
+    if !stands_apart(&here, builder) {
+        return 0;
+    }
     let mut left = rows;
     while left > 1 {
         if builder.is_at_root() {
@@ -397,6 +406,9 @@ pub fn plain_step<'input>(
     }
     if bytes[cursor.pos] == b'<' {
         return plain_markup(cursor, builder, open_around);
+    }
+    if builder.is_text_open() {
+        return false;
     }
     plain_character_data(cursor, builder)
 }

@@ -25,7 +25,7 @@ returns c = record {
         (text_stepped context.limit end s cursor _ b c.put_text.new.self (Ok tt) text h c.put_text.ensures.adds.kept.tables c.put_text.ensures.adds.kept.limit c.put_text.ensures.adds.kept.openings_left (rw c.range.ensures.value at (c.put_text.ensures.adds.value end e s h.shows)));
     other = λ no. absurd (cc no);
     ready = λ _. c.put_text.ensures.ready;
-    goes = record { source = refl; fine = fine_same c.args.builder.now c.put_text.new.self c.requires.fine c.put_text.ensures.adds.kept.tables c.put_text.ensures.adds.kept.opened };
+    goes = record { source = refl; fine = fine_same c.args.builder.now c.put_text.new.self c.requires.room.fine c.put_text.ensures.adds.kept.tables c.put_text.ensures.adds.kept.opened };
   };
   tables = c.put_text.ensures.adds.kept.tables;
   opened = c.put_text.ensures.adds.kept.opened;
@@ -34,8 +34,8 @@ returns c = record {
 
 pub put_text-requires : goal.put_text-requires
 put_text-requires c = record {
-  ready = c.requires.ready;
-  apart = c.is_text_open.ensures c.if-is_text_open.false;
-  start = omega (arith, c.requires.short, c.args.cursor.now.cut.0);
-  end = omega (arith, c.requires.short, c.skip_set-near.ensures.within);
+  ready = c.requires.room.ready;
+  apart = c.requires.apart;
+  start = omega (arith, c.requires.room.short, c.args.cursor.now.cut.0);
+  end = omega (arith, c.requires.room.short, c.skip_set-near.ensures.within);
 }

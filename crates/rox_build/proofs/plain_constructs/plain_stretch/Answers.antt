@@ -3,6 +3,7 @@ use Rattle.rox_grammar.specs.State.{is_root}
 use Rattle.rox_scan.specs.declared.cursor.Cursor.{Cursor}
 use Rattle.rox_build.specs.BuilderState.{GoesOn, IsReady}
 use Rattle.rox_build.specs.PlainSteps.{Reads}
+use Rattle.rox_build.specs.Readiness.{IsApart}
 use Rattle.rox_build.proofs.Stepping.{step_is_run, state_kept}
 use Rattle.rox_build.proofs.Twice.{Between, ready_fewer, reads_none, reads_run, reads_markup, reads_kept}
 use Rattle.rox_build.proofs.plain_constructs.plain_stretch.Goals as goal
@@ -15,12 +16,20 @@ returns-then-cursor-gt-MOST_BYTES c = record {
   goes = record { source = refl; fine = c.requires.fine };
 }
 
+pub returns-then-not-stands_apart : goal.returns-then-not-stands_apart
+returns-then-not-stands_apart c = record {
+  value = λ context end s around h. reads_none context end c.args.cursor.now.text.now s c.args.cursor.now c.args.builder.now h;
+  count = omega arith;
+  goes = record { source = refl; fine = c.requires.fine };
+}
+
 pub loop-left-init : goal.loop-left-init
 loop-left-init c = record {
   source = refl;
   fine = c.requires.fine;
   count = omega arith;
   ready = c.requires.ready;
+  apart = c.stands_apart.ensures c.if-not-stands_apart.false;
   reads = λ context end s around h.
       let none : 0 ≡ c.args.rows - c.args.rows = omega arith in
       let src = c.args.cursor.now.text.now in
@@ -34,9 +43,12 @@ plain_character_data-requires c =
     let some = c.loop-left-test.true in
     let short : length c.args.cursor.now.text.now < 2 ^ 32 = omega (arith, c.if-cursor-gt-MOST_BYTES.false) in
     record {
-      short = rw (c.loop-left.invariant.source) short;
-      ready = ready_fewer c.loop-left.left 1 c.loop-left.builder (omega (arith, some)) (c.loop-left.invariant.ready (omega (arith, some)));
-      fine = c.loop-left.invariant.fine;
+      room = record {
+        short = rw (c.loop-left.invariant.source) short;
+        ready = ready_fewer c.loop-left.left 1 c.loop-left.builder (omega (arith, some)) (c.loop-left.invariant.ready (omega (arith, some)));
+        fine = c.loop-left.invariant.fine;
+      };
+      apart = c.loop-left.invariant.apart (λ e. c.if-bytes-here-ne60.true (ap (λ (xs : List ℕ). slice_index xs c.loop-left.here.pos) c.as_bytes-bytes.ensures.value ∙ e));
     }
 
 pub plain_markup-requires : goal.plain_markup-requires
@@ -85,17 +97,19 @@ loop-left-preserved c =
       | then-bytes-here-ne60+else-not-plain_character_data w ↦ omega (arith, most, w.left-is)
       | else-bytes-here-ne60 w ↦ omega (arith, most, w.left-is)
     ] in
+    let behind : IsApart (m - 1) c.plain_markup.new.builder =
+    let ready = c.loop-left.invariant.ready (omega (arith, some)) in
+    let before : IsReady (m - 1 + 1) c.if-bytes-here-ne60.builder = elim c.if-bytes-here-ne60.branch [
+      | then-bytes-here-ne60+else-not-plain_character_data w ↦ rw w.builder-is (w.plain_character_data.ensures.reads.ready w.if-not-plain_character_data.false (m - 1 + 1) (ready_fewer c.loop-left.left (m - 1 + 1 + 1) c.loop-left.builder (omega (arith, some, w.left-is)) ready))
+      | else-bytes-here-ne60 w ↦ rw w.builder-is (ready_fewer c.loop-left.left (m - 1 + 1) c.loop-left.builder (omega (arith, some, w.left-is)) ready)
+    ] in
+    c.plain_markup.ensures.ready c.if-not-plain_markup.false (m - 1) before in
     record {
       source = c.plain_markup.ensures.reads.goes.source ∙ source;
       fine = c.plain_markup.ensures.reads.goes.fine;
       count = omega (arith, fewer);
-      ready = λ _.
-          let ready = c.loop-left.invariant.ready (omega (arith, some)) in
-          let before : IsReady (m - 1 + 1) c.if-bytes-here-ne60.builder = elim c.if-bytes-here-ne60.branch [
-            | then-bytes-here-ne60+else-not-plain_character_data w ↦ rw w.builder-is (w.plain_character_data.ensures.reads.ready w.if-not-plain_character_data.false (m - 1 + 1) (ready_fewer c.loop-left.left (m - 1 + 1 + 1) c.loop-left.builder (omega (arith, some, w.left-is)) ready))
-            | else-bytes-here-ne60 w ↦ rw w.builder-is (ready_fewer c.loop-left.left (m - 1 + 1) c.loop-left.builder (omega (arith, some, w.left-is)) ready)
-          ] in
-          c.plain_markup.ensures.ready c.if-not-plain_markup.false (m - 1) before;
+      ready = λ _. behind.ready;
+      apart = λ _. behind.apart;
       reads = λ context end s around h.
           let g = c.loop-left.invariant.reads context end s around h in
           let inner : is_root g.behind.stack ≡ false = sym (c.is_at_root.ensures end g.behind.stack g.behind.done g.sees.shows) ∙ c.if-is_at_root.false in
