@@ -46,6 +46,7 @@ use Rattle.rox_tables.specs.ResolvedNames.{AddsResolved, row_of_unresolved}
 use Rattle.rox_tables.specs.declared.namespaces.bindings.PrefixBindings.{PrefixBindings}
 use Rattle.rox_tables.specs.declared.namespaces.unresolved_attribute.UnresolvedAttribute.{UnresolvedAttribute}
 use Rattle.rox_tables.proofs.Stable.{all_append}
+use Rattle.rox_build.specs.PlainParts.{IsLocalPart}
 use Rattle.rox_build.specs.PlainTag.{EndsVerbatim, HasPlainValue, HasScope, few_in, IsValueStart, IsPlainAttribute, AddsPlain, PlainSoFar, ArePlainAttributes, EndsNear, holding}
 use Rattle.std.specs.Str.{IsUtf8, IsCharBoundary}
 use Rattle.std.proofs.lemmas.Bool.Decides.{nat_tests}
@@ -492,6 +493,15 @@ near_ends src i j utf8 h = part_stops src i j utf8 h.ends.onward h.ends.within h
 pub near_cut : (src : List ℕ) (i j : ℕ) → IsUtf8 src → IsCharBoundary src i → EndsNear src i j → IsCharBoundary src j
 near_cut src i j utf8 cut h = part_cut src i j utf8 cut h.ends.onward h.ends.within h.ends.passes
 
+-- a part of ASCII bytes that begins a name
+near_begins : (src : List ℕ) (i j : ℕ) → IsUtf8 src → EndsNear src i j → begins is_name_start src i ≡ true
+near_begins src i j utf8 h =
+    let more : i < j = elim (cases_lt i j) [
+      | inl less ↦ less
+      | inr past ↦ let same : i ≡ j = omega (arith, past, h.ends.onward) in absurd (let letter = subst (λ (k : ℕ). 63 < slice_index src k) same h.letter in omega (arith, letter, h.stops))
+    ] in
+    letter_begins src i j utf8 more h.ends.within h.ends.passes h.letter
+
 -- a name without colon
 name_is : (src : List ℕ) (i k : ℕ) → begins is_name_start src i ≡ true → k ≡ run_end is_part_char src i → slice_index src k ≢ 58 → qname_at src i ≡ Ok (record { prefix = []; local = slice_range src i k }, k)
 unfolding qname_at
@@ -500,9 +510,13 @@ name_is src i k some end is =
     rw (← end, no, some) refl
 
 pub near_named : (src : List ℕ) (i j : ℕ) → IsUtf8 src → EndsNear src i j → qname_at src i ≡ Ok (record { prefix = []; local = slice_range src i j }, j)
-near_named src i j utf8 h =
-    let more : i < j = elim (cases_lt i j) [
-      | inl less ↦ less
-      | inr past ↦ let same : i ≡ j = omega (arith, past, h.ends.onward) in absurd (let letter = subst (λ (k : ℕ). 63 < slice_index src k) same h.letter in omega (arith, letter, h.stops))
-    ] in
-    name_is src i j (letter_begins src i j utf8 more h.ends.within h.ends.passes h.letter) (near_ends src i j utf8 h) h.no_colon
+near_named src i j utf8 h = name_is src i j (near_begins src i j utf8 h) (near_ends src i j utf8 h) h.no_colon
+
+-- a local part of them
+pub near_local : (src : List ℕ) (i j : ℕ) → IsUtf8 src → IsCharBoundary src i → EndsNear src i j → IsLocalPart src i j
+near_local src i j utf8 cut h = record {
+  begins = near_begins src i j utf8 h;
+  other = ne_eqb (slice_index src i) 58 (λ same. absurd (let letter = h.letter in omega (arith, letter, same)));
+  part = record { place = near_ends src i j utf8 h; onward = h.ends.onward; cut = near_cut src i j utf8 cut h };
+  stops = ne_eqb (slice_index src j) 58 h.no_colon;
+}

@@ -1,9 +1,9 @@
 -- What the parts of a plain tag need, and what is read of them.
-use Rattle.std.specs.Prelude.{◌≡◌, ℕ, ◌+◌, ◌<◌, ◌≤◌, ◌^◌, true, false, List, Option, Ok, IfSome, IfNone, length, map, slice_index}
+use Rattle.std.specs.Prelude.{◌≡◌, ℕ, ◌+◌, ◌<◌, ◌≤◌, ◌^◌, ◌==◌, true, false, List, Option, Ok, IfSome, IfNone, length, map, slice_index}
 use Rattle.std.specs.Str.{IsCharBoundary}
-use Rattle.rox_grammar.specs.Chars.{is_part_char, is_space}
+use Rattle.rox_grammar.specs.Chars.{is_name_start, is_part_char, is_space}
 use Rattle.rox_grammar.specs.Failures.{name_view}
-use Rattle.rox_grammar.specs.Runs.{run_end}
+use Rattle.rox_grammar.specs.Runs.{begins, run_end}
 use Rattle.rox_grammar.specs.Tree as tree
 use Rattle.rox_grammar.specs.WellNamed.{is_known, may_name}
 use Rattle.rox_grammar.specs.Written.{Name, NamespaceDecl}
@@ -48,6 +48,13 @@ pub record EndsPart (src : List ℕ) (i j : ℕ) : Type 0 where
 pub record EndsNearPart (src : List ℕ) (i j : ℕ) : Type 0 where
   pub start : IsCharBoundary src i
   pub near : EndsNear src i j
+
+-- a local part begins here, and ends at this place
+pub record IsLocalPart (src : List ℕ) (i j : ℕ) : Type 0 where
+  pub begins : begins is_name_start src i ≡ true
+  pub other : (slice_index src i == 58) ≡ false
+  pub part : Finds src i j (run_end is_part_char src i)
+  pub stops : (slice_index src j == 58) ≡ false
 
 -- a name of one part was read, which ends at this place
 pub record IsWholeName (src : List ℕ) (i j : ℕ) (n : PlainName) : Type 0 where

@@ -8,12 +8,13 @@ ghost use Rattle.rox_grammar.specs.Chars.{is_space};
 ghost use Rattle.rox_grammar.specs.Runs.{run_end, begins};
 ghost use Rattle.rox_grammar.specs.Failures.{name_view};
 ghost use Rattle.rox_reading.specs.Lexical.{qname_at};
+ghost use Rattle.rox_scan.specs.ByteSets.{EndsSet, is_part_byte};
 ghost use Rattle.rox_scan.specs.ScanResults.{Finds};
 ghost use Rattle.rox_reading.specs.Values.{is_special};
 ghost use Rattle.std.specs.List.{AllByRecursion};
 ghost use Rattle.rox_tables.specs.SeenNames.{AreSeen};
-ghost use Rattle.rox_build.specs.PlainParts.{EndsEmpty, EndsFirstPart, EndsNearPart, EndsPart, EndsTag, FindsAttributeNamespace, FindsElementNamespace, FindsPlainAttribute, IsNextItem, IsSomePlace, IsWholeName, MayNameBelow, MayNameIn, MayPutNamed, MayPutPart, MayReadBareTag, MayReadNearTag, MayReadPlainTag, PutsSome, SeesEnd, SeesStart};
-ghost use Rattle.rox_build.specs.PlainTag.{BeginsValue, EndsVerbatim, HasPlainValue, HasQuoteBefore, HasScope, IsAttributeName, IsBareTag, IsBeforeLast, IsNearAttribute, IsPlainAttribute, IsPlainName, IsQuoteAt, IsQuoteBehindEquals, IsValueStart, MayPut, MayReadAttributes, PutsPlain, ReadsAttributes, ReadsTag, SeesValue};
+ghost use Rattle.rox_build.specs.PlainParts.{EndsEmpty, EndsFirstPart, EndsNearPart, EndsPart, EndsTag, FindsAttributeNamespace, FindsElementNamespace, FindsPlainAttribute, IsLocalPart, IsNextItem, IsSomePlace, IsWholeName, MayNameBelow, MayNameIn, MayPutNamed, MayPutPart, MayReadBareTag, MayReadNearTag, MayReadPlainTag, PutsSome, SeesEnd, SeesStart};
+ghost use Rattle.rox_build.specs.PlainTag.{BeginsValue, EndsNear, EndsVerbatim, HasPlainValue, HasQuoteBefore, HasScope, IsAttributeName, IsBareTag, IsBeforeLast, IsNearAttribute, IsPlainAttribute, IsPlainName, IsQuoteAt, IsQuoteBehindEquals, IsValueStart, MayPut, MayReadAttributes, PutsPlain, ReadsAttributes, ReadsTag, SeesValue};
 
 use crate::builder::OpenElement;
 use crate::open_names::has_prefix;
@@ -76,6 +77,48 @@ pub fn plain_name<'input>(
     second_part(text, start, colon)
 }
 
+/// Whether a part of a name, of which the first ASCII bytes from `at` on end at `near`, begins with a letter or `_`, and neither a
+/// colon nor more of it follows.
+#[inline(always)]
+fn ends_near(text: &str, at: usize, near: usize) -> bool
+    requires { EndsSet is_part_byte text.now at near }
+    ensures { result ≡ true → EndsNear text.now at near }
+{
+    let bytes = text.as_bytes();
+    if near >= bytes.len() || bytes[at] <= b'?' {
+        return false;
+    }
+    let stop = bytes[near];
+    stop < b'?' && stop != b':'
+}
+
+/// Where the local part ends that begins at `local`, or 0 if none does: by a longer look, as it has other characters too.
+#[cold]
+#[inline(never)]
+fn far_local_end(text: &str, local: usize) -> usize
+    requires { IsCharBoundary text.now local }
+    ensures { 0 < result → IsLocalPart text.now local result }
+{
+    let end = part_end(text, local);
+    if !begins::<NameStart>(text, local) || is_at(text, local, b':') || is_at(text, end, b':') {
+        return 0;
+    }
+    end
+}
+
+/// Where the local part of a name ends that begins at `local`, if one does. Most are of ASCII bytes.
+#[inline(always)]
+fn local_end(text: &str, local: usize) -> Option<usize>
+    requires { IsCharBoundary text.now local }
+    ensures { IfSome result (λ j. IsLocalPart text.now local j) }
+{
+    let near = skip_set::<PartByte>(text, local);
+    if ends_near(text, local, near) {
+        return Some(near);
+    }
+    some_place(far_local_end(text, local))
+}
+
 /// The same where a colon stands behind its first part.
 #[inline(always)]
 #[tactic(auto, unfolding(rox_reading::specs::Lexical::qname_at))]
@@ -84,10 +127,7 @@ fn second_part<'input>(text: &'input str, start: usize, colon: usize) -> Option<
     ensures { IfSome result (λ n. IsPlainName text.entry.now start n) }
 {
     let local = after_byte(text, colon, b':');
-    let end = part_end(text, local);
-    if !begins::<NameStart>(text, local) || is_at(text, local, b':') || is_at(text, end, b':') {
-        return None;
-    }
+    let end = local_end(text, local)?;
     let name = QName {
         prefix: &text[start..colon],
         local: &text[local..end],

@@ -109,7 +109,7 @@ pub few_seen : (seen : SeenNames) (rows : List AttributeRow) → seen.from ≡ l
 few_seen seen rows from = record { from = omega arith; codes = λ more. absurd (omega (arith, from, more)) }
 
 -- one at most
-pub one_seen : (seen : SeenNames) (rows : List AttributeRow) → seen.from ≤ length rows → length rows ≤ seen.from + 3 → AreSeen seen rows
+pub one_seen : (seen : SeenNames) (rows : List AttributeRow) → seen.from ≤ length rows → length rows ≤ seen.from + 4 → AreSeen seen rows
 one_seen seen rows within few = record { from = within; codes = λ more. absurd (omega (arith, few, more)) }
 
 -- the last three of these
@@ -120,6 +120,15 @@ last_three xs i x y z count first second third =
     let two = drop_more xs (i + 1) y (omega (arith, count)) ∙ ap (λ w. w ∷ drop (i + 1 + 1) xs) (sym second) ∙ ap (λ ws. y ∷ ws) rest in
     drop_more xs i x (omega (arith, count)) ∙ ap (λ w. w ∷ drop (i + 1) xs) (sym first) ∙ ap (λ ws. x ∷ ws) two
 
+-- the last four
+last_four : {X : Type 0} → (xs : List X) (i : ℕ) (x y z w : X) → length xs ≡ i + 4 → x ≡ get_or xs i x → y ≡ get_or xs (i + 1) y → z ≡ get_or xs (i + 2) z → w ≡ get_or xs (i + 3) w
+    → drop i xs ≡ x ∷ y ∷ z ∷ w ∷ []
+last_four xs i x y z w count first second third fourth =
+    let two : i + 2 ≡ i + 1 + 1 = omega arith in
+    let three : i + 3 ≡ i + 1 + 1 + 1 = omega arith in
+    let rest = last_three xs (i + 1) y z w (omega (arith, count)) second (rw two at third) (rw three at fourth) in
+    drop_more xs i x (omega (arith, count)) ∙ ap (λ v. v ∷ drop (i + 1) xs) (sym first) ∙ ap (λ vs. x ∷ vs) rest
+
 -- three attributes of the tag have codes that were seen
 pub three_seen : (seen : SeenNames) (t : AttributeTable) (x y z : StoredAttribute) → length t.items.items ≡ seen.from + 3
     → x ≡ get_or t.items.items seen.from x → y ≡ get_or t.items.items (seen.from + 1) y → z ≡ get_or t.items.items (seen.from + 1 + 1) z
@@ -129,6 +138,16 @@ three_seen seen t x y z count first second third a b c =
     let row = row_in t.unusual.items in
     let rows : drop seen.from (attribute_rows t) ≡ row x ∷ row y ∷ row z ∷ [] = drop-map row seen.from t.items.items ∙ ap (map row) items in
     subst (AllByRecursion (λ (a : AttributeRow). HasNameOf seen.codes a.0)) (sym rows) (a, (b, (c, tt)))
+
+-- four have
+pub four_seen : (seen : SeenNames) (t : AttributeTable) (x y z w : StoredAttribute) → length t.items.items ≡ seen.from + 4
+    → x ≡ get_or t.items.items seen.from x → y ≡ get_or t.items.items (seen.from + 1) y → z ≡ get_or t.items.items (seen.from + 2) z → w ≡ get_or t.items.items (seen.from + 3) w
+    → HasNameOf seen.codes (data_of x) → HasNameOf seen.codes (data_of y) → HasNameOf seen.codes (data_of z) → HasNameOf seen.codes (data_of w) → HaveCodes seen (attribute_rows t)
+four_seen seen t x y z w count first second third fourth a b c d =
+    let items = last_four t.items.items seen.from x y z w count first second third fourth in
+    let row = row_in t.unusual.items in
+    let rows : drop seen.from (attribute_rows t) ≡ row x ∷ row y ∷ row z ∷ row w ∷ [] = drop-map row seen.from t.items.items ∙ ap (map row) items in
+    subst (AllByRecursion (λ (a : AttributeRow). HasNameOf seen.codes a.0)) (sym rows) (a, (b, (c, (d, tt))))
 
 -- no row has a name whose code was not seen
 pub none_rows : (namespaces : List NamespaceDecl) (s : AttributeNamespace) (local : List ℕ) (codes : List ℕ) (rows : List AttributeRow)

@@ -32,10 +32,10 @@ HasNameOf codes a = HasCode codes (name_code a.local.now)
 abbrev pub HaveCodes : SeenNames → List AttributeRow → Type 0
 HaveCodes seen rows = AllByRecursion (λ a. HasNameOf seen.codes a.0) (drop seen.from rows)
 
--- the attributes of the tag are the last of these rows, and were seen: three at most have no codes yet
+-- the attributes of the tag are the last of these rows, and were seen: four at most have no codes yet
 pub record AreSeen (seen : SeenNames) (rows : List AttributeRow) : Type 0 where
   pub from : seen.from ≤ length rows
-  pub codes : seen.from + 3 < length rows → HaveCodes seen rows
+  pub codes : seen.from + 4 < length rows → HaveCodes seen rows
 
 -- the code of a local name, of which there are 1,024
 pub record IsNameCode (local : List ℕ) (code : ℕ) : Type 0 where
@@ -63,10 +63,10 @@ pub record PutsCode (old new : SeenNames) (local : List ℕ) (result : Bool) : T
   pub fresh : result ≡ false → HasCode old.codes (name_code local) → ⊥
   pub sees : SeesName old new local
 
--- three attributes of the tag at most are the last of these rows
+-- four attributes of the tag at most are the last of these rows
 pub record AreFirst (seen : SeenNames) (rows : List AttributeRow) : Type 0 where
   pub from : seen.from ≤ length rows
-  pub few : length rows ≤ seen.from + 3
+  pub few : length rows ≤ seen.from + 4
 
 -- it is told whether an attribute of the tag may have a name, which is seen behind them
 pub record TellsSeen (old new : SeenNames) (rows : List AttributeRow) (local : List ℕ) (result : Bool) : Type 0 where

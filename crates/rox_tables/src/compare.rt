@@ -62,12 +62,33 @@ pub fn same_bytes(pair: Pair<'_, '_>) -> bool
     true
 }
 
+/// Whether two stretches of at most three bytes are the same: their first is, the one in the middle, and their last.
+#[inline(always)]
+fn same_few(pair: Pair<'_, '_>) -> bool
+    requires { length pair.one.now < 4 }
+    ensures { result ≡ bytes_eq pair.entry.one.now pair.entry.other.now }
+{
+    let count = pair.one.len();
+    if count == 0 {
+        return true;
+    }
+    let middle = count / 2;
+    let last = count - 1;
+    pair.one[0] == pair.other[0]
+        && pair.one[middle] == pair.other[middle]
+        && pair.one[last] == pair.other[last]
+}
+
 /// Whether two short ones are the same.
 #[inline(always)]
 pub fn same_short(pair: Pair<'_, '_>) -> bool
     ensures { result ≡ bytes_eq pair.entry.one.now pair.entry.other.now }
 {
-    if pair.one.len() >= WORD && pair.one.len() <= WORD * 2 {
+    let count = pair.one.len();
+    if count < WORD {
+        return same_few(pair);
+    }
+    if count <= WORD * 2 {
         return same_words(pair);
     }
     same_bytes(pair)

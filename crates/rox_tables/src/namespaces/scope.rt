@@ -23,7 +23,7 @@ pub const XML_URI: &str = "http://www.w3.org/XML/1998/namespace";
 pub const XMLNS_URI: &str = "http://www.w3.org/2000/xmlns/";
 
 /// Whether two prefixes are one; two defaults are.
-#[inline]
+#[inline(always)]
 pub fn same_prefix(one: Option<&str>, other: Option<&str>) -> bool
     ensures { result ≡ same_prefix (prefix_view one.entry) (prefix_view other.entry) }
 {
@@ -120,8 +120,9 @@ fn place_of_prefix(namespaces: &[Namespace<'_>], places: &[u16], prefix: &str) -
     None
 }
 
-/// As `find_near`, by a look at one place after another: notes where it is found.
-#[inline(always)]
+/// As `find_near`, by a look at one place after another: notes where it is found. It is out of line, as few attributes have another
+/// prefix than the one before them.
+#[inline(never)]
 fn find_far(
     namespaces: &[Namespace<'_>],
     places: &[u16],
@@ -141,8 +142,8 @@ fn find_far(
 }
 
 /// The one of these places whose namespace has this prefix, looked for first where the last one was found: most names of a tag
-/// have the same prefix. It is out of line, as few attributes have a prefix.
-#[inline(never)]
+/// have the same prefix.
+#[inline(always)]
 pub fn find_near(
     namespaces: &[Namespace<'_>],
     places: &[u16],

@@ -13,7 +13,7 @@ use crate::rows::attributes::AttributeTable;
 use crate::rows::recent_texts::Recent;
 
 /// The attributes of a tag that are in the table: where they begin, and which codes their names have. The first three have theirs
-/// put there with the fourth; until then the codes are those of a tag before.
+/// put there with the fifth; until then the codes are those of a tag before.
 #[derive(Drop)]
 pub struct SeenNames {
     pub from: usize,
@@ -37,7 +37,7 @@ const CODES: usize = 1024;
 const WIDTH: usize = 64;
 
 /// Up to so many attributes of a tag have no codes yet: most tags have no more.
-const WITHOUT_CODES: usize = 3;
+const WITHOUT_CODES: usize = 4;
 
 /// By what the sum of a name's bytes is multiplied: 2^64 by the golden ratio, which scatters sums that are near to one another.
 const SCATTER: u64 = 0x9E3779B97F4A7C15;
@@ -136,8 +136,12 @@ impl SeenNames {
             return;
         }
         self.put(attributes.items[self.from + 1].local);
+        if count == 2 {
+            return;
+        }
+        self.put(attributes.items[self.from + 2].local);
         if count == WITHOUT_CODES {
-            self.put(attributes.items[self.from + 2].local);
+            self.put(attributes.items[self.from + 3].local);
         }
     }
 
@@ -152,7 +156,7 @@ impl SeenNames {
         }
     }
 
-    /// Whether an attribute of the tag may have this local name, which is seen behind them. The second and the third are looked at
+    /// Whether an attribute of the tag may have this local name, which is seen behind them. The second to the fourth are looked at
     /// beside those before them; where no name had the code of another, none has it.
     #[inline(always)]
     pub(crate) fn may_have(&mut self, attributes: &AttributeTable<'_>, local: &str) -> bool
@@ -167,7 +171,13 @@ impl SeenNames {
             if look_same(attributes.items[self.from].local, local) {
                 return true;
             }
-            return count > 1 && look_same(attributes.items[self.from + 1].local, local);
+            if count == 1 {
+                return false;
+            }
+            if look_same(attributes.items[self.from + 1].local, local) {
+                return true;
+            }
+            return count > 2 && look_same(attributes.items[self.from + 2].local, local);
         }
         self.put_few(attributes);
         self.put(local)
