@@ -20,7 +20,7 @@ use crate::open_names::has_prefix;
 use crate::spaced_value::{spaced_value, spaced_value_ends};
 use crate::tag::{MOST_ATTRIBUTES, StartTag, byte_count};
 use rox_grammar::name::QName;
-use rox_scan::byte_set::{PartByte, ValueByte, far_space_end, part_end, skip_set};
+use rox_scan::byte_set::{PartByte, ValueByte, WideValueByte, far_space_end, part_end, skip_set};
 use rox_scan::chars::NameStart;
 use rox_scan::cursor::{Cursor, Quote};
 use rox_scan::lookahead::{changes, scan_value};
@@ -95,14 +95,19 @@ fn second_part<'input>(text: &'input str, start: usize, colon: usize) -> Option<
     Some(PlainName { name, end })
 }
 
-/// Where a value with this quote ends, if what is left of it from `at` on stands for itself, or 0: by a longer look, as it has other
-/// bytes too.
+/// Where a value with this quote ends, if what is left of it from `at` on stands for itself, or 0: by a look for bytes past ASCII too,
+/// and a longer one where that stops.
 #[inline(never)]
+#[tactic(auto, using(rox_scan::proofs::NearLemmas::wide_value_cut))]
 fn verbatim_value_end(text: &str, at: usize, quote: u8) -> usize
     requires { BeginsValue text.now at quote }
     ensures { 0 < result → EndsVerbatim text.now at quote result }
 {
-    let look = scan_value(Cursor { text, pos: at }, Quote { byte: quote });
+    let wide = skip_set::<WideValueByte>(text, at);
+    if is_at(text, wide, quote) {
+        return wide;
+    }
+    let look = scan_value(Cursor { text, pos: wide }, Quote { byte: quote });
     if look.is_verbatim && is_at(text, look.end, quote) {
         look.end
     } else {
@@ -112,7 +117,6 @@ fn verbatim_value_end(text: &str, at: usize, quote: u8) -> usize
 
 /// Where the value ends that begins at `start`, behind this quote, if it stands for itself: up to `near` each byte does.
 #[inline(always)]
-#[tactic(auto, using(rox_scan::proofs::NearLemmas::near_plain, rox_scan::proofs::NearLemmas::value_cut))]
 fn plain_value_end(text: &str, start: usize, quote: u8, near: usize) -> Option<usize>
     requires { SeesValue text.now start quote near }
     ensures { IfSome result (λ j. HasPlainValue text.now start quote j
@@ -133,7 +137,6 @@ fn plain_value_end(text: &str, start: usize, quote: u8, near: usize) -> Option<u
 
 /// Whether the value that begins at `start`, behind this quote, ends at `near`, up to which each byte stands for itself.
 #[inline(always)]
-#[tactic(auto, using(rox_scan::proofs::NearLemmas::near_plain, rox_scan::proofs::NearLemmas::value_cut))]
 fn closes_value(text: &str, start: usize, quote: u8, near: usize) -> bool
     requires { SeesEnd text.now start quote near }
     ensures { result ≡ true → HasPlainValue text.now start quote near
