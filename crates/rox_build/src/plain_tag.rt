@@ -95,11 +95,24 @@ fn second_part<'input>(text: &'input str, start: usize, colon: usize) -> Option<
     Some(PlainName { name, end })
 }
 
-/// Where a value with this quote ends, if what is left of it from `at` on stands for itself, or 0: by a look for bytes past ASCII too,
-/// and a longer one where that stops.
+/// Where a value with this quote ends, if what is left of it from `at` on stands for itself, or 0: by a longer look, as it has other
+/// bytes too.
 #[inline(never)]
-#[tactic(auto, using(rox_scan::proofs::NearLemmas::wide_value_cut))]
 fn verbatim_value_end(text: &str, at: usize, quote: u8) -> usize
+    requires { BeginsValue text.now at quote }
+    ensures { 0 < result → EndsVerbatim text.now at quote result }
+{
+    let look = scan_value(Cursor { text, pos: at }, Quote { byte: quote });
+    if look.is_verbatim && is_at(text, look.end, quote) {
+        look.end
+    } else {
+        0
+    }
+}
+
+/// The same, by a look for bytes past ASCII too. It is apart, so that it saves no registers.
+#[inline(never)]
+fn wide_value_end(text: &str, at: usize, quote: u8) -> usize
     requires { BeginsValue text.now at quote }
     ensures { 0 < result → EndsVerbatim text.now at quote result }
 {
@@ -107,12 +120,7 @@ fn verbatim_value_end(text: &str, at: usize, quote: u8) -> usize
     if is_at(text, wide, quote) {
         return wide;
     }
-    let look = scan_value(Cursor { text, pos: wide }, Quote { byte: quote });
-    if look.is_verbatim && is_at(text, look.end, quote) {
-        look.end
-    } else {
-        0
-    }
+    verbatim_value_end(text, at, quote)
 }
 
 /// Where the value ends that begins at `start`, behind this quote, if it stands for itself: up to `near` each byte does.
@@ -128,7 +136,7 @@ fn plain_value_end(text: &str, start: usize, quote: u8, near: usize) -> Option<u
     if changes(text, near) {
         return None;
     }
-    let end = verbatim_value_end(text, near, quote);
+    let end = wide_value_end(text, near, quote);
     if end == 0 {
         return None;
     }

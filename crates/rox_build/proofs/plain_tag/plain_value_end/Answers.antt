@@ -8,8 +8,8 @@ returns-then-is_at c =
     let n = c.requires.near in
     value_closed c.args.text.now c.args.start c.args.near c.args.quote c.utf8.text c.requires.cut c.requires.quote n.onward n.within n.passes (sym c.is_at.ensures ∙ c.if-is_at.true)
 
-pub verbatim_value_end-end-requires : goal.verbatim_value_end-end-requires
-verbatim_value_end-end-requires c =
+pub wide_value_end-end-requires : goal.wide_value_end-end-requires
+wide_value_end-end-requires c =
     let n = c.requires.near in
     record {
       cut = value_cut c.args.text.now c.args.start c.args.near c.utf8.text c.requires.cut n.onward n.within n.passes;
@@ -20,5 +20,5 @@ pub returns : goal.returns
 returns c =
     let n = c.requires.near in
     let zero = c.if-end-eq0.false in
-    let some : 0 < c.verbatim_value_end-end.result = omega arith in
-    value_went_on c.args.text.now c.args.start c.args.near _ c.args.quote c.utf8.text c.requires.cut c.requires.quote n.onward n.within n.passes (c.verbatim_value_end-end.ensures some)
+    let some : 0 < c.wide_value_end-end.result = omega arith in
+    value_went_on c.args.text.now c.args.start c.args.near _ c.args.quote c.utf8.text c.requires.cut c.requires.quote n.onward n.within n.passes (c.wide_value_end-end.ensures some)
