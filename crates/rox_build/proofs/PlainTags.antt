@@ -121,9 +121,9 @@ behind_quote src n q utf8 within here quote =
 
 -- a value up to a quote each byte of which stands for itself
 pub value_closed : (src : List ℕ) (i e q : ℕ) → IsUtf8 src → IsCharBoundary src i → (q == 39 || q == 34) ≡ true → i ≤ e → e ≤ length src → AllPass is_value_byte src i e
-    → (e < length src → is_value_byte (slice_index src e) ≡ false) → (slice_index src e == q) ≡ true → HasPlainValue src i q e (slice_range src i e)
-value_closed src i e q utf8 cut quote onward within passes stops here =
-    let end = value_cut src e within stops in
+    → (slice_index src e == q) ≡ true → HasPlainValue src i q e (slice_range src i e)
+value_closed src i e q utf8 cut quote onward within passes here =
+    let end = value_cut src i e utf8 cut onward within passes in
     record {
       read = short_value src i e q utf8 cut quote onward end passes here;
       verbatim = near_plain src i e onward within passes;
@@ -135,9 +135,9 @@ value_closed src i e q utf8 cut quote onward within passes stops here =
 
 -- the same of one that goes on behind them
 pub value_went_on : (src : List ℕ) (i n j q : ℕ) → IsUtf8 src → IsCharBoundary src i → (q == 39 || q == 34) ≡ true → i ≤ n → n ≤ length src → AllPass is_value_byte src i n
-    → (n < length src → is_value_byte (slice_index src n) ≡ false) → EndsVerbatim src n q j → HasPlainValue src i q j (slice_range src i j)
-value_went_on src i n j q utf8 cut quote onward within passes stops ends =
-    let near = value_near src q i n utf8 quote cut onward within passes stops in
+    → EndsVerbatim src n q j → HasPlainValue src i q j (slice_range src i j)
+value_went_on src i n j q utf8 cut quote onward within passes ends =
+    let near = value_near src q i n utf8 quote cut onward within passes in
     let look = looked_on is_special (ends_value q src) src i n j true true utf8 cut near ends.looked in
     record {
       read = looked_value src q i j true quote look ends.here;

@@ -7,27 +7,27 @@ use Rattle.std.proofs.lemmas.List.{get_or-take, length-take-le}
 use Rattle.std.proofs.lemmas.List.Folds.{list_any_at}
 use Rattle.rox_reading.specs.Values.{is_special}
 use Rattle.rox_grammar.specs.Constructs.{AreChars}
-use Rattle.rox_scan.specs.ByteSets.{AllPass, is_char_byte, is_value_byte}
+use Rattle.rox_scan.specs.ByteSets.{AllPass, is_char_byte, is_value_byte, is_wide_value_byte}
 use Rattle.rox_scan.specs.Lookahead.{IsLookahead, ends_value}
 use Rattle.rox_scan.proofs.LongerLemmas.{near_looked, char_looked, looked_on}
-use Rattle.rox_scan.proofs.NearLemmas.{value_is_plain, value_cut}
+use Rattle.rox_scan.proofs.NearLemmas.{value_is_plain, value_cut, value_widens}
 use Rattle.rox_build.specs.SpacedBytes.{is_spaced_byte, none_changes}
 
 spaced_is_plain : (b : ℕ) → is_spaced_byte b ≡ true → is_char_byte b ≡ true
-unfolding is_spaced_byte is_value_byte
+unfolding is_spaced_byte is_wide_value_byte is_value_byte
 spaced_is_plain b h = grind (arith, nat_tests)
 
 spaced_open : (quote b : ℕ) → (quote == 39 || quote == 34) ≡ true → is_spaced_byte b ≡ true → (b == quote || b == 60) ≡ false
-unfolding is_spaced_byte is_value_byte
+unfolding is_spaced_byte is_wide_value_byte is_value_byte
 spaced_open quote b q h = grind (arith, nat_tests)
 
 spaced_leads : (b : ℕ) → is_spaced_byte b ≡ false → 128 ≤ b → 192 ≤ b
-unfolding is_spaced_byte is_value_byte
+unfolding is_spaced_byte is_wide_value_byte is_value_byte
 spaced_leads b h wide = grind (arith, nat_tests)
 
 value_is_spaced : (b : ℕ) → is_value_byte b ≡ true → is_spaced_byte b ≡ true
 unfolding is_spaced_byte
-value_is_spaced b h = rw h refl
+value_is_spaced b h = rw (value_widens b h) refl
 
 value_open : (quote b : ℕ) → (quote == 39 || quote == 34) ≡ true → is_value_byte b ≡ true → (b == quote || b == 60) ≡ false
 value_open quote b q h = spaced_open quote b q (value_is_spaced b h)
@@ -65,11 +65,11 @@ spaced_on src quote i j n e utf8 q start f some cut chars wide here le within al
 
 -- bytes that stand for themselves, and behind them up to the quote others, one of which changes the value
 pub spaced_looked : (src : List ℕ) (quote i j k e : ℕ) → IsUtf8 src → (quote == 39 || quote == 34) ≡ true → IsCharBoundary src i → i ≤ j → j ≤ length src → AllPass is_value_byte src i j
-    → (j < length src → is_value_byte (get_or src j 0) ≡ false) → IsLookahead (ends_value quote src) none_changes src j e true → j ≤ k → k < e → is_special (get_or src k 0) ≡ true
+    → IsLookahead (ends_value quote src) none_changes src j e true → j ≤ k → k < e → is_special (get_or src k 0) ≡ true
     → IsLookahead (ends_value quote src) is_special src i e false
-spaced_looked src quote i j k e utf8 q start le within front stops rest low high here =
+spaced_looked src quote i j k e utf8 q start le within front rest low high here =
     let ends = ends_value quote src in
-    let first = near_looked is_value_byte none_changes ends src i j utf8 start le (value_cut src j within stops) front value_is_plain (λ b h. refl) (λ n h. value_open quote _ q h) in
+    let first = near_looked is_value_byte none_changes ends src i j utf8 start le (value_cut src i j utf8 start le within front) front value_is_plain (λ b h. refl) (λ n h. value_open quote _ q h) in
     let look = looked_on none_changes ends src i j e true true utf8 start first rest in
     record {
       onward = look.onward;

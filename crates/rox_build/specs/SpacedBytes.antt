@@ -2,7 +2,7 @@
 use Rattle.std.specs.Prelude.{◌≡◌, ◌≤◌, ◌<◌, ◌==◌, ◌-◌, ℕ, Bool, List, Option, Ok, IfSome, true, false, ◌||◌, length, slice_index}
 use Rattle.std.specs.Str.{IsCharBoundary}
 use Rattle.rox_grammar.specs.Constructs.{AreChars}
-use Rattle.rox_scan.specs.ByteSets.{EndsSet, is_stretch_byte, is_value_byte}
+use Rattle.rox_scan.specs.ByteSets.{EndsSet, is_stretch_byte, is_wide_value_byte}
 use Rattle.rox_grammar.specs.Entities.{Entity}
 use Rattle.rox_reading.specs.Values.{ValueInclusion, bytes_of, is_special, value_bit_at, value_text}
 use Rattle.rox_scan.specs.Lookahead.{IsLookahead, ends_value}
@@ -13,7 +13,7 @@ use Rattle.rox_build.specs.declared.spaced_value.SpacedEnds.{SpacedEnds}
 
 -- one that stands for itself, or changes a value
 unfoldable pub is_spaced_byte : ℕ → Bool
-is_spaced_byte b = is_value_byte b || is_special b
+is_spaced_byte b = is_wide_value_byte b || is_special b
 
 -- no byte changes, where none is looked for
 abbrev pub none_changes : ℕ → Bool

@@ -16,7 +16,7 @@ use crate::plain_tag::{TagPlace, bare_start_tag, near_start_tag, plain_start_tag
 use crate::same_front::same_front;
 use rox_grammar::fault::Word;
 use rox_scan::byte_set::{PartByte, near_part_end, skip_set};
-use rox_scan::character_data::{TextByte, line_run_end};
+use rox_scan::character_data::{line_run_end, text_end};
 use rox_scan::cursor::Cursor;
 use rox_scan::runs::{after_byte, is_at};
 use rox_tables::rows::storage::StringStorage;
@@ -45,12 +45,11 @@ fn plain_character_data<'input>(cursor: &mut Cursor<'input>, builder: &mut Build
 {
     let start = cursor.pos;
     let text = cursor.text;
-    let near = skip_set::<TextByte>(text, start);
-    if !is_at(text, near, b'<') {
+    let Some(end) = text_end(text, start) else {
         return false;
-    }
-    cursor.pos = near;
-    builder.put_text(start, near, &text[start..near]);
+    };
+    cursor.pos = end;
+    builder.put_text(start, end, &text[start..end]);
     true
 }
 

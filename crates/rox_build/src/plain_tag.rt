@@ -21,7 +21,7 @@ use crate::open_names::has_prefix;
 use crate::spaced_value::{spaced_value, spaced_value_ends};
 use crate::tag::{MOST_ATTRIBUTES, StartTag, byte_count};
 use rox_grammar::name::QName;
-use rox_scan::byte_set::{PartByte, ValueByte, far_space_end, part_end, skip_set};
+use rox_scan::byte_set::{PartByte, ValueByte, WideValueByte, far_space_end, part_end, skip_set};
 use rox_scan::chars::NameStart;
 use rox_scan::cursor::{Cursor, Quote};
 use rox_scan::lookahead::{changes, scan_value};
@@ -150,9 +150,21 @@ fn verbatim_value_end(text: &str, at: usize, quote: u8) -> usize
     }
 }
 
+/// The same, by a look for bytes past ASCII too. It is apart, so that it saves no registers.
+#[inline(never)]
+fn wide_value_end(text: &str, at: usize, quote: u8) -> usize
+    requires { BeginsValue text.now at quote }
+    ensures { 0 < result → EndsVerbatim text.now at quote result }
+{
+    let wide = skip_set::<WideValueByte>(text, at);
+    if is_at(text, wide, quote) {
+        return wide;
+    }
+    verbatim_value_end(text, at, quote)
+}
+
 /// Where the value ends that begins at `start`, behind this quote, if it stands for itself: up to `near` each byte does.
 #[inline(always)]
-#[tactic(auto, using(rox_scan::proofs::NearLemmas::near_plain, rox_scan::proofs::NearLemmas::value_cut))]
 fn plain_value_end(text: &str, start: usize, quote: u8, near: usize) -> Option<usize>
     requires { SeesValue text.now start quote near }
     ensures { IfSome result (λ j. HasPlainValue text.now start quote j
@@ -164,7 +176,7 @@ fn plain_value_end(text: &str, start: usize, quote: u8, near: usize) -> Option<u
     if changes(text, near) {
         return None;
     }
-    let end = verbatim_value_end(text, near, quote);
+    let end = wide_value_end(text, near, quote);
     if end == 0 {
         return None;
     }
@@ -173,7 +185,6 @@ fn plain_value_end(text: &str, start: usize, quote: u8, near: usize) -> Option<u
 
 /// Whether the value that begins at `start`, behind this quote, ends at `near`, up to which each byte stands for itself.
 #[inline(always)]
-#[tactic(auto, using(rox_scan::proofs::NearLemmas::near_plain, rox_scan::proofs::NearLemmas::value_cut))]
 fn closes_value(text: &str, start: usize, quote: u8, near: usize) -> bool
     requires { SeesEnd text.now start quote near }
     ensures { result ≡ true → HasPlainValue text.now start quote near

@@ -12,7 +12,7 @@ ghost use Rattle.rox_values.specs.Values.{text_behind};
 ghost use Rattle.rox_build.specs.SpacedBytes.{FindsSpacedEnds, IsByteOfValue, IsGivenAlike, IsMoreOfValue, IsSpaceOfValue, IsSpacedText, IsSpacedValue, IsValueRest, PutsBit, is_spaced_byte, none_changes};
 ghost use Rattle.rox_build.specs.PlainTag.{BeginsValue};
 
-use rox_scan::byte_set::{ByteSet, ValueByte, skip_set};
+use rox_scan::byte_set::{ByteSet, ValueByte, WideValueByte, skip_set};
 use rox_scan::cursor::Cursor;
 use rox_scan::lookahead::{StretchByte, after_char, changes, is_special};
 use rox_scan::nibbles::by_low;
@@ -28,7 +28,7 @@ struct SpacedByte;
 
 // The controls of the set, and the bytes above them that are none of it, each at its low half.
 const SPACED_EXCEPTIONS: [u8; 16] = [
-    1, 0, b'"', 0, 0, 0, 0, b'\'', 0, b'\t', b'\n', 0, b'<', b'\r', 0, 239,
+    1, 0, b'"', 0, 0, 0, 0, b'\'', 0, b'\t', b'\n', 0, b'<', b'\r', 0, 0,
 ];
 
 impl ByteSet for SpacedByte {
@@ -37,13 +37,14 @@ impl ByteSet for SpacedByte {
     #[inline(always)]
     #[tactic(auto, unfolding(crate::specs::SpacedBytes::is_spaced_byte))]
     fn has(byte: u8) -> bool {
-        ValueByte::has(byte) | is_special(byte)
+        WideValueByte::has(byte) | is_special(byte)
     }
 
     #[inline(always)]
     fn others(block: u8x16) -> u64 {
         let exceptions = by_low(SPACED_EXCEPTIONS, block).simd_eq(block);
-        (block.simd_lt(u8x16::splat(32)) ^ exceptions).to_bitmask()
+        let controls = block.simd_lt(u8x16::splat(32)) ^ exceptions;
+        (controls | block.simd_eq(u8x16::splat(239))).to_bitmask()
     }
 }
 

@@ -1,15 +1,16 @@
 -- Blocks of bytes, seen through a mask that has a bit for each byte that is not in a set.
-use Rattle.std.proofs.Common.{◌≡◌, ℕ, zero, suc, ◌+◌, ◌-◌, ◌*◌, ◌/◌, ◌%◌, ◌^◌, ◌<◌, ◌≤◌, Bool, true, false, not, cond, eqb, ltb, leb, List, [], ◌∷◌, map, length, get_or, replicate, refl, sym, ap, ap₂, ◌∙◌, arith, inl, inr, w8, Fits, shr-shr, take, drop}
+use Rattle.std.proofs.Common.{◌≡◌, ℕ, zero, suc, ◌+◌, ◌-◌, ◌*◌, ◌/◌, ◌%◌, ◌^◌, ◌<◌, ◌≤◌, Bool, true, false, not, cond, eqb, ltb, leb, List, [], ◌∷◌, map, length, get_or, replicate, refl, sym, ap, ap₂, ◌∙◌, arith, inl, inr, w8, Fits, shr-shr, take, drop, lt-ltb, ◌||◌, subst}
 use Rattle.std.specs.List.{prefix_len}
 use Rattle.std.specs.Simd.Lanes.{mask_l, top, zip2, chunk, Each1}
-use Rattle.std.proofs.lemmas.Nat.{and_le_r}
-use Rattle.std.proofs.lemmas.Simd.{Each1-all, Each1-weaker, Each1-zip2, Each2-splat, below_from_Fits, length-zip2, swz_l, SwzOk, SwzOk-from_below, length-swz_l, get_or-swz_l_below, zip2_splat, zip2_of_maps, map-map, mask_l-mod, length-chunk, leading_from_mask_l, trailing_mask_l, run_in_chunk_fails, run_in_chunk_stops}
+use Rattle.std.proofs.lemmas.Simd.{Each1-weaker, Each1-zip2, Each2-splat, below_from_Fits, length-zip2, swz_l, SwzOk, SwzOk-from_below, SwzOk-from_Each1, length-swz_l, get_or-swz_l, zip2_splat, zip2_of_maps, map-map, mask_l-mod, length-chunk, leading_from_mask_l, trailing_mask_l, run_in_chunk_fails, run_in_chunk_stops}
 use Rattle.std.proofs.lemmas.List.{get_or-map, ext_get_or, length-map, drop-map, drop-take, drop-drop}
-use Rattle.std.proofs.lemmas.Bool.{cases_lt, not-false, not-true}
+use Rattle.std.proofs.lemmas.Bool.{cases_lt, eqb-true, le-ltb, lt-leb, not-false, not-true}
 use Rattle.rox_scan.specs.ByteSets.{AllPass, EndsSet}
 use Rattle.rox_scan.specs.Windows.{IsSeen}
 use Rattle.rox_scan.proofs.TableLemmas.{agree_below, agree_at}
+use Rattle.rox_scan.specs.Nibbles.{at_low, at_high}
 use lib.Count.{count_trailing_zeros}
+use lib.Dec.{T}
 use lib.Bits.{bit_and, bit_or}
 
 -- the lanes of a comparison
@@ -128,23 +129,45 @@ high_ok v fits =
     SwzOk-from_below w8 16 1 16 0 (zip2 down v (replicate 16 4)) refl (omega (arith, length-zip2 down v (replicate 16 4) fits.0))
     (Each1-zip2 down (λ j. j < 16) v (replicate 16 4) (Each2-splat (λ a b. down a b < 16) v 16 4 small))
 
-pub low_ok : (v : List ℕ) → IsBlock v → SwzOk w8 16 16 0 (zip2 bit_and v (replicate 16 15))
-low_ok v fits =
-    let small = Each1-all (λ a. bit_and a 15 < 16) (λ a. omega (arith, and_le_r a 15)) v in
-    SwzOk-from_below w8 16 1 16 0 (zip2 bit_and v (replicate 16 15)) refl (omega (arith, length-zip2 bit_and v (replicate 16 15) fits.0))
-    (Each1-zip2 bit_and (λ j. j < 16) v (replicate 16 15) (Each2-splat (λ a b. bit_and a b < 16) v 16 15 small))
+-- an index below 16, or one that gives 0
+abbrev is_index : ℕ → Bool
+is_index j = leb 128 j || ltb j 16
 
--- a table that is read at places g x below 16
-pub looked_up : (t : List ℕ) (g : ℕ → ℕ) (v js : List ℕ) → IsBlock v → js ≡ map g v → ((x : ℕ) → x < 256 → g x < 16) → swz_l w8 16 t 0 js ≡ map (λ x. get_or t (g x) 0) v
-looked_up t g v js fits e small =
+index_ok : (a : ℕ) → a < 256 → T (is_index (bit_and a 143))
+unfolding agree_below
+index_ok a h = subst T (sym (agree_at (λ x. is_index (bit_and x 143)) (λ x. true) 256 refl a h)) tt
+
+pub low_ok : (v : List ℕ) → IsBlock v → SwzOk w8 16 16 0 (zip2 bit_and v (replicate 16 143))
+low_ok v fits =
+    let good = Each1-weaker (λ a. a < 256) (λ a. T (is_index (bit_and a 143))) index_ok v (below_from_Fits w8 v fits.1) in
+    SwzOk-from_Each1 w8 16 1 16 0 (zip2 bit_and v (replicate 16 143)) refl (omega (arith, length-zip2 bit_and v (replicate 16 143) fits.0))
+    (Each1-zip2 bit_and (λ j. T (is_index j)) v (replicate 16 143) (Each2-splat (λ a b. T (is_index (bit_and a b))) v 16 143 good))
+
+-- a table that is read at places g x, where one from 128 on gives 0
+pub looked_up : (t : List ℕ) (g f : ℕ → ℕ) (v js : List ℕ) → IsBlock v → js ≡ map g v → ((x : ℕ) → x < 256 → cond (leb 128 (g x)) 0 (get_or t (g x) 0) ≡ f x) → swz_l w8 16 t 0 js ≡ map f v
+looked_up t g f v js fits e gives =
     let long : length js ≡ 16 = ap length e ∙ length-map v g ∙ fits.0 in
-    ext_get_or 0 _ _ (length-swz_l w8 16 t 0 js ∙ long ∙ sym (length-map v (λ x. get_or t (g x) 0) ∙ fits.0)) (λ i h.
+    ext_get_or 0 _ _ (length-swz_l w8 16 t 0 js ∙ long ∙ sym (length-map v f ∙ fits.0)) (λ i h.
     let lt : i < 16 = omega (arith, length-swz_l w8 16 t 0 js) in
     let within : i < length v = omega (arith, fits.0) in
     let is : get_or js i 0 ≡ g (get_or v i 0) = ap (λ l. get_or l i 0) e ∙ get_or-map g v i 0 0 within in
-    let below : get_or js i 0 < 16 = omega (arith, small (get_or v i 0) (lane_fits v i fits.1)) in
-    get_or-swz_l_below w8 16 t 0 js i (omega arith) below
-    ∙ ap (λ k. get_or t k 0) (omega arith) ∙ ap (λ k. get_or t k 0) is ∙ sym (get_or-map (λ x. get_or t (g x) 0) v i 0 0 within))
+    let place : 16 * ((0 + i) / 16) + get_or js i 0 ≡ get_or js i 0 = omega arith in
+    get_or-swz_l w8 16 t 0 js i (omega arith)
+    ∙ ap (λ k. cond (leb 128 (get_or js i 0)) 0 (get_or t k 0)) place ∙ ap (λ k. cond (leb 128 k) 0 (get_or t k 0)) is
+    ∙ gives (get_or v i 0) (lane_fits v i fits.1) ∙ sym (get_or-map f v i 0 0 within))
+
+-- the places of ASCII bytes are their low halves
+pub low_gives : (t : List ℕ) (x : ℕ) → x < 256 → cond (leb 128 (bit_and x 143)) 0 (get_or t (bit_and x 143) 0) ≡ at_low t x
+unfolding agree_below
+low_gives t x h =
+    let past = agree_at (λ y. leb 128 (bit_and y 143)) (λ y. not (ltb y 128)) 256 refl x h in
+    elim (cases_lt x 128) [
+      | inl ascii ↦ let low = eqb-true _ _ (agree_at (λ y. eqb (bit_and y 143) (bit_and y 15)) (λ y. true) 128 refl x ascii) in rw (past, lt-ltb x 128 ascii, low) refl
+      | inr wide ↦ rw (past, le-ltb x 128 wide) refl
+    ]
+
+pub high_gives : (t : List ℕ) (x : ℕ) → x < 256 → cond (leb 128 (x / 16)) 0 (get_or t (x / 16) 0) ≡ at_high t x
+high_gives t x h = rw (lt-leb 128 (x / 16) (omega arith)) refl
 
 abbrev pub differs : ℕ → ℕ → ℕ
 differs a b = cond (not (eqb a b)) 255 0

@@ -15,9 +15,9 @@ use Rattle.rox_grammar.specs.FixedTexts.{word_text}
 use Rattle.rox_reading.specs.Lexical.{has_mark, chars_up_to, text_to, string_at}
 use Rattle.rox_reading.specs.Markup.{raw_value_at, comment_at}
 use Rattle.rox_reading.specs.Values.{is_special}
-use Rattle.rox_scan.specs.ByteSets.{is_char_byte, AllPass, is_value_byte, is_text_byte, is_comment_byte}
+use Rattle.rox_scan.specs.ByteSets.{is_char_byte, AllPass, is_value_byte, is_wide_value_byte, is_text_byte, is_comment_byte}
 use Rattle.rox_scan.specs.Lookahead.{IsLookahead, ends_value, ends_run, changes_run, ends_comment, changes_comment}
-use Rattle.rox_scan.proofs.NearLemmas.{near_chars, near_found, none_among, value_is_plain, value_cut, text_is_plain, text_cut, comment_is_plain, comment_cut}
+use Rattle.rox_scan.proofs.NearLemmas.{near_chars, near_found, none_among, value_is_plain, value_cut, value_widens, wide_value_is_plain, wide_value_cut, text_is_plain, text_cut, comment_is_plain, comment_cut}
 use Rattle.rox_scan.proofs.MarkLemmas.{before_mark_is, not_from_first, fails, stands_split, stands_from_split}
 use Rattle.rox_scan.proofs.CharLemmas.{chars_joined}
 use Rattle.rox_reading.proofs.Stretches.{range_parts, range_length}
@@ -109,12 +109,12 @@ looked_on changes ends src i j k a b utf8 start f g =
 
 -- ---- values
 
-value_same : (b : ℕ) → is_value_byte b ≡ true → is_special b ≡ false
-unfolding is_value_byte
+value_same : (b : ℕ) → is_wide_value_byte b ≡ true → is_special b ≡ false
+unfolding is_wide_value_byte is_value_byte
 value_same b h = grind (arith, nat_tests)
 
-value_open : (quote b : ℕ) → (quote == 39 || quote == 34) ≡ true → is_value_byte b ≡ true → (b == quote || b == 60) ≡ false
-unfolding is_value_byte
+value_open : (quote b : ℕ) → (quote == 39 || quote == 34) ≡ true → is_wide_value_byte b ≡ true → (b == quote || b == 60) ≡ false
+unfolding is_wide_value_byte is_value_byte
 value_open quote b q h = grind (arith, nat_tests)
 
 wide_same : (b : ℕ) → 128 ≤ b → is_special b ≡ false
@@ -124,21 +124,28 @@ wide_open : (quote b : ℕ) → (quote == 39 || quote == 34) ≡ true → 128 �
 wide_open quote b q wide = grind (arith, nat_tests)
 
 -- the bytes of a value from i on that the first look passes
-pub value_near : (src : List ℕ) (quote i e : ℕ) → IsUtf8 src → (quote == 39 || quote == 34) ≡ true → IsCharBoundary src i → i ≤ e → e ≤ length src → AllPass is_value_byte src i e → (e < length src → is_value_byte (get_or src e 0) ≡ false)
+pub value_near : (src : List ℕ) (quote i e : ℕ) → IsUtf8 src → (quote == 39 || quote == 34) ≡ true → IsCharBoundary src i → i ≤ e → e ≤ length src → AllPass is_value_byte src i e
     → IsLookahead (ends_value quote src) is_special src i e true
-value_near src quote i e utf8 q start le within all stops =
-    near_looked is_value_byte is_special (ends_value quote src) src i e utf8 start le (value_cut src e within stops) all value_is_plain value_same (λ k h. value_open quote _ q h)
+value_near src quote i e utf8 q start le within all =
+    near_looked is_value_byte is_special (ends_value quote src) src i e utf8 start le (value_cut src i e utf8 start le within all) all value_is_plain
+    (λ b h. value_same b (value_widens b h)) (λ k h. value_open quote _ q (value_widens _ h))
+
+-- the same of the wider set
+pub wide_value_near : (src : List ℕ) (quote i e : ℕ) → IsUtf8 src → (quote == 39 || quote == 34) ≡ true → IsCharBoundary src i → i ≤ e → e ≤ length src → AllPass is_wide_value_byte src i e → (e < length src → is_wide_value_byte (get_or src e 0) ≡ false)
+    → IsLookahead (ends_value quote src) is_special src i e true
+wide_value_near src quote i e utf8 q start le within all stops =
+    near_looked is_wide_value_byte is_special (ends_value quote src) src i e utf8 start le (wide_value_cut src e within stops) all wide_value_is_plain value_same (λ k h. value_open quote _ q h)
 
 -- and a character behind them, and the bytes behind that
 pub value_on : (src : List ℕ) (quote i j n e : ℕ) (verbatim : Bool) → IsUtf8 src → (quote == 39 || quote == 34) ≡ true → IsCharBoundary src i → IsLookahead (ends_value quote src) is_special src i j verbatim
     → j < n → IsCharBoundary src n → AreChars src j n → ((k : ℕ) → j < k → k < n → 128 ≤ get_or src k 0) → ends_value quote src j ≡ false
-    → n ≤ e → e ≤ length src → AllPass is_value_byte src n e → (e < length src → is_value_byte (get_or src e 0) ≡ false)
+    → n ≤ e → e ≤ length src → AllPass is_wide_value_byte src n e → (e < length src → is_wide_value_byte (get_or src e 0) ≡ false)
     → IsLookahead (ends_value quote src) is_special src i e (verbatim && not (is_special (get_or src j 0)))
 value_on src quote i j n e verbatim utf8 q start f some cut chars wide here le within all stops =
     let ends = ends_value quote src in
     let one = char_looked is_special ends src j n some cut chars wide wide_same (λ k h. wide_open quote _ q h) here in
     let two = looked_on is_special ends src i j n verbatim _ utf8 start f one in
-    let three = looked_on is_special ends src i n e _ true utf8 start two (value_near src quote n e utf8 q cut le within all stops) in
+    let three = looked_on is_special ends src i n e _ true utf8 start two (wide_value_near src quote n e utf8 q cut le within all stops) in
     rw (and_true (verbatim && not (is_special (get_or src j 0)))) at three
 
 not_zero : (quote : ℕ) → (quote == 39 || quote == 34) ≡ true → 0 < quote

@@ -14,7 +14,7 @@ use Rattle.rox_grammar.specs.Search.{byte_from}
 use Rattle.rox_reading.specs.Lexical.{chars_up_to}
 use Rattle.rox_reading.specs.Markup.{raw_value_at}
 use Rattle.rox_reading.specs.Values.{is_special}
-use Rattle.rox_scan.specs.ByteSets.{is_char_byte, AllPass, is_value_byte, is_text_byte, is_comment_byte, is_part_byte, is_run_byte, is_stretch_byte}
+use Rattle.rox_scan.specs.ByteSets.{is_char_byte, AllPass, is_value_byte, is_wide_value_byte, is_text_byte, is_comment_byte, is_part_byte, is_run_byte, is_stretch_byte}
 use Rattle.rox_scan.proofs.RunLemmas.{begins_ascii, run_on_ascii, run_stops_ascii, run_at_end, space_on, space_stops}
 use Rattle.rox_scan.proofs.PlainLemmas.{plain_run}
 
@@ -30,14 +30,26 @@ pub comment_is_plain : (b : ℕ) → is_comment_byte b ≡ true → is_char_byte
 unfolding is_comment_byte
 comment_is_plain b h = grind (arith, nat_tests)
 
+pub value_widens : (b : ℕ) → is_value_byte b ≡ true → is_wide_value_byte b ≡ true
+unfolding is_wide_value_byte
+value_widens b h = rw h refl
+
+pub wide_value_is_plain : (b : ℕ) → is_wide_value_byte b ≡ true → is_char_byte b ≡ true
+unfolding is_wide_value_byte is_value_byte
+wide_value_is_plain b h = grind (arith, nat_tests)
+
+value_ascii : (b : ℕ) → is_value_byte b ≡ true → b < 128
+unfolding is_value_byte
+value_ascii b h = grind (arith, nat_tests)
+
 part_ascii : (b : ℕ) → is_part_byte b ≡ true → b < 128
 unfolding is_part_byte
 part_ascii b h = grind (arith, nat_tests)
 
 -- a byte past ASCII that is not in the set begins a character
-value_leads : (b : ℕ) → is_value_byte b ≡ false → 128 ≤ b → 192 ≤ b
-unfolding is_value_byte
-value_leads b h wide = grind (arith, nat_tests)
+wide_value_leads : (b : ℕ) → is_wide_value_byte b ≡ false → 128 ≤ b → 192 ≤ b
+unfolding is_wide_value_byte is_value_byte
+wide_value_leads b h wide = grind (arith, nat_tests)
 
 text_leads : (b : ℕ) → is_text_byte b ≡ false → 128 ≤ b → 192 ≤ b
 unfolding is_text_byte
@@ -51,8 +63,8 @@ char_leads : (b : ℕ) → is_char_byte b ≡ false → 128 ≤ b → 192 ≤ b
 char_leads b h wide = grind (arith, nat_tests)
 
 -- so the first such byte is where one ends
-pub value_cut : (src : List ℕ) (e : ℕ) → e ≤ length src → (e < length src → is_value_byte (get_or src e 0) ≡ false) → IsCharBoundary src e
-value_cut src e within stops = (within, λ more wide. value_leads _ (stops more) wide)
+pub wide_value_cut : (src : List ℕ) (e : ℕ) → e ≤ length src → (e < length src → is_wide_value_byte (get_or src e 0) ≡ false) → IsCharBoundary src e
+wide_value_cut src e within stops = (within, λ more wide. wide_value_leads _ (stops more) wide)
 
 pub text_cut : (src : List ℕ) (e : ℕ) → e ≤ length src → (e < length src → is_text_byte (get_or src e 0) ≡ false) → IsCharBoundary src e
 text_cut src e within stops = (within, λ more wide. text_leads _ (stops more) wide)
@@ -68,12 +80,18 @@ unfolding is_part_byte
 part_is_part b h = grind (arith, nat_tests)
 
 -- a place behind ASCII bytes is one between characters
-pub part_cut : (src : List ℕ) (i e : ℕ) → IsUtf8 src → IsCharBoundary src i → i ≤ e → e ≤ length src → AllPass is_part_byte src i e → IsCharBoundary src e
-part_cut src i e utf8 cut le within all =
+ascii_cut : (p : ℕ → Bool) (src : List ℕ) (i e : ℕ) → IsUtf8 src → IsCharBoundary src i → i ≤ e → e ≤ length src → AllPass p src i e → ((b : ℕ) → p b ≡ true → b < 128) → IsCharBoundary src e
+ascii_cut p src i e utf8 cut le within all ascii =
     elim (cases_eq e i) [
       | inl same ↦ rw same cut
-      | inr more ↦ subst (λ k. IsCharBoundary src k) (omega arith) (IsCharBoundary-after_ascii src (e - 1) utf8 (omega arith) (part_ascii _ (all (e - 1) (omega arith) (omega arith))))
+      | inr more ↦ subst (λ k. IsCharBoundary src k) (omega arith) (IsCharBoundary-after_ascii src (e - 1) utf8 (omega arith) (ascii _ (all (e - 1) (omega arith) (omega arith))))
     ]
+
+pub part_cut : (src : List ℕ) (i e : ℕ) → IsUtf8 src → IsCharBoundary src i → i ≤ e → e ≤ length src → AllPass is_part_byte src i e → IsCharBoundary src e
+part_cut src i e utf8 cut le within all = ascii_cut is_part_byte src i e utf8 cut le within all part_ascii
+
+pub value_cut : (src : List ℕ) (i e : ℕ) → IsUtf8 src → IsCharBoundary src i → i ≤ e → e ≤ length src → AllPass is_value_byte src i e → IsCharBoundary src e
+value_cut src i e utf8 cut le within all = ascii_cut is_value_byte src i e utf8 cut le within all value_ascii
 
 -- a run of name characters goes on behind them
 run_from : (src : List ℕ) (i e n : ℕ) → i + n ≡ e → e ≤ length src → IsUtf8 src → AllPass is_part_byte src i e → run_end is_part_char src e ≡ run_end is_part_char src i
@@ -114,11 +132,7 @@ space_below : (b : ℕ) → is_space b ≡ true → b < 128
 space_below b h = grind (arith, nat_tests)
 
 pub spaces_cut : (src : List ℕ) (i e : ℕ) → IsUtf8 src → IsCharBoundary src i → i ≤ e → e ≤ length src → AllPass is_space src i e → IsCharBoundary src e
-spaces_cut src i e utf8 cut le within all =
-    elim (cases_eq e i) [
-      | inl same ↦ rw same cut
-      | inr more ↦ subst (λ k. IsCharBoundary src k) (omega arith) (IsCharBoundary-after_ascii src (e - 1) utf8 (omega arith) (space_below _ (all (e - 1) (omega arith) (omega arith))))
-    ]
+spaces_cut src i e utf8 cut le within all = ascii_cut is_space src i e utf8 cut le within all space_below
 
 spaces_from : (src : List ℕ) (i e n : ℕ) → i + n ≡ e → e ≤ length src → IsUtf8 src → AllPass is_space src i e → run_end is_space src e ≡ run_end is_space src i
 spaces_from src i e zero same within utf8 all = let at : e ≡ i = omega arith in rw at refl

@@ -1,9 +1,9 @@
 -- Classes of bytes by tables over their halves.
-use Rattle.std.specs.Prelude.{ℕ, ◌/◌, List, slice_index, bit_and}
+use Rattle.std.specs.Prelude.{ℕ, ◌/◌, List, slice_index, bit_and, cond, nat_lt}
 
--- what a table has at the low four bits of a byte
+-- what a table has at the low four bits of an ASCII byte, and 0 past these
 abbrev pub at_low : List ℕ → ℕ → ℕ
-at_low table b = slice_index table (bit_and b 15)
+at_low table b = cond (nat_lt b 128) (slice_index table (bit_and b 15)) 0
 
 -- and at the high four
 abbrev pub at_high : List ℕ → ℕ → ℕ

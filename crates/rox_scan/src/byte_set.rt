@@ -29,25 +29,42 @@ pub trait ByteSet {
         ensures { result ≡ mask_l (map (λ b. not (test b)) block) };
 }
 
-/// The bytes of an attribute's value that stand for themselves and end no value: no control, no quote, no `&` and no `<`, and not 239,
-/// which begins characters that are no Chars.
+/// Whether a byte is past ASCII, and not 239, which begins characters that are no Chars.
+#[inline(always)]
+fn is_wide(byte: u8) -> bool
+    ensures { result ≡ near.is_wide byte }
+{
+    (byte >= 128) & (byte != 239)
+}
+
+/// The bytes with their highest bit turned, so that those past ASCII come first. One comparison with `BEHIND_CONTROLS` tells these and
+/// controls: it is one of signed bytes to a processor.
+#[inline(always)]
+pub fn wide_first(block: u8x16) -> u8x16
+    ensures { result ≡ map near.wide_first block }
+{
+    block ^ u8x16::splat(128)
+}
+
+/// A space with its highest bit turned.
+pub const BEHIND_CONTROLS: u8 = 160;
+
+/// The ASCII bytes of an attribute's value that stand for themselves and end no value: no control, no quote, no `&` and no `<`.
 pub struct ValueByte;
 
-// A `#` at the place of each byte of an attribute's value that stands for itself: all but controls, quotes, `&`, `<` and 239.
+// A `#` at the place of each of them.
 static VALUE_BYTES: [u8; 256] = *b"\
     ................................\
     ##.###..####################.###\
     ################################\
     ################################\
-    ################################\
-    ################################\
-    ################################\
-    ###############.################";
+    ................................\
+    ................................\
+    ................................\
+    ................................";
 
-// What ends a run of them beside controls, each at its low half.
-const VALUE_ENDS: [u8; 16] = [
-    1, 0, b'"', 0, 0, 0, b'&', b'\'', 0, 0, 0, 0, b'<', 0, 0, 239,
-];
+// What ends a run of them beside controls and bytes past ASCII, each at its low half.
+const VALUE_ENDS: [u8; 16] = [1, 0, b'"', 0, 0, 0, b'&', b'\'', 0, 0, 0, 0, b'<', 0, 0, 0];
 
 impl ByteSet for ValueByte {
     ghost test = { near.is_value_byte };
@@ -60,7 +77,28 @@ impl ByteSet for ValueByte {
     #[inline(always)]
     fn others(block: u8x16) -> u64 {
         let ends = by_low(VALUE_ENDS, block).simd_eq(block);
-        (block.simd_lt(u8x16::splat(32)) | ends).to_bitmask()
+        let controls_and_wide = wide_first(block).simd_lt(u8x16::splat(BEHIND_CONTROLS));
+        (controls_and_wide | ends).to_bitmask()
+    }
+}
+
+/// The same, and bytes past ASCII but 239, which begins characters that are no Chars.
+pub struct WideValueByte;
+
+impl ByteSet for WideValueByte {
+    ghost test = { near.is_wide_value_byte };
+
+    #[inline(always)]
+    #[tactic(auto, unfolding(crate::specs::ByteSets::is_wide_value_byte))]
+    fn has(byte: u8) -> bool {
+        ValueByte::has(byte) | is_wide(byte)
+    }
+
+    #[inline(always)]
+    fn others(block: u8x16) -> u64 {
+        let ends = by_low(VALUE_ENDS, block).simd_eq(block);
+        let controls = block.simd_lt(u8x16::splat(32));
+        (controls | ends | block.simd_eq(u8x16::splat(239))).to_bitmask()
     }
 }
 
@@ -78,11 +116,6 @@ static COMMENT_BYTES: [u8; 256] = *b"\
     ################################\
     ###############.################";
 
-// Classes that a byte of the set has none of, and any other has one.
-const COMMENT_LOW: [u8; 16] = [3, 3, 3, 3, 3, 3, 3, 3, 3, 2, 2, 3, 3, 6, 3, 11];
-
-const COMMENT_HIGH: [u8; 16] = [1, 2, 4, 0, 0, 0, 0, 0, 0, 0, 0, 0, 0, 0, 8, 0];
-
 impl ByteSet for CommentByte {
     ghost test = { near.is_comment_byte };
 
@@ -93,17 +126,18 @@ impl ByteSet for CommentByte {
 
     #[inline(always)]
     fn others(block: u8x16) -> u64 {
-        classes(COMMENT_LOW, COMMENT_HIGH, block)
-            .simd_ne(u8x16::splat(0))
-            .to_bitmask()
+        let exceptions = by_low(CHAR_EXCEPTIONS, block).simd_eq(block);
+        let controls = block.simd_lt(u8x16::splat(32)) ^ exceptions;
+        let ends = block.simd_eq(u8x16::splat(b'-')) | block.simd_eq(u8x16::splat(239));
+        (controls | ends).to_bitmask()
     }
 }
 
 /// The bytes that begin no character but a Char, or go on with one.
 pub struct CharByte;
 
-// The controls of the set, and the byte above them that is none of it, each at its low half.
-const CHAR_EXCEPTIONS: [u8; 16] = [1, 0, 0, 0, 0, 0, 0, 0, 0, b'\t', b'\n', 0, 0, b'\r', 0, 239];
+// The controls of the set, each at its low half.
+const CHAR_EXCEPTIONS: [u8; 16] = [1, 0, 0, 0, 0, 0, 0, 0, 0, b'\t', b'\n', 0, 0, b'\r', 0, 0];
 
 impl ByteSet for CharByte {
     ghost test = { near.is_char_byte };
@@ -116,7 +150,8 @@ impl ByteSet for CharByte {
     #[inline(always)]
     fn others(block: u8x16) -> u64 {
         let exceptions = by_low(CHAR_EXCEPTIONS, block).simd_eq(block);
-        (block.simd_lt(u8x16::splat(32)) ^ exceptions).to_bitmask()
+        let controls = block.simd_lt(u8x16::splat(32)) ^ exceptions;
+        (controls | block.simd_eq(u8x16::splat(239))).to_bitmask()
     }
 }
 

@@ -9,12 +9,13 @@ ghost use Rattle.rox_grammar.specs.Constructs.{AreChars};
 ghost use Rattle.rox_grammar.specs.Content as content;
 ghost use Rattle.rox_reading.specs.Values as spec;
 ghost use Rattle.rox_scan.specs.ByteSets as near;
+ghost use Rattle.rox_scan.specs.ByteSets.{EndsText};
 ghost use Rattle.rox_scan.specs.Lookahead as longer;
 ghost use Rattle.rox_scan.specs.Lookahead.{IsLineRun, IsLookahead, IsStep, LooksAhead};
 ghost use Rattle.rox_scan.specs.Views.{ReadsRun};
 ghost use Rattle.rox_scan.specs.ScanResults.{HasWideAt};
 
-use crate::byte_set::{ByteSet, skip_set};
+use crate::byte_set::{BEHIND_CONTROLS, ByteSet, skip_set, wide_first};
 use crate::cursor::Cursor;
 use crate::lookahead::{Lookahead, after_char, is_mark_at};
 use crate::nibbles::by_low;
@@ -38,9 +39,9 @@ static TEXT_BYTES: [u8; 256] = *b"\
     ################################\
     ###############.################";
 
-// The controls of the set, and the bytes above them that are none of it, each at its low half.
+// The controls of the set, and the ASCII bytes above them that are none of it, each at its low half.
 const TEXT_EXCEPTIONS: [u8; 16] = [
-    1, 0, 0, 0, 0, 0, b'&', 0, 0, b'\t', b'\n', 0, b'<', b']', 0, 239,
+    1, 0, 0, 0, 0, 0, b'&', 0, 0, b'\t', b'\n', 0, b'<', b']', 0, 0,
 ];
 
 impl ByteSet for TextByte {
@@ -54,7 +55,47 @@ impl ByteSet for TextByte {
     #[inline(always)]
     fn others(block: u8x16) -> u64 {
         let exceptions = by_low(TEXT_EXCEPTIONS, block).simd_eq(block);
-        (block.simd_lt(u8x16::splat(32)) ^ exceptions).to_bitmask()
+        let controls = block.simd_lt(u8x16::splat(32)) ^ exceptions;
+        (controls | block.simd_eq(u8x16::splat(239))).to_bitmask()
+    }
+}
+
+/// The ASCII bytes of them.
+pub struct AsciiTextByte;
+
+impl ByteSet for AsciiTextByte {
+    ghost test = { near.is_ascii_text_byte };
+
+    #[inline(always)]
+    #[tactic(auto, unfolding(crate::specs::ByteSets::is_ascii_text_byte))]
+    fn has(byte: u8) -> bool {
+        (byte < 128) & TextByte::has(byte)
+    }
+
+    #[inline(always)]
+    fn others(block: u8x16) -> u64 {
+        let exceptions = by_low(TEXT_EXCEPTIONS, block).simd_eq(block);
+        let controls_and_wide = wide_first(block).simd_lt(u8x16::splat(BEHIND_CONTROLS));
+        (controls_and_wide ^ exceptions).to_bitmask()
+    }
+}
+
+/// Where the `<` stands behind the bytes of character data from `at` on that stand for themselves, if one does. Most often they are
+/// ASCII, for which a look is quicker.
+#[inline(always)]
+pub fn text_end(text: &str, at: usize) -> Option<usize>
+    requires { at ≤ length text.now }
+    ensures { IfSome result (EndsText text.now at) }
+{
+    let near = skip_set::<AsciiTextByte>(text, at);
+    if is_at(text, near, b'<') {
+        return Some(near);
+    }
+    let end = skip_set::<TextByte>(text, near);
+    if is_at(text, end, b'<') {
+        Some(end)
+    } else {
+        None
     }
 }
 

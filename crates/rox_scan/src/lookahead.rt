@@ -14,7 +14,7 @@ ghost use Rattle.rox_scan.specs.Lookahead as longer;
 ghost use Rattle.rox_scan.specs.Lookahead.{IsAfterChar, LooksAhead, LooksAtValue};
 ghost use Rattle.rox_scan.specs.ScanResults.{Finds, HasCharAt, MayHaveMark};
 
-use crate::byte_set::{ByteSet, CharByte, CommentByte, ValueByte, skip_set};
+use crate::byte_set::{ByteSet, CharByte, CommentByte, WideValueByte, skip_set};
 use crate::chars::{Class, XmlChar};
 use crate::cursor::{Cursor, Quote};
 use crate::nibbles::by_low;
@@ -146,7 +146,7 @@ pub fn scan_value(from: Cursor<'_>, quote: Quote) -> Lookahead
     let text = from.text;
     let bytes = text.as_bytes();
     let mut is_verbatim = true;
-    let mut end = skip_set::<ValueByte>(text, from.pos);
+    let mut end = skip_set::<WideValueByte>(text, from.pos);
     while end < bytes.len() {
         let here = bytes[end];
         if here == quote.byte || here == b'<' || here == b'&' {
@@ -157,7 +157,7 @@ pub fn scan_value(from: Cursor<'_>, quote: Quote) -> Lookahead
             break;
         }
         is_verbatim &= !is_special(here);
-        end = skip_set::<ValueByte>(text, next);
+        end = skip_set::<WideValueByte>(text, next);
     }
     Lookahead { end, is_verbatim }
 }

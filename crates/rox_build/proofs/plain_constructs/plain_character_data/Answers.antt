@@ -1,5 +1,4 @@
 use Rattle.std.proofs.Common.{◌≡◌, ◌<◌, true, Ok, get_or, length, refl, slice_range, sym, ◌∙◌, arith}
-use Rattle.std.proofs.lemmas.Bool.{eqb-true}
 use Rattle.rox_reading.specs.Values.{ReadText}
 use Rattle.rox_scan.proofs.NearLemmas.{text_cut}
 use Rattle.rox_scan.proofs.ShortLemmas.{short_run}
@@ -15,10 +14,10 @@ returns c = record {
         let src = cursor.text.now in
         let b = c.args.builder.now in
         let i = cursor.pos in
-        let e = c.skip_set-near.result in
-        let n = c.skip_set-near.ensures in
+        let e = c.in-Some.end in
+        let n = c.in-Some.ensures.ends in
         let cut = text_cut src e n.within n.stops in
-        let here : e < length src → get_or src e 0 ≡ 60 = λ more. eqb-true _ _ (sym c.is_at.ensures ∙ c.if-not-is_at.false) in
+        let here : e < length src → get_or src e 0 ≡ 60 = λ more. c.in-Some.ensures.here in
         let r = short_run src i e cursor.utf8 cursor.cut n.onward cut n.passes here in
         let text : ReadText = record { value = slice_range src i e; borrowed = true } in
         rw (plain_run context src s i e (slice_range src i e) h.here r.0 r.1)
@@ -29,7 +28,7 @@ returns c = record {
   };
   tables = c.put_text.ensures.adds.kept.tables;
   opened = c.put_text.ensures.adds.kept.opened;
-  behind = λ _. eqb-true _ _ (sym c.is_at.ensures ∙ c.if-not-is_at.false);
+  behind = λ _. c.in-Some.ensures.here;
 }
 
 pub put_text-requires : goal.put_text-requires
@@ -37,5 +36,5 @@ put_text-requires c = record {
   ready = c.requires.room.ready;
   apart = c.requires.apart;
   start = omega (arith, c.requires.room.short, c.args.cursor.now.cut.0);
-  end = omega (arith, c.requires.room.short, c.skip_set-near.ensures.within);
+  end = omega (arith, c.requires.room.short, c.in-Some.ensures.ends.within);
 }

@@ -10,7 +10,7 @@ pub changed_end-end-requires : goal.changed_end-end-requires
 changed_end-end-requires c = record {
   cut =
       let f = c.skip_set-near.ensures in
-      value_cut c.args.text.now c.skip_set-near.result f.within f.stops;
+      value_cut c.args.text.now c.args.start c.skip_set-near.result c.utf8.text c.requires.cut f.onward f.within f.passes;
   quote = c.requires.quote;
 }
 
@@ -21,7 +21,7 @@ returns c = record {
       let k = c.change_from-first.ensures in
       let within = c.changed_end-end.ensures.cut.0 in
       let before = c.if-first-end.false in
-      spaced_looked c.args.text.now c.args.quote c.args.start c.skip_set-near.result c.change_from-first.result c.changed_end-end.result c.utf8.text c.requires.quote c.requires.cut f.onward f.within f.passes f.stops
+      spaced_looked c.args.text.now c.args.quote c.args.start c.skip_set-near.result c.change_from-first.result c.changed_end-end.result c.utf8.text c.requires.quote c.requires.cut f.onward f.within f.passes
       c.changed_end-end.ensures k.onward (omega arith) (stretch_special _ (k.stops (omega arith)));
   here = first_of (search rules, grind (arith, common_steps));
   value =
@@ -31,7 +31,7 @@ returns c = record {
       let high = g.onward in
       let within = c.changed_end-end.ensures.cut.0 in
       let before = c.if-first-end.false in
-      let l = spaced_looked c.args.text.now c.args.quote c.args.start c.skip_set-near.result c.change_from-first.result c.changed_end-end.result c.utf8.text c.requires.quote c.requires.cut f.onward f.within f.passes f.stops
+      let l = spaced_looked c.args.text.now c.args.quote c.args.start c.skip_set-near.result c.change_from-first.result c.changed_end-end.result c.utf8.text c.requires.quote c.requires.cut f.onward f.within f.passes
       c.changed_end-end.ensures g.onward (omega arith) (stretch_special _ (g.stops (omega arith))) in
       record {
         start = c.requires.cut;

@@ -1,11 +1,13 @@
 -- The mask is held against the definition at each of the 256 bytes, by computing.
-use Rattle.std.proofs.Common.{not, refl, arith}
-use Rattle.rox_scan.specs.Nibbles.{class_of}
+use Rattle.std.proofs.Common.{not, refl, arith, bit_xor}
+use Rattle.std.proofs.lemmas.Simd.{zip2_of_maps}
+use Rattle.rox_scan.specs.Nibbles.{at_low}
 use Rattle.rox_scan.specs.ByteSets.{is_comment_byte}
-use Rattle.rox_scan.specs.declared.byte_set.TheConstants.{COMMENT_LOW, COMMENT_HIGH}
+use Rattle.rox_scan.specs.declared.byte_set.TheConstants.{CHAR_EXCEPTIONS}
 use Rattle.rox_scan.proofs.TableLemmas.{agree_below}
-use Rattle.rox_scan.proofs.LaneLemmas.{masked, against, differs}
+use Rattle.rox_scan.proofs.LaneLemmas.{masked, against, either, map_same, equals, below}
 use Rattle.rox_scan.proofs.byte_set.CommentByteByteSet.others.Goals as goal
+use lib.Bits.{bit_or}
 
 pub returns : goal.returns
 unfolding agree_below is_comment_byte
@@ -13,4 +15,10 @@ returns c =
     let v = c.args.block in
     let long = c.fits-block.0 in
     masked _ (λ b. not (is_comment_byte b)) v _ (omega (arith, long)) c.fits-block.1
-    (against differs (class_of COMMENT_LOW COMMENT_HIGH) 0 16 v long c.classes.ensures) refl
+    (either (λ x. bit_xor (below x 32) (equals (at_low CHAR_EXCEPTIONS x) x)) (λ x. bit_or (equals x 45) (equals x 239)) v
+    (zip2_of_maps bit_xor (λ x. below x 32) (λ x. equals (at_low CHAR_EXCEPTIONS x) x) v
+    (against below (λ x. x) 32 16 v long (map_same v))
+    (zip2_of_maps equals (at_low CHAR_EXCEPTIONS) (λ x. x) v c.by_low.ensures (map_same v)))
+    (either (λ x. equals x 45) (λ x. equals x 239) v
+    (against equals (λ x. x) 45 16 v long (map_same v))
+    (against equals (λ x. x) 239 16 v long (map_same v)))) refl

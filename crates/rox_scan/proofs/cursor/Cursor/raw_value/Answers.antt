@@ -8,7 +8,7 @@ returns-then-is_at c =
     let near = c.skip_set-near.ensures in
     record {
       read = record {
-        value = rw c.range.ensures.value (short_value s.text.now s.pos c.skip_set-near.result c.args.quote.byte s.utf8 s.cut c.args.quote.is near.onward (value_cut s.text.now _ near.within near.stops) near.passes (sym c.is_at.ensures ∙ c.if-is_at.true));
+        value = rw c.range.ensures.value (short_value s.text.now s.pos c.skip_set-near.result c.args.quote.byte s.utf8 s.cut c.args.quote.is near.onward (value_cut s.text.now s.pos _ s.utf8 s.cut near.onward near.within near.passes) near.passes (sym c.is_at.ensures ∙ c.if-is_at.true));
         source = search rules;
         onward = search rules;
       };
