@@ -53,14 +53,6 @@ fn is_short_prefix(name: Option<&str>, prefix: &str) -> bool
     }
 }
 
-/// Whether this is no prefix, but the default.
-#[inline(always)]
-fn is_default(name: Option<&str>) -> bool
-    ensures { result ≡ same_prefix (prefix_view name.entry) None }
-{
-    name.is_none()
-}
-
 /// The first of these places whose namespace is the default.
 #[inline(always)]
 pub fn default_place(namespaces: &[Namespace<'_>], places: &[u16]) -> Option<u16>
@@ -68,7 +60,7 @@ pub fn default_place(namespaces: &[Namespace<'_>], places: &[u16]) -> Option<u16
     ensures { FindsPlace namespaces.now places.now None result }
 {
     for place in places {
-        if is_default(namespaces[*place as usize].name) {
+        if namespaces[*place as usize].name.is_none() {
             return Some(*place);
         }
     }
@@ -87,15 +79,21 @@ pub fn few_places<'a>(scopes: &[Scope], listed: &'a [u16], scope: u32) -> Option
     }
 }
 
-/// The first of these places whose namespace has this prefix, which is long.
-#[cold]
+/// The first of these places whose namespace has this prefix, of any length: notes where it is found. It is out of line, as few
+/// attributes have another prefix than the one before them.
 #[inline(never)]
-fn place_of_long(namespaces: &[Namespace<'_>], places: &[u16], prefix: &str) -> Option<u16>
+fn find_far(
+    namespaces: &[Namespace<'_>],
+    places: &[u16],
+    prefix: &str,
+    near: &mut usize,
+) -> Option<u16>
     requires { ArePlaces (length namespaces.now) places.now }
     ensures { FindsPlace namespaces.now places.now (Some prefix.now) result }
 {
-    for place in places {
+    for (index, place) in places.iter().enumerate() {
         if same_prefix(namespaces[*place as usize].name, Some(prefix)) {
+            *near = index;
             return Some(*place);
         }
     }
@@ -110,31 +108,11 @@ fn place_of_prefix(namespaces: &[Namespace<'_>], places: &[u16], prefix: &str) -
     ensures { FindsPlace namespaces.now places.now (Some prefix.now) result }
 {
     if prefix.len() >= LONG {
-        return place_of_long(namespaces, places, prefix);
+        let mut near = 0;
+        return find_far(namespaces, places, prefix, &mut near);
     }
     for place in places {
         if is_short_prefix(namespaces[*place as usize].name, prefix) {
-            return Some(*place);
-        }
-    }
-    None
-}
-
-/// As `find_near`, by a look at one place after another: notes where it is found. It is out of line, as few attributes have another
-/// prefix than the one before them.
-#[inline(never)]
-fn find_far(
-    namespaces: &[Namespace<'_>],
-    places: &[u16],
-    prefix: &str,
-    near: &mut usize,
-) -> Option<u16>
-    requires { ArePlaces (length namespaces.now) places.now }
-    ensures { FindsPlace namespaces.now places.now (Some prefix.now) result }
-{
-    for (index, place) in places.iter().enumerate() {
-        if same_prefix(namespaces[*place as usize].name, Some(prefix)) {
-            *near = index;
             return Some(*place);
         }
     }

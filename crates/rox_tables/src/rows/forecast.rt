@@ -60,10 +60,16 @@ fn rows_among(block: u8x64) -> RowCounts {
     }
 }
 
-/// How many rows begin among the bytes that are looked at, in each part of so many.
+/// How many rows there are, where so many begin among the bytes that are looked at, and an eighth more.
+fn scaled(rows: usize, part: usize) -> usize {
+    let all = rows.saturating_mul(part) / INNER;
+    all.saturating_add(all / 8)
+}
+
+/// What a sample of a long text foretells: the rows that begin among the bytes that are looked at, in each part of so many.
 #[cold]
 #[inline(never)]
-fn rows_sampled(bytes: &[u8], part: usize) -> RowCounts
+fn by_sample(bytes: &[u8], part: usize) -> RowCounts
     requires { 96 ≤ part }
 {
     let mut nodes = 0_usize;
@@ -77,24 +83,9 @@ fn rows_sampled(bytes: &[u8], part: usize) -> RowCounts
         attributes = attributes.saturating_add(rows.attributes);
         rest = &rest[part..];
     }
-    RowCounts { nodes, attributes }
-}
-
-/// How many rows there are, where so many begin among the bytes that are looked at, and an eighth more.
-fn scaled(rows: usize, part: usize) -> usize {
-    let all = rows.saturating_mul(part) / INNER;
-    all.saturating_add(all / 8)
-}
-
-/// What the sample of a long text foretells.
-fn by_sample(bytes: &[u8]) -> RowCounts
-    requires { 131072 ≤ length bytes.now }
-{
-    let part = bytes.len() / PARTS * 2 + 1;
-    let rows = rows_sampled(bytes, part);
     RowCounts {
-        nodes: scaled(rows.nodes, part),
-        attributes: scaled(rows.attributes, part),
+        nodes: scaled(nodes, part),
+        attributes: scaled(attributes, part),
     }
 }
 
@@ -117,7 +108,7 @@ pub fn first_rows(text: &str) -> RowCounts
     let rows = if len < SAMPLED {
         by_length(len)
     } else {
-        by_sample(text.as_bytes())
+        by_sample(text.as_bytes(), len / PARTS * 2 + 1)
     };
     let most = len / DENSEST;
     RowCounts {

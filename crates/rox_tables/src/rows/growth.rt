@@ -6,12 +6,15 @@ ghost use Rattle.rox_tables.specs.Puts.{Pushes};
 
 use std::alloc::{AllocError, Global};
 
-/// Makes room for one more. The only error is want of memory.
+/// Makes room for one more, and in an empty table for so many. The only error is want of memory.
 #[cold]
 #[inline(never)]
-fn grow<T: Drop>(to: &mut Vec<T>) -> Result<(), AllocError>
+fn grow<T: Drop>(to: &mut Vec<T>, first: usize) -> Result<(), AllocError>
     ensures { growth.GrowsByOne to.old to.new result }
 {
+    if to.is_empty() {
+        to.reserve_exact(first)?;
+    }
     to.reserve(1)?;
     Ok(())
 }
@@ -23,23 +26,10 @@ pub fn push<T: Drop>(to: &mut Vec<T>, value: T) -> Result<(), AllocError>
     ensures { Pushes value (is_ok result) to.old to.new }
 {
     if to.len() >= to.capacity() {
-        grow(to)?;
+        grow(to, 0)?;
     }
     to.push_reserved(value);
     Ok(())
-}
-
-/// Makes room for one more, and in an empty table for so many. The only error is want of memory.
-#[cold]
-#[inline(never)]
-fn grow_first<T: Drop>(to: &mut Vec<T>, first: usize) -> Result<(), AllocError>
-    ensures { growth.GrowsByOne to.old to.new result }
-{
-    if to.is_empty() {
-        to.reserve_exact(first.max(1))?;
-        return Ok(());
-    }
-    grow(to)
 }
 
 /// The same in a table that gets room for so many with its first.
@@ -48,7 +38,7 @@ pub fn push_with_room<T: Drop>(to: &mut Vec<T>, value: T, first: usize) -> Resul
     ensures { Pushes value (is_ok result) to.old to.new }
 {
     if to.len() >= to.capacity() {
-        grow_first(to, first)?;
+        grow(to, first)?;
     }
     to.push_reserved(value);
     Ok(())
@@ -108,20 +98,9 @@ pub(crate) fn first_room<T: Drop>(
     Err(AllocError)
 }
 
-/// How many rows there is to be room for where a table is full with `len`, which the first `place` bytes of a text of `end`
-/// bytes gave: as many as the whole text gives if the rest is as dense, and for the rest an eighth more. At least an eighth more
-/// than there are, so that a table is seldom moved, and at most eight times as many, since a dense head tells little of the rest.
-fn foreseen(len: usize, place: usize, end: usize) -> usize
-    requires { len < 2 ^ 63 }
-    ensures { growth.IsForeseen len place end result }
-{
-    let rest = len.saturating_mul(end.saturating_sub(place)) / place.max(1);
-    let foretold = len.saturating_add(rest).saturating_add(rest / 8);
-    let least = len + len / 8 + 4;
-    foretold.min(len.saturating_mul(8)).max(least)
-}
-
-/// Makes room in a table, as foreseen where `place` bytes of a text of `end` bytes are read. Where that is refused and the table
+/// Makes room in a table whose rows the first `place` bytes of a text of `end` bytes gave: for as many as the whole text gives if
+/// the rest is as dense, and for the rest an eighth more. At least for an eighth more than there are, so that a table is seldom
+/// moved, and at most for eight times as many, since a dense head tells little of the rest. Where that is refused and the table
 /// would not be small, it makes room for an eighth more. The only error is want of memory.
 #[cold]
 #[inline(never)]
@@ -129,8 +108,11 @@ pub fn make_room<T: Drop>(to: &mut Vec<T>, place: usize, end: usize) -> Result<(
     ensures { growth.MakesRoom place end to.old to.new result }
 {
     let len = to.len();
-    let more = foreseen(len, place, end) - len;
-    reserve(to, more, len / 8 + 1)
+    let rest = len.saturating_mul(end.saturating_sub(place)) / place.max(1);
+    let foretold = len.saturating_add(rest).saturating_add(rest / 8);
+    let least = len + len / 8 + 4;
+    let room = foretold.min(len.saturating_mul(8)).max(least);
+    reserve(to, room - len, len / 8 + 1)
 }
 
 /// How many rows of spare room are kept at most: giving room back costs more than it is worth where there is little of it.
