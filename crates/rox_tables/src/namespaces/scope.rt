@@ -79,21 +79,15 @@ pub fn few_places<'a>(scopes: &[Scope], listed: &'a [u16], scope: u32) -> Option
     }
 }
 
-/// The first of these places whose namespace has this prefix, of any length: notes where it is found. It is out of line, as few
-/// attributes have another prefix than the one before them.
+/// The first of these places whose namespace has this prefix, which is long.
+#[cold]
 #[inline(never)]
-fn find_far(
-    namespaces: &[Namespace<'_>],
-    places: &[u16],
-    prefix: &str,
-    near: &mut usize,
-) -> Option<u16>
+fn place_of_long(namespaces: &[Namespace<'_>], places: &[u16], prefix: &str) -> Option<u16>
     requires { ArePlaces (length namespaces.now) places.now }
     ensures { FindsPlace namespaces.now places.now (Some prefix.now) result }
 {
-    for (index, place) in places.iter().enumerate() {
+    for place in places {
         if same_prefix(namespaces[*place as usize].name, Some(prefix)) {
-            *near = index;
             return Some(*place);
         }
     }
@@ -108,11 +102,31 @@ fn place_of_prefix(namespaces: &[Namespace<'_>], places: &[u16], prefix: &str) -
     ensures { FindsPlace namespaces.now places.now (Some prefix.now) result }
 {
     if prefix.len() >= LONG {
-        let mut near = 0;
-        return find_far(namespaces, places, prefix, &mut near);
+        return place_of_long(namespaces, places, prefix);
     }
     for place in places {
         if is_short_prefix(namespaces[*place as usize].name, prefix) {
+            return Some(*place);
+        }
+    }
+    None
+}
+
+/// As `find_near`, by a look at one place after another: notes where it is found. It is out of line, as few attributes have another
+/// prefix than the one before them.
+#[inline(never)]
+fn find_far(
+    namespaces: &[Namespace<'_>],
+    places: &[u16],
+    prefix: &str,
+    near: &mut usize,
+) -> Option<u16>
+    requires { ArePlaces (length namespaces.now) places.now }
+    ensures { FindsPlace namespaces.now places.now (Some prefix.now) result }
+{
+    for (index, place) in places.iter().enumerate() {
+        if same_prefix(namespaces[*place as usize].name, Some(prefix)) {
+            *near = index;
             return Some(*place);
         }
     }

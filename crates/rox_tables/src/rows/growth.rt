@@ -6,15 +6,12 @@ ghost use Rattle.rox_tables.specs.Puts.{Pushes};
 
 use std::alloc::{AllocError, Global};
 
-/// Makes room for one more, and in an empty table for so many. The only error is want of memory.
+/// Makes room for one more. The only error is want of memory.
 #[cold]
 #[inline(never)]
-fn grow<T: Drop>(to: &mut Vec<T>, first: usize) -> Result<(), AllocError>
+fn grow<T: Drop>(to: &mut Vec<T>) -> Result<(), AllocError>
     ensures { growth.GrowsByOne to.old to.new result }
 {
-    if to.is_empty() {
-        to.reserve_exact(first)?;
-    }
     to.reserve(1)?;
     Ok(())
 }
@@ -26,10 +23,23 @@ pub fn push<T: Drop>(to: &mut Vec<T>, value: T) -> Result<(), AllocError>
     ensures { Pushes value (is_ok result) to.old to.new }
 {
     if to.len() >= to.capacity() {
-        grow(to, 0)?;
+        grow(to)?;
     }
     to.push_reserved(value);
     Ok(())
+}
+
+/// Makes room for one more, and in an empty table for so many. The only error is want of memory.
+#[cold]
+#[inline(never)]
+fn grow_first<T: Drop>(to: &mut Vec<T>, first: usize) -> Result<(), AllocError>
+    ensures { growth.GrowsByOne to.old to.new result }
+{
+    if to.is_empty() {
+        to.reserve_exact(first.max(1))?;
+        return Ok(());
+    }
+    grow(to)
 }
 
 /// The same in a table that gets room for so many with its first.
@@ -38,7 +48,7 @@ pub fn push_with_room<T: Drop>(to: &mut Vec<T>, value: T, first: usize) -> Resul
     ensures { Pushes value (is_ok result) to.old to.new }
 {
     if to.len() >= to.capacity() {
-        grow(to, first)?;
+        grow_first(to, first)?;
     }
     to.push_reserved(value);
     Ok(())
