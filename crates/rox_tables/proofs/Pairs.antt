@@ -1,5 +1,5 @@
 -- The table of pairs.
-use Rattle.std.proofs.Common.{◌≡◌, ℕ, zero, suc, ◌+◌, ◌<◌, ◌||◌, Bool, true, false, cond, List, [], ◌∷◌, ◌++◌, length, map, take, drop, get_or, add-one, drop-cons, is_some, refl, sym, ap, ◌∙◌, arith, Option, Some, None}
+use Rattle.std.proofs.Common.{◌≡◌, ℕ, zero, suc, ◌+◌, ◌<◌, ◌||◌, not, Bor, Bool, true, false, cond, List, [], ◌∷◌, ◌++◌, length, map, take, drop, get_or, add-one, drop-cons, is_some, refl, sym, ap, ◌∙◌, arith, Option, Some, None}
 use Rattle.std.proofs.lemmas.Bool.{and_parts}
 use Rattle.std.proofs.lemmas.Slice.Eq.{bytes_eq-Decides}
 use Rattle.std.proofs.lemmas.List.{take_more, map-append, take-append-drop}
@@ -8,7 +8,7 @@ use Rattle.rox_grammar.specs.Tree.{same_prefix, is_declared, uri_of}
 use Rattle.rox_grammar.specs.Document.{same_pair}
 use Rattle.rox_tables.specs.declared.rows.tables.Namespace.{Namespace}
 use Rattle.rox_tables.specs.Rows.{namespace_view, namespace_at}
-use Rattle.rox_tables.specs.Scopes.{entries, ArePlaces}
+use Rattle.rox_tables.specs.Scopes.{prefix_view, entries, ArePlaces}
 
 chosen : {X P : Type 0} (b : Bool) (x y z : X) → cond b x y ≡ z → (b ≡ true → x ≡ z → P) → (b ≡ false → y ≡ z → P) → P
 chosen true x y z h holds fails = holds refl h
@@ -23,6 +23,13 @@ same_prefix-true (Some p) (Some q) h = ap Some ((bytes_eq-Decides p q).0 h)
 pub same_prefix-refl : (p : Option (List ℕ)) → same_prefix p p ≡ true
 same_prefix-refl None = refl
 same_prefix-refl (Some p) = (bytes_eq-Decides p p).1 refl
+
+-- a prefix is the default if it is none
+pub none_same : (p : Option (Bor (List ℕ))) (b : Bool) → is_some p ≡ not b → same_prefix (prefix_view p) None ≡ b
+none_same None true h = refl
+none_same None false h = cc h
+none_same (Some p) true h = cc h
+none_same (Some p) false h = refl
 
 pub same_pair-true : (d e : NamespaceDecl) → same_pair d e ≡ true → d ≡ e
 same_pair-true d e h =

@@ -46,11 +46,6 @@ pub record HasFirstRoom {A : Type 0} (asked fewer : ℕ) (table : Vec A Global) 
   pub items : table.items ≡ []
   pub room : min asked fewer ≤ vec_capacity table
 
--- that room is foreseen, which is an eighth more at least
-pub record IsForeseen (len place end result : ℕ) : Type 0 where
-  pub value : result ≡ foreseen len place end
-  pub more : len + len / 8 < result
-
 -- the rows stay, and there is room for an eighth more, unless memory ran out: in a small table as foreseen
 pub record MakesRoom {A E : Type 0} (place end : ℕ) (old new : Vec A Global) (result : Result (Unit {0}) E) : Type 0 where
   pub items : VecUnchanged old new

@@ -310,29 +310,8 @@ pub fn find(scopes: &[Scope], scope: u32, position: usize) -> Option<usize>
     }
 }
 
-/// The index of the first that a scope lists for this prefix, or for the default.
-fn first_of(
-    namespaces: &[Namespace<'_>],
-    listed: &[u16],
-    scopes: &[Scope],
-    scope: u32,
-    prefix: Option<&str>,
-) -> Option<usize>
-    requires { IsScopeOf (length namespaces.now) listed.now scopes.now scope }
-    ensures { FindsIndex namespaces.now (places_in listed.now scopes.now scope)
-        (prefix_view prefix.entry) result }
-{
-    for index in 0..count(scopes, scope) {
-        let place = place_at(scopes, listed, scope, index);
-        if same_prefix(namespaces[place as usize].name, prefix) {
-            return Some(index);
-        }
-    }
-    None
-}
-
 /// The index of one that a scope lists for this prefix, or for the default. It is looked for first where the listed place at
-/// the position `guess` is.
+/// the position `guess` is, and then from the front.
 pub fn index_of(
     namespaces: &[Namespace<'_>],
     listed: &[u16],
@@ -351,5 +330,11 @@ pub fn index_of(
             return Some(index);
         }
     }
-    first_of(namespaces, listed, scopes, scope, prefix)
+    for index in 0..count(scopes, scope) {
+        let place = place_at(scopes, listed, scope, index);
+        if same_prefix(namespaces[place as usize].name, prefix) {
+            return Some(index);
+        }
+    }
+    None
 }

@@ -53,14 +53,6 @@ fn is_short_prefix(name: Option<&str>, prefix: &str) -> bool
     }
 }
 
-/// Whether this is no prefix, but the default.
-#[inline(always)]
-fn is_default(name: Option<&str>) -> bool
-    ensures { result ≡ same_prefix (prefix_view name.entry) None }
-{
-    name.is_none()
-}
-
 /// The first of these places whose namespace is the default.
 #[inline(always)]
 pub fn default_place(namespaces: &[Namespace<'_>], places: &[u16]) -> Option<u16>
@@ -68,7 +60,7 @@ pub fn default_place(namespaces: &[Namespace<'_>], places: &[u16]) -> Option<u16
     ensures { FindsPlace namespaces.now places.now None result }
 {
     for place in places {
-        if is_default(namespaces[*place as usize].name) {
+        if namespaces[*place as usize].name.is_none() {
             return Some(*place);
         }
     }

@@ -1,6 +1,6 @@
 //! How many rows a text gives, foretold from its length, and where it is long from a sample of its bytes.
 
-ghost use Rattle.std.specs.Prelude.{◌≤◌, length};
+ghost use Rattle.std.specs.Prelude.{length};
 ghost use Rattle.rox_tables.specs.Growth.{IsFirstRoom};
 
 use std::simd::prelude::*;
@@ -26,6 +26,9 @@ const INNER_BITS: u64 = 0x7fff_ffff_ffff_fffe;
 
 /// The first bytes that are seen stand before this place of a part.
 const SHIFTS: usize = 32;
+
+/// A part has so many bytes at least, so that those which are seen stand in it.
+const LEAST_PART: usize = 96;
 
 /// So many bytes have one row at most, of each kind, however dense the sample is.
 const DENSEST: usize = 12;
@@ -60,12 +63,17 @@ fn rows_among(block: u8x64) -> RowCounts {
     }
 }
 
-/// How many rows begin among the bytes that are looked at, in each part of so many.
+/// How many rows there are, where so many begin among the bytes that are looked at, and an eighth more.
+fn scaled(rows: usize, part: usize) -> usize {
+    let all = rows.saturating_mul(part) / INNER;
+    all.saturating_add(all / 8)
+}
+
+/// What a sample of a long text foretells: the rows that begin among the bytes that are looked at, in each part of so many.
 #[cold]
 #[inline(never)]
-fn rows_sampled(bytes: &[u8], part: usize) -> RowCounts
-    requires { 96 ≤ part }
-{
+fn by_sample(bytes: &[u8]) -> RowCounts {
+    let part = (bytes.len() / PARTS * 2 + 1).max(LEAST_PART);
     let mut nodes = 0_usize;
     let mut attributes = 0_usize;
     let mut rest = bytes;
@@ -77,24 +85,9 @@ fn rows_sampled(bytes: &[u8], part: usize) -> RowCounts
         attributes = attributes.saturating_add(rows.attributes);
         rest = &rest[part..];
     }
-    RowCounts { nodes, attributes }
-}
-
-/// How many rows there are, where so many begin among the bytes that are looked at, and an eighth more.
-fn scaled(rows: usize, part: usize) -> usize {
-    let all = rows.saturating_mul(part) / INNER;
-    all.saturating_add(all / 8)
-}
-
-/// What the sample of a long text foretells.
-fn by_sample(bytes: &[u8]) -> RowCounts
-    requires { 131072 ≤ length bytes.now }
-{
-    let part = bytes.len() / PARTS * 2 + 1;
-    let rows = rows_sampled(bytes, part);
     RowCounts {
-        nodes: scaled(rows.nodes, part),
-        attributes: scaled(rows.attributes, part),
+        nodes: scaled(nodes, part),
+        attributes: scaled(attributes, part),
     }
 }
 

@@ -108,20 +108,9 @@ pub(crate) fn first_room<T: Drop>(
     Err(AllocError)
 }
 
-/// How many rows there is to be room for where a table is full with `len`, which the first `place` bytes of a text of `end`
-/// bytes gave: as many as the whole text gives if the rest is as dense, and for the rest an eighth more. At least an eighth more
-/// than there are, so that a table is seldom moved, and at most eight times as many, since a dense head tells little of the rest.
-fn foreseen(len: usize, place: usize, end: usize) -> usize
-    requires { len < 2 ^ 63 }
-    ensures { growth.IsForeseen len place end result }
-{
-    let rest = len.saturating_mul(end.saturating_sub(place)) / place.max(1);
-    let foretold = len.saturating_add(rest).saturating_add(rest / 8);
-    let least = len + len / 8 + 4;
-    foretold.min(len.saturating_mul(8)).max(least)
-}
-
-/// Makes room in a table, as foreseen where `place` bytes of a text of `end` bytes are read. Where that is refused and the table
+/// Makes room in a table whose rows the first `place` bytes of a text of `end` bytes gave: for as many as the whole text gives if
+/// the rest is as dense, and for the rest an eighth more. At least for an eighth more than there are, so that a table is seldom
+/// moved, and at most for eight times as many, since a dense head tells little of the rest. Where that is refused and the table
 /// would not be small, it makes room for an eighth more. The only error is want of memory.
 #[cold]
 #[inline(never)]
@@ -129,8 +118,11 @@ pub fn make_room<T: Drop>(to: &mut Vec<T>, place: usize, end: usize) -> Result<(
     ensures { growth.MakesRoom place end to.old to.new result }
 {
     let len = to.len();
-    let more = foreseen(len, place, end) - len;
-    reserve(to, more, len / 8 + 1)
+    let rest = len.saturating_mul(end.saturating_sub(place)) / place.max(1);
+    let foretold = len.saturating_add(rest).saturating_add(rest / 8);
+    let least = len + len / 8 + 4;
+    let room = foretold.min(len.saturating_mul(8)).max(least);
+    reserve(to, room - len, len / 8 + 1)
 }
 
 /// How many rows of spare room are kept at most: giving room back costs more than it is worth where there is little of it.

@@ -265,17 +265,11 @@ pub(crate) fn kind_ref<'a, 'input>(
             }
         StoredKind::Text(_, text) => KindRef::Text(text),
         StoredKind::Comment(_, text) => KindRef::Comment(text),
-        StoredKind::Instruction(place) => instruction_ref(instructions, *place),
+        StoredKind::Instruction(place) => {
+            if *place < instructions.len() {
+                return KindRef::PI(instructions[*place]);
+            }
+            KindRef::Root
+        }
     }
-}
-
-/// The processing instruction at a place of these.
-#[inline(always)]
-fn instruction_ref<'a, 'input>(instructions: &[PI<'input>], place: usize) -> KindRef<'a, 'input>
-    ensures { stored.kind_of result ≡ stored.instruction_at instructions.now place }
-{
-    if place < instructions.len() {
-        return KindRef::PI(instructions[place]);
-    }
-    KindRef::Root
 }

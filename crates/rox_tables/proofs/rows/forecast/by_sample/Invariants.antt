@@ -1,6 +1,6 @@
 use Rattle.std.specs.Bool.{⊤}
 use Rattle.std.proofs.Common.{length}
-use Rattle.rox_tables.proofs.rows.forecast.rows_sampled.Given as goal
+use Rattle.rox_tables.proofs.rows.forecast.by_sample.Given as goal
 
 abbrev pub invariant-loop-rest : goal.invariant-loop-rest
 invariant-loop-rest l = ⊤
