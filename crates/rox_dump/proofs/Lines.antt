@@ -1,7 +1,8 @@
 -- The line that a batch begins with.
-use Rattle.std.proofs.Common.{◌≡◌, ◌≢◌, ℕ, List, [], ◌∷◌, ◌++◌, Some, None, length, true, rules, refl, arith, sym, ◌∙◌, subst}
+use Rattle.std.proofs.Common.{◌≡◌, ◌≢◌, ℕ, List, [], ◌∷◌, ◌++◌, Option, Some, None, length, true, rules, refl, arith, sym, ap, ◌∙◌, subst}
 use Rattle.std.specs.List.{All, list_all}
 use Rattle.std.specs.Char.{is_ascii_digit}
+use Rattle.std.specs.Option.{MatchOption}
 use Rattle.std.specs.Str.{IsUtf8}
 use Rattle.std.proofs.lemmas.List.Elements.{All-nil, All-cons, All-head, All-tail, All-drop, All-same}
 use Rattle.std.proofs.Math.Seq.{drop-append_seam}
@@ -9,7 +10,8 @@ use Rattle.std.proofs.lemmas.Option.{none-some}
 use Rattle.std.proofs.lemmas.Fmt.{IsAscii-from_digits}
 use Rattle.std.proofs.lemmas.Str.{IsUtf8-from_ascii}
 use Rattle.rox_dump.specs.Numbers.{number_of}
-use Rattle.rox_dump.specs.Batch.{BeginsWith}
+use Rattle.rox_dump.specs.Batch.{BeginsWith, IsSplit}
+use Rattle.rox_dump.specs.declared.cases.Case.{Case}
 use Rattle.rox_dump.proofs.Digits.{own}
 
 abbrev pub IsNoLineFeed : ℕ → Type 0
@@ -59,7 +61,12 @@ no_number_no_text batch line behind text rest e a none begins =
     let known : (number_of line ≡ Some (length text)) × (behind ≡ text ++ (10 ∷ rest)) = text_behind_line batch line behind text rest e a begins in
     search (rules, none-some, known.0)
 
-pub short_no_text : (batch line behind text rest : List ℕ) (count : ℕ) → batch ≡ line ++ (10 ∷ behind) → All IsNoLineFeed line → Some count ≡ number_of line → ((text rest : List ℕ) → behind ≡ text ++ (10 ∷ rest) → length text ≢ count) → BeginsWith batch text rest → ⊥
+short_no_text : (batch line behind text rest : List ℕ) (count : ℕ) → batch ≡ line ++ (10 ∷ behind) → All IsNoLineFeed line → Some count ≡ number_of line → ((text rest : List ℕ) → IsSplit behind count text rest → ⊥) → BeginsWith batch text rest → ⊥
 short_no_text batch line behind text rest count e a is short begins =
     let known : (number_of line ≡ Some (length text)) × (behind ≡ text ++ (10 ∷ rest)) = text_behind_line batch line behind text rest e a begins in
-    short text rest known.1 (grind (arith, is, known.0))
+    short text rest (grind (arith, is, known.0), known.1)
+
+-- what a batch begins with, where the bytes behind its first line are split by its number
+pub split_begins : (batch line behind : List ℕ) (count : ℕ) (split : Option Case) → batch ≡ line ++ (10 ∷ behind) → All IsNoLineFeed line → Some count ≡ number_of line → MatchOption split ((text rest : List ℕ) → IsSplit behind count text rest → ⊥) (λ case. IsSplit behind count case.text.now case.rest.now) → MatchOption split ((text rest : List ℕ) → BeginsWith batch text rest → ⊥) (λ case. BeginsWith batch case.text.now case.rest.now)
+split_begins batch line behind count None e a is short = λ text rest begins. short_no_text batch line behind text rest count e a is short begins
+split_begins batch line behind count (Some case) e a is h = (line, sym is ∙ ap Some (sym h.0), e ∙ ap (λ b. line ++ (10 ∷ b)) h.1)

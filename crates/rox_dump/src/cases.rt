@@ -1,8 +1,8 @@
 //! The texts of a batch.
 
-ghost use Rattle.std.specs.Prelude.{ℕ, ◌≡◌, ◌≢◌, ◌++◌, ◌∷◌, List, All, IfSome, IsNone, length};
+ghost use Rattle.std.specs.Prelude.{ℕ, ◌≡◌, ◌++◌, ◌∷◌, List, MatchOption};
 ghost use Rattle.rox_dump.specs.Numbers.{number_of};
-ghost use Rattle.rox_dump.specs.Batch.{BeginsWith};
+ghost use Rattle.rox_dump.specs.Batch.{BeginsWith, IsOneLine, IsSplit};
 
 use crate::numbers::number;
 
@@ -16,8 +16,8 @@ pub struct Case<'a> {
 /// The first text of a batch: its length in decimal digits and a line feed stand before it, and a line feed behind it. None
 /// where the input does not begin so.
 pub fn first_case(batch: &[u8]) -> Option<Case<'_>>
-    ensures some { IfSome result (λ case. BeginsWith batch.now case.text.now case.rest.now) }
-    ensures none { IsNone result → (text rest : List ℕ) → BeginsWith batch.now text rest → ⊥ }
+    ensures { MatchOption result ((text rest : List ℕ) → BeginsWith batch.now text rest → ⊥)
+        (λ case. BeginsWith batch.now case.text.now case.rest.now) }
 {
     let (line, behind) = first_line(batch)?;
     let length = line_number(line)?;
@@ -26,9 +26,8 @@ pub fn first_case(batch: &[u8]) -> Option<Case<'_>>
 
 /// What stands before the first line feed, and behind it.
 fn first_line(batch: &[u8]) -> Option<(&[u8], &[u8])>
-    ensures some { IfSome result (λ parts. batch.now ≡ parts.0.now ++ (10 ∷ parts.1.now)) }
-    ensures first { IfSome result (λ parts. All (λ byte. byte ≢ 10) parts.0.now) }
-    ensures none { IsNone result → All (λ byte. byte ≢ 10) batch.now }
+    ensures { MatchOption result (IsOneLine batch.now)
+        (λ parts. IsOneLine parts.0.now × (batch.now ≡ parts.0.now ++ (10 ∷ parts.1.now))) }
 {
     let end = batch.iter().position(|byte| *byte == b'\n')?;
     Some((&batch[..end], &batch[end + 1..]))
@@ -46,10 +45,9 @@ fn line_number(line: &[u8]) -> Option<usize>
 
 /// The first bytes, so many, which a line feed follows.
 fn split_text(bytes: &[u8], count: usize) -> Option<Case<'_>>
-    ensures some { IfSome result (λ case. bytes.now ≡ case.text.now ++ (10 ∷ case.rest.now)) }
-    ensures long { IfSome result (λ case. length case.text.now ≡ count) }
-    ensures none { IsNone result → (text rest : List ℕ) → bytes.now ≡ text ++ (10 ∷ rest)
-        → length text ≢ count }
+    ensures { MatchOption result
+        ((text rest : List ℕ) → IsSplit bytes.now count text rest → ⊥)
+        (λ case. IsSplit bytes.now count case.text.now case.rest.now) }
 {
     if bytes.len() <= count || bytes[count] != b'\n' {
         return None;

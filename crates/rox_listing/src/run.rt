@@ -1,6 +1,6 @@
 //! What the program does, from its input to its status.
 
-ghost use Rattle.std.specs.Prelude.{◌≡◌, ◌<◌, ◌≤◌, List, None, string_bytes, IsNone, IfSome, IsErrOf};
+ghost use Rattle.std.specs.Prelude.{◌≡◌, ◌<◌, ◌≤◌, List, string_bytes, IsNone, IfSome, IsErrOf, MatchOption};
 ghost use Rattle.std.specs.Result.{IsErr};
 ghost use Rattle.rox_path.specs.Steps.{PathStep};
 ghost use Rattle.rox_path.specs.Paths.{IsPath};
@@ -30,8 +30,8 @@ pub fn run<I: Read + Drop, O: Write, E: Write>(
     err: &mut E,
 ) -> u8
     ensures status { result ≤ 2 }
-    ensures none { IsNone input → 0 < result }
-    ensures unopened { IsNone input → command.now.path ≡ None → result ≡ 2 }
+    ensures unopened { IsNone input
+        → MatchOption command.now.path (result ≡ 2) (λ _. 0 < result) }
     ensures bad_path { IfSome command.now.path (λ p. ((steps : List PathStep)
         → IsPath (string_bytes p) 0 steps → ⊥) → 0 < result) }
 {
@@ -52,9 +52,8 @@ fn print<I: Read + Drop, O: Write>(
     input: Option<I>,
     out: &mut O,
 ) -> Result<(), Fault>
-    ensures none { IsNone input → IsErr result }
-    ensures unopened { IsNone input → command.now.path ≡ None
-        → IsErrOf result (Fault.Program ProgramError.CannotRead) }
+    ensures unopened { IsNone input → MatchOption command.now.path
+        (IsErrOf result (Fault.Program ProgramError.CannotRead)) (λ _. IsErr result) }
     ensures bad_path { IfSome command.now.path (λ p. ((steps : List PathStep)
         → IsPath (string_bytes p) 0 steps → ⊥) → IsErr result) }
 {

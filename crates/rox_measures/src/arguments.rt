@@ -1,9 +1,8 @@
 //! Reading of the program's arguments.
 
-ghost use Rattle.std.specs.Prelude.{◌≡◌, ◌↔◌, map, string_bytes, IfOk, IfSome, IsSome};
+ghost use Rattle.std.specs.Prelude.{◌≡◌, map, string_bytes, IfOk};
 ghost use Rattle.std.specs.Option.{option_map};
-ghost use Rattle.std.specs.Str.Parse.{digits_value, without_leading_plus};
-ghost use Rattle.rox_measures.specs.Command.{meaning, AsksFor, with_file, IsSeconds};
+ghost use Rattle.rox_measures.specs.Command.{meaning, AsksFor, with_file, Gives};
 
 use std::alloc::AllocError;
 
@@ -36,8 +35,7 @@ pub fn read(words: &[String]) -> Result<Option<Command>, AllocError>
 
 /// The number of seconds that a word gives.
 fn seconds(word: &str) -> Option<u32>
-    ensures number { IsSome result ↔ IsSeconds word.now }
-    ensures value { IfSome result (λ n. n ≡ digits_value 10 (without_leading_plus word.now)) }
+    ensures { Gives word.now result }
 {
     word.parse().ok()
 }

@@ -1,6 +1,7 @@
 //! What is told of a list of times: the best, the median, and rates.
 
-ghost use Rattle.std.specs.Prelude.{◌≡◌, ◌≤◌, ◌*◌, ◌/◌, ◌↔◌, [], length, max, slice_index, All, Contains, IsNone, IfSome};
+ghost use Rattle.std.specs.Prelude.{◌≡◌, ◌≤◌, ◌*◌, ◌/◌, ◌↔◌, [], length, max, All, Contains, IsNone, IfSome, MatchOption, Some};
+ghost use Rattle.std.specs.List.{slice_get};
 ghost use Rattle.std.specs.List.Sorted.{IsSorted, IsPermutation};
 ghost use Rattle.std.specs.Ordering.{nat_cmp};
 
@@ -19,8 +20,8 @@ pub fn best(times: &[u64]) -> Option<u64>
 pub fn median(times: &mut [u64]) -> Option<u64>
     ensures permutation { IsPermutation times.old times.new }
     ensures sorted { IsSorted nat_cmp times.new }
-    ensures none { IsNone result ↔ (times.new ≡ []) }
-    ensures middle { IfSome result (λ t. t ≡ slice_index times.new (length times.new / 2)) }
+    ensures middle { MatchOption result (times.new ≡ [])
+        (λ t. slice_get times.new (length times.new / 2) ≡ Some t) }
 {
     times.sort_unstable();
     if times.is_empty() {

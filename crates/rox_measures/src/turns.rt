@@ -54,8 +54,7 @@ pub fn measure<R: CpuClock, W: Work>(
 
 /// How often a work that takes so many nanoseconds is repeated in a turn.
 fn repeats_for(time: u64) -> u32
-    ensures often { result ≡ max 1 (min (TURN / max time 1) MOST_REPEATS) }
-    ensures once { 1 ≤ result }
+    ensures { result ≡ max 1 (min (TURN / max time 1) MOST_REPEATS) }
 {
     (TURN / time.max(1)).clamp(1, MOST_REPEATS) as u32
 }

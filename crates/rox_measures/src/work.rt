@@ -1,6 +1,6 @@
 //! What is measured.
 
-ghost use Rattle.std.specs.Prelude.{◌≡◌, ◌≢◌, ◌*◌, ◌%◌, ◌^◌, IfOk, IfErr};
+ghost use Rattle.std.specs.Prelude.{◌≡◌, ◌≢◌, ◌*◌, ◌%◌, ◌^◌, MatchResult};
 
 use crate::clock;
 use crate::fault::Fault;
@@ -92,9 +92,8 @@ impl Work for WalkLinks<'_> {
 
 /// The time of a turn, where all its walks together came to so many times what one comes to. Sums wrap.
 fn confirmed(time: u64, sum: u64, one: u64, repeats: u32) -> Result<u64, Fault>
-    ensures ok { IfOk result (λ t. (t ≡ time) × (sum ≡ one * repeats % 2 ^ 64)) }
-    ensures err { IfErr result (λ fault. (fault ≡ Fault.UnequalWalks)
-        × (sum ≢ one * repeats % 2 ^ 64)) }
+    ensures { MatchResult result (λ t. (t ≡ time) × (sum ≡ one * repeats % 2 ^ 64))
+        (λ fault. (fault ≡ Fault.UnequalWalks) × (sum ≢ one * repeats % 2 ^ 64)) }
 {
     if sum == one.wrapping_mul(repeats as u64) {
         Ok(time)

@@ -103,6 +103,15 @@ stands_before : (text : List ℕ) (i b : ℕ) → byte text i ≡ b → 0 < b �
 stands_before text i b is some =
     ⊎_elim (λ l. l) (λ past. absurd (omega (arith, get_or_past text i 0 past))) (cases_lt i (length text))
 
+-- what a test of a byte says
+pub stands : (text : List ℕ) (i b : ℕ) → true ≡ (byte text i == b) → 0 < b → (i < length text) × (byte text i ≡ b)
+stands text i b is some =
+    let here : byte text i ≡ b = grind arith in
+    (stands_before text i b here some, here)
+
+pub stands_not : (text : List ℕ) (i b : ℕ) → false ≡ (byte text i == b) → byte text i ≢ b
+stands_not text i b is here = grind arith
+
 step_onward : (text : List ℕ) (i j : ℕ) (s : PathStep) → IsStep text i j s → i < j
 step_onward text i j s (one_slash a x n) = omega (arith, name_onward text (i + 1) j a n)
 step_onward text i j s (two_slashes a x z n) = omega (arith, name_onward text (i + 2) j a n)

@@ -1,6 +1,6 @@
 //! Paths as they are written: `//item/{urn:x}name`.
 
-ghost use Rattle.std.specs.Prelude.{◌≡◌, ◌≢◌, ℕ, ◌+◌, ◌<◌, ◌≤◌, true, false, List, map, IfOk, IfErr, Err, Some, length};
+ghost use Rattle.std.specs.Prelude.{◌≡◌, ◌≢◌, ℕ, ◌≤◌, ◌==◌, List, map, IfOk, Err, Some, MatchResult, length};
 ghost use Rattle.std.specs.Str.{IsCharBoundary};
 ghost use Rattle.rox_grammar.specs.Names.{byte};
 ghost use Rattle.roxmltree.specs.ExpandedNames.{expanded};
@@ -76,8 +76,8 @@ pub fn parse_path<'q>(alloc: Global, text: &'q str) -> Result<Vec<Step<'q>>, Pat
 /// The step that begins at this place, and where it ends.
 fn step_at<'q>(text: &'q str, at: usize) -> Result<(Step<'q>, usize), PathError>
     requires { IsCharBoundary text.now at }
-    ensures ok { IfOk result (λ r. ReadsStep text.now at r.1 (step_of r.0)) }
-    ensures bad { IfErr result (ToldAt (IsBadStep text.now at)) }
+    ensures { MatchResult result (λ r. ReadsStep text.now at r.1 (step_of r.0))
+        (ToldAt (IsBadStep text.now at)) }
 {
     if !is_at(text, at, b'/') {
         return Err(PathError::BadPath(at));
@@ -94,8 +94,8 @@ fn step_at<'q>(text: &'q str, at: usize) -> Result<(Step<'q>, usize), PathError>
 /// The name that begins at this place, and where it ends.
 fn name_at<'q>(text: &'q str, at: usize) -> Result<(ExpandedName<'q, 'q>, usize), PathError>
     requires { IsCharBoundary text.now at }
-    ensures ok { IfOk result (λ r. ReadsName text.now at r.1 (expanded r.0)) }
-    ensures bad { IfErr result (ToldAt (IsBadName text.now at)) }
+    ensures { MatchResult result (λ r. ReadsName text.now at r.1 (expanded r.0))
+        (ToldAt (IsBadName text.now at)) }
 {
     if !is_at(text, at, b'{') {
         let (local, end) = local_at(text, at)?;
@@ -113,8 +113,8 @@ fn name_at<'q>(text: &'q str, at: usize) -> Result<(ExpandedName<'q, 'q>, usize)
 #[tactic(auto, unfolding(rox_grammar::specs::Search::byte_from))]
 fn local_at(text: &str, at: usize) -> Result<(&str, usize), PathError>
     requires { IsCharBoundary text.now at }
-    ensures ok { IfOk result (λ r. ReadsLocal text.now at r.1 r.0.now) }
-    ensures bad { IfErr result (ToldAt (λ k. (k ≡ at) × (local_end text.now at ≡ at))) }
+    ensures { MatchResult result (λ r. ReadsLocal text.now at r.1 r.0.now)
+        (ToldAt (λ k. (k ≡ at) × (local_end text.now at ≡ at))) }
 {
     let rest = text.as_bytes().split_at(at).1;
     let end = at + memchr3(b'/', b'{', b'}', rest).unwrap_or(rest.len());
@@ -137,8 +137,7 @@ fn uri_end(text: &str, at: usize) -> usize
 /// Whether this byte stands at this place.
 fn is_at(text: &str, at: usize, wanted: u8) -> bool
     requires { wanted ≢ 0 }
-    ensures yes { result ≡ true → (at < length text.now) × (byte text.now at ≡ wanted) }
-    ensures no { result ≡ false → byte text.now at ≢ wanted }
+    ensures { result ≡ (byte text.now at == wanted) }
 {
     text.as_bytes().get(at) == Some(&wanted)
 }

@@ -1,6 +1,6 @@
 //! Reading of the input.
 
-ghost use Rattle.std.specs.Prelude.{◌≡◌, IfOk, IfSome, IsNone, IsErrOf, MatchResult, IsUtf8};
+ghost use Rattle.std.specs.Prelude.{◌≡◌, IfOk, IfSome, IsErrOf, MatchOption, MatchResult, IsUtf8};
 
 use crate::program_error::ProgramError;
 use std::alloc::Global;
@@ -8,8 +8,7 @@ use std::io::{ErrorKind, Read};
 
 /// The bytes of the input, to its end. None is an input that could not be opened.
 pub fn read_all<I: Read + Drop>(alloc: Global, input: Option<I>) -> Result<Vec<u8>, ProgramError>
-    ensures none { IsNone input → IsErrOf result ProgramError.CannotRead }
-    ensures bytes { IfSome input
+    ensures { MatchOption input (IsErrOf result ProgramError.CannotRead)
         (λ reader. IfOk result
         (λ bytes. IfSome (I.remaining reader) (λ left. bytes.items ≡ left))) }
 {

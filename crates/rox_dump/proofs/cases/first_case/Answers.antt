@@ -1,17 +1,16 @@
-use Rattle.std.proofs.Common.{rules}
-use Rattle.std.specs.List.{All}
-use Rattle.rox_dump.proofs.Lines.{IsNoLineFeed, no_line_no_text, no_number_no_text, short_no_text}
+use Rattle.std.proofs.Common.{◌≡◌, None, rules}
+use Rattle.rox_dump.proofs.Lines.{no_line_no_text, no_number_no_text, split_begins}
 use Rattle.rox_dump.proofs.cases.first_case.Goals as goal
 
-pub returns-in_err-line-clause-none : goal.returns-in_err-line-clause-none
-returns-in_err-line-clause-none c nothing text rest begins =
-    let whole : All IsNoLineFeed c.args.batch.now = c.first_line.ensures.none (search rules) in
-    no_line_no_text c.args.batch.now text rest whole begins
+pub returns-in_err-line : goal.returns-in_err-line
+returns-in_err-line c =
+    let none : c.from_residual.result ≡ None = search rules in
+    rw none (λ text rest begins. no_line_no_text c.args.batch.now text rest c.in_err-line.ensures begins)
 
-pub returns-in_err-length-clause-none : goal.returns-in_err-length-clause-none
-returns-in_err-length-clause-none c nothing text rest begins =
-    no_number_no_text c.args.batch.now c.in_ok-line.line.now c.in_ok-line.behind.now text rest c.in_ok-line.ensures.some c.in_ok-line.ensures.first (search rules) begins
+pub returns-in_err-length : goal.returns-in_err-length
+returns-in_err-length c =
+    let none : c.from_residual-in_err-length.result ≡ None = search rules in
+    rw none (λ text rest begins. no_number_no_text c.args.batch.now c.in_ok-line.line.now c.in_ok-line.behind.now text rest c.in_ok-line.ensures.1 c.in_ok-line.ensures.0 (search rules) begins)
 
-pub returns-clause-none : goal.returns-clause-none
-returns-clause-none c nothing text rest begins =
-    short_no_text c.args.batch.now c.in_ok-line.line.now c.in_ok-line.behind.now text rest c.in_ok-length.length c.in_ok-line.ensures.some c.in_ok-line.ensures.first (search rules) (c.split_text.ensures.none nothing) begins
+pub returns : goal.returns
+returns c = split_begins c.args.batch.now c.in_ok-line.line.now c.in_ok-line.behind.now c.in_ok-length.length c.split_text.result c.in_ok-line.ensures.1 c.in_ok-line.ensures.0 (search rules) c.split_text.ensures

@@ -5,9 +5,9 @@ use Rattle.rox_grammar.specs.Search.{byte_from}
 use Rattle.rox_path.proofs.PathLemmas.{first_byte_found}
 use Rattle.rox_path.proofs.parse.local_at.Goals as goal
 
-pub returns-clause-ok : goal.returns-clause-ok
+pub returns : goal.returns
 unfolding byte_from
-returns-clause-ok c =
+returns c =
     let found = first_byte_found (is_byte3 47 123 125) c.split_at.result.1.now c.memchr3.result c.memchr3.ensures in
     let rest = c.split_at.ensures.back ∙ ap (drop c.args.at) c.as_bytes.ensures.value in
     let count = ap (position_or_len (is_byte3 47 123 125)) rest in
