@@ -47,7 +47,7 @@ use Rattle.rox_tables.specs.declared.namespaces.bindings.PrefixBindings.{PrefixB
 use Rattle.rox_tables.specs.declared.namespaces.unresolved_attribute.UnresolvedAttribute.{UnresolvedAttribute}
 use Rattle.rox_tables.proofs.Stable.{all_append}
 use Rattle.rox_build.specs.PlainParts.{IsLocalPart}
-use Rattle.rox_build.specs.PlainTag.{EndsVerbatim, HasPlainValue, HasScope, few_in, IsValueStart, IsPlainAttribute, AddsPlain, PlainSoFar, ArePlainAttributes, EndsNear, holding}
+use Rattle.rox_build.specs.PlainTag.{EndsVerbatim, HasPlainValue, HasScope, IsQuoteBehindEquals, few_in, IsValueStart, IsPlainAttribute, AddsPlain, PlainSoFar, ArePlainAttributes, EndsNear, holding}
 use Rattle.std.specs.Str.{IsUtf8, IsCharBoundary}
 use Rattle.std.proofs.lemmas.Bool.Decides.{nat_tests}
 use Rattle.std.proofs.lemmas.Str.{IsCharBoundary-after_ascii}
@@ -386,6 +386,36 @@ ascii_begins src i e utf8 near above end = elim (cases_eq e i) [
   | inl none ↦ let at = ap (slice_index src) none in absurd (omega (arith, at, above, end))
   | inr some ↦ part_begins src i utf8 (omega (arith, near.onward, near.within, some)) (near.passes i (omega arith) (omega (arith, near.onward, some))) above
 ]
+
+-- each byte of a part of a name stands for itself in a value, which is held against the definitions by computing
+part_is_plain : (b : ℕ) → b < 128 → (not (is_part_byte b) || is_value_byte b) ≡ true
+unfolding agree_below is_part_byte is_part_char is_name_char is_name_start is_value_byte
+part_is_plain b lt = agree_at (λ b. not (is_part_byte b) || is_value_byte b) (λ b. true) 128 refl b lt
+
+plain_by : (b : ℕ) → (not (is_part_byte b) || is_value_byte b) ≡ true → is_part_byte b ≡ true → is_value_byte b ≡ true
+plain_by b agreed h = grind (arith, nat_tests)
+
+no_quote_is_plain : (q : ℕ) → (q == 39 || q == 34) ≡ true → is_value_byte q ≡ false
+unfolding is_value_byte
+no_quote_is_plain q h = grind (arith, nat_tests)
+
+equals_is_plain : is_value_byte 61 ≡ true
+unfolding is_value_byte
+equals_is_plain = refl
+
+-- so the first that does not is the quote behind the name and its `=`
+pub quote_first : (src : List ℕ) (i j q : ℕ) → EndsSet is_part_byte src i j → IsQuoteBehindEquals src j q → EndsSet is_value_byte src i (j + 1)
+quote_first src i j q name behind =
+    let onward = name.onward in
+    record {
+      onward = omega (arith, onward);
+      within = omega (arith, behind.within);
+      passes = λ k low high. elim (cases_lt k j) [
+        | inl inside ↦ let part = name.passes k low inside in plain_by _ (part_is_plain _ (part_is_ascii _ part)) part
+        | inr last ↦ let same : k ≡ j = omega arith in ap is_value_byte (ap (slice_index src) same ∙ behind.equals) ∙ equals_is_plain
+      ];
+      stops = λ more. ap is_value_byte behind.here ∙ no_quote_is_plain q behind.quote;
+    }
 
 -- the attributes of the tag so far are in their namespaces
 pub done_within : (ns : List Namespace) (few : Option (List ℕ)) (present : PrefixBindings) (src : List ℕ) (start from : ℕ) (old : List AttributeRow) (i : ℕ) (now : List AttributeRow)

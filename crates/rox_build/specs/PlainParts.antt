@@ -10,7 +10,7 @@ use Rattle.rox_grammar.specs.Written.{Name, NamespaceDecl}
 use Rattle.rox_reading.specs.Lexical.{qname_at}
 use Rattle.rox_scan.specs.ByteSets.{EndsSet, is_part_byte}
 use Rattle.rox_scan.specs.ScanResults.{Finds}
-use Rattle.rox_scan.specs.Windows.{Sees}
+use Rattle.rox_scan.specs.Windows.{SeesQuote}
 use Rattle.rox_scan.specs.declared.window.Window.{Window}
 use Rattle.rox_tables.specs.Bindings.{FindsBinding}
 use Rattle.rox_tables.specs.Rows.{NamespaceWithin, attribute_uri, namespace_view}
@@ -64,8 +64,7 @@ pub record IsWholeName (src : List ℕ) (i j : ℕ) (n : PlainName) : Type 0 whe
 
 -- a value may begin so many bytes behind those that are seen
 pub record SeesStart (src : List ℕ) (w : Window) (before q : ℕ) : Type 0 where
-  pub sees : Sees src w
-  pub few : before ≤ 16
+  pub seen : SeesQuote src w before
   pub begins : BeginsValue src (w.at + before) q
 
 -- a value may begin at i, behind this quote, of whose bytes up to j, before the end, each stands for itself

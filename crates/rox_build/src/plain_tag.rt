@@ -500,11 +500,11 @@ fn seen_value<'input>(
         (λ v. HasPlainValue text.entry.now (window.at + before) quote v.end v.text.now) }
 {
     let start = window.at + before;
-    let Some(count) = window.value_count(before) else {
+    let Some(count) = window.value_end() else {
         let near = skip_set::<ValueByte>(text, window.at + WIDTH);
         return plain_value(text, start, quote, near);
     };
-    let near = start + count;
+    let near = window.at + count;
     if !closes_value(text, start, quote, near) {
         return plain_value(text, start, quote, near);
     }

@@ -59,7 +59,7 @@ pub counted_none : (q : ℕ → Bool) (src : List ℕ) (i n : ℕ) → i + n ≤
 counted_none q src i n room none = sym (leading_from_mask_l q (chunk i n src) none ∙ length-chunk i n src room)
 
 -- where one is set, what stands before the lowest
-pub counted_some : (q : ℕ → Bool) (src : List ℕ) (i n : ℕ) → i + n ≤ length src → n ≤ 64 → 0 < mask_l (map q (chunk i n src))
+counted_some : (q : ℕ → Bool) (src : List ℕ) (i n : ℕ) → i + n ≤ length src → n ≤ 64 → 0 < mask_l (map q (chunk i n src))
     → count_trailing_zeros 64 (mask_l (map q (chunk i n src))) ≡ prefix_len (λ b. not (q b)) (chunk i n src)
 counted_some q src i n room few some = trailing_mask_l q 64 (chunk i n src) (omega (arith, length-chunk i n src room)) some
 
@@ -68,7 +68,7 @@ first true n m l some f = omega arith
 first false n m l some f = omega (arith, f (omega arith))
 
 -- which are fewer than the block has
-pub some_left : (q : ℕ → Bool) (xs : List ℕ) → 0 < mask_l (map q xs) → prefix_len (λ b. not (q b)) xs < length xs
+some_left : (q : ℕ → Bool) (xs : List ℕ) → 0 < mask_l (map q xs) → prefix_len (λ b. not (q b)) xs < length xs
 some_left q [] some = absurd (omega arith)
 some_left q (x ∷ xs) some = first (q x) (mask_l (map q xs)) (prefix_len (λ b. not (q b)) xs) (length xs) some (some_left q xs)
 
@@ -79,7 +79,7 @@ block_passes p src i n r room counted k low high = not-false _ (run_in_chunk_fai
 pub passes_on : (p : ℕ → Bool) (src : List ℕ) (i e j : ℕ) → AllPass p src i e → AllPass p src e j → AllPass p src i j
 passes_on p src i e j before behind k low high = elim (cases_lt k e) [ inl less ↦ before k low less | inr more ↦ behind k more high ]
 
-pub block_stops : (p : ℕ → Bool) (src : List ℕ) (i n r : ℕ) → i + n ≤ length src → r ≡ prefix_len (λ b. not (not (p b))) (chunk i n src) → r < n → p (get_or src (i + r) 0) ≡ false
+block_stops : (p : ℕ → Bool) (src : List ℕ) (i n r : ℕ) → i + n ≤ length src → r ≡ prefix_len (λ b. not (not (p b))) (chunk i n src) → r < n → p (get_or src (i + r) 0) ≡ false
 block_stops p src i n r room counted short = not-true _ (run_in_chunk_stops (λ b. not (p b)) src i n r 0 room counted short)
 
 -- where no bit is set all sixteen pass

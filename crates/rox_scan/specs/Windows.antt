@@ -1,7 +1,7 @@
 -- Bytes that were seen at once, through a mask that has a bit for each that is not in a set.
-use Rattle.std.specs.Prelude.{◌≡◌, ◌≤◌, ◌+◌, ℕ, Bool, List, not, map, take, drop, length}
+use Rattle.std.specs.Prelude.{◌≡◌, ◌≤◌, ◌<◌, ◌+◌, ◌-◌, ℕ, Bool, List, not, map, take, drop, length}
 use Rattle.std.specs.Simd.Lanes.{mask_l}
-use Rattle.rox_scan.specs.ByteSets.{is_part_byte, is_value_byte}
+use Rattle.rox_scan.specs.ByteSets.{EndsSet, is_part_byte, is_value_byte}
 use Rattle.rox_scan.specs.declared.window.Window.{Window}
 
 -- the sixteen from i on
@@ -18,3 +18,10 @@ pub record Sees (src : List ℕ) (w : Window) : Type 0 where
 pub record SeesFrom (src : List ℕ) (at : ℕ) (w : Window) : Type 0 where
   pub sees : Sees src w
   pub place : w.at ≡ at
+
+-- a value begins so many bytes behind the first, right behind the first that does not stand for itself
+pub record SeesQuote (src : List ℕ) (w : Window) (before : ℕ) : Type 0 where
+  pub sees : Sees src w
+  pub some : 0 < before
+  pub few : before ≤ 16
+  pub opens : EndsSet is_value_byte src w.at (w.at + (before - 1))

@@ -2,7 +2,7 @@
 
 ghost use Rattle.std.specs.Prelude.{◌≤◌, ◌+◌, ◌<◌, ℕ, List, MatchOption, length};
 ghost use Rattle.rox_scan.specs.ByteSets.{AllPass, EndsSet, is_part_byte, is_value_byte};
-ghost use Rattle.rox_scan.specs.Windows.{Sees, SeesFrom};
+ghost use Rattle.rox_scan.specs.Windows.{Sees, SeesFrom, SeesQuote};
 
 use crate::byte_set::{ByteSet, PartByte, ValueByte, before_first};
 use std::simd::prelude::*;
@@ -43,16 +43,15 @@ impl Window {
         before_first(self.parts)
     }
 
-    /// How many bytes of a value that begins behind so many stand for themselves, if one of those that are seen does not.
+    /// How many bytes come before the second that does not stand for itself, if it is seen: where the first is the quote that opens a
+    /// value, this ends it. The name before it need not be counted first.
     #[inline(always)]
-    pub fn value_count(&self, before: usize) -> Option<usize>
-        requires { before ≤ 16 }
-        ensures { (src : List ℕ) → Sees src self.now → MatchOption result
+    pub fn value_end(&self) -> Option<usize>
+        ensures { (src : List ℕ) (before : ℕ) → SeesQuote src self.now before → MatchOption result
             (AllPass is_value_byte src (self.now.at + before) (self.now.at + 16))
-            (λ n. EndsSet is_value_byte src (self.now.at + before) (self.now.at + before + n)
-            × (before + n < 16)) }
+            (λ n. EndsSet is_value_byte src (self.now.at + before) (self.now.at + n) × (n < 16)) }
     {
-        let rest = self.values >> before;
+        let rest = self.values & self.values.wrapping_sub(1);
         if rest == 0 {
             return None;
         }

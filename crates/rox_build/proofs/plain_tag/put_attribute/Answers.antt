@@ -1,8 +1,8 @@
-use Rattle.std.proofs.Common.{◌+◌, subst, arith}
+use Rattle.std.proofs.Common.{◌+◌, ◌≤◌, subst, arith}
 use Rattle.std.specs.Str.{IsCharBoundary}
-use Rattle.rox_scan.specs.ByteSets.{EndsSet, is_part_byte}
+use Rattle.rox_scan.specs.ByteSets.{EndsSet, is_part_byte, is_value_byte}
 use Rattle.rox_scan.proofs.NearLemmas.{part_cut, part_stops}
-use Rattle.rox_build.proofs.PlainTags.{behind_quote, ascii_begins}
+use Rattle.rox_build.proofs.PlainTags.{behind_quote, ascii_begins, quote_first}
 use Rattle.rox_build.proofs.plain_tag.put_attribute.Goals as goal
 
 pub whole_name-name-requires : goal.whole_name-name-requires
@@ -30,11 +30,20 @@ pub seen_value-requires : goal.seen_value-requires
 seen_value-requires c =
     let src = c.args.text.now in
     let n = c.args.start + c.part_count-count.result in
-    let place = c.new-window.ensures.place in
+    let window = c.new-window.ensures in
+    let place = window.place in
+    let few : c.part_count-count.result + 2 ≤ 16 = omega (arith, c.if-count-gt-MOST_NAME.false) in
+    let near = c.part_count-count.ensures src window.sees (omega (arith, few)) in
+    let name : EndsSet is_part_byte src c.args.start n = rw place at near in
     let seen = c.seen_quote-quote.ensures (omega arith) in
+    let first = quote_first src c.args.start n c.seen_quote-quote.result name seen in
     record {
-      sees = c.new-window.ensures.sees;
-      few = omega (arith, c.if-count-gt-MOST_NAME.false);
+      seen = record {
+        sees = window.sees;
+        some = omega arith;
+        few = few;
+        opens = rw place (subst (EndsSet is_value_byte src c.args.start) (omega arith) first);
+      };
       begins = record {
         cut = subst (IsCharBoundary src) (omega (arith, place)) (behind_quote src n c.seen_quote-quote.result c.utf8.text seen.within seen.here seen.quote);
         quote = seen.quote;
