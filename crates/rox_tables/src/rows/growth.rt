@@ -1,6 +1,6 @@
 //! Growth of tables.
 
-ghost use Rattle.std.specs.Prelude.{◌<◌, ◌^◌, is_ok, IfOk};
+ghost use Rattle.std.specs.Prelude.{is_ok, IfOk};
 ghost use Rattle.rox_tables.specs.Growth as growth;
 ghost use Rattle.rox_tables.specs.Puts.{Pushes};
 
