@@ -17,11 +17,11 @@ ghost use Rattle.rox_build.specs.Readiness.{MayRead, MayReadDeclared, MayReadOpe
 use crate::builder::Builder;
 use crate::open_names::{NameBytes, bytes_of, open_name};
 use crate::root_tag::any_start_tag;
-use crate::same_front::same_stretch;
 use crate::tag::TagContext;
 use rox_grammar::failure::Failure;
 use rox_grammar::fault::{Fault, Span, Word};
 use rox_scan::cursor::Cursor;
+use rox_tables::compare::same_stretch;
 use rox_tables::rows::storage::StringStorage;
 use rox_tables::rows::tables::{NodeKind, PI};
 use rox_values::context::Context;

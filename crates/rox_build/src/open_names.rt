@@ -6,9 +6,9 @@ ghost use Rattle.rox_build.specs.BuilderState.{HasName, MayHavePrefix, open_name
 ghost use Rattle.rox_build.specs.SpelledNames.{bytes_view};
 
 use crate::builder::OpenElement;
-use crate::same_front::same_stretch;
 use rox_grammar::name::QName;
 use rox_scan::search::before_byte;
+use rox_tables::compare::same_stretch;
 
 /// A name, in bytes.
 #[derive(Clone, Copy)]

@@ -1,9 +1,9 @@
-//! Bytes that are compared: sixteen at a time, or in line.
+//! Bytes that are compared sixteen at a time.
 
-ghost use Rattle.std.specs.Prelude.{◌≡◌, ◌<◌, ℕ, slice_index, bytes_eq};
+ghost use Rattle.std.specs.Prelude.{◌≡◌, ◌<◌, ℕ, slice_index};
 ghost use Rattle.rox_build.specs.SameFronts.{HaveSixteen, IsSameFront};
 
-use rox_tables::compare::{LONG, Pair, same_short};
+use rox_tables::compare::same_long;
 use std::simd::prelude::*;
 
 /// How many of the first sixteen bytes come before one that differs, or more where none does.
@@ -18,14 +18,6 @@ fn same_count(one: &[u8], other: &[u8]) -> usize
     differ.trailing_zeros() as usize
 }
 
-/// Whether two stretches of bytes are the same, where they are long.
-#[inline(never)]
-fn same_long(one: &[u8], other: &[u8]) -> bool
-    ensures { result ≡ bytes_eq one.now other.now }
-{
-    one == other
-}
-
 /// Whether both have so many bytes, and these are the same.
 #[inline(always)]
 pub fn same_front(one: &[u8], other: &[u8], count: usize) -> bool
@@ -38,18 +30,4 @@ pub fn same_front(one: &[u8], other: &[u8], count: usize) -> bool
         return false;
     }
     same_long(&one[..count], &other[..count])
-}
-
-/// Whether two stretches of bytes are the same: `one == other`, but in line for short ones, which names are.
-#[inline(always)]
-pub fn same_stretch(one: &[u8], other: &[u8]) -> bool
-    ensures { result ≡ bytes_eq one.now other.now }
-{
-    if one.len() != other.len() {
-        return false;
-    }
-    if one.len() >= LONG {
-        return same_long(one, other);
-    }
-    same_short(Pair { one, other })
 }

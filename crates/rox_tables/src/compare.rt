@@ -94,27 +94,32 @@ pub fn same_short(pair: Pair<'_, '_>) -> bool
     same_bytes(pair)
 }
 
-/// Whether two long texts are the same. It is kept out of line, so that the short ones stay in registers.
+/// Whether two stretches of bytes are the same, where they are long. It is kept out of line, so that the short ones stay in registers.
 #[inline(never)]
-fn same_long_text(one: &str, other: &str) -> bool
+pub fn same_long(one: &[u8], other: &[u8]) -> bool
     ensures { result ≡ bytes_eq one.now other.now }
 {
     one == other
 }
 
-/// Whether two texts are the same: `one == other`, but in line for short texts, which names are.
+/// Whether two stretches of bytes are the same: `one == other`, but in line for short ones, which names are.
 #[inline(always)]
-pub fn same_text(one: &str, other: &str) -> bool
+pub fn same_stretch(one: &[u8], other: &[u8]) -> bool
     ensures { result ≡ bytes_eq one.now other.now }
 {
     if one.len() != other.len() {
         return false;
     }
     if one.len() >= LONG {
-        return same_long_text(one, other);
+        return same_long(one, other);
     }
-    same_short(Pair {
-        one: one.as_bytes(),
-        other: other.as_bytes(),
-    })
+    same_short(Pair { one, other })
+}
+
+/// The same of two texts.
+#[inline(always)]
+pub fn same_text(one: &str, other: &str) -> bool
+    ensures { result ≡ bytes_eq one.now other.now }
+{
+    same_stretch(one.as_bytes(), other.as_bytes())
 }
