@@ -7,7 +7,7 @@ use Rattle.rox_grammar.specs.Forest.{Forest}
 use Rattle.rox_grammar.specs.Written.{Item, NamespaceDecl}
 use Rattle.rox_grammar.specs.State.{Open}
 use Rattle.rox_grammar.specs.Tree.{element_namespace}
-use Rattle.rox_tables.specs.Rows.{row_view, namespace_view, namespace_at, scope_at, NamespaceWithin, OptionWithin, KindWithin, AttributeRow, attribute_rows}
+use Rattle.rox_tables.specs.Rows.{row_view, namespace_view, namespace_at, scope_at, NamespaceWithin, OptionWithin, KindWithin, numbered_place, AttributeRow, attribute_rows}
 use Rattle.rox_tables.specs.Scopes.{PrefixesOnce}
 use Rattle.rox_tables.specs.TagScopes.{lists_in}
 use Rattle.rox_build.specs.BuilderState.{opened, opened_in, names_in, line_in, IsRowWithin, IsOpenWithin, HasName, IsNamespaceOf, AreSound, HasEmpty, Represents, Grown, open_name}
@@ -38,7 +38,7 @@ grown_counts old new g =
     let v = lists_count old in let w = lists_count new in
     (omega arith, omega arith, omega arith)
 
-option_more : (n m : ℕ) (o : Option ℕ) → n ≤ m → OptionWithin n o → OptionWithin m o
+pub option_more : (n m : ℕ) (o : Option ℕ) → n ≤ m → OptionWithin n o → OptionWithin m o
 option_more n m None le within = tt
 option_more n m (Some i) le within = omega arith
 
@@ -56,15 +56,15 @@ grown_elements old new os g h =
     let k = grown_counts old new g in
     all_weaker (IsOpenWithin old) (IsOpenWithin new) os (λ o x. one o x.0 x.1 x.2 x.3 k.1 k.2) h
   where
-    one : (o : OpenElement) → o.scope < length old.scopes.items → PrefixesOnce (scope_at (lists_in old) o.scope) → HasName o → IsNamespaceOf old o.scope (open_name o) o.namespace → length old.namespaces.items.items ≤ length new.namespaces.items.items
+    one : (o : OpenElement) → o.scope < length old.scopes.items → PrefixesOnce (scope_at (lists_in old) o.scope) → HasName o → IsNamespaceOf old o.scope (open_name o) (numbered_place o.namespace) → length old.namespaces.items.items ≤ length new.namespaces.items.items
         → length old.scopes.items ≤ length new.scopes.items → IsOpenWithin new o
     one o a once named in_namespace more b =
         let n = lists_count old in
         let within : o.scope < length (lists_in old) = omega arith in
         let same : scope_at (lists_in new) o.scope ≡ scope_at (lists_in old) o.scope = ap (λ ls. scope_at ls o.scope) g.lists ∙ scope_at-append (lists_in old) g.more_lists o.scope within in
-        let spaces : IsNamespaceOf new o.scope (open_name o) o.namespace = record {
-          within = option_more (length old.namespaces.items.items) (length new.namespaces.items.items) o.namespace more in_namespace.within;
-          is = uri_kept old new o.namespace g in_namespace.within ∙ in_namespace.is ∙ ap (λ (l : List NamespaceDecl). element_namespace l (open_name o)) (sym same);
+        let spaces : IsNamespaceOf new o.scope (open_name o) (numbered_place o.namespace) = record {
+          within = option_more (length old.namespaces.items.items) (length new.namespaces.items.items) (numbered_place o.namespace) more in_namespace.within;
+          is = uri_kept old new (numbered_place o.namespace) g in_namespace.within ∙ in_namespace.is ∙ ap (λ (l : List NamespaceDecl). element_namespace l (open_name o)) (sym same);
         } in
         (omega arith, subst PrefixesOnce (sym same) once, named, spaces)
 

@@ -21,7 +21,7 @@ use Rattle.rox_values.specs.declared.parse_error.ParseError.{ParseError}
 use Rattle.rox_values.proofs.PartLemmas.{refuses_by}
 use Rattle.rox_scan.specs.declared.cursor.Cursor.{Cursor}
 use Rattle.rox_grammar.specs.declared.failure.Failure.{Failure}
-use Rattle.rox_tables.specs.Rows.{node, namespace_view, attribute, scope_at, NamespaceWithin, AttributeRow, attribute_rows}
+use Rattle.rox_tables.specs.Rows.{node, numbered_place, namespace_view, attribute, scope_at, NamespaceWithin, AttributeRow, attribute_rows}
 use Rattle.rox_tables.specs.Scopes.{PrefixesOnce}
 use Rattle.rox_tables.specs.TagScopes.{lists_in}
 use Rattle.rox_build.specs.ElementRow.{Tagged}
@@ -137,7 +137,7 @@ fine_opened t os qs x f is within =
     record { sound = f.sound; elements = rw is (all_append (IsOpenWithin t) os (x ∷ []) f.elements (within, tt)); empty = f.empty; kept = f.kept; few_names = f.few_names; few_attributes = f.few_attributes }
 
 -- the namespace of the element that a tag opens
-pub namespace_by : (old new : ElementTables) (t : StartTag) (above : List NamespaceDecl) (tag : Tag) → Tagged old new t above tag → IsNamespaceOf new t.element.scope (name_view t.name) t.element.namespace
+pub namespace_by : (old new : ElementTables) (t : StartTag) (above : List NamespaceDecl) (tag : Tag) → Tagged old new t above tag → IsNamespaceOf new t.element.scope (name_view t.name) (numbered_place t.element.namespace)
 namespace_by old new t above tag h = record {
   within = h.element.namespace_within;
   is = h.element.namespace ∙ ap (element_namespace (listed above tag.declarations)) (sym h.name) ∙ ap (λ (l : List NamespaceDecl). element_namespace l (name_view t.name)) (sym h.element.lists);
@@ -218,10 +218,10 @@ fine_kept r t os u f tables opens = always r (IsConsistent u.tables u.opened.ite
 
 pub fine_more : (r : Result (Unit {0}) Failure) (t : ElementTables) (os : List OpenElement) (u : Builder) (src : List ℕ) (tag : StartTag) → IsConsistent t os → u.tables ≡ t
     → OnOk r ((x : OpenElement) × (u.opened.items ≡ os ++ x ∷ []) × IsOpened src tag x)
-    → tag.element.scope < length t.scopes.items → PrefixesOnce (scope_at (lists_in t) tag.element.scope) → IsNamespaceOf t tag.element.scope (name_view tag.name) tag.element.namespace
+    → tag.element.scope < length t.scopes.items → PrefixesOnce (scope_at (lists_in t) tag.element.scope) → IsNamespaceOf t tag.element.scope (name_view tag.name) (numbered_place tag.element.namespace)
     → ((x : OpenElement) → IsOpened src tag x → HasName x) → OnOk r (IsConsistent u.tables u.opened.items)
 fine_more (Ok x) t os u src tag f tables (o, is, by) within once space named =
     let w = subst (λ (s : ℕ). (s < length t.scopes.items) × PrefixesOnce (scope_at (lists_in t) s)) (sym by.scope) (within, once) in
-    let n : IsNamespaceOf t o.scope (open_name o) o.namespace = rw (by.scope, by.name, by.namespace) space in
+    let n : IsNamespaceOf t o.scope (open_name o) (numbered_place o.namespace) = rw (by.scope, by.name, by.namespace) space in
     subst (λ (t : ElementTables). IsConsistent t u.opened.items) (sym tables) (fine_opened t os u.opened.items o f is (w.0, w.1, named o by, n))
 fine_more (Err e) t os u src tag f tables h within once space named = tt

@@ -13,7 +13,7 @@ use Rattle.rox_grammar.specs.WellNamed.{may_name}
 use Rattle.rox_tables.proofs.Pairs.{declared_some}
 use Rattle.rox_grammar.specs.Tree.{listed, element_namespace}
 use Rattle.rox_grammar.specs.Document.{most_attributes}
-use Rattle.rox_tables.specs.Rows.{scope_at, namespace_at, OptionWithin, attribute_rows}
+use Rattle.rox_tables.specs.Rows.{numbered_place, scope_at, namespace_at, OptionWithin, attribute_rows}
 use Rattle.rox_tables.specs.Scopes.{ArePlaces, PrefixesOnce, entries, places_in}
 use Rattle.rox_tables.specs.TagScopes.{lists_in}
 use Rattle.rox_tables.specs.UsualPlaces.{usual_places}
@@ -484,7 +484,7 @@ pub plain_element : (old new : ElementTables) (e : ElementData) (above : List Na
     → (x : ArePlainAttributes (map namespace_view old.namespaces.items.items) few old.present src start (attribute_rows old.attributes) j empty (attribute_rows new.attributes))
     → FindsBinding (map namespace_view old.namespaces.items.items) few old.present above → new ≡ record old { attributes = new.attributes }
     → e.attributes_from ≡ length (attribute_rows old.attributes) → e.attributes_until ≡ length (attribute_rows new.attributes) → length (attribute_rows new.attributes) ≤ most_attributes → e.local.now ≡ name.local
-    → option_map (λ i. (namespace_at (map namespace_view old.namespaces.items.items) i).uri) e.namespace ≡ element_namespace above name → OptionWithin (length old.namespaces.items.items) e.namespace
+    → option_map (λ i. (namespace_at (map namespace_view old.namespaces.items.items) i).uri) (numbered_place e.namespace) ≡ element_namespace above name → OptionWithin (length old.namespaces.items.items) (numbered_place e.namespace)
     → e.scope < length old.scopes.items → scope_at (lists_in old) e.scope ≡ above → IsElement old new e (listed above []) name x.written
 plain_element old new e above few src start j empty name x finds others from until most local namespace within scope lists =
     let none = listed-none above in

@@ -29,7 +29,7 @@ use Rattle.rox_reading.specs.Tags.{TagSoFar, Values, attribute_with, attributes_
 use Rattle.rox_scan.specs.declared.cursor.Cursor.{Cursor}
 use Rattle.rox_tables.specs.Bindings.{FindsBinding}
 use Rattle.rox_tables.specs.ResolvedNames.{AddsResolved, row_of_unresolved}
-use Rattle.rox_tables.specs.Rows.{AreRows, AreScopes, AttributeRow, IsRow, NamespaceWithin, attribute, attribute_rows, attribute_uri, lists_of, namespace_at, namespace_view, scope_at}
+use Rattle.rox_tables.specs.Rows.{AreRows, AreScopes, AttributeRow, IsRow, NamespaceWithin, attribute, attribute_rows, attribute_uri, lists_of, namespace_at, namespace_view, numbered_place, scope_at}
 use Rattle.rox_tables.specs.Scopes.{ArePlaces, PrefixesOnce, entries}
 use Rattle.rox_tables.specs.Storage.{is_borrowed, storage_bytes}
 use Rattle.rox_tables.specs.TagDeclarations.{Declares, HasOwn, unresolved_view}
@@ -515,7 +515,7 @@ listed_nothing own = append-nil (listable_of own)
 pub root_tagged : (blank old new : ElementTables) (src : List ℕ) (i n end : ℕ) (t : StartTag) → IsBlank blank → attribute_rows blank.attributes ≡ attribute_rows old.attributes
     → IsRootRead new src n (attribute_rows old.attributes) end t.empty → qname_at src (i + 1) ≡ Ok (name_view t.name, n) → bytes_eq (name_view t.name).prefix (word_text Xmlns) ≡ false
     → t.name_start ≡ i + 1 → t.name_end ≡ n → t.element.scope ≡ 1 → t.element.attributes_from ≡ length (attribute_rows old.attributes) → t.element.attributes_until ≡ length (attribute_rows new.attributes)
-    → length (attribute_rows new.attributes) ≤ most_attributes → t.element.local ≡ t.name.local → IsNamespaceOf new 1 (name_view t.name) t.element.namespace
+    → length (attribute_rows new.attributes) ≤ most_attributes → t.element.local ≡ t.name.local → IsNamespaceOf new 1 (name_view t.name) (numbered_place t.element.namespace)
     → may_name (scope_in_tables new 1) (name_view t.name) ≡ true → IsCharBoundary src end → plain.IsPlainTag blank new [] src i end t
 root_tagged blank old new src i n end t none same x is other starts name_end scope from until most local named known cut =
     let name = name_view t.name in
@@ -550,7 +550,7 @@ root_tagged blank old new src i n end t none same x is other starts name_end sco
           attributes_until = until;
           few = most;
           local = ap (λ (l : Bor (List ℕ)). l.now) local;
-          namespace = subst (λ ds. option_map (λ i. (namespace_at ns i).uri) t.element.namespace ≡ element_namespace ds name) lists named.is;
+          namespace = subst (λ ds. option_map (λ i. (namespace_at ns i).uri) (numbered_place t.element.namespace) ≡ element_namespace ds name) lists named.is;
           namespace_within = named.within;
           scope_within = rw scope (root_within new x.scope);
           lists = rw scope lists;

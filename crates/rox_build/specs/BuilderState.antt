@@ -18,7 +18,7 @@ use Rattle.rox_reading.proofs.Forests.{Clean, is_text}
 use Rattle.rox_grammar.specs.Failures.{Fails, name_view}
 use Rattle.rox_scan.specs.declared.cursor.Cursor.{Cursor}
 use Rattle.rox_grammar.specs.declared.failure.Failure.{Failure}
-use Rattle.rox_tables.specs.Rows.{node_rows, RowView, row_view, node, namespace_view, namespace_at, scope_at, NamespaceWithin, OptionWithin, KindWithin, AreScopes, AttributeRow, attribute_rows}
+use Rattle.rox_tables.specs.Rows.{node_rows, RowView, row_view, node, namespace_view, namespace_at, scope_at, NamespaceWithin, OptionWithin, KindWithin, numbered_place, AreScopes, AttributeRow, attribute_rows}
 use Rattle.rox_reading.specs.Values.{Next, part_text}
 use Rattle.rox_values.specs.Refusals.{IsFailure, IsRefusal}
 use Rattle.rox_values.specs.Values.{next_view}
@@ -166,7 +166,7 @@ pub record IsNamespaceOf (t : ElementTables) (scope : ℕ) (name : Name) (namesp
 
 -- the scope of an open element is in the table, and has each prefix once, and its name and its namespace are known
 abbrev pub IsOpenWithin : ElementTables → OpenElement → Type 0
-IsOpenWithin t o = (o.scope < length t.scopes.items) × PrefixesOnce (scope_at (lists_in t) o.scope) × HasName o × IsNamespaceOf t o.scope (open_name o) o.namespace
+IsOpenWithin t o = (o.scope < length t.scopes.items) × PrefixesOnce (scope_at (lists_in t) o.scope) × HasName o × IsNamespaceOf t o.scope (open_name o) (numbered_place o.namespace)
 
 -- an element that a tag of this text opens
 pub record IsOpened (text : List ℕ) (tag : StartTag) (o : OpenElement) : Type 0 where

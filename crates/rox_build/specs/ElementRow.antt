@@ -16,7 +16,7 @@ use Rattle.rox_values.specs.DeclaredEntities.{AreDeclared, values_in}
 use Rattle.rox_values.specs.Refusals.{IsRefusal}
 use Rattle.rox_values.specs.declared.context.Context.{Context}
 use Rattle.rox_values.specs.declared.parse_error.ParseError.{ParseError}
-use Rattle.rox_tables.specs.Rows.{namespace_view, attribute, namespace_at, scope_at, NamespaceWithin, OptionWithin, AreScopes, AttributeRow, attribute_rows}
+use Rattle.rox_tables.specs.Rows.{namespace_view, attribute, namespace_at, scope_at, NamespaceWithin, OptionWithin, numbered_place, AreScopes, AttributeRow, attribute_rows}
 use Rattle.rox_tables.specs.Scopes.{ArePlaces, PrefixesOnce}
 use Rattle.rox_tables.specs.TagScopes.{lists_in, HasBindings}
 use Rattle.rox_tables.specs.declared.rows.tables.ElementData.{ElementData}
@@ -38,8 +38,8 @@ pub record IsElement (old new : ElementTables) (e : ElementData) (scope : List N
   pub attributes_until : e.attributes_until ≡ length (attribute_rows new.attributes)
   pub few : length (attribute_rows new.attributes) ≤ most_attributes
   pub local : e.local.now ≡ name.local
-  pub namespace : option_map (λ i. (namespace_at (map namespace_view new.namespaces.items.items) i).uri) e.namespace ≡ element_namespace scope name
-  pub namespace_within : OptionWithin (length new.namespaces.items.items) e.namespace
+  pub namespace : option_map (λ i. (namespace_at (map namespace_view new.namespaces.items.items) i).uri) (numbered_place e.namespace) ≡ element_namespace scope name
+  pub namespace_within : OptionWithin (length new.namespaces.items.items) (numbered_place e.namespace)
   pub scope_within : e.scope < length new.scopes.items
   pub lists : scope_at (lists_in new) e.scope ≡ scope
 

@@ -13,7 +13,7 @@ use Rattle.rox_scan.specs.ScanResults.{Finds}
 use Rattle.rox_scan.specs.Windows.{SeesQuote}
 use Rattle.rox_scan.specs.declared.window.Window.{Window}
 use Rattle.rox_tables.specs.Bindings.{FindsBinding}
-use Rattle.rox_tables.specs.Rows.{NamespaceWithin, attribute_uri, namespace_view}
+use Rattle.rox_tables.specs.Rows.{numbered_place, NamespaceWithin, attribute_uri, namespace_view}
 use Rattle.rox_tables.specs.Storage.{storage_bytes}
 use Rattle.rox_tables.specs.declared.namespaces.unresolved_attribute.UnresolvedAttribute.{UnresolvedAttribute}
 use Rattle.rox_tables.specs.declared.namespaces.seen_names.SeenNames.{SeenNames}
@@ -114,7 +114,7 @@ pub record MayNameIn (t : ElementTables) (n i : ℕ) : Type 0 where
 -- the same below this open element
 pub record MayNameBelow (t : ElementTables) (o : OpenElement) (name : Name) (i : ℕ) : Type 0 where
   pub scope : HasScope t o.scope
-  pub parent : IsNamespaceOf t o.scope (open_name o) o.namespace
+  pub parent : IsNamespaceOf t o.scope (open_name o) (numbered_place o.namespace)
   pub named : MayHavePrefix o name.prefix
   pub small : i < 2 ^ 63
 

@@ -118,6 +118,7 @@ pub record MayResolve (t : ElementTables) (scope at : ℕ) : Type 0 where
   pub within : scope < length t.scopes.items
   pub present : HasBindingsOf t scope
   pub few : length (attribute_rows t.attributes) ≤ most_attributes
+  pub few_names : length t.namespaces.items.items ≤ most_pairs
   pub small : at < 2 ^ 63
 
 -- the cursor stands behind this attribute, whose value stands in the text

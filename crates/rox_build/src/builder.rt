@@ -35,13 +35,13 @@ use rox_values::text_value::TextValue;
 use std::alloc::{AllocError, Global};
 use std::collections::BTreeSet;
 
-/// An element that is open: its row, its scope, the namespace of its name, whether that has a prefix, where it stands, and the
+/// An element that is open: its row, its scope, the number of the namespace of its name, whether that has a prefix, where it stands, and the
 /// source from there on, whose first bytes spell it. There may be many, so they are kept small.
 #[derive(Clone, Copy)]
 pub struct OpenElement<'input> {
     pub row: u32,
     pub scope: u32,
-    pub namespace: Option<u16>,
+    pub namespace: u16,
     pub prefixed: bool,
     pub name_start: usize,
     pub name_end: usize,

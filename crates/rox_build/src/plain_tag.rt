@@ -40,7 +40,9 @@ use rox_tables::rows::attributes::AttributeTable;
 use rox_tables::rows::recent_texts::Recent;
 use rox_tables::rows::storage::StringStorage;
 use rox_tables::rows::stored_attribute::UNUSUAL;
-use rox_tables::rows::tables::{AttributeNamespace, ElementData, ElementTables};
+use rox_tables::rows::tables::{
+    AttributeNamespace, ElementData, ElementTables, namespace_number, namespace_place,
+};
 use std::alloc::Global;
 
 /// So long is a name at most behind which `=` and a quote are seen with it.
@@ -926,11 +928,12 @@ fn tag_namespace(
     ensures { FindsElementNamespace elements.entry.now parent.entry.now.scope
         (name_view name.entry) result }
 {
+    let above = namespace_place(parent.namespace);
     if name.prefix.is_empty() && !parent.prefixed {
-        return Some(parent.namespace);
+        return Some(above);
     }
-    if parent.namespace.is_some() && has_prefix(parent, name.prefix) {
-        return Some(parent.namespace);
+    if above.is_some() && has_prefix(parent, name.prefix) {
+        return Some(above);
     }
     other_namespace(elements, name, at, parent.scope)
 }
@@ -975,7 +978,7 @@ pub fn plain_start_tag<'input>(
         attributes_from: from as u32,
         attributes_until: until as u32,
         scope: parent.scope,
-        namespace,
+        namespace: namespace_number(namespace),
     };
     let tag = StartTag {
         name: name.name,

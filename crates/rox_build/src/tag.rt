@@ -26,7 +26,7 @@ use rox_tables::namespaces::tag_scope::scope_of_tag;
 use rox_tables::namespaces::unresolved_attribute::UnresolvedAttribute;
 use rox_tables::rows::growth::push_with_room;
 use rox_tables::rows::storage::StringStorage;
-use rox_tables::rows::tables::{ElementData, ElementTables};
+use rox_tables::rows::tables::{ElementData, ElementTables, namespace_number};
 use rox_values::attribute_value::value;
 use rox_values::context::Context;
 use rox_values::parse_error::ParseError;
@@ -277,7 +277,7 @@ fn element_data<'input>(
         attributes_from: from as u32,
         attributes_until: elements.attributes.len() as u32,
         scope,
-        namespace,
+        namespace: namespace_number(namespace),
     })
 }
 

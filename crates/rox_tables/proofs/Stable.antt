@@ -11,7 +11,7 @@ use Rattle.rox_tables.specs.declared.rows.tables.AttributeNamespace.TheVariants 
 use Rattle.rox_tables.specs.declared.rows.tables.NodeKind.{NodeKind}
 use Rattle.rox_tables.specs.declared.rows.tables.NodeKind.TheVariants as kind
 use Rattle.rox_tables.specs.declared.rows.tables.NodeData.{NodeData}
-use Rattle.rox_tables.specs.Rows.{RowView, row_view, node, attribute, namespace_at, scope_at, attribute_uri, NamespaceWithin, OptionWithin, KindWithin, AttributeRow}
+use Rattle.rox_tables.specs.Rows.{RowView, row_view, node, numbered_place, attribute, namespace_at, scope_at, attribute_uri, NamespaceWithin, OptionWithin, KindWithin, AttributeRow}
 
 -- ---- lists
 
@@ -91,10 +91,10 @@ node-append as' moreA namespaces moreN ls moreL start end (kind.Element e) ha (a
     ap (map (attribute (namespaces ++ moreN))) (slice-append as' moreA e.attributes_from e.attributes_until a b)
     ∙ map_same (attribute (namespaces ++ moreN)) (attribute namespaces) (λ a. NamespaceWithin (length namespaces) a.0.namespace) (slice_range as' e.attributes_from e.attributes_until) (attribute-append namespaces moreN)
     (all_slice (λ a. NamespaceWithin (length namespaces) a.0.namespace) as' e.attributes_from e.attributes_until ha) in
-    let o = uri-append namespaces moreN e.namespace n in
+    let o = uri-append namespaces moreN (numbered_place e.namespace) n in
     ap (λ (u : Option (List ℕ)). tree.Element start end u e.local.now (scope_at (ls ++ moreL) e.scope) (map (attribute (namespaces ++ moreN)) (slice_range (as' ++ moreA) e.attributes_from e.attributes_until))) o
-    ∙ ap (λ (l : List NamespaceDecl). tree.Element start end (option_map (λ i. (namespace_at namespaces i).uri) e.namespace) e.local.now l (map (attribute (namespaces ++ moreN)) (slice_range (as' ++ moreA) e.attributes_from e.attributes_until))) listed_is
-    ∙ ap (λ (l : List tree.Attribute). tree.Element start end (option_map (λ i. (namespace_at namespaces i).uri) e.namespace) e.local.now (scope_at ls e.scope) l) attributes_are
+    ∙ ap (λ (l : List NamespaceDecl). tree.Element start end (option_map (λ i. (namespace_at namespaces i).uri) (numbered_place e.namespace)) e.local.now l (map (attribute (namespaces ++ moreN)) (slice_range (as' ++ moreA) e.attributes_from e.attributes_until))) listed_is
+    ∙ ap (λ (l : List tree.Attribute). tree.Element start end (option_map (λ i. (namespace_at namespaces i).uri) (numbered_place e.namespace)) e.local.now (scope_at ls e.scope) l) attributes_are
 node-append as' moreA namespaces moreN ls moreL start end (kind.Text v) ha h = refl
 node-append as' moreA namespaces moreN ls moreL start end (kind.Comment t) ha h = refl
 node-append as' moreA namespaces moreN ls moreL start end (kind.PI p) ha h = refl
@@ -111,7 +111,7 @@ lines-append as' moreA namespaces moreN ls moreL rows ha h =
 
 pub kind_more : (a n l a' n' l' : ℕ) (k : NodeKind) → a ≤ a' → n ≤ n' → l ≤ l' → KindWithin a n l k → KindWithin a' n' l' k
 kind_more a n l a' n' l' kind.Root x y z h = tt
-kind_more a n l a' n' l' (kind.Element e) x y z (p, q, r, o) = (p, omega arith, omega arith, option_more n n' e.namespace y o)
+kind_more a n l a' n' l' (kind.Element e) x y z (p, q, r, o) = (p, omega arith, omega arith, option_more n n' (numbered_place e.namespace) y o)
   where
     option_more : (n n' : ℕ) (o : Option ℕ) → n ≤ n' → OptionWithin n o → OptionWithin n' o
     option_more n n' None y h = tt

@@ -125,8 +125,7 @@ instruction-none (q ∷ pis) (suc i) l = instruction-none pis i (omega arith)
 
 kind-more : (pis : List PI) (p : PI) (k : StoredKind) → is_kind_within (length pis) k ≡ true → whole_kind (pis ++ p ∷ []) k ≡ whole_kind pis k
 kind-more pis p stored.Root w = refl
-kind-more pis p (stored.Element a b c d) w = refl
-kind-more pis p (stored.NamespacedElement a b c d e) w = refl
+kind-more pis p (stored.Element a b c d e) w = refl
 kind-more pis p (stored.Text n a) w = refl
 kind-more pis p (stored.Comment n a) w = refl
 kind-more pis p (stored.Instruction i) w = instruction-more pis p i (ltb-true i (length pis) w)
@@ -155,8 +154,7 @@ whole-more pis p (h ∷ hs) (x ∷ rows) w =
 
 kind-within_more : (n m : ℕ) (k : StoredKind) → n ≤ m → is_kind_within n k ≡ true → is_kind_within m k ≡ true
 kind-within_more n m stored.Root l w = refl
-kind-within_more n m (stored.Element a b c d) l w = refl
-kind-within_more n m (stored.NamespacedElement a b c d e) l w = refl
+kind-within_more n m (stored.Element a b c d e) l w = refl
 kind-within_more n m (stored.Text q a) l w = refl
 kind-within_more n m (stored.Comment q a) l w = refl
 kind-within_more n m (stored.Instruction i) l w = let s = ltb-true i n w in lt-ltb i m (omega arith)
@@ -360,21 +358,17 @@ no_text [] i = refl
 no_text (p ∷ ps) zero = refl
 no_text (p ∷ ps) (suc i) = no_text ps i
 
--- a kind that is neither of the two of elements is none, and one that is not that of texts
-pub other_element : (pis : List PI) (k : StoredKind)
-    → ((a : ℕ) (b : Bor (List ℕ)) (c d : ℕ) → k ≡ stored.Element a b c d → ⊥) → ((a b : ℕ) (c : Bor (List ℕ)) (d e : ℕ) → k ≡ stored.NamespacedElement a b c d e → ⊥)
-    → false ≡ is_element (whole_kind pis k)
-other_element pis stored.Root n m = refl
-other_element pis (stored.Element a b c d) n m = absurd (n a b c d refl)
-other_element pis (stored.NamespacedElement a b c d e) n m = absurd (m a b c d e refl)
-other_element pis (stored.Text p a) n m = refl
-other_element pis (stored.Comment p a) n m = refl
-other_element pis (stored.Instruction i) n m = no_element pis i
+-- a kind that is not that of elements is none, and one that is not that of texts
+pub other_element : (pis : List PI) (k : StoredKind) → ((a b : ℕ) (c : Bor (List ℕ)) (d e : ℕ) → k ≡ stored.Element a b c d e → ⊥) → false ≡ is_element (whole_kind pis k)
+other_element pis stored.Root n = refl
+other_element pis (stored.Element a b c d e) n = absurd (n a b c d e refl)
+other_element pis (stored.Text p a) n = refl
+other_element pis (stored.Comment p a) n = refl
+other_element pis (stored.Instruction i) n = no_element pis i
 
 pub other_text : (pis : List PI) (k : StoredKind) → ((p : ℕ) (a : ManuallyDrop StringStorage) → k ≡ stored.Text p a → ⊥) → false ≡ is_text (whole_kind pis k)
 other_text pis stored.Root n = refl
-other_text pis (stored.Element a b c d) n = refl
-other_text pis (stored.NamespacedElement a b c d e) n = refl
+other_text pis (stored.Element a b c d e) n = refl
 other_text pis (stored.Text p a) n = absurd (n p a refl)
 other_text pis (stored.Comment p a) n = refl
 other_text pis (stored.Instruction i) n = no_text pis i

@@ -103,11 +103,16 @@ scope_at [] i = []
 scope_at (l ∷ ls) Prim.Native.Nat.zero = l
 scope_at (l ∷ ls) (Prim.Native.Nat.suc i) = scope_at ls i
 
+-- the place in the table of namespaces that this number of an element's row names, if it is one
+abbrev pub numbered_place : ℕ → Option ℕ
+numbered_place Prim.Native.Nat.zero = None
+numbered_place (Prim.Native.Nat.suc i) = Some i
+
 -- the node of a row, over the tables of attributes and namespaces and what scopes list
 abbrev pub node : List AttributeRow → List NamespaceDecl → List (List NamespaceDecl) → (start end : ℕ) → NodeKind → Node
 node attributes namespaces lists start end kind.Root = tree.Root end
 node attributes namespaces lists start end (kind.Element e) =
-    tree.Element start end (option_map (λ i. (namespace_at namespaces i).uri) e.namespace) e.local.now (scope_at lists e.scope)
+    tree.Element start end (option_map (λ i. (namespace_at namespaces i).uri) (numbered_place e.namespace)) e.local.now (scope_at lists e.scope)
     (map (attribute namespaces) (slice_range attributes e.attributes_from e.attributes_until))
 node attributes namespaces lists start end (kind.Text value) = tree.Text start end (storage_bytes value) (is_borrowed value)
 node attributes namespaces lists start end (kind.Comment text) = tree.Comment start end (storage_bytes text)
@@ -129,7 +134,7 @@ OptionWithin n (Some i) = i < n
 -- what a row names is in the tables, of these lengths, and a comment is a slice of the input
 abbrev pub KindWithin : (attributes namespaces scopes : ℕ) → NodeKind → Type 0
 KindWithin attributes namespaces scopes (kind.Element e) =
-    (e.attributes_from ≤ e.attributes_until) × (e.attributes_until ≤ attributes) × (e.scope < scopes) × OptionWithin namespaces e.namespace
+    (e.attributes_from ≤ e.attributes_until) × (e.attributes_until ≤ attributes) × (e.scope < scopes) × OptionWithin namespaces (numbered_place e.namespace)
 KindWithin attributes namespaces scopes (kind.Comment text) = is_borrowed text ≡ true
 KindWithin attributes namespaces scopes other = Unit {0}
 

@@ -29,10 +29,8 @@ instruction_at (p ∷ ps) (Prim.Native.Nat.suc i) = instruction_at ps i
 -- what a node is
 abbrev pub whole_kind : List PI → StoredKind → NodeKind
 whole_kind pis stored.Root = kind.Root
-whole_kind pis (stored.Element scope local from until) =
-    kind.Element (record { local = local; attributes_from = from; attributes_until = until; scope = scope; namespace = None })
-whole_kind pis (stored.NamespacedElement namespace scope local from until) =
-    kind.Element (record { local = local; attributes_from = from; attributes_until = until; scope = scope; namespace = Some namespace })
+whole_kind pis (stored.Element namespace scope local from until) =
+    kind.Element (record { local = local; attributes_from = from; attributes_until = until; scope = scope; namespace = namespace })
 whole_kind pis (stored.Text previous text) = kind.Text (manually_drop_value text)
 whole_kind pis (stored.Comment previous text) = kind.Comment (manually_drop_value text)
 whole_kind pis (stored.Instruction i) = instruction_at pis i
@@ -69,8 +67,7 @@ whole_rows pis (h ∷ hs) (r ∷ rs) = whole_row pis h r ∷ whole_rows pis hs r
 -- a row names only one of so many processing instructions
 abbrev pub is_kind_within : ℕ → StoredKind → Bool
 is_kind_within n stored.Root = true
-is_kind_within n (stored.Element scope local from until) = true
-is_kind_within n (stored.NamespacedElement namespace scope local from until) = true
+is_kind_within n (stored.Element namespace scope local from until) = true
 is_kind_within n (stored.Text previous text) = true
 is_kind_within n (stored.Comment previous text) = true
 is_kind_within n (stored.Instruction i) = nat_lt i n
@@ -81,16 +78,14 @@ are_within n rows = list_all (λ r. is_kind_within n r.kind) rows
 -- whether it owns a text, and the number that stands before its text
 abbrev pub owns : StoredKind → Bool
 owns stored.Root = false
-owns (stored.Element scope local from until) = false
-owns (stored.NamespacedElement namespace scope local from until) = false
+owns (stored.Element namespace scope local from until) = false
 owns (stored.Text previous text) = not (is_borrowed (manually_drop_value text))
 owns (stored.Comment previous text) = not (is_borrowed (manually_drop_value text))
 owns (stored.Instruction i) = false
 
 abbrev pub previous : StoredKind → ℕ
 previous stored.Root = 0
-previous (stored.Element scope local from until) = 0
-previous (stored.NamespacedElement namespace scope local from until) = 0
+previous (stored.Element namespace scope local from until) = 0
 previous (stored.Text number text) = number
 previous (stored.Comment number text) = number
 previous (stored.Instruction i) = 0

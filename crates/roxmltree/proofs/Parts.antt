@@ -4,7 +4,7 @@ use Rattle.std.specs.Option.{option_map}
 use Rattle.rox_grammar.specs.Forest.{Forest, size}
 use Rattle.rox_grammar.specs.Tree.{Node}
 use Rattle.rox_grammar.specs.Written.{NamespaceDecl}
-use Rattle.rox_tables.specs.Rows.{HoldsTree, KindWithin, node, names_of, scopes_of, scope_at, attribute, namespace_at, attribute_rows, AttributeRow}
+use Rattle.rox_tables.specs.Rows.{HoldsTree, numbered_place, KindWithin, node, names_of, scopes_of, scope_at, attribute, namespace_at, attribute_rows, AttributeRow}
 use Rattle.rox_tables.specs.Scopes.{places_in, ArePlaces}
 use Rattle.rox_tables.specs.declared.rows.tables.NodeKind.{NodeKind}
 use Rattle.rox_tables.specs.declared.rows.tables.NodeKind.TheVariants as kind
@@ -23,7 +23,7 @@ row_node : (t : Tables) (f : Forest Node) (i : ℕ) (x : NodeData) → HoldsTree
 row_node t f i x h l e = ap (λ r. r.node) (row_line t f i x h (in_rows t f i h l) e)
 
 -- an element's row
-pub row_namespace : (t : Tables) (f : Forest Node) (i : ℕ) (x : NodeData) (e : ElementData) → HoldsTree t f → i < size f → x ≡ get_or (node_rows t.nodes) i x → x.kind ≡ kind.Element e → option_map (λ p. (namespace_at (names_of t) p).uri) e.namespace ≡ namespace_of (place f i).item
+pub row_namespace : (t : Tables) (f : Forest Node) (i : ℕ) (x : NodeData) (e : ElementData) → HoldsTree t f → i < size f → x ≡ get_or (node_rows t.nodes) i x → x.kind ≡ kind.Element e → option_map (λ p. (namespace_at (names_of t) p).uri) (numbered_place e.namespace) ≡ namespace_of (place f i).item
 row_namespace t f i x e h l r k =
     ap (λ v. namespace_of (node (attribute_rows t.attributes) (names_of t) (scopes_of t) x.start x.end v)) (sym k) ∙ ap namespace_of (row_node t f i x h l r)
 

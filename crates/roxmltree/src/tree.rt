@@ -15,7 +15,7 @@ use crate::namespaces::NamespaceIter;
 use crate::nodes::{Node, NodeId};
 use crate::scopes::{first_in_scope, prefix_in_scope};
 use rox_tables::rows::stored_node::{KindRef, RowRef, StoredNode};
-use rox_tables::rows::tables::{Namespace, Tables};
+use rox_tables::rows::tables::{Namespace, Tables, namespace_place};
 use std::marker::Model;
 
 /// An XML document as a read-only tree of nodes.
@@ -227,7 +227,7 @@ impl<'a, 'input> Node<'a, 'input> {
     {
         let tables = self.tables;
         match tables.nodes.kind(self.row) {
-            KindRef::Element(element) => match element.namespace {
+            KindRef::Element(element) => match namespace_place(element.namespace) {
                 Some(place) => Some(tables.namespaces[place as usize].uri()),
                 None => None,
             },

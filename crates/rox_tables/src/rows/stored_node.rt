@@ -14,15 +14,12 @@ use crate::rows::tables::{ElementData, NodeKind, PI};
 use std::alloc::AllocError;
 use std::mem::ManuallyDrop;
 
-/// What a node is: 32 bytes. Elements are the first two, so that one comparison tells them. No text is dropped with its row, so that
-/// a table need not look at each row to find the few that own one: it frees these along a chain. Before a text stands the number,
+/// What a node is: 32 bytes. No text is dropped with its row, so that a table need not look at each row to find the few that own one: it frees these along a chain. Before a text stands the number,
 /// counted from 1, of the last row before that owns one, or 0.
 #[derive(Drop)]
 pub enum StoredKind<'input> {
-    /// An element whose name has no namespace: its scope, its local name, and where its attributes stand.
-    Element(u32, &'input str, u32, u32),
-    /// The same behind the namespace of its name.
-    NamespacedElement(u16, u32, &'input str, u32, u32),
+    /// An element: the number of its namespace, its scope, its local name, and where its attributes stand.
+    Element(u16, u32, &'input str, u32, u32),
     /// A place in the table of processing instructions.
     Instruction(usize),
     Root,
@@ -48,7 +45,7 @@ impl<'input> StoredNode<'input> {
             → result ≡ stored.is_element (stored.whole_kind pis self.now.kind) }
     {
         match &self.kind {
-            StoredKind::Element(_, _, _, _) | StoredKind::NamespacedElement(_, _, _, _, _) => true,
+            StoredKind::Element(_, _, _, _, _) => true,
             _ => false,
         }
     }
@@ -173,16 +170,7 @@ fn stored_element<'input>(element: ElementData<'input>) -> StoredKind<'input>
         scope,
         namespace,
     } = element;
-    match namespace {
-        Some(place) => StoredKind::NamespacedElement(
-            place,
-            scope,
-            local,
-            attributes_from,
-            attributes_until,
-        ),
-        None => StoredKind::Element(scope, local, attributes_from, attributes_until),
-    }
+    StoredKind::Element(namespace, scope, local, attributes_from, attributes_until)
 }
 
 /// What a node is that is no processing instruction.
@@ -244,25 +232,15 @@ pub(crate) fn kind_ref<'a, 'input>(
 {
     match kind {
         StoredKind::Root => KindRef::Root,
-        StoredKind::Element(scope, local, attributes_from, attributes_until) => {
+        StoredKind::Element(namespace, scope, local, attributes_from, attributes_until) => {
             KindRef::Element(ElementData {
                 local,
                 attributes_from: *attributes_from,
                 attributes_until: *attributes_until,
                 scope: *scope,
-                namespace: None,
+                namespace: *namespace,
             })
         }
-        StoredKind::NamespacedElement(namespace, scope, local, attributes_from, attributes_until) =>
-            {
-                KindRef::Element(ElementData {
-                    local,
-                    attributes_from: *attributes_from,
-                    attributes_until: *attributes_until,
-                    scope: *scope,
-                    namespace: Some(*namespace),
-                })
-            }
         StoredKind::Text(_, text) => KindRef::Text(text),
         StoredKind::Comment(_, text) => KindRef::Comment(text),
         StoredKind::Instruction(place) => {

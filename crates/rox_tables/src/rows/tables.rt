@@ -1,5 +1,9 @@
 //! The tables of a document: a row for each node in document order, and beside them attributes and namespaces.
 
+ghost use Rattle.std.specs.Prelude.{◌≡◌};
+ghost use Rattle.rox_grammar.specs.Document.{most_pairs};
+ghost use Rattle.rox_tables.specs.Rows.{OptionWithin, numbered_place};
+
 use crate::namespaces::bindings::PrefixBindings;
 use crate::namespaces::namespace_table::NamespaceTable;
 use crate::rows::attributes::AttributeTable;
@@ -54,8 +58,31 @@ pub struct ElementData<'input> {
     pub attributes_from: u32,
     pub attributes_until: u32,
     pub scope: u32,
-    /// The namespace of its name, in the table of namespaces.
-    pub namespace: Option<u16>,
+    /// The number of the namespace of its name, so that it is copied whole.
+    pub namespace: u16,
+}
+
+/// The number of an element's namespace: one more than its place in the table of namespaces, or 0 where it has none.
+#[inline(always)]
+pub fn namespace_number(place: Option<u16>) -> u16
+    requires { OptionWithin most_pairs place }
+    ensures { numbered_place result ≡ place }
+{
+    match place {
+        Some(place) => place + 1,
+        None => 0,
+    }
+}
+
+/// The place of the namespace of this number, if it is one.
+#[inline(always)]
+pub fn namespace_place(number: u16) -> Option<u16>
+    ensures { result ≡ numbered_place number }
+{
+    if number == 0 {
+        return None;
+    }
+    Some(number - 1)
 }
 
 #[derive(Drop)]

@@ -7,7 +7,7 @@ use Rattle.rox_grammar.specs.Written.{Name}
 use Rattle.rox_reading.specs.Tags.{tag_tested}
 use Rattle.rox_scan.proofs.NearLemmas.{part_cut}
 use Rattle.rox_tables.specs.Bindings.{FindsBinding}
-use Rattle.rox_tables.specs.Rows.{namespace_view, namespace_at, attribute_rows}
+use Rattle.rox_tables.specs.Rows.{numbered_place, namespace_view, namespace_at, attribute_rows}
 use Rattle.rox_tables.specs.Scopes.{places_in}
 use Rattle.rox_tables.specs.declared.rows.tables.ElementData.{ElementData}
 use Rattle.rox_tables.proofs.Listing.{listed-none}
@@ -53,7 +53,7 @@ returns c =
     let element : ElementData = record { local = c.near_name-local.result; attributes_from = c.len-count.result; attributes_until = c.len-count.result; scope = o.scope; namespace = o.namespace } in
     let within = c.requires.below.parent in
     let bare : (open_name o).prefix ≡ [] = unprefixed_name o within.2 c.if-parent.false in
-    let space : option_map (λ i. (namespace_at namespaces i).uri) o.namespace ≡ element_namespace above name = rw bare at within.3.is in
+    let space : option_map (λ i. (namespace_at namespaces i).uri) (numbered_place o.namespace) ≡ element_namespace above name = rw bare at within.3.is in
     record {
       read = record {
         tag = record { name = name; name_end = n; declarations = []; attributes = x.written };

@@ -6,7 +6,7 @@ use Rattle.rox_grammar.specs.Written.{Name}
 use Rattle.rox_grammar.specs.Document.{most_attributes}
 use Rattle.rox_reading.specs.Tags.{tag_tested}
 use Rattle.rox_tables.specs.TagScopes.{lists_in}
-use Rattle.rox_tables.specs.Rows.{namespace_view, namespace_at, attribute_rows}
+use Rattle.rox_tables.specs.Rows.{numbered_place, namespace_view, namespace_at, attribute_rows}
 use Rattle.rox_tables.specs.declared.rows.tables.ElementTables.{ElementTables}
 use Rattle.rox_tables.specs.declared.rows.tables.ElementData.{ElementData}
 use Rattle.rox_tables.proofs.Listing.{listed-none}
@@ -55,7 +55,7 @@ returns c =
     let fits : count + length x.written ≤ most_attributes = omega arith in
     let within = c.requires.here.below.parent in
     let bare : (open_name o).prefix ≡ [] = unprefixed_name o within.2 c.requires.bare in
-    let space : option_map (λ i. (namespace_at namespaces i).uri) o.namespace ≡ element_namespace above name = rw bare at within.3.is in
+    let space : option_map (λ i. (namespace_at namespaces i).uri) (numbered_place o.namespace) ≡ element_namespace above name = rw bare at within.3.is in
     let is = rw start at c.near_name-local.ensures in
     let none = listed-none above in
     let fine : tag_tested (listed above []) count i name x.written ≡ Ok tt =

@@ -4,15 +4,17 @@ use Rattle.std.proofs.lemmas.List.{append-nil}
 use Rattle.rox_grammar.specs.declared.fault.Word.TheVariants.{Xmlns}
 use Rattle.rox_grammar.specs.FixedTexts.{word_text}
 use Rattle.rox_grammar.specs.Tree.{listed}
-use Rattle.rox_grammar.specs.Document.{most_attributes}
+use Rattle.rox_grammar.specs.Document.{most_attributes, most_pairs}
 use Rattle.rox_grammar.specs.Failures.{name_view}
 use Rattle.rox_reading.specs.Tags.{tag_tested}
 use Rattle.rox_tables.specs.TagScopes.{lists_in}
-use Rattle.rox_tables.specs.Rows.{namespace_view, attribute_rows}
+use Rattle.rox_tables.specs.Rows.{OptionWithin, numbered_place, namespace_view, attribute_rows}
 use Rattle.rox_tables.specs.declared.rows.tables.ElementTables.{ElementTables}
 use Rattle.rox_tables.specs.declared.rows.tables.ElementData.{ElementData}
 use Rattle.rox_tables.proofs.Listing.{listed-none}
+use Rattle.rox_build.specs.BuilderState.{IsNamespaceOf}
 use Rattle.rox_build.specs.ElementRow.{scope_in_tables}
+use Rattle.rox_build.proofs.Growing.{option_more}
 use Rattle.rox_build.specs.PlainTag.{ArePlainAttributes, few_in, holding}
 use Rattle.rox_build.proofs.PlainTags.{scope_found, plain_element, plain_count}
 use Rattle.rox_build.proofs.SpelledNames.{name_apart}
@@ -35,6 +37,11 @@ plain_attributes-requires c =
       short = c.requires.here.short;
       scope = record { places = below.places; scopes = below.scopes; within = below.parent.0; once = below.parent.1 };
     }
+
+pub namespace_number-requires : goal.namespace_number-requires
+namespace_number-requires c =
+    let old = c.args.elements.now in
+    option_more (length old.namespaces.items.items) most_pairs c.in_ok-namespace.namespace c.requires.here.below.few c.in_ok-namespace.ensures.is.within
 
 pub returns : goal.returns
 returns c =
@@ -59,13 +66,13 @@ returns c =
     let until = c.len-until.ensures in
     let most : length (attribute_rows new.attributes) ≤ most_attributes = (let k = c.if-until-gt-MOST_ATTRIBUTES.false in omega arith) in
     let fits : count + length x.written ≤ most_attributes = omega arith in
-    let named = c.in_ok-namespace.ensures in
+    let named : IsNamespaceOf old scope name (numbered_place c.namespace_number.result) = rw c.namespace_number.ensures c.in_ok-namespace.ensures.is in
     let is = rw start at c.in_ok-name.ensures.value in
     let other : bytes_eq name.prefix (word_text Xmlns) ≡ false = sym c.same_text.ensures ∙ c.if-same_text.false in
     let none = listed-none above in
     let fine : tag_tested (listed above []) count i name x.written ≡ Ok tt =
-    tested_passes (listed above []) count i name x.written (rw none (tested_known above count (i + 1) name x.written fits (x.tested above finds) named.known)) in
-    let element : ElementData = record { local = c.in_ok-name.name.name.local; attributes_from = c.len-from.result; attributes_until = c.len-until.result; scope = scope; namespace = c.in_ok-namespace.namespace } in
+    tested_passes (listed above []) count i name x.written (rw none (tested_known above count (i + 1) name x.written fits (x.tested above finds) c.in_ok-namespace.ensures.known)) in
+    let element : ElementData = record { local = c.in_ok-name.name.name.local; attributes_from = c.len-from.result; attributes_until = c.len-until.result; scope = scope; namespace = c.namespace_number.result } in
     let within = c.requires.here.below.parent in
     record {
       read = record {
@@ -82,7 +89,7 @@ returns c =
           scopes = rw grown.others c.requires.here.below.scopes;
           kept = rw grown.others c.requires.here.below.kept;
           once = rw grown.others within.1;
-          element = plain_element old new element above few src n j empty name x finds grown.others c.len-from.ensures until most refl named.is.is named.is.within within.0 refl;
+          element = plain_element old new element above few src n j empty name x finds grown.others c.len-from.ensures until most refl named.is named.within within.0 refl;
         };
         starts = start;
         cut = c.in_ok-end.ensures.cut;

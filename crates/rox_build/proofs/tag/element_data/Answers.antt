@@ -4,13 +4,14 @@ use Rattle.std.specs.Option.{option_map}
 use Rattle.std.proofs.lemmas.List.{length-map}
 use Rattle.std.proofs.lemmas.Result.{err_from_is_err_and}
 use Rattle.rox_grammar.specs.Tree.{attribute_in}
-use Rattle.rox_grammar.specs.Document.{most_attributes}
+use Rattle.rox_grammar.specs.Document.{most_attributes, most_pairs}
 use Rattle.rox_grammar.specs.Failures.{name_view}
 use Rattle.rox_tables.specs.Rows.{namespace_view, namespace_at, attribute, scope_at, NamespaceWithin, OptionWithin, AttributeRow, attribute_rows}
 use Rattle.rox_tables.specs.Bindings.{places_view}
 use Rattle.rox_tables.specs.TagDeclarations.{unresolved_view}
 use Rattle.rox_tables.specs.TagScopes.{lists_in}
 use Rattle.rox_tables.proofs.Finding.{looks_for, found_for, seen_by}
+use Rattle.rox_build.proofs.Growing.{option_more}
 use Rattle.rox_build.proofs.Starting.{tested_amiss, tested_unknown, tested_known}
 use Rattle.rox_build.proofs.tag.element_data.Goals as goal
 
@@ -95,6 +96,12 @@ overflow_cast-result-2 c =
     let until = c.len-2.ensures in
     omega arith
 
+pub namespace_number-requires : goal.namespace_number-requires
+namespace_number-requires c =
+    let t = c.args.elements.now in
+    let o = c.in_ok-namespace.namespace in
+    option_more (length t.namespaces.items.items) most_pairs o c.requires.few_names (subst (λ (n : ℕ). OptionWithin n o) (ap length c.as_slice-2.ensures.value) c.in_ok-namespace.ensures.within)
+
 pub returns : goal.returns
 returns c =
     let t = c.args.elements.now in
@@ -135,8 +142,8 @@ returns c =
             attributes_until = c.len-2.ensures;
             few = omega arith;
             local = refl;
-            namespace = ap (λ ns. option_map (λ i. (namespace_at ns i).uri) o) (sym seen2) ∙ named.0;
-            namespace_within = subst (λ (n : ℕ). OptionWithin n o) (ap length c.as_slice-2.ensures.value) c.in_ok-namespace.ensures.within;
+            namespace = rw c.namespace_number.ensures (ap (λ ns. option_map (λ i. (namespace_at ns i).uri) o) (sym seen2) ∙ named.0);
+            namespace_within = rw c.namespace_number.ensures (subst (λ (n : ℕ). OptionWithin n o) (ap length c.as_slice-2.ensures.value) c.in_ok-namespace.ensures.within);
             scope_within = c.requires.within;
             lists = refl;
           };

@@ -166,6 +166,7 @@ element_data-requires c =
       within = scope.within;
       present = scope.present;
       few = rw (scope.attributes ∙ c.in_ok-xml.ensures.kept.attributes) c.requires.below.few_attributes;
+      few_names = rw scope.namespaces c.in_ok-xml.ensures.tables.few;
       small =
           let k = c.byte_count-small.ensures.small in
           let l = c.requires.there in

@@ -14,20 +14,20 @@ place_within n o p w e = let w' : OptionWithin n (Some p) = subst (λ v. OptionW
 pub index-requires : goal.index-requires
 index-requires c =
     let n = c.args.self.now in
-    omega (arith, place_within _ _ c.in-Some.place (element_within n.tables.now n.document.now.tree _ _ _ n.placed.holds n.in_tree (row_here n) (sym c.kind.ensures ∙ ap kind_of c.in-Element.is)).3 c.in-Some.is, n.tables.now.namespaces.ok.0)
+    omega (arith, place_within _ _ c.in-Some.place (element_within n.tables.now n.document.now.tree _ _ _ n.placed.holds n.in_tree (row_here n) (sym c.kind.ensures ∙ ap kind_of c.in-Element.is)).3 (sym c.namespace_place.ensures ∙ c.in-Some.is), n.tables.now.namespaces.ok.0)
 
 pub returns-in-Some : goal.returns-in-Some
 returns-in-Some c =
     let n = c.args.self.now in
     let h = row_namespace n.tables.now n.document.now.tree _ _ _ n.placed.holds n.in_tree (row_here n) (sym c.kind.ensures ∙ ap kind_of c.in-Element.is) in
-    let m = place_within _ _ c.in-Some.place (element_within n.tables.now n.document.now.tree _ _ _ n.placed.holds n.in_tree (row_here n) (sym c.kind.ensures ∙ ap kind_of c.in-Element.is)).3 c.in-Some.is in
-    rw c.uri.ensures (ap Some (entry_uri n.tables.now.namespaces.items c.in-Some.place _ m c.index.ensures) ∙ (rw c.in-Some.is at h))
+    let m = place_within _ _ c.in-Some.place (element_within n.tables.now n.document.now.tree _ _ _ n.placed.holds n.in_tree (row_here n) (sym c.kind.ensures ∙ ap kind_of c.in-Element.is)).3 (sym c.namespace_place.ensures ∙ c.in-Some.is) in
+    rw c.uri.ensures (ap Some (entry_uri n.tables.now.namespaces.items c.in-Some.place _ m c.index.ensures) ∙ (rw (sym c.namespace_place.ensures ∙ c.in-Some.is) at h))
 
 pub returns-in-None : goal.returns-in-None
 returns-in-None c =
     let n = c.args.self.now in
     let h = row_namespace n.tables.now n.document.now.tree _ _ _ n.placed.holds n.in_tree (row_here n) (sym c.kind.ensures ∙ ap kind_of c.in-Element.is) in
-    rw c.in-None.is at h
+    rw (sym c.namespace_place.ensures ∙ c.in-None.is) at h
 
 pub returns-in_default : goal.returns-in_default
 returns-in_default c =
