@@ -35,8 +35,8 @@ use rox_values::text_value::TextValue;
 use std::alloc::{AllocError, Global};
 use std::collections::BTreeSet;
 
-/// An element that is open: its row, its scope, the number of the namespace of its name, whether that has a prefix, where it stands, and the
-/// source from there on, whose first bytes spell it. There may be many, so they are kept small.
+/// An element that is open: its row, its scope, the number of the namespace of its name, whether that has a prefix, where it stands,
+/// and the source from there on, whose first bytes spell it. There may be many, so they are kept small.
 #[derive(Clone, Copy)]
 pub struct OpenElement<'input> {
     pub row: u32,

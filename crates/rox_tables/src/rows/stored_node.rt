@@ -14,8 +14,8 @@ use crate::rows::tables::{ElementData, NodeKind, PI};
 use std::alloc::AllocError;
 use std::mem::ManuallyDrop;
 
-/// What a node is: 32 bytes. No text is dropped with its row, so that a table need not look at each row to find the few that own one: it frees these along a chain. Before a text stands the number,
-/// counted from 1, of the last row before that owns one, or 0.
+/// What a node is: 32 bytes. No text is dropped with its row, so that a table need not look at each row to find the few that own one:
+/// it frees these along a chain. Before a text stands the number, counted from 1, of the last row before that owns one, or 0.
 #[derive(Drop)]
 pub enum StoredKind<'input> {
     /// An element: the number of its namespace, its scope, its local name, and where its attributes stand.
