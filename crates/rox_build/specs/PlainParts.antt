@@ -1,5 +1,5 @@
 -- What the parts of a plain tag need, and what is read of them.
-use Rattle.std.specs.Prelude.{◌≡◌, ℕ, ◌+◌, ◌<◌, ◌≤◌, ◌^◌, ◌==◌, true, false, List, Option, Ok, IfSome, IfNone, length, map, slice_index}
+use Rattle.std.specs.Prelude.{◌≡◌, ℕ, ◌+◌, ◌<◌, ◌≤◌, ◌^◌, ◌==◌, true, false, List, [], Option, Ok, IfSome, IfNone, length, map, slice_index, slice_range}
 use Rattle.std.specs.Str.{IsCharBoundary}
 use Rattle.rox_grammar.specs.Chars.{is_name_start, is_part_char, is_space}
 use Rattle.rox_grammar.specs.Failures.{name_view}
@@ -61,6 +61,12 @@ pub record IsWholeName (src : List ℕ) (i j : ℕ) (n : PlainName) : Type 0 whe
   pub value : qname_at src i ≡ Ok (name_view n.name, n.end)
   pub local : i + length n.name.local.now ≤ n.end
   pub end : n.end ≡ j
+  pub bare : n.name.prefix.now ≡ []
+
+-- an attribute's name is read at this place, whose prefix ends at j
+pub record IsPrefixedName (src : List ℕ) (i j : ℕ) (n : PlainName) : Type 0 where
+  pub named : IsAttributeName src i n
+  pub prefix : n.name.prefix.now ≡ slice_range src i j
 
 -- a value may begin so many bytes behind those that are seen
 pub record SeesStart (src : List ℕ) (w : Window) (before q : ℕ) : Type 0 where
@@ -77,9 +83,17 @@ pub record MayPutPart (src : List ℕ) (i j : ℕ) (t : ElementTables) (n : ℕ)
   pub put : MayPut src i t n s
   pub part : EndsSet is_part_byte src i j
 
--- the attribute whose name and value were read may be put behind those that were seen
-pub record MayPutNamed (src : List ℕ) (a : NamedAttribute) (t : ElementTables) (n : ℕ) (s : SeenNames) : Type 0 where
+-- this is the namespace of an attribute of this name in this scope, where its prefix is known
+pub record IsAttributeNamespace (t : ElementTables) (n : ℕ) (name : Name) (s : AttributeNamespace) : Type 0 where
+  pub within : NamespaceWithin (length t.namespaces.items.items) s
+  pub there : (ds : List NamespaceDecl) → FindsBinding (map namespace_view t.namespaces.items.items) (few_in t n) t.present ds
+      → attribute_uri (map namespace_view t.namespaces.items.items) s ≡ tree.attribute_namespace ds name
+  pub known : (ds : List NamespaceDecl) → FindsBinding (map namespace_view t.namespaces.items.items) (few_in t n) t.present ds → is_known ds name ≡ true
+
+-- the attribute whose name, with this namespace, and value were read may be put behind those that were seen
+pub record MayPutNamed (src : List ℕ) (a : NamedAttribute) (t : ElementTables) (n : ℕ) (namespace : AttributeNamespace) (s : SeenNames) : Type 0 where
   pub put : MayPut src a.start t n s
+  pub found : IsAttributeNamespace t n (name_view a.name.name) namespace
   pub named : IsAttributeName src a.start a.name
   pub value : HasPlainValue src (a.name.end + 2) (slice_index src (a.name.end + 1)) a.value.end a.value.text.now
 
@@ -93,13 +107,6 @@ pub record PutsSome (old new : ElementTables) (n : ℕ) (s after : SeenNames) (s
   pub put : IfSome result (λ j. PutsPlain old new n s after src i j)
   pub place : IfSome result (λ j. 0 < j)
   pub none : IfNone result (PutsPlain old new n s after src i 0)
-
--- the namespace of an attribute of this name in this scope, if its prefix is known
-pub record FindsAttributeNamespace (t : ElementTables) (n : ℕ) (name : Name) (result : Option AttributeNamespace) : Type 0 where
-  pub within : IfSome result (λ s. NamespaceWithin (length t.namespaces.items.items) s)
-  pub there : (ds : List NamespaceDecl) → FindsBinding (map namespace_view t.namespaces.items.items) (few_in t n) t.present ds
-      → IfSome result (λ s. attribute_uri (map namespace_view t.namespaces.items.items) s ≡ tree.attribute_namespace ds name)
-  pub known : (ds : List NamespaceDecl) → FindsBinding (map namespace_view t.namespaces.items.items) (few_in t n) t.present ds → IfSome result (λ _. is_known ds name ≡ true)
 
 -- the same of an element
 pub record FindsElementNamespace (t : ElementTables) (n : ℕ) (name : Name) (result : Option (Option ℕ)) : Type 0 where

@@ -2,19 +2,20 @@
 //! refer to no entities but the predefined ones (XML 1.0 sections 3.1 and 4.6). Nothing fails here: a tag that is not plain, or finds
 //! no room, is left to the general step, which reads it from its `<`.
 
-ghost use Rattle.std.specs.Prelude.{◌≡◌, ◌<◌, ◌≤◌, ◌+◌, ◌-◌, ◌==◌, ◌||◌, Ok, IfSome, drop, length, slice_index, slice_range, true, false, []};
+ghost use Rattle.std.specs.Prelude.{◌≡◌, ◌<◌, ◌≤◌, ◌+◌, ◌-◌, ◌==◌, ◌||◌, Ok, IfSome, drop, length, bytes_eq, slice_index, slice_range, true, false, []};
 ghost use Rattle.std.specs.Str.{IsCharBoundary};
 ghost use Rattle.rox_grammar.specs.Chars.{is_space};
 ghost use Rattle.rox_grammar.specs.Runs.{run_end, begins};
 ghost use Rattle.rox_grammar.specs.Failures.{name_view};
+ghost use Rattle.rox_grammar.specs.Written.{Name};
 ghost use Rattle.rox_reading.specs.Lexical.{qname_at};
 ghost use Rattle.rox_scan.specs.ByteSets.{EndsSet, is_part_byte};
 ghost use Rattle.rox_scan.specs.ScanResults.{Finds};
 ghost use Rattle.rox_reading.specs.Values.{is_special};
 ghost use Rattle.std.specs.List.{AllByRecursion};
 ghost use Rattle.rox_tables.specs.SeenNames.{AreSeen};
-ghost use Rattle.rox_build.specs.PlainParts.{EndsEmpty, EndsFirstPart, EndsNearPart, EndsPart, EndsTag, FindsAttributeNamespace, FindsElementNamespace, FindsPlainAttribute, IsLocalPart, IsNextItem, IsSomePlace, IsWholeName, MayNameBelow, MayNameIn, MayPutNamed, MayPutPart, MayReadBareTag, MayReadNearTag, MayReadPlainTag, PutsSome, SeesEnd, SeesStart};
-ghost use Rattle.rox_build.specs.PlainTag.{BeginsValue, EndsNear, EndsVerbatim, HasPlainValue, HasQuoteBefore, HasScope, IsAttributeName, IsBareTag, IsBeforeLast, IsNearAttribute, IsPlainAttribute, IsPlainName, IsQuoteAt, IsQuoteBehindEquals, IsValueStart, MayPut, MayReadAttributes, PutsPlain, ReadsAttributes, ReadsTag, SeesValue};
+ghost use Rattle.rox_build.specs.PlainParts.{EndsEmpty, EndsFirstPart, EndsNearPart, EndsPart, EndsTag, FindsElementNamespace, FindsPlainAttribute, IsAttributeNamespace, IsLocalPart, IsNextItem, IsPrefixedName, IsSomePlace, IsWholeName, MayNameBelow, MayNameIn, MayPutNamed, MayPutPart, MayReadBareTag, MayReadNearTag, MayReadPlainTag, PutsSome, SeesEnd, SeesStart};
+ghost use Rattle.rox_build.specs.PlainTag.{BeginsValue, EndsNear, EndsVerbatim, HasPlainValue, HasQuoteBefore, HasScope, IsBareTag, IsBeforeLast, IsNearAttribute, IsPlainAttribute, IsPlainName, IsQuoteAt, IsQuoteBehindEquals, IsValueStart, MayPut, MayReadAttributes, PutsPlain, ReadsAttributes, ReadsTag, SeesValue};
 
 use crate::builder::OpenElement;
 use crate::open_names::has_prefix;
@@ -299,6 +300,39 @@ fn spaced_attribute<'input>(
     })
 }
 
+/// The namespace of this prefix of an attribute in this scope.
+#[inline(always)]
+fn prefix_namespace(
+    elements: &ElementTables<'_>,
+    scope: u32,
+    prefix: &str,
+    near: &mut usize,
+) -> Option<AttributeNamespace>
+    requires scope { HasScope elements.now scope }
+    requires some { bytes_eq prefix.now [] ≡ false }
+    ensures { (n : Name) → n.prefix ≡ prefix.entry.now
+        → IfSome result (λ s. IsAttributeNamespace elements.entry.now scope n s) }
+{
+    if same_text(prefix, "xml") {
+        return Some(AttributeNamespace::Xml);
+    }
+    let places = few_places(&elements.scopes, &elements.listed, scope)?;
+    let namespaces = elements.namespaces.as_slice();
+    match find_near(namespaces, places, prefix, near) {
+        Some(place) => Some(AttributeNamespace::Listed(place)),
+        None => None,
+    }
+}
+
+/// The namespace of an attribute's name without prefix, which is none.
+#[inline(always)]
+fn no_namespace(elements: &ElementTables<'_>, scope: u32, name: QName<'_>) -> AttributeNamespace
+    requires { name.prefix.now ≡ [] }
+    ensures { IsAttributeNamespace elements.entry.now scope (name_view name.entry) result }
+{
+    AttributeNamespace::None
+}
+
 /// The namespace of an attribute's name in this scope. Most have no prefix, and then nothing is looked up.
 #[inline(always)]
 fn namespace_in(
@@ -308,20 +342,13 @@ fn namespace_in(
     near: &mut usize,
 ) -> Option<AttributeNamespace>
     requires scope { HasScope elements.now scope }
-    ensures { FindsAttributeNamespace elements.entry.now scope (name_view name.entry) result }
+    ensures { IfSome result
+        (λ s. IsAttributeNamespace elements.entry.now scope (name_view name.entry) s) }
 {
     if name.prefix.is_empty() {
         return Some(AttributeNamespace::None);
     }
-    if same_text(name.prefix, "xml") {
-        return Some(AttributeNamespace::Xml);
-    }
-    let places = few_places(&elements.scopes, &elements.listed, scope)?;
-    let namespaces = elements.namespaces.as_slice();
-    match find_near(namespaces, places, name.prefix, near) {
-        Some(place) => Some(AttributeNamespace::Listed(place)),
-        None => None,
-    }
+    prefix_namespace(elements, scope, name.prefix, near)
 }
 
 /// Puts the attribute that begins at `start`, if it is such a one and no declaration, behind those of its tag, which were `seen`.
@@ -524,17 +551,18 @@ pub struct NamedAttribute<'input> {
     pub value: PlainValue<'input>,
 }
 
-/// Puts an attribute whose name and value were read behind those of its tag, which were `seen`, if it is no declaration. Answers
-/// the place behind it, or nothing where the table is as before. Most are usual, and take no call.
+/// Puts an attribute whose name, with this namespace, and value were read behind those of its tag, which were `seen`, if it is no
+/// declaration. Answers the place behind it, or nothing where the table is as before. Most are usual, and take no call.
 #[inline(always)]
 fn put_named_attribute<'input>(
     text: &'input str,
     read: NamedAttribute<'input>,
     elements: &mut ElementTables<'input>,
     scope: u32,
+    namespace: AttributeNamespace,
     seen: &mut SeenNames,
 ) -> Option<usize>
-    requires { MayPutNamed text.now read elements.old scope seen.old }
+    requires { MayPutNamed text.now read elements.old scope namespace seen.old }
     ensures { PutsSome elements.old elements.new scope seen.old seen.new text.entry.now
         read.entry.start result }
 {
@@ -549,7 +577,6 @@ fn put_named_attribute<'input>(
     if before >= UNUSUAL as usize {
         return some_place(put_other_attribute(text, start, elements, scope, seen));
     }
-    let namespace = namespace_in(elements, scope, name, &mut seen.near)?;
     let one = UsualAttribute {
         start: start as u32,
         before: before as u8,
@@ -589,11 +616,11 @@ pub fn prefixed_name<'input>(
     part: usize,
 ) -> Option<PlainName<'input>>
     requires { EndsFirstPart text.now start part 58 }
-    ensures { IfSome result (λ n. IsAttributeName text.entry.now start n) }
+    ensures { IfSome result (λ n. IsPrefixedName text.entry.now start part n) }
 {
     let local = after_byte(text, part, b':');
     let end = skip_set::<PartByte>(text, local);
-    if quote_behind_equals(text, end) == 0 || local == end || text.as_bytes()[local] < b'A' {
+    if quote_behind_equals(text, end) == 0 || text.as_bytes()[local] < b'A' {
         return None;
     }
     let name = QName {
@@ -620,6 +647,11 @@ fn put_prefixed_attribute<'input>(
     if !is_at(text, part, b':') {
         return put_other_attribute(text, start, elements, scope, seen);
     }
+    // The namespace is looked for first, where little else is kept in registers.
+    let Some(namespace) = prefix_namespace(elements, scope, &text[start..part], &mut seen.near)
+    else {
+        return 0;
+    };
     let Some(name) = prefixed_name(text, start, part) else {
         return put_other_attribute(text, start, elements, scope, seen);
     };
@@ -629,7 +661,10 @@ fn put_prefixed_attribute<'input>(
         return put_spaced_attribute(text, start, elements, scope, seen);
     };
     let read = NamedAttribute { start, name, value };
-    put_named_attribute(text, read, elements, scope, seen).unwrap_or(0)
+    let Some(behind) = put_named_attribute(text, read, elements, scope, namespace, seen) else {
+        return 0;
+    };
+    behind
 }
 
 /// The same of one whose name is not seen at one look, as it is long, or the text ends.
@@ -655,8 +690,9 @@ fn put_far_attribute<'input>(
     let Some(value) = plain_value(text, part + 2, quote, near) else {
         return put_spaced_attribute(text, start, elements, scope, seen);
     };
+    let namespace = no_namespace(elements, scope, name.name);
     let read = NamedAttribute { start, name, value };
-    put_named_attribute(text, read, elements, scope, seen).unwrap_or(0)
+    put_named_attribute(text, read, elements, scope, namespace, seen).unwrap_or(0)
 }
 
 /// The name from `start` up to `part`, where its first part ends and `=` stands.
@@ -703,8 +739,9 @@ pub fn put_attribute<'input>(
     let Some(value) = seen_value(text, window, count + 2, quote) else {
         return some_place(put_spaced_attribute(text, start, elements, scope, seen));
     };
+    let namespace = no_namespace(elements, scope, name.name);
     let read = NamedAttribute { start, name, value };
-    put_named_attribute(text, read, elements, scope, seen)
+    put_named_attribute(text, read, elements, scope, namespace, seen)
 }
 
 /// How a start tag ends: behind which place, and whether it is empty.

@@ -134,8 +134,8 @@ fn find_far(
 }
 
 /// The one of these places whose namespace has this prefix, looked for first where the last one was found: most names of a tag
-/// have the same prefix. It is out of line, as few attributes have a prefix.
-#[inline(never)]
+/// have the same prefix.
+#[inline(always)]
 pub fn find_near(
     namespaces: &[Namespace<'_>],
     places: &[u16],

@@ -12,7 +12,7 @@ use crate::compare::{WORD, word_at};
 use crate::rows::attributes::AttributeTable;
 use crate::rows::recent_texts::Recent;
 
-/// The attributes of a tag that are in the table: where they begin, and which codes their names have. The first three have theirs
+/// The attributes of a tag that are in the table: where they begin, and which codes their names have. The first four have theirs
 /// put there with the fifth; until then the codes are those of a tag before.
 #[derive(Drop)]
 pub struct SeenNames {

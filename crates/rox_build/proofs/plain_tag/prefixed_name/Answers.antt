@@ -48,20 +48,23 @@ returns c =
     let near = c.skip_set-end.ensures in
     let all = rw place at near.passes in
     let onward : k + 1 ≤ j = rw place at near.onward in
-    let apart : c.after_byte-local.result ≡ j → ⊥ = c.if-local-end.false in
-    let more : k + 1 < j = omega arith in
     let letter : 65 ≤ slice_index src (k + 1) = rw (c.as_bytes.ensures.value, place) at c.if-as_bytes-local-lt65.false in
     let quoted = c.quote_behind_equals.ensures (omega arith) in
     let is = quoted.equals in
+    let apart : k + 1 ≡ j → ⊥ = λ same. absurd (let first = ap (slice_index src) same in omega (arith, first, is, letter)) in
+    let more : k + 1 < j = omega (arith, onward, apart) in
     let behind = part_stops src (k + 1) j c.utf8.text onward near.within all near.stops (λ _. omega (arith, is)) in
     let other = ne_eqb (slice_index src (k + 1)) 58 (λ h. absurd (omega (arith, h, letter))) in
     let long = range_length src (k + 1) j onward near.within in
     let size = ap length c.range-2.ensures.value in
     record {
-      value = rw (c.range.ensures.value, c.range-2.ensures.value, place)
-          (two_parts src i k j c.requires.first.begins c.requires.first.part.place c.requires.here (part_begins src (k + 1) j c.utf8.text more near.within all letter) other behind is);
-      local = omega (arith, onward, c.requires.first.part.onward, long, rw place at size);
-      equals = is;
-      quote = rw quoted.here quoted.quote;
-      inside = quoted.within;
+      named = record {
+        value = rw (c.range.ensures.value, c.range-2.ensures.value, place)
+            (two_parts src i k j c.requires.first.begins c.requires.first.part.place c.requires.here (part_begins src (k + 1) j c.utf8.text more near.within all letter) other behind is);
+        local = omega (arith, onward, c.requires.first.part.onward, long, rw place at size);
+        equals = is;
+        quote = rw quoted.here quoted.quote;
+        inside = quoted.within;
+      };
+      prefix = c.range.ensures.value;
     }

@@ -67,8 +67,8 @@ returns c =
     } in
     let t = c.args.elements.now in
     let namespaces = map namespace_view t.namespaces.items.items in
-    let found = c.in_ok-namespace.ensures in
-    let space = c.in_ok-namespace.namespace in
+    let found = c.requires.found in
+    let space = c.args.namespace in
     let put = c.put_usual_attribute.ensures in
     let true = c.if-not-put_usual_attribute.false in
     let places = usual_are i (n - i - length name.local.now) (length name.local.now) (length value.now) n s e (omega arith) refl (omega (arith, done, long, size)) in

@@ -24,7 +24,7 @@ prefixed_name-requires c =
 
 pub plain_value-requires : goal.plain_value-requires
 plain_value-requires c =
-    let named = c.in_ok-name.ensures in
+    let named = c.in_ok-name.ensures.named in
     let v = value_starts c.args.text.now c.in_ok-name.name.end c.utf8.text named.inside named.equals named.quote in
     record { cut = v.cut; near = c.skip_set-near.ensures; quote = c.quote_before-quote.ensures.quote }
 

@@ -1,11 +1,11 @@
-use Rattle.std.proofs.Common.{sym, ◌∙◌, map, Some, rules, arith}
+use Rattle.std.proofs.Common.{ℕ, List, sym, ◌∙◌, map, Some, rules, arith, ap}
 use Rattle.std.proofs.lemmas.Grind.{common_steps}
+use Rattle.rox_grammar.specs.Tree.{uri_of}
 use Rattle.rox_tables.specs.Bindings.{FindsBinding}
 use Rattle.rox_tables.specs.Rows.{namespace_view}
-use Rattle.rox_grammar.specs.Failures.{name_view}
 use Rattle.rox_tables.proofs.NameTests.{known_some}
 use Rattle.rox_build.proofs.PlainTags.{few_within, few_once, few_is}
-use Rattle.rox_build.proofs.plain_tag.namespace_in.Goals as goal
+use Rattle.rox_build.proofs.plain_tag.prefix_namespace.Goals as goal
 
 pub find_near-requires : goal.find_near-requires
 find_near-requires c = record {
@@ -14,11 +14,11 @@ find_near-requires c = record {
 }
 
 pub returns-in-Some : goal.returns-in-Some
-returns-in-Some c = record {
+returns-in-Some c = λ n is. record {
   within = first_of (search rules, grind (arith, common_steps));
   there = first_of (search rules, grind (arith, common_steps));
   known = λ ds h.
       let few = few_is c.args.elements.now c.deref.result.now c.deref-2.result.now c.in_ok-places.places.now c.args.scope c.deref.ensures.value c.deref-2.ensures.value c.in_ok-places.ensures.few in
       let found : FindsBinding (map namespace_view c.as_slice-namespaces.result.now) (Some c.in_ok-places.places.now) c.args.elements.now.present ds = rw (c.as_slice-namespaces.ensures.value, few) h in
-      known_some ds (name_view c.args.name) _ (sym (found.uris _) ∙ c.in-Some.ensures.1);
+      known_some ds n _ (ap (λ (p : List ℕ). uri_of ds (Some p)) is ∙ (sym (found.uris _) ∙ c.in-Some.ensures.1));
 }
