@@ -10,10 +10,10 @@ use Rattle.rox_tables.specs.declared.rows.tables.NodeData.{NodeData}
 abbrev pub capped : ℕ → ℕ
 capped n = min n (2 ^ 64 - 1)
 
--- how many rows a text of `end` bytes gives, if its first `place` bytes gave `len` and the rest is as dense, and an eighth more
--- for the rest
+-- how many rows a text of `end` bytes gives, if its first `place` bytes gave `len` and the rest is as dense, an eighth more for the
+-- rest, and 8 more
 abbrev pub foretold : ℕ → ℕ → ℕ → ℕ
-foretold len place end = let rest = capped (len * (end - place)) / max place 1 in capped (capped (len + rest) + rest / 8)
+foretold len place end = let rest = capped (len * (end - place)) / max place 1 in capped (capped (len + rest) + (rest / 8 + 8))
 
 -- the room for a table that is full with `len` rows: at least an eighth more, at most eight times as much
 abbrev pub foreseen : ℕ → ℕ → ℕ → ℕ

@@ -33,8 +33,11 @@ const LEAST_PART: usize = 96;
 /// So many bytes have one row at most, of each kind, however dense the sample is.
 const DENSEST: usize = 12;
 
-/// A short text has room for so many nodes more than its length foretells at most, and for twice as many attributes.
-const MORE_AT_FIRST: usize = 16;
+/// The nodes of most texts of fewer bytes find room in 21 rows, less than 1 KB: pieces of that size the C library keeps at hand.
+const FEW_NODES: usize = 1024;
+
+/// And the attributes of most texts of fewer bytes.
+const FEW_ATTRIBUTES: usize = 2048;
 
 /// There is room for so many nodes more.
 const MORE_NODES: usize = 16;
@@ -91,13 +94,16 @@ fn by_sample(bytes: &[u8]) -> RowCounts {
     }
 }
 
-/// What the length of a short text foretells, and room for some more, so that its tables seldom grow.
+/// What the length of a text foretells, and room for some more, so that its tables seldom grow.
 #[inline(always)]
 fn by_length(len: usize) -> RowCounts {
-    let attributes = len / 120;
     RowCounts {
-        nodes: len / 48 + (len / 72).min(MORE_AT_FIRST),
-        attributes: attributes + attributes.min(2 * MORE_AT_FIRST),
+        nodes: if len < FEW_NODES { 5 } else { len / 48 + 16 },
+        attributes: if len < FEW_ATTRIBUTES {
+            11
+        } else {
+            len / 120 + 31
+        },
     }
 }
 

@@ -109,9 +109,9 @@ pub(crate) fn first_room<T: Drop>(
 }
 
 /// Makes room in a table whose rows the first `place` bytes of a text of `end` bytes gave: for as many as the whole text gives if
-/// the rest is as dense, and for the rest an eighth more. At least for an eighth more than there are, so that a table is seldom
-/// moved, and at most for eight times as many, since a dense head tells little of the rest. Where that is refused and the table
-/// would not be small, it makes room for an eighth more. The only error is want of memory.
+/// the rest is as dense, for an eighth more of the rest, and for 8 more. At least for an eighth more than there are, so that a table
+/// is seldom moved, and at most for eight times as many, since a dense head tells little of the rest. Where that is refused and the
+/// table would not be small, it makes room for an eighth more. The only error is want of memory.
 #[cold]
 #[inline(never)]
 pub fn make_room<T: Drop>(to: &mut Vec<T>, place: usize, end: usize) -> Result<(), AllocError>
@@ -119,7 +119,7 @@ pub fn make_room<T: Drop>(to: &mut Vec<T>, place: usize, end: usize) -> Result<(
 {
     let len = to.len();
     let rest = len.saturating_mul(end.saturating_sub(place)) / place.max(1);
-    let foretold = len.saturating_add(rest).saturating_add(rest / 8);
+    let foretold = len.saturating_add(rest).saturating_add(rest / 8 + 8);
     let least = len + len / 8 + 4;
     let room = foretold.min(len.saturating_mul(8)).max(least);
     reserve(to, room - len, len / 8 + 1)
