@@ -15,9 +15,9 @@ use Rattle.rox_grammar.specs.FixedTexts.{word_text}
 use Rattle.rox_reading.specs.Lexical.{has_mark, chars_up_to, text_to, string_at}
 use Rattle.rox_reading.specs.Markup.{raw_value_at, comment_at}
 use Rattle.rox_reading.specs.Values.{is_special}
-use Rattle.rox_scan.specs.ByteSets.{is_char_byte, AllPass, is_value_byte, is_wide_value_byte, is_text_byte, is_comment_byte}
+use Rattle.rox_scan.specs.ByteSets.{is_char_byte, AllPass, is_value_byte, is_wide_value_byte, is_text_byte, is_comment_byte, is_ascii_comment_byte}
 use Rattle.rox_scan.specs.Lookahead.{IsLookahead, ends_value, ends_run, changes_run, ends_comment, changes_comment}
-use Rattle.rox_scan.proofs.NearLemmas.{near_chars, near_found, none_among, value_is_plain, value_cut, value_widens, wide_value_is_plain, wide_value_cut, text_is_plain, text_cut, comment_is_plain, comment_cut}
+use Rattle.rox_scan.proofs.NearLemmas.{near_chars, near_found, none_among, value_is_plain, value_cut, value_widens, wide_value_is_plain, wide_value_cut, text_is_plain, text_cut, comment_is_plain, comment_cut, ascii_comment_widens, ascii_comment_cut}
 use Rattle.rox_scan.proofs.MarkLemmas.{before_mark_is, not_from_first, fails, stands_split, stands_from_split}
 use Rattle.rox_scan.proofs.CharLemmas.{chars_joined}
 use Rattle.rox_reading.proofs.Stretches.{range_parts, range_length}
@@ -238,6 +238,13 @@ pub comment_near : (src : List ℕ) (i e : ℕ) → IsUtf8 src → IsCharBoundar
     → IsLookahead (ends_comment src) changes_comment src i e true
 comment_near src i e utf8 start le within all stops =
     near_looked is_comment_byte changes_comment (ends_comment src) src i e utf8 start le (comment_cut src e within stops) all comment_is_plain (λ b h. refl) (λ k h. apart_from double_dash src k (omega arith) (comment_no_dash _ h))
+
+-- the same of ASCII bytes
+pub ascii_comment_near : (src : List ℕ) (i e : ℕ) → IsUtf8 src → IsCharBoundary src i → i ≤ e → e ≤ length src → AllPass is_ascii_comment_byte src i e
+    → IsLookahead (ends_comment src) changes_comment src i e true
+ascii_comment_near src i e utf8 start le within all =
+    near_looked is_ascii_comment_byte changes_comment (ends_comment src) src i e utf8 start le (ascii_comment_cut src i e utf8 start le within all) all (λ b h. comment_is_plain b (ascii_comment_widens b h)) (λ b h. refl)
+    (λ k h. apart_from double_dash src k (omega arith) (comment_no_dash _ (ascii_comment_widens _ h)))
 
 pub comment_on : (src : List ℕ) (i j n e : ℕ) → IsUtf8 src → IsCharBoundary src i → IsLookahead (ends_comment src) changes_comment src i j true
     → j < n → IsCharBoundary src n → AreChars src j n → ((k : ℕ) → j < k → k < n → 128 ≤ get_or src k 0) → ends_comment src j ≡ false

@@ -43,6 +43,10 @@ is_ascii_text_byte b = nat_lt b 128 && is_text_byte b
 unfoldable pub is_comment_byte : ℕ → Bool
 is_comment_byte b = ((((b == 9 || b == 10) || b == 13) || nat_le 32 b) && not (b == 239)) && not (b == 45)
 
+-- the same of ASCII alone, and no CR
+unfoldable pub is_ascii_comment_byte : ℕ → Bool
+is_ascii_comment_byte b = (nat_lt b 128 && not (b == 13)) && is_comment_byte b
+
 -- ASCII, and in a part of a name
 unfoldable pub is_part_byte : ℕ → Bool
 is_part_byte b = nat_lt b 128 && is_part_char b

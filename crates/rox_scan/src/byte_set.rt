@@ -133,6 +133,29 @@ impl ByteSet for CommentByte {
     }
 }
 
+/// The ASCII bytes of them but CR, which few comments have.
+pub struct AsciiCommentByte;
+
+// The controls of the set, and `-`, each at its low half.
+const COMMENT_EXCEPTIONS: [u8; 16] = [1, 0, 0, 0, 0, 0, 0, 0, 0, b'\t', b'\n', 0, 0, b'-', 0, 0];
+
+impl ByteSet for AsciiCommentByte {
+    ghost test = { near.is_ascii_comment_byte };
+
+    #[inline(always)]
+    #[tactic(auto, unfolding(crate::specs::ByteSets::is_ascii_comment_byte))]
+    fn has(byte: u8) -> bool {
+        ((byte < 128) & (byte != b'\r')) & CommentByte::has(byte)
+    }
+
+    #[inline(always)]
+    fn others(block: u8x16) -> u64 {
+        let exceptions = by_low(COMMENT_EXCEPTIONS, block).simd_eq(block);
+        let controls_and_wide = wide_first(block).simd_lt(u8x16::splat(BEHIND_CONTROLS));
+        (controls_and_wide ^ exceptions).to_bitmask()
+    }
+}
+
 /// The bytes that begin no character but a Char, or go on with one.
 pub struct CharByte;
 
