@@ -18,6 +18,7 @@ use rox_grammar::fault::Word;
 use rox_scan::byte_set::{PartByte, near_part_end, skip_set};
 use rox_scan::character_data::{line_run_end, text_end};
 use rox_scan::cursor::Cursor;
+use rox_scan::markup::whole_comment;
 use rox_scan::runs::{after_byte, is_at};
 use rox_tables::rows::storage::StringStorage;
 use rox_tables::rows::tables::NodeKind;
@@ -264,12 +265,11 @@ fn plain_comment<'input>(cursor: &mut Cursor<'input>, builder: &mut Builder<'inp
         cursor.old cursor.new builder.old builder.new result }
 {
     let start = cursor.pos;
-    let mut behind = *cursor;
-    let Ok(text) = behind.comment() else {
+    let Some(whole) = whole_comment(*cursor) else {
         return false;
     };
-    *cursor = behind;
-    let kind = NodeKind::Comment(StringStorage::Borrowed(text));
+    cursor.pos = whole.end;
+    let kind = NodeKind::Comment(StringStorage::Borrowed(whole.text));
     builder.put_leaf(builder.parent(), start, cursor.pos, kind);
     true
 }

@@ -22,7 +22,7 @@ use crate::open_names::has_prefix;
 use crate::spaced_value::{spaced_value, spaced_value_ends};
 use crate::tag::{MOST_ATTRIBUTES, StartTag, byte_count};
 use rox_grammar::name::QName;
-use rox_scan::byte_set::{PartByte, ValueByte, WideValueByte, far_space_end, part_end, skip_set};
+use rox_scan::byte_set::{PartByte, QuotedByte, ValueByte, far_space_end, part_end, skip_set};
 use rox_scan::chars::NameStart;
 use rox_scan::cursor::{Cursor, Quote};
 use rox_scan::lookahead::{changes, scan_value};
@@ -153,15 +153,19 @@ fn verbatim_value_end(text: &str, at: usize, quote: u8) -> usize
     }
 }
 
-/// The same, by a look for bytes past ASCII too. It is apart, so that it saves no registers.
+/// The same. Most such values are in double quotes, and have bytes past ASCII or the other quote, for which a look is quicker. It is
+/// apart, so that it saves no registers.
 #[inline(never)]
 fn wide_value_end(text: &str, at: usize, quote: u8) -> usize
     requires { BeginsValue text.now at quote }
     ensures { 0 < result → EndsVerbatim text.now at quote result }
 {
-    let wide = skip_set::<WideValueByte>(text, at);
-    if is_at(text, wide, quote) {
-        return wide;
+    if quote != b'"' {
+        return verbatim_value_end(text, at, quote);
+    }
+    let end = skip_set::<QuotedByte>(text, at);
+    if is_at(text, end, b'"') {
+        return end;
     }
     verbatim_value_end(text, at, quote)
 }

@@ -15,9 +15,9 @@ use Rattle.rox_grammar.specs.FixedTexts.{word_text}
 use Rattle.rox_reading.specs.Lexical.{has_mark, chars_up_to, text_to, string_at}
 use Rattle.rox_reading.specs.Markup.{raw_value_at, comment_at}
 use Rattle.rox_reading.specs.Values.{is_special}
-use Rattle.rox_scan.specs.ByteSets.{is_char_byte, AllPass, is_value_byte, is_wide_value_byte, is_text_byte, is_comment_byte}
+use Rattle.rox_scan.specs.ByteSets.{is_char_byte, AllPass, is_value_byte, is_wide_value_byte, is_quoted_byte, is_text_byte, is_comment_byte, is_ascii_comment_byte}
 use Rattle.rox_scan.specs.Lookahead.{IsLookahead, ends_value, ends_run, changes_run, ends_comment, changes_comment}
-use Rattle.rox_scan.proofs.NearLemmas.{near_chars, near_found, none_among, value_is_plain, value_cut, value_widens, wide_value_is_plain, wide_value_cut, text_is_plain, text_cut, comment_is_plain, comment_cut}
+use Rattle.rox_scan.proofs.NearLemmas.{near_chars, near_found, none_among, value_is_plain, value_cut, value_widens, wide_value_is_plain, wide_value_cut, quoted_is_plain, quoted_cut, text_is_plain, text_cut, comment_is_plain, comment_cut, ascii_comment_widens, ascii_comment_cut}
 use Rattle.rox_scan.proofs.MarkLemmas.{before_mark_is, not_from_first, fails, stands_split, stands_from_split}
 use Rattle.rox_scan.proofs.CharLemmas.{chars_joined}
 use Rattle.rox_reading.proofs.Stretches.{range_parts, range_length}
@@ -136,6 +136,20 @@ pub wide_value_near : (src : List ℕ) (quote i e : ℕ) → IsUtf8 src → (quo
 wide_value_near src quote i e utf8 q start le within all stops =
     near_looked is_wide_value_byte is_special (ends_value quote src) src i e utf8 start le (wide_value_cut src e within stops) all wide_value_is_plain value_same (λ k h. value_open quote _ q h)
 
+-- the same of a value in double quotes
+quoted_same : (b : ℕ) → is_quoted_byte b ≡ true → is_special b ≡ false
+unfolding is_quoted_byte is_wide_value_byte is_value_byte
+quoted_same b h = grind (arith, nat_tests)
+
+quoted_open : (b : ℕ) → is_quoted_byte b ≡ true → (b == 34 || b == 60) ≡ false
+unfolding is_quoted_byte is_wide_value_byte is_value_byte
+quoted_open b h = grind (arith, nat_tests)
+
+pub quoted_near : (src : List ℕ) (i e : ℕ) → IsUtf8 src → IsCharBoundary src i → i ≤ e → e ≤ length src → AllPass is_quoted_byte src i e → (e < length src → is_quoted_byte (get_or src e 0) ≡ false)
+    → IsLookahead (ends_value 34 src) is_special src i e true
+quoted_near src i e utf8 start le within all stops =
+    near_looked is_quoted_byte is_special (ends_value 34 src) src i e utf8 start le (quoted_cut src e within stops) all quoted_is_plain quoted_same (λ k h. quoted_open _ h)
+
 -- and a character behind them, and the bytes behind that
 pub value_on : (src : List ℕ) (quote i j n e : ℕ) (verbatim : Bool) → IsUtf8 src → (quote == 39 || quote == 34) ≡ true → IsCharBoundary src i → IsLookahead (ends_value quote src) is_special src i j verbatim
     → j < n → IsCharBoundary src n → AreChars src j n → ((k : ℕ) → j < k → k < n → 128 ≤ get_or src k 0) → ends_value quote src j ≡ false
@@ -238,6 +252,13 @@ pub comment_near : (src : List ℕ) (i e : ℕ) → IsUtf8 src → IsCharBoundar
     → IsLookahead (ends_comment src) changes_comment src i e true
 comment_near src i e utf8 start le within all stops =
     near_looked is_comment_byte changes_comment (ends_comment src) src i e utf8 start le (comment_cut src e within stops) all comment_is_plain (λ b h. refl) (λ k h. apart_from double_dash src k (omega arith) (comment_no_dash _ h))
+
+-- the same of ASCII bytes
+pub ascii_comment_near : (src : List ℕ) (i e : ℕ) → IsUtf8 src → IsCharBoundary src i → i ≤ e → e ≤ length src → AllPass is_ascii_comment_byte src i e
+    → IsLookahead (ends_comment src) changes_comment src i e true
+ascii_comment_near src i e utf8 start le within all =
+    near_looked is_ascii_comment_byte changes_comment (ends_comment src) src i e utf8 start le (ascii_comment_cut src i e utf8 start le within all) all (λ b h. comment_is_plain b (ascii_comment_widens b h)) (λ b h. refl)
+    (λ k h. apart_from double_dash src k (omega arith) (comment_no_dash _ (ascii_comment_widens _ h)))
 
 pub comment_on : (src : List ℕ) (i j n e : ℕ) → IsUtf8 src → IsCharBoundary src i → IsLookahead (ends_comment src) changes_comment src i j true
     → j < n → IsCharBoundary src n → AreChars src j n → ((k : ℕ) → j < k → k < n → 128 ≤ get_or src k 0) → ends_comment src j ≡ false

@@ -2,7 +2,7 @@
 use Rattle.std.proofs.Common.{◌≡◌, ℕ, zero, suc, ◌+◌, ◌-◌, ◌<◌, ◌≤◌, ◌==◌, ◌||◌, Bool, true, false, not, List, Ok, length, get_or, take, drop, slice_range, refl, sym, ap, subst, ◌∙◌, arith, inl, inr, get_or-drop, length-drop}
 use Rattle.std.specs.List.{list_any, list_all}
 use Rattle.std.specs.Str.{IsUtf8, IsCharBoundary}
-use Rattle.std.proofs.lemmas.Bool.{cases_eq, cases_lt, eqb-true, le-ltb, lt-leb}
+use Rattle.std.proofs.lemmas.Bool.{and_parts, cases_eq, cases_lt, eqb-true, le-ltb, lt-leb}
 use Rattle.std.proofs.lemmas.Bool.Decides.{nat_tests}
 use Rattle.std.proofs.lemmas.List.{length-take, get_or-take, drop_more, drop_all, get_or_past}
 use Rattle.std.proofs.lemmas.List.Sums.{position_or_len_is}
@@ -14,7 +14,7 @@ use Rattle.rox_grammar.specs.Search.{byte_from}
 use Rattle.rox_reading.specs.Lexical.{chars_up_to}
 use Rattle.rox_reading.specs.Markup.{raw_value_at}
 use Rattle.rox_reading.specs.Values.{is_special}
-use Rattle.rox_scan.specs.ByteSets.{is_char_byte, AllPass, is_value_byte, is_wide_value_byte, is_text_byte, is_comment_byte, is_part_byte, is_run_byte, is_stretch_byte}
+use Rattle.rox_scan.specs.ByteSets.{is_char_byte, AllPass, is_value_byte, is_wide_value_byte, is_quoted_byte, is_text_byte, is_comment_byte, is_ascii_comment_byte, is_part_byte, is_run_byte, is_stretch_byte}
 use Rattle.rox_scan.proofs.RunLemmas.{begins_ascii, run_on_ascii, run_stops_ascii, run_at_end, space_on, space_stops}
 use Rattle.rox_scan.proofs.PlainLemmas.{plain_run}
 
@@ -42,6 +42,18 @@ value_ascii : (b : ℕ) → is_value_byte b ≡ true → b < 128
 unfolding is_value_byte
 value_ascii b h = grind (arith, nat_tests)
 
+pub quoted_is_plain : (b : ℕ) → is_quoted_byte b ≡ true → is_char_byte b ≡ true
+unfolding is_quoted_byte is_wide_value_byte is_value_byte
+quoted_is_plain b h = grind (arith, nat_tests)
+
+pub ascii_comment_widens : (b : ℕ) → is_ascii_comment_byte b ≡ true → is_comment_byte b ≡ true
+unfolding is_ascii_comment_byte
+ascii_comment_widens b h = (and_parts _ _ h).1
+
+comment_ascii : (b : ℕ) → is_ascii_comment_byte b ≡ true → b < 128
+unfolding is_ascii_comment_byte is_comment_byte
+comment_ascii b h = grind (arith, nat_tests)
+
 part_ascii : (b : ℕ) → is_part_byte b ≡ true → b < 128
 unfolding is_part_byte
 part_ascii b h = grind (arith, nat_tests)
@@ -50,6 +62,10 @@ part_ascii b h = grind (arith, nat_tests)
 wide_value_leads : (b : ℕ) → is_wide_value_byte b ≡ false → 128 ≤ b → 192 ≤ b
 unfolding is_wide_value_byte is_value_byte
 wide_value_leads b h wide = grind (arith, nat_tests)
+
+quoted_leads : (b : ℕ) → is_quoted_byte b ≡ false → 128 ≤ b → 192 ≤ b
+unfolding is_quoted_byte is_wide_value_byte is_value_byte
+quoted_leads b h wide = grind (arith, nat_tests)
 
 text_leads : (b : ℕ) → is_text_byte b ≡ false → 128 ≤ b → 192 ≤ b
 unfolding is_text_byte
@@ -65,6 +81,9 @@ char_leads b h wide = grind (arith, nat_tests)
 -- so the first such byte is where one ends
 pub wide_value_cut : (src : List ℕ) (e : ℕ) → e ≤ length src → (e < length src → is_wide_value_byte (get_or src e 0) ≡ false) → IsCharBoundary src e
 wide_value_cut src e within stops = (within, λ more wide. wide_value_leads _ (stops more) wide)
+
+pub quoted_cut : (src : List ℕ) (e : ℕ) → e ≤ length src → (e < length src → is_quoted_byte (get_or src e 0) ≡ false) → IsCharBoundary src e
+quoted_cut src e within stops = (within, λ more wide. quoted_leads _ (stops more) wide)
 
 pub text_cut : (src : List ℕ) (e : ℕ) → e ≤ length src → (e < length src → is_text_byte (get_or src e 0) ≡ false) → IsCharBoundary src e
 text_cut src e within stops = (within, λ more wide. text_leads _ (stops more) wide)
@@ -92,6 +111,9 @@ part_cut src i e utf8 cut le within all = ascii_cut is_part_byte src i e utf8 cu
 
 pub value_cut : (src : List ℕ) (i e : ℕ) → IsUtf8 src → IsCharBoundary src i → i ≤ e → e ≤ length src → AllPass is_value_byte src i e → IsCharBoundary src e
 value_cut src i e utf8 cut le within all = ascii_cut is_value_byte src i e utf8 cut le within all value_ascii
+
+pub ascii_comment_cut : (src : List ℕ) (i e : ℕ) → IsUtf8 src → IsCharBoundary src i → i ≤ e → e ≤ length src → AllPass is_ascii_comment_byte src i e → IsCharBoundary src e
+ascii_comment_cut src i e utf8 cut le within all = ascii_cut is_ascii_comment_byte src i e utf8 cut le within all comment_ascii
 
 -- a run of name characters goes on behind them
 run_from : (src : List ℕ) (i e n : ℕ) → i + n ≡ e → e ≤ length src → IsUtf8 src → AllPass is_part_byte src i e → run_end is_part_char src e ≡ run_end is_part_char src i

@@ -23,6 +23,10 @@ is_value_byte b = (nat_le 32 b && nat_lt b 128) && not ((b == 34 || b == 39) || 
 unfoldable pub is_wide_value_byte : ℕ → Bool
 is_wide_value_byte b = is_value_byte b || is_wide b
 
+-- the same, or `'`
+unfoldable pub is_quoted_byte : ℕ → Bool
+is_quoted_byte b = is_wide_value_byte b || b == 39
+
 -- no `&` and no white space that is no space
 unfoldable pub is_stretch_byte : ℕ → Bool
 is_stretch_byte b = not (b == 38 || (b == 9 || (b == 10 || b == 13)))
@@ -42,6 +46,10 @@ is_ascii_text_byte b = nat_lt b 128 && is_text_byte b
 -- no control but TAB, LF and CR, and no `-`
 unfoldable pub is_comment_byte : ℕ → Bool
 is_comment_byte b = ((((b == 9 || b == 10) || b == 13) || nat_le 32 b) && not (b == 239)) && not (b == 45)
+
+-- the same of ASCII alone, and no CR
+unfoldable pub is_ascii_comment_byte : ℕ → Bool
+is_ascii_comment_byte b = (nat_lt b 128 && not (b == 13)) && is_comment_byte b
 
 -- ASCII, and in a part of a name
 unfoldable pub is_part_byte : ℕ → Bool

@@ -1,5 +1,5 @@
 -- What a longer look tells of a stretch of a text.
-use Rattle.std.specs.Prelude.{◌≡◌, ◌≤◌, ◌<◌, ◌+◌, ◌==◌, ◌||◌, ℕ, Bool, false, not, List, length, take, slice_index, slice_range, Ok}
+use Rattle.std.specs.Prelude.{◌≡◌, ◌≤◌, ◌<◌, ◌+◌, ◌==◌, ◌||◌, ℕ, Bool, true, false, not, List, length, take, slice_index, slice_range, Ok}
 use Rattle.std.specs.List.{list_any}
 use Rattle.std.specs.Str.{IsCharBoundary}
 use Rattle.rox_grammar.specs.declared.fault.Word.TheVariants as word
@@ -61,6 +61,11 @@ ends_comment src k = stands double_dash src k
 -- and is not changed
 abbrev pub changes_comment : ℕ → Bool
 changes_comment b = false
+
+-- a comment's text is in order from i up to j, where its `-->` stands
+pub record EndsComment (src : List ℕ) (i j : ℕ) : Type 0 where
+  pub looked : IsLookahead (ends_comment src) changes_comment src i j true
+  pub here : stands (word_text word.CommentEnd) src j ≡ true
 
 -- from i up to j a CR, a LF, and bytes that are no `&` and no CR
 pub record IsLine (src : List ℕ) (i j : ℕ) : Type 0 where

@@ -1,5 +1,5 @@
 -- What the scanner's values are without where they lie in memory.
-use Rattle.std.specs.Prelude.{◌≡◌, ◌≤◌, List, ℕ, Bool, Option, Result, IfOk, option_map, slice_range}
+use Rattle.std.specs.Prelude.{◌≡◌, ◌≤◌, List, ℕ, Bool, Option, Result, IfOk, Ok, option_map, slice_range}
 use Rattle.std.specs.Borrow.{Bor}
 use Rattle.std.specs.Str.{IsCharBoundary}
 use Rattle.rox_grammar.specs.Content.{is_verbatim, is_verbatim_value}
@@ -11,6 +11,7 @@ use Rattle.rox_scan.specs.ScanResults.{Steps}
 use Rattle.rox_scan.specs.declared.cursor.Cursor.{Cursor}
 use Rattle.rox_scan.specs.declared.character_data.RawCharacterData.{RawCharacterData}
 use Rattle.rox_scan.specs.declared.markup.Instruction.{Instruction}
+use Rattle.rox_scan.specs.declared.markup.WholeComment.{WholeComment}
 use Rattle.rox_scan.specs.declared.tag.EndTag.{EndTag}
 use Rattle.rox_scan.specs.declared.tag.RawAttribute.{RawAttribute}
 use Rattle.rox_scan.specs.declared.tag.RawValue.{RawValue}
@@ -22,6 +23,12 @@ text_view o = option_map (λ x. x.now) o
 
 abbrev pub instruction_view : Instruction → markup.Instruction
 instruction_view p = record { target = p.target.now; value = text_view p.value }
+
+-- a comment is read at this place
+pub record IsComment (src : List ℕ) (i : ℕ) (c : WholeComment) : Type 0 where
+  pub read : markup.comment_at src i ≡ Ok (c.text.now, c.end)
+  pub cut : IsCharBoundary src c.end
+  pub onward : i ≤ c.end
 
 abbrev pub end_tag_view : EndTag → markup.EndTag
 end_tag_view e = record { name = name_view e.name; name_end = e.name_end }

@@ -102,6 +102,29 @@ impl ByteSet for WideValueByte {
     }
 }
 
+/// The same, and `'`: the bytes of a value in double quotes that stand for themselves and do not end it.
+pub struct QuotedByte;
+
+// What ends a run of them beside controls and 239, each at its low half.
+const QUOTED_ENDS: [u8; 16] = [1, 0, b'"', 0, 0, 0, b'&', 0, 0, 0, 0, 0, b'<', 0, 0, 0];
+
+impl ByteSet for QuotedByte {
+    ghost test = { near.is_quoted_byte };
+
+    #[inline(always)]
+    #[tactic(auto, unfolding(crate::specs::ByteSets::is_quoted_byte))]
+    fn has(byte: u8) -> bool {
+        WideValueByte::has(byte) | (byte == b'\'')
+    }
+
+    #[inline(always)]
+    fn others(block: u8x16) -> u64 {
+        let ends = by_low(QUOTED_ENDS, block).simd_eq(block);
+        let controls = block.simd_lt(u8x16::splat(32));
+        (controls | ends | block.simd_eq(u8x16::splat(239))).to_bitmask()
+    }
+}
+
 /// The bytes of a comment that stand for themselves: no `-`, not 239, and no control but TAB, LF and CR.
 pub struct CommentByte;
 
@@ -130,6 +153,29 @@ impl ByteSet for CommentByte {
         let controls = block.simd_lt(u8x16::splat(32)) ^ exceptions;
         let ends = block.simd_eq(u8x16::splat(b'-')) | block.simd_eq(u8x16::splat(239));
         (controls | ends).to_bitmask()
+    }
+}
+
+/// The ASCII bytes of them but CR, which few comments have.
+pub struct AsciiCommentByte;
+
+// The controls of the set, and `-`, each at its low half.
+const COMMENT_EXCEPTIONS: [u8; 16] = [1, 0, 0, 0, 0, 0, 0, 0, 0, b'\t', b'\n', 0, 0, b'-', 0, 0];
+
+impl ByteSet for AsciiCommentByte {
+    ghost test = { near.is_ascii_comment_byte };
+
+    #[inline(always)]
+    #[tactic(auto, unfolding(crate::specs::ByteSets::is_ascii_comment_byte))]
+    fn has(byte: u8) -> bool {
+        ((byte < 128) & (byte != b'\r')) & CommentByte::has(byte)
+    }
+
+    #[inline(always)]
+    fn others(block: u8x16) -> u64 {
+        let exceptions = by_low(COMMENT_EXCEPTIONS, block).simd_eq(block);
+        let controls_and_wide = wide_first(block).simd_lt(u8x16::splat(BEHIND_CONTROLS));
+        (controls_and_wide ^ exceptions).to_bitmask()
     }
 }
 

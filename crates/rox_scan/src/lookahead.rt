@@ -11,14 +11,15 @@ ghost use Rattle.rox_grammar.specs.Content as content;
 ghost use Rattle.rox_reading.specs.Values as reading;
 ghost use Rattle.rox_scan.specs.ByteSets as near;
 ghost use Rattle.rox_scan.specs.Lookahead as longer;
-ghost use Rattle.rox_scan.specs.Lookahead.{IsAfterChar, LooksAhead, LooksAtValue};
+ghost use Rattle.rox_scan.specs.Lookahead.{EndsComment, IsAfterChar, IsLookahead, LooksAhead, LooksAtValue};
 ghost use Rattle.rox_scan.specs.ScanResults.{Finds, HasCharAt, MayHaveMark};
 
-use crate::byte_set::{ByteSet, CharByte, CommentByte, WideValueByte, skip_set};
+use crate::byte_set::{AsciiCommentByte, ByteSet, CharByte, CommentByte, WideValueByte, skip_set};
 use crate::chars::{Class, XmlChar};
 use crate::cursor::{Cursor, Quote};
 use crate::nibbles::by_low;
 use crate::runs::char_at;
+use rox_grammar::fault::Word;
 use std::simd::prelude::*;
 
 /// What a longer look tells: up to `end` all is in order, and whether it stands for itself.
@@ -181,6 +182,42 @@ pub fn comment_end(from: Cursor<'_>) -> usize
         end = skip_set::<CommentByte>(text, next);
     }
     end
+}
+
+/// Where the text of a comment ends that begins at `at`, if it is in order, or 0: by a longer look, as it has other bytes too.
+#[inline(never)]
+fn far_comment_end(text: &str, at: usize) -> usize
+    requires { IsCharBoundary text.now at }
+    ensures { 0 < result → EndsComment text.now at result }
+{
+    let end = comment_end(Cursor { text, pos: at });
+    if (Cursor { text, pos: end }).starts(Word::CommentEnd) {
+        end
+    } else {
+        0
+    }
+}
+
+/// Where the ASCII bytes of a comment end that stand for themselves.
+#[inline(always)]
+fn ascii_comment_end(from: Cursor<'_>) -> usize
+    ensures { IsLookahead (longer.ends_comment from.entry.text.now) longer.changes_comment
+        from.entry.text.now from.entry.pos result true }
+{
+    skip_set::<AsciiCommentByte>(from.text, from.pos)
+}
+
+/// Where the text of a comment ends that begins here, if it is in order, or 0. Most are of ASCII bytes, for which a look is quicker.
+#[inline(always)]
+pub fn comment_text_end(from: Cursor<'_>) -> usize
+    ensures { 0 < result → EndsComment from.entry.text.now from.entry.pos result }
+{
+    let text = from.text;
+    let near = ascii_comment_end(from);
+    if (Cursor { text, pos: near }).starts(Word::CommentEnd) {
+        return near;
+    }
+    far_comment_end(text, near)
 }
 
 /// Whether a value has no `&` and no white space but spaces.

@@ -1,6 +1,6 @@
 //! Comments, processing instructions and CDATA sections.
 
-ghost use Rattle.std.specs.Prelude.{◌≡◌, ◌+◌, true};
+ghost use Rattle.std.specs.Prelude.{◌≡◌, ◌+◌, IfSome, true};
 ghost use Rattle.rox_grammar.specs.Search.{stands};
 ghost use Rattle.rox_grammar.specs.FixedTexts.{word_text};
 ghost use Rattle.rox_grammar.specs.Tree.{none_if_empty};
@@ -8,10 +8,10 @@ ghost use Rattle.rox_grammar.specs.declared.fault.Word.TheVariants as word;
 ghost use Rattle.rox_reading.specs.Lexical as lexical;
 ghost use Rattle.rox_reading.specs.Markup as spec;
 ghost use Rattle.rox_scan.specs.ScanResults.{Steps};
-ghost use Rattle.rox_scan.specs.Views.{instruction_view, text_view};
+ghost use Rattle.rox_scan.specs.Views.{IsComment, instruction_view, text_view};
 
 use crate::cursor::Cursor;
-use crate::lookahead::comment_end;
+use crate::lookahead::comment_text_end;
 use crate::search::{has_mark, mark_from};
 use rox_grammar::fault::{Expected, Fault, Word};
 
@@ -28,6 +28,34 @@ fn none_if_empty(text: &str) -> Option<&str>
     ensures { none_if_empty text.now ≡ text_view result }
 {
     if text.is_empty() { None } else { Some(text) }
+}
+
+/// A comment that is in order: its text, and the place behind it.
+#[derive(Clone, Copy)]
+pub struct WholeComment<'input> {
+    pub text: &'input str,
+    pub end: usize,
+}
+
+/// The comment that `<!--` begins here, if it is in order.
+#[inline(always)]
+pub fn whole_comment<'input>(from: Cursor<'input>) -> Option<WholeComment<'input>>
+    requires { stands (word_text word.CommentStart) from.text.now from.pos ≡ true }
+    ensures { IfSome result (IsComment from.entry.text.now from.entry.pos) }
+{
+    let mut here = from;
+    here.skip(Word::CommentStart);
+    let start = here.pos;
+    let end = comment_text_end(here);
+    if end == 0 {
+        return None;
+    }
+    here.pos = end;
+    here.skip(Word::CommentEnd);
+    Some(WholeComment {
+        text: &from.text[start..end],
+        end: here.pos,
+    })
 }
 
 impl<'input> Cursor<'input> {
@@ -50,18 +78,13 @@ impl<'input> Cursor<'input> {
         requires { stands (word_text word.CommentStart) self.old.text.now self.old.pos ≡ true }
         ensures { Steps (λ x. x.now) self.old self.new result spec.comment_at }
     {
-        let start = self.pos;
-        self.skip(Word::CommentStart);
-        let text = self.text;
-        let from = self.pos;
-        let end = comment_end(*self);
-        let mut behind = Cursor::at(text, end);
-        if !behind.starts(Word::CommentEnd) {
+        let Some(whole) = whole_comment(*self) else {
+            let start = self.pos;
+            self.skip(Word::CommentStart);
             return self.slow_comment(start);
-        }
-        behind.skip(Word::CommentEnd);
-        self.pos = behind.pos;
-        Ok(&text[from..end])
+        };
+        self.pos = whole.end;
+        Ok(whole.text)
     }
 
     /// The same, behind its `<!--`, of a comment that is not in order.
