@@ -170,10 +170,10 @@ pub fn first_tables<'input>(
 {
     let bytes = text.len();
     let rows = first_rows(text);
-    // An allocator often gives places in turn, and a table behind which nothing stands grows where it is: the rows come last.
+    // The scopes come last: what is at hand before the nodes are made has to be kept meanwhile.
     let attributes = AttributeTable::of_text(alloc, bytes, rows.attributes);
-    let scopes = empty_scope(alloc)?;
     let nodes = NodeTable::of_text(alloc, bytes, rows.nodes)?;
+    let scopes = empty_scope(alloc)?;
     Ok(FirstTables {
         attributes,
         scopes,
