@@ -105,6 +105,16 @@ first_seen p src i others seen some =
       stops = λ more. block_stops p src i 16 _ within count short;
     }
 
+-- and it is there
+pub first_there : (p : ℕ → Bool) (src : List ℕ) (i others : ℕ) → IsSeen p src i others → 0 < others → i + count_trailing_zeros 64 others < length src
+first_there p src i others seen some =
+    let q = λ (b : ℕ). not (p b) in
+    let within = seen.within in
+    let mask = seen.mask in
+    let left : 0 < mask_l (map q (chunk i 16 src)) = omega (arith, mask, some) in
+    let count = ap (count_trailing_zeros 64) mask ∙ counted_some q src i 16 within (omega arith) left in
+    omega (arith, count, some_left q (chunk i 16 src) left, length-chunk i 16 src within)
+
 -- the lanes as they are
 pub map_same : (v : List ℕ) → v ≡ map (λ x. x) v
 map_same [] = refl

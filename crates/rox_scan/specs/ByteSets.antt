@@ -72,6 +72,11 @@ pub record EndsSet (p : ℕ → Bool) (src : List ℕ) (i j : ℕ) : Type 0 wher
   pub passes : AllPass p src i j
   pub stops : j < length src → p (slice_index src j) ≡ false
 
+-- the bytes from i up to j pass, and one stands at j that does not
+pub record StopsSet (p : ℕ → Bool) (src : List ℕ) (i j : ℕ) : Type 0 where
+  pub ends : EndsSet p src i j
+  pub there : j < length src
+
 -- character data from i up to j stands for itself, and a `<` stands at j
 pub record EndsText (src : List ℕ) (i j : ℕ) : Type 0 where
   pub ends : EndsSet is_text_byte src i j

@@ -1,13 +1,13 @@
 //! Runs of plain bytes, sixteen at a time: a first look at names, values, character data and comments.
 
-ghost use Rattle.std.specs.Prelude.{◌≡◌, ◌+◌, ◌<◌, ◌≤◌, ℕ, Bool, true, false, not, map, take, drop, length, slice_index};
+ghost use Rattle.std.specs.Prelude.{IfSome, ◌≡◌, ◌+◌, ◌<◌, ◌≤◌, ℕ, Bool, true, false, not, map, take, drop, length, slice_index};
 ghost use Rattle.std.specs.Str.{IsCharBoundary};
 ghost use Rattle.std.specs.Int.{w64, trailing_zeros};
 ghost use Rattle.std.specs.Simd.Lanes.{mask_l};
 ghost use Rattle.rox_grammar.specs.Chars as spec;
 ghost use Rattle.rox_grammar.specs.Runs.{run_end};
 ghost use Rattle.rox_scan.specs.ByteSets as near;
-ghost use Rattle.rox_scan.specs.ByteSets.{EndsSet, is_part_byte};
+ghost use Rattle.rox_scan.specs.ByteSets.{EndsSet, StopsSet, is_part_byte};
 ghost use Rattle.rox_scan.specs.Windows.{IsSeen};
 ghost use Rattle.rox_scan.specs.ScanResults.{EndsNear, Finds, TellsAscii};
 
@@ -287,7 +287,49 @@ fn bytes_end<C: ByteSet>(bytes: &[u8], at: usize) -> usize
     end
 }
 
-/// The same of a text.
+/// Where the first byte from `at` on stands that is not in the set, if one does, seen byte by byte.
+#[inline(always)]
+fn other_behind<C: ByteSet>(bytes: &[u8], at: usize) -> Option<usize>
+    requires { at ≤ length bytes.now }
+    ensures { IfSome result (StopsSet C.test bytes.entry.now at) }
+{
+    let mut end = at;
+    while end < bytes.len() {
+        if !C::has(bytes[end]) {
+            return Some(end);
+        }
+        end += 1;
+    }
+    None
+}
+
+/// The same sixteen bytes at a time.
+#[inline(always)]
+fn other_in<C: ByteSet>(bytes: &[u8], at: usize) -> Option<usize>
+    requires { at ≤ length bytes.now }
+    ensures { IfSome result (StopsSet C.test bytes.entry.now at) }
+{
+    let mut block = at;
+    while bytes.len() - block >= 16 {
+        let others = others_at::<C>(bytes, block);
+        if others != 0 {
+            return Some(block + before_first(others));
+        }
+        block += 16;
+    }
+    other_behind::<C>(bytes, block)
+}
+
+/// Where the first byte of a text from `at` on stands that is not in the set, if one does: what reads it needs no other test.
+#[inline(always)]
+pub fn find_other<C: ByteSet>(text: &str, at: usize) -> Option<usize>
+    requires { at ≤ length text.now }
+    ensures { IfSome result (StopsSet C.test text.entry.now at) }
+{
+    other_in::<C>(text.as_bytes(), at)
+}
+
+/// Where the bytes of the set end in a text from `at` on.
 #[inline(always)]
 pub fn skip_set<C: ByteSet>(text: &str, at: usize) -> usize
     requires { at ≤ length text.now }

@@ -15,7 +15,7 @@ ghost use Rattle.rox_scan.specs.Lookahead.{IsLineRun, IsLookahead, IsStep, Looks
 ghost use Rattle.rox_scan.specs.Views.{ReadsRun};
 ghost use Rattle.rox_scan.specs.ScanResults.{HasWideAt};
 
-use crate::byte_set::{BEHIND_CONTROLS, ByteSet, skip_set, wide_first};
+use crate::byte_set::{BEHIND_CONTROLS, ByteSet, find_other, skip_set, wide_first};
 use crate::cursor::Cursor;
 use crate::lookahead::{Lookahead, after_char, is_mark_at};
 use crate::nibbles::by_low;
@@ -87,16 +87,16 @@ pub fn text_end(text: &str, at: usize) -> Option<usize>
     requires { at ≤ length text.now }
     ensures { IfSome result (EndsText text.now at) }
 {
-    let near = skip_set::<AsciiTextByte>(text, at);
-    if is_at(text, near, b'<') {
+    let bytes = text.as_bytes();
+    let near = find_other::<AsciiTextByte>(text, at)?;
+    if bytes[near] == b'<' {
         return Some(near);
     }
-    let end = skip_set::<TextByte>(text, near);
-    if is_at(text, end, b'<') {
-        Some(end)
-    } else {
-        None
+    let end = find_other::<TextByte>(text, near)?;
+    if bytes[end] == b'<' {
+        return Some(end);
     }
+    None
 }
 
 /// Whether a run ends at `at`: a `<` stands there, or the text ends.

@@ -1,5 +1,5 @@
-use Rattle.std.proofs.Common.{◌≡◌, ℕ, true, false, ◌&&◌, sym, ap, ◌∙◌, slice_index, refl, arith}
-use Rattle.std.proofs.lemmas.Bool.{and_parts, eqb-true}
+use Rattle.std.proofs.Common.{◌≡◌, ℕ, List, true, false, ◌&&◌, sym, ap, ◌∙◌, slice_index, refl, arith}
+use Rattle.std.proofs.lemmas.Bool.{and_parts}
 use Rattle.rox_scan.specs.ByteSets.{is_ascii_text_byte, is_text_byte}
 use Rattle.rox_scan.proofs.LaneLemmas.{passes_on}
 use Rattle.rox_scan.proofs.character_data.text_end.Goals as goal
@@ -12,10 +12,10 @@ tag_stops : is_text_byte 60 ≡ false
 unfolding is_text_byte
 tag_stops = refl
 
-pub returns-then-is_at : goal.returns-then-is_at
-returns-then-is_at c =
-    let n = c.skip_set-near.ensures in
-    let here = eqb-true _ _ (sym c.is_at.ensures ∙ c.if-is_at.true) in
+pub returns-then-bytes-near-eq60 : goal.returns-then-bytes-near-eq60
+returns-then-bytes-near-eq60 c =
+    let n = c.in_ok-near.ensures.ends in
+    let here : slice_index c.args.text.now c.in_ok-near.near ≡ 60 = ap (λ (xs : List ℕ). slice_index xs c.in_ok-near.near) (sym c.as_bytes-bytes.ensures.value) ∙ c.if-bytes-near-eq60.true in
     record {
       ends = record {
         onward = n.onward;
@@ -26,16 +26,16 @@ returns-then-is_at c =
       here = here;
     }
 
-pub returns-then-is_at-2 : goal.returns-then-is_at-2
-returns-then-is_at-2 c =
-    let n = c.skip_set-near.ensures in
-    let f = c.skip_set-end.ensures in
+pub returns-then-bytes-end-eq60 : goal.returns-then-bytes-end-eq60
+returns-then-bytes-end-eq60 c =
+    let n = c.in_ok-near.ensures.ends in
+    let f = c.in_ok-end.ensures.ends in
     record {
       ends = record {
         onward = omega (arith, n.onward, f.onward);
         within = f.within;
-        passes = passes_on is_text_byte c.args.text.now c.args.at c.skip_set-near.result _ (λ k low high. is_of_text _ (n.passes k low high)) f.passes;
+        passes = passes_on is_text_byte c.args.text.now c.args.at c.in_ok-near.near _ (λ k low high. is_of_text _ (n.passes k low high)) f.passes;
         stops = f.stops;
       };
-      here = eqb-true _ _ (sym c.is_at-2.ensures ∙ c.if-is_at-2.true);
+      here = ap (λ (xs : List ℕ). slice_index xs c.in_ok-end.end) (sym c.as_bytes-bytes.ensures.value) ∙ c.if-bytes-end-eq60.true;
     }
