@@ -61,9 +61,10 @@ fn slow_character_data<'input>(
     data_parts(alloc, cursor, builder, context, start, stop)
 }
 
-/// The same: a text that waits has its row then, where none can go on.
+/// The same: a text that waits has its row then, where none can go on. It is out of line, as what reads a whole text is in line only
+/// where it is not too large.
 #[cycle(content)]
-#[inline(always)]
+#[inline(never)]
 fn ended_character_data<'input>(
     alloc: Global,
     cursor: &mut Cursor<'input>,

@@ -154,8 +154,8 @@ fn root_attributes<'input>(
     None
 }
 
-/// A start tag, from its `<`, below the root node, if it is plain.
-#[inline(never)]
+/// A start tag, from its `<`, below the root node, if it is plain. It is in line, as its answer would be moved twice.
+#[inline(always)]
 fn root_tag<'input>(
     text: &'input str,
     start: usize,
