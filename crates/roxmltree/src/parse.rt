@@ -121,7 +121,7 @@ fn read<'input, 'w, R: EntityResolver<'input> + Drop>(
         → IsFirst opt.nodes_limit opt.allow_dtd (Allows R.allows opt.entity_resolver) text.now e) }
 {
     let Ok(first) = first_tables(alloc, text) else {
-        return Err(Error::OutOfMemory);
+        return refusal(alloc, text, ParseError::Memory);
     };
     let mut builder = Builder::of_root(alloc, first, opt.nodes_limit);
     let dtd = match build(
@@ -132,14 +132,28 @@ fn read<'input, 'w, R: EntityResolver<'input> + Drop>(
         &mut builder,
     ) {
         Ok(dtd) => dtd,
-        Err(refused) => return Err(told(alloc, text, refused)),
+        Err(refused) => return refusal(alloc, text, refused),
     };
     let tables = builder.finish();
     Ok(Document::from_tables(text, opt.document_key, dtd, tables))
 }
 
+/// The answer where a text is refused. It is made whole before it is moved: else the place for it would be cleared first, whatever
+/// the answer is.
+#[inline(always)]
+fn refusal<'input, 'w>(
+    alloc: Global,
+    text: &str,
+    refused: ParseError<'_>,
+) -> Result<Document<'input>, Error<'w>>
+    ensures { (e : Error) × (result ≡ Err e) × IsErrorOfReason text.now refused.entry e }
+{
+    Err(told(alloc, text, refused))
+}
+
 /// What a caller is told of a refusal.
 #[cold]
+#[inline(never)]
 fn told<'w>(alloc: Global, text: &str, refused: ParseError<'_>) -> Error<'w>
     ensures { IsErrorOfReason text.now refused.entry result }
 {

@@ -47,7 +47,8 @@ returns-clause-key g c =
     ap (λ d. d.key) (c.from_tables.ensures _ (built_holds c.args.opt.nodes_limit c.args.opt.allow_dtd allows c.args.text.now c.utf8.text c.finish-tables.result c.in-Ok-build.dtd b))
 
 pub returns-in-Err-clause-told : goal.returns-in-Err-clause-told
-returns-in-Err-clause-told g c some =
+returns-in-Err-clause-told g c =
     let allows = Allows g.R.EntityResolver.allows c.args.opt.entity_resolver in
     let refused = subst (λ (n : ℕ). BuiltRefusal n c.args.opt.allow_dtd allows c.args.text.now c.in-Err.refused) c.of_root-builder.ensures.limit c.in-Err.ensures.refused in
-    is_first c.args.opt.nodes_limit c.args.opt.allow_dtd allows c.args.text.now c.utf8.text c.in-Err.refused _ some refused c.told.ensures
+    let e = c.refusal-in-Err.ensures in
+    rw e.1 (λ some. is_first c.args.opt.nodes_limit c.args.opt.allow_dtd allows c.args.text.now c.utf8.text c.in-Err.refused _ some refused e.2)
