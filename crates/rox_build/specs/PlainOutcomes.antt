@@ -9,7 +9,7 @@ use Rattle.rox_grammar.specs.declared.fault.Word.{Word}
 use Rattle.rox_reading.specs.Machine as machine
 use Rattle.rox_reading.specs.Refusals.{Refusal}
 use Rattle.rox_reading.specs.State.{State}
-use Rattle.rox_scan.specs.ByteSets.{EndsSet, is_part_byte}
+use Rattle.rox_scan.specs.ByteSets.{StopsSet, is_part_byte}
 use Rattle.rox_scan.specs.ScanResults.{Finds}
 use Rattle.rox_scan.specs.declared.cursor.Cursor.{Cursor}
 use Rattle.rox_build.specs.BuilderState.{GoesOn, IsConsistent, IsInState, IsReady, KeepsState, ScansTo}
@@ -41,7 +41,7 @@ pub record MayReadEnd (c : Cursor) (b : Builder) : Type 0 where
 -- a start tag may begin here, the first ASCII bytes of whose name end at this place, and there is room for its row
 pub record MayReadBare (c : Cursor) (j : ℕ) (b : Builder) : Type 0 where
   pub here : slice_index c.text.now c.pos ≡ 60
-  pub near : EndsSet is_part_byte c.text.now (c.pos + 1) j
+  pub near : StopsSet is_part_byte c.text.now (c.pos + 1) j
   pub letter : 63 < slice_index c.text.now (c.pos + 1)
   pub room : HasRoom c.text.now b
 

@@ -13,7 +13,8 @@ use Rattle.rox_scan.specs.ScanResults.{Finds}
 use Rattle.rox_scan.specs.Windows.{SeesQuote}
 use Rattle.rox_scan.specs.declared.window.Window.{Window}
 use Rattle.rox_tables.specs.Bindings.{FindsBinding}
-use Rattle.rox_tables.specs.Rows.{numbered_place, NamespaceWithin, attribute_uri, namespace_view}
+use Rattle.rox_grammar.specs.Document.{most_attributes}
+use Rattle.rox_tables.specs.Rows.{numbered_place, NamespaceWithin, attribute_rows, attribute_uri, namespace_view}
 use Rattle.rox_tables.specs.Storage.{storage_bytes}
 use Rattle.rox_tables.specs.declared.namespaces.unresolved_attribute.UnresolvedAttribute.{UnresolvedAttribute}
 use Rattle.rox_tables.specs.declared.namespaces.seen_names.SeenNames.{SeenNames}
@@ -131,6 +132,7 @@ pub record MayReadBareTag (src : List ℕ) (i j : ℕ) (t : ElementTables) (o : 
   pub near : EndsNear src (i + 1) j
   pub closed : slice_index src j ≡ 62
   pub below : MayOpenBelow t o
+  pub few_attributes : length (attribute_rows t.attributes) ≤ most_attributes
 
 -- a start tag may stand here, of a name of ASCII bytes without prefix, below an element of such a name
 pub record MayReadNearTag (src : List ℕ) (p : TagPlace) (t : ElementTables) (o : OpenElement) : Type 0 where

@@ -1,13 +1,14 @@
 -- How many bytes at the front of two stretches are the same.
-use Rattle.std.specs.Prelude.{◌≡◌, ◌≤◌, ℕ, Bool, true, List, length, take}
+use Rattle.std.specs.Prelude.{◌<◌, slice_index, ◌≡◌, ◌≤◌, ℕ, Bool, true, List, length, take}
 
 -- both have sixteen bytes
 pub record HaveSixteen (xs ys : List ℕ) : Type 0 where
   pub one : 16 ≤ length xs
   pub other : 16 ≤ length ys
 
--- if so, both have n bytes, and these are the same
-pub record IsSameFront (xs ys : List ℕ) (n : ℕ) (result : Bool) : Type 0 where
+-- if so, both have n bytes, these are the same, and `>` stands behind them in the other
+pub record ClosesFront (xs ys : List ℕ) (n : ℕ) (result : Bool) : Type 0 where
   pub one : result ≡ true → n ≤ length xs
-  pub other : result ≡ true → n ≤ length ys
   pub same : result ≡ true → take n xs ≡ take n ys
+  pub there : result ≡ true → n < length ys
+  pub closed : result ≡ true → slice_index ys n ≡ 62

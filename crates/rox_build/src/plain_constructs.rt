@@ -13,9 +13,9 @@ ghost use Rattle.rox_build.specs.Readiness.{HasRoom, IsApart, MayReadAt};
 
 use crate::builder::Builder;
 use crate::plain_tag::{TagPlace, bare_start_tag, near_start_tag, plain_start_tag};
-use crate::same_front::same_front;
+use crate::same_front::closes_front;
 use rox_grammar::fault::Word;
-use rox_scan::byte_set::{PartByte, near_part_end, skip_set};
+use rox_scan::byte_set::{PartByte, find_other, near_part_end};
 use rox_scan::character_data::{line_run_end, text_end};
 use rox_scan::cursor::Cursor;
 use rox_scan::markup::whole_comment;
@@ -121,13 +121,10 @@ fn plain_end_tag(cursor: &mut Cursor<'_>, builder: &mut Builder<'_>, open_around
     let slash = after_byte(text, cursor.pos, b'<');
     let name = after_byte(text, slash, b'/');
     let count = open.name_end - open.name_start;
-    if !same_front(open.source, &text.as_bytes()[name..], count) {
+    if !closes_front(open.source, &text.as_bytes()[name..], count) {
         return false;
     }
     let close = name + count;
-    if !is_at(text, close, b'>') {
-        return false;
-    }
     let end = after_byte(text, close, b'>');
     cursor.pos = end;
     builder.put_close(end);
@@ -147,7 +144,8 @@ fn bare_element<'input>(
         builder.new result }
 {
     // Most tags have more than a name, which is seen first.
-    if !is_at(cursor.text, near, b'>') || !builder.has_room_to_open() {
+    let bytes = cursor.text.as_bytes();
+    if bytes[near] != b'>' || !builder.has_room_to_open() {
         return false;
     }
     let Some(parent) = builder.innermost() else {
@@ -323,10 +321,9 @@ fn plain_markup<'input>(
         return true;
     }
     let name = after_byte(text, start, b'<');
-    let near = skip_set::<PartByte>(text, name);
-    if near >= bytes.len() {
+    let Some(near) = find_other::<PartByte>(text, name) else {
         return false;
-    }
+    };
     if bare_element(cursor, builder, near) {
         return true;
     }

@@ -915,9 +915,6 @@ pub fn bare_start_tag<'input>(
     let name_at = after_byte(text, start, b'<');
     let local = near_name(text, name_at, near);
     let count = elements.attributes.len();
-    if count > MOST_ATTRIBUTES {
-        return None;
-    }
     let element = ElementData {
         local,
         attributes_from: count as u32,

@@ -1,7 +1,7 @@
 //! Bytes that are compared sixteen at a time.
 
 ghost use Rattle.std.specs.Prelude.{◌≡◌, ◌<◌, ℕ, slice_index};
-ghost use Rattle.rox_build.specs.SameFronts.{HaveSixteen, IsSameFront};
+ghost use Rattle.rox_build.specs.SameFronts.{ClosesFront, HaveSixteen};
 
 use rox_tables::compare::same_long;
 use std::simd::prelude::*;
@@ -18,15 +18,15 @@ fn same_count(one: &[u8], other: &[u8]) -> usize
     differ.trailing_zeros() as usize
 }
 
-/// Whether both have so many bytes, and these are the same.
+/// Whether both have so many bytes, and these are the same, and `>` stands behind them in the other.
 #[inline(always)]
-pub fn same_front(one: &[u8], other: &[u8], count: usize) -> bool
-    ensures { IsSameFront one.now other.now count result }
+pub fn closes_front(one: &[u8], other: &[u8], count: usize) -> bool
+    ensures { ClosesFront one.now other.now count result }
 {
-    if count <= 16 && one.len() >= 16 && other.len() >= 16 {
-        return count <= same_count(one, other);
+    if count < 16 && one.len() >= 16 && other.len() >= 16 {
+        return other[count] == b'>' && count <= same_count(one, other);
     }
-    if count > one.len() || count > other.len() {
+    if count > one.len() || count >= other.len() || other[count] != b'>' {
         return false;
     }
     same_long(&one[..count], &other[..count])

@@ -25,6 +25,7 @@ bare_start_tag-requires c = record {
       let b = c.args.builder.now in
       let split = c.in-Some.ensures in
       below_last b.tables b.opened.items split.0 c.in-Some.parent c.requires.room.fine split.1;
+  few_attributes = c.requires.room.fine.few_attributes;
 }
 
 pub returns : goal.returns

@@ -1,4 +1,4 @@
-use Rattle.std.proofs.Common.{◌≡◌, ◌++◌, ◌∷◌, [], ◌-◌, ◌+◌, List, false, refl, sym, subst, ap, ◌∙◌, arith, length, take, drop, slice_index, Ok, leb}
+use Rattle.std.proofs.Common.{ℕ, get_or, get_or-drop, slice_range, ◌≡◌, ◌++◌, ◌∷◌, [], ◌-◌, ◌+◌, List, false, refl, sym, subst, ap, ◌∙◌, arith, length, take, drop, slice_index, Ok, leb}
 use Rattle.std.specs.List.{AllByRecursion}
 use Rattle.std.proofs.lemmas.Bool.{lt-leb, eqb-true}
 use Rattle.std.proofs.lemmas.List.{take_rest}
@@ -14,6 +14,19 @@ use Rattle.rox_build.proofs.SameNames.{all_last, same_itself, end_tag_close}
 use Rattle.rox_build.proofs.Twice.{ready_fewer}
 use Rattle.rox_build.proofs.plain_constructs.plain_end_tag.Goals as goal
 
+-- what stands behind so many bytes of the rest
+behind_rest : (src bytes : List ℕ) (i n : ℕ) → bytes ≡ src → slice_index (slice_range bytes i (length bytes)) n ≡ 62 → slice_index src (i + n) ≡ 62
+behind_rest src bytes i n is closed =
+    let rest : slice_range bytes i (length bytes) ≡ drop i src = take_rest bytes i ∙ ap (drop i) is in
+    sym (get_or-drop i src n 0) ∙ ap (λ (xs : List ℕ). get_or xs n 0) (sym rest) ∙ closed
+
+pub after_byte-end-requires : goal.after_byte-end-requires
+after_byte-end-requires c = record {
+  some = omega arith;
+  ascii = omega arith;
+  here = behind_rest c.args.cursor.now.text.now c.as_bytes.result.now c.after_byte-name.result (name_count c.in-Some.open.now) c.as_bytes.ensures.value (c.closes_front.ensures.closed c.if-not-closes_front.false);
+}
+
 pub returns : goal.returns
 returns c = record {
   value = λ _ context end s around h.
@@ -28,10 +41,11 @@ returns c = record {
       let split : b.opened.items ≡ outer ++ o ∷ [] = sym c.deref.ensures.value ∙ last_split os o k.3.0 (k.3.1 o) in
       let named : HasName o = (all_last (IsOpenWithin b.tables) outer o (subst (AllByRecursion (IsOpenWithin b.tables)) split c.requires.fine.elements)).2 in
       let start : c.after_byte-name.result ≡ pos + 2 = omega (arith, c.after_byte-slash.ensures.place, c.after_byte-name.ensures.place) in
-      let closes : slice_index src (c.after_byte-name.result + name_count o) ≡ 62 = eqb-true _ _ (sym c.is_at.ensures ∙ c.if-not-is_at.false) in
+      let closes : slice_index src (c.after_byte-name.result + name_count o) ≡ 62 =
+      behind_rest src c.as_bytes.result.now c.after_byte-name.result (name_count o) c.as_bytes.ensures.value (c.closes_front.ensures.closed c.if-not-closes_front.false) in
       let j = c.after_byte-end.result in
       let same : take (name_count o) o.source.now ≡ take (name_count o) (drop (pos + 2) src) =
-      rw (← start) (c.same_front.ensures.same c.if-not-same_front.false ∙ ap (take (name_count o)) (take_rest c.as_bytes.result.now c.after_byte-name.result ∙ ap (drop c.after_byte-name.result) c.as_bytes.ensures.value)) in
+      rw (← start) (c.closes_front.ensures.same c.if-not-closes_front.false ∙ ap (take (name_count o)) (take_rest c.as_bytes.result.now c.after_byte-name.result ∙ ap (drop c.after_byte-name.result) c.as_bytes.ensures.value)) in
       let tag : end_tag_at src pos ≡ Ok (record { name = open_name o; name_end = pos + 2 + name_count o }, j) =
       end_tag_close src pos j o named cursor.utf8 same (rw (← start) closes) (rw (← start) c.after_byte-end.ensures.place) in
       let within : leb (depth_of s.stack) context.open_around ≡ false = (let d = opened_deep end s.stack s.done b h.shows in let l = c.len.ensures in let m = c.if-len-open_around.false in lt-leb _ _ (omega arith)) in

@@ -43,7 +43,7 @@ returns c =
     rw c.after_byte-end.ensures.place (opens_there namespaces few t.present src n rows n n rows (plain_starts namespaces few t.present src n rows) (omega arith) spaces here) in
     let finds : FindsBinding namespaces few t.present above = few_found t t.namespaces.items.items t.scopes.items t.listed.items (places_in t.listed.items t.scopes.items o.scope) o.scope refl refl refl refl in
     let from = c.len-count.ensures in
-    let most : count ≤ most_attributes = (let k = c.if-count-gt-MOST_ATTRIBUTES.false in omega arith) in
+    let most : count ≤ most_attributes = c.requires.few_attributes in
     let is = rw start at c.near_name-local.ensures in
     let none = listed-none above in
     let counted = plain_count namespaces above few t.present src n rows j false rows x finds in
