@@ -1,6 +1,6 @@
 -- The rows of nodes as their table stores them.
 use Rattle.std.specs.declared.alloc.Global.{Global}
-use Rattle.std.specs.Prelude.{ℕ, ◌+◌, ◌-◌, ◌*◌, ◌/◌, ◌^◌, ◌<◌, ◌≤◌, ◌≡◌, ◌==◌, ◌&&◌, Bool, true, false, not, List, [], ◌∷◌, Some, None, Result, IfOk, IfErr, OnOk, Vec, vec_len, vec_capacity, length, take, set, get_or, nat_lt, if◌then◌else◌}
+use Rattle.std.specs.Prelude.{ℕ, ◌+◌, ◌-◌, ◌*◌, ◌/◌, ◌^◌, ◌<◌, ◌≤◌, ◌≡◌, ◌==◌, ◌&&◌, Bool, true, false, not, List, [], ◌∷◌, Result, IfOk, IfErr, OnOk, Vec, vec_len, vec_capacity, length, take, set, get_or, nat_lt, if◌then◌else◌}
 use Rattle.std.specs.Mem.{manually_drop_value}
 use Rattle.std.specs.List.{list_all}
 use Rattle.rox_tables.specs.Storage.{is_borrowed}

@@ -1,6 +1,6 @@
 use Rattle.std.proofs.Common.{ℕ, get_or, get_or-drop, slice_range, ◌≡◌, ◌++◌, ◌∷◌, [], ◌-◌, ◌+◌, List, false, refl, sym, subst, ap, ◌∙◌, arith, length, take, drop, slice_index, Ok, leb}
 use Rattle.std.specs.List.{AllByRecursion}
-use Rattle.std.proofs.lemmas.Bool.{lt-leb, eqb-true}
+use Rattle.std.proofs.lemmas.Bool.{lt-leb}
 use Rattle.std.proofs.lemmas.List.{take_rest}
 use Rattle.rox_reading.specs.Markup.{end_tag_at}
 use Rattle.rox_reading.specs.State.{depth_of}

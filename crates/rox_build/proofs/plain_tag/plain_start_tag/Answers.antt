@@ -8,7 +8,7 @@ use Rattle.rox_grammar.specs.Document.{most_attributes, most_pairs}
 use Rattle.rox_grammar.specs.Failures.{name_view}
 use Rattle.rox_reading.specs.Tags.{tag_tested}
 use Rattle.rox_tables.specs.TagScopes.{lists_in}
-use Rattle.rox_tables.specs.Rows.{OptionWithin, numbered_place, namespace_view, attribute_rows}
+use Rattle.rox_tables.specs.Rows.{numbered_place, namespace_view, attribute_rows}
 use Rattle.rox_tables.specs.declared.rows.tables.ElementTables.{ElementTables}
 use Rattle.rox_tables.specs.declared.rows.tables.ElementData.{ElementData}
 use Rattle.rox_tables.proofs.Listing.{listed-none}
