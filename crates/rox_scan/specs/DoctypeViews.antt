@@ -1,19 +1,22 @@
 -- The parts of a document type declaration, without where they lie in memory, and how a resolver's answer begins.
 use Prim.Native.Char.{code}
-use Rattle.std.specs.Prelude.{◌≡◌, ℕ, ◌+◌, ◌==◌, ◌||◌, Bool, List, Option, Some, Result, Ok, Err, IfOk, length, take, slice_index, slice_range, nat_lt, nat_le, if◌then◌else◌, IsUtf8}
+use Rattle.std.specs.Prelude.{◌≡◌, ℕ, ◌+◌, ◌<◌, ◌==◌, ◌&&◌, ◌||◌, Bool, true, List, Option, Some, Result, Ok, Err, IfOk, length, take, slice_index, slice_range, nat_lt, nat_le, if◌then◌else◌, IsUtf8}
 use Rattle.rox_grammar.specs.declared.fault.Fault.{Fault}
 use Rattle.rox_grammar.specs.declared.fault.Fault.TheVariants as fault
 use Rattle.rox_grammar.specs.declared.fault.Due.TheVariants as due
+use Rattle.rox_grammar.specs.declared.fault.Word.{Word}
 use Rattle.rox_grammar.specs.declared.fault.Word.TheVariants as word
-use Rattle.rox_grammar.specs.Search.{byte_from}
+use Rattle.rox_grammar.specs.Search.{byte_from, stands}
 use Rattle.rox_grammar.specs.Names.{spaces_end}
-use Rattle.rox_grammar.specs.FixedTexts.{at}
+use Rattle.rox_grammar.specs.FixedTexts.{at, word_text}
 use Rattle.rox_grammar.specs.Entities.{Replacement}
 use Rattle.rox_grammar.specs.Doctype.{Request}
 use Rattle.rox_reading.specs.Lexical.{Read, ◌>>=◌, chars_up_to}
 use Rattle.rox_reading.specs.Markup.{xml_decl_at}
 use Rattle.rox_reading.specs.Refusals.{Refusal, there}
 use Rattle.rox_reading.specs.Doctype as reading
+use Rattle.std.specs.List.{list_all}
+use Rattle.rox_scan.specs.ByteSets.{is_part_byte}
 use Rattle.rox_scan.specs.ScanResults.{AreBoundaries, Steps}
 use Rattle.rox_scan.specs.Views.{text_view}
 use Rattle.rox_scan.specs.declared.cursor.Cursor.{Cursor}
@@ -71,6 +74,16 @@ subset_end_at src i =
 -- a value of such a declaration: what stands before this quote or a `<`
 abbrev pub up_to_quote : ℕ → List ℕ → ℕ → Read (List ℕ)
 up_to_quote quote src i = chars_up_to (byte_from (λ c. c == quote || c == code "<") src i) src i
+
+-- the bytes of a word are letters, and there are some
+pub record IsOfLetters (w : Word) : Type 0 where
+  pub some : 0 < length (word_text w)
+  pub all : list_all (λ b. is_part_byte b && nat_lt 63 b) (word_text w) ≡ true
+
+-- a word of letters stands here
+pub record IsNamed (w : Word) (c : Cursor) : Type 0 where
+  pub here : stands (word_text w) c.text.now c.pos ≡ true
+  pub letters : IsOfLetters w
 
 -- a declaration at the start of a text, if it stands there
 abbrev pub xml_decl_if : List ℕ → ℕ → Read (Unit {0})

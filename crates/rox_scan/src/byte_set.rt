@@ -272,7 +272,7 @@ fn bytes_end<C: ByteSet>(bytes: &[u8], at: usize) -> usize
     ensures { EndsSet C.test bytes.now at result }
 {
     let mut block = at;
-    while bytes.len() - block >= 16 {
+    while block + 16 <= bytes.len() {
         let others = others_at::<C>(bytes, block);
         if others != 0 {
             // The step is the same for each block, so that no block waits for the count of the one before.
@@ -290,7 +290,6 @@ fn bytes_end<C: ByteSet>(bytes: &[u8], at: usize) -> usize
 /// Where the first byte from `at` on stands that is not in the set, if one does, seen byte by byte.
 #[inline(always)]
 fn other_behind<C: ByteSet>(bytes: &[u8], at: usize) -> Option<usize>
-    requires { at ≤ length bytes.now }
     ensures { IfSome result (StopsSet C.test bytes.entry.now at) }
 {
     let mut end = at;
@@ -310,7 +309,7 @@ fn other_in<C: ByteSet>(bytes: &[u8], at: usize) -> Option<usize>
     ensures { IfSome result (StopsSet C.test bytes.entry.now at) }
 {
     let mut block = at;
-    while bytes.len() - block >= 16 {
+    while block + 16 <= bytes.len() {
         let others = others_at::<C>(bytes, block);
         if others != 0 {
             return Some(block + before_first(others));

@@ -6,12 +6,11 @@ ghost use Rattle.rox_grammar.specs.FixedTexts.{word_text};
 ghost use Rattle.rox_grammar.specs.declared.fault.Word.TheVariants as word;
 ghost use Rattle.rox_reading.specs.Markup as spec;
 ghost use Rattle.rox_scan.specs.ScanResults.{MovesTo, Steps};
-ghost use Rattle.rox_scan.specs.DoctypeViews.{up_to_quote, xml_decl_if};
+ghost use Rattle.rox_scan.specs.DoctypeViews.{IsNamed, IsOfLetters, up_to_quote, xml_decl_if};
 
-use crate::byte_set::{ByteSet, SpaceByte, ValueByte, part_end, skip_set};
-use crate::chars::NameStart;
+use crate::byte_set::{ByteSet, SpaceByte, ValueByte, skip_set};
 use crate::cursor::{Cursor, Quote};
-use crate::runs::{after_byte, begins, is_at};
+use crate::runs::{after_byte, is_at};
 use crate::search::either_from;
 use rox_grammar::fault::{Due, Expected, Fault, Word};
 
@@ -76,16 +75,16 @@ impl<'input> Cursor<'input> {
         self.gap()
     }
 
-    /// The same at one look, if `=` and a double quote stand right behind the name, and the value has plain bytes alone. Else the
-    /// cursor stands somewhere.
+    /// The same at one look, if the name is this one, which stands here, `=` and a double quote stand right behind it, and the value
+    /// has plain bytes alone. Else the cursor stands somewhere.
     #[inline(always)]
-    fn usual_pair(&mut self) -> bool
-        ensures { result ≡ true → Steps (λ x. x) self.old self.new (Ok tt) spec.pair_at }
+    fn usual_pair(&mut self, name: Word) -> bool
+        ensures { result ≡ true → IsNamed name self.old
+            → Steps (λ x. x) self.old self.new (Ok tt) spec.pair_at }
     {
         let text = self.text;
-        let start = self.pos;
-        let equals = part_end(text, start);
-        if !begins::<NameStart>(text, start) || !is_at(text, equals, b'=') {
+        let equals = self.pos + name.text().len();
+        if !is_at(text, equals, b'=') {
             return false;
         }
         let before = after_byte(text, equals, b'=');
@@ -121,12 +120,13 @@ impl<'input> Cursor<'input> {
     #[inline(always)]
     #[tactic(auto, unfolding(rox_reading::specs::Markup::pair_if))]
     fn usual_pair_if(&mut self, name: Word) -> bool
-        ensures { result ≡ true → Steps (λ x. x) self.old self.new (Ok tt) (spec.pair_if name) }
+        ensures { result ≡ true → IsOfLetters name
+            → Steps (λ x. x) self.old self.new (Ok tt) (spec.pair_if name) }
     {
         if !self.starts(name) {
             return true;
         }
-        if !self.usual_pair() {
+        if !self.usual_pair(name) {
             return false;
         }
         self.usual_gap()
@@ -142,7 +142,7 @@ impl<'input> Cursor<'input> {
         if !self.starts(Word::Standalone) {
             return true;
         }
-        self.usual_pair()
+        self.usual_pair(Word::Standalone)
     }
 
     /// The same of the XML declaration, from `<?xml` and a space. Its answer is one word, so that nothing is cleared for it.

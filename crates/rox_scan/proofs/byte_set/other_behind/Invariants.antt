@@ -5,7 +5,6 @@ use Rattle.rox_scan.proofs.byte_set.other_behind.Given as goal
 abbrev pub invariant-loop-end : goal.invariant-loop-end
 invariant-loop-end g l = record {
   onward : l.at ≤ l.end;
-  within : l.end ≤ length l.bytes;
   passes : AllPass g.C.ByteSet.test l.bytes l.at l.end;
 }
 

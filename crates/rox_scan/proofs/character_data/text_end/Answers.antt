@@ -1,4 +1,4 @@
-use Rattle.std.proofs.Common.{◌≡◌, ℕ, List, true, false, ◌&&◌, sym, ap, ◌∙◌, slice_index, refl, arith}
+use Rattle.std.proofs.Common.{◌≡◌, ℕ, List, true, false, sym, ap, ◌∙◌, slice_index, refl, arith}
 use Rattle.std.proofs.lemmas.Bool.{and_parts}
 use Rattle.rox_scan.specs.ByteSets.{is_ascii_text_byte, is_text_byte}
 use Rattle.rox_scan.proofs.LaneLemmas.{passes_on}

@@ -1,15 +1,15 @@
 use Rattle.std.proofs.Common.{◌≡◌, sym, ◌∙◌, rules}
 use Rattle.rox_grammar.specs.declared.fault.Expected.TheVariants as expected
 use Rattle.rox_reading.specs.Markup.{xml_decl_at}
-use Rattle.rox_scan.proofs.PairLemmas.{string_is}
+use Rattle.rox_scan.proofs.PairLemmas.{encoding_named, string_is, version_named}
 use Rattle.rox_scan.proofs.cursor.Cursor.usual_declaration.Goals as goal
 
 pub returns : goal.returns
 unfolding xml_decl_at
 returns c = λ _.
     let s = c.args.self.now in
-    let first = c.usual_pair_if.ensures c.if-not-usual_pair_if.false in
-    let second = c.usual_pair_if-2.ensures c.if-not-usual_pair_if-2.false in
+    let first = c.usual_pair_if.ensures c.if-not-usual_pair_if.false version_named in
+    let second = c.usual_pair_if-2.ensures c.if-not-usual_pair_if-2.false encoding_named in
     let third = c.usual_last_pair.ensures c.if-not-usual_last_pair.false in
     let t1 : c.skip_xml_decl_start.new.self.text ≡ s.text = c.skip_xml_decl_start.ensures.source in
     let t2 : c.spaces.new.self.text ≡ s.text = c.spaces.ensures.source ∙ t1 in
