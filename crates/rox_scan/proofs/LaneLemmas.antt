@@ -79,6 +79,15 @@ block_passes p src i n r room counted k low high = not-false _ (run_in_chunk_fai
 pub passes_on : (p : ℕ → Bool) (src : List ℕ) (i e j : ℕ) → AllPass p src i e → AllPass p src e j → AllPass p src i j
 passes_on p src i e j before behind k low high = elim (cases_lt k e) [ inl less ↦ before k low less | inr more ↦ behind k more high ]
 
+-- where they end behind those that pass
+pub ends_on : (p : ℕ → Bool) (src : List ℕ) (i e j : ℕ) → i ≤ e → AllPass p src i e → EndsSet p src e j → EndsSet p src i j
+ends_on p src i e j le before behind = record {
+  onward = omega (arith, le, behind.onward);
+  within = behind.within;
+  passes = passes_on p src i e j before behind.passes;
+  stops = behind.stops;
+}
+
 block_stops : (p : ℕ → Bool) (src : List ℕ) (i n r : ℕ) → i + n ≤ length src → r ≡ prefix_len (λ b. not (not (p b))) (chunk i n src) → r < n → p (get_or src (i + r) 0) ≡ false
 block_stops p src i n r room counted short = not-true _ (run_in_chunk_stops (λ b. not (p b)) src i n r 0 room counted short)
 

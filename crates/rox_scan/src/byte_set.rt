@@ -265,9 +265,22 @@ pub(crate) fn before_first(others: u64) -> usize
     others.trailing_zeros() as usize
 }
 
-/// Where the bytes of the set from `at` on end.
-#[inline(always)]
-fn bytes_end<C: ByteSet>(bytes: &[u8], at: usize) -> usize
+/// Where the bytes of the set from `at` on end, seen byte by byte.
+#[inline(never)]
+fn short_end<C: ByteSet>(bytes: &[u8], at: usize) -> usize
+    requires { at ≤ length bytes.now }
+    ensures { EndsSet C.test bytes.now at result }
+{
+    let mut end = at;
+    while end < bytes.len() && C::has(bytes[end]) {
+        end += 1;
+    }
+    end
+}
+
+/// The same sixteen bytes at a time.
+#[inline(never)]
+fn far_end<C: ByteSet>(bytes: &[u8], at: usize) -> usize
     requires { at ≤ length bytes.now }
     ensures { EndsSet C.test bytes.now at result }
 {
@@ -280,43 +293,52 @@ fn bytes_end<C: ByteSet>(bytes: &[u8], at: usize) -> usize
         }
         block += 16;
     }
-    let mut end = block;
-    while end < bytes.len() && C::has(bytes[end]) {
-        end += 1;
-    }
-    end
+    short_end::<C>(bytes, block)
 }
 
-/// Where the first byte from `at` on stands that is not in the set, if one does, seen byte by byte.
+/// The same. Most end among the first sixteen, which are seen in line.
 #[inline(always)]
-fn other_behind<C: ByteSet>(bytes: &[u8], at: usize) -> Option<usize>
-    ensures { IfSome result (StopsSet C.test bytes.entry.now at) }
+fn bytes_end<C: ByteSet>(bytes: &[u8], at: usize) -> usize
+    requires { at ≤ length bytes.now }
+    ensures { EndsSet C.test bytes.now at result }
 {
-    let mut end = at;
-    while end < bytes.len() {
-        if !C::has(bytes[end]) {
-            return Some(end);
-        }
-        end += 1;
+    if bytes.len() - at < 16 {
+        return short_end::<C>(bytes, at);
     }
-    None
+    let others = others_at::<C>(bytes, at);
+    if others != 0 {
+        return at + before_first(others);
+    }
+    far_end::<C>(bytes, at + 16)
 }
 
-/// The same sixteen bytes at a time.
+/// The place, if a byte stands there.
+#[inline(always)]
+fn some_byte(bytes: &[u8], at: usize) -> Option<usize>
+    ensures { IfSome result (λ i. (i ≡ at) × (i < length bytes.entry.now)) }
+{
+    if at >= bytes.len() {
+        return None;
+    }
+    Some(at)
+}
+
+/// Where the first byte from `at` on stands that is not in the set, if one does. Most stand among the first sixteen.
 #[inline(always)]
 fn other_in<C: ByteSet>(bytes: &[u8], at: usize) -> Option<usize>
     requires { at ≤ length bytes.now }
     ensures { IfSome result (StopsSet C.test bytes.entry.now at) }
 {
-    let mut block = at;
-    while block + 16 <= bytes.len() {
-        let others = others_at::<C>(bytes, block);
-        if others != 0 {
-            return Some(block + before_first(others));
-        }
-        block += 16;
+    if bytes.len() - at < 16 {
+        let end = short_end::<C>(bytes, at);
+        return some_byte(bytes, end);
     }
-    other_behind::<C>(bytes, block)
+    let others = others_at::<C>(bytes, at);
+    if others != 0 {
+        return Some(at + before_first(others));
+    }
+    let end = far_end::<C>(bytes, at + 16);
+    some_byte(bytes, end)
 }
 
 /// Where the first byte of a text from `at` on stands that is not in the set, if one does: what reads it needs no other test.

@@ -1,6 +1,6 @@
 use Rattle.std.proofs.Common.{◌≤◌, ◌-◌, length}
 use Rattle.rox_scan.specs.ByteSets.{AllPass}
-use Rattle.rox_scan.proofs.byte_set.other_in.Given as goal
+use Rattle.rox_scan.proofs.byte_set.far_end.Given as goal
 
 abbrev pub invariant-loop-block : goal.invariant-loop-block
 invariant-loop-block g l = record {
