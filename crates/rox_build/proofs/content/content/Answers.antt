@@ -53,6 +53,7 @@ loop-turn-preserved-then-rows_left-lt2 c = record {
   fine = fine_open c.plain_stretch-read.new.builder c.make_room.new.self c.make_room.ensures.kept c.plain_stretch-read.ensures.goes.fine;
   reads = λ limit end es s declared sees.
       let src = c.args.cursor.now.text.now in
+      let moved : c.loop-turn.cursor.pos < c.plain_stretch-read.new.cursor.pos = search rules in
       let context = context_of limit es c.args.context in
       let s0 = ap (λ t. t.now) c.loop-turn.invariant.source in
       let g0 = c.loop-turn.invariant.reads limit end es s declared sees in
@@ -64,7 +65,7 @@ loop-turn-preserved-then-rows_left-lt2 c = record {
         n = g.n;
         same = g.same;
         enough = g.enough;
-        onward = omega (arith, g0.onward, g0.sees.here, g.sees.here, c.plain_stretch-read.ensures.moves c.if-read.true);
+        onward = omega (arith, g0.onward, g0.sees.here, g.sees.here, moved);
       };
 }
 
