@@ -14,6 +14,7 @@ pub mod TextLooping
 pub mod TextOpening
 pub mod Joining
 pub mod Looping
+pub mod Moving
 pub mod Twice
 pub mod Wholes
 pub mod Asking

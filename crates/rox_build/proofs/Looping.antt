@@ -1,5 +1,6 @@
 -- The loops over constructs give what is read.
-use Rattle.std.proofs.Common.{◌≡◌, ℕ, zero, suc, ◌<◌, ◌≤◌, true, false, List, length, refl, sym, ap, ◌∙◌, Result, Ok, Err, lt-ltb, le-ltb}
+use Rattle.std.proofs.Common.{◌≡◌, ℕ, zero, suc, ◌+◌, ◌-◌, ◌<◌, ◌≤◌, true, false, List, length, refl, sym, ap, ◌∙◌, arith, Result, Ok, Err, lt-ltb, le-ltb}
+use Rattle.std.specs.Str.{IsUtf8}
 use Rattle.rox_grammar.specs.declared.fault.Fault.TheVariants as fault
 use Rattle.rox_grammar.specs.declared.fault.Word.TheVariants as word
 use Rattle.rox_grammar.specs.Names.{spaces_end}
@@ -17,54 +18,63 @@ use Rattle.rox_values.specs.Refusals.{IsFailure, IsRefusal}
 use Rattle.rox_values.specs.declared.parse_error.ParseError.{ParseError}
 use Rattle.rox_values.proofs.PartLemmas.{refuses_by}
 use Rattle.rox_build.specs.BuilderState.{IsInState, ScansTo, ParsesTo}
+use Rattle.rox_build.proofs.Moving.{step_moves}
 use Rattle.rox_build.proofs.Lifting.{lifted_ok, lifted_err}
 use Rattle.rox_build.specs.declared.builder.Builder.{Builder}
 
 -- ---- content
 
-pub record Driving (context : Context) (end : ℕ) (src : List ℕ) (whole : Result State Refusal) (n : ℕ) (c : Cursor) (b : Builder) : Type 0 where
+-- Reading goes on where the cursor and the builder stand, and gives the whole: so many turns have come there, a byte at least each, and
+-- the steps that are left are enough for the rest of the text.
+pub record Driving (context : Context) (end : ℕ) (src : List ℕ) (whole : Result State Refusal) (turns : ℕ) (c : Cursor) (b : Builder) : Type 0 where
   pub s : State
   pub sees : IsInState context.limit end s c b
+  pub n : ℕ
   pub same : drive context n src s ≡ whole
+  pub enough : length src ≤ n + s.at
+  pub onward : turns ≤ s.at
 
 pub driven : (context : Context) (n m : ℕ) (src : List ℕ) (s : State) → n ≡ suc m → is_root s.stack ≡ false → s.at < length src → drive context n src s ≡ (step context src s >>= λ t. drive context m src t)
 unfolding drive
 driven context n m src s one inner inside = let k = lt-ltb _ _ inside in rw (one, inner, k) refl
 
-pub drives_on : (context : Context) (end : ℕ) (src : List ℕ) (whole : Result State Refusal) (n m : ℕ) (c d : Cursor) (b u : Builder) (x : Unit {0}) (g : Driving context end src whole n c b) → n ≡ suc m → is_root g.s.stack ≡ false
-    → g.s.at < length src → ParsesTo context.limit end (Ok x) d u (step context src g.s) → Driving context end src whole m d u
-drives_on context end src whole n m c d b u x g one inner inside (t, read, sees) =
-    record { s = t; sees = sees; same = sym (driven context n m src g.s one inner inside ∙ rw read refl) ∙ g.same }
+pub drives_on : (context : Context) (end : ℕ) (src : List ℕ) (whole : Result State Refusal) (turns : ℕ) (c d : Cursor) (b u : Builder) (x : Unit {0}) (g : Driving context end src whole turns c b) → IsUtf8 src → is_root g.s.stack ≡ false
+    → g.s.at < length src → ParsesTo context.limit end (Ok x) d u (step context src g.s) → Driving context end src whole (turns + 1) d u
+drives_on context end src whole turns c d b u x g utf8 inner inside (t, read, sees) =
+    let on = step_moves context src g.s t utf8 inside read in
+    record {
+      s = t;
+      sees = sees;
+      n = g.n - 1;
+      same = sym (driven context g.n (g.n - 1) src g.s (omega (arith, g.enough, inside)) inner inside ∙ rw read refl) ∙ g.same;
+      enough = omega (arith, g.enough, inside, on);
+      onward = omega (arith, g.onward, on);
+    }
 
-pub drive_fails : (context : Context) (end : ℕ) (src : List ℕ) (whole : Result State Refusal) (n m : ℕ) (c : Cursor) (b : Builder) (e : ParseError) (g : Driving context end src whole n c b) → n ≡ suc m → is_root g.s.stack ≡ false
+pub drive_fails : (context : Context) (end : ℕ) (src : List ℕ) (whole : Result State Refusal) (turns : ℕ) (c : Cursor) (b : Builder) (e : ParseError) (g : Driving context end src whole turns c b) → is_root g.s.stack ≡ false
     → g.s.at < length src → IsRefusal e (step context src g.s) → IsRefusal e whole
-drive_fails context end src whole n m c b e g one inner inside h =
-    refuses_by e (step context src g.s) whole (λ r err. sym g.same ∙ driven context n m src g.s one inner inside ∙ rw err refl) h
+drive_fails context end src whole turns c b e g inner inside h =
+    refuses_by e (step context src g.s) whole (λ r err. sym g.same ∙ driven context g.n (g.n - 1) src g.s (omega (arith, g.enough, inside)) inner inside ∙ rw err refl) h
 
 -- the root element is closed
-pub drive_done : (context : Context) (end : ℕ) (src : List ℕ) (whole : Result State Refusal) (n : ℕ) (c : Cursor) (b : Builder) (g : Driving context end src whole n c b) → is_root g.s.stack ≡ true
+pub drive_done : (context : Context) (end : ℕ) (src : List ℕ) (whole : Result State Refusal) (turns : ℕ) (c : Cursor) (b : Builder) (g : Driving context end src whole turns c b) → is_root g.s.stack ≡ true
     → (s : State) × (whole ≡ Ok s) × IsInState context.limit end s c b
 unfolding drive
-drive_done context end src whole n c b g closed = (g.s, sym g.same ∙ stays n, g.sees)
+drive_done context end src whole turns c b g closed = (g.s, sym g.same ∙ stays g.n, g.sees)
   where
     stays : (n : ℕ) → drive context n src g.s ≡ Ok g.s
     stays zero = rw closed refl
     stays (suc n) = rw closed refl
 
 -- the text ends within it
-pub drive_cut : (context : Context) (end : ℕ) (src : List ℕ) (whole : Result State Refusal) (n : ℕ) (c : Cursor) (b : Builder) (g : Driving context end src whole n c b) → is_root g.s.stack ≡ false
+pub drive_cut : (context : Context) (end : ℕ) (src : List ℕ) (whole : Result State Refusal) (turns : ℕ) (c : Cursor) (b : Builder) (g : Driving context end src whole turns c b) → is_root g.s.stack ≡ false
     → length src ≤ g.s.at → whole ≡ Err (here fault.UnclosedRootNode)
 unfolding drive
-drive_cut context end src whole n c b g inner past = sym g.same ∙ stops n
+drive_cut context end src whole turns c b g inner past = sym g.same ∙ stops g.n
   where
     stops : (n : ℕ) → drive context n src g.s ≡ Err (here fault.UnclosedRootNode)
     stops zero = rw inner refl
     stops (suc n) = let k = le-ltb _ _ past in rw (inner, k) refl
-
-pub drive_spent : (context : Context) (end : ℕ) (src : List ℕ) (whole : Result State Refusal) (n : ℕ) (c : Cursor) (b : Builder) (g : Driving context end src whole n c b) → is_root g.s.stack ≡ false
-    → n ≡ 0 → whole ≡ Err (here fault.UnclosedRootNode)
-unfolding drive
-drive_spent context end src whole n c b g inner none = sym g.same ∙ rw (none, inner) refl
 
 -- ---- comments, processing instructions and white space
 

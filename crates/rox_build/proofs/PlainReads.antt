@@ -16,6 +16,7 @@ reads_not leaves such read c b fine = record {
   value = λ yes. absurd (cc yes);
   other = λ _. (refl, refl);
   ready = λ yes. absurd (cc yes);
+  moves = λ yes. absurd (cc yes);
   goes = record { source = refl; fine = fine };
 }
 
@@ -24,6 +25,7 @@ runs_not c b fine = record {
   reads = reads_not _ _ _ c b fine;
   tables = refl;
   opened = refl;
+  rows = λ yes. absurd (cc yes);
   behind = λ yes. absurd (cc yes);
 }
 

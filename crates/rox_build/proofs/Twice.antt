@@ -1,15 +1,17 @@
 -- Constructs that are read one behind another, in a loop.
-use Rattle.std.proofs.Common.{◌≡◌, ℕ, suc, ◌+◌, ◌-◌, ◌<◌, ◌≤◌, false, List, length, slice_index, refl, sym, ap, subst, ◌∙◌, arith, Result, Ok}
+use Rattle.std.proofs.Common.{◌≡◌, ℕ, suc, ◌+◌, ◌-◌, ◌<◌, ◌≤◌, false, List, length, vec_len, slice_index, refl, sym, ap, subst, ◌∙◌, arith, Result, Ok}
+use Rattle.std.specs.Str.{IsUtf8}
 use Rattle.rox_grammar.specs.State.{Open, root, inside, is_root}
 use Rattle.rox_reading.specs.Refusals.{Refusal}
 use Rattle.rox_reading.specs.State.{State, depth_of}
 use Rattle.rox_reading.specs.Machine.{Context, step, drive}
 use Rattle.rox_scan.specs.declared.cursor.Cursor.{Cursor}
-use Rattle.rox_build.specs.BuilderState.{IsInState, IsReady, ScansTo}
+use Rattle.rox_build.specs.BuilderState.{IsInState, IsReady, IsReadyTo, ScansTo}
 use Rattle.rox_build.specs.PlainSteps.{Steps, no_step, one_more, Reads}
 use Rattle.rox_build.proofs.Items.{stands_within}
 use Rattle.rox_build.proofs.Stepping.{opened_deep}
 use Rattle.rox_build.proofs.Looping.{Driving, driven}
+use Rattle.rox_build.proofs.Moving.{step_moves}
 use Rattle.rox_build.specs.declared.builder.Builder.{Builder}
 
 still_inside : (o p : Open) → depth_of o ≡ depth_of p → is_root o ≡ false → is_root p ≡ false
@@ -17,9 +19,9 @@ still_inside root p same inner = cc inner
 still_inside (inside start tag before up) root same inner = absurd (omega (arith, same))
 still_inside (inside start tag before up) (inside start' tag' before' up') same inner = refl
 
--- where there is room for some rows, there is room for fewer
-pub ready_fewer : (n m : ℕ) (b : Builder) → m ≤ n → IsReady n b → IsReady m b
-ready_fewer n m b fewer h = record { room = omega (arith, fewer, h.room); few = omega (arith, fewer, h.few); small = omega (arith, fewer, h.small); settled = h.settled }
+-- where there is room for so many rows in all, there is room for fewer more
+pub ready_within : (most n : ℕ) (b : Builder) → vec_len b.nodes.rows + n ≤ most → IsReadyTo most b → IsReady n b
+ready_within most n b fewer h = record { room = omega (arith, fewer, h.room); few = omega (arith, fewer, h.few); small = omega (arith, fewer, h.small); settled = h.settled }
 
 -- the place alone counts, not the cursor that stands there
 pub stands_there : (limit end : ℕ) (s : State) (c d : Cursor) (b : Builder) → d.pos ≡ c.pos → IsInState limit end s c b → IsInState limit end s d b
@@ -82,13 +84,18 @@ pub reads_kept : (context : Context) (end n : ℕ) (src : List ℕ) (s : State) 
     → ((t : State) → IsInState context.limit end t c b → IsInState context.limit end t d u) → Reads context end n d u src s
 reads_kept context end n src s c d b u g other = record { behind = g.behind; steps = g.steps; sees = other g.behind g.sees }
 
-drive_past : (context : Context) (src : List ℕ) (n m k : ℕ) (s t : State) → Steps context src k s t → n ≡ k + m → drive context n src s ≡ drive context m src t
-drive_past context src n m k s t (no_step _) all = let e : n ≡ m = omega (arith, all) in ap (λ (j : ℕ). drive context j src s) e
-drive_past context src n m k s t (one_more j _ r _ inner within read rest) all =
-    driven context n (j + m) src s (omega (arith, all)) inner within ∙ rw read (drive_past context src (j + m) m j r t rest refl)
+-- so many steps move on, and reading gives behind them what it gave
+drive_past : (context : Context) (src : List ℕ) (n k : ℕ) (s t : State) → IsUtf8 src → Steps context src k s t → length src ≤ n + s.at
+    → (m : ℕ) × (drive context n src s ≡ drive context m src t) × (length src ≤ m + t.at) × (s.at ≤ t.at)
+drive_past context src n k s t utf8 (no_step _) enough = (n, refl, enough, omega arith)
+drive_past context src n k s t utf8 (one_more j _ r _ inner within read rest) enough =
+    let on = step_moves context src s r utf8 within read in
+    let past = drive_past context src (n - 1) j r t utf8 rest (omega (arith, enough, within, on)) in
+    (past.0, driven context n (n - 1) src s (omega (arith, enough, within)) inner within ∙ rw read past.1, past.2, omega (arith, on, past.3))
 
 -- the loop goes on behind what was read
-pub drives_past : (context : Context) (end : ℕ) (src : List ℕ) (whole : Result State Refusal) (n k : ℕ) (c d : Cursor) (b u : Builder) (g : Driving context end src whole n c b) → k ≤ n → Reads context end k d u src g.s
-    → Driving context end src whole (n - k) d u
-drives_past context end src whole n k c d b u g most x =
-    record { s = x.behind; sees = x.sees; same = sym (drive_past context src n (n - k) k g.s x.behind x.steps (omega (arith, most))) ∙ g.same }
+pub drives_past : (context : Context) (end : ℕ) (src : List ℕ) (whole : Result State Refusal) (turns k : ℕ) (c d : Cursor) (b u : Builder) (g : Driving context end src whole turns c b) → IsUtf8 src → Reads context end k d u src g.s
+    → Driving context end src whole turns d u
+drives_past context end src whole turns k c d b u g utf8 x =
+    let past = drive_past context src g.n k g.s x.behind utf8 x.steps g.enough in
+    record { s = x.behind; sees = x.sees; n = past.0; same = sym past.1 ∙ g.same; enough = past.2; onward = omega (arith, g.onward, past.3) }

@@ -243,12 +243,16 @@ pub record Grown (old new : ElementTables) : Type 0 where
   pub more_lists : List (List NamespaceDecl)
   pub lists : lists_in new ≡ lists_in old ++ more_lists
 
--- there is room for so many rows more, and no text waits for its row
-pub record IsReady (n : ℕ) (b : Builder) : Type 0 where
-  pub room : vec_len b.nodes.rows + n ≤ vec_capacity b.nodes.rows
-  pub few : vec_len b.nodes.rows + n ≤ b.nodes_limit
-  pub small : vec_len b.nodes.rows + n < 2 ^ 32
+-- there is room for so many rows in all, and no text waits for its row
+pub record IsReadyTo (most : ℕ) (b : Builder) : Type 0 where
+  pub room : most ≤ vec_capacity b.nodes.rows
+  pub few : most ≤ b.nodes_limit
+  pub small : most < 2 ^ 32
   pub settled : waiting b.pending ≡ 0
+
+-- the same of so many rows more
+abbrev pub IsReady : ℕ → Builder → Type 0
+IsReady n b = IsReadyTo (vec_len b.nodes.rows + n) b
 
 -- a step stays in its source, and what the builder holds is consistent
 pub record GoesOn (old new : Cursor) (b : Builder) : Type 0 where

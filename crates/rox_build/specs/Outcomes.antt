@@ -15,7 +15,7 @@ use Rattle.rox_values.specs.Contexts.{context_of}
 use Rattle.rox_values.specs.DeclaredEntities.{AreDeclared}
 use Rattle.rox_values.specs.declared.context.Context.{Context}
 use Rattle.rox_values.specs.declared.parse_error.ParseError.{ParseError}
-use Rattle.rox_build.specs.BuilderState.{Adds, GoesOn, IsConsistent, IsInState, IsNode, IsOpened, IsOpening, IsReady, KeepsOpen, KeepsState, KeepsTables, ParsesTo, Represents, RepresentsFlushed, ScansTo}
+use Rattle.rox_build.specs.BuilderState.{Adds, GoesOn, IsConsistent, IsInState, IsNode, IsOpened, IsOpening, IsReadyTo, KeepsOpen, KeepsState, KeepsTables, ParsesTo, Represents, RepresentsFlushed, ScansTo}
 use Rattle.rox_build.specs.PendingText.{waiting}
 use Rattle.rox_build.specs.Readiness.{IsApart}
 use Rattle.rox_build.specs.declared.builder.Builder.{Builder}
@@ -49,13 +49,15 @@ pub record ScansWithin (read : machine.Context → List ℕ → State → Result
   pub value : (limit end : ℕ) (es : List Entity) (s : State) → IsInState limit end s old b → ScansTo limit end result new after (read (context_of limit es context) old.text.now s)
   pub goes : OnOk result (GoesOn old new after)
 
--- what stands at i was read, as this reading does, up to j, which fits a row, and took the room of one at most; or nothing was
+-- what stands at i was read, as this reading does, up to j, which fits a row and is behind it, in the room that there is for rows; or
+-- nothing was
 pub record ReadsAt (read : machine.Context → List ℕ → State → Result State Refusal) (src : List ℕ) (i j : ℕ) (b after : Builder) : Type 0 where
   pub value : j < 2 ^ 32 → (context : machine.Context) (end : ℕ) (s : State) (here behind : Cursor) → here.pos ≡ i → behind.pos ≡ j → IsInState context.limit end s here b
       → ScansTo context.limit end (Ok tt) behind after (read context src s)
   pub other : 2 ^ 32 ≤ j → KeepsState b after
   pub cut : j < 2 ^ 32 → IsCharBoundary src j
-  pub ready : j < 2 ^ 32 → (n : ℕ) → IsReady (n + 1) b → IsApart n after
+  pub ready : j < 2 ^ 32 → (most : ℕ) → IsReadyTo most b → IsApart most after
+  pub moves : j < 2 ^ 32 → i < j
   pub fine : IsConsistent after.tables after.opened.items
 
 -- the same, and nothing at all changed where nothing was read

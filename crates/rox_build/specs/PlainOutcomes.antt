@@ -1,5 +1,5 @@
 -- What a look at a construct needs, and what it makes of the cursor and the builder: it reads the construct if it is plain.
-use Rattle.std.specs.Prelude.{◌≡◌, ◌≢◌, ℕ, ◌+◌, ◌<◌, ◌≤◌, ◌^◌, true, false, Bool, List, Result, Ok, length, slice_index}
+use Rattle.std.specs.Prelude.{◌≡◌, ◌≢◌, ℕ, ◌+◌, ◌<◌, ◌^◌, true, false, Bool, List, Result, Ok, length, slice_index, vec_len}
 use Rattle.std.specs.Str.{IsCharBoundary}
 use Rattle.rox_grammar.specs.Chars.{is_part_char}
 use Rattle.rox_grammar.specs.FixedTexts.{word_text}
@@ -12,7 +12,7 @@ use Rattle.rox_reading.specs.State.{State}
 use Rattle.rox_scan.specs.ByteSets.{StopsSet, is_part_byte}
 use Rattle.rox_scan.specs.ScanResults.{Finds}
 use Rattle.rox_scan.specs.declared.cursor.Cursor.{Cursor}
-use Rattle.rox_build.specs.BuilderState.{GoesOn, IsConsistent, IsInState, IsReady, KeepsState, ScansTo}
+use Rattle.rox_build.specs.BuilderState.{GoesOn, IsConsistent, IsInState, IsReady, IsReadyTo, KeepsState, ScansTo}
 use Rattle.rox_build.specs.PendingText.{waiting}
 use Rattle.rox_build.specs.PlainSteps.{Reads}
 use Rattle.rox_build.specs.PlainTag.{EndsNear}
@@ -71,25 +71,28 @@ any_context context = Unit {0}
 abbrev pub StandsApart : Cursor → Builder → Type 0
 StandsApart c b = slice_index c.text.now c.pos ≢ 60 → b.pending ≡ pending.None
 
--- there is room for the row of a run, and no text is open that it would go on with
-pub record MayReadRun (src : List ℕ) (b : Builder) : Type 0 where
-  pub room : HasRoom src b
+-- a run may stand here, there is room for its row, and no text is open that it would go on with
+pub record MayReadRun (c : Cursor) (b : Builder) : Type 0 where
+  pub here : slice_index c.text.now c.pos ≢ 60
+  pub room : HasRoom c.text.now b
   pub apart : b.pending ≡ pending.None
 
--- what stands here was read, as this reading does in such a context, and took the room of one row at most, which leaves so much; or
--- nothing was
+-- what stands here was read, as this reading does in such a context, in the room that there is for rows, which leaves the builder such;
+-- or nothing was
 pub record ReadsIf (leaves : ℕ → Builder → Type 0) (such : machine.Context → Type 0) (read : machine.Context → List ℕ → State → Result State Refusal) (old new : Cursor) (b after : Builder) (result : Bool) : Type 0 where
   pub value : result ≡ true → (context : machine.Context) (end : ℕ) (s : State) → such context → IsInState context.limit end s old b
       → ScansTo context.limit end (Ok tt) new after (read context old.text.now s)
   pub other : result ≡ false → (new ≡ old) × (after ≡ b)
-  pub ready : result ≡ true → (n : ℕ) → IsReady (n + 1) b → leaves n after
+  pub ready : result ≡ true → (most : ℕ) → IsReadyTo most b → leaves most after
+  pub moves : result ≡ true → old.pos < new.pos
   pub goes : GoesOn old new after
 
 -- the same of character data before `<`
 pub record ReadsRun (old new : Cursor) (b after : Builder) (result : Bool) : Type 0 where
-  pub reads : ReadsIf IsReady any_context machine.character_data_step old new b after result
+  pub reads : ReadsIf IsReadyTo any_context machine.character_data_step old new b after result
   pub tables : after.tables ≡ b.tables
   pub opened : after.opened ≡ b.opened
+  pub rows : result ≡ true → vec_len after.nodes.rows ≡ vec_len b.nodes.rows + 1
   pub behind : result ≡ true → slice_index old.text.now new.pos ≡ 60
 
 -- the construct that stands here was read, in such a context; or nothing was, and the builder holds the same
@@ -99,14 +102,15 @@ pub record ReadsStep (such : machine.Context → Type 0) (old new : Cursor) (b a
   pub other : result ≡ false → (new ≡ old) × KeepsState b after
   pub goes : GoesOn old new after
 
--- the same where it took the room of one row at most, and no text may go on behind it
+-- the same in the room that there is for rows, where no text may go on behind it
 pub record ReadsMarkup (such : machine.Context → Type 0) (old new : Cursor) (b after : Builder) (result : Bool) : Type 0 where
   pub reads : ReadsStep such old new b after result
-  pub ready : result ≡ true → (n : ℕ) → IsReady (n + 1) b → IsApart n after
+  pub ready : result ≡ true → (most : ℕ) → IsReadyTo most b → IsApart most after
+  pub moves : result ≡ true → old.pos < new.pos
 
--- so many constructs were read, where so many elements are open around the text
-pub record ReadsRows (around rows : ℕ) (old new : Cursor) (b after : Builder) (n : ℕ) : Type 0 where
+-- some constructs were read, where so many elements are open around the text, or none
+pub record ReadsRows (around : ℕ) (old new : Cursor) (b after : Builder) (result : Bool) : Type 0 where
   pub value : (context : machine.Context) (end : ℕ) (s : State) → context.open_around ≡ around → IsInState context.limit end s old b
-      → Reads context end n new after old.text.now s
-  pub count : n ≤ rows
+      → (n : ℕ) × Reads context end n new after old.text.now s
+  pub moves : result ≡ true → old.pos < new.pos
   pub goes : GoesOn old new after

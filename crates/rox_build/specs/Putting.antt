@@ -14,7 +14,7 @@ use Rattle.rox_tables.specs.Scopes.{PrefixesOnce}
 use Rattle.rox_tables.specs.StoredNodes.{IsSmallKind}
 use Rattle.rox_tables.specs.declared.rows.tables.NodeKind.{NodeKind}
 use Rattle.rox_tables.specs.declared.rows.tables.NodeKind.TheVariants as kind
-use Rattle.rox_build.specs.BuilderState.{Adds, IsConsistent, IsReady, KeepsOpen, KeepsState, KeepsTables, Represents, RepresentsFlushed, names_in}
+use Rattle.rox_build.specs.BuilderState.{Adds, IsConsistent, IsReadyTo, KeepsOpen, KeepsState, KeepsTables, Represents, RepresentsFlushed, names_in}
 use Rattle.rox_build.specs.ElementRow.{scope_in_tables}
 use Rattle.rox_build.specs.Outcomes.{AddsNode, AddsText, OpensElement}
 use Rattle.rox_build.specs.PendingText.{waiting}
@@ -79,7 +79,8 @@ pub record PutsOwned (old new : Builder) (result : Bool) (item : Item) : Type 0 
 -- the piece has its row, for which there was room
 pub record PutsText (old new : Builder) (item : Item) : Type 0 where
   pub adds : AddsText old new (Ok tt) item
-  pub ready : (n : ℕ) → IsReady (n + 1) old → IsReady n new
+  pub rows : vec_len new.nodes.rows ≡ vec_len old.nodes.rows + 1
+  pub ready : (most : ℕ) → IsReadyTo most old → IsReadyTo most new
 
 -- no text may go on
 pub record Settles (old new : Builder) : Type 0 where
@@ -97,7 +98,7 @@ pub record MayPutLeaf (b : Builder) (above i j : ℕ) (k : NodeKind) : Type 0 wh
 -- the node has its row
 pub record PutsLeaf (old new : Builder) (i j : ℕ) (k : NodeKind) : Type 0 where
   pub adds : AddsNode old new (Ok tt) i j k
-  pub ready : (n : ℕ) → IsReady (n + 1) old → IsApart n new
+  pub ready : (most : ℕ) → IsReadyTo most old → IsApart most new
 
 -- there is room for the element that this tag opens at i
 pub record MayPutOpen (b : Builder) (above : ℕ) (text : List ℕ) (i : ℕ) (tag : StartTag) : Type 0 where
@@ -108,7 +109,7 @@ pub record MayPutOpen (b : Builder) (above : ℕ) (text : List ℕ) (i : ℕ) (t
 -- the element is open
 pub record PutsOpen (old new : Builder) (text : List ℕ) (i : ℕ) (tag : StartTag) : Type 0 where
   pub adds : OpensElement old new (Ok tt) text i tag
-  pub ready : (n : ℕ) → IsReady (n + 1) old → IsApart n new
+  pub ready : (most : ℕ) → IsReadyTo most old → IsApart most new
 
 -- the innermost open element ends here
 pub record Closes (old new : Builder) (result : Result (Unit {0}) AllocError) (end : ℕ) : Type 0 where
@@ -125,4 +126,4 @@ pub record MayPutClose (b : Builder) (j : ℕ) : Type 0 where
 -- it ended, and took no room
 pub record PutsClose (old new : Builder) (j : ℕ) : Type 0 where
   pub closes : Closes old new (Ok tt) j
-  pub ready : (n : ℕ) → IsReady n old → IsApart n new
+  pub ready : (most : ℕ) → IsReadyTo most old → IsApart most new

@@ -12,7 +12,7 @@ use Rattle.rox_tables.specs.Rows.{AreScopes, attribute_rows}
 use Rattle.rox_tables.specs.Scopes.{ArePlaces, PrefixesOnce}
 use Rattle.rox_tables.specs.TagScopes.{HasBindings, HasBindingsOf}
 use Rattle.rox_tables.specs.declared.rows.tables.ElementTables.{ElementTables}
-use Rattle.rox_build.specs.BuilderState.{IsConsistent, IsReady, last_row, opened_in}
+use Rattle.rox_build.specs.BuilderState.{IsConsistent, IsReady, IsReadyTo, last_row, opened_in}
 use Rattle.rox_build.specs.ElementRow.{scope_in_tables}
 use Rattle.rox_build.specs.Requests.{MayAsk}
 use Rattle.rox_build.specs.declared.builder.Builder.{Builder}
@@ -24,9 +24,9 @@ pub record HasRoom (src : List ℕ) (b : Builder) : Type 0 where
   pub ready : IsReady 1 b
   pub fine : IsConsistent b.tables b.opened.items
 
--- there is room for so many rows more, and no text may go on
-pub record IsApart (n : ℕ) (b : Builder) : Type 0 where
-  pub ready : IsReady n b
+-- there is room for so many rows in all, and no text may go on
+pub record IsApart (most : ℕ) (b : Builder) : Type 0 where
+  pub ready : IsReadyTo most b
   pub apart : b.pending ≡ pending.None
 
 -- this word stands here, and what the builder holds is consistent

@@ -422,26 +422,21 @@ pub fn content<'input>(
     ensures { ParsesAs (λ k src. machine.drive k (length src) src) context.entry
         cursor.old cursor.new builder.old builder.new result }
 {
-    let mut left = cursor.text.len();
-    while left > 0 {
-        let rows = builder.rows_left().min(left);
+    // Each turn but the last reads a byte at least.
+    for _turn in 0..cursor.text.len() {
+        let rows = builder.rows_left();
         let read = plain_stretch(cursor, builder, context.open_around, rows);
-        left -= read;
         if builder.is_at_root() {
             return Ok(());
         }
-        // So many may be read that there is room for more, or none is left.
-        if read > 0 && rows - read < 2 {
+        // So much may be read that there is no room for more.
+        if read && builder.rows_left() < 2 {
             builder.make_room(cursor.pos)?;
             continue;
-        }
-        if left == 0 {
-            return Err(ParseError::Fault(Fault::UnclosedRootNode));
         }
         if cursor.is_at_end() {
             return Err(ParseError::Fault(Fault::UnclosedRootNode));
         }
-        left -= 1;
         if plain_main_line(alloc, cursor, builder, context.main) {
             continue;
         }

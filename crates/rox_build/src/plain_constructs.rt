@@ -41,7 +41,7 @@ fn stands_apart(cursor: &Cursor<'_>, builder: &Builder<'_>) -> bool
 /// Character data, up to the next `<`, if it is a slice of the source, where no text is open that it would go on with.
 #[inline(always)]
 fn plain_character_data<'input>(cursor: &mut Cursor<'input>, builder: &mut Builder<'input>) -> bool
-    requires { MayReadRun cursor.old.text.now builder.old }
+    requires { MayReadRun cursor.old builder.old }
     ensures { ReadsRun cursor.old cursor.new builder.old builder.new result }
 {
     let start = cursor.pos;
@@ -340,28 +340,30 @@ fn plain_markup<'input>(
     true
 }
 
-/// The constructs from here on inside the root element, as long as they are plain, at most so many as there are `rows` for. Answers
-/// how many were read.
+/// The constructs from here on inside the root element, as long as they are plain and there is room for two in so many `rows` more.
+/// Answers whether one was read.
 #[inline(always)]
 pub fn plain_stretch<'input>(
     cursor: &mut Cursor<'input>,
     builder: &mut Builder<'input>,
     open_around: usize,
     rows: usize,
-) -> usize
+) -> bool
     requires { MayReadRows rows builder.old }
-    ensures { ReadsRows open_around rows cursor.old cursor.new builder.old builder.new result }
+    ensures { ReadsRows open_around cursor.old cursor.new builder.old builder.new result }
 {
     let mut here = *cursor;
     if cursor.text.len() > MOST_BYTES {
-        return 0;
+        return false;
     }
     // No text is open behind markup, so that this is seen once.
     if !stands_apart(&here, builder) {
-        return 0;
+        return false;
     }
-    let mut left = rows;
-    while left > 1 {
+    // A run and the markup behind it take a row each at most.
+    let most = builder.nodes.len() + rows;
+    let from = here.pos;
+    while builder.nodes.len() + 1 < most {
         if builder.is_at_root() {
             break;
         }
@@ -373,15 +375,13 @@ pub fn plain_stretch<'input>(
             if !plain_character_data(&mut here, builder) {
                 break;
             }
-            left -= 1;
         }
         if !plain_markup(&mut here, builder, open_around) {
             break;
         }
-        left -= 1;
     }
     *cursor = here;
-    rows - left
+    here.pos > from
 }
 
 /// The construct that stands here, if it is plain and finds room; else nothing is read.

@@ -1,42 +1,33 @@
-use Rattle.std.proofs.Common.{◌≡◌, ℕ, List, subst, ◌<◌, ◌≤◌, ◌-◌, suc, false, Ok, refl, sym, ap, ◌∙◌, arith, length, rules}
+use Rattle.std.proofs.Common.{◌≡◌, ℕ, List, subst, ◌<◌, ◌≤◌, false, Ok, refl, sym, ap, ◌∙◌, arith, length, rules}
 use Rattle.std.proofs.lemmas.Result.{err_from_is_err_and}
 use Rattle.std.proofs.lemmas.Bool.{leb-true, leb-false}
 use Rattle.rox_values.specs.Refusals.{IsRefusal}
 use Rattle.rox_grammar.specs.State.{is_root}
 use Rattle.rox_reading.specs.Machine.{step}
 use Rattle.rox_values.specs.Contexts.{context_of}
-use Rattle.rox_build.proofs.Looping.{drives_on, drive_fails, drive_done, drive_cut, drive_spent}
+use Rattle.rox_build.proofs.Looping.{drives_on, drive_fails, drive_done, drive_cut}
 use Rattle.rox_build.specs.BuilderState.{ScansTo}
 use Rattle.rox_build.proofs.Twice.{drives_past}
 use Rattle.rox_build.proofs.Stepping.{fine_open, rows_kept, state_kept}
 use Rattle.rox_build.proofs.content.content.Goals as goal
+
+pub loop-turn-init : goal.loop-turn-init
+loop-turn-init c = record {
+  source = refl;
+  fine = c.requires.fine;
+  reads = λ limit end es s declared sees. record { s = s; sees = sees; n = length c.args.cursor.now.text.now; same = refl; enough = omega arith; onward = omega arith };
+}
 
 pub returns-then-is_at_root : goal.returns-then-is_at_root
 returns-then-is_at_root c = record {
   value = λ limit end es s declared sees.
       let src = c.args.cursor.now.text.now in
       let context = context_of limit es c.args.context in
-      let s0 = ap (λ t. t.now) c.loop-left.invariant.source in
-      let k = c.plain_stretch-read.result in
-      let few : k ≤ c.loop-left.left = (let n = c.plain_stretch-read.ensures.count in let m = c.min-rows.ensures in omega arith) in
-      let g0 = c.loop-left.invariant.reads limit end es s declared sees in
-      let g = drives_past context end src _ c.loop-left.left k _ _ _ _ g0 few (rw s0 at (c.plain_stretch-read.ensures.value context end g0.s refl g0.sees)) in
+      let s0 = ap (λ t. t.now) c.loop-turn.invariant.source in
+      let g0 = c.loop-turn.invariant.reads limit end es s declared sees in
+      let read = rw s0 at (c.plain_stretch-read.ensures.value context end g0.s refl g0.sees) in
+      let g = drives_past context end src _ c.loop-turn._turn read.0 _ _ _ _ g0 c.args.cursor.now.utf8 read.1 in
       drive_done context end src _ _ _ _ g (sym (c.is_at_root.ensures end g.s.stack g.s.done g.sees.shows) ∙ c.if-is_at_root.true);
-  goes = search rules;
-}
-
-pub returns-then-left-eq0 : goal.returns-then-left-eq0
-returns-then-left-eq0 c = record {
-  value = λ limit end es s declared sees.
-      let src = c.args.cursor.now.text.now in
-      let context = context_of limit es c.args.context in
-      let s0 = ap (λ t. t.now) c.loop-left.invariant.source in
-      let k = c.plain_stretch-read.result in
-      let few : k ≤ c.loop-left.left = (let n = c.plain_stretch-read.ensures.count in let m = c.min-rows.ensures in omega arith) in
-      let g0 = c.loop-left.invariant.reads limit end es s declared sees in
-      let g = drives_past context end src _ c.loop-left.left k _ _ _ _ g0 few (rw s0 at (c.plain_stretch-read.ensures.value context end g0.s refl g0.sees)) in
-      let inner : is_root g.s.stack ≡ false = sym (c.is_at_root.ensures end g.s.stack g.s.done g.sees.shows) ∙ c.if-is_at_root.false in
-      drive_spent context end src _ _ _ _ g inner c.if-left-eq0.true;
   goes = search rules;
 }
 
@@ -45,76 +36,76 @@ returns-then-is_at_end c = record {
   value = λ limit end es s declared sees.
       let src = c.args.cursor.now.text.now in
       let context = context_of limit es c.args.context in
-      let s0 = ap (λ t. t.now) c.loop-left.invariant.source in
+      let s0 = ap (λ t. t.now) c.loop-turn.invariant.source in
       let s1 = ap (λ t. t.now) c.plain_stretch-read.ensures.goes.source ∙ s0 in
-      let k = c.plain_stretch-read.result in
-      let few : k ≤ c.loop-left.left = (let n = c.plain_stretch-read.ensures.count in let m = c.min-rows.ensures in omega arith) in
-      let g0 = c.loop-left.invariant.reads limit end es s declared sees in
-      let g = drives_past context end src _ c.loop-left.left k _ _ _ _ g0 few (rw s0 at (c.plain_stretch-read.ensures.value context end g0.s refl g0.sees)) in
+      let g0 = c.loop-turn.invariant.reads limit end es s declared sees in
+      let read = rw s0 at (c.plain_stretch-read.ensures.value context end g0.s refl g0.sees) in
+      let g = drives_past context end src _ c.loop-turn._turn read.0 _ _ _ _ g0 c.args.cursor.now.utf8 read.1 in
       let inner : is_root g.s.stack ≡ false = sym (c.is_at_root.ensures end g.s.stack g.s.done g.sees.shows) ∙ c.if-is_at_root.false in
       let past : length src ≤ g.s.at = rw (s1, g.sees.here) at (leb-true _ _ (sym c.is_at_end.ensures ∙ c.if-is_at_end.true)) in
       drive_cut context end src _ _ _ _ g inner past;
   goes = search rules;
 }
 
-pub loop-left-preserved-then-rows-read-lt2 : goal.loop-left-preserved-then-rows-read-lt2
-loop-left-preserved-then-rows-read-lt2 c = record {
-  source = c.plain_stretch-read.ensures.goes.source ∙ c.loop-left.invariant.source;
+pub loop-turn-preserved-then-rows_left-lt2 : goal.loop-turn-preserved-then-rows_left-lt2
+loop-turn-preserved-then-rows_left-lt2 c = record {
+  source = c.plain_stretch-read.ensures.goes.source ∙ c.loop-turn.invariant.source;
   fine = fine_open c.plain_stretch-read.new.builder c.make_room.new.self c.make_room.ensures.kept c.plain_stretch-read.ensures.goes.fine;
   reads = λ limit end es s declared sees.
       let src = c.args.cursor.now.text.now in
+      let moved : c.loop-turn.cursor.pos < c.plain_stretch-read.new.cursor.pos = search rules in
       let context = context_of limit es c.args.context in
-      let s0 = ap (λ t. t.now) c.loop-left.invariant.source in
-      let k = c.plain_stretch-read.result in
-      let few : k ≤ c.loop-left.left = (let n = c.plain_stretch-read.ensures.count in let m = c.min-rows.ensures in omega arith) in
-      let g0 = c.loop-left.invariant.reads limit end es s declared sees in
-      let g = drives_past context end src _ c.loop-left.left k _ _ _ _ g0 few (rw s0 at (c.plain_stretch-read.ensures.value context end g0.s refl g0.sees)) in
-      record { s = g.s; sees = rows_kept limit end g.s _ c.plain_stretch-read.new.builder c.make_room.new.self c.make_room.ensures g.sees; same = g.same };
+      let s0 = ap (λ t. t.now) c.loop-turn.invariant.source in
+      let g0 = c.loop-turn.invariant.reads limit end es s declared sees in
+      let read = rw s0 at (c.plain_stretch-read.ensures.value context end g0.s refl g0.sees) in
+      let g = drives_past context end src _ c.loop-turn._turn read.0 _ _ _ _ g0 c.args.cursor.now.utf8 read.1 in
+      record {
+        s = g.s;
+        sees = rows_kept limit end g.s _ c.plain_stretch-read.new.builder c.make_room.new.self c.make_room.ensures g.sees;
+        n = g.n;
+        same = g.same;
+        enough = g.enough;
+        onward = omega (arith, g0.onward, g0.sees.here, g.sees.here, moved);
+      };
 }
 
-pub loop-left-preserved-then-plain_main_line : goal.loop-left-preserved-then-plain_main_line
-loop-left-preserved-then-plain_main_line c = record {
-  source = c.plain_main_line.ensures.goes.source ∙ c.plain_stretch-read.ensures.goes.source ∙ c.loop-left.invariant.source;
+pub loop-turn-preserved-then-plain_main_line : goal.loop-turn-preserved-then-plain_main_line
+loop-turn-preserved-then-plain_main_line c = record {
+  source = c.plain_main_line.ensures.goes.source ∙ c.plain_stretch-read.ensures.goes.source ∙ c.loop-turn.invariant.source;
   fine = c.plain_main_line.ensures.goes.fine;
   reads = λ limit end es s declared sees.
       let src = c.args.cursor.now.text.now in
       let context = context_of limit es c.args.context in
-      let s0 = ap (λ t. t.now) c.loop-left.invariant.source in
+      let s0 = ap (λ t. t.now) c.loop-turn.invariant.source in
       let s1 = ap (λ t. t.now) c.plain_stretch-read.ensures.goes.source ∙ s0 in
-      let k = c.plain_stretch-read.result in
-      let n = c.loop-left.left - k in
-      let one : n ≡ suc (n - 1) = (let more = c.if-left-eq0.false in omega arith) in
-      let few : k ≤ c.loop-left.left = (let n = c.plain_stretch-read.ensures.count in let m = c.min-rows.ensures in omega arith) in
-      let g0 = c.loop-left.invariant.reads limit end es s declared sees in
-      let g = drives_past context end src _ c.loop-left.left k _ _ _ _ g0 few (rw s0 at (c.plain_stretch-read.ensures.value context end g0.s refl g0.sees)) in
+      let g0 = c.loop-turn.invariant.reads limit end es s declared sees in
+      let read = rw s0 at (c.plain_stretch-read.ensures.value context end g0.s refl g0.sees) in
+      let g = drives_past context end src _ c.loop-turn._turn read.0 _ _ _ _ g0 c.args.cursor.now.utf8 read.1 in
       let inner : is_root g.s.stack ≡ false = sym (c.is_at_root.ensures end g.s.stack g.s.done g.sees.shows) ∙ c.if-is_at_root.false in
       let inside : g.s.at < length src = rw (s1, g.sees.here) at (leb-false _ _ (sym c.is_at_end.ensures ∙ c.if-is_at_end.false)) in
       let stepped : ScansTo limit end (Ok tt) c.plain_main_line.new.cursor c.plain_main_line.new.builder (step context src g.s) =
       subst (λ (x : List ℕ). ScansTo limit end (Ok tt) c.plain_main_line.new.cursor c.plain_main_line.new.builder (step context x g.s)) s1 (c.plain_main_line.ensures.value c.if-plain_main_line.true context end g.s refl g.sees) in
-      drives_on context end src _ n (n - 1) _ _ _ _ tt g one inner inside stepped;
+      drives_on context end src _ c.loop-turn._turn _ _ _ _ tt g c.args.cursor.now.utf8 inner inside stepped;
 }
 
-pub loop-left-preserved : goal.loop-left-preserved
-loop-left-preserved c = record {
-  source = c.in_ok-general_step.ensures.goes.source ∙ c.plain_main_line.ensures.goes.source ∙ c.plain_stretch-read.ensures.goes.source ∙ c.loop-left.invariant.source;
+pub loop-turn-preserved : goal.loop-turn-preserved
+loop-turn-preserved c = record {
+  source = c.in_ok-general_step.ensures.goes.source ∙ c.plain_main_line.ensures.goes.source ∙ c.plain_stretch-read.ensures.goes.source ∙ c.loop-turn.invariant.source;
   fine = c.in_ok-general_step.ensures.goes.fine;
   reads = λ limit end es s declared sees.
       let src = c.args.cursor.now.text.now in
       let context = context_of limit es c.args.context in
-      let s0 = ap (λ t. t.now) c.loop-left.invariant.source in
+      let s0 = ap (λ t. t.now) c.loop-turn.invariant.source in
       let s1 = ap (λ t. t.now) c.plain_stretch-read.ensures.goes.source ∙ s0 in
       let s2 = ap (λ t. t.now) c.plain_main_line.ensures.goes.source ∙ s1 in
-      let k = c.plain_stretch-read.result in
-      let n = c.loop-left.left - k in
-      let one : n ≡ suc (n - 1) = (let more = c.if-left-eq0.false in omega arith) in
-      let few : k ≤ c.loop-left.left = (let n = c.plain_stretch-read.ensures.count in let m = c.min-rows.ensures in omega arith) in
-      let g0 = c.loop-left.invariant.reads limit end es s declared sees in
-      let g = drives_past context end src _ c.loop-left.left k _ _ _ _ g0 few (rw s0 at (c.plain_stretch-read.ensures.value context end g0.s refl g0.sees)) in
+      let g0 = c.loop-turn.invariant.reads limit end es s declared sees in
+      let read = rw s0 at (c.plain_stretch-read.ensures.value context end g0.s refl g0.sees) in
+      let g = drives_past context end src _ c.loop-turn._turn read.0 _ _ _ _ g0 c.args.cursor.now.utf8 read.1 in
       let inner : is_root g.s.stack ≡ false = sym (c.is_at_root.ensures end g.s.stack g.s.done g.sees.shows) ∙ c.if-is_at_root.false in
       let inside : g.s.at < length src = rw (s1, g.sees.here) at (leb-false _ _ (sym c.is_at_end.ensures ∙ c.if-is_at_end.false)) in
       let still = (let o = c.plain_main_line.ensures.other c.if-plain_main_line.false in state_kept limit end g.s _ _ _ _ g.sees o.0 o.1) in
       let stepped = rw s2 at (c.in_ok-general_step.ensures.value limit end es g.s declared still) in
-      drives_on context end src _ n (n - 1) _ _ _ _ _ g one inner inside stepped;
+      drives_on context end src _ c.loop-turn._turn _ _ _ _ _ g c.args.cursor.now.utf8 inner inside stepped;
 }
 
 pub returns-in_err-general_step : goal.returns-in_err-general_step
@@ -122,29 +113,26 @@ returns-in_err-general_step c = record {
   value = λ limit end es s declared sees.
       let src = c.args.cursor.now.text.now in
       let context = context_of limit es c.args.context in
-      let s0 = ap (λ t. t.now) c.loop-left.invariant.source in
+      let s0 = ap (λ t. t.now) c.loop-turn.invariant.source in
       let s1 = ap (λ t. t.now) c.plain_stretch-read.ensures.goes.source ∙ s0 in
       let s2 = ap (λ t. t.now) c.plain_main_line.ensures.goes.source ∙ s1 in
-      let k = c.plain_stretch-read.result in
-      let n = c.loop-left.left - k in
-      let one : n ≡ suc (n - 1) = (let more = c.if-left-eq0.false in omega arith) in
-      let few : k ≤ c.loop-left.left = (let n = c.plain_stretch-read.ensures.count in let m = c.min-rows.ensures in omega arith) in
-      let g0 = c.loop-left.invariant.reads limit end es s declared sees in
-      let g = drives_past context end src _ c.loop-left.left k _ _ _ _ g0 few (rw s0 at (c.plain_stretch-read.ensures.value context end g0.s refl g0.sees)) in
+      let g0 = c.loop-turn.invariant.reads limit end es s declared sees in
+      let read = rw s0 at (c.plain_stretch-read.ensures.value context end g0.s refl g0.sees) in
+      let g = drives_past context end src _ c.loop-turn._turn read.0 _ _ _ _ g0 c.args.cursor.now.utf8 read.1 in
       let inner : is_root g.s.stack ≡ false = sym (c.is_at_root.ensures end g.s.stack g.s.done g.sees.shows) ∙ c.if-is_at_root.false in
       let inside : g.s.at < length src = rw (s1, g.sees.here) at (leb-false _ _ (sym c.is_at_end.ensures ∙ c.if-is_at_end.false)) in
       let still = (let o = c.plain_main_line.ensures.other c.if-plain_main_line.false in state_kept limit end g.s _ _ _ _ g.sees o.0 o.1) in
       let q = err_from_is_err_and c.from_residual-in_err-general_step.result c.from_residual-in_err-general_step.ensures.1 in
       let fails : IsRefusal c.in_err-general_step.field-0.0 (step context src g.s) = rw s2 at (c.in_err-general_step.ensures.value limit end es g.s declared still) in
-      rw (q.1, q.2) (drive_fails context end src _ n (n - 1) _ _ c.in_err-general_step.field-0.0 g one inner inside fails);
+      rw (q.1, q.2) (drive_fails context end src _ c.loop-turn._turn _ _ c.in_err-general_step.field-0.0 g inner inside fails);
   goes = let q = err_from_is_err_and c.from_residual-in_err-general_step.result c.from_residual-in_err-general_step.ensures.1 in rw q.1 tt;
 }
 
 pub returns-then-is_at_root-2 : goal.returns-then-is_at_root-2
 returns-then-is_at_root-2 c = record {
   value = λ limit end es s declared sees.
-      let g = c.loop-left.invariant.reads limit end es s declared sees in
-      drive_done (context_of limit es c.args.context) end c.args.cursor.now.text.now _ _ c.loop-left.cursor c.loop-left.builder g (sym (c.is_at_root-2.ensures end g.s.stack g.s.done g.sees.shows) ∙ c.if-is_at_root-2.true);
+      let g = c.loop-turn.invariant.reads limit end es s declared sees in
+      drive_done (context_of limit es c.args.context) end c.args.cursor.now.text.now _ _ c.loop-turn.cursor c.loop-turn.builder g (sym (c.is_at_root-2.ensures end g.s.stack g.s.done g.sees.shows) ∙ c.if-is_at_root-2.true);
   goes = search rules;
 }
 
@@ -152,9 +140,8 @@ pub returns-else-is_at_root-2 : goal.returns-else-is_at_root-2
 returns-else-is_at_root-2 c = record {
   value = λ limit end es s declared sees.
       let src = c.args.cursor.now.text.now in
-      let g = c.loop-left.invariant.reads limit end es s declared sees in
+      let g = c.loop-turn.invariant.reads limit end es s declared sees in
       let inner : is_root g.s.stack ≡ false = sym (c.is_at_root-2.ensures end g.s.stack g.s.done g.sees.shows) ∙ c.if-is_at_root-2.false in
-      let none : c.loop-left.left ≡ 0 = omega (arith, c.loop-left-test.false) in
-      drive_spent (context_of limit es c.args.context) end src _ _ c.loop-left.cursor c.loop-left.builder g inner none;
+      drive_cut (context_of limit es c.args.context) end src _ _ c.loop-turn.cursor c.loop-turn.builder g inner (omega (arith, c.loop-turn-test.false, g.onward));
   goes = search rules;
 }

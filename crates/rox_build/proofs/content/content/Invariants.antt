@@ -8,13 +8,10 @@ use Rattle.rox_build.specs.BuilderState.{IsConsistent, IsInState}
 use Rattle.rox_build.proofs.Looping.{Driving}
 use Rattle.rox_build.proofs.content.content.Given as goal
 
-abbrev pub invariant-loop-left : goal.invariant-loop-left
-invariant-loop-left l = record {
+abbrev pub invariant-loop-turn : goal.invariant-loop-turn
+invariant-loop-turn l = record {
   source : l.cursor.text ≡ l.fn.cursor.text;
   fine : IsConsistent l.builder.tables l.builder.opened.items;
   reads : (limit end : ℕ) (es : List Entity) (s : State) → AreDeclared es l.fn.context.entities.now → IsInState limit end s l.fn.cursor l.fn.builder
-      → Driving (context_of limit es l.fn.context) end l.fn.cursor.text.now (drive (context_of limit es l.fn.context) (length l.fn.cursor.text.now) l.fn.cursor.text.now s) l.left l.cursor l.builder;
+      → Driving (context_of limit es l.fn.context) end l.fn.cursor.text.now (drive (context_of limit es l.fn.context) (length l.fn.cursor.text.now) l.fn.cursor.text.now s) l._turn l.cursor l.builder;
 }
-
-abbrev pub decreases-loop-left : goal.decreases-loop-left
-decreases-loop-left l = l.left

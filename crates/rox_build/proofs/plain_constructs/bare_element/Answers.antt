@@ -13,6 +13,7 @@ use Rattle.rox_grammar.specs.declared.fault.Fault.TheVariants as fault
 use Rattle.rox_reading.specs.Tags.{Values}
 use Rattle.rox_build.proofs.SameNames.{opened_named}
 use Rattle.rox_build.proofs.SpelledNames.{tag_is_named}
+use Rattle.rox_build.proofs.Moving.{plain_moves}
 use Rattle.rox_build.proofs.Opening.{is_opening, fine_by, fine_more, namespace_by, tag_is, open_stepped}
 use Rattle.rox_build.proofs.plain_constructs.bare_element.Goals as goal
 
@@ -50,6 +51,7 @@ returns c = record {
       (open_stepped context.limit end s.openings_left s _ old old b.nodes_limit c.put_open.new.self (Ok tt) t (scope_of s.stack) x.tag tg h.namespaces h.attributes h.limit_is (c.put_open.ensures.adds.kept.openings_left ∙ h.openings_left_is) c.put_open.ensures.adds.kept.tables c.put_open.ensures.adds.kept.limit adds);
   other = λ no. absurd (cc no);
   ready = λ _. c.put_open.ensures.ready;
+  moves = λ _. plain_moves _ _ _ c.args.cursor.now.text.now c.args.cursor.now.pos _ _ c.args.cursor.now.utf8 c.in-Some-bare_start_tag.ensures.read;
   goes =
       let b = c.args.builder.now in
       let cursor = c.args.cursor.now in

@@ -1,4 +1,5 @@
-use Rattle.std.proofs.Common.{◌≡◌, ◌<◌, true, Ok, get_or, length, refl, slice_range, sym, ◌∙◌, arith}
+use Rattle.std.proofs.Common.{◌≡◌, ◌<◌, true, Ok, get_or, length, refl, slice_index, slice_range, ap, ◌∙◌, arith}
+use Rattle.std.proofs.Math.Arith.{lt_of_le-ne}
 use Rattle.rox_reading.specs.Values.{ReadText}
 use Rattle.rox_scan.proofs.NearLemmas.{text_cut}
 use Rattle.rox_scan.proofs.ShortLemmas.{short_run}
@@ -24,10 +25,12 @@ returns c = record {
         (text_stepped context.limit end s cursor _ b c.put_text.new.self (Ok tt) text h c.put_text.ensures.adds.kept.tables c.put_text.ensures.adds.kept.limit c.put_text.ensures.adds.kept.openings_left (rw c.range.ensures.value at (c.put_text.ensures.adds.value end e s h.shows)));
     other = λ no. absurd (cc no);
     ready = λ _. c.put_text.ensures.ready;
+    moves = λ _. lt_of_le-ne c.in-Some.ensures.ends.onward (λ e. c.requires.here (ap (slice_index c.args.cursor.now.text.now) e ∙ c.in-Some.ensures.here));
     goes = record { source = refl; fine = fine_same c.args.builder.now c.put_text.new.self c.requires.room.fine c.put_text.ensures.adds.kept.tables c.put_text.ensures.adds.kept.opened };
   };
   tables = c.put_text.ensures.adds.kept.tables;
   opened = c.put_text.ensures.adds.kept.opened;
+  rows = λ _. c.put_text.ensures.rows;
   behind = λ _. c.in-Some.ensures.here;
 }
 

@@ -1,6 +1,7 @@
 use Rattle.std.proofs.Common.{refl, ap, ℕ, Ok, rules}
 use Rattle.rox_grammar.specs.Tree as tree
 use Rattle.rox_grammar.specs.Written.{Item, Comment}
+use Rattle.rox_theory.proofs.MarkupLemmas.{comment_sound}
 use Rattle.rox_build.proofs.Stepping.{comment_is, item_stepped}
 use Rattle.rox_build.proofs.PlainReads.{fine_same}
 use Rattle.rox_build.proofs.plain_constructs.plain_comment.Goals as goal
@@ -18,5 +19,6 @@ returns c = record {
       (item_stepped context.limit end s c.args.cursor.now _ b c.put_leaf.new.self (Ok tt) i h refl refl c.put_leaf.ensures.adds.kept.tables c.put_leaf.ensures.adds.kept.limit c.put_leaf.ensures.adds.kept.openings_left a);
   other = λ no. absurd (cc no);
   ready = λ _. c.put_leaf.ensures.ready;
+  moves = λ _. (comment_sound c.args.cursor.now.text.now c.args.cursor.now.utf8 c.args.cursor.now.pos c.in-Some.whole.end c.in-Some.whole.text.now c.requires.here c.in-Some.ensures.read).3;
   goes = record { source = search rules; fine = fine_same c.args.builder.now c.put_leaf.new.self c.requires.room.fine c.put_leaf.ensures.adds.kept.tables c.put_leaf.ensures.adds.kept.opened };
 }

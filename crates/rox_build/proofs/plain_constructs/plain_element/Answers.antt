@@ -16,6 +16,7 @@ use Rattle.rox_build.proofs.Items.{stands_within}
 use Rattle.rox_build.proofs.SameNames.{below_last, opened_named}
 use Rattle.rox_build.proofs.Growing.{grown_shows}
 use Rattle.rox_build.proofs.SpelledNames.{tag_is_named}
+use Rattle.rox_build.proofs.Moving.{plain_moves}
 use Rattle.rox_build.proofs.Opening.{cut_back, grown_by, is_node, is_opening, fine_by, fine_kept, fine_more, fine_same, namespace_by, tag_is, empty_stepped, open_stepped}
 use Rattle.std.proofs.lemmas.Str.{IsCharBoundary-after_ascii}
 use Rattle.rox_build.proofs.PlainTags.{near_cut, near_ends}
@@ -129,7 +130,8 @@ returns-then-read c = record {
       (subst (λ (n : ℕ). Adds end (Ok tt) u (opened_by b.nodes_limit s x.tag true s.openings_left n)) (sym stop) adds)));
   other = λ no. absurd (omega (arith, no, c.requires.room.short, c.in-Some.ensures.read.cut.0));
   cut = λ _. c.in-Some.ensures.read.cut;
-  ready = λ _ n h. c.put_leaf.ensures.ready n (record { room = h.room; few = h.few; small = h.small; settled = h.settled });
+  ready = λ _ most h. c.put_leaf.ensures.ready most (record { room = h.room; few = h.few; small = h.small; settled = h.settled });
+  moves = λ _. plain_moves _ _ _ c.args.text.now c.args.start _ _ c.utf8.text c.in-Some.ensures.read;
   fine =
       let b = c.args.builder.now in
       let x = c.in-Some.ensures.read in
@@ -167,7 +169,8 @@ returns c = record {
       (subst (λ (n : ℕ). Adds end (Ok tt) u (opened_by b.nodes_limit s x.tag false s.openings_left n)) (sym stop) adds)));
   other = λ no. absurd (omega (arith, no, c.requires.room.short, c.in-Some.ensures.read.cut.0));
   cut = λ _. c.in-Some.ensures.read.cut;
-  ready = λ _ n h. c.put_open.ensures.ready n (record { room = h.room; few = h.few; small = h.small; settled = h.settled });
+  ready = λ _ most h. c.put_open.ensures.ready most (record { room = h.room; few = h.few; small = h.small; settled = h.settled });
+  moves = λ _. plain_moves _ _ _ c.args.text.now c.args.start _ _ c.utf8.text c.in-Some.ensures.read;
   fine =
       let b = c.args.builder.now in
       let src = c.args.text.now in
@@ -191,6 +194,7 @@ returns-in_default c =
       other = λ _. record { nodes = refl; opened = refl; pending = refl; joined = refl; limit = refl; openings_left = refl; others = same.others; attributes = same.attributes };
       cut = λ less. absurd (omega arith);
       ready = λ less. absurd (omega arith);
+      moves = λ less. absurd (omega arith);
       fine = fine_same old left c.args.builder.now.opened.items same c.requires.room.fine;
     }
 
@@ -210,7 +214,8 @@ returns-then-index c = record {
       let k = c.other_element.ensures.other no in
       record { nodes = k.nodes; opened = k.opened; pending = k.pending; joined = k.joined; limit = k.limit; openings_left = k.openings_left; others = k.others; attributes = k.attributes };
   cut = c.other_element.ensures.cut;
-  ready = λ less n h. c.other_element.ensures.ready less n (record { room = h.room; few = h.few; small = h.small; settled = h.settled });
+  ready = λ less most h. c.other_element.ensures.ready less most (record { room = h.room; few = h.few; small = h.small; settled = h.settled });
+  moves = c.other_element.ensures.moves;
   fine = c.other_element.ensures.fine;
 }
 
@@ -220,6 +225,7 @@ returns-then-not-has_room_to_open c = record {
   other = λ _. record { nodes = refl; opened = refl; pending = refl; joined = refl; limit = refl; openings_left = refl; others = refl; attributes = refl };
   cut = λ less. absurd (omega arith);
   ready = λ less. absurd (omega arith);
+  moves = λ less. absurd (omega arith);
   fine = c.requires.room.fine;
 }
 
@@ -229,5 +235,6 @@ returns-then-depth-eq0 c = record {
   other = λ _. record { nodes = refl; opened = refl; pending = refl; joined = refl; limit = refl; openings_left = refl; others = refl; attributes = refl };
   cut = λ less. absurd (omega arith);
   ready = λ less. absurd (omega arith);
+  moves = λ less. absurd (omega arith);
   fine = c.requires.room.fine;
 }

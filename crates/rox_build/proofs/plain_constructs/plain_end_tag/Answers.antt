@@ -11,7 +11,6 @@ use Rattle.rox_build.specs.BuilderState.{IsConsistent, IsOpenWithin, HasName, na
 use Rattle.rox_build.proofs.Showing.{last_split}
 use Rattle.rox_build.proofs.Stepping.{end_is, opened_deep, closed_stepped}
 use Rattle.rox_build.proofs.SameNames.{all_last, same_itself, end_tag_close}
-use Rattle.rox_build.proofs.Twice.{ready_fewer}
 use Rattle.rox_build.proofs.plain_constructs.plain_end_tag.Goals as goal
 
 -- what stands behind so many bytes of the rest
@@ -52,7 +51,8 @@ returns c = record {
       rw (end_is context src s pos j _ h.here tag within)
       (closed_stepped context.limit end s cursor _ b c.put_close.new.self outer o pos (pos + 2 + name_count o) (open_name o) h split (same_itself (open_name o)) c.put_close.ensures.closes.kept.tables c.put_close.ensures.closes.kept.limit c.put_close.ensures.closes.kept.openings_left c.put_close.ensures.closes.ok);
   other = λ no. absurd (cc no);
-  ready = λ _ n h. c.put_close.ensures.ready n (ready_fewer (n + 1) n c.args.builder.now (omega arith) h);
+  ready = λ _. c.put_close.ensures.ready;
+  moves = λ _. omega (arith, c.after_byte-slash.ensures.place, c.after_byte-name.ensures.place, c.after_byte-end.ensures.place);
   goes =
       let b = c.args.builder.now in
       let f = c.requires.fine in

@@ -1,6 +1,6 @@
 use Rattle.std.proofs.Common.{ℕ, List, ◌+◌, slice_index, ne_eqb, refl, ap, ◌∙◌, arith, rules}
 use Rattle.std.proofs.lemmas.Grind.{common_steps}
-use Rattle.rox_build.specs.BuilderState.{IsInState, IsReady}
+use Rattle.rox_build.specs.BuilderState.{IsInState, IsReadyTo}
 use Rattle.rox_build.proofs.Stepping.{step_is_markup}
 use Rattle.rox_build.proofs.PlainReads.{keeps_same, steps_not}
 use Rattle.rox_build.proofs.plain_constructs.plain_markup.Goals as goal
@@ -16,6 +16,7 @@ returns-then-next-eq47 c = record {
     goes = c.plain_end_tag.ensures.goes;
   };
   ready = c.plain_end_tag.ensures.ready;
+  moves = c.plain_end_tag.ensures.moves;
 }
 
 pub returns-then-next-le63 : goal.returns-then-next-le63
@@ -26,13 +27,15 @@ returns-then-next-le63 c = record {
     other = λ no. absurd (cc no);
     goes = record { source = refl; fine = c.plain_section-behind.ensures.reads.fine };
   };
-  ready = λ _ n h. c.plain_section-behind.ensures.reads.ready (omega (arith, c.if-behind-gt-MOST_BYTES.false)) n h;
+  ready = λ _. c.plain_section-behind.ensures.reads.ready (omega (arith, c.if-behind-gt-MOST_BYTES.false));
+  moves = λ _. c.plain_section-behind.ensures.reads.moves (omega (arith, c.if-behind-gt-MOST_BYTES.false));
 }
 
 pub returns-then-behind-gt-MOST_BYTES : goal.returns-then-behind-gt-MOST_BYTES
 returns-then-behind-gt-MOST_BYTES c = record {
   reads = steps_not _ c.args.cursor.now c.args.builder.now c.plain_section-behind.new.builder (keeps_same _ _ (c.plain_section-behind.ensures.other (omega (arith, c.if-behind-gt-MOST_BYTES.true)))) c.plain_section-behind.ensures.reads.fine;
   ready = λ yes. absurd (cc yes);
+  moves = λ yes. absurd (cc yes);
 }
 
 pub returns-then-bare_element : goal.returns-then-bare_element
@@ -46,7 +49,8 @@ returns-then-bare_element c = record {
     other = λ no. absurd (cc no);
     goes = c.bare_element.ensures.goes;
   };
-  ready = λ _ n h. c.bare_element.ensures.ready c.if-bare_element.true n h;
+  ready = λ _. c.bare_element.ensures.ready c.if-bare_element.true;
+  moves = λ _. c.bare_element.ensures.moves c.if-bare_element.true;
 }
 
 pub returns : goal.returns
@@ -72,13 +76,17 @@ returns c = record {
       ];
     };
   };
-  ready = λ _ n h.
+  ready = λ _ most h.
       let same = (c.bare_element.ensures.other c.if-bare_element.false).1 in
-      let ready : IsReady (n + 1) c.bare_element.new.builder = rw same h in
+      let ready : IsReadyTo most c.bare_element.new.builder = rw same h in
       elim c.if-bytes-near-lt58.branch [
-        | then-bytes-near-lt58 w ↦ rw (w.builder-is) (w.plain_element-end.ensures.ready (omega (arith, c.if-end-gt-MOST_BYTES.false, w.end-is)) n ready)
-        | else-bytes-near-lt58 w ↦ rw (w.builder-is) (w.other_element-end.ensures.ready (omega (arith, c.if-end-gt-MOST_BYTES.false, w.end-is)) n ready)
+        | then-bytes-near-lt58 w ↦ rw (w.builder-is) (w.plain_element-end.ensures.ready (omega (arith, c.if-end-gt-MOST_BYTES.false, w.end-is)) most ready)
+        | else-bytes-near-lt58 w ↦ rw (w.builder-is) (w.other_element-end.ensures.ready (omega (arith, c.if-end-gt-MOST_BYTES.false, w.end-is)) most ready)
       ];
+  moves = λ _. elim c.if-bytes-near-lt58.branch [
+    | then-bytes-near-lt58 w ↦ rw w.end-is (w.plain_element-end.ensures.moves (omega (arith, c.if-end-gt-MOST_BYTES.false, w.end-is)))
+    | else-bytes-near-lt58 w ↦ rw w.end-is (w.other_element-end.ensures.moves (omega (arith, c.if-end-gt-MOST_BYTES.false, w.end-is)))
+  ];
 }
 
 pub returns-then-end-gt-MOST_BYTES : goal.returns-then-end-gt-MOST_BYTES
@@ -103,6 +111,7 @@ returns-then-end-gt-MOST_BYTES c = record {
         };
       };
   ready = λ yes. absurd (cc yes);
+  moves = λ yes. absurd (cc yes);
 }
 
 pub plain_element-end-requires : goal.plain_element-end-requires

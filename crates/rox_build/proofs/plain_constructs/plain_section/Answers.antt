@@ -12,7 +12,8 @@ returns c = record {
         (c.plain_comment.ensures.value c.if-not-plain_comment.false context end s tt (stands_there context.limit end s here _ c.args.builder.now (sym start) h)));
     other = λ no. absurd (omega (arith, no, c.requires.room.short, c.plain_comment.new.cursor.cut.0, ap (λ t. length t.now) c.plain_comment.ensures.goes.source));
     cut = λ _. rw (ap (λ t. t.now) c.plain_comment.ensures.goes.source) at c.plain_comment.new.cursor.cut;
-    ready = λ _ n h. c.plain_comment.ensures.ready c.if-not-plain_comment.false n h;
+    ready = λ _. c.plain_comment.ensures.ready c.if-not-plain_comment.false;
+    moves = λ _. c.plain_comment.ensures.moves c.if-not-plain_comment.false;
     fine = c.plain_comment.ensures.goes.fine;
   };
   other = λ no. absurd (omega (arith, no, c.requires.room.short, c.plain_comment.new.cursor.cut.0, ap (λ t. length t.now) c.plain_comment.ensures.goes.source));
@@ -25,6 +26,7 @@ returns-then-not-starts c = record {
     other = λ _. record { nodes = refl; opened = refl; pending = refl; joined = refl; limit = refl; openings_left = refl; others = refl; attributes = refl };
     cut = λ less. absurd (omega arith);
     ready = λ less. absurd (omega arith);
+    moves = λ less. absurd (omega arith);
     fine = c.requires.room.fine;
   };
   other = λ _. refl;
@@ -37,6 +39,7 @@ returns-then-not-plain_comment c = record {
     other = λ _. rw (c.plain_comment.ensures.other c.if-not-plain_comment.true).1 (record { nodes = refl; opened = refl; pending = refl; joined = refl; limit = refl; openings_left = refl; others = refl; attributes = refl });
     cut = λ less. absurd (omega arith);
     ready = λ less. absurd (omega arith);
+    moves = λ less. absurd (omega arith);
     fine = c.plain_comment.ensures.goes.fine;
   };
   other = λ _. (c.plain_comment.ensures.other c.if-not-plain_comment.true).1;

@@ -30,5 +30,6 @@ returns c = record {
         (t, counted_ok b.nodes_limit t (omega arith), piece_first total s.stack s.done b _ c.args.start c.args.end v true k sh c.requires.apart refl tt rows refl refl refl);
     kept = record { opened = refl; tables = refl; limit = refl; openings_left = refl };
   };
+  rows = first_of (search rules, grind (arith, common_steps));
   ready = first_of (search rules, grind (arith, common_steps));
 }
