@@ -479,6 +479,10 @@ pub named_by : (namespaces scope : List NamespaceDecl) (n : Name) (o : Option �
 named_by namespaces scope n None some is = cc some
 named_by namespaces scope n (Some i) some is = named_known scope n _ (sym is)
 
+pub numbered_some : (number : ℕ) → number ≢ 0 → is_some (numbered_place number) ≡ true
+numbered_some Prim.Native.Nat.zero some = absurd (some refl)
+numbered_some (Prim.Native.Nat.suc i) some = refl
+
 -- what the tables hold of a plain tag
 pub plain_element : (old new : ElementTables) (e : ElementData) (above : List NamespaceDecl) (few : Option (List ℕ)) (src : List ℕ) (start j : ℕ) (empty : Bool) (name : Name)
     → (x : ArePlainAttributes (map namespace_view old.namespaces.items.items) few old.present src start (attribute_rows old.attributes) j empty (attribute_rows new.attributes))

@@ -41,9 +41,7 @@ use rox_tables::rows::attributes::AttributeTable;
 use rox_tables::rows::recent_texts::Recent;
 use rox_tables::rows::storage::StringStorage;
 use rox_tables::rows::stored_attribute::UNUSUAL;
-use rox_tables::rows::tables::{
-    AttributeNamespace, ElementData, ElementTables, namespace_number, namespace_place,
-};
+use rox_tables::rows::tables::{AttributeNamespace, ElementData, ElementTables, namespace_number};
 use std::alloc::Global;
 
 /// So long is a name at most behind which `=` and a quote are seen with it.
@@ -934,21 +932,21 @@ pub fn bare_start_tag<'input>(
     Some(PlainTag { tag, end })
 }
 
-/// The namespace of the name of a tag in this scope, if its prefix is known.
+/// The number of the namespace of the name of a tag in this scope, as rows hold it, if its prefix is known.
 #[inline(always)]
 pub fn other_namespace(
     elements: &ElementTables<'_>,
     name: QName<'_>,
     at: usize,
     scope: u32,
-) -> Option<Option<u16>>
+) -> Option<u16>
     requires { MayNameIn elements.now scope at }
     ensures { FindsElementNamespace elements.entry.now scope (name_view name.entry) result }
 {
     let places = few_places(&elements.scopes, &elements.listed, scope)?;
     let namespaces = elements.namespaces.as_slice();
     match element_namespace(namespaces, Some(places), &elements.present, name, at) {
-        Ok(namespace) => Some(namespace),
+        Ok(namespace) => Some(namespace_number(namespace)),
         Err(_) => None,
     }
 }
@@ -961,16 +959,16 @@ fn tag_namespace(
     name: QName<'_>,
     at: usize,
     parent: &OpenElement<'_>,
-) -> Option<Option<u16>>
+) -> Option<u16>
     requires { MayNameBelow elements.now parent.now (name_view name) at }
     ensures { FindsElementNamespace elements.entry.now parent.entry.now.scope
         (name_view name.entry) result }
 {
-    let above = namespace_place(parent.namespace);
+    let above = parent.namespace;
     if name.prefix.is_empty() && !parent.prefixed {
         return Some(above);
     }
-    if above.is_some() && has_prefix(parent, name.prefix) {
+    if above != 0 && has_prefix(parent, name.prefix) {
         return Some(above);
     }
     other_namespace(elements, name, at, parent.scope)
@@ -1016,7 +1014,7 @@ pub fn plain_start_tag<'input>(
         attributes_from: from as u32,
         attributes_until: until as u32,
         scope: parent.scope,
-        namespace: namespace_number(namespace),
+        namespace,
     };
     let tag = StartTag {
         name: name.name,
@@ -1043,7 +1041,6 @@ pub fn near_start_tag<'input>(
     ensures { ReadsTag elements.old elements.new above.entry.now text.entry.now place.start openings
         result }
 {
-    let name_at = after_byte(text, place.start, b'<');
     let first = elements.attributes.len();
     let close = some_attributes(text, place.part, elements, above.scope, seen)?;
     let last = elements.attributes.len();
@@ -1051,6 +1048,7 @@ pub fn near_start_tag<'input>(
         return None;
     }
     // What the attributes do not need is read behind them, so that nothing keeps it meanwhile.
+    let name_at = after_byte(text, place.start, b'<');
     let local = near_name(text, name_at, place.part);
     let element = ElementData {
         local,

@@ -22,7 +22,7 @@ use rox_tables::namespaces::prefix_set::FEW;
 use rox_tables::namespaces::unresolved_attribute::UnresolvedAttribute;
 use rox_tables::rows::growth::push;
 use rox_tables::rows::storage::StringStorage;
-use rox_tables::rows::tables::{ElementData, ElementTables, Scope, Stretch, namespace_number};
+use rox_tables::rows::tables::{ElementData, ElementTables, Scope, Stretch};
 use rox_values::context::Context;
 use rox_values::parse_error::ParseError;
 use std::alloc::{AllocError, Global};
@@ -185,7 +185,7 @@ fn root_tag<'input>(
         attributes_from: from as u32,
         attributes_until: until as u32,
         scope: OWN,
-        namespace: namespace_number(namespace),
+        namespace,
     };
     let tag = StartTag {
         name: name.name,

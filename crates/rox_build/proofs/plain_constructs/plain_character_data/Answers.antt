@@ -1,4 +1,4 @@
-use Rattle.std.proofs.Common.{◌≡◌, ◌<◌, true, Ok, get_or, length, refl, slice_range, sym, ◌∙◌, arith}
+use Rattle.std.proofs.Common.{◌≡◌, ◌<◌, true, Ok, get_or, length, refl, slice_range, arith}
 use Rattle.rox_reading.specs.Values.{ReadText}
 use Rattle.rox_scan.proofs.NearLemmas.{text_cut}
 use Rattle.rox_scan.proofs.ShortLemmas.{short_run}
