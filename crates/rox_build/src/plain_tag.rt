@@ -302,7 +302,7 @@ fn spaced_attribute<'input>(
     })
 }
 
-/// The namespace of this prefix of an attribute in this scope.
+/// The namespace of this prefix of an attribute, which is not empty, in this scope.
 #[inline(always)]
 fn prefix_namespace(
     elements: &ElementTables<'_>,
@@ -310,9 +310,8 @@ fn prefix_namespace(
     prefix: &str,
     near: &mut usize,
 ) -> Option<AttributeNamespace>
-    requires scope { HasScope elements.now scope }
-    requires some { bytes_eq prefix.now [] ≡ false }
-    ensures { (n : Name) → n.prefix ≡ prefix.entry.now
+    requires { HasScope elements.now scope }
+    ensures { (n : Name) → n.prefix ≡ prefix.entry.now → bytes_eq n.prefix [] ≡ false
         → IfSome result (λ s. IsAttributeNamespace elements.entry.now scope n s) }
 {
     if same_text(prefix, "xml") {
@@ -326,15 +325,6 @@ fn prefix_namespace(
     }
 }
 
-/// The namespace of an attribute's name without prefix, which is none.
-#[inline(always)]
-fn no_namespace(elements: &ElementTables<'_>, scope: u32, name: QName<'_>) -> AttributeNamespace
-    requires { name.prefix.now ≡ [] }
-    ensures { IsAttributeNamespace elements.entry.now scope (name_view name.entry) result }
-{
-    AttributeNamespace::None
-}
-
 /// The namespace of an attribute's name in this scope. Most have no prefix, and then nothing is looked up.
 #[inline(always)]
 fn namespace_in(
@@ -343,7 +333,7 @@ fn namespace_in(
     name: QName<'_>,
     near: &mut usize,
 ) -> Option<AttributeNamespace>
-    requires scope { HasScope elements.now scope }
+    requires { HasScope elements.now scope }
     ensures { IfSome result
         (λ s. IsAttributeNamespace elements.entry.now scope (name_view name.entry) s) }
 {
@@ -692,7 +682,7 @@ fn put_far_attribute<'input>(
     let Some(value) = plain_value(text, part + 2, quote, near) else {
         return put_spaced_attribute(text, start, elements, scope, seen);
     };
-    let namespace = no_namespace(elements, scope, name.name);
+    let namespace = AttributeNamespace::None;
     let read = NamedAttribute { start, name, value };
     put_named_attribute(text, read, elements, scope, namespace, seen).unwrap_or(0)
 }
@@ -741,7 +731,7 @@ pub fn put_attribute<'input>(
     let Some(value) = seen_value(text, window, count + 2, quote) else {
         return some_place(put_spaced_attribute(text, start, elements, scope, seen));
     };
-    let namespace = no_namespace(elements, scope, name.name);
+    let namespace = AttributeNamespace::None;
     let read = NamedAttribute { start, name, value };
     put_named_attribute(text, read, elements, scope, namespace, seen)
 }
