@@ -60,7 +60,7 @@ pub record IsLocalPart (src : List ℕ) (i j : ℕ) : Type 0 where
 -- a name of one part was read, which ends at this place
 pub record IsWholeName (src : List ℕ) (i j : ℕ) (n : PlainName) : Type 0 where
   pub value : qname_at src i ≡ Ok (name_view n.name, n.end)
-  pub local : i + length n.name.local.now ≤ n.end
+  pub local : i + length n.name.local.now ≡ n.end
   pub end : n.end ≡ j
   pub bare : n.name.prefix.now ≡ []
 
@@ -68,6 +68,7 @@ pub record IsWholeName (src : List ℕ) (i j : ℕ) (n : PlainName) : Type 0 whe
 pub record IsPrefixedName (src : List ℕ) (i j : ℕ) (n : PlainName) : Type 0 where
   pub named : IsAttributeName src i n
   pub prefix : n.name.prefix.now ≡ slice_range src i j
+  pub local : j + 1 + length n.name.local.now ≡ n.end
 
 -- a value may begin so many bytes behind those that are seen
 pub record SeesStart (src : List ℕ) (w : Window) (before q : ℕ) : Type 0 where
@@ -96,6 +97,7 @@ pub record MayPutNamed (src : List ℕ) (a : NamedAttribute) (t : ElementTables)
   pub put : MayPut src a.start t n s
   pub found : IsAttributeNamespace t n (name_view a.name.name) namespace
   pub named : IsAttributeName src a.start a.name
+  pub local : a.start + a.before + length a.name.name.local.now ≡ a.name.end
   pub value : HasPlainValue src (a.name.end + 2) (slice_index src (a.name.end + 1)) a.value.end a.value.text.now
 
 -- the place by itself, which is 0 where there is none

@@ -539,6 +539,8 @@ fn seen_value<'input>(
 #[derive(Clone, Copy)]
 pub struct NamedAttribute<'input> {
     pub start: usize,
+    /// How many bytes of its name stand before the local part: the prefix and the colon.
+    pub before: usize,
     pub name: PlainName<'input>,
     pub value: PlainValue<'input>,
 }
@@ -559,20 +561,17 @@ fn put_named_attribute<'input>(
         read.entry.start result }
 {
     let start = read.start;
-    let name = read.name.name;
-    let name_end = read.name.end;
-    let quote = quote_before(text, name_end + 2);
+    let quote = quote_before(text, read.name.end + 2);
     if is_namespace_decl(read.name.name) {
         return None;
     }
-    let before = name_end - start - name.local.len();
-    if before >= UNUSUAL as usize {
+    if read.before >= UNUSUAL as usize {
         return some_place(put_other_attribute(text, start, elements, scope, seen));
     }
     let one = UsualAttribute {
         start: start as u32,
-        before: before as u8,
-        local: name.local,
+        before: read.before as u8,
+        local: read.name.name.local,
         value: read.value.text,
     };
     if !put_usual_attribute(
@@ -652,7 +651,12 @@ fn put_prefixed_attribute<'input>(
     let Some(value) = plain_value(text, name.end + 2, quote, near) else {
         return put_spaced_attribute(text, start, elements, scope, seen);
     };
-    let read = NamedAttribute { start, name, value };
+    let read = NamedAttribute {
+        start,
+        before: part + 1 - start,
+        name,
+        value,
+    };
     let Some(behind) = put_named_attribute(text, read, elements, scope, namespace, seen) else {
         return 0;
     };
@@ -683,7 +687,12 @@ fn put_far_attribute<'input>(
         return put_spaced_attribute(text, start, elements, scope, seen);
     };
     let namespace = AttributeNamespace::None;
-    let read = NamedAttribute { start, name, value };
+    let read = NamedAttribute {
+        start,
+        before: 0,
+        name,
+        value,
+    };
     put_named_attribute(text, read, elements, scope, namespace, seen).unwrap_or(0)
 }
 
@@ -732,7 +741,12 @@ pub fn put_attribute<'input>(
         return some_place(put_spaced_attribute(text, start, elements, scope, seen));
     };
     let namespace = AttributeNamespace::None;
-    let read = NamedAttribute { start, name, value };
+    let read = NamedAttribute {
+        start,
+        before: 0,
+        name,
+        value,
+    };
     put_named_attribute(text, read, elements, scope, namespace, seen)
 }
 

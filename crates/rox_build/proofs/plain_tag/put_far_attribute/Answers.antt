@@ -37,5 +37,6 @@ put_named_attribute-requires c = record {
   put = first_of (search rules, grind (arith, common_steps));
   found = bare_namespace c.args.elements.now c.args.scope (name_view c.whole_name-name.result.name) c.whole_name-name.ensures.bare;
   named = first_of (search rules, grind (arith, common_steps));
+  local = first_of (search rules, grind (arith, common_steps));
   value = first_of (search rules, grind (arith, common_steps));
 }
