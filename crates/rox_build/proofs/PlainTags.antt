@@ -46,7 +46,7 @@ use Rattle.rox_tables.specs.ResolvedNames.{AddsResolved, row_of_unresolved}
 use Rattle.rox_tables.specs.declared.namespaces.bindings.PrefixBindings.{PrefixBindings}
 use Rattle.rox_tables.specs.declared.namespaces.unresolved_attribute.UnresolvedAttribute.{UnresolvedAttribute}
 use Rattle.rox_tables.proofs.Stable.{all_append}
-use Rattle.rox_build.specs.PlainParts.{IsLocalPart}
+use Rattle.rox_build.specs.PlainParts.{IsAttributeNamespace, IsLocalPart}
 use Rattle.rox_build.specs.PlainTag.{EndsVerbatim, HasPlainValue, HasScope, IsQuoteBehindEquals, few_in, IsValueStart, IsPlainAttribute, AddsPlain, PlainSoFar, ArePlainAttributes, EndsNear, holding}
 use Rattle.std.specs.Str.{IsUtf8, IsCharBoundary}
 use Rattle.std.proofs.lemmas.Bool.Decides.{nat_tests}
@@ -478,6 +478,18 @@ named_known scope n u h = which n.prefix refl
 pub named_by : (namespaces scope : List NamespaceDecl) (n : Name) (o : Option ℕ) → is_some o ≡ true → option_map (λ i. (namespace_at namespaces i).uri) o ≡ element_namespace scope n → may_name scope n ≡ true
 named_by namespaces scope n None some is = cc some
 named_by namespaces scope n (Some i) some is = named_known scope n _ (sym is)
+
+pub numbered_some : (number : ℕ) → number ≢ 0 → is_some (numbered_place number) ≡ true
+numbered_some Prim.Native.Nat.zero some = absurd (some refl)
+numbered_some (Prim.Native.Nat.suc i) some = refl
+
+-- a name without prefix has no namespace in any scope
+pub bare_namespace : (t : ElementTables) (n : ℕ) (name : Name) → name.prefix ≡ [] → IsAttributeNamespace t n name AttributeNamespace.None
+bare_namespace t n name bare = record {
+  within = tt;
+  there = λ ds h. rw bare refl;
+  known = λ ds h. rw bare refl;
+}
 
 -- what the tables hold of a plain tag
 pub plain_element : (old new : ElementTables) (e : ElementData) (above : List NamespaceDecl) (few : Option (List ℕ)) (src : List ℕ) (start j : ℕ) (empty : Bool) (name : Name)

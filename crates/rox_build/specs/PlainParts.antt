@@ -13,7 +13,7 @@ use Rattle.rox_scan.specs.ScanResults.{Finds}
 use Rattle.rox_scan.specs.Windows.{SeesQuote}
 use Rattle.rox_scan.specs.declared.window.Window.{Window}
 use Rattle.rox_tables.specs.Bindings.{FindsBinding}
-use Rattle.rox_grammar.specs.Document.{most_attributes}
+use Rattle.rox_grammar.specs.Document.{most_attributes, most_pairs}
 use Rattle.rox_tables.specs.Rows.{numbered_place, NamespaceWithin, attribute_rows, attribute_uri, namespace_view}
 use Rattle.rox_tables.specs.Storage.{storage_bytes}
 use Rattle.rox_tables.specs.declared.namespaces.unresolved_attribute.UnresolvedAttribute.{UnresolvedAttribute}
@@ -60,7 +60,7 @@ pub record IsLocalPart (src : List ℕ) (i j : ℕ) : Type 0 where
 -- a name of one part was read, which ends at this place
 pub record IsWholeName (src : List ℕ) (i j : ℕ) (n : PlainName) : Type 0 where
   pub value : qname_at src i ≡ Ok (name_view n.name, n.end)
-  pub local : i + length n.name.local.now ≤ n.end
+  pub local : i + length n.name.local.now ≡ n.end
   pub end : n.end ≡ j
   pub bare : n.name.prefix.now ≡ []
 
@@ -68,6 +68,7 @@ pub record IsWholeName (src : List ℕ) (i j : ℕ) (n : PlainName) : Type 0 whe
 pub record IsPrefixedName (src : List ℕ) (i j : ℕ) (n : PlainName) : Type 0 where
   pub named : IsAttributeName src i n
   pub prefix : n.name.prefix.now ≡ slice_range src i j
+  pub local : j + 1 + length n.name.local.now ≡ n.end
 
 -- a value may begin so many bytes behind those that are seen
 pub record SeesStart (src : List ℕ) (w : Window) (before q : ℕ) : Type 0 where
@@ -96,6 +97,7 @@ pub record MayPutNamed (src : List ℕ) (a : NamedAttribute) (t : ElementTables)
   pub put : MayPut src a.start t n s
   pub found : IsAttributeNamespace t n (name_view a.name.name) namespace
   pub named : IsAttributeName src a.start a.name
+  pub local : a.start + a.before + length a.name.name.local.now ≡ a.name.end
   pub value : HasPlainValue src (a.name.end + 2) (slice_index src (a.name.end + 1)) a.value.end a.value.text.now
 
 -- the place by itself, which is 0 where there is none
@@ -109,19 +111,21 @@ pub record PutsSome (old new : ElementTables) (n : ℕ) (s after : SeenNames) (s
   pub place : IfSome result (λ j. 0 < j)
   pub none : IfNone result (PutsPlain old new n s after src i 0)
 
--- the same of an element
-pub record FindsElementNamespace (t : ElementTables) (n : ℕ) (name : Name) (result : Option (Option ℕ)) : Type 0 where
-  pub is : IfSome result (λ s. IsNamespaceOf t n name s)
+-- this is the number of the namespace of an element of this name in this scope, where its prefix is known
+pub record FindsElementNamespace (t : ElementTables) (n : ℕ) (name : Name) (result : Option ℕ) : Type 0 where
+  pub is : IfSome result (λ s. IsNamespaceOf t n name (numbered_place s))
   pub known : IfSome result (λ _. may_name (scope_in_tables t n) name ≡ true)
 
 -- a name that stands at i may be resolved in this scope
 pub record MayNameIn (t : ElementTables) (n i : ℕ) : Type 0 where
   pub scope : HasScope t n
+  pub few : length t.namespaces.items.items ≤ most_pairs
   pub small : i < 2 ^ 63
 
 -- the same below this open element
 pub record MayNameBelow (t : ElementTables) (o : OpenElement) (name : Name) (i : ℕ) : Type 0 where
   pub scope : HasScope t o.scope
+  pub few : length t.namespaces.items.items ≤ most_pairs
   pub parent : IsNamespaceOf t o.scope (open_name o) (numbered_place o.namespace)
   pub named : MayHavePrefix o name.prefix
   pub small : i < 2 ^ 63

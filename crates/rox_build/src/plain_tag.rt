@@ -41,9 +41,7 @@ use rox_tables::rows::attributes::AttributeTable;
 use rox_tables::rows::recent_texts::Recent;
 use rox_tables::rows::storage::StringStorage;
 use rox_tables::rows::stored_attribute::UNUSUAL;
-use rox_tables::rows::tables::{
-    AttributeNamespace, ElementData, ElementTables, namespace_number, namespace_place,
-};
+use rox_tables::rows::tables::{AttributeNamespace, ElementData, ElementTables, namespace_number};
 use std::alloc::Global;
 
 /// So long is a name at most behind which `=` and a quote are seen with it.
@@ -304,7 +302,7 @@ fn spaced_attribute<'input>(
     })
 }
 
-/// The namespace of this prefix of an attribute in this scope.
+/// The namespace of this prefix of an attribute, which is not empty, in this scope.
 #[inline(always)]
 fn prefix_namespace(
     elements: &ElementTables<'_>,
@@ -312,9 +310,8 @@ fn prefix_namespace(
     prefix: &str,
     near: &mut usize,
 ) -> Option<AttributeNamespace>
-    requires scope { HasScope elements.now scope }
-    requires some { bytes_eq prefix.now [] ≡ false }
-    ensures { (n : Name) → n.prefix ≡ prefix.entry.now
+    requires { HasScope elements.now scope }
+    ensures { (n : Name) → n.prefix ≡ prefix.entry.now → bytes_eq n.prefix [] ≡ false
         → IfSome result (λ s. IsAttributeNamespace elements.entry.now scope n s) }
 {
     if same_text(prefix, "xml") {
@@ -328,15 +325,6 @@ fn prefix_namespace(
     }
 }
 
-/// The namespace of an attribute's name without prefix, which is none.
-#[inline(always)]
-fn no_namespace(elements: &ElementTables<'_>, scope: u32, name: QName<'_>) -> AttributeNamespace
-    requires { name.prefix.now ≡ [] }
-    ensures { IsAttributeNamespace elements.entry.now scope (name_view name.entry) result }
-{
-    AttributeNamespace::None
-}
-
 /// The namespace of an attribute's name in this scope. Most have no prefix, and then nothing is looked up.
 #[inline(always)]
 fn namespace_in(
@@ -345,7 +333,7 @@ fn namespace_in(
     name: QName<'_>,
     near: &mut usize,
 ) -> Option<AttributeNamespace>
-    requires scope { HasScope elements.now scope }
+    requires { HasScope elements.now scope }
     ensures { IfSome result
         (λ s. IsAttributeNamespace elements.entry.now scope (name_view name.entry) s) }
 {
@@ -551,6 +539,8 @@ fn seen_value<'input>(
 #[derive(Clone, Copy)]
 pub struct NamedAttribute<'input> {
     pub start: usize,
+    /// How many bytes of its name stand before the local part: the prefix and the colon.
+    pub before: usize,
     pub name: PlainName<'input>,
     pub value: PlainValue<'input>,
 }
@@ -571,20 +561,17 @@ fn put_named_attribute<'input>(
         read.entry.start result }
 {
     let start = read.start;
-    let name = read.name.name;
-    let name_end = read.name.end;
-    let quote = quote_before(text, name_end + 2);
+    let quote = quote_before(text, read.name.end + 2);
     if is_namespace_decl(read.name.name) {
         return None;
     }
-    let before = name_end - start - name.local.len();
-    if before >= UNUSUAL as usize {
+    if read.before >= UNUSUAL as usize {
         return some_place(put_other_attribute(text, start, elements, scope, seen));
     }
     let one = UsualAttribute {
         start: start as u32,
-        before: before as u8,
-        local: name.local,
+        before: read.before as u8,
+        local: read.name.name.local,
         value: read.value.text,
     };
     if !put_usual_attribute(
@@ -664,7 +651,12 @@ fn put_prefixed_attribute<'input>(
     let Some(value) = plain_value(text, name.end + 2, quote, near) else {
         return put_spaced_attribute(text, start, elements, scope, seen);
     };
-    let read = NamedAttribute { start, name, value };
+    let read = NamedAttribute {
+        start,
+        before: part + 1 - start,
+        name,
+        value,
+    };
     let Some(behind) = put_named_attribute(text, read, elements, scope, namespace, seen) else {
         return 0;
     };
@@ -694,8 +686,13 @@ fn put_far_attribute<'input>(
     let Some(value) = plain_value(text, part + 2, quote, near) else {
         return put_spaced_attribute(text, start, elements, scope, seen);
     };
-    let namespace = no_namespace(elements, scope, name.name);
-    let read = NamedAttribute { start, name, value };
+    let namespace = AttributeNamespace::None;
+    let read = NamedAttribute {
+        start,
+        before: 0,
+        name,
+        value,
+    };
     put_named_attribute(text, read, elements, scope, namespace, seen).unwrap_or(0)
 }
 
@@ -743,8 +740,13 @@ pub fn put_attribute<'input>(
     let Some(value) = seen_value(text, window, count + 2, quote) else {
         return some_place(put_spaced_attribute(text, start, elements, scope, seen));
     };
-    let namespace = no_namespace(elements, scope, name.name);
-    let read = NamedAttribute { start, name, value };
+    let namespace = AttributeNamespace::None;
+    let read = NamedAttribute {
+        start,
+        before: 0,
+        name,
+        value,
+    };
     put_named_attribute(text, read, elements, scope, namespace, seen)
 }
 
@@ -934,21 +936,21 @@ pub fn bare_start_tag<'input>(
     Some(PlainTag { tag, end })
 }
 
-/// The namespace of the name of a tag in this scope, if its prefix is known.
+/// The number of the namespace of the name of a tag in this scope, as rows hold it, if its prefix is known.
 #[inline(always)]
 pub fn other_namespace(
     elements: &ElementTables<'_>,
     name: QName<'_>,
     at: usize,
     scope: u32,
-) -> Option<Option<u16>>
+) -> Option<u16>
     requires { MayNameIn elements.now scope at }
     ensures { FindsElementNamespace elements.entry.now scope (name_view name.entry) result }
 {
     let places = few_places(&elements.scopes, &elements.listed, scope)?;
     let namespaces = elements.namespaces.as_slice();
     match element_namespace(namespaces, Some(places), &elements.present, name, at) {
-        Ok(namespace) => Some(namespace),
+        Ok(namespace) => Some(namespace_number(namespace)),
         Err(_) => None,
     }
 }
@@ -961,16 +963,16 @@ fn tag_namespace(
     name: QName<'_>,
     at: usize,
     parent: &OpenElement<'_>,
-) -> Option<Option<u16>>
+) -> Option<u16>
     requires { MayNameBelow elements.now parent.now (name_view name) at }
     ensures { FindsElementNamespace elements.entry.now parent.entry.now.scope
         (name_view name.entry) result }
 {
-    let above = namespace_place(parent.namespace);
+    let above = parent.namespace;
     if name.prefix.is_empty() && !parent.prefixed {
         return Some(above);
     }
-    if above.is_some() && has_prefix(parent, name.prefix) {
+    if above != 0 && has_prefix(parent, name.prefix) {
         return Some(above);
     }
     other_namespace(elements, name, at, parent.scope)
@@ -1016,7 +1018,7 @@ pub fn plain_start_tag<'input>(
         attributes_from: from as u32,
         attributes_until: until as u32,
         scope: parent.scope,
-        namespace: namespace_number(namespace),
+        namespace,
     };
     let tag = StartTag {
         name: name.name,
@@ -1043,7 +1045,6 @@ pub fn near_start_tag<'input>(
     ensures { ReadsTag elements.old elements.new above.entry.now text.entry.now place.start openings
         result }
 {
-    let name_at = after_byte(text, place.start, b'<');
     let first = elements.attributes.len();
     let close = some_attributes(text, place.part, elements, above.scope, seen)?;
     let last = elements.attributes.len();
@@ -1051,6 +1052,7 @@ pub fn near_start_tag<'input>(
         return None;
     }
     // What the attributes do not need is read behind them, so that nothing keeps it meanwhile.
+    let name_at = after_byte(text, place.start, b'<');
     let local = near_name(text, name_at, place.part);
     let element = ElementData {
         local,

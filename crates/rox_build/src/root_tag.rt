@@ -22,7 +22,7 @@ use rox_tables::namespaces::prefix_set::FEW;
 use rox_tables::namespaces::unresolved_attribute::UnresolvedAttribute;
 use rox_tables::rows::growth::push;
 use rox_tables::rows::storage::StringStorage;
-use rox_tables::rows::tables::{ElementData, ElementTables, Scope, Stretch, namespace_number};
+use rox_tables::rows::tables::{ElementData, ElementTables, Scope, Stretch};
 use rox_values::context::Context;
 use rox_values::parse_error::ParseError;
 use std::alloc::{AllocError, Global};
@@ -56,7 +56,12 @@ fn named_attribute<'input>(text: &'input str, start: usize) -> Option<NamedAttri
         let quote = quote_before(text, name.end + 2);
         let near = skip_set::<ValueByte>(text, name.end + 2);
         let value = plain_value(text, name.end + 2, quote, near)?;
-        return Some(NamedAttribute { start, name, value });
+        return Some(NamedAttribute {
+            start,
+            before: part + 1 - start,
+            name,
+            value,
+        });
     }
     let quote = quote_behind_equals(text, part);
     if quote == 0 {
@@ -65,7 +70,12 @@ fn named_attribute<'input>(text: &'input str, start: usize) -> Option<NamedAttri
     let name = whole_name(text, start, part);
     let near = skip_set::<ValueByte>(text, part + 2);
     let value = plain_value(text, part + 2, quote, near)?;
-    Some(NamedAttribute { start, name, value })
+    Some(NamedAttribute {
+        start,
+        before: 0,
+        name,
+        value,
+    })
 }
 
 /// Declares what begins at `start`, if it is a declaration that is read at one look, and none of `xml`. Answers the place behind it.
@@ -185,7 +195,7 @@ fn root_tag<'input>(
         attributes_from: from as u32,
         attributes_until: until as u32,
         scope: OWN,
-        namespace: namespace_number(namespace),
+        namespace,
     };
     let tag = StartTag {
         name: name.name,

@@ -65,11 +65,11 @@ pub struct ElementData<'input> {
 /// The number of an element's namespace: one more than its place in the table of namespaces, or 0 where it has none.
 #[inline(always)]
 pub fn namespace_number(place: Option<u16>) -> u16
-    requires { OptionWithin most_pairs place }
-    ensures { numbered_place result ≡ place }
+    ensures { OptionWithin most_pairs place → numbered_place result ≡ place }
 {
     match place {
-        Some(place) => place + 1,
+        // No table has so many that this wraps.
+        Some(place) => place.wrapping_add(1),
         None => 0,
     }
 }

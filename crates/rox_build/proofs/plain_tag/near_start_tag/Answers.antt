@@ -1,5 +1,6 @@
 use Rattle.std.proofs.Common.{◌≡◌, ◌≤◌, ◌+◌, [], length, map, refl, sym, ap, ◌∙◌, arith, Ok}
 use Rattle.std.proofs.lemmas.List.{append-nil}
+use Rattle.std.proofs.lemmas.Str.{IsCharBoundary-after_ascii}
 use Rattle.std.specs.Option.{option_map}
 use Rattle.rox_grammar.specs.Tree.{listed, element_namespace}
 use Rattle.rox_grammar.specs.Written.{Name}
@@ -13,6 +14,7 @@ use Rattle.rox_tables.proofs.Listing.{listed-none}
 use Rattle.rox_build.specs.BuilderState.{open_name}
 use Rattle.rox_build.specs.ElementRow.{scope_in_tables}
 use Rattle.rox_build.specs.PlainTag.{ArePlainAttributes, few_in, holding}
+use Rattle.rox_build.proofs.Items.{stands_within}
 use Rattle.rox_build.proofs.PlainTags.{near_cut, scope_found, plain_element, plain_count}
 use Rattle.rox_build.proofs.SpelledNames.{unprefixed_name}
 use Rattle.rox_build.proofs.Starting.{tag_made, tested_known, tested_passes}
@@ -21,9 +23,12 @@ use Rattle.rox_build.proofs.plain_tag.near_start_tag.Goals as goal
 pub some_attributes-requires : goal.some_attributes-requires
 some_attributes-requires c =
     let below = c.requires.here.below in
-    let start = c.after_byte-name_at.ensures.place in
+    let src = c.args.text.now in
+    let i = c.args.place.start in
+    let here = c.requires.here.here in
+    let name_cut = IsCharBoundary-after_ascii src i c.utf8.text (stands_within src i 60 here (omega arith)) (rw here (omega arith)) in
     record {
-      cut = near_cut c.args.text.now (c.args.place.start + 1) c.args.place.part c.utf8.text (rw (← start) c.after_byte-name_at.ensures.cut) c.requires.near;
+      cut = near_cut src (i + 1) c.args.place.part c.utf8.text name_cut c.requires.near;
       short = c.requires.here.short;
       scope = record { places = below.places; scopes = below.scopes; within = below.parent.0; once = below.parent.1 };
     }

@@ -1,4 +1,6 @@
-use Rattle.std.proofs.Common.{rules}
+use Rattle.std.proofs.Common.{length, rules}
+use Rattle.rox_grammar.specs.Document.{most_pairs}
+use Rattle.rox_build.proofs.Growing.{option_more}
 use Rattle.rox_build.proofs.PlainTags.{few_within, few_found}
 use Rattle.rox_build.proofs.plain_tag.other_namespace.Goals as goal
 
@@ -12,10 +14,13 @@ element_namespace-requires c = record {
 pub returns-in-Ok : goal.returns-in-Ok
 returns-in-Ok c = record {
   is =
+      let t = c.args.elements.now in
+      let number = c.namespace_number.ensures
+          (option_more (length t.namespaces.items.items) most_pairs c.in-Ok.namespace c.requires.few (rw c.as_slice-namespaces.ensures.value at c.in-Ok.ensures.within)) in
       let here = few_found c.args.elements.now c.as_slice-namespaces.result.now c.deref.result.now c.deref-2.result.now c.in_ok-places.places.now c.args.scope c.as_slice-namespaces.ensures.value c.deref.ensures.value c.deref-2.ensures.value c.in_ok-places.ensures.few in
       record {
-        within = rw c.as_slice-namespaces.ensures.value at c.in-Ok.ensures.within;
-        is = rw c.as_slice-namespaces.ensures.value at (c.in-Ok.ensures.ok _ here).0;
+        within = rw number (rw c.as_slice-namespaces.ensures.value at c.in-Ok.ensures.within);
+        is = rw number (rw c.as_slice-namespaces.ensures.value at (c.in-Ok.ensures.ok _ here).0);
       };
   known =
       let here = few_found c.args.elements.now c.as_slice-namespaces.result.now c.deref.result.now c.deref-2.result.now c.in_ok-places.places.now c.args.scope c.as_slice-namespaces.ensures.value c.deref.ensures.value c.deref-2.ensures.value c.in_ok-places.ensures.few in

@@ -4,7 +4,7 @@ use Rattle.std.proofs.lemmas.List.{append-nil}
 use Rattle.rox_grammar.specs.declared.fault.Word.TheVariants.{Xmlns}
 use Rattle.rox_grammar.specs.FixedTexts.{word_text}
 use Rattle.rox_grammar.specs.Tree.{listed}
-use Rattle.rox_grammar.specs.Document.{most_attributes, most_pairs}
+use Rattle.rox_grammar.specs.Document.{most_attributes}
 use Rattle.rox_grammar.specs.Failures.{name_view}
 use Rattle.rox_reading.specs.Tags.{tag_tested}
 use Rattle.rox_tables.specs.TagScopes.{lists_in}
@@ -14,7 +14,6 @@ use Rattle.rox_tables.specs.declared.rows.tables.ElementData.{ElementData}
 use Rattle.rox_tables.proofs.Listing.{listed-none}
 use Rattle.rox_build.specs.BuilderState.{IsNamespaceOf}
 use Rattle.rox_build.specs.ElementRow.{scope_in_tables}
-use Rattle.rox_build.proofs.Growing.{option_more}
 use Rattle.rox_build.specs.PlainTag.{ArePlainAttributes, few_in, holding}
 use Rattle.rox_build.proofs.PlainTags.{scope_found, plain_element, plain_count}
 use Rattle.rox_build.proofs.SpelledNames.{name_apart}
@@ -24,6 +23,7 @@ use Rattle.rox_build.proofs.plain_tag.plain_start_tag.Goals as goal
 pub tag_namespace-requires : goal.tag_namespace-requires
 tag_namespace-requires c = record {
   scope = record { places = c.requires.here.below.places; scopes = c.requires.here.below.scopes; within = c.requires.here.below.parent.0; once = c.requires.here.below.parent.1 };
+  few = c.requires.here.below.few;
   parent = c.requires.here.below.parent.3;
   named = record { named = c.requires.here.below.parent.2; apart = name_apart c.args.text.now c.after_byte-name_start.result (name_view c.in_ok-name.name.name) c.in_ok-name.name.end c.utf8.text c.after_byte-name_start.ensures.cut c.in_ok-name.ensures.value };
   small = first_of (search rules, grind (arith, common_steps));
@@ -37,11 +37,6 @@ plain_attributes-requires c =
       short = c.requires.here.short;
       scope = record { places = below.places; scopes = below.scopes; within = below.parent.0; once = below.parent.1 };
     }
-
-pub namespace_number-requires : goal.namespace_number-requires
-namespace_number-requires c =
-    let old = c.args.elements.now in
-    option_more (length old.namespaces.items.items) most_pairs c.in_ok-namespace.namespace c.requires.here.below.few c.in_ok-namespace.ensures.is.within
 
 pub returns : goal.returns
 returns c =
@@ -66,13 +61,13 @@ returns c =
     let until = c.len-until.ensures in
     let most : length (attribute_rows new.attributes) ≤ most_attributes = (let k = c.if-until-gt-MOST_ATTRIBUTES.false in omega arith) in
     let fits : count + length x.written ≤ most_attributes = omega arith in
-    let named : IsNamespaceOf old scope name (numbered_place c.namespace_number.result) = rw c.namespace_number.ensures c.in_ok-namespace.ensures.is in
+    let named : IsNamespaceOf old scope name (numbered_place c.in_ok-namespace.namespace) = c.in_ok-namespace.ensures.is in
     let is = rw start at c.in_ok-name.ensures.value in
     let other : bytes_eq name.prefix (word_text Xmlns) ≡ false = sym c.same_text.ensures ∙ c.if-same_text.false in
     let none = listed-none above in
     let fine : tag_tested (listed above []) count i name x.written ≡ Ok tt =
     tested_passes (listed above []) count i name x.written (rw none (tested_known above count (i + 1) name x.written fits (x.tested above finds) c.in_ok-namespace.ensures.known)) in
-    let element : ElementData = record { local = c.in_ok-name.name.name.local; attributes_from = c.len-from.result; attributes_until = c.len-until.result; scope = scope; namespace = c.namespace_number.result } in
+    let element : ElementData = record { local = c.in_ok-name.name.name.local; attributes_from = c.len-from.result; attributes_until = c.len-until.result; scope = scope; namespace = c.in_ok-namespace.namespace } in
     let within = c.requires.here.below.parent in
     record {
       read = record {

@@ -9,12 +9,12 @@ use Rattle.rox_build.proofs.plain_tag.prefix_namespace.Goals as goal
 
 pub find_near-requires : goal.find_near-requires
 find_near-requires c = record {
-  within = few_within c.args.elements.now c.as_slice-namespaces.result.now c.deref.result.now c.deref-2.result.now c.in_ok-places.places.now c.args.scope c.as_slice-namespaces.ensures.value c.deref.ensures.value c.deref-2.ensures.value c.requires.scope.places c.in_ok-places.ensures.few;
-  once = few_once c.args.elements.now c.as_slice-namespaces.result.now c.deref.result.now c.deref-2.result.now c.in_ok-places.places.now c.args.scope c.as_slice-namespaces.ensures.value c.deref.ensures.value c.deref-2.ensures.value c.requires.scope.once c.in_ok-places.ensures.few;
+  within = few_within c.args.elements.now c.as_slice-namespaces.result.now c.deref.result.now c.deref-2.result.now c.in_ok-places.places.now c.args.scope c.as_slice-namespaces.ensures.value c.deref.ensures.value c.deref-2.ensures.value c.requires.places c.in_ok-places.ensures.few;
+  once = few_once c.args.elements.now c.as_slice-namespaces.result.now c.deref.result.now c.deref-2.result.now c.in_ok-places.places.now c.args.scope c.as_slice-namespaces.ensures.value c.deref.ensures.value c.deref-2.ensures.value c.requires.once c.in_ok-places.ensures.few;
 }
 
 pub returns-in-Some : goal.returns-in-Some
-returns-in-Some c = λ n is. record {
+returns-in-Some c = λ n is some. record {
   within = first_of (search rules, grind (arith, common_steps));
   there = first_of (search rules, grind (arith, common_steps));
   known = λ ds h.

@@ -67,4 +67,5 @@ returns c =
         inside = quoted.within;
       };
       prefix = c.range.ensures.value;
+      local = omega (arith, onward, long, rw place at size);
     }

@@ -1,8 +1,10 @@
-use Rattle.std.proofs.Common.{◌+◌, ◌≤◌, subst, arith}
+use Rattle.std.proofs.Common.{◌+◌, ◌≤◌, subst, arith, rules}
+use Rattle.std.proofs.lemmas.Grind.{common_steps}
+use Rattle.rox_grammar.specs.Failures.{name_view}
 use Rattle.std.specs.Str.{IsCharBoundary}
 use Rattle.rox_scan.specs.ByteSets.{EndsSet, is_part_byte, is_value_byte}
 use Rattle.rox_scan.proofs.NearLemmas.{part_cut, part_stops}
-use Rattle.rox_build.proofs.PlainTags.{behind_quote, ascii_begins, quote_first}
+use Rattle.rox_build.proofs.PlainTags.{bare_namespace, behind_quote, ascii_begins, quote_first}
 use Rattle.rox_build.proofs.plain_tag.put_attribute.Goals as goal
 
 pub whole_name-name-requires : goal.whole_name-name-requires
@@ -49,3 +51,12 @@ seen_value-requires c =
         quote = seen.quote;
       };
     }
+
+pub put_named_attribute-requires : goal.put_named_attribute-requires
+put_named_attribute-requires c = record {
+  put = first_of (search rules, grind (arith, common_steps));
+  found = bare_namespace c.args.elements.now c.args.scope (name_view c.whole_name-name.result.name) c.whole_name-name.ensures.bare;
+  named = first_of (search rules, grind (arith, common_steps));
+  local = first_of (search rules, grind (arith, common_steps));
+  value = first_of (search rules, grind (arith, common_steps));
+}

@@ -1,6 +1,8 @@
-use Rattle.std.proofs.Common.{arith}
+use Rattle.std.proofs.Common.{arith, rules}
+use Rattle.std.proofs.lemmas.Grind.{common_steps}
+use Rattle.rox_grammar.specs.Failures.{name_view}
 use Rattle.rox_scan.proofs.NearLemmas.{part_cut, part_stops}
-use Rattle.rox_build.proofs.PlainTags.{ascii_begins, behind_quote}
+use Rattle.rox_build.proofs.PlainTags.{bare_namespace, ascii_begins, behind_quote}
 use Rattle.rox_build.proofs.plain_tag.put_far_attribute.Goals as goal
 
 pub whole_name-name-requires : goal.whole_name-name-requires
@@ -29,3 +31,12 @@ plain_value-requires c =
       near = c.skip_set-near.ensures;
       quote = seen.quote;
     }
+
+pub put_named_attribute-requires : goal.put_named_attribute-requires
+put_named_attribute-requires c = record {
+  put = first_of (search rules, grind (arith, common_steps));
+  found = bare_namespace c.args.elements.now c.args.scope (name_view c.whole_name-name.result.name) c.whole_name-name.ensures.bare;
+  named = first_of (search rules, grind (arith, common_steps));
+  local = first_of (search rules, grind (arith, common_steps));
+  value = first_of (search rules, grind (arith, common_steps));
+}

@@ -45,10 +45,11 @@ returns c =
       value = Borrowed value;
       placed = omega arith;
     } in
-    let few = c.if-before.false in
+    let b = c.args.read.before in
+    let parts = c.requires.local in
     let usual : UsualAttribute = record {
       start = i;
-      before = n - i - length name.local.now;
+      before = b;
       local = name.local;
       value = value;
       usual = omega arith;
@@ -71,7 +72,7 @@ returns c =
     let space = c.args.namespace in
     let put = c.put_usual_attribute.ensures in
     let true = c.if-not-put_usual_attribute.false in
-    let places = usual_are i (n - i - length name.local.now) (length name.local.now) (length value.now) n s e (omega arith) refl (omega (arith, done, long, size)) in
+    let places = usual_are i b (length name.local.now) (length value.now) n s e (sym parts) refl (omega (arith, done, long, size)) in
     record {
       put = record {
         added = λ _. record {

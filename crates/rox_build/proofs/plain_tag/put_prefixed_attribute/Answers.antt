@@ -36,8 +36,9 @@ filled : (xs : List ℕ) → 0 < length xs → bytes_eq xs [] ≡ false
 filled [] some = absurd (omega (arith, some))
 filled (x ∷ xs) some = refl
 
-pub prefix_namespace-requires-clause-some : goal.prefix_namespace-requires-clause-some
-prefix_namespace-requires-clause-some c =
+pub put_named_attribute-requires : goal.put_named_attribute-requires
+put_named_attribute-requires c =
+    let named = c.in-Some-prefixed_name.ensures in
     let src = c.args.text.now in
     let i = c.args.start in
     let j = c.args.part in
@@ -46,16 +47,13 @@ prefix_namespace-requires-clause-some c =
     let first = c.requires.put.begins in
     let apart : i ≡ j → ⊥ = λ same. absurd (let last = ap (slice_index src) same in omega (arith, last, here, first)) in
     let onward = near.onward in
-    let size = ap length c.range.ensures.value ∙ range_length src i j onward near.within in
-    filled c.range.result.now (omega (arith, onward, apart, size))
-
-pub put_named_attribute-requires : goal.put_named_attribute-requires
-put_named_attribute-requires c =
-    let named = c.in-Some-prefixed_name.ensures in
+    let size = ap length named.prefix ∙ range_length src i j onward near.within in
+    let some = filled c.in-Some-prefixed_name.name.name.prefix.now (omega (arith, onward, apart, size)) in
     record {
       put = first_of (search rules, grind (arith, common_steps));
-      found = c.in-Some.ensures (name_view c.in-Some-prefixed_name.name.name) (named.prefix ∙ sym c.range.ensures.value);
+      found = c.in-Some.ensures (name_view c.in-Some-prefixed_name.name.name) (named.prefix ∙ sym c.range.ensures.value) some;
       named = named.named;
+      local = omega (arith, onward, named.local);
       value = first_of (search rules, grind (arith, common_steps));
     }
 

@@ -1,10 +1,10 @@
-use Rattle.std.proofs.Common.{is_some, ap, ◌≡◌, sym, ◌∙◌, map, rules, arith}
+use Rattle.std.proofs.Common.{◌≡◌, map, rules, arith}
 use Rattle.std.proofs.lemmas.Grind.{common_steps}
 use Rattle.rox_grammar.specs.Failures.{name_view}
 use Rattle.rox_tables.specs.Rows.{namespace_view, numbered_place}
 use Rattle.rox_build.specs.BuilderState.{open_name}
 use Rattle.rox_build.specs.ElementRow.{scope_in_tables}
-use Rattle.rox_build.proofs.PlainTags.{named_by}
+use Rattle.rox_build.proofs.PlainTags.{named_by, numbered_some}
 use Rattle.rox_build.proofs.plain_tag.tag_namespace.Goals as goal
 
 pub returns-then-has_prefix : goal.returns-then-has_prefix
@@ -15,5 +15,5 @@ returns-then-has_prefix c = record {
       let o = c.args.parent.now in
       let name = c.args.name in
       let same : (open_name o).prefix ≡ name.prefix.now = c.has_prefix.ensures c.if-has_prefix.true in
-      named_by (map namespace_view t.namespaces.items.items) (scope_in_tables t o.scope) (name_view name) (numbered_place o.namespace) (ap is_some (sym c.namespace_place-above.ensures) ∙ sym c.is_some.ensures ∙ c.if-is_some.true) (rw same at c.requires.parent.is);
+      named_by (map namespace_view t.namespaces.items.items) (scope_in_tables t o.scope) (name_view name) (numbered_place o.namespace) (numbered_some o.namespace c.if-above-ne0.true) (rw same at c.requires.parent.is);
 }

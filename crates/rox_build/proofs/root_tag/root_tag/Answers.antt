@@ -1,11 +1,10 @@
 use Rattle.std.proofs.Common.{◌≡◌, ◌+◌, ◌≤◌, false, length, bytes_eq, refl, sym, ◌∙◌, arith, Ok}
 use Rattle.rox_grammar.specs.declared.fault.Word.TheVariants.{Xmlns}
-use Rattle.rox_grammar.specs.Document.{most_attributes, most_pairs}
+use Rattle.rox_grammar.specs.Document.{most_attributes}
 use Rattle.rox_grammar.specs.FixedTexts.{word_text}
 use Rattle.rox_grammar.specs.Failures.{name_view}
 use Rattle.rox_reading.specs.Lexical.{qname_at}
 use Rattle.rox_tables.specs.Rows.{attribute_rows}
-use Rattle.rox_build.proofs.Growing.{option_more}
 use Rattle.rox_build.proofs.RootTags.{has_scope, root_tagged}
 use Rattle.rox_build.proofs.root_tag.root_tag.Goals as goal
 
@@ -17,13 +16,9 @@ other_namespace-requires c =
     let x = c.in_ok-end.ensures.read in
     record {
       scope = has_scope c.root_attributes.new.elements x.keys x.has x.scope;
+      few = x.has.few;
       small = omega arith;
     }
-
-pub namespace_number-requires : goal.namespace_number-requires
-namespace_number-requires c =
-    let new = c.root_attributes.new.elements in
-    option_more (length new.namespaces.items.items) most_pairs c.in_ok-namespace.namespace c.in_ok-end.ensures.read.has.few c.in_ok-namespace.ensures.is.within
 
 pub returns : goal.returns
 returns c =
@@ -40,7 +35,7 @@ returns c =
     let is : qname_at src (i + 1) ≡ Ok (name_view name.name, name.end) = rw start at c.in_ok-name.ensures.value in
     let other : bytes_eq (name_view name.name).prefix (word_text Xmlns) ≡ false = sym c.same_text.ensures ∙ c.if-same_text.false in
     record {
-      read = λ blank none same. root_tagged blank old new src i name.end c.in_ok-end.end.at _ none same x is other start refl refl c.len-from.ensures until most refl (rw c.namespace_number.ensures named.is) named.known c.in_ok-end.ensures.cut;
+      read = λ blank none same. root_tagged blank old new src i name.end c.in_ok-end.end.at _ none same x is other start refl refl c.len-from.ensures until most refl named.is named.known c.in_ok-end.ensures.cut;
       openings_left = refl;
       grown = record { more = c.in_ok-end.ensures.grown.more; rows = c.in_ok-end.ensures.grown.rows };
     }

@@ -96,12 +96,6 @@ overflow_cast-result-2 c =
     let until = c.len-2.ensures in
     omega arith
 
-pub namespace_number-requires : goal.namespace_number-requires
-namespace_number-requires c =
-    let t = c.args.elements.now in
-    let o = c.in_ok-namespace.namespace in
-    option_more (length t.namespaces.items.items) most_pairs o c.requires.few_names (subst (λ (n : ℕ). OptionWithin n o) (ap length c.as_slice-2.ensures.value) c.in_ok-namespace.ensures.within)
-
 pub returns : goal.returns
 returns c =
     let t = c.args.elements.now in
@@ -124,6 +118,8 @@ returns c =
           let moved = (c.in_ok-resolve.ensures scope here).1 in
           let named = c.in_ok-namespace.ensures.ok scope here2 in
           let o = c.in_ok-namespace.namespace in
+          let place = subst (λ (n : ℕ). OptionWithin n o) (ap length c.as_slice-2.ensures.value) c.in_ok-namespace.ensures.within in
+          let number = c.namespace_number.ensures (option_more (length t.namespaces.items.items) most_pairs o c.requires.few_names place) in
           let same : map (attribute namespaces) moved.0 ≡ map (attribute_in scope) written =
           ap (λ ns. map (attribute ns) moved.0) (sym seen) ∙ moved.2 in
           let wide : length c.as_slice.result.now ≡ length namespaces = ap length c.as_slice.ensures.value ∙ sym (length-map t.namespaces.items.items namespace_view) in
@@ -142,8 +138,8 @@ returns c =
             attributes_until = c.len-2.ensures;
             few = omega arith;
             local = refl;
-            namespace = rw c.namespace_number.ensures (ap (λ ns. option_map (λ i. (namespace_at ns i).uri) o) (sym seen2) ∙ named.0);
-            namespace_within = rw c.namespace_number.ensures (subst (λ (n : ℕ). OptionWithin n o) (ap length c.as_slice-2.ensures.value) c.in_ok-namespace.ensures.within);
+            namespace = rw number (ap (λ ns. option_map (λ i. (namespace_at ns i).uri) o) (sym seen2) ∙ named.0);
+            namespace_within = rw number place;
             scope_within = c.requires.within;
             lists = refl;
           };
