@@ -23,6 +23,7 @@ pub mod SpacedValues
 pub mod SpacedEnds
 pub mod PlainReads
 pub mod PlainTags
+pub mod DeclaredNames
 pub mod RootTags
 pub mod SameBytes
 pub mod SameNames

@@ -1,10 +1,12 @@
 -- The start tag of a root element that is read at one look, with its declarations.
-use Rattle.std.specs.Prelude.{◌≡◌, ℕ, ◌+◌, ◌<◌, ◌≤◌, ◌^◌, Bool, true, false, List, [], ◌∷◌, ◌++◌, Option, Some, None, Ok, length, map, slice_index, IfSome, OnOk, Result}
+use Rattle.std.specs.Prelude.{◌≡◌, ℕ, ◌+◌, ◌<◌, ◌≤◌, ◌^◌, Bool, true, false, List, [], ◌∷◌, ◌++◌, Option, Some, None, Ok, length, map, slice_index, slice_range, IfSome, OnOk, Result}
 use Rattle.std.specs.Borrow.{Bor}
 use Rattle.std.specs.List.{AllByRecursion}
 use Rattle.std.specs.Str.{IsCharBoundary}
 use Rattle.rox_grammar.specs.declared.fault.Fault.{Fault}
+use Rattle.rox_grammar.specs.declared.fault.Word.TheVariants.{Xmlns}
 use Rattle.rox_grammar.specs.Failures.{name_view}
+use Rattle.rox_grammar.specs.FixedTexts.{word_text}
 use Rattle.rox_grammar.specs.Tree.{attribute_in, listable_of}
 use Rattle.rox_grammar.specs.Written.{Attribute, NamespaceDecl, is_namespace_decl}
 use Rattle.rox_reading.specs.Tags.{Values, attributes_at, names_tested}
@@ -17,17 +19,16 @@ use Rattle.rox_tables.specs.declared.namespaces.unresolved_attribute.UnresolvedA
 use Rattle.rox_tables.specs.declared.rows.tables.ElementTables.{ElementTables}
 use Rattle.rox_tables.specs.declared.rows.tables.Scope.{Scope}
 use Rattle.rox_tables.specs.declared.rows.tables.Scope.TheVariants as scope
-use Rattle.rox_build.specs.PlainTag.{HasPlainValue, IsAttributeName, IsPlainAttribute, IsPlainTag, holding}
+use Rattle.rox_build.specs.PlainTag.{IsAttributeName, IsPlainAttribute, IsPlainTag, holding}
 use Rattle.rox_build.specs.Readiness.{MayReadBelow}
-use Rattle.rox_build.specs.declared.plain_tag.NamedAttribute.{NamedAttribute}
+use Rattle.rox_build.specs.declared.plain_tag.PlainName.{PlainName}
 use Rattle.rox_build.specs.declared.plain_tag.PlainTag.{PlainTag}
 use Rattle.rox_build.specs.declared.plain_tag.TagEnd.{TagEnd}
 
--- the name and the value of an attribute or a declaration that begins here, where the value stands for itself
-pub record IsNamedAttribute (src : List ℕ) (i : ℕ) (n : NamedAttribute) : Type 0 where
-  pub start : n.start ≡ i
-  pub named : IsAttributeName src i n.name
-  pub value : HasPlainValue src (n.name.end + 2) (slice_index src (n.name.end + 1)) n.value.end n.value.text.now
+-- the name of a declaration is read at this place, and `=` and a quote stand right behind it
+pub record IsDeclaredName (src : List ℕ) (i : ℕ) (n : PlainName) : Type 0 where
+  pub named : IsAttributeName src i n
+  pub is : is_namespace_decl (name_view n.name) ≡ true
 
 -- a scope of the first so many places
 abbrev pub first_places : ℕ → Scope
@@ -139,10 +140,10 @@ abbrev pub GivesRootTag : (old new : ElementTables) (src : List ℕ) (i openings
 GivesRootTag old new src i openings None = HoldAlike old new
 GivesRootTag old new src i openings (Some t) = IsBlank old × IsPlainTag old new [] src i t.end t.tag × (t.tag.openings_left ≡ openings)
 
--- an attribute or a declaration may begin here
-pub record MayBeNamed (src : List ℕ) (i : ℕ) : Type 0 where
-  pub cut : IsCharBoundary src i
-  pub begins : 62 < slice_index src i
+-- `xmlns` stands here, and a byte behind it
+pub record MayDeclare (src : List ℕ) (i : ℕ) : Type 0 where
+  pub here : slice_range src i (i + 5) ≡ word_text Xmlns
+  pub behind : i + 5 < length src
 
 -- what begins here was declared, if it is a declaration that is read at one look, up to this place
 pub record DeclaresOwn (old new : ElementTables) (src : List ℕ) (i : ℕ) (result : Option ℕ) : Type 0 where

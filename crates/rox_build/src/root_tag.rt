@@ -4,19 +4,19 @@
 ghost use Rattle.std.specs.Prelude.{◌≡◌, IfOk, IfSome, length, slice_index, true};
 ghost use Rattle.rox_build.specs.ElementRow.{ReadsStartTag};
 ghost use Rattle.rox_build.specs.Readiness.{MayReadTagBelow};
-ghost use Rattle.rox_build.specs.RootTag.{BeginsOwn, BeginsScopes, DeclaresOwn, GivesRootTag, IsBlank, IsNamedAttribute, ListsOwn, MayBeNamed, MayReadRoot, MayReadRootTag, ReadsRoot, ReadsRootTag};
+ghost use Rattle.rox_build.specs.RootTag.{BeginsOwn, BeginsScopes, DeclaresOwn, GivesRootTag, IsBlank, IsDeclaredName, ListsOwn, MayDeclare, MayReadRoot, MayReadRootTag, ReadsRoot, ReadsRootTag};
 
 use crate::plain_tag::{
-    NamedAttribute, PlainTag, TagEnd, next_item, other_namespace, plain_name, plain_value,
+    PlainName, PlainTag, TagEnd, next_item, other_namespace, plain_name, plain_value,
     prefixed_name, put_attribute, quote_before, quote_behind_equals, tag_end, whole_name,
 };
 use crate::tag::{Buffers, MOST_ATTRIBUTES, StartTag, TagContext, start_tag};
-use rox_scan::byte_set::{PartByte, ValueByte, part_end, skip_set};
+use rox_scan::byte_set::{ValueByte, part_end, skip_set};
 use rox_scan::cursor::Cursor;
 use rox_scan::runs::{after_byte, is_at};
 use rox_tables::compare::same_text;
 use rox_tables::namespaces::bindings::PrefixBindings;
-use rox_tables::namespaces::namespace_decl::{declare_new, is_namespace_decl};
+use rox_tables::namespaces::namespace_decl::declare_new;
 use rox_tables::namespaces::namespace_table::NamespaceTable;
 use rox_tables::namespaces::prefix_set::FEW;
 use rox_tables::namespaces::unresolved_attribute::UnresolvedAttribute;
@@ -30,9 +30,11 @@ use std::alloc::{AllocError, Global};
 /// The scope of a root element: the row behind that of the root node.
 const OWN: u32 = 1;
 
-/// Whether `xmlns` stands at `at`.
+/// Whether `xmlns` stands at `at`, and a byte behind it.
 #[inline(always)]
-fn may_declare(text: &str, at: usize) -> bool {
+fn may_declare(text: &str, at: usize) -> bool
+    ensures { result ≡ true → MayDeclare text.now at }
+{
     let bytes = text.as_bytes();
     at < bytes.len()
         && bytes.len() - at > 5
@@ -43,39 +45,21 @@ fn may_declare(text: &str, at: usize) -> bool {
         && bytes[at + 4] == b's'
 }
 
-/// The name of the attribute or declaration that begins at `start`, if `=` and a quote stand right behind it; and its value, if that
-/// stands for itself.
+/// The name of the declaration that begins with the `xmlns` at `start`, if `=` and a quote stand right behind it. The byte behind
+/// `xmlns` tells whether that is its prefix or all of it.
 #[inline(always)]
-fn named_attribute<'input>(text: &'input str, start: usize) -> Option<NamedAttribute<'input>>
-    requires { MayBeNamed text.now start }
-    ensures { IfSome result (λ n. IsNamedAttribute text.entry.now start n) }
+fn declared_name<'input>(text: &'input str, start: usize) -> Option<PlainName<'input>>
+    requires { MayDeclare text.now start }
+    ensures { IfSome result (λ n. IsDeclaredName text.entry.now start n) }
 {
-    let part = skip_set::<PartByte>(text, start);
+    let part = start + 5;
     if is_at(text, part, b':') {
-        let name = prefixed_name(text, start, part)?;
-        let quote = quote_before(text, name.end + 2);
-        let near = skip_set::<ValueByte>(text, name.end + 2);
-        let value = plain_value(text, name.end + 2, quote, near)?;
-        return Some(NamedAttribute {
-            start,
-            before: part + 1 - start,
-            name,
-            value,
-        });
+        return prefixed_name(text, start, part);
     }
-    let quote = quote_behind_equals(text, part);
-    if quote == 0 {
+    if quote_behind_equals(text, part) == 0 {
         return None;
     }
-    let name = whole_name(text, start, part);
-    let near = skip_set::<ValueByte>(text, part + 2);
-    let value = plain_value(text, part + 2, quote, near)?;
-    Some(NamedAttribute {
-        start,
-        before: 0,
-        name,
-        value,
-    })
+    Some(whole_name(text, start, part))
 }
 
 /// Declares what begins at `start`, if it is a declaration that is read at one look, and none of `xml`. Answers the place behind it.
@@ -87,23 +71,22 @@ fn declared<'input>(
     elements: &mut ElementTables<'input>,
     lacking: &mut bool,
 ) -> Option<usize>
-    requires { MayBeNamed text.now start }
+    requires { MayDeclare text.now start }
     ensures { DeclaresOwn elements.old elements.new text.entry.now start result }
 {
-    let read = named_attribute(text, start)?;
-    if !is_namespace_decl(read.name.name) {
-        return None;
-    }
-    let value_start = read.name.end + 2;
+    let name = declared_name(text, start)?;
+    let value_start = name.end + 2;
     let quote = quote_before(text, value_start);
-    let end = after_byte(text, read.value.end, quote);
+    let near = skip_set::<ValueByte>(text, value_start);
+    let value = plain_value(text, value_start, quote, near)?;
+    let end = after_byte(text, value.end, quote);
     let one = UnresolvedAttribute {
         start,
-        name_end: read.name.end,
+        name_end: name.end,
         value_start,
         end,
-        name: read.name.name,
-        value: StringStorage::Borrowed(read.value.text),
+        name: name.name,
+        value: StringStorage::Borrowed(value.text),
     };
     match declare_new(&mut elements.namespaces, &mut elements.listed, one) {
         Ok(true) => Some(end),

@@ -1,4 +1,4 @@
-use Rattle.std.proofs.Common.{rules, ◌≡◌, ◌-◌, ◌+◌, slice_index, refl, sym, ap, ◌∙◌, arith}
+use Rattle.std.proofs.Common.{rules, ◌≡◌, ◌-◌, ◌+◌, slice_index, refl, ap, ◌∙◌, arith}
 use Rattle.rox_grammar.specs.Failures.{name_view}
 use Rattle.rox_tables.specs.declared.rows.storage.StringStorage.TheVariants.{Borrowed}
 use Rattle.rox_tables.specs.declared.namespaces.unresolved_attribute.UnresolvedAttribute.{UnresolvedAttribute}
@@ -10,17 +10,16 @@ pub returns-in-Ok-true : goal.returns-in-Ok-true
 returns-in-Ok-true c =
     let src = c.args.text.now in
     let i = c.args.start in
-    let read = c.in_ok-read.read in
-    let found = c.in_ok-read.ensures in
-    let name = read.name.name in
-    let n = read.name.end in
+    let found = c.in_ok-name.ensures in
+    let name = c.in_ok-name.name.name in
+    let n = c.in_ok-name.name.end in
     let s = n + 2 in
     let q = c.quote_before-quote.result in
     let is_quote = c.quote_before-quote.ensures.quote in
-    let j = read.value.end in
+    let w = c.in_ok-value.ensures in
+    let value = c.in_ok-value.value.text in
+    let j = c.in_ok-value.value.end in
     let e = c.after_byte-end.result in
-    let w = found.value in
-    let value = read.value.text in
     let there : slice_index src (n + 1) ≡ q = ap (slice_index src) (omega arith) ∙ c.quote_before-quote.ensures.here in
     let v : IsValueStart src n s = value_starts src n c.utf8.text found.named.inside found.named.equals found.named.quote in
     let here : slice_index src (s - 1) ≡ q = ap (slice_index src) (omega arith) ∙ there in
@@ -40,7 +39,7 @@ returns-in-Ok-true c =
     } in
     let plain : IsPlainAttribute src i one = record {
       value_end = j;
-      read = attribute_reads src i (name_view name) n s q j e found.named.value v here is_quote (quote_is_some q is_quote) (rw there at w.read) (w.here ∙ there) done;
+      read = attribute_reads src i (name_view name) n s q j e found.named.value v here is_quote (quote_is_some q is_quote) w.read w.here done;
       start = refl;
       end = done;
       value = λ main es opener openings_left. rw w.is (value_is main es opener src s j openings_left w.verbatim);
@@ -54,10 +53,16 @@ returns-in-Ok-true c =
       lists = record {
         one = one;
         plain = plain;
-        is = sym c.is_namespace_decl.ensures ∙ c.if-not-is_namespace_decl.false;
+        is = found.is;
         end = refl;
         listed = λ keys has.
             let x = c.in-Ok-true.ensures c.in-Ok-true.field-0-test keys has in
             record { own = x.own; lists = x.lists; grown = x.grown; value = x.value };
       };
     }
+
+pub plain_value-requires : goal.plain_value-requires
+plain_value-requires c =
+    let named = c.in_ok-name.ensures.named in
+    let v = value_starts c.args.text.now c.in_ok-name.name.end c.utf8.text named.inside named.equals named.quote in
+    record { cut = v.cut; near = c.skip_set-near.ensures; quote = c.quote_before-quote.ensures.quote }
