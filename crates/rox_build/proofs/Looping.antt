@@ -34,11 +34,13 @@ pub record Driving (context : Context) (end : ℕ) (src : List ℕ) (whole : Res
   pub enough : length src ≤ n + s.at
   pub onward : turns ≤ s.at
 
-pub driven : (context : Context) (n m : ℕ) (src : List ℕ) (s : State) → n ≡ suc m → is_root s.stack ≡ false → s.at < length src → drive context n src s ≡ (step context src s >>= λ t. drive context m src t)
+pub driven : (context : Context) (n m : ℕ) (src : List ℕ) (s : State) → n ≡ suc m → is_root s.stack ≡ false → s.at < length src
+    → drive context n src s ≡ (step context src s >>= λ t. drive context m src t)
 unfolding drive
 driven context n m src s one inner inside = let k = lt-ltb _ _ inside in rw (one, inner, k) refl
 
-pub drives_on : (context : Context) (end : ℕ) (src : List ℕ) (whole : Result State Refusal) (turns : ℕ) (c d : Cursor) (b u : Builder) (x : Unit {0}) (g : Driving context end src whole turns c b) → IsUtf8 src → is_root g.s.stack ≡ false
+pub drives_on : (context : Context) (end : ℕ) (src : List ℕ) (whole : Result State Refusal) (turns : ℕ) (c d : Cursor) (b u : Builder) (x : Unit {0}) (g : Driving context end src whole turns c b)
+    → IsUtf8 src → is_root g.s.stack ≡ false
     → g.s.at < length src → ParsesTo context.limit end (Ok x) d u (step context src g.s) → Driving context end src whole (turns + 1) d u
 drives_on context end src whole turns c d b u x g utf8 inner inside (t, read, sees) =
     let on = step_moves context src g.s t utf8 inside read in
@@ -51,13 +53,15 @@ drives_on context end src whole turns c d b u x g utf8 inner inside (t, read, se
       onward = omega (arith, g.onward, on);
     }
 
-pub drive_fails : (context : Context) (end : ℕ) (src : List ℕ) (whole : Result State Refusal) (turns : ℕ) (c : Cursor) (b : Builder) (e : ParseError) (g : Driving context end src whole turns c b) → is_root g.s.stack ≡ false
+pub drive_fails : (context : Context) (end : ℕ) (src : List ℕ) (whole : Result State Refusal) (turns : ℕ) (c : Cursor) (b : Builder) (e : ParseError) (g : Driving context end src whole turns c b)
+    → is_root g.s.stack ≡ false
     → g.s.at < length src → IsRefusal e (step context src g.s) → IsRefusal e whole
 drive_fails context end src whole turns c b e g inner inside h =
     refuses_by e (step context src g.s) whole (λ r err. sym g.same ∙ driven context g.n (g.n - 1) src g.s (omega (arith, g.enough, inside)) inner inside ∙ rw err refl) h
 
 -- the root element is closed
-pub drive_done : (context : Context) (end : ℕ) (src : List ℕ) (whole : Result State Refusal) (turns : ℕ) (c : Cursor) (b : Builder) (g : Driving context end src whole turns c b) → is_root g.s.stack ≡ true
+pub drive_done : (context : Context) (end : ℕ) (src : List ℕ) (whole : Result State Refusal) (turns : ℕ) (c : Cursor) (b : Builder) (g : Driving context end src whole turns c b)
+    → is_root g.s.stack ≡ true
     → (s : State) × (whole ≡ Ok s) × IsInState context.limit end s c b
 unfolding drive
 drive_done context end src whole turns c b g closed = (g.s, sym g.same ∙ stays g.n, g.sees)
@@ -67,7 +71,8 @@ drive_done context end src whole turns c b g closed = (g.s, sym g.same ∙ stays
     stays (suc n) = rw closed refl
 
 -- the text ends within it
-pub drive_cut : (context : Context) (end : ℕ) (src : List ℕ) (whole : Result State Refusal) (turns : ℕ) (c : Cursor) (b : Builder) (g : Driving context end src whole turns c b) → is_root g.s.stack ≡ false
+pub drive_cut : (context : Context) (end : ℕ) (src : List ℕ) (whole : Result State Refusal) (turns : ℕ) (c : Cursor) (b : Builder) (g : Driving context end src whole turns c b)
+    → is_root g.s.stack ≡ false
     → length src ≤ g.s.at → whole ≡ Err (here fault.UnclosedRootNode)
 unfolding drive
 drive_cut context end src whole turns c b g inner past = sym g.same ∙ stops g.n

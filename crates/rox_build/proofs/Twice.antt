@@ -21,7 +21,8 @@ still_inside (inside start tag before up) (inside start' tag' before' up') same 
 
 -- where there is room for so many rows in all, there is room for fewer more
 pub ready_within : (most n : ℕ) (b : Builder) → vec_len b.nodes.rows + n ≤ most → IsReadyTo most b → IsReady n b
-ready_within most n b fewer h = record { room = omega (arith, fewer, h.room); few = omega (arith, fewer, h.few); small = omega (arith, fewer, h.small); settled = h.settled }
+ready_within most n b fewer h =
+    record { room = omega (arith, fewer, h.room); few = omega (arith, fewer, h.few); small = omega (arith, fewer, h.small); settled = h.settled }
 
 -- the place alone counts, not the cursor that stands there
 pub stands_there : (limit end : ℕ) (s : State) (c d : Cursor) (b : Builder) → d.pos ≡ c.pos → IsInState limit end s c b → IsInState limit end s d b
@@ -94,7 +95,8 @@ drive_past context src n k s t utf8 (one_more j _ r _ inner within read rest) en
     (past.0, driven context n (n - 1) src s (omega (arith, enough, within)) inner within ∙ rw read past.1, past.2, omega (arith, on, past.3))
 
 -- the loop goes on behind what was read
-pub drives_past : (context : Context) (end : ℕ) (src : List ℕ) (whole : Result State Refusal) (turns k : ℕ) (c d : Cursor) (b u : Builder) (g : Driving context end src whole turns c b) → IsUtf8 src → Reads context end k d u src g.s
+pub drives_past : (context : Context) (end : ℕ) (src : List ℕ) (whole : Result State Refusal) (turns k : ℕ) (c d : Cursor) (b u : Builder) (g : Driving context end src whole turns c b)
+    → IsUtf8 src → Reads context end k d u src g.s
     → Driving context end src whole turns d u
 drives_past context end src whole turns k c d b u g utf8 x =
     let past = drive_past context src g.n k g.s x.behind utf8 x.steps g.enough in

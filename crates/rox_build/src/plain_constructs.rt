@@ -340,8 +340,8 @@ fn plain_markup<'input>(
     true
 }
 
-/// The constructs from here on inside the root element, as long as they are plain and there is room for two in so many `rows` more.
-/// Answers whether one was read.
+/// The constructs from here on inside the root element, as long as they are plain and two of so many `rows` are left. Answers
+/// whether any was read.
 #[inline(always)]
 pub fn plain_stretch<'input>(
     cursor: &mut Cursor<'input>,
