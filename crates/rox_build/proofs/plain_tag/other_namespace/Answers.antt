@@ -15,11 +15,12 @@ pub returns-in-Ok : goal.returns-in-Ok
 returns-in-Ok c = record {
   is =
       let t = c.args.elements.now in
-      let number = c.namespace_number.ensures
-          (option_more (length t.namespaces.items.items) most_pairs c.in-Ok.namespace c.requires.few (rw c.as_slice-namespaces.ensures.value at c.in-Ok.ensures.within)) in
+      let o = c.in-Ok.namespace in
+      let place = rw c.as_slice-namespaces.ensures.value at c.in-Ok.ensures.within in
+      let number = c.namespace_number.ensures (option_more (length t.namespaces.items.items) most_pairs o c.requires.few place) in
       let here = few_found c.args.elements.now c.as_slice-namespaces.result.now c.deref.result.now c.deref-2.result.now c.in_ok-places.places.now c.args.scope c.as_slice-namespaces.ensures.value c.deref.ensures.value c.deref-2.ensures.value c.in_ok-places.ensures.few in
       record {
-        within = rw number (rw c.as_slice-namespaces.ensures.value at c.in-Ok.ensures.within);
+        within = rw number place;
         is = rw number (rw c.as_slice-namespaces.ensures.value at (c.in-Ok.ensures.ok _ here).0);
       };
   known =
