@@ -12,11 +12,11 @@ use Rattle.rox_reading.specs.Lexical.{qname_at}
 use Rattle.rox_scan.specs.ByteSets.{AllPass, is_part_byte}
 use Rattle.rox_scan.proofs.NearLemmas.{part_begins, part_cut, part_stops}
 use Rattle.rox_build.specs.PlainParts.{EndsFirstPart, IsPrefixedName}
-use Rattle.rox_build.specs.RootTag.{IsDeclaredName, MayDeclare}
+use Rattle.rox_build.specs.RootTag.{IsDeclaredName, HasXmlns}
 use Rattle.rox_build.specs.declared.plain_tag.PlainName.{PlainName}
 
 -- the bytes of `xmlns`
-byte_of : (src : List ℕ) (i k : ℕ) → MayDeclare src i → k < 5 → slice_index src (i + k) ≡ get_or (word_text Xmlns) k 0
+byte_of : (src : List ℕ) (i k : ℕ) → HasXmlns src i → k < 5 → slice_index src (i + k) ≡ get_or (word_text Xmlns) k 0
 byte_of src i k h few =
     let at : get_or (slice_range src i (i + 5)) k 0 ≡ slice_index src (i + k) =
     get_or-take ((i + 5) - i) (drop i src) k 0 (omega arith) ∙ get_or-drop i src k 0 in
@@ -32,7 +32,7 @@ part_of (suc (suc (suc zero))) few = refl
 part_of (suc (suc (suc (suc zero)))) few = refl
 part_of (suc (suc (suc (suc (suc k))))) few = absurd (omega arith)
 
-all_parts : (src : List ℕ) (i : ℕ) → MayDeclare src i → AllPass is_part_byte src i (i + 5)
+all_parts : (src : List ℕ) (i : ℕ) → HasXmlns src i → AllPass is_part_byte src i (i + 5)
 all_parts src i h j low high =
     let at : i + (j - i) ≡ j = omega arith in
     let byte : slice_index src j ≡ get_or (word_text Xmlns) (j - i) 0 =
@@ -40,7 +40,7 @@ all_parts src i h j low high =
     rw byte (part_of (j - i) (omega arith))
 
 -- so they are the first part of a name before an ASCII byte that is no more of one
-pub first_part : (src : List ℕ) (i b : ℕ) → IsUtf8 src → MayDeclare src i → slice_index src (i + 5) ≡ b → b < 128 → is_part_byte b ≡ false
+pub first_part : (src : List ℕ) (i b : ℕ) → IsUtf8 src → HasXmlns src i → slice_index src (i + 5) ≡ b → b < 128 → is_part_byte b ≡ false
     → EndsFirstPart src i (i + 5) b
 first_part src i b utf8 h is ascii stops =
     let within = h.behind in
@@ -71,7 +71,7 @@ unfolding is_part_byte is_part_char is_name_char is_name_start
 equals_stops = refl
 
 -- a name with this prefix is that of a declaration
-pub declares_prefix : (src : List ℕ) (i : ℕ) (r : Option PlainName) → MayDeclare src i
+pub declares_prefix : (src : List ℕ) (i : ℕ) (r : Option PlainName) → HasXmlns src i
     → IfSome r (λ n. IsPrefixedName src i (i + 5) n) → IfSome r (λ n. IsDeclaredName src i n)
 declares_prefix src i None h read = tt
 declares_prefix src i (Some n) h read = record { named = read.named; is = (let at = read.prefix ∙ h.here in rw at refl) }
@@ -87,7 +87,7 @@ one_name src i j k m n one other =
     ap (λ (x : Name × ℕ). x.0) same
 
 -- and one that is read here, where `=` stands behind `xmlns`
-pub declares_whole : (src : List ℕ) (i e : ℕ) (n : Name) → MayDeclare src i → EndsFirstPart src i (i + 5) 61 → qname_at src i ≡ Ok (n, e)
+pub declares_whole : (src : List ℕ) (i e : ℕ) (n : Name) → HasXmlns src i → EndsFirstPart src i (i + 5) 61 → qname_at src i ≡ Ok (n, e)
     → is_namespace_decl n ≡ true
 declares_whole src i e n h part read =
     let whole = one_part src i (i + 5) part.first.begins part.first.part.place part.here in

@@ -81,7 +81,8 @@ grown_empty old new g h =
     }
 
 pub grown_shows : (end : ℕ) (o : Open) (done : Forest Item) (b u : Builder) → Represents end o done b → AreSound b.tables → AllByRecursion (IsOpenWithin b.tables) b.opened.items
-    → Grown b.tables u.tables → u.nodes ≡ b.nodes → u.opened ≡ b.opened → u.pending ≡ b.pending → u.joined ≡ b.joined → Represents end o done u
+    → Grown b.tables u.tables → u.nodes ≡ b.nodes → u.opened.items ≡ b.opened.items → u.pending ≡ b.pending → u.joined ≡ b.joined
+    → Represents end o done u
 grown_shows end o done b u h sound elements g nodes opens waits joined =
     let t = b.tables in
     let n = names_count t in

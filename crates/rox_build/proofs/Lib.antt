@@ -25,6 +25,7 @@ pub mod PlainReads
 pub mod PlainTags
 pub mod DeclaredNames
 pub mod RootTags
+pub mod RootElements
 pub mod SameBytes
 pub mod SameNames
 pub mod SpelledNames

@@ -13,20 +13,19 @@ use Rattle.rox_grammar.specs.declared.fault.Fault.{Fault}
 use Rattle.rox_grammar.specs.declared.fault.Fault.TheVariants as fault
 use Rattle.rox_grammar.specs.declared.fault.Word.TheVariants.{Xmlns}
 use Rattle.rox_grammar.specs.Document.{most_attributes, most_pairs}
-use Rattle.rox_grammar.specs.Counts.{listable, with_new}
+use Rattle.rox_grammar.specs.Counts.{with_new}
 use Rattle.rox_grammar.specs.Failures.{name_view}
 use Rattle.rox_grammar.specs.FixedTexts.{word_text}
 use Rattle.rox_grammar.specs.NameParts.{local_span}
 use Rattle.rox_grammar.specs.Names.{spaces_end}
-use Rattle.rox_grammar.specs.Written.{Name, Attribute, NamespaceDecl, Tag, is_namespace_decl, namespace_decl_of}
+use Rattle.rox_grammar.specs.Written.{Name, Attribute, NamespaceDecl, is_namespace_decl, namespace_decl_of}
 use Rattle.rox_grammar.specs.Tree as tree
 use Rattle.rox_grammar.specs.Tree.{attribute_in, attribute_namespace, element_namespace, is_declared, is_xml, listable_of, listed, same_prefix, uri_of}
 use Rattle.rox_grammar.specs.WellNamed.{is_known, may_name, same_expanded}
 use Rattle.rox_reading.specs.Lexical.{◌>>=◌, qname_at}
 use Rattle.rox_reading.specs.Markup.{TagItem, more, opened, closed, tag_item_at}
 use Rattle.rox_reading.specs.Refusals.{lifted}
-use Rattle.rox_reading.specs.Tags.{TagSoFar, Values, attribute_with, attributes_at, declared, names_tested, tag_at, tag_tested, taken, uri_tested}
-use Rattle.rox_scan.specs.declared.cursor.Cursor.{Cursor}
+use Rattle.rox_reading.specs.Tags.{TagSoFar, Values, attribute_with, attributes_at, declared, names_tested, tag_tested, taken, uri_tested}
 use Rattle.rox_tables.specs.Bindings.{FindsBinding}
 use Rattle.rox_tables.specs.ResolvedNames.{AddsResolved, row_of_unresolved}
 use Rattle.rox_tables.specs.Rows.{AreRows, AreScopes, AttributeRow, IsRow, NamespaceWithin, attribute, attribute_rows, attribute_uri, lists_of, namespace_at, namespace_view, numbered_place, scope_at}
@@ -46,9 +45,8 @@ use Rattle.rox_tables.proofs.NameTests.{tested_on}
 use Rattle.rox_tables.proofs.Remembering.{remembers_none}
 use Rattle.rox_tables.proofs.Ropes.{all_places}
 use Rattle.rox_tables.proofs.Stable.{all_append, all_weaker, attribute-append, map_same}
-use Rattle.rox_values.specs.declared.parse_error.ParseError.{ParseError}
 use Rattle.rox_build.specs.BuilderState.{IsNamespaceOf}
-use Rattle.rox_build.specs.ElementRow.{GivesTag, Tagged, scope_in_tables}
+use Rattle.rox_build.specs.ElementRow.{scope_in_tables}
 use Rattle.rox_build.specs.PlainTag as plain
 use Rattle.rox_build.specs.PlainTag.{AddsPlain, IsPlainAttribute, few_in, holding}
 use Rattle.rox_build.specs.RootTag.{AreNoBindings, BeginsRoot, HasRootScope, HoldAlike, HoldsRoot, IsBlank, IsRootRead, ListsDeclaration, RootSoFar, first_places}
@@ -560,41 +558,7 @@ root_tagged blank old new src i n end t none same x is other starts name_end sco
       cut = cut;
     }
 
--- ---- the tag is below the root node alone
-
-pub none_above : (t : ElementTables) (above : ℕ) → IsBlank t → above < length t.scopes.items → scope_in_tables t above ≡ []
-none_above t above h within = ap (λ ls. scope_at ls above) h.lists ∙ at above
-  where
-    at : (i : ℕ) → scope_at ([] ∷ []) i ≡ []
-    at zero = refl
-    at (suc i) = refl
-
--- what is told of a tag holds of whatever tables hold the same
-pub tagged_alike : (old now new : ElementTables) (t : StartTag) (above : List NamespaceDecl) (tag : Tag) → attribute_rows now.attributes ≡ attribute_rows old.attributes
-    → map namespace_view now.namespaces.items.items ≡ map namespace_view old.namespaces.items.items → lists_in now ≡ lists_in old → Tagged now new t above tag → Tagged old new t above tag
-tagged_alike old now new t above tag rows names lists h = record {
-  name = h.name;
-  name_end = h.name_end;
-  namespaces = h.namespaces ∙ ap (λ ds. with_new ds (listable tag)) names;
-  few = h.few;
-  more = h.more;
-  lists_more = h.lists_more ∙ ap (λ ls. ls ++ h.more) lists;
-  places = h.places;
-  scopes = h.scopes;
-  kept = h.kept;
-  once = h.once;
-  element = record {
-    attributes = record { more = h.element.attributes.more; grown = h.element.attributes.grown ∙ ap (λ rs. rs ++ h.element.attributes.more) rows; same = h.element.attributes.same; within = h.element.attributes.within };
-    attributes_from = h.element.attributes_from ∙ ap length rows;
-    attributes_until = h.element.attributes_until;
-    few = h.element.few;
-    local = h.element.local;
-    namespace = h.element.namespace;
-    namespace_within = h.element.namespace_within;
-    scope_within = h.element.scope_within;
-    lists = h.element.lists;
-  };
-}
+-- ---- tables that hold the same
 
 pub alike_same : (t : ElementTables) → HoldAlike t t
 alike_same t = record { rows = refl; names = refl; lists = refl; below = λ above h. h }
@@ -625,17 +589,3 @@ alike_blank old now blank rows names listed scopes present =
         which : (i : ℕ) (s : Scope) → i < length (first_places 0 ∷ []) → s ≡ get_or (first_places 0 ∷ []) i s → IsRow (first_places 0 ∷ []) i s
         which zero s within is = subst (λ (x : Scope). IsRow (first_places 0 ∷ []) 0 x) (sym is) (omega arith)
         which (suc i) s within is = absurd (omega arith)
-
-pub gives_alike : (old now new : ElementTables) (after : Cursor) (r : Result StartTag ParseError) (above : ℕ) (context : Values) (cut : Fault) (src : List ℕ) (i openings_left : ℕ) → HoldAlike old now
-    → GivesTag now new after r (scope_in_tables now above) (tag_at context cut (scope_in_tables now above) (length (attribute_rows now.attributes)) (map namespace_view now.namespaces.items.items) src i openings_left)
-    → GivesTag old new after r (scope_in_tables old above) (tag_at context cut (scope_in_tables old above) (length (attribute_rows old.attributes)) (map namespace_view old.namespaces.items.items) src i openings_left)
-gives_alike old now new after (Ok t) above context cut src i openings_left h (tag, read, tagged) =
-    (tag, rw (h.lists, h.rows, h.names) at read, tagged_alike old now new t (scope_in_tables old above) tag h.rows h.names h.lists (subst (λ ls. Tagged now new t (scope_at ls above) tag) h.lists tagged))
-gives_alike old now new after (Err e) above context cut src i openings_left h refused = rw (h.lists, h.rows, h.names) at refused
-
-pub gives_read : (old new : ElementTables) (after : Cursor) (t : StartTag) (above : ℕ) (context : Values) (cut : Fault) (src : List ℕ) (i end openings_left : ℕ) → IsBlank old → above < length old.scopes.items
-    → plain.IsPlainTag old new [] src i end t → t.openings_left ≡ openings_left → after.pos ≡ end
-    → GivesTag old new after (Ok t) (scope_in_tables old above) (tag_at context cut (scope_in_tables old above) (length (attribute_rows old.attributes)) (map namespace_view old.namespaces.items.items) src i openings_left)
-gives_read old new after t above context cut src i end openings_left blank within h left at =
-    let none = none_above old above blank within in
-    rw (none, at, ← left) (h.tag, h.read context cut, h.tagged)

@@ -135,13 +135,19 @@ pub record HoldAlike (old now : ElementTables) : Type 0 where
   pub lists : lists_in now ≡ lists_in old
   pub below : (above : ℕ) → MayReadBelow old above → MayReadBelow now above
 
+-- the start tag of a root element was read that begins here, in a text whose places fit rows
+pub record IsReadFirst (old new : ElementTables) (src : List ℕ) (i openings : ℕ) (t : PlainTag) : Type 0 where
+  pub plain : IsPlainTag old new [] src i t.end t.tag
+  pub openings_left : t.tag.openings_left ≡ openings
+  pub short : length src < 2 ^ 32
+
 -- what comes of the start tag of a root element that begins here: it was read, or the tables hold what they did
 abbrev pub GivesRootTag : (old new : ElementTables) (src : List ℕ) (i openings : ℕ) → Option PlainTag → Type 0
 GivesRootTag old new src i openings None = HoldAlike old new
-GivesRootTag old new src i openings (Some t) = IsBlank old × IsPlainTag old new [] src i t.end t.tag × (t.tag.openings_left ≡ openings)
+GivesRootTag old new src i openings (Some t) = IsReadFirst old new src i openings t
 
 -- `xmlns` stands here, and a byte behind it
-pub record MayDeclare (src : List ℕ) (i : ℕ) : Type 0 where
+pub record HasXmlns (src : List ℕ) (i : ℕ) : Type 0 where
   pub here : slice_range src i (i + 5) ≡ word_text Xmlns
   pub behind : i + 5 < length src
 

@@ -1,5 +1,5 @@
 -- What is read of the parts of a whole text, and that reading goes on in its source.
-use Rattle.std.specs.Prelude.{◌≡◌, ℕ, suc, Bool, List, OnOk, Result}
+use Rattle.std.specs.Prelude.{◌≡◌, ◌≢◌, ℕ, suc, Bool, List, Ok, OnOk, Result}
 use Rattle.rox_grammar.specs.Entities.{Entity}
 use Rattle.rox_grammar.specs.Doctype.{Request}
 use Rattle.rox_grammar.specs.State.{root}
@@ -8,6 +8,7 @@ use Rattle.rox_grammar.specs.declared.failure.Failure.{Failure}
 use Rattle.rox_reading.specs.Answering.{left_with}
 use Rattle.rox_reading.specs.Doctype as reading
 use Rattle.rox_reading.specs.Doctype.{Asks, Dtd}
+use Rattle.rox_reading.specs.Machine as machine
 use Rattle.rox_reading.specs.Refusals.{lifted}
 use Rattle.rox_reading.specs.State.{State}
 use Rattle.rox_reading.specs.WholeText as whole
@@ -20,6 +21,8 @@ use Rattle.rox_build.specs.BuilderState.{GoesOn, IsConsistent, IsInState, Parses
 use Rattle.rox_build.specs.Requests.{Reply}
 use Rattle.rox_build.specs.WholeTexts.{Finishes, IsDoctypeReadTo, IsWholeRead, beginning, root_read, start_state}
 use Rattle.rox_build.specs.declared.builder.Builder.{Builder}
+use Rattle.rox_build.specs.declared.root_tag.RootLook.{RootLook}
+use Rattle.rox_build.specs.declared.root_tag.RootLook.TheVariants as look
 
 -- the declaration of an entity
 pub record ReadsEntity (allows : Request → Reply → Type 0) (old new : Cursor) (es after : Entities) (result : Result (Unit {0}) ParseError) : Type 0 where
@@ -48,6 +51,14 @@ pub record ReadsDoctype (allows : Request → Reply → Type 0) (allow : Bool) (
 pub record ReadsStart (old new : Cursor) (b after : Builder) (result : Result (Unit {0}) Failure) : Type 0 where
   pub value : (limit end : ℕ) → old.pos ≡ after_bom old.text.now → IsInState limit end (start_state old.pos) old b → ScansTo limit end result new after (lifted (beginning limit old.text.now))
   pub goes : OnOk result (GoesOn old new after)
+
+-- the start tag of the root element was read, or nothing was, and the builder shows what it did, or memory was refused
+pub record ReadsRootElement (old new : Cursor) (b after : Builder) (result : RootLook) : Type 0 where
+  pub value : result ≡ look.Read → (context : machine.Context) (end : ℕ) (s : State) → IsInState context.limit end s old b
+      → ScansTo context.limit end (Ok tt) new after (machine.tag_step context old.text.now s)
+  pub same : result ≡ look.NotRead → new ≡ old
+  pub other : result ≡ look.NotRead → (limit end : ℕ) (s : State) → IsInState limit end s old b → IsInState limit end s old after
+  pub goes : result ≢ look.Lacking → GoesOn old new after
 
 -- the root element and what follows it, if it stands there
 pub record ReadsBody (entities : Entities) (old new : Cursor) (b after : Builder) (result : Result Bool ParseError) : Type 0 where

@@ -16,8 +16,7 @@ ghost use Rattle.rox_build.specs.Readiness.{MayRead, MayReadDeclared, MayReadOpe
 
 use crate::builder::Builder;
 use crate::open_names::{NameBytes, bytes_of, open_name};
-use crate::root_tag::any_start_tag;
-use crate::tag::TagContext;
+use crate::tag::{TagContext, start_tag};
 use rox_grammar::failure::Failure;
 use rox_grammar::fault::{Fault, Span, Word};
 use rox_scan::cursor::Cursor;
@@ -142,7 +141,7 @@ pub fn element<'input>(
         openings_left,
     };
     let (tables, buffers) = (&mut builder.tables, &mut builder.buffers);
-    let tag = any_start_tag(alloc, cursor, tables, buffers, around, context)?;
+    let tag = start_tag(alloc, cursor, tables, buffers, around, context)?;
     builder.openings_left = tag.openings_left;
     if tag.empty {
         builder.leaf(alloc, start, cursor.pos, NodeKind::Element(tag.element))?;

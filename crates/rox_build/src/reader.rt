@@ -18,6 +18,7 @@ use crate::constructs::{comment, element, instruction};
 use crate::content::content;
 use crate::dtd::document_type;
 use crate::resolver::EntityResolver;
+use crate::root_tag::{RootLook, root_element};
 use rox_grammar::failure::Failure;
 use rox_grammar::fault::{Fault, Word};
 use rox_scan::cursor::Cursor;
@@ -69,7 +70,11 @@ fn body<'input>(
         return Ok(false);
     }
     let context = Context::main_text(entities);
-    element(alloc, cursor, builder, context)?;
+    match root_element(alloc, cursor, builder) {
+        RootLook::Read => {}
+        RootLook::NotRead => element(alloc, cursor, builder, context)?,
+        RootLook::Lacking => return Err(ParseError::Memory),
+    }
     content(alloc, cursor, builder, context)?;
     misc(alloc, cursor, builder)?;
     Ok(true)

@@ -2,15 +2,16 @@
 //! from its `<`.
 
 ghost use Rattle.std.specs.Prelude.{◌≡◌, IfOk, IfSome, length, slice_index, true};
-ghost use Rattle.rox_build.specs.ElementRow.{ReadsStartTag};
-ghost use Rattle.rox_build.specs.Readiness.{MayReadTagBelow};
-ghost use Rattle.rox_build.specs.RootTag.{BeginsOwn, BeginsScopes, DeclaresOwn, GivesRootTag, IsBlank, IsDeclaredName, ListsOwn, MayDeclare, MayReadRoot, MayReadRootTag, ReadsRoot, ReadsRootTag};
+ghost use Rattle.rox_build.specs.Readiness.{MayReadTag};
+ghost use Rattle.rox_build.specs.RootTag.{BeginsOwn, BeginsScopes, DeclaresOwn, GivesRootTag, IsBlank, IsDeclaredName, ListsOwn, HasXmlns, MayReadRoot, MayReadRootTag, ReadsRoot, ReadsRootTag};
+ghost use Rattle.rox_build.specs.TextParts.{ReadsRootElement};
 
+use crate::builder::{Builder, ROOM_TO_OPEN};
 use crate::plain_tag::{
     PlainName, PlainTag, TagEnd, next_item, other_namespace, plain_name, plain_value,
     prefixed_name, put_attribute, quote_before, quote_behind_equals, tag_end, whole_name,
 };
-use crate::tag::{Buffers, MOST_ATTRIBUTES, StartTag, TagContext, start_tag};
+use crate::tag::{Buffers, MOST_ATTRIBUTES, StartTag};
 use rox_scan::byte_set::{ValueByte, part_end, skip_set};
 use rox_scan::cursor::Cursor;
 use rox_scan::runs::{after_byte, is_at};
@@ -22,10 +23,11 @@ use rox_tables::namespaces::prefix_set::FEW;
 use rox_tables::namespaces::unresolved_attribute::UnresolvedAttribute;
 use rox_tables::rows::growth::push;
 use rox_tables::rows::storage::StringStorage;
-use rox_tables::rows::tables::{ElementData, ElementTables, Scope, Stretch};
-use rox_values::context::Context;
-use rox_values::parse_error::ParseError;
+use rox_tables::rows::tables::{ElementData, ElementTables, NodeKind, Scope, Stretch};
 use std::alloc::{AllocError, Global};
+
+/// The row of the root node.
+const ROOT: u32 = 0;
 
 /// The scope of a root element: the row behind that of the root node.
 const OWN: u32 = 1;
@@ -33,7 +35,7 @@ const OWN: u32 = 1;
 /// Whether `xmlns` stands at `at`, and a byte behind it.
 #[inline(always)]
 fn may_declare(text: &str, at: usize) -> bool
-    ensures { result ≡ true → MayDeclare text.now at }
+    ensures { result ≡ true → HasXmlns text.now at }
 {
     let bytes = text.as_bytes();
     at < bytes.len()
@@ -49,7 +51,7 @@ fn may_declare(text: &str, at: usize) -> bool
 /// `xmlns` tells whether that is its prefix or all of it.
 #[inline(always)]
 fn declared_name<'input>(text: &'input str, start: usize) -> Option<PlainName<'input>>
-    requires { MayDeclare text.now start }
+    requires { HasXmlns text.now start }
     ensures { IfSome result (λ n. IsDeclaredName text.entry.now start n) }
 {
     let part = start + 5;
@@ -71,7 +73,7 @@ fn declared<'input>(
     elements: &mut ElementTables<'input>,
     lacking: &mut bool,
 ) -> Option<usize>
-    requires { MayDeclare text.now start }
+    requires { HasXmlns text.now start }
     ensures { DeclaresOwn elements.old elements.new text.entry.now start result }
 {
     let name = declared_name(text, start)?;
@@ -269,24 +271,46 @@ fn first_tag<'input>(
     Ok(None)
 }
 
-/// A start tag, from its `<`, below what is told. That of a root element is most often read at one look.
-#[inline(always)]
-pub fn any_start_tag<'input>(
+/// What came of a look at the start tag of a root element. It is one word, which stays in a register.
+#[derive(Clone, Copy)]
+pub enum RootLook {
+    Read,
+    NotRead,
+    /// Memory was refused.
+    Lacking,
+}
+
+/// The start tag of the root element, from its `<`, if it is read at one look and its row finds room. Else the tables hold what
+/// they did, unless memory was refused.
+#[inline(never)]
+pub fn root_element<'input>(
     alloc: Global,
     cursor: &mut Cursor<'input>,
-    elements: &mut ElementTables<'input>,
-    buffers: &mut Buffers<'input>,
-    around: TagContext,
-    context: Context<'_, 'input>,
-) -> Result<StartTag<'input>, ParseError<'input>>
-    requires { MayReadTagBelow cursor.old elements.old around.above }
-    ensures { ReadsStartTag context.entry around cursor.old cursor.new elements.old elements.new
-        result }
+    builder: &mut Builder<'input>,
+) -> RootLook
+    requires { MayReadTag cursor.old builder.old }
+    ensures { ReadsRootElement cursor.old cursor.new builder.old builder.new result }
 {
-    let (text, start) = (cursor.text, cursor.pos);
-    if let Some(read) = first_tag(alloc, text, start, elements, buffers, around.openings_left)? {
-        cursor.pos = read.end;
-        return Ok(read.tag);
+    if builder.rows_left() == 0 || builder.opened.len() != 0 {
+        return RootLook::NotRead;
     }
-    start_tag(alloc, cursor, elements, buffers, around, context)
+    let (text, start) = (cursor.text, cursor.pos);
+    let left = builder.openings_left;
+    let (tables, buffers) = (&mut builder.tables, &mut builder.buffers);
+    let Ok(look) = first_tag(alloc, text, start, tables, buffers, left) else {
+        return RootLook::Lacking;
+    };
+    let Some(read) = look else {
+        return RootLook::NotRead;
+    };
+    cursor.pos = read.end;
+    if read.tag.empty {
+        builder.put_leaf(ROOT, start, read.end, NodeKind::Element(read.tag.element));
+        return RootLook::Read;
+    }
+    if builder.opened.reserve_exact(ROOM_TO_OPEN).is_err() {
+        return RootLook::Lacking;
+    }
+    builder.put_open(ROOT, text, start, &read.tag);
+    RootLook::Read
 }

@@ -81,7 +81,7 @@ pub record IsOfLetters (w : Word) : Type 0 where
   pub all : list_all (λ b. is_part_byte b && nat_lt 63 b) (word_text w) ≡ true
 
 -- a word of letters stands here
-pub record IsNamed (w : Word) (c : Cursor) : Type 0 where
+pub record StandsAsName (w : Word) (c : Cursor) : Type 0 where
   pub here : stands (word_text w) c.text.now c.pos ≡ true
   pub letters : IsOfLetters w
 

@@ -23,8 +23,8 @@ use Rattle.rox_build.proofs.constructs.element.Goals as goal
 abbrev with_left : ℕ → State → State
 with_left openings_left s = record { at = s.at; done = s.done; stack = s.stack; openings_left = openings_left }
 
-pub any_start_tag-requires : goal.any_start_tag-requires
-any_start_tag-requires c =
+pub start_tag-requires : goal.start_tag-requires
+start_tag-requires c =
     let fine = c.requires.fine in
     record {
       there = c.requires.there;
@@ -55,10 +55,10 @@ returns-then-tag c = record {
       let v = rw h.openings_left_is at (c.in_ok-tag.ensures.value es declared) in
       let b = c.args.builder.now in
       let old = b.tables in
-      let new = c.any_start_tag.new.elements in
+      let new = c.start_tag.new.elements in
       let t = c.in_ok-tag.tag in
       let pos = c.args.cursor.now.pos in
-      let d = c.any_start_tag.new.cursor in
+      let d = c.start_tag.new.cursor in
       let sc = c.scope-above.ensures.value c.requires.fine end s.stack s.done h.shows in
       let tg : Tagged old new t (scope_of s.stack) v.0 = subst (λ (a : List NamespaceDecl). Tagged old new t a v.0) sc v.2 in
       let shows = grown_shows end s.stack s.done b _ h.shows c.requires.fine.sound c.requires.fine.elements (grown_by old new t (scope_of s.stack) v.0 tg) refl refl refl refl in
@@ -74,9 +74,9 @@ returns-then-tag c = record {
       let v = c.in_ok-tag.ensures.value d.0 d.1 in
       let b = c.args.builder.now in
       record {
-        source = c.any_start_tag.ensures.source;
+        source = c.start_tag.ensures.source;
         fine = subst (λ r. OnOk r (IsConsistent c.leaf.new.self.tables c.leaf.new.self.opened.items)) c.in_ok-leaf.was
-            (fine_kept c.leaf.result c.any_start_tag.new.elements b.opened.items c.leaf.new.self (fine_by b.tables c.any_start_tag.new.elements c.in_ok-tag.tag _ v.0 b.opened.items v.2 c.requires.fine) c.leaf.ensures.kept.tables
+            (fine_kept c.leaf.result c.start_tag.new.elements b.opened.items c.leaf.new.self (fine_by b.tables c.start_tag.new.elements c.in_ok-tag.tag _ v.0 b.opened.items v.2 c.requires.fine) c.leaf.ensures.kept.tables
             (ap (λ x. x.items) c.leaf.ensures.kept.opened));
       };
 }
@@ -87,10 +87,10 @@ returns-in_err-leaf c = record {
       let v = rw h.openings_left_is at (c.in_ok-tag.ensures.value es declared) in
       let b = c.args.builder.now in
       let old = b.tables in
-      let new = c.any_start_tag.new.elements in
+      let new = c.start_tag.new.elements in
       let t = c.in_ok-tag.tag in
       let pos = c.args.cursor.now.pos in
-      let d = c.any_start_tag.new.cursor in
+      let d = c.start_tag.new.cursor in
       let sc = c.scope-above.ensures.value c.requires.fine end s.stack s.done h.shows in
       let tg : Tagged old new t (scope_of s.stack) v.0 = subst (λ (a : List NamespaceDecl). Tagged old new t a v.0) sc v.2 in
       let shows = grown_shows end s.stack s.done b _ h.shows c.requires.fine.sound c.requires.fine.elements (grown_by old new t (scope_of s.stack) v.0 tg) refl refl refl refl in
@@ -115,10 +115,10 @@ returns c = record {
       let v = rw h.openings_left_is at (c.in_ok-tag.ensures.value es declared) in
       let b = c.args.builder.now in
       let old = b.tables in
-      let new = c.any_start_tag.new.elements in
+      let new = c.start_tag.new.elements in
       let t = c.in_ok-tag.tag in
       let pos = c.args.cursor.now.pos in
-      let d = c.any_start_tag.new.cursor in
+      let d = c.start_tag.new.cursor in
       let sc = c.scope-above.ensures.value c.requires.fine end s.stack s.done h.shows in
       let tg : Tagged old new t (scope_of s.stack) v.0 = subst (λ (a : List NamespaceDecl). Tagged old new t a v.0) sc v.2 in
       let shows = grown_shows end s.stack s.done b _ h.shows c.requires.fine.sound c.requires.fine.elements (grown_by old new t (scope_of s.stack) v.0 tg) refl refl refl refl in
@@ -135,12 +135,12 @@ returns c = record {
       let src = cursor.text.now in
       let t = c.in_ok-tag.tag in
       let opens = subst (λ (text : List ℕ). OnOk c.open_element.result ((x : OpenElement) × (c.open_element.new.self.opened.items ≡ b.opened.items ++ x ∷ []) × IsOpened text t x))
-      (ap (λ x. x.now) c.any_start_tag.ensures.source) c.open_element.ensures.opened in
+      (ap (λ x. x.now) c.start_tag.ensures.source) c.open_element.ensures.opened in
       record {
-        source = c.any_start_tag.ensures.source;
+        source = c.start_tag.ensures.source;
         fine = subst (λ r. OnOk r (IsConsistent c.open_element.new.self.tables c.open_element.new.self.opened.items)) c.in_ok-open_element.was
-            (fine_more c.open_element.result c.any_start_tag.new.elements b.opened.items c.open_element.new.self src t
-            (fine_by b.tables c.any_start_tag.new.elements t _ v.0 b.opened.items v.2 c.requires.fine) c.open_element.ensures.kept.tables opens v.2.element.scope_within v.2.once (namespace_by b.tables c.any_start_tag.new.elements t _ v.0 v.2)
+            (fine_more c.open_element.result c.start_tag.new.elements b.opened.items c.open_element.new.self src t
+            (fine_by b.tables c.start_tag.new.elements t _ v.0 b.opened.items v.2 c.requires.fine) c.open_element.ensures.kept.tables opens v.2.element.scope_within v.2.once (namespace_by b.tables c.start_tag.new.elements t _ v.0 v.2)
             (λ o by. opened_named _ _ _ _ _ src cursor.pos _ _ _ t o cursor.utf8 c.requires.here v.1 v.2.name v.2.name_end c.in_ok-tag.ensures.starts by));
       };
 }
@@ -151,10 +151,10 @@ returns-in_err-open_element c = record {
       let v = rw h.openings_left_is at (c.in_ok-tag.ensures.value es declared) in
       let b = c.args.builder.now in
       let old = b.tables in
-      let new = c.any_start_tag.new.elements in
+      let new = c.start_tag.new.elements in
       let t = c.in_ok-tag.tag in
       let pos = c.args.cursor.now.pos in
-      let d = c.any_start_tag.new.cursor in
+      let d = c.start_tag.new.cursor in
       let sc = c.scope-above.ensures.value c.requires.fine end s.stack s.done h.shows in
       let tg : Tagged old new t (scope_of s.stack) v.0 = subst (λ (a : List NamespaceDecl). Tagged old new t a v.0) sc v.2 in
       let shows = grown_shows end s.stack s.done b _ h.shows c.requires.fine.sound c.requires.fine.elements (grown_by old new t (scope_of s.stack) v.0 tg) refl refl refl refl in
@@ -177,4 +177,4 @@ open_element-requires c =
     let v = c.in_ok-tag.ensures.value d.0 d.1 in
     let cursor = c.args.cursor.now in
     let named = tag_is_named _ _ _ _ _ cursor.text.now cursor.pos _ _ _ c.in_ok-tag.tag cursor.utf8 c.requires.here v.1 v.2.name v.2.name_end c.in_ok-tag.ensures.starts in
-    subst (λ (text : List ℕ). SpellsName text c.in_ok-tag.tag) (sym (ap (λ x. x.now) c.any_start_tag.ensures.source)) named
+    subst (λ (text : List ℕ). SpellsName text c.in_ok-tag.tag) (sym (ap (λ x. x.now) c.start_tag.ensures.source)) named
