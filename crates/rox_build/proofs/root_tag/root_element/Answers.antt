@@ -22,15 +22,15 @@ any_values = record { main = true; entities = []; opener = λ text i openings_le
 pub returns-in_default-look : goal.returns-in_default-look
 returns-in_default-look c =
     let b = c.args.builder.now in
-    let alike : HoldAlike b.tables c.first_tag.new.elements = rw c.in_default-look.is at c.in-Ok.ensures in
+    let hold : HoldAlike b.tables c.first_tag.new.elements = rw c.in_default-look.is at c.in-Ok.ensures in
     record {
       value = λ is. absurd (cc is);
       same = λ _. refl;
       other = λ _ limit end s h.
-          alike_state limit end s c.args.cursor.now b _ c.requires.fine alike refl refl refl refl refl refl h;
+          alike_state limit end s c.args.cursor.now b _ c.requires.fine hold refl refl refl refl refl refl h;
       goes = λ _. record {
         source = refl;
-        fine = alike_fine b.tables c.first_tag.new.elements b.opened.items (omega arith) alike c.requires.fine;
+        fine = alike_fine b.tables c.first_tag.new.elements b.opened.items (omega arith) hold c.requires.fine;
       };
     }
 
