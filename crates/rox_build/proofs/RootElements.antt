@@ -51,13 +51,13 @@ alike_grown old now h = record {
 pub alike_state : (limit end : ℕ) (s : State) (c : Cursor) (b u : Builder) → IsConsistent b.tables b.opened.items
     → HoldAlike b.tables u.tables → u.nodes ≡ b.nodes → u.opened ≡ b.opened → u.pending ≡ b.pending → u.joined ≡ b.joined
     → u.nodes_limit ≡ b.nodes_limit → u.openings_left ≡ b.openings_left → IsInState limit end s c b → IsInState limit end s c u
-alike_state limit end s c b u fine alike nodes opens pending joined most left h = record {
+alike_state limit end s c b u fine held nodes opens pending joined most left h = record {
   here = h.here;
   limit_is = most ∙ h.limit_is;
-  shows = grown_shows end s.stack s.done b u h.shows fine.sound fine.elements (alike_grown b.tables u.tables alike) nodes
+  shows = grown_shows end s.stack s.done b u h.shows fine.sound fine.elements (alike_grown b.tables u.tables held) nodes
       (ap (λ o. o.items) opens) pending joined;
-  namespaces = alike.names ∙ h.namespaces;
-  attributes = ap length alike.rows ∙ h.attributes;
+  namespaces = held.names ∙ h.namespaces;
+  attributes = ap length held.rows ∙ h.attributes;
   openings_left_is = left ∙ h.openings_left_is;
 }
 
@@ -67,7 +67,7 @@ AreWithin n rows = AllByRecursion (λ a. NamespaceWithin n a.0.namespace) rows
 -- are consistent as well, where no element is open
 pub alike_fine : (old now : ElementTables) (os : List OpenElement) → length os ≡ 0 → HoldAlike old now → IsConsistent old os
     → IsConsistent now os
-alike_fine old now os none alike fine =
+alike_fine old now os none held fine =
     let once : PrefixesOnce [] = tt in
     let before : MayReadBelow old 0 = record {
       places = fine.sound.listed;
@@ -78,19 +78,19 @@ alike_fine old now os none alike fine =
       once = subst PrefixesOnce (sym fine.empty.none) once;
       kept = fine.kept;
     } in
-    let below = alike.below 0 before in
+    let below = held.below 0 before in
     let names : length now.namespaces.items.items ≡ length old.namespaces.items.items =
-    sym (length-map now.namespaces.items.items namespace_view) ∙ ap length alike.names
+    sym (length-map now.namespaces.items.items namespace_view) ∙ ap length held.names
     ∙ length-map old.namespaces.items.items namespace_view in
     subst (IsConsistent now) (sym (none_open os none)) (record {
       sound = record {
         attributes = subst (λ (n : ℕ). AreWithin n (attribute_rows now.attributes)) (sym names)
-            (subst (AreWithin (length old.namespaces.items.items)) (sym alike.rows) fine.sound.attributes);
+            (subst (AreWithin (length old.namespaces.items.items)) (sym held.rows) fine.sound.attributes);
         listed = below.places;
         scopes = below.scopes;
       };
       elements = tt;
-      empty = record { there = below.above; none = ap (λ ls. scope_at ls 0) alike.lists ∙ fine.empty.none };
+      empty = record { there = below.above; none = ap (λ ls. scope_at ls 0) held.lists ∙ fine.empty.none };
       kept = below.kept;
       few_names = below.few;
       few_attributes = below.few_attributes;

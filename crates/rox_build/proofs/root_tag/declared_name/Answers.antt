@@ -21,7 +21,7 @@ returns c =
     record {
       named = record {
         value = whole.value;
-        local = whole.local;
+        local = omega (arith, whole.local);
         equals = rw end quoted.equals;
         quote = rw (end, quoted.here) quoted.quote;
         inside = omega (arith, end, quoted.within);
