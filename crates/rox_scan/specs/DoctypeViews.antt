@@ -75,7 +75,7 @@ subset_end_at src i =
 abbrev pub up_to_quote : ℕ → List ℕ → ℕ → Read (List ℕ)
 up_to_quote quote src i = chars_up_to (byte_from (λ c. c == quote || c == code "<") src i) src i
 
--- the bytes of a word are letters, and there are some
+-- the bytes of a word are letters, or `_`, and there are some
 pub record IsOfLetters (w : Word) : Type 0 where
   pub some : 0 < length (word_text w)
   pub all : list_all (λ b. is_part_byte b && nat_lt 63 b) (word_text w) ≡ true

@@ -6,7 +6,7 @@ ghost use Rattle.rox_grammar.specs.FixedTexts.{word_text};
 ghost use Rattle.rox_grammar.specs.declared.fault.Word.TheVariants as word;
 ghost use Rattle.rox_reading.specs.Markup as spec;
 ghost use Rattle.rox_scan.specs.ScanResults.{MovesTo, Steps};
-ghost use Rattle.rox_scan.specs.DoctypeViews.{StandsAsName, IsOfLetters, up_to_quote, xml_decl_if};
+ghost use Rattle.rox_scan.specs.DoctypeViews.{IsOfLetters, StandsAsName, up_to_quote, xml_decl_if};
 
 use crate::byte_set::{ByteSet, SpaceByte, ValueByte, skip_set};
 use crate::cursor::{Cursor, Quote};
