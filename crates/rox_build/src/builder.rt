@@ -27,9 +27,7 @@ use rox_tables::rows::node_table::NodeTable;
 use rox_tables::rows::recent_texts::Recent;
 use rox_tables::rows::storage::StringStorage;
 use rox_tables::rows::stored_node::KindRef;
-use rox_tables::rows::tables::{
-    ElementData, ElementTables, NodeData, NodeKind, Scope, Stretch, Tables,
-};
+use rox_tables::rows::tables::{ElementData, ElementTables, NodeData, NodeKind, Scope, Stretch};
 use rox_values::context::MOST_WITHIN;
 use rox_values::text_value::TextValue;
 use std::alloc::{AllocError, Global};
@@ -792,41 +790,5 @@ impl<'input> Builder<'input> {
         self.nodes.trim();
         self.tables.attributes.trim();
         Ok(())
-    }
-
-    /// The tables that are kept.
-    #[inline(always)]
-    pub fn finish(self) -> Tables<'input>
-        ensures { result ≡ tables_of self.entry }
-    {
-        let Builder {
-            nodes,
-            tables,
-            opened: _,
-            pending: _,
-            joined: _,
-            buffers: _,
-            recent: _,
-            nodes_limit: _,
-            openings_left: _,
-        } = self;
-        let ElementTables {
-            attributes,
-            namespaces,
-            listed,
-            scopes,
-            present: _,
-        } = tables;
-        let NamespaceTable {
-            items: namespaces,
-            places: _,
-        } = namespaces;
-        Tables {
-            nodes,
-            attributes,
-            namespaces,
-            listed,
-            scopes,
-        }
     }
 }

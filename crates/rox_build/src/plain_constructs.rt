@@ -212,7 +212,7 @@ fn other_element<'input>(
 
 /// The same of one whose name ends at `near`, is of ASCII bytes and has no prefix. Below an element whose name has none it has the
 /// namespace of that, which is read behind the attributes.
-#[inline(never)]
+#[inline(always)]
 fn plain_element<'input>(
     text: &'input str,
     start: usize,

@@ -40,8 +40,8 @@ module _ (limit : ℕ) (allow : Bool) (allows : Request → Reply → Type 0) (s
   parse_read asked tops texts h = seen_parse src utf8 allow (doctypes_agree src utf8 allow) limit (replies_of asked) asked tops texts (read_alone asked (Ok tops) h)
 
   -- and the tree of what is read
-  pub read_tree : (d : DocumentView) → IsReadDocument limit allow allows src d → (asked : List Asked) × AreAllowed allows asked × Permits allow d.dtd × IsTreeOf src d.dtd asked limit d.tree
-  read_tree d r =
+  pub read_tree : (key : ℕ) (d : DocumentView) → IsReadDocument limit allow allows src key d → (asked : List Asked) × AreAllowed allows asked × Permits allow d.dtd × IsTreeOf src d.dtd asked limit d.tree
+  read_tree key d r =
       let p = parse_read r.asked r.tops r.texts (r.read []) in (
         r.asked,
         r.allowed,

@@ -42,8 +42,10 @@ pub record IsFirst (limit : ℕ) (allow : Bool) (allows : Request → Reply → 
   pub stops : Stops (λ replies. reading limit allow replies text) asked refusal
   pub told : IsErrorOfRefusal text refusal e
 
--- the document is what is read of the text, after these were asked
-pub record IsReadDocument (limit : ℕ) (allow : Bool) (allows : Request → Reply → Type 0) (text : List ℕ) (d : DocumentView) : Type 0 where
+-- the document of this key is what is read of the text, after these were asked
+pub record IsReadDocument (limit : ℕ) (allow : Bool) (allows : Request → Reply → Type 0) (text : List ℕ) (key : ℕ) (d : DocumentView) : Type 0 where
+  pub text_is : d.text ≡ text
+  pub key_is : d.key ≡ key
   pub asked : List Asked
   pub allowed : AreAllowed allows asked
   pub texts : AreTextReplies (replies_of asked)

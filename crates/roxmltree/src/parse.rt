@@ -112,11 +112,9 @@ fn read<'input, 'w, R: EntityResolver<'input> + Drop>(
     opt: ParsingOptions<R>,
 ) -> Result<Document<'input>, Error<'w>>
     requires may { MayAsk R.can_resolve opt.entity_resolver }
-    ensures tree { IfOk result
+    ensures document { IfOk result
         (λ document. IsReadDocument opt.nodes_limit opt.allow_dtd
-        (Allows R.allows opt.entity_resolver) text.now document) }
-    ensures text { IfOk result (λ document. document.text ≡ text.now) }
-    ensures key { IfOk result (λ document. document.key ≡ opt.document_key) }
+        (Allows R.allows opt.entity_resolver) text.now opt.document_key document) }
     ensures told { IfErr result (λ e. e ≢ Error.OutOfMemory
         → IsFirst opt.nodes_limit opt.allow_dtd (Allows R.allows opt.entity_resolver) text.now e) }
 {
@@ -134,8 +132,7 @@ fn read<'input, 'w, R: EntityResolver<'input> + Drop>(
         Ok(dtd) => dtd,
         Err(refused) => return refusal(alloc, text, refused),
     };
-    let tables = builder.finish();
-    Ok(Document::from_tables(text, opt.document_key, dtd, tables))
+    Ok(Document::from_builder(text, opt.document_key, dtd, builder))
 }
 
 /// The answer where a text is refused. It is made whole before it is moved: else the place for it would be cleared first, whatever

@@ -14,8 +14,10 @@ use crate::iterators::Descendants;
 use crate::namespaces::NamespaceIter;
 use crate::nodes::{Node, NodeId};
 use crate::scopes::{first_in_scope, prefix_in_scope};
+use rox_build::builder::Builder;
+use rox_tables::namespaces::namespace_table::NamespaceTable;
 use rox_tables::rows::stored_node::{KindRef, RowRef, StoredNode};
-use rox_tables::rows::tables::{Namespace, Tables, namespace_place};
+use rox_tables::rows::tables::{ElementTables, Namespace, Tables, namespace_place};
 use std::marker::Model;
 
 /// An XML document as a read-only tree of nodes.
@@ -46,6 +48,7 @@ impl<'input> Document<'input> {
     ghost use Rattle.rox_grammar.specs.Doctype.{Asked};
     ghost use Rattle.rox_grammar.specs.Document.{IsTreeOf};
     ghost use Rattle.std.specs.Prelude.{IsUtf8};
+    ghost use Rattle.rox_build.specs.BuilderState.{tables_of};
     ghost use Rattle.rox_tables.specs.Rows.{HoldsTree};
     ghost use Rattle.rox_tables.specs.StoredNodes.{kind_of};
     ghost use Rattle.roxmltree.specs.DocumentTables.{HoldsDocument};
@@ -53,21 +56,51 @@ impl<'input> Document<'input> {
     ghost use Rattle.roxmltree.specs.NodeRef.{number, node_ref, node_refs, id_of, document_of};
     ghost use Rattle.roxmltree.specs.Elements.{nearest_element, root_id};
 
-    /// The document of a text, from the tables of its tree, where it is known whether it has a document type declaration.
-    pub(crate) fn from_tables(
+    /// The document of a text, where it is known whether it has a document type declaration, from the builder of its tables. These
+    /// go from where they are to where they stay: a move of them all in between would cost as much as a tag.
+    #[inline(always)]
+    pub(crate) fn from_builder(
         text: &'input str,
         key: u64,
         dtd: bool,
-        tables: Tables<'input>,
+        builder: Builder<'input>,
     ) -> Document<'input>
-        requires { HoldsDocument text.now dtd tables }
-        ensures { (tree : Forest grammar.Node) → HoldsTree tables.entry tree
+        requires { HoldsDocument text.now dtd (tables_of builder) }
+        ensures { (tree : Forest grammar.Node) → HoldsTree (tables_of builder.entry) tree
             → result
             ≡ record { tree = tree; text = text.now; key = key; dtd = dtd } }
     {
+        let Builder {
+            nodes,
+            tables,
+            opened: _,
+            pending: _,
+            joined: _,
+            buffers: _,
+            recent: _,
+            nodes_limit: _,
+            openings_left: _,
+        } = builder;
+        let ElementTables {
+            attributes,
+            namespaces,
+            listed,
+            scopes,
+            present: _,
+        } = tables;
+        let NamespaceTable {
+            items: namespaces,
+            places: _,
+        } = namespaces;
         Document {
             text,
-            tables,
+            tables: Tables {
+                nodes,
+                attributes,
+                namespaces,
+                listed,
+                scopes,
+            },
             key,
             dtd,
         }

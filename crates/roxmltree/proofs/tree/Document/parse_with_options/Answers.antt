@@ -27,7 +27,13 @@ returns-clause-is_parse g c =
     let allow = c.args.opt.allow_dtd in
     let allows = Allows g.R.EntityResolver.allows c.args.opt.entity_resolver in
     IfOk-weaker c.read.result _ (λ (d : DocumentView). (asked : List Asked) × AreAllowed allows asked × Permits allow d.dtd × IsTreeOf src d.dtd asked limit d.tree)
-    (λ (d : DocumentView) r. read_tree limit allow allows src c.utf8.text d r) c.read.ensures.tree
+    (λ (d : DocumentView) r. read_tree limit allow allows src c.utf8.text c.args.opt.document_key d r) c.read.ensures.document
+
+pub returns-clause-text : goal.returns-clause-text
+returns-clause-text g c = IfOk-weaker c.read.result _ (λ (d : DocumentView). d.text ≡ c.args.text.now) (λ (d : DocumentView) r. r.text_is) c.read.ensures.document
+
+pub returns-clause-key : goal.returns-clause-key
+returns-clause-key g c = IfOk-weaker c.read.result _ (λ (d : DocumentView). d.key ≡ c.args.opt.document_key) (λ (d : DocumentView) r. r.key_is) c.read.ensures.document
 
 pub returns-clause-no_parse : goal.returns-clause-no_parse
 returns-clause-no_parse g c =
