@@ -15,7 +15,7 @@ use crate::builder::Builder;
 use crate::plain_tag::{TagPlace, bare_start_tag, near_start_tag, plain_start_tag};
 use crate::same_front::closes_front;
 use rox_grammar::fault::Word;
-use rox_scan::byte_set::{PartByte, find_other, near_part_end};
+use rox_scan::byte_set::{PartByte, find_other, near_part_end, part_end};
 use rox_scan::character_data::{line_run_end, text_end};
 use rox_scan::cursor::Cursor;
 use rox_scan::markup::whole_comment;
@@ -384,7 +384,46 @@ pub fn plain_stretch<'input>(
     here.pos > from
 }
 
-/// The construct that stands here, if it is plain and finds room; else nothing is read.
+/// The same in a replacement text. Few have tags: any start tag has the longer look here, so that the quick one is in line in one
+/// place alone, the stretch.
+#[tactic(auto, unfolding(rox_reading::specs::Machine::step))]
+fn inner_markup<'input>(
+    cursor: &mut Cursor<'input>,
+    builder: &mut Builder<'input>,
+    around: usize,
+) -> bool
+    requires { MayReadPlain cursor.old builder.old }
+    ensures { ReadsStep (λ k. k.open_around ≡ around) cursor.old cursor.new builder.old builder.new
+        result }
+{
+    let bytes = cursor.text.as_bytes();
+    if cursor.pos + 1 >= bytes.len() {
+        return false;
+    }
+    let next = bytes[cursor.pos + 1];
+    if next == b'/' {
+        return plain_end_tag(cursor, builder, around);
+    }
+    let text = cursor.text;
+    let start = cursor.pos;
+    let stop = if next <= b'?' {
+        plain_section(text, start, builder)
+    } else {
+        other_element(
+            text,
+            start,
+            builder,
+            part_end(text, after_byte(text, start, b'<')),
+        )
+    };
+    if stop > MOST_BYTES {
+        return false;
+    }
+    cursor.pos = stop;
+    true
+}
+
+/// The construct of a replacement text that stands here, if it is plain and finds room; else nothing is read.
 #[inline(always)]
 #[tactic(auto, unfolding(rox_reading::specs::Machine::step))]
 pub fn plain_step<'input>(
@@ -401,7 +440,7 @@ pub fn plain_step<'input>(
         return false;
     }
     if bytes[cursor.pos] == b'<' {
-        return plain_markup(cursor, builder, open_around);
+        return inner_markup(cursor, builder, open_around);
     }
     if builder.is_text_open() {
         return false;

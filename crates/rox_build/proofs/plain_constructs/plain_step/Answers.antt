@@ -12,4 +12,4 @@ returns c = record {
 }
 
 pub returns-then-bytes-cursor-eq60 : goal.returns-then-bytes-cursor-eq60
-returns-then-bytes-cursor-eq60 c = c.plain_markup.ensures.reads
+returns-then-bytes-cursor-eq60 c = c.inner_markup.ensures
