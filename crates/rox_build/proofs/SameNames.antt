@@ -30,7 +30,7 @@ use Rattle.rox_theory.proofs.NameLemmas.{qname_sound, qname_complete, qname_le}
 use Rattle.rox_scan.proofs.RunLemmas.{run_stops_ascii}
 use Rattle.rox_build.proofs.Items.{stands_within}
 use Rattle.rox_build.proofs.PlainTags.{end_tag_is}
-use Rattle.rox_build.specs.BuilderState.{name_count, HasName, IsConsistent, IsOpened, IsOpenWithin, open_name}
+use Rattle.rox_build.specs.BuilderState.{name_length, HasName, IsConsistent, IsOpened, IsOpenWithin, open_name}
 use Rattle.rox_build.specs.PlainTag.{MayOpenBelow}
 use Rattle.rox_build.specs.SpelledNames.{is_prefixed}
 use Rattle.rox_tables.specs.declared.rows.tables.ElementTables.{ElementTables}
@@ -256,18 +256,14 @@ opened_named context cut above count known src i openings_left r j t o utf8 here
     let named = tag_named context cut above count known src i openings_left r j read in
     let le = qname_le src (i + 1) r.tag.name r.tag.name_end (qname_sound src (i + 1) (r.tag.name, r.tag.name_end) named) in
     let cut = IsCharBoundary-after_ascii src i utf8 (stands_within src i 60 here (omega arith)) (rw here (omega arith)) in
-    let n = name_count o in
-    let start : o.name_start ≡ i + 1 = by.name_start ∙ name_start in
-    let end : o.name_end ≡ r.tag.name_end = by.name_end ∙ name_end in
+    let n = name_length o in
     let view : open_name o ≡ r.tag.name = by.name ∙ name in
+    let long : n ≡ r.tag.name_end - (i + 1) = by.kept.counted ∙ ap (λ (e : ℕ). e - t.name_start) name_end ∙ ap (λ (k : ℕ). r.tag.name_end - k) name_start in
     let at : r.tag.name_end ≡ i + 1 + n = omega arith in
     let named' : qname_at src (i + 1) ≡ Ok (r.tag.name, i + 1 + n) = named ∙ ap (λ (e : ℕ). Ok (r.tag.name, e)) at in
-    let bytes : take n o.source.now ≡ take n (drop (i + 1) src) = ap (take n) (by.source ∙ ap (λ (k : ℕ). drop k src) name_start) in
-    let inside = name_inside src (i + 1) r.tag.name r.tag.name_end utf8 cut (qname_sound src (i + 1) (r.tag.name, r.tag.name_end) named) in
-    let long = ap length by.source ∙ length-drop t.name_start src in
+    let bytes : take n o.source.now ≡ take n (drop (i + 1) src) = by.kept.bytes ∙ rw (name_end, name_start, ← long) refl in
     record {
-      ordered = omega arith;
-      within = omega arith;
+      within = by.kept.within;
       prefixed = by.prefixed ∙ ap is_prefixed (sym by.name);
       read = λ dst k other same stop. named_same src dst (i + 1) k n r.tag.name utf8 other cut named' (sym bytes ∙ same) stop ∙ ap (λ (m : Name). Ok (m, k + n)) (sym view);
     }
@@ -295,9 +291,9 @@ same_itself name =
     rw (p, l) refl
 
 -- it has the bytes of the name of the element that it closes
-pub end_tag_close : (src : List ℕ) (i j : ℕ) (o : OpenElement) → HasName o → IsUtf8 src → take (name_count o) o.source.now ≡ take (name_count o) (drop (i + 2) src) → slice_index src (i + 2 + name_count o) ≡ 62 → j ≡ i + 2 + name_count o + 1
-    → end_tag_at src i ≡ Ok (record { name = open_name o; name_end = i + 2 + name_count o }, j)
+pub end_tag_close : (src : List ℕ) (i j : ℕ) (o : OpenElement) → HasName o → IsUtf8 src → take (name_length o) o.source.now ≡ take (name_length o) (drop (i + 2) src) → slice_index src (i + 2 + name_length o) ≡ 62 → j ≡ i + 2 + name_length o + 1
+    → end_tag_at src i ≡ Ok (record { name = open_name o; name_end = i + 2 + name_length o }, j)
 end_tag_close src i j o named utf8 same stop end =
-    let e = i + 2 + name_count o in
+    let e = i + 2 + name_length o in
     let spaces : e ≡ run_end is_space src e = sym (run_stops_ascii is_space src e utf8 (stands_within src e 62 stop (omega arith)) (rw stop (omega arith)) (rw stop refl)) in
     rw end (end_tag_is src i (open_name o) e e (named.read src (i + 2) utf8 same stop) spaces stop)

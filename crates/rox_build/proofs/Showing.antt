@@ -18,7 +18,7 @@ use Rattle.rox_tables.specs.Rows.{RowView, row_view, preorder_rows, node, Attrib
 use Rattle.rox_build.specs.OpenRows.{top, open_line, rows_to, so_far}
 use Rattle.rox_build.specs.PendingText.{text_of, waiting}
 use Rattle.rox_tables.specs.TagScopes.{lists_in}
-use Rattle.rox_build.specs.BuilderState.{OpenRow, opened, open_lines, last_row, IsPending, with_rows, names_in, line_in, opened_in, IsRowWithin, Represents, RepresentsFlushed, IsNode}
+use Rattle.rox_build.specs.BuilderState.{OpenRow, opened, tag_row, open_lines, last_row, IsPending, with_rows, names_in, line_in, opened_in, IsRowWithin, Represents, RepresentsFlushed, IsNode}
 use Rattle.rox_tables.specs.declared.rows.tables.NodeKind.{NodeKind}
 use Rattle.rox_tables.specs.declared.rows.tables.NodeKind.TheVariants as kind
 use Rattle.rox_tables.specs.declared.rows.tables.NodeData.{NodeData}
@@ -347,7 +347,7 @@ written_count end o done b s e v p h was =
 
 pub open_shows : (end : ℕ) (o : Open) (done : Forest Item) (b u : Builder) (s : ℕ) (k : NodeKind) (t : Tag) (x : OpenElement) → RepresentsFlushed end o done b
     → node (attribute_rows b.tables.attributes) (names_in b.tables) (lists_in b.tables) s 0 k ≡ node_in (listed (scope_of o) t.declarations) (Element s 0 t) → IsRowWithin b.tables k
-    → x.row ≡ length (node_rows b.nodes) → opened (lists_in b.tables) x ≡ record { row = x.row; name = t.name; name_start = s + 1; name_end = t.name_end; scope = listed (scope_of o) t.declarations }
+    → x.row ≡ length (node_rows b.nodes) → opened (lists_in b.tables) x ≡ tag_row x.row s t (listed (scope_of o) t.declarations)
     → (node_rows u.nodes) ≡ (node_rows b.nodes) ++ row_open b.tables 0 b.opened.items s k ∷ [] → u.tables ≡ b.tables → u.opened.items ≡ b.opened.items ++ x ∷ [] → u.pending ≡ b.pending
     → Represents end (inside s t done o) Nil u
 open_shows end o done b u s k t x h is within place view nodes tables opens same =
@@ -357,8 +357,8 @@ open_shows end o done b u s k t x h is within place view nodes tables opens same
     let w = all_append (λ (r : NodeData). IsRowWithin b.tables r.kind) (node_rows b.nodes) (r ∷ []) h.within (within, tt) in
     let z : u.pending ≡ pending.None = same ∙ h.empty in
     let g = map-append (line_in b.tables) (node_rows b.nodes) (r ∷ []) ∙ ap (λ xs. xs ++ line_in b.tables r ∷ []) h.rows ∙ ap (λ x. so_far end o (merge done) ++ x ∷ []) row ∙ sym (so_far-open end o s t done) in
-    let v : opened (lists_in b.tables) x ≡ record { row = top o + 1 + size (merge done); name = t.name; name_start = s + 1; name_end = t.name_end; scope = listed (scope_of o) t.declarations } =
-    view ∙ ap (λ (n : ℕ). let l : OpenRow = record { row = n; name = t.name; name_start = s + 1; name_end = t.name_end; scope = listed (scope_of o) t.declarations } in l) (place ∙ n) in
+    let v : opened (lists_in b.tables) x ≡ tag_row (top o + 1 + size (merge done)) s t (listed (scope_of o) t.declarations) =
+    view ∙ ap (λ (n : ℕ). tag_row n s t (listed (scope_of o) t.declarations)) (place ∙ n) in
     let os = map-append (opened (lists_in b.tables)) b.opened.items (x ∷ []) ∙ ap (λ xs. xs ++ opened (lists_in b.tables) x ∷ []) h.open_rows
     ∙ ap (λ l. open_lines o ++ l ∷ []) v in
     record {
@@ -437,6 +437,31 @@ so_far-inside end up start tag before front =
     ∙ ap (λ xs. rows_to end up ++ xs) (append_assoc below (open_line start tag up ∷ []) inner)
     ∙ sym (append_assoc (rows_to end up) below (open_line start tag up ∷ inner))
 
+-- the row of the innermost open element
+innermost_line : (t : ElementTables) (end start : ℕ) (tag : Tag) (before : Forest Item) (up : Open) (front : Forest Item) (rows : List NodeData) (d : NodeData)
+    → map (line_in t) rows ≡ so_far end (inside start tag before up) front → line_in t (get_or rows (top (inside start tag before up)) d) ≡ open_line start tag up
+innermost_line t end start tag before up front rows d h =
+    let k = top (inside start tag before up) in
+    let rest = preorder_rows k (k + 1) (resolved (listed (scope_of up) tag.declarations) front) in
+    sym (get_or-map (line_in t) rows k d) ∙ ap (λ xs. get_or xs k (line_in t d)) (h ∙ so_far-inside end up start tag before front)
+    ∙ get_or_at (so_far end up (merge before)) (open_line start tag up) rest (line_in t d) k (length-so_far end up (merge before))
+
+-- where it begins
+element_starts : (as' : List AttributeRow) (namespaces : List NamespaceDecl) (ls : List (List NamespaceDecl)) (s x start : ℕ) (scope : List NamespaceDecl) (tag : Tag) (k : NodeKind)
+    → node as' namespaces ls s x k ≡ node_in scope (Element start 0 tag) → s ≡ start
+element_starts as' namespaces ls s x start scope tag kind.Root h = absurd (cc h)
+element_starts as' namespaces ls s x start scope tag (kind.Element d) h = cc h
+element_starts as' namespaces ls s x start scope tag (kind.Text v) h = absurd (cc h)
+element_starts as' namespaces ls s x start scope tag (kind.Comment t) h = absurd (cc h)
+element_starts as' namespaces ls s x start scope tag (kind.PI p) h = absurd (cc h)
+
+pub innermost_start : (t : ElementTables) (end start : ℕ) (tag : Tag) (before : Forest Item) (up : Open) (front : Forest Item) (rows : List NodeData) (d : NodeData)
+    → map (line_in t) rows ≡ so_far end (inside start tag before up) front → (get_or rows (top (inside start tag before up)) d).start ≡ start
+innermost_start t end start tag before up front rows d h =
+    let r = get_or rows (top (inside start tag before up)) d in
+    element_starts (attribute_rows t.attributes) (names_in t) (lists_in t) r.start r.end start (listed (scope_of up) tag.declarations) tag r.kind
+    (ap (λ (l : RowView). l.node) (innermost_line t end start tag before up front rows d h))
+
 closed_is : (as' : List AttributeRow) (namespaces : List NamespaceDecl) (ls : List (List NamespaceDecl)) (r : NodeData) (s e subtree_end : ℕ) (tag : Tag) (up : Open) → row_view as' namespaces ls r ≡ open_line s tag up
     → row_view as' namespaces ls (record r { end = e; subtree_end = subtree_end }) ≡ closed_line s e tag up subtree_end
 unfolding with_end
@@ -453,14 +478,11 @@ close_with end s e t before up done b u outer x d h was opens tables same change
     let tt' = b.tables in
     let view = opened (lists_in tt') in
     let k = top (inside s t before up) in
-    let l : OpenRow = record { row = k; name = t.name; name_start = s + 1; name_end = t.name_end; scope = listed (scope_of up) t.declarations } in
+    let l : OpenRow = tag_row k s t (listed (scope_of up) t.declarations) in
     let both = same_from_push (map view outer) (open_lines up) (view x) l (sym (map-append view outer (x ∷ [])) ∙ ap (map view) (sym was) ∙ h.open_rows) in
     let row : x.row ≡ k = ap (λ (x : OpenRow). x.row) both.1 in
     let n = rows_count tt' end (inside s t before up) (merge done) (node_rows b.nodes) h.rows in
-    let rest = preorder_rows k (k + 1) (resolved (listed (scope_of up) t.declarations) (merge done)) in
-    let found : line_in tt' (get_or (node_rows b.nodes) k d) ≡ open_line s t up =
-    sym (get_or-map (line_in tt') (node_rows b.nodes) k d) ∙ ap (λ xs. get_or xs k (line_in tt' d)) (h.rows ∙ so_far-inside end up s t before (merge done))
-    ∙ get_or_at (so_far end up (merge before)) (open_line s t up) rest (line_in tt' d) k (length-so_far end up (merge before)) in
+    let found : line_in tt' (get_or (node_rows b.nodes) k d) ≡ open_line s t up = innermost_line tt' end s t before up (merge done) (node_rows b.nodes) d h.rows in
     let new : NodeData = record (get_or (node_rows b.nodes) k d) { end = e; subtree_end = length (node_rows b.nodes) } in
     let is_closed : line_in tt' new ≡ closed_line s e t up (k + 1 + size (merge done)) =
     closed_is (attribute_rows tt'.attributes) (names_in tt') (lists_in tt') (get_or (node_rows b.nodes) k d) s e (length (node_rows b.nodes)) t up found ∙ ap (closed_line s e t up) n in

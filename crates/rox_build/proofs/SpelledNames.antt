@@ -1,14 +1,16 @@
 -- The bytes of a name spell it.
 use Rattle.std.proofs.Common.{inl, inr, ◌∷◌, ◌≡◌, ℕ, ◌+◌, ◌-◌, ◌<◌, ◌≤◌, ◌==◌, true, false, List, [], length, take, drop, slice_index, slice_range, refl, sym, ap, ◌∙◌, subst, not, arith, add-zero, get_or-drop, length-drop, Ok}
+use Rattle.std.specs.Prelude.{nat_lt, ◌^◌}
 use Rattle.std.specs.Str.{IsUtf8, IsCharBoundary}
-use Rattle.std.proofs.lemmas.Bool.{cases_lt, eq-eqb, eqb-true, ne_eqb, le-ltb, lt-ltb, not-false}
+use Rattle.std.proofs.lemmas.Bool.{and_from, cases_Bool, cases_lt, eq-eqb, eqb-true, ne_eqb, le-ltb, lt-ltb, not-false}
 use Rattle.std.proofs.lemmas.List.{drop-drop, drop-take, take-take, length-take, get_or-take}
 use Rattle.std.proofs.lemmas.List.Sums.{fails_before_first, position_or_len_is, prefix_len-le-length}
 use Rattle.std.proofs.lemmas.Str.{IsCharBoundary-after_ascii}
 use Rattle.rox_grammar.specs.Chars.{is_part_char}
 use Rattle.rox_grammar.specs.Failures.{name_view}
 use Rattle.rox_grammar.specs.Names.{IsNCName, IsQName, unprefixed, prefixed, colon_first}
-use Rattle.rox_grammar.specs.Written.{Name, NamespaceDecl}
+use Rattle.rox_grammar.specs.Tree.{listed}
+use Rattle.rox_grammar.specs.Written.{Name, NamespaceDecl, Tag}
 use Rattle.rox_grammar.specs.declared.fault.Fault.{Fault}
 use Rattle.rox_reading.specs.Lexical.{qname_at}
 use Rattle.rox_reading.specs.Tags.{Values, TagRead, tag_at}
@@ -16,9 +18,11 @@ use Rattle.rox_theory.proofs.Productions.{ncname_parts}
 use Rattle.rox_theory.proofs.Basics.{run_end_le}
 use Rattle.rox_theory.proofs.CharLemmas.{run_within}
 use Rattle.rox_theory.proofs.NameLemmas.{qname_le, qname_sound}
-use Rattle.rox_build.specs.BuilderState.{HasName, open_name}
-use Rattle.rox_build.specs.SpelledNames.{before_colon, spelled_name, SpellsName}
+use Rattle.rox_build.specs.BuilderState.{HasName, IsOpening, name_length, open_name, opened, tag_row}
+use Rattle.rox_build.specs.SpelledNames.{before_colon, kept_length, KeepsName, spelled_name, SpellsName, wide_name}
 use Rattle.rox_build.specs.declared.builder.OpenElement.{OpenElement}
+use Rattle.rox_tables.specs.TagScopes.{lists_in}
+use Rattle.rox_tables.specs.declared.rows.tables.ElementTables.{ElementTables}
 use Rattle.rox_build.specs.declared.tag.StartTag.{StartTag}
 use Rattle.rox_build.proofs.Items.{stands_within}
 use Rattle.rox_build.proofs.SameNames.{colon_apart, name_inside, tag_named}
@@ -118,6 +122,41 @@ front_is_prefix xs prefix n within some colon same apart =
     ap (λ (m : Name). m.prefix) (spelled_parts bs (omega arith)) ∙ ap (λ (m : ℕ). take m bs) there ∙ take-take k n xs (omega arith) ∙ same
 
 -- ---- of an open element
+
+-- the count that is kept is no more than the name has, and that is in the source
+pub kept_bounds : (n : ℕ) (xs : List ℕ) → n ≤ length xs → (n ≤ kept_length n xs) × (kept_length n xs ≤ length xs)
+kept_bounds n xs within =
+    elim (cases_Bool (nat_lt n wide_name)) [
+      | inl narrow ↦ rw narrow (omega arith, within)
+      | inr wide ↦ rw wide (within, omega arith)
+    ]
+
+-- it is all of it where the name is not wide
+pub kept_narrow : (n : ℕ) (xs : List ℕ) → n < wide_name → kept_length n xs ≡ n
+kept_narrow n xs narrow = rw (lt-ltb n wide_name narrow) refl
+
+-- and then the name of a tag is kept with what stands behind it
+pub narrow_kept : (text : List ℕ) (tag : StartTag) (source : List ℕ) → SpellsName text tag → tag.name_end - tag.name_start < wide_name → source ≡ drop tag.name_start text
+    → KeepsName text tag (tag.name_end - tag.name_start) source
+narrow_kept text tag source spells narrow rest =
+    let n = tag.name_end - tag.name_start in
+    let long : length source ≡ length text - tag.name_start = ap length rest ∙ length-drop tag.name_start text in
+    let ordered = spells.ordered in
+    let within = spells.within in
+    let all : kept_length n source ≡ n = kept_narrow n source narrow in
+    record { within = omega arith; counted = all; bytes = rw all (ap (take n) rest) }
+
+-- what is kept of an open element is what its tag says
+pub tag_shown : (t : ElementTables) (above : List NamespaceDecl) (start : ℕ) (tag : StartTag) (view : Tag) (text : List ℕ) (x : OpenElement) → IsOpening t above start tag view → SpellsName text tag
+    → KeepsName text tag x.name_count x.source.now → tag.name_end < 2 ^ 64 → x.scope ≡ tag.element.scope → opened (lists_in t) x ≡ tag_row x.row start view (listed above view.declarations)
+tag_shown t above start tag view text x op spells kept short scope =
+    let ordered = spells.ordered in
+    let starts = op.name_start in
+    let ends = op.name_end in
+    let name : open_name x ≡ view.name = ap spelled_name kept.bytes ∙ spells.spells ∙ op.name in
+    let long : name_length x ≡ view.name_end - (start + 1) = kept.counted ∙ ap (λ (e : ℕ). e - tag.name_start) ends ∙ ap (λ (k : ℕ). view.name_end - k) starts in
+    let placed = and_from (nat_lt start view.name_end) (nat_lt view.name_end (2 ^ 64)) (lt-ltb start view.name_end (omega arith)) (lt-ltb view.name_end (2 ^ 64) (rw (← ends) short)) in
+    rw (name, long, placed, scope, op.scope) refl
 
 pub unprefixed_name : (o : OpenElement) → HasName o → o.prefixed ≡ false → (open_name o).prefix ≡ []
 unprefixed_name o named bare = nothing (open_name o).prefix (not-false _ (sym named.prefixed ∙ bare))

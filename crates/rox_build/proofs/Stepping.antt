@@ -1,5 +1,5 @@
 -- What one construct does to the builder, against what is read.
-use Rattle.std.proofs.lemmas.Bool.{lt-leb}
+use Rattle.std.proofs.lemmas.Bool.{and_parts, lt-leb, ltb-true}
 use Rattle.rox_grammar.specs.Search.{stands}
 use Rattle.rox_grammar.specs.FixedTexts.{word_text}
 use Rattle.rox_grammar.specs.declared.fault.Word.TheVariants as word
@@ -8,6 +8,7 @@ use Rattle.rox_tables.specs.Rows.{AttributeRow, attribute_rows, row_view, scope_
 use Rattle.std.specs.List.{AllByRecursion}
 use Rattle.rox_tables.specs.declared.rows.tables.NodeData.{NodeData}
 use Rattle.rox_tables.specs.TagScopes.{lists_in}
+use Rattle.std.specs.Prelude.{nat_lt, ◌^◌, ◌-◌}
 use Rattle.std.proofs.Common.{eqb, eq-eqb, ne_eqb, if◌then◌else◌, slice_index, ◌≡◌, ℕ, zero, suc, ◌+◌, ◌<◌, Bool, true, false, List, [], ◌∷◌, ◌++◌, length, map, leb, refl, sym, ap, subst, ◌∙◌, arith, Result, Ok, Err, append_assoc, length-append}
 use Rattle.std.proofs.lemmas.List.{append-nil, length-map, map-append, same_from_push}
 use Rattle.rox_grammar.specs.declared.fault.Fault.{Fault}
@@ -36,7 +37,7 @@ use Rattle.rox_scan.specs.declared.cursor.Cursor.{Cursor}
 use Rattle.rox_grammar.specs.declared.failure.Failure.{Failure}
 use Rattle.rox_build.proofs.Lifting.{refuses}
 use Rattle.rox_build.specs.Putting.{KeepsRows}
-use Rattle.rox_build.specs.BuilderState.{OpenRow, opened, opened_in, open_lines, line_in, names_in, IsRowWithin, Represents, Adds, IsConsistent, IsInState, KeepsOpen, KeepsState, ScansTo, open_name}
+use Rattle.rox_build.specs.BuilderState.{OpenRow, name_length, opened, tag_row, opened_in, open_lines, line_in, names_in, IsRowWithin, Represents, Adds, IsConsistent, IsInState, KeepsOpen, KeepsState, ScansTo, open_name}
 use Rattle.rox_tables.specs.Rows.{node_rows}
 use Rattle.rox_build.specs.declared.builder.Builder.{Builder}
 
@@ -183,9 +184,9 @@ closed_at_root t (inside start tag before up) i n j name done openings_left h = 
     push_not_nil [] y h = cc h
     push_not_nil (x ∷ xs) y h = cc h
 
--- the name of the innermost open element, and where it stands
-top_view : (t : ElementTables) (start : ℕ) (tag : Tag) (before : Forest Item) (up : Open) (outer : List OpenElement) (x : OpenElement) → opened_in t (outer ++ x ∷ []) ≡ open_lines (inside start tag before up)
-    → opened (lists_in t) x ≡ record { row = top up + 1 + size (merge before); name = tag.name; name_start = start + 1; name_end = tag.name_end; scope = listed (scope_of up) tag.declarations }
+-- what is kept of the innermost open element
+pub top_view : (t : ElementTables) (start : ℕ) (tag : Tag) (before : Forest Item) (up : Open) (outer : List OpenElement) (x : OpenElement) → opened_in t (outer ++ x ∷ []) ≡ open_lines (inside start tag before up)
+    → opened (lists_in t) x ≡ tag_row (top up + 1 + size (merge before)) start tag (listed (scope_of up) tag.declarations)
 top_view t start tag before up outer x h =
     (same_from_push (map (opened (lists_in t)) outer) (open_lines up) (opened (lists_in t) x) _ (sym (map-append (opened (lists_in t)) outer (x ∷ [])) ∙ h)).1
 
@@ -193,17 +194,27 @@ outer_not_nil : (t : ElementTables) (outer : List OpenElement) (x : OpenElement)
 outer_not_nil t [] x h = cc h
 outer_not_nil t (y ∷ outer) x h = cc h
 
-pub closed_other : (t : ElementTables) (o : Open) (outer : List OpenElement) (x : OpenElement) (i n j : ℕ) (name : Name) (done : Forest Item) (openings_left : ℕ) → opened_in t (outer ++ x ∷ []) ≡ open_lines o
+pub closed_other : (t : ElementTables) (o : Open) (outer : List OpenElement) (x : OpenElement) (i n j : ℕ) (name : Name) (done : Forest Item) (openings_left : ℕ) (span : Span) → opened_in t (outer ++ x ∷ []) ≡ open_lines o
     → same_qname (open_name x) name ≡ false
-    → closed_by i name n j done o openings_left ≡ Err (fault.UnexpectedCloseTag (name_span (open_name x) x.name_start x.name_end) (name_span name (i + 2) n) i)
+    → ((start : ℕ) (tag : Tag) (before : Forest Item) (up : Open) → o ≡ inside start tag before up → span ≡ name_span tag.name (start + 1) tag.name_end)
+    → closed_by i name n j done o openings_left ≡ Err (fault.UnexpectedCloseTag span (name_span name (i + 2) n) i)
 unfolding closed_by
-closed_other t root outer x i n j name done openings_left h other = absurd (outer_not_nil t outer x h)
-closed_other t (inside start tag before up) outer x i n j name done openings_left h other =
+closed_other t root outer x i n j name done openings_left span h other where_is = absurd (outer_not_nil t outer x h)
+closed_other t (inside start tag before up) outer x i n j name done openings_left span h other where_is =
     let v = top_view t start tag before up outer x h in
     let a : open_name x ≡ tag.name = ap (λ (l : OpenRow). l.name) v in
-    let g : name_span (open_name x) x.name_start x.name_end ≡ name_span tag.name (start + 1) tag.name_end = ap (λ (l : OpenRow). name_span l.name l.name_start l.name_end) v in
     let d : same_qname tag.name name ≡ false = subst (λ (m : Name). same_qname m name ≡ false) a other in
-    rw d (ap (λ (sp : Span). Err (fault.UnexpectedCloseTag sp (name_span name (i + 2) n) i)) (sym g))
+    rw d (ap (λ (sp : Span). Err (fault.UnexpectedCloseTag sp (name_span name (i + 2) n) i)) (sym (where_is start tag before up refl)))
+
+-- its name ends behind the place at which it begins, at one that a text may have
+pub top_placed : (t : ElementTables) (start : ℕ) (tag : Tag) (before : Forest Item) (up : Open) (outer : List OpenElement) (x : OpenElement) → opened_in t (outer ++ x ∷ []) ≡ open_lines (inside start tag before up)
+    → (tag.name_end ≡ start + 1 + name_length x) × (tag.name_end < 2 ^ 64)
+top_placed t start tag before up outer x h =
+    let v = top_view t start tag before up outer x h in
+    let long : name_length x ≡ tag.name_end - (start + 1) = ap (λ (l : OpenRow). l.name_length) v in
+    let placed = and_parts (nat_lt start tag.name_end) (nat_lt tag.name_end (2 ^ 64)) (sym (ap (λ (l : OpenRow). l.is_placed) v)) in
+    let behind = ltb-true start tag.name_end placed.0 in
+    (omega arith, ltb-true tag.name_end (2 ^ 64) placed.1)
 
 pub closed_stepped : (limit end : ℕ) (s : State) (c d : Cursor) (b u : Builder) (outer : List OpenElement) (x : OpenElement) (i n : ℕ) (name : Name) → IsInState limit end s c b → b.opened.items ≡ outer ++ x ∷ []
     → same_qname (open_name x) name ≡ true → u.tables ≡ b.tables → u.nodes_limit ≡ b.nodes_limit → u.openings_left ≡ b.openings_left

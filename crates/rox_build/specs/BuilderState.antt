@@ -1,5 +1,5 @@
 -- What the builder holds, against where reading stands.
-use Rattle.std.specs.Prelude.{◌≡◌, vec_len, vec_capacity, ℕ, ◌+◌, ◌-◌, take, drop, slice_index, ◌^◌, ◌<◌, ◌≤◌, Bool, false, List, [], ◌∷◌, ◌++◌, Option, is_some, Result, Ok, Err, length, map}
+use Rattle.std.specs.Prelude.{◌≡◌, vec_len, vec_capacity, ℕ, ◌+◌, ◌-◌, take, drop, slice_index, nat_lt, ◌&&◌, ◌^◌, ◌<◌, ◌≤◌, Bool, true, false, List, [], ◌∷◌, ◌++◌, Option, is_some, Result, Ok, Err, length, map}
 use Rattle.std.specs.Str.{IsUtf8}
 use Rattle.std.specs.String.{string_bytes}
 use Rattle.std.specs.List.{AllByRecursion}
@@ -24,7 +24,7 @@ use Rattle.rox_values.specs.Refusals.{IsFailure, IsRefusal}
 use Rattle.rox_values.specs.Values.{next_view}
 use Rattle.rox_values.specs.declared.parse_error.ParseError.{ParseError}
 use Rattle.rox_build.specs.OpenRows.{top, so_far}
-use Rattle.rox_build.specs.SpelledNames.{before_colon, is_prefixed, spelled_name}
+use Rattle.rox_build.specs.SpelledNames.{before_colon, is_prefixed, kept_length, KeepsName, spelled_name}
 use Rattle.rox_build.specs.PendingText.{waiting, IsItsSlice}
 use Rattle.rox_tables.specs.Scopes.{PrefixesOnce}
 use Rattle.rox_tables.specs.TagScopes.{HasBindings, lists_in}
@@ -45,31 +45,35 @@ abbrev pub tables_of : Builder → Tables
 tables_of b = record { nodes = b.nodes; attributes = b.tables.attributes; namespaces = b.tables.namespaces.items; listed = b.tables.listed; scopes = b.tables.scopes }
 
 -- how many bytes the name of an open element has
-abbrev pub name_count : OpenElement → ℕ
-name_count o = o.name_end - o.name_start
+abbrev pub name_length : OpenElement → ℕ
+name_length o = kept_length o.name_count o.source.now
 
 -- its name
 abbrev pub open_name : OpenElement → Name
-open_name o = spelled_name (take (name_count o) o.source.now)
+open_name o = spelled_name (take (name_length o) o.source.now)
 
 -- what is kept of an open element
 pub record OpenRow : Type 0 where
   pub row : ℕ
   pub name : Name
-  pub name_start : ℕ
-  pub name_end : ℕ
+  pub name_length : ℕ
+  -- whether it ends at a place that a text may have, and not before it begins
+  pub is_placed : Bool
   pub scope : List NamespaceDecl
 
 abbrev pub opened : List (List NamespaceDecl) → OpenElement → OpenRow
-opened lists o = record { row = o.row; name = open_name o; name_start = o.name_start; name_end = o.name_end; scope = scope_at lists o.scope }
+opened lists o = record { row = o.row; name = open_name o; name_length = name_length o; is_placed = true; scope = scope_at lists o.scope }
+
+-- the same of the element in this row that this tag opens, and lists these
+abbrev pub tag_row : ℕ → ℕ → Tag → List NamespaceDecl → OpenRow
+tag_row row start tag scope =
+    record { row = row; name = tag.name; name_length = tag.name_end - (start + 1); is_placed = nat_lt start tag.name_end && nat_lt tag.name_end (2 ^ 64); scope = scope }
 
 -- the open elements, outermost first
 abbrev pub open_lines : Open → List OpenRow
 open_lines root = []
 open_lines (inside start tag before up) =
-    open_lines up
-    ++ record { row = top up + 1 + size (merge before); name = tag.name; name_start = start + 1; name_end = tag.name_end; scope = listed (scope_of up) tag.declarations }
-    ∷ []
+    open_lines up ++ tag_row (top up + 1 + size (merge before)) start tag (listed (scope_of up) tag.declarations) ∷ []
 
 -- the row of the last, or that of the root node
 abbrev pub last_row : List OpenRow → ℕ
@@ -148,11 +152,10 @@ Adds end (Err e) b read = Fails e read
 
 -- its name is read wherever the bytes of the name stand before `>`
 pub record HasName (o : OpenElement) : Type 0 where
-  pub ordered : o.name_start ≤ o.name_end
-  pub within : name_count o ≤ length o.source.now
+  pub within : o.name_count ≤ length o.source.now
   pub prefixed : o.prefixed ≡ is_prefixed (open_name o)
-  pub read : (src : List ℕ) (i : ℕ) → IsUtf8 src → take (name_count o) o.source.now ≡ take (name_count o) (drop i src) → slice_index src (i + name_count o) ≡ 62
-      → qname_at src i ≡ Ok (open_name o, i + name_count o)
+  pub read : (src : List ℕ) (i : ℕ) → IsUtf8 src → take (name_length o) o.source.now ≡ take (name_length o) (drop i src) → slice_index src (i + name_length o) ≡ 62
+      → qname_at src i ≡ Ok (open_name o, i + name_length o)
 
 -- this is a prefix, or none, for which the name of an open element may be looked through
 pub record MayHavePrefix (o : OpenElement) (prefix : List ℕ) : Type 0 where
@@ -172,11 +175,9 @@ IsOpenWithin t o = (o.scope < length t.scopes.items) × PrefixesOnce (scope_at (
 pub record IsOpened (text : List ℕ) (tag : StartTag) (o : OpenElement) : Type 0 where
   pub name : open_name o ≡ name_view tag.name
   pub prefixed : o.prefixed ≡ is_prefixed (name_view tag.name)
-  pub name_start : o.name_start ≡ tag.name_start
-  pub name_end : o.name_end ≡ tag.name_end
+  pub kept : KeepsName text tag o.name_count o.source.now
   pub scope : o.scope ≡ tag.element.scope
   pub namespace : o.namespace ≡ tag.element.namespace
-  pub source : o.source.now ≡ drop tag.name_start text
 
 -- the first scope lists nothing
 pub record HasEmpty (t : ElementTables) : Type 0 where

@@ -3,11 +3,12 @@ use Rattle.std.specs.Prelude.{◌≡◌, ℕ, ◌+◌, ◌++◌, ◌∷◌, [], 
 use Rattle.std.specs.Str.{IsCharBoundary}
 use Rattle.rox_grammar.specs.Entities.{Entity}
 use Rattle.rox_grammar.specs.Forest.{Forest}
-use Rattle.rox_grammar.specs.State.{Open, scope_of}
+use Rattle.rox_grammar.specs.State.{Open, inside, scope_of}
 use Rattle.rox_grammar.specs.Written.{Item, Tag}
 use Rattle.rox_grammar.specs.declared.failure.Failure.{Failure}
+use Rattle.rox_grammar.specs.declared.fault.Span.{Span}
 use Rattle.rox_reading.specs.Machine as machine
-use Rattle.rox_reading.specs.Machine.{opened_by, with_item}
+use Rattle.rox_reading.specs.Machine.{name_span, opened_by, with_item}
 use Rattle.rox_reading.specs.Refusals.{Refusal}
 use Rattle.rox_reading.specs.State.{State}
 use Rattle.rox_scan.specs.declared.cursor.Cursor.{Cursor}
@@ -81,6 +82,11 @@ pub record OpensElement (old new : Builder) (result : Result (Unit {0}) Failure)
       → Adds total result new (opened_by old.nodes_limit s t false openings_left at)
   pub kept : KeepsTables old new
   pub opened : OnOk result ((x : OpenElement) × (new.opened.items ≡ old.opened.items ++ x ∷ []) × IsOpened text tag x)
+
+-- this is where the name of the innermost open element is written
+abbrev pub SpansOpen : Builder → OpenElement → Span → Type 0
+SpansOpen b o span = (end start : ℕ) (tag : Tag) (before : Forest Item) (up : Open) (done : Forest Item) (outer : List OpenElement)
+    → Represents end (inside start tag before up) done b → b.opened.items ≡ outer ++ o ∷ [] → span ≡ name_span tag.name (start + 1) tag.name_end
 
 -- the call writes the text that waits for its row, and ends the one that may go on
 pub record Flushes {E : Type 0} (old new : Builder) (result : Result (Unit {0}) E) : Type 0 where

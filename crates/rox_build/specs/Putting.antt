@@ -19,7 +19,7 @@ use Rattle.rox_build.specs.ElementRow.{scope_in_tables}
 use Rattle.rox_build.specs.Outcomes.{AddsNode, AddsText, OpensElement}
 use Rattle.rox_build.specs.PendingText.{waiting}
 use Rattle.rox_build.specs.Readiness.{IsApart, MayPutRow}
-use Rattle.rox_build.specs.SpelledNames.{SpellsName}
+use Rattle.rox_build.specs.SpelledNames.{SpellsName, wide_name}
 use Rattle.rox_build.specs.declared.builder.Builder.{Builder}
 use Rattle.rox_build.specs.declared.builder.FirstTables.{FirstTables}
 use Rattle.rox_build.specs.declared.pending.Pending.TheVariants as pending
@@ -105,6 +105,7 @@ pub record MayPutOpen (b : Builder) (above : ℕ) (text : List ℕ) (i : ℕ) (t
   pub row : MayPutRow b above i
   pub depth : vec_len b.opened < vec_capacity b.opened
   pub named : SpellsName text tag
+  pub narrow : tag.name_end - tag.name_start < wide_name
 
 -- the element is open
 pub record PutsOpen (old new : Builder) (text : List ℕ) (i : ℕ) (tag : StartTag) : Type 0 where

@@ -1,6 +1,6 @@
 -- Names, and the bytes that spell them.
 use Prim.Native.Char.{code}
-use Rattle.std.specs.Prelude.{◌≡◌, ◌≤◌, ◌==◌, ◌+◌, ℕ, Bool, not, List, [], length, take, drop, slice_range, nat_lt, if◌then◌else◌}
+use Rattle.std.specs.Prelude.{◌≡◌, ◌≤◌, ◌==◌, ◌+◌, ◌-◌, ℕ, Bool, not, List, [], length, take, drop, slice_range, nat_lt, if◌then◌else◌}
 use Rattle.std.specs.List.{position_or_len}
 use Rattle.rox_grammar.specs.Failures.{name_view}
 use Rattle.rox_grammar.specs.Written.{Name}
@@ -28,3 +28,17 @@ pub record SpellsName (text : List ℕ) (tag : StartTag) : Type 0 where
   pub ordered : tag.name_start ≤ tag.name_end
   pub within : tag.name_end ≤ length text
   pub spells : spelled_name (slice_range text tag.name_start tag.name_end) ≡ name_view tag.name
+
+-- the count that stands for that of a wide name
+abbrev pub wide_name : ℕ
+wide_name = 4294967295
+
+-- how many bytes a name has, where this is the count that is kept, and this the source
+abbrev pub kept_length : ℕ → List ℕ → ℕ
+kept_length count source = if nat_lt count wide_name then count else length source
+
+-- the name of a tag of this text is kept so
+pub record KeepsName (text : List ℕ) (tag : StartTag) (count : ℕ) (source : List ℕ) : Type 0 where
+  pub within : count ≤ length source
+  pub counted : kept_length count source ≡ tag.name_end - tag.name_start
+  pub bytes : take (kept_length count source) source ≡ slice_range text tag.name_start tag.name_end

@@ -7,6 +7,7 @@ ghost use Rattle.rox_tables.specs.declared.rows.tables.Scope.TheVariants as scop
 ghost use Rattle.rox_tables.specs.StoredNodes.{kind_of};
 ghost use Rattle.rox_tables.specs.declared.rows.tables.NodeKind.TheVariants as kind;
 ghost use Rattle.rox_grammar.specs.declared.failure.Failure.TheVariants as failure;
+ghost use Rattle.rox_build.specs.SpelledNames.{KeepsName, SpellsName};
 ghost use Rattle.rox_build.specs.TakenText.{MayTakeLast, TakesLast};
 ghost use Rattle.rox_build.specs.PendingText.{waiting, written, text_of, IsItsSlice};
 ghost use Rattle.rox_tables.specs.Storage.{storage_bytes, is_borrowed};
@@ -33,16 +34,19 @@ use rox_values::text_value::TextValue;
 use std::alloc::{AllocError, Global};
 use std::collections::BTreeSet;
 
-/// An element that is open: its row, its scope, the number of the namespace of its name, whether that has a prefix, where it stands,
-/// and the source from there on, whose first bytes spell it. There may be many, so they are kept small.
+/// The count of a wide name: of one that has so many bytes or more.
+pub const WIDE_NAME: u32 = u32::MAX;
+
+/// An element that is open: its row, which tells where its name stands, its scope, how many bytes the name has, the number of its
+/// namespace, whether it has a prefix, and the source from there on, whose first bytes spell it, or of a wide name its bytes
+/// alone. There may be many, so they are kept small.
 #[derive(Clone, Copy)]
 pub struct OpenElement<'input> {
     pub row: u32,
     pub scope: u32,
+    pub name_count: u32,
     pub namespace: u16,
     pub prefixed: bool,
-    pub name_start: usize,
-    pub name_end: usize,
     pub source: &'input [u8],
 }
 
@@ -67,8 +71,8 @@ pub struct Builder<'input> {
     pub ghost shallow: { vec_len opened + written pending < vec_len nodes.rows },
 }
 
-/// So many elements may be open before their table grows, more than most texts open, of less than 1 KB: pieces of that size the C
-/// library keeps at hand. While it is full, each construct is left to the general step.
+/// So many elements may be open before their table grows, more than most texts open. It has 640 bytes then: pieces of that size
+/// the C library keeps at hand. While it is full, each construct is left to the general step.
 pub const ROOM_TO_OPEN: usize = 20;
 
 /// So many scopes find room before their table grows: most texts have few.
@@ -102,6 +106,19 @@ fn from_place<'input>(text: &'input str, start: usize) -> &'input [u8]
     ensures { result.now ≡ drop start text.entry.now }
 {
     &text.as_bytes()[start..]
+}
+
+/// How many bytes the name of a start tag has, and the source that spells it, as an open element keeps both.
+#[inline(always)]
+fn kept_name<'input>(text: &'input str, tag: &StartTag<'input>) -> (u32, &'input [u8])
+    requires { SpellsName text.now tag.now }
+    ensures { KeepsName text.entry.now tag.entry.now result.0 result.1.now }
+{
+    let count = tag.name_end - tag.name_start;
+    if count < WIDE_NAME as usize {
+        return (count as u32, from_place(text, tag.name_start));
+    }
+    (WIDE_NAME, &text.as_bytes()[tag.name_start..tag.name_end])
 }
 
 /// Where a text stands, in bytes of its source.
@@ -176,7 +193,6 @@ impl<'input> Builder<'input> {
     ghost use Rattle.rox_values.specs.Values.{piece_view};
     ghost use Rattle.rox_build.specs.BuilderState.{Represents, AreSound, Adds, IsReady, KeepsOpen, opened_in, last_row, tables_of};
     ghost use Rattle.rox_build.specs.Outcomes.{AddsNode, AddsText, Flushes, OpensElement};
-    ghost use Rattle.rox_build.specs.SpelledNames.{SpellsName};
     ghost use Rattle.rox_build.specs.Putting.{Closes, EndsRun, IsInnermostScope, IsOfRoot, JoinsText, KeepsRows, MayHaveMore, MayPutClose, MayPutLeaf, MayPutOpen, PutsClose, PutsLeaf, PutsOpen, PutsOwned, PutsText, Settles, WaitsForMore};
     ghost use Rattle.rox_build.specs.Readiness.{MayMakeRow, MayPutText};
     ghost use Rattle.rox_tables.specs.Rows.{HoldsTree};
@@ -604,12 +620,11 @@ impl<'input> Builder<'input> {
         let mut opening = self.row(start, 0, NodeKind::Element(tag.element));
         opening.subtree_end = 0;
         self.nodes.push(opening)?;
-        let source = from_place(text, tag.name_start);
+        let (name_count, source) = kept_name(text, tag);
         let element = OpenElement {
             row,
-            name_start: tag.name_start,
-            name_end: tag.name_end,
             scope: tag.element.scope,
+            name_count,
             namespace: tag.element.namespace,
             prefixed: !tag.name.prefix.is_empty(),
             source,
@@ -756,9 +771,8 @@ impl<'input> Builder<'input> {
         let source = from_place(text, tag.name_start);
         self.opened.push_reserved(OpenElement {
             row,
-            name_start: tag.name_start,
-            name_end: tag.name_end,
             scope: tag.element.scope,
+            name_count: (tag.name_end - tag.name_start) as u32,
             namespace: tag.element.namespace,
             prefixed: !tag.name.prefix.is_empty(),
             source,

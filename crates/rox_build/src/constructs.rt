@@ -9,13 +9,13 @@ ghost use Rattle.rox_grammar.specs.Written.{Item};
 ghost use Rattle.rox_grammar.specs.NameParts.{local_span, same_qname};
 ghost use Rattle.rox_grammar.specs.State.{Open};
 ghost use Rattle.rox_reading.specs.Refusals.{lifted};
-ghost use Rattle.rox_build.specs.BuilderState.{Represents};
+ghost use Rattle.rox_build.specs.BuilderState.{HasName, Represents};
 ghost use Rattle.rox_build.specs.SpelledNames.{bytes_view};
-ghost use Rattle.rox_build.specs.Outcomes.{ParsesAs, ScansAs, ScansIn, ScansWithin};
+ghost use Rattle.rox_build.specs.Outcomes.{ParsesAs, ScansAs, ScansIn, ScansWithin, SpansOpen};
 ghost use Rattle.rox_build.specs.Readiness.{MayRead, MayReadDeclared, MayReadOpening, MayReadTag};
 
-use crate::builder::Builder;
-use crate::open_names::{NameBytes, bytes_of, open_name};
+use crate::builder::{Builder, OpenElement};
+use crate::open_names::{NameBytes, bytes_of, name_bytes, open_name};
 use crate::tag::{TagContext, start_tag};
 use rox_grammar::failure::Failure;
 use rox_grammar::fault::{Fault, Span, Word};
@@ -173,6 +173,24 @@ fn name_span(name: NameBytes<'_>, start: usize, end: usize) -> Span
     }
 }
 
+/// Where the name of the innermost open element is written: it begins behind the `<` at which its row does.
+#[cold]
+#[inline(never)]
+fn open_span(builder: &Builder<'_>, element: &OpenElement<'_>) -> Span
+    requires { HasName element.now }
+    ensures { SpansOpen builder.now element.now result }
+{
+    // An open element has a row, and its name ends at a place that a text may have: neither the test nor a sum cuts anything off.
+    let row = element.row as usize;
+    let start = if row < builder.nodes.len() {
+        builder.nodes.row(row).start.saturating_add(1)
+    } else {
+        0
+    };
+    let end = start.saturating_add(name_bytes(element).len());
+    name_span(open_name(element), start, end)
+}
+
 /// Whether two names are written alike.
 #[inline(always)]
 fn same_qname(one: NameBytes<'_>, other: NameBytes<'_>) -> bool
@@ -204,7 +222,7 @@ pub fn end_tag<'input>(
     let opened = open_name(open);
     let closed = bytes_of(tag.name);
     if !same_qname(opened, closed) {
-        let expected = name_span(opened, open.name_start, open.name_end);
+        let expected = open_span(builder, open);
         let found = name_span(closed, start + 2, tag.name_end);
         return Err(Failure::Fault(Fault::UnexpectedCloseTag(expected, found, start)));
     }

@@ -120,7 +120,7 @@ fn plain_end_tag(cursor: &mut Cursor<'_>, builder: &mut Builder<'_>, open_around
     let text = cursor.text;
     let slash = after_byte(text, cursor.pos, b'<');
     let name = after_byte(text, slash, b'/');
-    let count = open.name_end - open.name_start;
+    let count = open.name_count as usize;
     if !closes_front(open.source, &text.as_bytes()[name..], count) {
         return false;
     }

@@ -3,7 +3,7 @@
 
 ghost use Rattle.std.specs.Prelude.{◌≡◌, IfOk, IfSome, length, slice_index, true};
 ghost use Rattle.rox_build.specs.Readiness.{MayReadTag};
-ghost use Rattle.rox_build.specs.RootTag.{BeginsOwn, BeginsScopes, DeclaresOwn, GivesRootTag, IsBlank, IsDeclaredName, ListsOwn, HasXmlns, MayReadRoot, MayReadRootTag, ReadsRoot, ReadsRootTag};
+ghost use Rattle.rox_build.specs.RootTag.{BeginsOwn, BeginsScopes, DeclaresOwn, GivesRootTag, HasXmlns, IsBlank, IsDeclaredName, ListsOwn, MayReadRoot, MayReadRootTag, ReadsRoot, ReadsRootTag};
 ghost use Rattle.rox_build.specs.TextParts.{ReadsRootElement};
 
 use crate::builder::{Builder, ROOM_TO_OPEN};
@@ -274,7 +274,9 @@ fn first_tag<'input>(
 /// What came of a look at the start tag of a root element. It is one word, which stays in a register.
 #[derive(Clone, Copy)]
 pub enum RootLook {
+    /// The tag was read, and its row stands.
     Read,
+    /// Nothing was read: the tag is not plain, or finds no room.
     NotRead,
     /// Memory was refused.
     Lacking,

@@ -6,10 +6,11 @@ use Rattle.std.proofs.lemmas.Option.{slice_get_cases}
 use Rattle.rox_scan.specs.Views.{end_tag_view}
 use Rattle.rox_grammar.specs.NameParts.{same_qname}
 use Rattle.rox_grammar.specs.Written.{Name}
+use Rattle.rox_grammar.specs.State.{Open}
 use Rattle.rox_reading.specs.Machine.{name_span}
 use Rattle.rox_values.specs.Contexts.{context_of}
 use Rattle.rox_reading.specs.Refusals.{here, lifted}
-use Rattle.rox_build.specs.BuilderState.{IsConsistent, IsOpenWithin, opened_in, open_name}
+use Rattle.rox_build.specs.BuilderState.{HasName, IsConsistent, IsOpenWithin, opened_in, open_name, Represents}
 use Rattle.rox_build.specs.declared.builder.OpenElement.{OpenElement}
 use Rattle.rox_grammar.specs.declared.fault.Span.{Span}
 use Rattle.rox_grammar.specs.declared.fault.Fault.TheVariants as fault
@@ -67,15 +68,25 @@ returns-in_default c = record {
 compared : (r : Bool) (m n a b : Name) → r ≡ same_qname m n → m ≡ a → n ≡ b → same_qname a b ≡ r
 compared r m n a b is one other = sym (is ∙ ap (λ (x : Name). same_qname x n) one ∙ ap (same_qname a) other)
 
+-- the innermost open element has its name
+last_named : (t : ElementTables) (os outer : List OpenElement) (o : OpenElement) → IsConsistent t os → os ≡ outer ++ o ∷ [] → HasName o
+last_named t os outer o fine split = (all_last (IsOpenWithin t) outer o (subst (AllByRecursion (IsOpenWithin t)) split fine.elements)).2
+
 pub open_name-opened-requires : goal.open_name-opened-requires
 open_name-opened-requires c =
     let b = c.args.builder.now in
     let k = c.in-Some.ensures.item in
     let os = c.deref.result.now in
     let o = c.in-Some.open.now in
-    let outer = take (length os - 1) os in
-    let split : b.opened.items ≡ outer ++ o ∷ [] = sym c.deref.ensures.value ∙ last_split os o k.3.0 (k.3.1 o) in
-    (all_last (IsOpenWithin b.tables) outer o (subst (AllByRecursion (IsOpenWithin b.tables)) split c.requires.fine.elements)).2
+    last_named b.tables b.opened.items (take (length os - 1) os) o c.requires.fine (sym c.deref.ensures.value ∙ last_split os o k.3.0 (k.3.1 o))
+
+pub open_span-expected-requires : goal.open_span-expected-requires
+open_span-expected-requires c =
+    let b = c.args.builder.now in
+    let k = c.in-Some.ensures.item in
+    let os = c.deref.result.now in
+    let o = c.in-Some.open.now in
+    last_named b.tables b.opened.items (take (length os - 1) os) o c.requires.fine (sym c.deref.ensures.value ∙ last_split os o k.3.0 (k.3.1 o))
 
 pub returns-then-not-same_qname : goal.returns-then-not-same_qname
 returns-then-not-same_qname c = record {
@@ -93,11 +104,11 @@ returns-then-not-same_qname c = record {
       let opened = c.open_name-opened.ensures in
       let closed = c.bytes_of-closed.ensures in
       let other : same_qname (open_name o) t.name ≡ false = compared _ _ _ _ _ c.same_qname.ensures opened closed ∙ c.if-not-same_qname.true in
-      let x = c.name_span-expected.ensures ∙ ap (λ (m : Name). name_span m o.name_start o.name_end) opened in
       let y = c.name_span-found.ensures ∙ ap (λ (m : Name). name_span m (pos + 2) t.name_end) closed in
       ap lifted (end_is (context_of limit es c.args.context) src s pos j t h.here c.in_ok-tag.ensures.value (let k = opened_deep end s.stack s.done b h.shows in let l = c.len.ensures in let m = c.if-len-context.false in lt-leb _ _ (omega arith))
-      ∙ closed_other b.tables s.stack outer o pos t.name_end j t.name s.done s.openings_left (sym (ap (opened_in b.tables) split) ∙ h.shows.open_rows) other)
-      ∙ sym (ap (λ (sp : Span). Err (here (fault.UnexpectedCloseTag sp c.name_span-found.result pos))) x ∙ ap (λ (sp : Span). Err (here (fault.UnexpectedCloseTag (name_span (open_name o) o.name_start o.name_end) sp pos))) y);
+      ∙ closed_other b.tables s.stack outer o pos t.name_end j t.name s.done s.openings_left c.open_span-expected.result (sym (ap (opened_in b.tables) split) ∙ h.shows.open_rows) other
+      (λ start tag before up is. c.open_span-expected.ensures end start tag before up s.done outer (subst (λ (stack : Open). Represents end stack s.done b) is h.shows) split))
+      ∙ sym (ap (λ (sp : Span). Err (here (fault.UnexpectedCloseTag c.open_span-expected.result sp pos))) y);
   goes = tt;
 }
 

@@ -1,7 +1,7 @@
-use Rattle.std.proofs.Common.{◌≡◌, length, take, sym, ◌∙◌}
+use Rattle.std.proofs.Common.{◌≡◌, length, take, sym, ◌∙◌, arith}
 use Rattle.std.proofs.lemmas.Slice.Eq.{bytes_eq-Decides}
-use Rattle.rox_build.specs.BuilderState.{name_count}
-use Rattle.rox_build.proofs.SpelledNames.{front_is_prefix}
+use Rattle.rox_build.specs.BuilderState.{name_length}
+use Rattle.rox_build.proofs.SpelledNames.{front_is_prefix, kept_bounds}
 use Rattle.rox_build.proofs.open_names.has_prefix.Goals as goal
 
 pub returns : goal.returns
@@ -11,4 +11,5 @@ returns c = λ yes.
     let prefix = c.args.prefix.now in
     let named = c.requires.named in
     let same : take (length prefix) xs ≡ prefix = (bytes_eq-Decides (take (length prefix) xs) c.as_bytes.result.now).0 (sym c.same_stretch.ensures ∙ yes) ∙ c.as_bytes.ensures.value in
-    front_is_prefix xs prefix (name_count o) named.within c.if-count-element.false c.if-element-count-ne58.false same c.requires.apart
+    let bounds = kept_bounds o.name_count xs named.within in
+    front_is_prefix xs prefix (name_length o) bounds.1 (omega arith) c.if-element-count-ne58.false same c.requires.apart

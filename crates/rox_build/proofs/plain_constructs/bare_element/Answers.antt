@@ -68,18 +68,20 @@ returns c = record {
 }
 
 pub put_open-requires : goal.put_open-requires
-put_open-requires c = record {
-  row =
-      let split = c.in-Some.ensures in
-      record {
-        ready = c.requires.room.ready;
-        parent = sym (innermost_row c.args.builder.now.tables c.args.builder.now.opened.items split.0 c.in-Some.parent split.1);
-        start = omega (arith, c.requires.room.short, c.args.cursor.now.cut.0);
-      };
-  depth = c.has_room_to_open.ensures c.if-not-has_room_to_open.false;
-  named =
-      let x = c.in-Some-bare_start_tag.ensures.read in
-      let t = c.in-Some-bare_start_tag.bare.tag in
-      let context : Values = record { main = true; entities = []; opener = λ text i openings_left. Ok ([], openings_left) } in
-      tag_is_named context fault.NoRootNode _ _ _ c.args.cursor.now.text.now c.args.cursor.now.pos t.openings_left _ _ t c.args.cursor.now.utf8 c.requires.here (x.read context fault.NoRootNode) x.tagged.name x.tagged.name_end x.starts;
-}
+put_open-requires c =
+    let x = c.in-Some-bare_start_tag.ensures.read in
+    let t = c.in-Some-bare_start_tag.bare.tag in
+    let context : Values = record { main = true; entities = []; opener = λ text i openings_left. Ok ([], openings_left) } in
+    let named = tag_is_named context fault.NoRootNode _ _ _ c.args.cursor.now.text.now c.args.cursor.now.pos t.openings_left _ _ t c.args.cursor.now.utf8 c.requires.here (x.read context fault.NoRootNode) x.tagged.name x.tagged.name_end x.starts in
+    record {
+      row =
+          let split = c.in-Some.ensures in
+          record {
+            ready = c.requires.room.ready;
+            parent = sym (innermost_row c.args.builder.now.tables c.args.builder.now.opened.items split.0 c.in-Some.parent split.1);
+            start = omega (arith, c.requires.room.short, c.args.cursor.now.cut.0);
+          };
+      depth = c.has_room_to_open.ensures c.if-not-has_room_to_open.false;
+      named = named;
+      narrow = omega (arith, c.requires.room.short, named.within, x.starts);
+    }

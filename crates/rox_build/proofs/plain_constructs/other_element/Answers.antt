@@ -33,25 +33,27 @@ plain_start_tag-requires c = record {
 }
 
 pub put_open-requires : goal.put_open-requires
-put_open-requires c = record {
-  row =
-      let b = c.args.builder.now in
-      let os = b.opened.items in
-      let o = c.index-above.result.now in
-      let split : os ≡ take (c.len-depth.result - 1) os ++ o ∷ [] = split_at os c.len-depth.result o (omega arith) (omega arith) c.index-above.ensures in
-      let ready = c.requires.room.ready in
-      record {
-        ready = record { room = ready.room; few = ready.few; small = ready.small; settled = ready.settled };
-        parent = sym (innermost_row c.plain_start_tag.new.elements os _ o split);
-        start = omega (arith, c.requires.room.short, c.requires.start.0);
-      };
-  depth = c.has_room_to_open.ensures c.if-not-has_room_to_open.false;
-  named =
-      let x = c.in-Some.ensures.read in
-      let t = c.in-Some.other.tag in
-      let context : Values = record { main = true; entities = []; opener = λ text i openings_left. Ok ([], openings_left) } in
-      tag_is_named context fault.NoRootNode _ _ _ c.args.text.now c.args.start t.openings_left _ _ t c.utf8.text c.requires.here (x.read context fault.NoRootNode) x.tagged.name x.tagged.name_end x.starts;
-}
+put_open-requires c =
+    let x = c.in-Some.ensures.read in
+    let t = c.in-Some.other.tag in
+    let context : Values = record { main = true; entities = []; opener = λ text i openings_left. Ok ([], openings_left) } in
+    let named = tag_is_named context fault.NoRootNode _ _ _ c.args.text.now c.args.start t.openings_left _ _ t c.utf8.text c.requires.here (x.read context fault.NoRootNode) x.tagged.name x.tagged.name_end x.starts in
+    record {
+      row =
+          let b = c.args.builder.now in
+          let os = b.opened.items in
+          let o = c.index-above.result.now in
+          let split : os ≡ take (c.len-depth.result - 1) os ++ o ∷ [] = split_at os c.len-depth.result o (omega arith) (omega arith) c.index-above.ensures in
+          let ready = c.requires.room.ready in
+          record {
+            ready = record { room = ready.room; few = ready.few; small = ready.small; settled = ready.settled };
+            parent = sym (innermost_row c.plain_start_tag.new.elements os _ o split);
+            start = omega (arith, c.requires.room.short, c.requires.start.0);
+          };
+      depth = c.has_room_to_open.ensures c.if-not-has_room_to_open.false;
+      named = named;
+      narrow = omega (arith, c.requires.room.short, named.within, x.starts);
+    }
 
 pub put_leaf-requires : goal.put_leaf-requires
 put_leaf-requires c = record {

@@ -2,15 +2,16 @@ use Rattle.std.proofs.Common.{ℕ, get_or, get_or-drop, slice_range, ◌≡◌, 
 use Rattle.std.specs.List.{AllByRecursion}
 use Rattle.std.proofs.lemmas.Bool.{lt-leb}
 use Rattle.std.proofs.lemmas.List.{take_rest}
-use Rattle.rox_reading.specs.Markup.{end_tag_at}
+use Rattle.rox_reading.specs.Markup.{EndTag, end_tag_at}
 use Rattle.rox_reading.specs.State.{depth_of}
 use Rattle.rox_tables.proofs.Stable.{all_take}
 use Rattle.rox_tables.specs.declared.rows.tables.ElementTables.{ElementTables}
 use Rattle.rox_build.specs.declared.builder.OpenElement.{OpenElement}
-use Rattle.rox_build.specs.BuilderState.{IsConsistent, IsOpenWithin, HasName, name_count, open_name}
+use Rattle.rox_build.specs.BuilderState.{IsConsistent, IsOpenWithin, HasName, name_length, open_name}
 use Rattle.rox_build.proofs.Showing.{last_split}
 use Rattle.rox_build.proofs.Stepping.{end_is, opened_deep, closed_stepped}
 use Rattle.rox_build.proofs.SameNames.{all_last, same_itself, end_tag_close}
+use Rattle.rox_build.proofs.SpelledNames.{kept_narrow}
 use Rattle.rox_build.proofs.plain_constructs.plain_end_tag.Goals as goal
 
 -- what stands behind so many bytes of the rest
@@ -23,7 +24,7 @@ pub after_byte-end-requires : goal.after_byte-end-requires
 after_byte-end-requires c = record {
   some = omega arith;
   ascii = omega arith;
-  here = behind_rest c.args.cursor.now.text.now c.as_bytes.result.now c.after_byte-name.result (name_count c.in-Some.open.now) c.as_bytes.ensures.value (c.closes_front.ensures.closed c.if-not-closes_front.false);
+  here = behind_rest c.args.cursor.now.text.now c.as_bytes.result.now c.after_byte-name.result c.in-Some.open.now.name_count c.as_bytes.ensures.value (c.closes_front.ensures.closed c.if-not-closes_front.false);
 }
 
 pub returns : goal.returns
@@ -40,16 +41,20 @@ returns c = record {
       let split : b.opened.items ≡ outer ++ o ∷ [] = sym c.deref.ensures.value ∙ last_split os o k.3.0 (k.3.1 o) in
       let named : HasName o = (all_last (IsOpenWithin b.tables) outer o (subst (AllByRecursion (IsOpenWithin b.tables)) split c.requires.fine.elements)).2 in
       let start : c.after_byte-name.result ≡ pos + 2 = omega (arith, c.after_byte-slash.ensures.place, c.after_byte-name.ensures.place) in
-      let closes : slice_index src (c.after_byte-name.result + name_count o) ≡ 62 =
-      behind_rest src c.as_bytes.result.now c.after_byte-name.result (name_count o) c.as_bytes.ensures.value (c.closes_front.ensures.closed c.if-not-closes_front.false) in
+      let there = c.closes_front.ensures.there c.if-not-closes_front.false in
+      let n = o.name_count in
+      let all : name_length o ≡ n = kept_narrow n o.source.now (omega (arith, there, c.requires.short, ap length c.as_bytes.ensures.value)) in
+      let closes : slice_index src (c.after_byte-name.result + n) ≡ 62 =
+      behind_rest src c.as_bytes.result.now c.after_byte-name.result n c.as_bytes.ensures.value (c.closes_front.ensures.closed c.if-not-closes_front.false) in
       let j = c.after_byte-end.result in
-      let same : take (name_count o) o.source.now ≡ take (name_count o) (drop (pos + 2) src) =
-      rw (← start) (c.closes_front.ensures.same c.if-not-closes_front.false ∙ ap (take (name_count o)) (take_rest c.as_bytes.result.now c.after_byte-name.result ∙ ap (drop c.after_byte-name.result) c.as_bytes.ensures.value)) in
-      let tag : end_tag_at src pos ≡ Ok (record { name = open_name o; name_end = pos + 2 + name_count o }, j) =
-      end_tag_close src pos j o named cursor.utf8 same (rw (← start) closes) (rw (← start) c.after_byte-end.ensures.place) in
+      let same : take n o.source.now ≡ take n (drop (pos + 2) src) =
+      rw (← start) (c.closes_front.ensures.same c.if-not-closes_front.false ∙ ap (take n) (take_rest c.as_bytes.result.now c.after_byte-name.result ∙ ap (drop c.after_byte-name.result) c.as_bytes.ensures.value)) in
+      let tag : end_tag_at src pos ≡ Ok (record { name = open_name o; name_end = pos + 2 + n }, j) =
+      end_tag_close src pos j o named cursor.utf8 (rw all same) (rw (all, ← start) closes) (rw (all, ← start) c.after_byte-end.ensures.place)
+      ∙ ap (λ (m : ℕ). let t : EndTag = record { name = open_name o; name_end = pos + 2 + m } in Ok (t, j)) all in
       let within : leb (depth_of s.stack) context.open_around ≡ false = (let d = opened_deep end s.stack s.done b h.shows in let l = c.len.ensures in let m = c.if-len-open_around.false in lt-leb _ _ (omega arith)) in
       rw (end_is context src s pos j _ h.here tag within)
-      (closed_stepped context.limit end s cursor _ b c.put_close.new.self outer o pos (pos + 2 + name_count o) (open_name o) h split (same_itself (open_name o)) c.put_close.ensures.closes.kept.tables c.put_close.ensures.closes.kept.limit c.put_close.ensures.closes.kept.openings_left c.put_close.ensures.closes.ok);
+      (closed_stepped context.limit end s cursor _ b c.put_close.new.self outer o pos (pos + 2 + n) (open_name o) h split (same_itself (open_name o)) c.put_close.ensures.closes.kept.tables c.put_close.ensures.closes.kept.limit c.put_close.ensures.closes.kept.openings_left c.put_close.ensures.closes.ok);
   other = λ no. absurd (cc no);
   ready = λ _. c.put_close.ensures.ready;
   moves = λ _. omega (arith, c.after_byte-slash.ensures.place, c.after_byte-name.ensures.place, c.after_byte-end.ensures.place);

@@ -62,6 +62,8 @@ put_open-requires c =
     let ready = c.rows_left.ensures 1 (omega arith) (omega arith) in
     let room = not_err c.reserve_exact.result (sym c.is_err.ensures.value ∙ c.if-is_err.false) c.reserve_exact.ensures.ok in
     let read = plain.read any_values fault.NoRootNode in
+    let named = tag_is_named any_values fault.NoRootNode _ _ _ src pos t.openings_left _ _ t c.args.cursor.now.utf8 c.requires.here read
+    plain.tagged.name plain.tagged.name_end plain.starts in
     record {
       row = record {
         ready = record { room = ready.room; few = ready.few; small = ready.small; settled = ready.settled };
@@ -69,8 +71,8 @@ put_open-requires c =
         start = omega (arith, x.short, c.requires.there);
       };
       depth = omega (arith, room);
-      named = tag_is_named any_values fault.NoRootNode _ _ _ src pos t.openings_left _ _ t c.args.cursor.now.utf8 c.requires.here read
-          plain.tagged.name plain.tagged.name_end plain.starts;
+      named = named;
+      narrow = omega (arith, x.short, named.within, plain.starts);
     }
 
 pub returns-then-read : goal.returns-then-read

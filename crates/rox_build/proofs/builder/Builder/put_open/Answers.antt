@@ -1,17 +1,18 @@
-use Rattle.std.proofs.Common.{List, ℕ, not, take, ◌≡◌, ◌++◌, ◌∷◌, [], ◌+◌, refl, ap, ◌∙◌, arith, length, rules}
+use Rattle.std.proofs.Common.{not, ◌≡◌, ◌++◌, ◌∷◌, [], ◌-◌, refl, ap, ◌∙◌, arith, length, rules}
 use Rattle.std.proofs.lemmas.Grind.{common_steps}
 use Rattle.rox_grammar.specs.Failures.{name_view}
 use Rattle.rox_grammar.specs.Forest.{Nil}
 use Rattle.rox_grammar.specs.Tree.{listed}
 use Rattle.rox_grammar.specs.State.{inside, scope_of}
 use Rattle.rox_reading.specs.State.{State}
-use Rattle.rox_build.specs.BuilderState.{IsOpening, name_count, open_name, opened}
+use Rattle.rox_build.specs.BuilderState.{IsOpening, open_name, opened, tag_row}
 use Rattle.rox_tables.specs.TagScopes.{lists_in}
 use Rattle.rox_build.specs.declared.builder.OpenElement.{OpenElement}
 use Rattle.rox_build.specs.SpelledNames.{spelled_name}
 use Rattle.rox_tables.specs.declared.rows.tables.NodeKind.{NodeKind}
 use Rattle.rox_tables.specs.declared.rows.tables.NodeKind.TheVariants as kind
 use Rattle.rox_tables.specs.declared.rows.tables.NodeData.{NodeData}
+use Rattle.rox_build.proofs.SpelledNames.{narrow_kept, tag_shown}
 use Rattle.rox_build.proofs.Showing.{row_open, open_shows, open_count, settled_count, counted_ok}
 use Rattle.rox_tables.specs.Rows.{node_rows}
 use Rattle.rox_tables.proofs.StoredNodes.{count_nodes}
@@ -39,11 +40,12 @@ returns c = record {
         let old = count_nodes c.args.self.now.nodes in
         let same = ap (λ v. v.rows.len) c.settle.ensures.nodes in
         let k : NodeKind = kind.Element tag.element in
-        let x : OpenElement = record { row = c.len-row.result; scope = tag.element.scope; namespace = tag.element.namespace; prefixed = not c.is_empty.result; name_start = tag.name_start; name_end = tag.name_end; source = c.from_place-source.result } in
-        let spelled : open_name x ≡ name_view tag.name = ap (λ (bs : List ℕ). spelled_name (take (name_count x) bs)) c.from_place-source.ensures ∙ c.requires.named.spells in
+        let x : OpenElement = record { row = c.len-row.result; scope = tag.element.scope; namespace = tag.element.namespace; prefixed = not c.is_empty.result; name_count = tag.name_end - tag.name_start; source = c.from_place-source.result } in
+        let kept = narrow_kept c.args.text.now tag c.from_place-source.result.now c.requires.named c.requires.narrow c.from_place-source.ensures in
+        let spelled : open_name x ≡ name_view tag.name = ap spelled_name kept.bytes ∙ c.requires.named.spells in
         let place : c.len-row.result ≡ length (node_rows f.nodes) = omega (arith, c.len-row.ensures.nodes) in
-        let view : opened (lists_in f.tables) x ≡ record { row = x.row; name = t.name; name_start = s.at + 1; name_end = t.name_end; scope = listed (scope_of s.stack) t.declarations } =
-        rw (spelled, op.name, op.name_start, op.name_end, op.scope) refl in
+        let view : opened (lists_in f.tables) x ≡ tag_row x.row s.at t (listed (scope_of s.stack) t.declarations) =
+        tag_shown f.tables (scope_of s.stack) s.at tag t c.args.text.now x op c.requires.named kept (omega arith) refl in
         let rows : node_rows c.put.new.self ≡ (node_rows f.nodes) ++ row_open f.tables 0 f.opened.items s.at k ∷ [] =
         rw here (c.put.ensures.rows ∙ ap (λ (r : NodeData). (node_rows f.nodes) ++ record r { subtree_end = 0 } ∷ []) c.row_below-opening.ensures) in (
           next,
@@ -53,11 +55,12 @@ returns c = record {
     kept = record { tables = c.settle.ensures.kept.tables; limit = c.settle.ensures.kept.limit; openings_left = c.settle.ensures.kept.openings_left };
     opened =
         let tag = c.args.tag.now in
-        let x : OpenElement = record { row = c.len-row.result; scope = tag.element.scope; namespace = tag.element.namespace; prefixed = not c.is_empty.result; name_start = tag.name_start; name_end = tag.name_end; source = c.from_place-source.result } in
-        let spelled : open_name x ≡ name_view tag.name = ap (λ (bs : List ℕ). spelled_name (take (name_count x) bs)) c.from_place-source.ensures ∙ c.requires.named.spells in (
+        let x : OpenElement = record { row = c.len-row.result; scope = tag.element.scope; namespace = tag.element.namespace; prefixed = not c.is_empty.result; name_count = tag.name_end - tag.name_start; source = c.from_place-source.result } in
+        let kept = narrow_kept c.args.text.now tag c.from_place-source.result.now c.requires.named c.requires.narrow c.from_place-source.ensures in
+        let spelled : open_name x ≡ name_view tag.name = ap spelled_name kept.bytes ∙ c.requires.named.spells in (
           x,
           c.push_reserved.ensures.items ∙ ap (λ v. v.items ++ x ∷ []) c.settle.ensures.kept.opened,
-          record { name = spelled; prefixed = ap not c.is_empty.ensures; name_start = refl; name_end = refl; scope = refl; namespace = refl; source = c.from_place-source.ensures },
+          record { name = spelled; prefixed = ap not c.is_empty.ensures; kept = kept; scope = refl; namespace = refl },
         );
   };
   ready = first_of (search rules, grind (arith, common_steps));
