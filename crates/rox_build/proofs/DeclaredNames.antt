@@ -5,15 +5,16 @@ use Rattle.std.specs.Str.{IsUtf8, IsCharBoundary}
 use Rattle.std.proofs.lemmas.List.{get_or-drop, get_or-take}
 use Rattle.rox_grammar.specs.Chars.{is_name_char, is_name_start, is_part_char}
 use Rattle.rox_grammar.specs.FixedTexts.{word_text}
-use Rattle.rox_grammar.specs.Runs.{begins, run_end}
+use Rattle.rox_grammar.specs.Runs.{begins}
 use Rattle.rox_grammar.specs.Written.{Name, is_namespace_decl}
 use Rattle.rox_grammar.specs.declared.fault.Word.TheVariants.{Xmlns}
 use Rattle.rox_reading.specs.Lexical.{qname_at}
-use Rattle.rox_scan.specs.ByteSets.{AllPass, is_part_byte}
-use Rattle.rox_scan.proofs.NearLemmas.{part_begins, part_cut, part_stops}
-use Rattle.rox_build.specs.PlainParts.{EndsFirstPart, IsPrefixedName}
+use Rattle.rox_bytes.specs.ByteSets.{AllPass, is_part_byte}
+use Rattle.rox_bytes.proofs.NearLemmas.{part_begins, part_cut, part_stops}
+use Rattle.rox_tags.specs.PlainParts.{EndsFirstPart, IsPrefixedName}
 use Rattle.rox_build.specs.RootTag.{IsDeclaredName, HasXmlns}
-use Rattle.rox_build.specs.declared.plain_tag.PlainName.{PlainName}
+use Rattle.rox_tags.specs.declared.quick_name.PlainName.{PlainName}
+use Rattle.rox_scan.proofs.PairLemmas.{name_is}
 
 -- the bytes of `xmlns`
 byte_of : (src : List ℕ) (i k : ℕ) → HasXmlns src i → k < 5 → slice_index src (i + k) ≡ get_or (word_text Xmlns) k 0
@@ -76,11 +77,6 @@ pub declares_prefix : (src : List ℕ) (i : ℕ) (r : Option PlainName) → HasX
 declares_prefix src i None h read = tt
 declares_prefix src i (Some n) h read = record { named = read.named; is = (let at = read.prefix ∙ h.here in rw at refl) }
 
-one_part : (src : List ℕ) (i k : ℕ) → begins is_name_start src i ≡ true → k ≡ run_end is_part_char src i → slice_index src k ≡ 61
-    → qname_at src i ≡ Ok (record { prefix = []; local = slice_range src i k }, k)
-unfolding qname_at
-one_part src i k some end is = rw (← end, is, some) refl
-
 one_name : (src : List ℕ) (i j k : ℕ) (m n : Name) → qname_at src i ≡ Ok (m, j) → qname_at src i ≡ Ok (n, k) → m ≡ n
 one_name src i j k m n one other =
     let same : (let pair : Name × ℕ = (m, j) in pair) ≡ (n, k) = cc in
@@ -90,6 +86,6 @@ one_name src i j k m n one other =
 pub declares_whole : (src : List ℕ) (i e : ℕ) (n : Name) → HasXmlns src i → EndsFirstPart src i (i + 5) 61 → qname_at src i ≡ Ok (n, e)
     → is_namespace_decl n ≡ true
 declares_whole src i e n h part read =
-    let whole = one_part src i (i + 5) part.first.begins part.first.part.place part.here in
+    let whole = name_is src i (i + 5) part.first.begins part.first.part.place part.here in
     let is : n ≡ record { prefix = []; local = slice_range src i (i + 5) } = one_name src i e (i + 5) n _ read whole in
     rw (is, h.here) refl

@@ -28,17 +28,11 @@ use Rattle.rox_values.specs.Refusals.{IsRefusal, of_failure}
 use Rattle.rox_build.specs.WholeTexts.{start_state, beginning, root_read}
 use Rattle.rox_values.specs.declared.parse_error.ParseError.{ParseError}
 use Rattle.rox_values.specs.declared.parse_error.ParseError.TheVariants as code
-use Rattle.rox_build.proofs.Lifting.{lifted_err}
+use Rattle.rox_values.proofs.Lifting.{lifted_err}
+use Rattle.rox_theory.proofs.Basics.{bind_ok}
+use Rattle.rox_theory.proofs.FailedReadings.{bind_err}
 
 -- ---- one after the other
-
-bind_ok : {A B E P : Type 0} (r : Result A E) (f : A → Result B E) (y : B) → (r >>= f) ≡ Ok y → ((x : A) → r ≡ Ok x → f x ≡ Ok y → P) → P
-bind_ok (Ok x) f y h go = go x refl h
-bind_ok (Err e) f y h go = cc h
-
-bind_err : {A B E P : Type 0} (r : Result A E) (f : A → Result B E) (e : E) → (r >>= f) ≡ Err e → (r ≡ Err e → P) → ((x : A) → r ≡ Ok x → f x ≡ Err e → P) → P
-bind_err (Ok x) f e h first second = second x refl h
-bind_err (Err g) f e h first second = let k : g ≡ e = cc in first (ap Err k)
 
 refuses_first : {A B : Type 0} (r : Result A Refusal) (f : A → Result B Refusal) (e : ParseError) → IsRefusal e r → IsRefusal e (r >>= f)
 refuses_first r f code.Memory h = tt

@@ -1,8 +1,7 @@
 -- Items of the internal subset: one turn of the code is one of the reading.
-use Rattle.std.proofs.Common.{◌≡◌, ℕ, suc, ◌+◌, ◌<◌, ◌≤◌, ◌==◌, Bool, true, false, cond, List, [], ◌∷◌, ◌++◌, length, ltb, leb, eqb, refl, ap, ◌∙◌, subst, Result, Ok, Err, arith, inl, inr}
+use Rattle.std.proofs.Common.{◌≡◌, ℕ, suc, ◌+◌, ◌<◌, ◌≤◌, ◌==◌, Bool, true, false, List, [], ◌∷◌, ◌++◌, length, ltb, leb, eqb, refl, ap, ◌∙◌, subst, Result, Ok, Err}
 use Rattle.std.specs.Prelude.{slice_index}
-use Rattle.std.proofs.lemmas.Bool.{ltb-true, ltb-false, leb-true, leb-false, eqb-true, cases_lt}
-use Rattle.std.proofs.lemmas.List.{get_or_past}
+use Rattle.std.proofs.lemmas.Bool.{ltb-true, ltb-false, leb-true, leb-false, eqb-true}
 use Rattle.rox_grammar.specs.declared.fault.Fault.{Fault}
 use Rattle.rox_grammar.specs.declared.fault.Fault.TheVariants as fault
 use Rattle.rox_grammar.specs.declared.fault.Word.{Word}
@@ -14,10 +13,10 @@ use Rattle.rox_grammar.specs.Doctype.{Request, Asked}
 use Rattle.rox_reading.specs.Refusals.{here, lifted}
 use Rattle.rox_reading.specs.State.{State}
 use Rattle.rox_reading.specs.Machine.{at_place, comment_step, instruction_step}
-use Rattle.rox_reading.specs.Doctype.{Reply, Asks, Dtd, replies_of, AreTextReplies, with_state, entity_step, subset, doctype_head_at}
+use Rattle.rox_reading.specs.Doctype.{Reply, Asks, Dtd, with_state, entity_step, subset, doctype_head_at}
 use Rattle.rox_reading.specs.Answering.{left_with, Stops, Continues}
 use Rattle.rox_reading.proofs.Answering as turn
-use Rattle.rox_reading.proofs.Answering.{spaced}
+use Rattle.rox_reading.proofs.Answering.{spaced, texts_both}
 use Rattle.rox_reading.proofs.Settling.{step_run, subset_run, doctype_subset, doctype_subset_stops}
 use Rattle.rox_build.specs.Requests.{AreAllowed}
 use Rattle.rox_scan.specs.declared.cursor.Cursor.{Cursor}
@@ -27,22 +26,19 @@ use Rattle.rox_scan.specs.DoctypeViews.{is_skipped_declaration, skipped_declarat
 use Rattle.rox_build.specs.Asking.{AreGiven, AskOutcome, IsEntityRead, IsDoctypeRead, IsSubsetSoFar, ItemOutcome}
 use Rattle.rox_values.specs.DeclaredEntities.{AreDeclared}
 use Rattle.rox_values.specs.Refusals.{of_failure}
-use Rattle.rox_build.specs.BuilderState.{IsInState, ScansTo}
-use Rattle.rox_build.specs.declared.builder.Builder.{Builder}
+use Rattle.rox_builder.specs.BuilderState.{IsInState, ScansTo}
+use Rattle.rox_builder.specs.declared.builder.Builder.{Builder}
 use Rattle.rox_values.specs.declared.entities.Entities.{Entities}
 use Rattle.rox_values.specs.declared.parse_error.ParseError.{ParseError}
 use Rattle.rox_build.proofs.Asking.{none_given, stops_by}
-use Rattle.rox_build.proofs.Lifting.{lifted_ok, lifted_err}
+use Rattle.rox_values.proofs.Lifting.{lifted_ok, lifted_err}
+use Rattle.rox_theory.proofs.Basics.{chosen}
 
 -- ---- answers of two parts
 
 allowed_both : (allows : Request → Reply → Type 0) (a b : List Asked) → AreAllowed allows a → AreAllowed allows b → AreAllowed allows (a ++ b)
 allowed_both allows [] b h k = k
 allowed_both allows (x ∷ a) b h k = (h.0, allowed_both allows a b h.1 k)
-
-texts_both : (a b : List Asked) → AreTextReplies (replies_of a) → AreTextReplies (replies_of b) → AreTextReplies (replies_of (a ++ b))
-texts_both [] b h k = k
-texts_both (x ∷ a) b h k = (h.0, texts_both a b h.1 k)
 
 given_both : (allows : Request → Reply → Type 0) (a b : List Asked) → AreGiven allows a → AreGiven allows b → AreGiven allows (a ++ b)
 given_both allows a b h k = record { allowed = allowed_both allows a b h.allowed k.allowed; texts = texts_both a b h.texts k.texts }
@@ -53,11 +49,6 @@ pub sees_at : (limit end : ℕ) (s : State) (c e : Cursor) (b : Builder) (j : �
 sees_at limit end s c e b j h is = record { here = is; limit_is = h.limit_is; shows = h.shows; namespaces = h.namespaces; attributes = h.attributes; openings_left_is = h.openings_left_is }
 
 -- ---- what has no value of its own
-
--- a choice is what was chosen
-by_test : {X P : Type 0} (b : Bool) (x y z : X) → cond b x y ≡ z → (b ≡ true → x ≡ z → P) → (b ≡ false → y ≡ z → P) → P
-by_test true x y z h holds fails = holds refl h
-by_test false x y z h holds fails = fails refl h
 
 same_place : (x y : Unit {0} × ℕ) → ◌≡◌ {A = Result (Unit {0} × ℕ) Fault} (Ok x) (Ok y) → y.1 ≡ x.1
 same_place x y h = let e : y ≡ x = cc in ap (λ p. p.1) e
@@ -171,7 +162,7 @@ module _ (limit end i n m : ℕ) (src : List ℕ) (allows : Request → Reply �
         passed_turn e is h =
             let stop = byte_from (λ k. k == 62) src s.at in
             let k : skipped_declaration_at i src s.at ≡ Ok (tt, e.pos) = rw (same, place) at h in
-            by_test (ltb stop (length src)) _ _ _ k
+            chosen (ltb stop (length src)) _ _ _ k
             (λ closes r. goes_on (at_place (stop + 1) d.state) e b
             (turn.turn_passed run going.asked limit i n m src d going.continues one inside (found word.EntityStart false no_entity) (found word.CommentStart false no_comment)
             (found word.PIStart false no_instruction) (skipped true is) (ltb-true _ _ closes))
@@ -182,7 +173,7 @@ module _ (limit end i n m : ℕ) (src : List ℕ) (allows : Request → Reply �
         passed_stops f is h =
             let stop = byte_from (λ k. k == 62) src s.at in
             let k : skipped_declaration_at i src s.at ≡ Err f = rw (same, place) at h in
-            by_test (ltb stop (length src)) _ _ _ k (λ closes r. cc)
+            chosen (ltb stop (length src)) _ _ _ k (λ closes r. cc)
             (λ out r. rw (same_fault _ _ r)
             (turn.passed_stops run going.asked limit i n m src d going.continues one inside (found word.EntityStart false no_entity) (found word.CommentStart false no_comment)
             (found word.PIStart false no_instruction) (skipped true is) (ltb-false _ _ out)))
@@ -203,8 +194,8 @@ module _ (limit end i n m : ℕ) (src : List ℕ) (allows : Request → Reply �
             end_turn e h =
                 let stop = spaces_end src (s.at + 1) in
                 let k : subset_end_at src s.at ≡ Ok (tt, e.pos) = rw (same, place) at h in
-                by_test (leb (length src) stop) _ _ _ k (λ cut r. cc)
-                (λ more k. by_test (eqb (slice_index src stop) 62) _ _ _ k
+                chosen (leb (length src) stop) _ _ _ k (λ cut r. cc)
+                (λ more k. chosen (eqb (slice_index src stop) 62) _ _ _ k
                 (λ closes r. record {
                   dtd = with_state d (at_place (stop + 1) d.state);
                   answered = turn.turn_end run going.asked limit i n m src d going.continues one inside (found word.EntityStart false no_entity) (found word.CommentStart false no_comment)
@@ -218,11 +209,11 @@ module _ (limit end i n m : ℕ) (src : List ℕ) (allows : Request → Reply �
             end_stops f h =
                 let stop = spaces_end src (s.at + 1) in
                 let k : subset_end_at src s.at ≡ Err f = rw (same, place) at h in
-                by_test (leb (length src) stop) _ _ _ k
+                chosen (leb (length src) stop) _ _ _ k
                 (λ cut r. rw (same_fault _ _ r)
                 (turn.end_cut_stops run going.asked limit i n m src d going.continues one inside (found word.EntityStart false no_entity) (found word.CommentStart false no_comment)
                 (found word.PIStart false no_instruction) (skipped false no_skipped) bracket (leb-true _ _ cut)))
-                (λ more k. by_test (eqb (slice_index src stop) 62) _ _ _ k (λ closes r. cc)
+                (λ more k. chosen (eqb (slice_index src stop) 62) _ _ _ k (λ closes r. cc)
                 (λ other r. rw (same_fault _ _ r)
                 (turn.end_stops run going.asked limit i n m src d going.continues one inside (found word.EntityStart false no_entity) (found word.CommentStart false no_comment)
                 (found word.PIStart false no_instruction) (skipped false no_skipped) bracket (leb-false _ _ more) other)))
@@ -249,13 +240,6 @@ module _ (limit end i n : ℕ) (src : List ℕ) (allows : Request → Reply → 
   -- there may be no more
   pub turns_end : n ≡ 0 → IsDoctypeRead limit end run c b es going.asked
   turns_end none = record { dtd = going.dtd; answered = turn.turn_spent run going.asked limit i n src going.dtd going.continues none; sees = going.sees; declared = going.declared }
-
--- ---- the declaration around its subset
-
--- a byte but 0 stands in the text
-pub stands_within : (src : List ℕ) (p b : ℕ) → slice_index src p ≡ b → 0 < b → p < length src
-stands_within src p b is some =
-    elim (cases_lt p (length src)) as (λ x. p < length src) [ inl l ↦ l | inr l ↦ let out : slice_index src p ≡ 0 = get_or_past src p 0 l in absurd (omega arith) ]
 
 -- with a subset, whose `[` stands at p
 pub with_subset : (limit end : ℕ) (src : List ℕ) (allows : Request → Reply → Type 0) (x : Dtd) (p : ℕ) (c : Cursor) (b : Builder) (es : Entities) (r : Result (Unit {0}) ParseError)

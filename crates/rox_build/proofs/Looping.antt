@@ -17,10 +17,10 @@ use Rattle.rox_grammar.specs.declared.failure.Failure.TheVariants as failure
 use Rattle.rox_values.specs.Refusals.{IsFailure, IsRefusal}
 use Rattle.rox_values.specs.declared.parse_error.ParseError.{ParseError}
 use Rattle.rox_values.proofs.PartLemmas.{refuses_by}
-use Rattle.rox_build.specs.BuilderState.{IsInState, ScansTo, ParsesTo}
-use Rattle.rox_build.proofs.Moving.{step_moves}
-use Rattle.rox_build.proofs.Lifting.{lifted_ok, lifted_err}
-use Rattle.rox_build.specs.declared.builder.Builder.{Builder}
+use Rattle.rox_builder.specs.BuilderState.{IsInState, ScansTo, ParsesTo}
+use Rattle.rox_tags.proofs.Moving.{step_moves}
+use Rattle.rox_values.proofs.Lifting.{lifted_ok, lifted_err}
+use Rattle.rox_builder.specs.declared.builder.Builder.{Builder}
 
 -- ---- content
 

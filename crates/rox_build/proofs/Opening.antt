@@ -21,23 +21,27 @@ use Rattle.rox_values.specs.declared.parse_error.ParseError.{ParseError}
 use Rattle.rox_values.proofs.PartLemmas.{refuses_by}
 use Rattle.rox_scan.specs.declared.cursor.Cursor.{Cursor}
 use Rattle.rox_grammar.specs.declared.failure.Failure.{Failure}
-use Rattle.rox_tables.specs.Rows.{node, numbered_place, namespace_view, attribute, scope_at, NamespaceWithin, AttributeRow, attribute_rows}
-use Rattle.rox_tables.specs.Scopes.{PrefixesOnce}
-use Rattle.rox_tables.specs.TagScopes.{lists_in}
-use Rattle.rox_build.specs.ElementRow.{Tagged}
-use Rattle.rox_build.specs.PlainTag.{HoldSame}
-use Rattle.rox_build.specs.BuilderState.{names_in, IsRowWithin, AreSound, IsOpenWithin, HasName, IsNamespaceOf, IsOpened, IsConsistent, Grown, IsNode, IsOpening, Adds, ScansTo, open_name}
+use Rattle.rox_rows.specs.Rows.{node, numbered_place, attribute, scope_at, NamespaceWithin, AttributeRow, attribute_rows}
+use Rattle.rox_scopes.specs.Tables.{namespace_view}
+use Rattle.rox_scopes.specs.Scopes.{PrefixesOnce}
+use Rattle.rox_scopes.specs.TagScopes.{lists_in}
+use Rattle.rox_tags.specs.ElementRow.{Tagged}
+use Rattle.rox_tags.specs.PlainTag.{HoldSame}
+use Rattle.rox_builder.specs.BuilderState.{names_in, IsRowWithin, AreSound, IsConsistent, Grown, IsNode, IsOpening, Adds, ScansTo}
+use Rattle.rox_names.specs.OpenElements.{IsOpenWithin, HasName, IsNamespaceOf, IsOpened, open_name}
 use Rattle.std.specs.Result.{OnOk}
-use Rattle.rox_tables.specs.declared.rows.tables.NodeKind.TheVariants as kind
-use Rattle.rox_tables.specs.declared.rows.tables.ElementTables.{ElementTables}
-use Rattle.rox_build.specs.declared.builder.OpenElement.{OpenElement}
-use Rattle.rox_build.specs.declared.builder.Builder.{Builder}
-use Rattle.rox_build.specs.declared.tag.StartTag.{StartTag}
-use Rattle.rox_tables.proofs.Stable.{all_append, all_weaker, namespace_more}
-use Rattle.rox_tables.proofs.Listing.{with_new-front, with_new-append}
+use Rattle.rox_rows.specs.declared.row.NodeKind.TheVariants as kind
+use Rattle.rox_scopes.specs.declared.tables.ElementTables.{ElementTables}
+use Rattle.rox_names.specs.declared.open_element.OpenElement.{OpenElement}
+use Rattle.rox_builder.specs.declared.builder.Builder.{Builder}
+use Rattle.rox_names.specs.declared.start_tag.StartTag.{StartTag}
+use Rattle.rox_rows.proofs.Stable.{all_append, all_weaker, namespace_more}
+use Rattle.rox_scopes.proofs.Listing.{with_new-front, with_new-append}
 use Rattle.rox_reading.proofs.Stretches.{slice-rest}
-use Rattle.rox_build.proofs.Growing.{grown_counts, grown_elements, grown_empty}
-use Rattle.rox_build.proofs.Stepping.{pairs_more, attributes_more, adds_stepped}
+use Rattle.rox_builder.proofs.Growing.{grown_counts, grown_elements, grown_empty}
+use Rattle.rox_builder.proofs.Stepping.{adds_stepped}
+use Rattle.rox_theory.proofs.Standing.{pairs-item}
+use Rattle.rox_theory.proofs.Standing.{attributes-item}
 
 pub grown_by : (old new : ElementTables) (t : StartTag) (above : List NamespaceDecl) (tag : Tag) → Tagged old new t above tag → Grown old new
 grown_by old new t above tag h =
@@ -183,8 +187,8 @@ empty_stepped limit end openings_left s d old new m u r t above tag h namespaces
     let i : Item = Element s.at d.pos tag in
     let next : State = record { at = d.pos; done = join s.done (leaf i); stack = s.stack; openings_left = openings_left } in
     let a : Adds end r u (counted limit next) = subst (λ (n : ℕ). Adds end r u (counted n next)) limit_is adds in
-    let p : pairs_so_far s.stack (join s.done (leaf i)) ≡ pairs_so_far s.stack s.done ++ listable tag = pairs_more s.stack s.done i Nil ∙ ap (λ xs. pairs_so_far s.stack s.done ++ xs) (nil_right (listable tag)) in
-    let n = attributes_more s.stack s.done i Nil in
+    let p : pairs_so_far s.stack (join s.done (leaf i)) ≡ pairs_so_far s.stack s.done ++ listable tag = pairs-item s.stack s.done i Nil ∙ ap (λ xs. pairs_so_far s.stack s.done ++ xs) (nil_right (listable tag)) in
+    let n = attributes-item s.stack s.done i Nil in
     let m = attributes_by old new t above tag h in
     let q : attributes_so_far s.stack (join s.done (leaf i)) ≡ length (attribute_rows new.attributes) = omega arith in
     adds_stepped limit end next d u r a refl (same ∙ limit_is) (ap names_in tables ∙ names_by old new t above tag (pairs_so_far s.stack s.done) h namespaces ∙ sym (ap distinct_pairs p)) (ap (λ (t : ElementTables). length (attribute_rows t.attributes)) tables ∙ sym q) openings_left_is

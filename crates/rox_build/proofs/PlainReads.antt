@@ -1,33 +1,13 @@
 -- What a look answers that reads nothing.
-use Rattle.std.proofs.Common.{◌≡◌, ℕ, false, List, Result, refl}
+use Rattle.std.proofs.Common.{◌≡◌, false, refl}
 use Rattle.rox_reading.specs.Machine as machine
-use Rattle.rox_reading.specs.Refusals.{Refusal}
-use Rattle.rox_reading.specs.State.{State}
 use Rattle.rox_scan.specs.declared.cursor.Cursor.{Cursor}
-use Rattle.rox_build.specs.BuilderState.{IsConsistent, KeepsState}
-use Rattle.rox_build.specs.PlainOutcomes.{ReadsIf, ReadsRun, ReadsStep}
-use Rattle.rox_build.specs.declared.builder.Builder.{Builder}
+use Rattle.rox_builder.specs.BuilderState.{IsConsistent, KeepsState}
+use Rattle.rox_build.specs.PlainOutcomes.{ReadsStep}
+use Rattle.rox_builder.specs.declared.builder.Builder.{Builder}
 
 pub keeps_all : (b : Builder) → KeepsState b b
 keeps_all b = record { nodes = refl; opened = refl; pending = refl; joined = refl; limit = refl; openings_left = refl; others = refl; attributes = refl }
-
-pub reads_not : (leaves : ℕ → Builder → Type 0) (such : machine.Context → Type 0) (read : machine.Context → List ℕ → State → Result State Refusal) (c : Cursor) (b : Builder) → IsConsistent b.tables b.opened.items → ReadsIf leaves such read c c b b false
-reads_not leaves such read c b fine = record {
-  value = λ yes. absurd (cc yes);
-  other = λ _. (refl, refl);
-  ready = λ yes. absurd (cc yes);
-  moves = λ yes. absurd (cc yes);
-  goes = record { source = refl; fine = fine };
-}
-
-pub runs_not : (c : Cursor) (b : Builder) → IsConsistent b.tables b.opened.items → ReadsRun c c b b false
-runs_not c b fine = record {
-  reads = reads_not _ _ _ c b fine;
-  tables = refl;
-  opened = refl;
-  rows = λ yes. absurd (cc yes);
-  behind = λ yes. absurd (cc yes);
-}
 
 pub steps_not : (such : machine.Context → Type 0) (c : Cursor) (b u : Builder) → KeepsState b u → IsConsistent u.tables u.opened.items → ReadsStep such c c b u false
 steps_not such c b u kept fine = record {

@@ -6,15 +6,16 @@ use Rattle.std.proofs.lemmas.List.{append-nil, length-map}
 use Rattle.rox_grammar.specs.State.{Open, inside, root, scope_of}
 use Rattle.rox_reading.specs.State.{State}
 use Rattle.rox_scan.specs.declared.cursor.Cursor.{Cursor}
-use Rattle.rox_tables.specs.Rows.{AttributeRow, NamespaceWithin, attribute_rows, namespace_view, scope_at}
-use Rattle.rox_tables.specs.Scopes.{PrefixesOnce}
-use Rattle.rox_tables.specs.declared.rows.tables.ElementTables.{ElementTables}
-use Rattle.rox_build.specs.BuilderState.{Grown, IsConsistent, IsInState, last_row, open_lines, opened_in}
-use Rattle.rox_build.specs.Readiness.{MayReadBelow}
+use Rattle.rox_rows.specs.Rows.{AttributeRow, NamespaceWithin, attribute_rows, scope_at}
+use Rattle.rox_scopes.specs.Tables.{namespace_view}
+use Rattle.rox_scopes.specs.Scopes.{PrefixesOnce}
+use Rattle.rox_scopes.specs.declared.tables.ElementTables.{ElementTables}
+use Rattle.rox_builder.specs.BuilderState.{Grown, IsConsistent, IsInState, last_row, open_lines, opened_in}
+use Rattle.rox_tags.specs.TagReadiness.{MayReadBelow}
 use Rattle.rox_build.specs.RootTag.{HoldAlike}
-use Rattle.rox_build.specs.declared.builder.Builder.{Builder}
-use Rattle.rox_build.specs.declared.builder.OpenElement.{OpenElement}
-use Rattle.rox_build.proofs.Growing.{grown_shows}
+use Rattle.rox_builder.specs.declared.builder.Builder.{Builder}
+use Rattle.rox_names.specs.declared.open_element.OpenElement.{OpenElement}
+use Rattle.rox_builder.proofs.Growing.{grown_shows}
 
 -- ---- no element is open
 

@@ -1,5 +1,5 @@
 -- Start tags of root elements that are read at one look.
-use Rattle.std.proofs.Common.{◌≡◌, ℕ, zero, suc, ◌+◌, ◌-◌, ◌<◌, ◌≤◌, ◌||◌, ◌&&◌, ◌==◌, not, Bool, true, false, if◌then◌else◌, List, [], ◌∷◌, ◌++◌, Option, Some, None, Result, length, map, drop, get_or, slice_index, slice_range, refl, sym, ap, subst, ◌∙◌, arith, Ok, Err, append_assoc, bytes_eq, nat_lt, length-append}
+use Rattle.std.proofs.Common.{◌≡◌, ℕ, zero, suc, ◌+◌, ◌-◌, ◌<◌, ◌≤◌, ◌||◌, ◌==◌, not, Bool, true, false, if◌then◌else◌, List, [], ◌∷◌, ◌++◌, Option, Some, None, Result, length, map, drop, get_or, slice_index, slice_range, refl, sym, ap, subst, ◌∙◌, arith, Ok, Err, append_assoc, bytes_eq, nat_lt, length-append}
 use Rattle.std.specs.List.{AllByRecursion, list_any}
 use Rattle.std.specs.Borrow.{Bor}
 use Rattle.std.specs.Option.{IfSome, option_map}
@@ -26,35 +26,36 @@ use Rattle.rox_reading.specs.Lexical.{◌>>=◌, qname_at}
 use Rattle.rox_reading.specs.Markup.{TagItem, more, opened, closed, tag_item_at}
 use Rattle.rox_reading.specs.Refusals.{lifted}
 use Rattle.rox_reading.specs.Tags.{TagSoFar, Values, attribute_with, attributes_at, declared, names_tested, tag_tested, taken, uri_tested}
-use Rattle.rox_tables.specs.Bindings.{FindsBinding}
-use Rattle.rox_tables.specs.ResolvedNames.{AddsResolved, row_of_unresolved}
-use Rattle.rox_tables.specs.Rows.{AreRows, AreScopes, AttributeRow, IsRow, NamespaceWithin, attribute, attribute_rows, attribute_uri, lists_of, namespace_at, namespace_view, numbered_place, scope_at}
-use Rattle.rox_tables.specs.Scopes.{ArePlaces, PrefixesOnce, entries}
-use Rattle.rox_tables.specs.Storage.{is_borrowed, storage_bytes}
-use Rattle.rox_tables.specs.TagDeclarations.{Declares, HasOwn, unresolved_view}
-use Rattle.rox_tables.specs.TagScopes.{lists_in}
-use Rattle.rox_tables.specs.declared.namespaces.bindings.PrefixBindings.{PrefixBindings}
-use Rattle.rox_tables.specs.declared.namespaces.unresolved_attribute.UnresolvedAttribute.{UnresolvedAttribute}
-use Rattle.rox_tables.specs.declared.rows.tables.AttributeNamespace.{AttributeNamespace}
-use Rattle.rox_tables.specs.declared.rows.tables.AttributeNamespace.TheVariants as space
-use Rattle.rox_tables.specs.declared.rows.tables.ElementTables.{ElementTables}
-use Rattle.rox_tables.specs.declared.rows.tables.Scope.{Scope}
-use Rattle.rox_tables.proofs.Declaring.{once_none}
-use Rattle.rox_tables.proofs.Listing.{with_new-append, with_new-front}
-use Rattle.rox_tables.proofs.NameTests.{tested_on}
-use Rattle.rox_tables.proofs.Remembering.{remembers_none}
-use Rattle.rox_tables.proofs.Ropes.{all_places}
-use Rattle.rox_tables.proofs.Stable.{all_append, all_weaker, attribute-append, map_same}
-use Rattle.rox_build.specs.BuilderState.{IsNamespaceOf}
-use Rattle.rox_build.specs.ElementRow.{scope_in_tables}
-use Rattle.rox_build.specs.PlainTag as plain
-use Rattle.rox_build.specs.PlainTag.{AddsPlain, IsPlainAttribute, few_in, holding}
+use Rattle.rox_scopes.specs.Bindings.{FindsBinding}
+use Rattle.rox_names.specs.ResolvedNames.{AddsResolved, row_of_unresolved}
+use Rattle.rox_rows.specs.Rows.{AttributeRow, NamespaceWithin, attribute, attribute_rows, namespace_at, numbered_place, scope_at}
+use Rattle.rox_scopes.specs.Tables.{AreRows, AreScopes, IsRow, lists_of, namespace_view}
+use Rattle.rox_scopes.specs.Scopes.{ArePlaces, PrefixesOnce, entries}
+use Rattle.rox_rows.specs.Storage.{is_borrowed, storage_bytes}
+use Rattle.rox_names.specs.TagDeclarations.{Declares, HasOwn, unresolved_view}
+use Rattle.rox_scopes.specs.TagScopes.{lists_in, scope_in_tables}
+use Rattle.rox_scopes.specs.declared.bindings.PrefixBindings.{PrefixBindings}
+use Rattle.rox_names.specs.declared.unresolved_attribute.UnresolvedAttribute.{UnresolvedAttribute}
+use Rattle.rox_rows.specs.declared.row.AttributeNamespace.{AttributeNamespace}
+use Rattle.rox_rows.specs.declared.row.AttributeNamespace.TheVariants as space
+use Rattle.rox_scopes.specs.declared.tables.ElementTables.{ElementTables}
+use Rattle.rox_scopes.specs.declared.tables.Scope.{Scope}
+use Rattle.rox_names.proofs.Declaring.{once_none}
+use Rattle.rox_scopes.proofs.Listing.{with_new-append, with_new-front}
+use Rattle.rox_names.proofs.NameTests.{tested_on}
+use Rattle.rox_scopes.proofs.Remembering.{remembers_none}
+use Rattle.rox_scopes.proofs.Ropes.{all_places}
+use Rattle.rox_rows.proofs.Stable.{all_append, all_weaker, attribute-append, map_same}
+use Rattle.rox_names.specs.OpenElements.{IsNamespaceOf}
+use Rattle.rox_tags.specs.PlainTag as plain
+use Rattle.rox_tags.specs.PlainTag.{AddsPlain, IsPlainAttribute, few_in, holding}
 use Rattle.rox_build.specs.RootTag.{AreNoBindings, BeginsRoot, HasRootScope, HoldAlike, HoldsRoot, IsBlank, IsRootRead, ListsDeclaration, RootSoFar, first_places}
-use Rattle.rox_build.specs.declared.plain_tag.TagEnd.{TagEnd}
-use Rattle.rox_build.specs.declared.tag.StartTag.{StartTag}
-use Rattle.rox_build.proofs.Items.{stands_within}
-use Rattle.rox_build.proofs.PlainTags.{item_closed, item_more, item_opened, scope_found}
-use Rattle.rox_build.proofs.Starting.{tag_made, tested_known, tested_passes}
+use Rattle.rox_tags.specs.declared.quick_tag.TagEnd.{TagEnd}
+use Rattle.rox_names.specs.declared.start_tag.StartTag.{StartTag}
+use Rattle.rox_bytes.proofs.RunLemmas.{stands_within}
+use Rattle.rox_tags.proofs.PlainTags.{item_closed, item_more, item_opened, scope_found}
+use Rattle.rox_tags.proofs.Starting.{tag_made, tested_known, tested_passes}
+use Rattle.rox_names.proofs.Resolving.{nothing_left, row_shown}
 
 -- ---- names in a scope that grows
 
@@ -108,14 +109,6 @@ unfolding names_tested
 passes scope before a rest h =
     chosen (not (is_known scope a.name)) _ _ _ h (λ t k. cc k) (λ f k.
     chosen (list_any (λ e. same_expanded scope e.name a.name) before) _ _ _ k (λ t l. cc l) (λ new l. record { known = not_not _ f; new = new; others = l }))
-
-and_left : (a b : Bool) → (a && b) ≡ true → a ≡ true
-and_left true b h = refl
-and_left false b h = cc h
-
-and_right : (a b : Bool) → (a && b) ≡ true → b ≡ true
-and_right true b h = h
-and_right false b h = cc h
 
 abbrev AllKnown : List NamespaceDecl → List Attribute → Type 0
 AllKnown ds as' = AllByRecursion (λ a. is_known ds a.name ≡ true) as'
@@ -193,11 +186,6 @@ root_starts src start old = record {
   read = λ context cut openings_left. refl;
 }
 
-row_shown : (namespaces scope : List NamespaceDecl) (a : UnresolvedAttribute) (s : AttributeNamespace) → attribute_uri namespaces s ≡ attribute_namespace scope (name_view a.name)
-    → attribute namespaces (row_of_unresolved a s) ≡ attribute_in scope (unresolved_view a)
-row_shown namespaces scope a s h = ap (λ (o : Option (List ℕ)).
-    let r : tree.Attribute = record { start = a.start; name_end = a.name_end; value_start = a.value_start; end = a.end; namespace = o; local = a.name.local.now; value = storage_bytes a.value; borrowed = is_borrowed a.value } in r) h
-
 -- an attribute more
 pub root_more : (namespaces own : List NamespaceDecl) (few : Option (List ℕ)) (present : PrefixBindings) (src : List ℕ) (start : ℕ) (old : List AttributeRow) (i j : ℕ) (now next : List AttributeRow) (a : UnresolvedAttribute)
     → RootSoFar namespaces own src start old i now → i ≤ j → j ≡ spaces_end src i → (j ≡ i → ⊥) → (slice_index src j == 47) ≡ false → (slice_index src j == 62) ≡ false
@@ -230,13 +218,8 @@ root_more namespaces own few present src start old i j now next a g onward space
           ∙ turn_is src i j n a held _ context cut openings_left plain onward spaces some slash close (taken_other view held other);
     }
 
--- the names so far pass
-none_left : (scope : List NamespaceDecl) (before : List Attribute) → names_tested scope before [] ≡ Ok tt
-unfolding names_tested
-none_left scope before = refl
-
 pub root_passes : (namespaces own : List NamespaceDecl) (src : List ℕ) (start : ℕ) (old : List AttributeRow) (i : ℕ) (now : List AttributeRow) (g : RootSoFar namespaces own src start old i now) → names_tested (listable_of own) [] g.written ≡ Ok tt
-root_passes namespaces own src start old i now g = ap (names_tested (listable_of own) []) (sym (append-nil g.written)) ∙ g.tested [] ∙ none_left (listable_of own) g.written
+root_passes namespaces own src start old i now g = ap (names_tested (listable_of own) []) (sym (append-nil g.written)) ∙ g.tested [] ∙ nothing_left (listable_of own) g.written
 
 -- what is declared then
 declared_is : (a : Attribute) (h after : TagSoFar) → declared [] a h ≡ Ok after → after ≡ record { own = h.own ++ namespace_decl_of a ∷ []; attributes = h.attributes }
@@ -345,7 +328,7 @@ ends_or_not namespaces own src start old i j now (Some e) g onward spaces opens 
 
 -- ---- the scope of a root element
 
-none_below : (xs : List ℕ) → ArePlaces 0 xs → xs ≡ []
+pub none_below : (xs : List ℕ) → ArePlaces 0 xs → xs ≡ []
 none_below [] h = refl
 none_below (x ∷ xs) (less, h) = absurd (omega arith)
 
@@ -559,9 +542,6 @@ root_tagged blank old new src i n end t none same x is other starts name_end sco
     }
 
 -- ---- tables that hold the same
-
-pub alike_same : (t : ElementTables) → HoldAlike t t
-alike_same t = record { rows = refl; names = refl; lists = refl; below = λ above h. h }
 
 pub alike_blank : (old now : ElementTables) → IsBlank old → attribute_rows now.attributes ≡ attribute_rows old.attributes → now.namespaces.items.items ≡ [] → now.listed.items ≡ []
     → now.scopes.items ≡ first_places 0 ∷ [] → AreNoBindings now.present → HoldAlike old now

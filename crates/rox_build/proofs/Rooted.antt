@@ -1,6 +1,5 @@
 -- A document type declaration opens no element.
-use Rattle.std.proofs.Common.{◌≡◌, ℕ, zero, suc, ◌||◌, ◌==◌, Bool, true, false, cond, List, Result, Ok, Err, length, nat_le, nat_lt, slice_index, refl, ◌∙◌, ◌+◌, subst}
-use Rattle.rox_grammar.specs.declared.fault.Fault.{Fault}
+use Rattle.std.proofs.Common.{◌≡◌, ℕ, zero, suc, ◌||◌, ◌==◌, Bool, true, false, cond, List, Ok, Err, length, nat_le, nat_lt, slice_index, refl, ◌∙◌, ◌+◌, subst}
 use Rattle.rox_grammar.specs.declared.fault.Word.TheVariants as word
 use Rattle.rox_grammar.specs.Search.{byte_from}
 use Rattle.rox_grammar.specs.Names.{spaces_end}
@@ -12,6 +11,7 @@ use Rattle.rox_reading.specs.Machine.{at_place, comment_step, instruction_step}
 use Rattle.rox_reading.specs.Doctype.{Asks, asks_nothing, ◌>>>◌, Dtd, with_state, entity_head_at, definition_at, defined, entity_step, skipped_declaration, subset_end, subset, doctype_head_at, doctype_step}
 use Rattle.rox_reading.specs.WholeText.{misc, doctype}
 use Rattle.rox_build.proofs.Wholes.{comment_open, instruction_open, misc_open}
+use Rattle.rox_values.proofs.Lifting.{lifted_ok}
 
 -- what comes of an asking has this, where something does
 abbrev AreBindingsOf : {A : Type 0} → (A → Type 0) → Asks A → Type 0
@@ -33,10 +33,6 @@ kept_by P (asked, Err f) x h is = cc is
 keeps_choice : {A : Type 0} (P : A → Type 0) (b : Bool) (x y : Asks A) → AreBindingsOf P x → AreBindingsOf P y → AreBindingsOf P (cond b x y)
 keeps_choice P true x y h k = h
 keeps_choice P false x y h k = k
-
-lifted_is : {A : Type 0} (r : Result A Fault) (x : A) → lifted r ≡ Ok x → r ≡ Ok x
-lifted_is (Ok y) x h = cc h
-lifted_is (Err f) x h = cc h
 
 module _ (open' : Open) where
   -- as many elements are open as before
@@ -68,8 +64,8 @@ module _ (open' : Open) where
       let s = at_place (spaces_end src d.state.at) d.state in
       keeps_choice Same (nat_le (length src) d.state.at) _ _ h
       (keeps_choice Same (at word.EntityStart src s.at) _ _ (keeps_after Same (entity_step src (with_state d s)) _ (λ e is. subset_same limit i n src e (kept_by Same (entity_step src (with_state d s)) e (entity_same src (with_state d s) h) is)))
-      (keeps_choice Same (at word.CommentStart src s.at) _ _ (keeps_after Same (asks_nothing (lifted (comment_step limit src s))) _ (λ t is. subset_same limit i n src (with_state d t) (comment_open limit src s t (lifted_is _ t is) ∙ h)))
-      (keeps_choice Same (at word.PIStart src s.at) _ _ (keeps_after Same (asks_nothing (lifted (instruction_step limit src s))) _ (λ t is. subset_same limit i n src (with_state d t) (instruction_open limit src s t (lifted_is _ t is) ∙ h)))
+      (keeps_choice Same (at word.CommentStart src s.at) _ _ (keeps_after Same (asks_nothing (lifted (comment_step limit src s))) _ (λ t is. subset_same limit i n src (with_state d t) (comment_open limit src s t (lifted_ok _ t is) ∙ h)))
+      (keeps_choice Same (at word.PIStart src s.at) _ _ (keeps_after Same (asks_nothing (lifted (instruction_step limit src s))) _ (λ t is. subset_same limit i n src (with_state d t) (instruction_open limit src s t (lifted_ok _ t is) ∙ h)))
       (keeps_choice Same (at word.ElementStart src s.at || (at word.AttlistStart src s.at || at word.NotationStart src s.at)) _ _
       (keeps_after Same (skipped_declaration i src (with_state d s)) _ (λ e is. subset_same limit i n src e (kept_by Same (skipped_declaration i src (with_state d s)) e (passed_same i src (with_state d s) h) is)))
       (keeps_choice Same (slice_index src s.at == 93) _ _ (end_same src (with_state d s) h) tt)))))
@@ -88,7 +84,7 @@ module _ (open' : Open) where
       (keeps_choice Same allow _ _
       (keeps_after Same (doctype_step limit src d) _ (λ e is.
       keeps_after Same (asks_nothing (lifted (misc limit (length src) src e.state))) _ (λ s read.
-      misc_open limit (length src) src e.state s (lifted_is _ s read) ∙ kept_by Same (doctype_step limit src d) e (type_same limit src d h) is)))
+      misc_open limit (length src) src e.state s (lifted_ok _ s read) ∙ kept_by Same (doctype_step limit src d) e (type_same limit src d h) is)))
       tt)
       h
 

@@ -1,10 +1,10 @@
 -- Two stretches of bytes that begin alike.
-use Rattle.std.proofs.Common.{◌≡◌, ℕ, ◌<◌, ◌≤◌, ◌^◌, ◌%◌, Bool, true, false, not, eqb, cond, List, map, length, take, get_or, slice_index, sym, ap, subst, ◌∙◌, arith, inl, inr, w8}
+use Rattle.std.proofs.Common.{◌≡◌, ℕ, ◌<◌, ◌^◌, ◌%◌, Bool, true, false, not, eqb, cond, List, map, length, get_or, sym, ap, subst, ◌∙◌, arith, inl, inr, w8}
 use Rattle.std.specs.Prelude.{bytes_eq}
 use Rattle.std.specs.List.{prefix_len}
 use Rattle.std.specs.Simd.Lanes.{mask_l, top, zip2}
 use Rattle.std.proofs.lemmas.Bool.{cases_eq, eqb-true, not-false, not-true}
-use Rattle.std.proofs.lemmas.List.{ext_get_or, length-take, get_or-take, map-id}
+use Rattle.std.proofs.lemmas.List.{map-id}
 use Rattle.std.proofs.lemmas.List.Sums.{prefix_len_passes}
 use Rattle.std.proofs.lemmas.Simd.{length-zip2, get_or-zip2, tops_compared, mask_l-mod, leading_from_mask_l, trailing_mask_l}
 use Rattle.std.proofs.lemmas.Slice.Eq.{bytes_eq-Decides}
@@ -42,12 +42,6 @@ agree_before us vs m k one other is few below =
     let at : m ≡ mask_l ms = is ∙ ap (λ ms. mask_l ms % 2 ^ 64) (tops_compared w8 differ us vs) ∙ mask_l-mod ms 64 (omega arith) in
     let apart = before_lowest ms k long few (subst (λ (n : ℕ). k < count_trailing_zeros 64 n) at below) in
     eqb-true _ _ (not-false _ (sym (get_or-zip2 differ us vs k 0 0 false (omega arith) (omega arith)) ∙ apart))
-
-pub front_agrees : (xs ys : List ℕ) (n k : ℕ) → n ≤ 16 → 16 ≤ length xs → 16 ≤ length ys → n ≤ k → ((j : ℕ) → j < 16 → j < k → slice_index xs j ≡ slice_index ys j) → take n xs ≡ take n ys
-front_agrees xs ys n k few one other le same =
-    let a = length-take n xs in
-    let b = length-take n ys in
-    ext_get_or 0 (take n xs) (take n ys) (omega arith) (λ j below. get_or-take n xs j 0 (omega arith) ∙ same j (omega arith) (omega arith) ∙ sym (get_or-take n ys j 0 (omega arith)))
 
 pub bytes_same : (xs ys : List ℕ) → bytes_eq xs ys ≡ true → xs ≡ ys
 bytes_same xs ys h = (bytes_eq-Decides xs ys).0 h

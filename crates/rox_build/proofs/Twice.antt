@@ -6,13 +6,13 @@ use Rattle.rox_reading.specs.Refusals.{Refusal}
 use Rattle.rox_reading.specs.State.{State, depth_of}
 use Rattle.rox_reading.specs.Machine.{Context, step, drive}
 use Rattle.rox_scan.specs.declared.cursor.Cursor.{Cursor}
-use Rattle.rox_build.specs.BuilderState.{IsInState, IsReady, IsReadyTo, ScansTo}
+use Rattle.rox_builder.specs.BuilderState.{IsInState, IsReady, IsReadyTo, ScansTo}
 use Rattle.rox_build.specs.PlainSteps.{Steps, no_step, one_more, Reads}
-use Rattle.rox_build.proofs.Items.{stands_within}
-use Rattle.rox_build.proofs.Stepping.{opened_deep}
+use Rattle.rox_bytes.proofs.RunLemmas.{stands_within}
+use Rattle.rox_builder.proofs.Stepping.{opened_deep}
 use Rattle.rox_build.proofs.Looping.{Driving, driven}
-use Rattle.rox_build.proofs.Moving.{step_moves}
-use Rattle.rox_build.specs.declared.builder.Builder.{Builder}
+use Rattle.rox_tags.proofs.Moving.{step_moves}
+use Rattle.rox_builder.specs.declared.builder.Builder.{Builder}
 
 still_inside : (o p : Open) → depth_of o ≡ depth_of p → is_root o ≡ false → is_root p ≡ false
 still_inside root p same inner = cc inner

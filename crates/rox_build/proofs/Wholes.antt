@@ -1,5 +1,5 @@
 -- A root element with what follows it, and a whole text, are read as their parts are.
-use Rattle.std.proofs.Common.{◌≡◌, ℕ, zero, suc, Bool, true, false, List, length, refl, sym, ap, subst, ◌∙◌, Result, Ok, Err, slice_index, nat_le, nat_lt, if◌then◌else◌, ◌==◌}
+use Rattle.std.proofs.Common.{◌≡◌, ℕ, zero, suc, Bool, true, false, List, length, refl, sym, ap, subst, ◌∙◌, Result, Ok, slice_index, nat_le, nat_lt, if◌then◌else◌, ◌==◌}
 use Rattle.std.proofs.lemmas.Bool.{ne_eqb, eq-eqb}
 use Rattle.rox_grammar.specs.declared.fault.Word.TheVariants as word
 use Rattle.rox_grammar.specs.Names.{spaces_end}
@@ -17,7 +17,8 @@ use Rattle.rox_values.specs.Refusals.{IsFailure, IsRefusal, of_failure}
 use Rattle.rox_values.specs.declared.parse_error.ParseError.{ParseError}
 use Rattle.rox_values.proofs.PartLemmas.{refuses_by}
 use Rattle.rox_grammar.specs.Entities.{Entity}
-use Rattle.rox_build.proofs.Lifting.{lifted_ok, lifted_err}
+use Rattle.rox_values.proofs.Lifting.{lifted_ok, lifted_err}
+use Rattle.rox_theory.proofs.Basics.{bind_ok}
 
 -- ---- the root element and what follows it
 
@@ -51,10 +52,6 @@ a_body limit es context src s t u v main here tag inner after = let k = lifted_o
 
 -- ---- nothing is open behind it
 
-bound : {A B E P : Type 0} (r : Result A E) (f : A → Result B E) (y : B) → (r >>= f) ≡ Ok y → ((x : A) → r ≡ Ok x → f x ≡ Ok y → P) → P
-bound (Ok x) f y h go = go x refl h
-bound (Err e) f y h go = cc h
-
 branch_of : {X P : Type 0} (b : Bool) (x y z : X) → (if b then x else y) ≡ z → (x ≡ z → P) → (y ≡ z → P) → P
 branch_of true x y z h one other = one h
 branch_of false x y z h one other = other h
@@ -71,11 +68,11 @@ counted_open limit s t h = branch_of (nat_le (nodes_so_far s.stack s.done) limit
 
 pub comment_open : (limit : ℕ) (src : List ℕ) (s t : State) → comment_step limit src s ≡ Ok t → t.stack ≡ s.stack
 unfolding comment_step
-comment_open limit src s t h = bound (comment_at src s.at) _ t h (λ x is e. counted_open limit _ t e)
+comment_open limit src s t h = bind_ok (comment_at src s.at) _ t h (λ x is e. counted_open limit _ t e)
 
 pub instruction_open : (limit : ℕ) (src : List ℕ) (s t : State) → instruction_step limit src s ≡ Ok t → t.stack ≡ s.stack
 unfolding instruction_step
-instruction_open limit src s t h = bound (instruction_at src s.at) _ t h (λ x is e. counted_open limit _ t e)
+instruction_open limit src s t h = bind_ok (instruction_at src s.at) _ t h (λ x is e. counted_open limit _ t e)
 
 pub misc_open : (limit n : ℕ) (src : List ℕ) (s t : State) → misc limit n src s ≡ Ok t → t.stack ≡ s.stack
 unfolding misc
@@ -83,9 +80,9 @@ misc_open limit zero src s t h = cc h
 misc_open limit (suc n) src s t h =
     let a : State = record { at = spaces_end src s.at; done = s.done; stack = s.stack; openings_left = s.openings_left } in
     branch_of (at word.CommentStart src a.at) _ _ _ h
-    (λ one. bound (comment_step limit src a) (λ u. misc limit n src u) t one (λ u is e. misc_open limit n src u t e ∙ comment_open limit src a u is))
+    (λ one. bind_ok (comment_step limit src a) (λ u. misc limit n src u) t one (λ u is e. misc_open limit n src u t e ∙ comment_open limit src a u is))
     (λ more. branch_of (at word.PIStart src a.at) _ _ _ more
-    (λ one. bound (instruction_step limit src a) (λ u. misc limit n src u) t one (λ u is e. misc_open limit n src u t e ∙ instruction_open limit src a u is))
+    (λ one. bind_ok (instruction_step limit src a) (λ u. misc limit n src u) t one (λ u is e. misc_open limit n src u t e ∙ instruction_open limit src a u is))
     (λ none. cc))
 
 drive_open : (context : Context) (n : ℕ) (src : List ℕ) (s t : State) → drive context n src s ≡ Ok t → is_root t.stack ≡ true
@@ -93,7 +90,7 @@ unfolding drive
 drive_open context zero src s t h = chosen (is_root s.stack) _ _ _ h (λ is e. cc) (λ is e. cc)
 drive_open context (suc n) src s t h =
     chosen (is_root s.stack) _ _ _ h (λ is e. cc)
-    (λ inner more. branch_of (nat_lt s.at (length src)) _ _ _ more (λ on. bound (step context src s) (λ u. drive context n src u) t on (λ u is e. drive_open context n src u t e)) (λ cut. cc))
+    (λ inner more. branch_of (nat_lt s.at (length src)) _ _ _ more (λ on. bind_ok (step context src s) (λ u. drive context n src u) t on (λ u is e. drive_open context n src u t e)) (λ cut. cc))
 
 is_the_root : (o : Open) → is_root o ≡ true → o ≡ root
 is_the_root root h = refl
@@ -103,8 +100,8 @@ pub body_open : (limit : ℕ) (es : List Entity) (src : List ℕ) (s t : State) 
 unfolding body
 body_open limit es src s t some here h =
     branch_of (slice_index src s.at == 60) _ _ _ h
-    (λ begun. bound (tag_step (main_text limit es) src s) _ _ begun (λ u is e.
-    bound (drive (main_text limit es) (length src) src u) _ _ e (λ v done f.
-    bound (lifted (misc limit (length src) src v)) _ _ f (λ w after g.
+    (λ begun. bind_ok (tag_step (main_text limit es) src s) _ _ begun (λ u is e.
+    bind_ok (drive (main_text limit es) (length src) src u) _ _ e (λ v done f.
+    bind_ok (lifted (misc limit (length src) src v)) _ _ f (λ w after g.
     ap (λ (p : State × Bool). p.0.stack) (ok_is _ _ g) ∙ misc_open limit (length src) src v w (lifted_ok _ _ after) ∙ is_the_root v.stack (drive_open (main_text limit es) (length src) src u v done)))))
     (λ none. ap (λ (p : State × Bool). p.0.stack) (ok_is _ _ none) ∙ here)

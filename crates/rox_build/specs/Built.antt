@@ -1,4 +1,4 @@
--- What the tables of a text are, and why there are none, where a resolver answers for external entities.
+-- What the tables of a text are, or why there are none, if a resolver is asked for external entities.
 use Rattle.std.specs.Prelude.{◌≡◌, ◌++◌, ℕ, Bool, List, Ok, Err, length}
 use Rattle.std.specs.String.{string_bytes}
 use Rattle.rox_grammar.specs.Forest.{Forest}
@@ -11,13 +11,13 @@ use Rattle.rox_reading.specs.Doctype.{Reply, replies_of, AreTextReplies}
 use Rattle.rox_reading.specs.Answering.{Stops}
 use Rattle.rox_reading.specs.WholeText.{has_doctype, reading}
 use Rattle.rox_build.specs.Requests.{AreAllowed}
-use Rattle.rox_tables.specs.Rows.{HoldsTree}
-use Rattle.rox_tables.specs.declared.rows.tables.Tables.{Tables}
+use Rattle.rox_scopes.specs.Tables.{HoldsTree}
+use Rattle.rox_scopes.specs.declared.tables.Tables.{Tables}
 use Rattle.rox_values.specs.declared.parse_error.ParseError.{ParseError}
 use Rattle.rox_values.specs.declared.parse_error.ParseError.TheVariants as refused
 
--- These were asked, and the answers are allowed and are text. With them the text is read to these items, whatever replies follow;
--- the tables are those of their tree, and it is told whether there is a document type declaration.
+-- The requests `asked` were made, and their answers are allowed and are texts. With them the text is read to the items `tops`,
+-- whatever replies follow. The tables are those of their tree, and `dtd` is whether there is a document type declaration.
 pub record Built (limit : ℕ) (allow : Bool) (allows : Request → Reply → Type 0) (text : List ℕ) (tables : Tables) (dtd : Bool) : Type 0 where
   pub asked : List Asked
   pub allowed : AreAllowed allows asked
@@ -27,14 +27,15 @@ pub record Built (limit : ℕ) (allow : Bool) (allows : Request → Reply → Ty
   pub seen : dtd ≡ has_doctype limit text
   pub holds : HoldsTree tables (document_tree (length text) (merge tops))
 
--- the same of a text that is refused so, whatever replies follow
+-- The requests `asked` were made, their answers are allowed and are texts, and the text is refused by `e`, whatever replies
+-- follow.
 pub record BuiltNone (limit : ℕ) (allow : Bool) (allows : Request → Reply → Type 0) (text : List ℕ) (e : Refusal) : Type 0 where
   pub asked : List Asked
   pub allowed : AreAllowed allows asked
   pub texts : AreTextReplies (replies_of asked)
   pub stops : Stops (λ replies. reading limit allow replies text) asked e
 
--- Nothing is said where memory ran out. The resolver's own refusal is one that it may reply to that request.
+-- Nothing is stated if memory ran out. The resolver's own refusal is one that it may reply to that request.
 abbrev pub BuiltRefusal : (limit : ℕ) (allow : Bool) (allows : Request → Reply → Type 0) (text : List ℕ) → ParseError → Type 0
 BuiltRefusal limit allow allows text refused.Memory = Unit {0}
 BuiltRefusal limit allow allows text (refused.Fault f) = BuiltNone limit allow allows text (refusal.here f)

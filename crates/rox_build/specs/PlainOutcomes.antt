@@ -1,4 +1,4 @@
--- What a look at a construct needs, and what it makes of the cursor and the builder: it reads the construct if it is plain.
+-- What the fast path needs, and what it makes of the cursor and the builder: it reads a construct if it is plain.
 use Rattle.std.specs.Prelude.{◌≡◌, ◌≢◌, ℕ, ◌+◌, ◌<◌, ◌^◌, true, false, Bool, List, Result, Ok, length, slice_index, vec_len}
 use Rattle.std.specs.Str.{IsCharBoundary}
 use Rattle.rox_grammar.specs.Chars.{is_part_char}
@@ -9,28 +9,28 @@ use Rattle.rox_grammar.specs.declared.fault.Word.{Word}
 use Rattle.rox_reading.specs.Machine as machine
 use Rattle.rox_reading.specs.Refusals.{Refusal}
 use Rattle.rox_reading.specs.State.{State}
-use Rattle.rox_scan.specs.ByteSets.{StopsSet, is_part_byte}
-use Rattle.rox_scan.specs.ScanResults.{Finds}
+use Rattle.rox_bytes.specs.ByteSets.{StopsSet, is_part_byte}
+use Rattle.rox_bytes.specs.ScanResults.{Finds}
 use Rattle.rox_scan.specs.declared.cursor.Cursor.{Cursor}
-use Rattle.rox_build.specs.BuilderState.{GoesOn, IsConsistent, IsInState, IsReady, IsReadyTo, KeepsState, ScansTo}
-use Rattle.rox_build.specs.PendingText.{waiting}
+use Rattle.rox_builder.specs.BuilderState.{GoesOn, IsConsistent, IsInState, IsReady, IsReadyTo, KeepsState, ScansTo}
+use Rattle.rox_builder.specs.PendingText.{waiting}
 use Rattle.rox_build.specs.PlainSteps.{Reads}
-use Rattle.rox_build.specs.PlainTag.{EndsNear}
-use Rattle.rox_build.specs.Readiness.{HasRoom, IsApart}
-use Rattle.rox_build.specs.declared.builder.Builder.{Builder}
-use Rattle.rox_build.specs.declared.pending.Pending.TheVariants as pending
+use Rattle.rox_tags.specs.PlainTag.{EndsNear}
+use Rattle.rox_builder.specs.Readiness.{HasRoom, IsApart}
+use Rattle.rox_builder.specs.declared.builder.Builder.{Builder}
+use Rattle.rox_builder.specs.declared.pending.Pending.TheVariants as pending
 
--- this word stands here, and there is room for one row more
+-- The word `word` is at the cursor, and there is room for one more row.
 pub record MayReadWord (word : Word) (c : Cursor) (b : Builder) : Type 0 where
   pub here : stands (word_text word) c.text.now c.pos ≡ true
   pub room : HasRoom c.text.now b
 
--- the same of `<`
+-- `<` is at the cursor, and there is room for one more row.
 pub record MayReadPlain (c : Cursor) (b : Builder) : Type 0 where
   pub here : slice_index c.text.now c.pos ≡ 60
   pub room : HasRoom c.text.now b
 
--- `</` stands here, no text waits for its row, and what the builder holds is consistent
+-- `</` is at the cursor, no text waits for its row, and what the builder holds is consistent.
 pub record MayReadEnd (c : Cursor) (b : Builder) : Type 0 where
   pub here : slice_index c.text.now c.pos ≡ 60
   pub next : slice_index c.text.now (c.pos + 1) ≡ 47
@@ -38,28 +38,28 @@ pub record MayReadEnd (c : Cursor) (b : Builder) : Type 0 where
   pub settled : waiting b.pending ≡ 0
   pub fine : IsConsistent b.tables b.opened.items
 
--- a start tag may begin here, the first ASCII bytes of whose name end at this place, and there is room for its row
+-- A start tag may be at the cursor, the first ASCII bytes of its name end at `j`, and there is room for its row.
 pub record MayReadBare (c : Cursor) (j : ℕ) (b : Builder) : Type 0 where
   pub here : slice_index c.text.now c.pos ≡ 60
   pub near : StopsSet is_part_byte c.text.now (c.pos + 1) j
   pub letter : 63 < slice_index c.text.now (c.pos + 1)
   pub room : HasRoom c.text.now b
 
--- the same where no colon and no more of the name follows
+-- A start tag may be at `i`, and there is room for its row. Its name is of ASCII bytes and ends at `j`, without a colon.
 pub record MayReadNear (src : List ℕ) (i j : ℕ) (b : Builder) : Type 0 where
   pub here : slice_index src i ≡ 60
   pub start : IsCharBoundary src i
   pub near : EndsNear src (i + 1) j
   pub room : HasRoom src b
 
--- the same where the first part of its name ends there
+-- A start tag may be at `i`, the first part of its name ends at `j`, and there is room for its row.
 pub record MayReadPart (src : List ℕ) (i j : ℕ) (b : Builder) : Type 0 where
   pub here : slice_index src i ≡ 60
   pub start : IsCharBoundary src i
   pub part : Finds src (i + 1) j (run_end is_part_char src (i + 1))
   pub room : HasRoom src b
 
--- there is room for so many rows, if any are wanted, and what the builder holds is consistent
+-- There is room for `rows` rows, if any are required, and what the builder holds is consistent.
 pub record MayReadRows (rows : ℕ) (b : Builder) : Type 0 where
   pub ready : 0 < rows → IsReady rows b
   pub fine : IsConsistent b.tables b.opened.items
@@ -67,18 +67,18 @@ pub record MayReadRows (rows : ℕ) (b : Builder) : Type 0 where
 abbrev pub any_context : machine.Context → Type 0
 any_context context = Unit {0}
 
--- no text is open that a run which stands here would go on with
+-- No text is open that character data at the cursor would continue.
 abbrev pub StandsApart : Cursor → Builder → Type 0
 StandsApart c b = slice_index c.text.now c.pos ≢ 60 → b.pending ≡ pending.None
 
--- a run may stand here, there is room for its row, and no text is open that it would go on with
+-- Character data may be at the cursor, there is room for its row, and no text is open that it would continue.
 pub record MayReadRun (c : Cursor) (b : Builder) : Type 0 where
   pub here : slice_index c.text.now c.pos ≢ 60
   pub room : HasRoom c.text.now b
   pub apart : b.pending ≡ pending.None
 
--- what stands here was read, as this reading does in such a context, in the room that there is for rows, which leaves the builder such;
--- or nothing was
+-- The construct at the cursor was read as `read` does, in a context that meets `such`, or nothing was read. It is read in the
+-- room that there is for rows, which leaves the builder as `leaves` says.
 pub record ReadsIf (leaves : ℕ → Builder → Type 0) (such : machine.Context → Type 0) (read : machine.Context → List ℕ → State → Result State Refusal) (old new : Cursor) (b after : Builder) (result : Bool) : Type 0 where
   pub value : result ≡ true → (context : machine.Context) (end : ℕ) (s : State) → such context → IsInState context.limit end s old b
       → ScansTo context.limit end (Ok tt) new after (read context old.text.now s)
@@ -87,7 +87,7 @@ pub record ReadsIf (leaves : ℕ → Builder → Type 0) (such : machine.Context
   pub moves : result ≡ true → old.pos < new.pos
   pub goes : GoesOn old new after
 
--- the same of character data before `<`
+-- Character data before `<` was read, or nothing was.
 pub record ReadsRun (old new : Cursor) (b after : Builder) (result : Bool) : Type 0 where
   pub reads : ReadsIf IsReadyTo any_context machine.character_data_step old new b after result
   pub tables : after.tables ≡ b.tables
@@ -95,20 +95,20 @@ pub record ReadsRun (old new : Cursor) (b after : Builder) (result : Bool) : Typ
   pub rows : result ≡ true → vec_len after.nodes.rows ≡ vec_len b.nodes.rows + 1
   pub behind : result ≡ true → slice_index old.text.now new.pos ≡ 60
 
--- the construct that stands here was read, in such a context; or nothing was, and the builder holds the same
+-- The construct at the cursor was read, in a context that meets `such`. Or nothing was, and the builder holds equal rows.
 pub record ReadsStep (such : machine.Context → Type 0) (old new : Cursor) (b after : Builder) (result : Bool) : Type 0 where
   pub value : result ≡ true → (context : machine.Context) (end : ℕ) (s : State) → such context → IsInState context.limit end s old b
       → ScansTo context.limit end (Ok tt) new after (machine.step context old.text.now s)
   pub other : result ≡ false → (new ≡ old) × KeepsState b after
   pub goes : GoesOn old new after
 
--- the same in the room that there is for rows, where no text may go on behind it
+-- The markup at the cursor was read, in the room that there is for rows, and no text may continue after it. Or nothing was read.
 pub record ReadsMarkup (such : machine.Context → Type 0) (old new : Cursor) (b after : Builder) (result : Bool) : Type 0 where
   pub reads : ReadsStep such old new b after result
   pub ready : result ≡ true → (most : ℕ) → IsReadyTo most b → IsApart most after
   pub moves : result ≡ true → old.pos < new.pos
 
--- some constructs were read, where so many elements are open around the text, or none
+-- Some constructs were read, or none. `around` elements are open around the text.
 pub record ReadsRows (around : ℕ) (old new : Cursor) (b after : Builder) (result : Bool) : Type 0 where
   pub value : (context : machine.Context) (end : ℕ) (s : State) → context.open_around ≡ around → IsInState context.limit end s old b
       → (n : ℕ) × Reads context end n new after old.text.now s

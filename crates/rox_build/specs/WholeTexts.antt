@@ -18,17 +18,17 @@ use Rattle.rox_reading.specs.WholeText.{misc, prolog, doctype, body, finished, h
 use Rattle.rox_scan.specs.declared.cursor.Cursor.{Cursor}
 use Rattle.rox_build.specs.Asking.{IsDoctypeRead}
 use Rattle.rox_values.specs.Refusals.{IsRefusal}
-use Rattle.rox_build.specs.BuilderState.{Represents, IsConsistent, names_in}
-use Rattle.rox_tables.specs.Rows.{attribute_rows}
-use Rattle.rox_build.specs.declared.builder.Builder.{Builder}
+use Rattle.rox_builder.specs.BuilderState.{Represents, IsConsistent, names_in}
+use Rattle.rox_rows.specs.Rows.{attribute_rows}
+use Rattle.rox_builder.specs.declared.builder.Builder.{Builder}
 use Rattle.rox_values.specs.declared.entities.Entities.{Entities}
 use Rattle.rox_values.specs.declared.parse_error.ParseError.{ParseError}
 
--- nothing is read yet
+-- The state in which nothing is read yet.
 abbrev pub start_state : ℕ → State
 start_state i = record { at = i; done = Nil; stack = root; openings_left = 255 }
 
--- the builder shows the root node alone, of a text of this length
+-- The builder represents the root node alone, of a text of `end` bytes.
 pub record IsBegun (end : ℕ) (b : Builder) : Type 0 where
   pub shows : Represents end root Nil b
   pub namespaces : names_in b.tables ≡ []
@@ -36,25 +36,25 @@ pub record IsBegun (end : ℕ) (b : Builder) : Type 0 where
   pub openings_left : b.openings_left ≡ 255
   pub consistent : IsConsistent b.tables b.opened.items
 
--- what stands before a document type declaration
+-- What is before a document type declaration.
 abbrev pub beginning : ℕ → List ℕ → Result State Fault
 beginning limit src = prolog src (after_bom src) >>= λ i. misc limit (length src) src (start_state i)
 
--- it was read, with what follows it, or does not stand there
+-- The document type declaration was read, with what follows it, or there is none.
 pub record IsDoctypeReadTo (limit end : ℕ) (allow : Bool) (src : List ℕ) (d : Dtd) (c : Cursor) (b : Builder) (es : Entities) (asked : List Asked) (some : Bool) : Type 0 where
   pub read : IsDoctypeRead limit end (λ replies. doctype limit allow src (left_with replies d)) c b es asked
   pub told : some ≡ at word.DoctypeStart src d.state.at
 
--- the root element and what follows it
+-- The root element and what follows it.
 abbrev pub root_read : ℕ → List Entity → List ℕ → State → Result (Forest Item) Refusal
 root_read limit es src s = body limit es src s >>= λ x. lifted (finished src x)
 
--- the builder shows the top items, unless memory ran out
+-- The builder represents the top items, unless memory ran out.
 abbrev pub Finishes : (end : ℕ) → Result (Unit {0}) ParseError → Builder → Result (Forest Item) Refusal → Type 0
 Finishes end (Ok x) b read = (tops : Forest Item) × (read ≡ Ok tops) × Represents end root tops b
 Finishes end (Err e) b read = IsRefusal e read
 
--- a whole text was read
+-- A whole text was read.
 pub record IsWholeRead (limit end : ℕ) (allow : Bool) (src : List ℕ) (b : Builder) (asked : List Asked) (dtd : Bool) : Type 0 where
   pub tops : Forest Item
   pub read : Yields (λ replies. reading limit allow replies src) asked tops

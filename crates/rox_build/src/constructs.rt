@@ -1,4 +1,4 @@
-//! The constructs that have marks, read one by one into the builder: comments, processing instructions, CDATA sections and tags
+//! The constructs that have delimiters, each read into the builder: comments, processing instructions, CDATA sections and tags
 //! (XML 1.0 sections 2.5, 2.6, 2.7, 3.1).
 
 ghost use Rattle.std.specs.Prelude.{◌≡◌, ◌<◌, ◌+◌, ℕ, List};
@@ -9,26 +9,27 @@ ghost use Rattle.rox_grammar.specs.Written.{Item};
 ghost use Rattle.rox_grammar.specs.NameParts.{local_span, same_qname};
 ghost use Rattle.rox_grammar.specs.State.{Open};
 ghost use Rattle.rox_reading.specs.Refusals.{lifted};
-ghost use Rattle.rox_build.specs.BuilderState.{HasName, Represents};
-ghost use Rattle.rox_build.specs.SpelledNames.{bytes_view};
-ghost use Rattle.rox_build.specs.Outcomes.{ParsesAs, ScansAs, ScansIn, ScansWithin, SpansOpen};
-ghost use Rattle.rox_build.specs.Readiness.{MayRead, MayReadDeclared, MayReadOpening, MayReadTag};
+ghost use Rattle.rox_builder.specs.BuilderState.{Represents};
+ghost use Rattle.rox_names.specs.OpenElements.{HasName};
+ghost use Rattle.rox_names.specs.SpelledNames.{bytes_view};
+ghost use Rattle.rox_builder.specs.Outcomes.{ParsesAs, ScansAs, ScansIn, ScansWithin, SpansOpen};
+ghost use Rattle.rox_builder.specs.Readiness.{MayRead, MayReadDeclared, MayReadOpening, MayReadTag};
 
-use crate::builder::{Builder, OpenElement};
-use crate::open_names::{NameBytes, bytes_of, name_bytes, open_name};
-use crate::tag::{TagContext, start_tag};
+use rox_builder::builder::Builder;
 use rox_grammar::failure::Failure;
 use rox_grammar::fault::{Fault, Span, Word};
+use rox_names::open_element::{NameBytes, OpenElement, bytes_of, name_bytes, open_name};
+use rox_rows::compare::same_stretch;
+use rox_rows::row::{NodeKind, PI};
+use rox_rows::storage::StringStorage;
 use rox_scan::cursor::Cursor;
-use rox_tables::compare::same_stretch;
-use rox_tables::rows::storage::StringStorage;
-use rox_tables::rows::tables::{NodeKind, PI};
+use rox_tags::tag::{TagContext, start_tag};
 use rox_values::context::Context;
 use rox_values::parse_error::ParseError;
 use rox_values::text_value::cdata_text;
 use std::alloc::Global;
 
-/// A comment, from `<!--`.
+/// Reads a comment, from `<!--`.
 pub fn comment<'input>(
     alloc: Global,
     cursor: &mut Cursor<'input>,
@@ -48,7 +49,7 @@ pub fn comment<'input>(
     )
 }
 
-/// A processing instruction, from `<?`.
+/// Reads a processing instruction, from `<?`.
 pub fn instruction<'input>(
     alloc: Global,
     cursor: &mut Cursor<'input>,
@@ -71,7 +72,7 @@ pub fn instruction<'input>(
     )
 }
 
-/// A CDATA section, from `<![CDATA[`.
+/// Reads a CDATA section, from `<![CDATA[`.
 fn cdata<'input>(
     alloc: Global,
     cursor: &mut Cursor<'input>,
@@ -87,7 +88,7 @@ fn cdata<'input>(
     builder.piece(alloc, start, cursor.pos, piece)
 }
 
-/// What `<!` begins.
+/// Reads the construct that `<!` starts: a comment or a CDATA section.
 #[tactic(auto, unfolding(rox_reading::specs::Machine::step))]
 fn comment_or_section<'input>(
     alloc: Global,
@@ -106,7 +107,7 @@ fn comment_or_section<'input>(
     Err(Failure::Fault(Fault::UnknownToken(cursor.pos)))
 }
 
-/// The fault of a start tag that is cut off by the end of the text.
+/// Returns the fault of a start tag that is cut off by the end of the text.
 fn cut_off_fault(builder: &Builder<'_>, context: Context<'_, '_>) -> Fault
     ensures { (end : ℕ) (stack : Open) (done : Forest Item) → Represents end stack done builder.now
         → result ≡ machine.cut_off_fault context.entry.main stack }
@@ -120,7 +121,7 @@ fn cut_off_fault(builder: &Builder<'_>, context: Context<'_, '_>) -> Fault
     }
 }
 
-/// A start tag, from its `<`.
+/// Reads a start tag, from its `<`.
 pub fn element<'input>(
     alloc: Global,
     cursor: &mut Cursor<'input>,
@@ -151,7 +152,7 @@ pub fn element<'input>(
     Ok(())
 }
 
-/// Where the local part of a name stands that ends at `end`.
+/// Returns the span of the local part of a name that ends at `end`.
 fn local_span(name: NameBytes<'_>, end: usize) -> Span
     ensures { result ≡ local_span (bytes_view name.entry) end }
 {
@@ -161,8 +162,8 @@ fn local_span(name: NameBytes<'_>, end: usize) -> Span
     }
 }
 
-/// Where a name is written, which ends at `end` in a tag whose name may begin at `start`: without the colon if there is no
-/// prefix.
+/// Returns the span of a name that ends at `end`, in a tag whose name may start at `start`. A name without prefix has no colon in
+/// its span.
 fn name_span(name: NameBytes<'_>, start: usize, end: usize) -> Span
     ensures { result ≡ machine.name_span (bytes_view name.entry) start end }
 {
@@ -173,14 +174,16 @@ fn name_span(name: NameBytes<'_>, start: usize, end: usize) -> Span
     }
 }
 
-/// Where the name of the innermost open element is written: it begins behind the `<` at which its row does.
+/// Returns the span of the name of the innermost open element. The name starts right after the `<`, at which the row of the
+/// element starts.
 #[cold]
 #[inline(never)]
 fn open_span(builder: &Builder<'_>, element: &OpenElement<'_>) -> Span
     requires { HasName element.now }
     ensures { SpansOpen builder.now element.now result }
 {
-    // An open element has a row, and its name ends at a place that a text may have: neither the test nor a sum cuts anything off.
+    // An open element has a row, and its name ends at an offset that a text can have. So neither the test nor a sum cuts anything
+    // off.
     let row = element.row as usize;
     let start = if row < builder.nodes.len() {
         builder.nodes.row(row).start.saturating_add(1)
@@ -191,7 +194,7 @@ fn open_span(builder: &Builder<'_>, element: &OpenElement<'_>) -> Span
     name_span(open_name(element), start, end)
 }
 
-/// Whether two names are written alike.
+/// Returns whether two names are written alike.
 #[inline(always)]
 fn same_qname(one: NameBytes<'_>, other: NameBytes<'_>) -> bool
     ensures { result ≡ same_qname (bytes_view one.entry) (bytes_view other.entry) }
@@ -199,7 +202,7 @@ fn same_qname(one: NameBytes<'_>, other: NameBytes<'_>) -> bool
     same_stretch(one.prefix, other.prefix) && same_stretch(one.local, other.local)
 }
 
-/// An end tag, from `</`.
+/// Reads an end tag, from `</`.
 #[inline(always)]
 pub fn end_tag<'input>(
     alloc: Global,
@@ -230,7 +233,7 @@ pub fn end_tag<'input>(
     Ok(())
 }
 
-/// What `<` begins, but for an end tag.
+/// Reads what `<` starts, except an end tag.
 #[tactic(auto, unfolding(rox_reading::specs::Machine::step))]
 #[inline(always)]
 pub fn markup<'input>(

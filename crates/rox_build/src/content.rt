@@ -7,17 +7,17 @@ ghost use Rattle.rox_reading.specs.State.{State};
 ghost use Rattle.rox_reading.specs.Machine as machine;
 ghost use Rattle.rox_grammar.specs.Entities.{Entity};
 ghost use Rattle.rox_values.specs.Contexts.{context_of};
-ghost use Rattle.rox_build.specs.BuilderState.{IsConsistent, HoldsState, ParsesToHeld};
+ghost use Rattle.rox_builder.specs.BuilderState.{IsConsistent, HoldsState, ParsesToHeld};
 ghost use Rattle.rox_build.specs.OpenedTexts.{GivesPiece, JoinsWhole, OpensText, ReadsPart, ReadsText};
-ghost use Rattle.rox_build.specs.Outcomes.{MayStep, ParsesAs};
-ghost use Rattle.rox_build.specs.Readiness.{MayReadTo};
+ghost use Rattle.rox_builder.specs.Outcomes.{MayStep, ParsesAs};
+ghost use Rattle.rox_builder.specs.Readiness.{MayReadTo};
 
-use crate::builder::Builder;
 use crate::constructs::{end_tag, markup};
-use crate::plain_constructs::{plain_main_line, plain_step, plain_stretch};
-use crate::tag::Buffers;
+use crate::quick_content::{plain_main_line, plain_step, plain_stretch};
+use rox_builder::builder::Builder;
 use rox_grammar::failure::Failure;
 use rox_grammar::fault::Fault;
+use rox_names::start_tag::Buffers;
 use rox_scan::character_data::{
     ends_character_data, line_run_end, plain_run_end, raw_character_data,
 };
@@ -29,7 +29,7 @@ use rox_values::line_ends::line_feeds;
 use rox_values::parse_error::ParseError;
 use std::alloc::{AllocError, Global};
 
-/// Character data, up to the next `<` or the end, which is no slice of the source as far as a quick look tells.
+/// Reads character data that the fast path does not read, up to the next `<` or the end.
 #[cycle(content)]
 #[inline(never)]
 fn slow_character_data<'input>(
@@ -61,8 +61,8 @@ fn slow_character_data<'input>(
     data_parts(alloc, cursor, builder, context, start, stop)
 }
 
-/// The same: a text that waits has its row then, where none can go on. It is out of line, as what reads a whole text is in line only
-/// where it is not too large.
+/// Like `slow_character_data`, but then writes a waiting text to its row if the text cannot continue. It is out of line so that
+/// the function that reads a whole text is small enough to be in line.
 #[cycle(content)]
 #[inline(never)]
 fn ended_character_data<'input>(
@@ -80,7 +80,7 @@ fn ended_character_data<'input>(
     Ok(())
 }
 
-/// Character data, up to the next `<` or the end.
+/// Reads character data, up to the next `<` or the end.
 #[cycle(content)]
 #[inline(always)]
 fn character_data<'input>(
@@ -104,7 +104,8 @@ fn character_data<'input>(
     slow_character_data(alloc, cursor, builder, context)
 }
 
-/// The parts of a run from `start` up to `stop`, from here on, and the replacement texts between them.
+/// Reads the parts of character data from the cursor up to `stop`, and the replacement texts between them. The character data
+/// starts at `start`.
 #[cycle(content)]
 fn data_parts<'input>(
     alloc: Global,
@@ -131,7 +132,8 @@ fn data_parts<'input>(
     Ok(())
 }
 
-/// A part of a run, into the buffer for values, up to the run's end or a reference to an entity, whose replacement text it answers.
+/// Reads a part of character data into the buffer for values, up to `stop` or a reference to an entity. Returns the replacement
+/// text of the entity.
 fn part<'input>(
     cursor: &mut Cursor<'input>,
     buffers: &mut Buffers<'input>,
@@ -153,8 +155,8 @@ fn part<'input>(
     Ok(next)
 }
 
-/// A part of a run from `start` up to `stop`: its piece, if it has a character. It ends at the run's end or a reference to an
-/// entity, whose replacement text it answers.
+/// Reads a part of the character data from `start` up to `stop`, and adds its piece if it has a character. The part ends at
+/// `stop` or at a reference to an entity, whose replacement text is returned.
 #[inline(never)]
 fn other_part_piece<'input>(
     alloc: Global,
@@ -176,8 +178,8 @@ fn other_part_piece<'input>(
     Ok(next)
 }
 
-/// The same. In the main text the part is appended to the text that waits for its row, or begins one, but where a text may go on
-/// that has its row.
+/// Like `other_part_piece`, but in the main text the part is appended to the waiting text, or starts one. This is not done if a
+/// text that has its row may continue.
 #[inline(always)]
 fn part_piece<'input>(
     alloc: Global,
@@ -200,9 +202,8 @@ fn part_piece<'input>(
     other_part_piece(alloc, cursor, builder, context, start, stop)
 }
 
-/// A replacement text that is character data as it stands, named in the main text: it joins the text that waits for its row, or
-/// waits for one itself, where none may go on. Answers false where it is another, and then all is as before. The only error is
-/// want of memory.
+/// Joins a replacement text that is plain character data, named in the main text, to the waiting text. If no text may continue,
+/// the replacement text itself waits for its row. Returns false, with the builder unchanged, if it does neither.
 #[inline(always)]
 fn joins<'input>(
     builder: &mut Builder<'input>,
@@ -235,7 +236,7 @@ fn joins<'input>(
     builder.wait_for_more(start, end, &source[start..end])
 }
 
-/// A replacement text, in content. Its reference ends at `after`.
+/// Reads a replacement text in content. Its reference ends at `after`.
 #[cycle(content)]
 #[inline(always)]
 fn open_text<'input>(
@@ -255,7 +256,7 @@ fn open_text<'input>(
     open_other_text(alloc, after, builder, context, text)
 }
 
-/// The same of any text, construct by construct.
+/// Like `open_text`, but reads any text, construct by construct.
 #[cycle(content)]
 #[cold]
 #[inline(never)]
@@ -281,7 +282,7 @@ fn open_other_text<'input>(
     }
 }
 
-/// Content of a replacement text, up to its end.
+/// Reads the content of a replacement text, up to its end.
 #[cycle(content)]
 fn content_text<'input>(
     alloc: Global,
@@ -302,7 +303,7 @@ fn content_text<'input>(
     text_end(builder, context)
 }
 
-/// The end of a replacement text: no element may be open that it opened.
+/// Checks the end of a replacement text: each element that it opened must be closed.
 fn text_end<'input>(
     builder: &Builder<'input>,
     context: Context<'_, 'input>,
@@ -318,7 +319,7 @@ fn text_end<'input>(
     }
 }
 
-/// The same of any construct.
+/// Reads one construct of content, whichever it is. Character data is read by `character_data`.
 #[tactic(auto, unfolding(rox_reading::specs::Machine::step))]
 #[cycle(content)]
 #[inline(never)]
@@ -348,7 +349,8 @@ fn other_step<'input>(
     Ok(())
 }
 
-/// One construct of content, whichever it is. A run that was not read at one look, where no text may go on, is hardly a slice.
+/// Reads one construct of content, whichever it is. Character data that the fast path did not read, where no text may continue,
+/// is rarely a slice of the source.
 #[tactic(auto, unfolding(rox_reading::specs::Machine::step))]
 #[cycle(content)]
 #[inline(always)]
@@ -369,7 +371,7 @@ fn general_step<'input>(
     other_step(alloc, cursor, builder, context)
 }
 
-/// One construct of content: at one look if it is plain.
+/// Reads one construct of content, by the fast path if it is plain.
 #[cycle(content)]
 #[inline(always)]
 fn step<'input>(
@@ -389,7 +391,7 @@ fn step<'input>(
     Ok(())
 }
 
-/// One construct of a replacement text, which most often is character data that goes on with a text.
+/// Reads one construct of a replacement text. Most often it is character data that continues a text.
 #[tactic(auto, unfolding(rox_reading::specs::Machine::step))]
 #[cycle(content)]
 #[inline(always)]
@@ -410,7 +412,7 @@ fn inner_step<'input>(
     step(alloc, cursor, builder, context)
 }
 
-/// Content up to the end tag of the root element.
+/// Reads content up to the end tag of the root element.
 #[inline(always)]
 pub fn content<'input>(
     alloc: Global,
@@ -422,14 +424,14 @@ pub fn content<'input>(
     ensures { ParsesAs (λ k src. machine.drive k (length src) src) context.entry
         cursor.old cursor.new builder.old builder.new result }
 {
-    // Each turn but the last reads a byte at least.
+    // Each turn but the last reads at least one byte.
     for _turn in 0..cursor.text.len() {
         let rows = builder.rows_left();
         let read = plain_stretch(cursor, builder, context.open_around, rows);
         if builder.is_at_root() {
             return Ok(());
         }
-        // So much may be read that there is no room for more.
+        // The constructs read may have left no room for more.
         if read && builder.rows_left() < 2 {
             builder.make_room(cursor.pos)?;
             continue;

@@ -9,23 +9,24 @@ ghost use Rattle.rox_reading.specs.Doctype as reading;
 ghost use Rattle.rox_build.specs.Requests.{Allows, MayAsk};
 ghost use Rattle.rox_scan.specs.DoctypeViews.{definition_view, request_view};
 ghost use Rattle.rox_build.specs.Asking.{AskOutcome, IsDefined};
-ghost use Rattle.rox_build.specs.Outcomes.{MayStep};
-ghost use Rattle.rox_build.specs.Readiness.{MayAskHere, MayRead, MayReadAsking};
+ghost use Rattle.rox_builder.specs.Outcomes.{MayStep};
+ghost use Rattle.rox_builder.specs.Readiness.{MayRead};
+ghost use Rattle.rox_build.specs.Asking.{MayAskHere, MayReadAsking};
 ghost use Rattle.rox_build.specs.TextParts.{ReadsDeclaration, ReadsEntity, ReadsItem};
 
-use crate::builder::Builder;
 use crate::constructs::{comment, instruction};
 use crate::resolver::{EntityResolver, ask};
+use rox_builder::builder::Builder;
+use rox_bytes::runs::is_at;
 use rox_grammar::fault::{Due, Fault, Word};
 use rox_scan::cursor::Cursor;
 use rox_scan::doctype::{Definition, ExternalId};
-use rox_scan::runs::is_at;
 use rox_scan::source::replacement_in;
 use rox_values::entities::Entities;
 use rox_values::parse_error::ParseError;
 use std::alloc::Global;
 
-/// The replacement text that is answered for an external entity, if any is. It is asked for at `at`.
+/// Returns the replacement text that the resolver gives for an external entity, if it gives one. The request is at `at`.
 fn answer_for<'input, R: EntityResolver<'input>>(
     id: ExternalId<'input>,
     at: usize,
@@ -46,7 +47,7 @@ fn answer_for<'input, R: EntityResolver<'input>>(
     }
 }
 
-/// The replacement text of a definition that ends at `at`, if it has one.
+/// Returns the replacement text of a definition that ends at `at`, if it has one.
 fn text_of<'input, R: EntityResolver<'input>>(
     definition: Definition<'input>,
     at: usize,
@@ -63,7 +64,7 @@ fn text_of<'input, R: EntityResolver<'input>>(
     }
 }
 
-/// The declaration of an entity, from `<!ENTITY` (XML 1.0 [70] EntityDecl).
+/// Reads the declaration of an entity, from `<!ENTITY` (XML 1.0 [70] EntityDecl).
 fn entity<'input, R: EntityResolver<'input>>(
     cursor: &mut Cursor<'input>,
     entities: &mut Entities<'input>,
@@ -86,8 +87,8 @@ fn entity<'input, R: EntityResolver<'input>>(
     Ok(())
 }
 
-/// An item of the internal subset, behind any white space, or the subset's end (XML 1.0 [28b] intSubset). Answers whether that
-/// is the end of the declaration, which begins at `start`.
+/// Reads an item of the internal subset, after any white space, or the subset's end (XML 1.0 [28b] intSubset). Returns whether
+/// that is the end of the declaration, which starts at `start`.
 fn item<'input, R: EntityResolver<'input>>(
     alloc: Global,
     cursor: &mut Cursor<'input>,
@@ -124,8 +125,8 @@ fn item<'input, R: EntityResolver<'input>>(
     Ok(true)
 }
 
-/// The internal subset, from behind its `[` to the end of the declaration, which begins at `start`. It ends without a fault
-/// where the text does right behind `[` or an item: what has to follow the declaration is missing then.
+/// Reads the internal subset, from after its `[` to the end of the declaration, which starts at `start`. It reports no fault if
+/// the text ends right after `[` or an item. What must follow the declaration is missing then.
 fn subset<'input, R: EntityResolver<'input>>(
     alloc: Global,
     cursor: &mut Cursor<'input>,
@@ -150,7 +151,7 @@ fn subset<'input, R: EntityResolver<'input>>(
     Ok(())
 }
 
-/// A document type declaration, from `<!DOCTYPE` (XML 1.0 [28] doctypedecl).
+/// Reads a document type declaration, from `<!DOCTYPE` (XML 1.0 [28] doctypedecl).
 pub fn document_type<'input, R: EntityResolver<'input>>(
     alloc: Global,
     cursor: &mut Cursor<'input>,

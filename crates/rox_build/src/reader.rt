@@ -3,35 +3,35 @@
 ghost use Rattle.std.specs.Prelude.{◌≡◌, ◌∷◌, [], IfOk, IfErr, length};
 ghost use Rattle.rox_reading.specs.Refusals.{lifted};
 ghost use Rattle.rox_reading.specs.WholeText as whole;
-ghost use Rattle.rox_build.specs.BuilderState.{IsConsistent, tables_of};
-ghost use Rattle.rox_tables.specs.Rows.{node_rows};
-ghost use Rattle.rox_tables.specs.declared.rows.tables.NodeKind.TheVariants as kind;
-ghost use Rattle.rox_build.specs.Outcomes.{ScansAs};
-ghost use Rattle.rox_build.specs.Readiness.{MayReadAsking};
+ghost use Rattle.rox_builder.specs.BuilderState.{IsConsistent, tables_of};
+ghost use Rattle.rox_rows.specs.Rows.{node_rows};
+ghost use Rattle.rox_rows.specs.declared.row.NodeKind.TheVariants as kind;
+ghost use Rattle.rox_builder.specs.Outcomes.{ScansAs};
+ghost use Rattle.rox_build.specs.Asking.{MayReadAsking};
 ghost use Rattle.rox_build.specs.Requests.{Allows, MayAsk};
 ghost use Rattle.rox_build.specs.Built.{Built, BuiltRefusal};
 ghost use Rattle.rox_build.specs.TextParts.{ReadsBody, ReadsDoctype, ReadsDocument, ReadsRest, ReadsStart};
 ghost use Rattle.rox_build.specs.WholeTexts.{IsBegun};
 
-use crate::builder::{Builder, FirstTables, empty_scope};
 use crate::constructs::{comment, element, instruction};
 use crate::content::content;
 use crate::dtd::document_type;
+use crate::quick_root::{RootLook, root_element};
 use crate::resolver::EntityResolver;
-use crate::root_tag::{RootLook, root_element};
+use rox_builder::builder::{Builder, FirstTables, empty_scope};
 use rox_grammar::failure::Failure;
 use rox_grammar::fault::{Fault, Word};
+use rox_rows::attributes::AttributeTable;
+use rox_rows::forecast::first_rows;
+use rox_rows::node_table::NodeTable;
 use rox_scan::cursor::Cursor;
 use rox_scan::source::start_of;
-use rox_tables::rows::attributes::AttributeTable;
-use rox_tables::rows::forecast::first_rows;
-use rox_tables::rows::node_table::NodeTable;
 use rox_values::context::Context;
 use rox_values::entities::Entities;
 use rox_values::parse_error::ParseError;
 use std::alloc::{AllocError, Global};
 
-/// Comments, processing instructions and white space.
+/// Reads comments, processing instructions and white space.
 #[inline(always)]
 fn misc<'input>(
     alloc: Global,
@@ -55,7 +55,7 @@ fn misc<'input>(
     Ok(())
 }
 
-/// The root element, if `<` stands here, and what follows it. Answers whether it does.
+/// Reads the root element and what follows it, if `<` is at the cursor. Returns whether `<` is there.
 #[inline(always)]
 fn body<'input>(
     alloc: Global,
@@ -80,7 +80,7 @@ fn body<'input>(
     Ok(true)
 }
 
-/// The XML declaration, if it stands here, and the comments, processing instructions and white space behind it.
+/// Reads the XML declaration, if it is at the cursor, and the comments, processing instructions and white space after it.
 fn prolog_start<'input>(
     alloc: Global,
     cursor: &mut Cursor<'input>,
@@ -93,8 +93,8 @@ fn prolog_start<'input>(
     misc(alloc, cursor, builder)
 }
 
-/// The document type declaration, if it stands here, and the comments, processing instructions and white space behind it.
-/// Answers whether it does.
+/// Reads the document type declaration, if it is at the cursor, and the comments, processing instructions and white space after
+/// it. Returns whether it is there.
 fn doctype<'input, R: EntityResolver<'input>>(
     alloc: Global,
     cursor: &mut Cursor<'input>,
@@ -118,7 +118,7 @@ fn doctype<'input, R: EntityResolver<'input>>(
     Ok(true)
 }
 
-/// The root element and what follows it, up to the end of the text.
+/// Reads the root element and what follows it, up to the end of the text.
 #[inline(always)]
 fn rest<'input>(
     alloc: Global,
@@ -139,7 +139,7 @@ fn rest<'input>(
     Ok(())
 }
 
-/// A whole text, from behind its byte order mark to its end. Answers whether it has a document type declaration.
+/// Reads a whole text, from after its byte order mark to its end. Returns whether it has a document type declaration.
 #[inline(always)]
 fn document<'input, R: EntityResolver<'input>>(
     alloc: Global,
@@ -159,7 +159,7 @@ fn document<'input, R: EntityResolver<'input>>(
     Ok(dtd)
 }
 
-/// What memory is asked for at the start of a text. The only error is want of memory.
+/// Returns the tables allocated at the start of a text, with the row of the root node.
 #[inline(always)]
 pub fn first_tables<'input>(
     alloc: Global,
@@ -175,7 +175,7 @@ pub fn first_tables<'input>(
 {
     let bytes = text.len();
     let rows = first_rows(text);
-    // The scopes come last: what is at hand before the nodes are made has to be kept meanwhile.
+    // The scopes come last: values made before the nodes would have to be saved meanwhile.
     let attributes = AttributeTable::of_text(alloc, bytes, rows.attributes);
     let nodes = NodeTable::of_text(alloc, bytes, rows.nodes)?;
     let scopes = empty_scope(alloc)?;
@@ -186,8 +186,8 @@ pub fn first_tables<'input>(
     })
 }
 
-/// Reads a text from its start to its end. The builder has the tables of its tree then. Answers whether the text has a document type
-/// declaration.
+/// Reads a text from its start to its end. The builder has the tables of its tree then. Returns whether the text has a document
+/// type declaration.
 #[inline(always)]
 pub fn build<'input, R: EntityResolver<'input>>(
     alloc: Global,

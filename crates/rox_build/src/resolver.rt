@@ -1,35 +1,53 @@
-//! What answers for external entities (XML 1.0 section 4.2.2). A declaration such as `<!ENTITY a SYSTEM "a.xml">` gives only
-//! the name of a text that lies elsewhere. A parser does not go and fetch it: it asks a resolver for it, at its declaration,
-//! and what it is answered is all that it knows of the text.
+//! Resolvers of external entities (XML 1.0 section 4.2.2). A declaration such as `<!ENTITY a SYSTEM "a.xml">` gives only the name
+//! of a text that is elsewhere. The parser does not fetch that text: it asks a resolver for it, at the declaration. The
+//! resolver's answer is all that the parser knows of the text.
 //!
-//! Three kinds of answer may come: a text, which the name then stands for; none, which leaves the name undeclared; or a
-//! message, which refuses the document.
+//! There are three kinds of answer. A text is the replacement text of the name. No text leaves the name undeclared. A message
+//! refuses the document.
 //!
-//! Resolvers: the trait, one that answers nothing, and one that asks a closure.
+//! Resolvers: the trait, one that resolves nothing, and one that asks a closure.
 
 ghost use Rattle.std.specs.Prelude.{◌≡◌, Ok, None};
 ghost use Rattle.rox_grammar.specs.Doctype.{Request};
 ghost use Rattle.rox_build.specs.Requests.{Reply, Allows, MayAsk, request_of, reply_of};
 
-/// What answers for external entities.
+use std::marker::PhantomData;
+
+/// A resolver of external entities.
 ///
-/// The answers live as long as the text that is parsed: a tree may hold slices of both. So a resolver lends texts that were
-/// read before, and reads none of its own.
+/// Its answers live as long as the text that is parsed: a tree may hold slices of both. So a resolver lends texts that were read
+/// before, and reads none of its own.
+///
+/// ```
+/// let mut options = ParsingOptions::with_resolver(Always("hello"));
+/// options.allow_dtd = true;
+/// let text = "<!DOCTYPE r [<!ENTITY a SYSTEM 'a.xml'>]><r>&a;</r>";
+/// let document = Document::parse_with_options(alloc, text, options)?;
+/// assert!(rt; document.root_element().text() == Some("hello"));
+/// ```
 pub trait EntityResolver<'input> {
-    /// When it may be asked.
+    /// When the resolver may be asked.
     ghost can_resolve: { Self → Type 0 };
 
-    /// What it may reply to a request. Two calls may differ in what they reply, where this allows both.
+    /// What the resolver may reply to a request. Two calls may reply differently, if this allows both replies.
     ghost allows: { Self → Request → Reply → Type 0 };
 
-    /// The text of an external entity, by its public identifier, if it has one, and its system identifier, both as they are
-    /// written. Without a text the entity is not declared; a message refuses the document.
+    /// Returns the text of an external entity, by its public identifier, if it has one, and its system identifier. Both are as
+    /// they are written. Without a text the entity is not declared; a message refuses the document.
     fn resolve(&self, pub_id: Option<&str>, uri: &str) -> Result<Option<&'input str>, String>
         requires { can_resolve self.now }
         ensures { allows self.now (request_of pub_id.entry uri.entry) (reply_of result) };
 }
 
-/// Answers nothing: each external entity is left undeclared.
+/// Resolves nothing: each external entity is left undeclared.
+///
+/// ```
+/// let mut options = ParsingOptions::with_resolver(NoResolver);
+/// options.allow_dtd = true;
+/// let text = "<!DOCTYPE r [<!ENTITY a SYSTEM 'a.xml'>]><r>&a;</r>";
+/// // `a` is not declared
+/// assert!(rt; Document::parse_with_options(alloc, text, options).is_err());
+/// ```
 #[derive(Clone, Copy, Debug, Default, Drop)]
 pub struct NoResolver;
 
@@ -43,25 +61,48 @@ impl<'input> EntityResolver<'input> for NoResolver {
     }
 }
 
-/// Answers what a closure does. It may be asked where the closure may be called with anything, as each closure without a
+/// Resolves as a closure does. It may be asked if the closure may be called with any arguments, as each closure without a
 /// `requires` may.
+///
+/// ```
+/// let resolver = ResolveWith::new(|_public_id, uri| match uri {
+///     "a.xml" => Ok(Some("hello")),
+///     _ => Ok(None),
+/// });
+/// let mut options = ParsingOptions::with_resolver(resolver);
+/// options.allow_dtd = true;
+/// let text = "<!DOCTYPE r [<!ENTITY a SYSTEM 'a.xml'>]><r>&a;</r>";
+/// let document = Document::parse_with_options(alloc, text, options)?;
+/// assert!(rt; document.root_element().text() == Some("hello"));
+/// ```
 #[derive(Clone, Copy, Drop)]
-pub struct ResolveWith<F> {
+pub struct ResolveWith<
+    'input,
+    F: Fn(Option<&str>, &str) -> Result<Option<&'input str>, String> + Drop,
+> {
     pub by: F,
+    pub answers: PhantomData<&'input str>,
 }
 
-impl<F> ResolveWith<F> {
-    /// A resolver that asks this closure. Whether the closure may be asked anything is looked at where a text is parsed.
-    pub fn new(by: F) -> ResolveWith<F>
+impl<'input, F: Fn(Option<&str>, &str) -> Result<Option<&'input str>, String> + Drop> ResolveWith<
+    'input,
+    F,
+> {
+    /// Returns a resolver that asks the closure `by`. `Document::parse_with_options` requires that `by` may be asked anything.
+    pub fn new(by: F) -> ResolveWith<'input, F>
         ensures { result.by ≡ by }
     {
-        ResolveWith { by }
+        ResolveWith {
+            by,
+            answers: PhantomData,
+        }
     }
 }
 
-impl<'input, F: Fn(Option<&str>, &str) -> Result<Option<&'input str>, String>> EntityResolver<
+impl<
     'input,
-> for ResolveWith<F> {
+    F: Fn(Option<&str>, &str) -> Result<Option<&'input str>, String> + Drop,
+> EntityResolver<'input> for ResolveWith<'input, F> {
     ghost can_resolve = { λ self. F.IsAlwaysCallable self.by };
 
     ghost allows = { λ self request reply. (pub_id : _) × (uri : _) × (result : _) × F.post self.by pub_id uri result × (request ≡ request_of pub_id uri) × (reply ≡ reply_of result) };
@@ -71,7 +112,7 @@ impl<'input, F: Fn(Option<&str>, &str) -> Result<Option<&'input str>, String>> E
     }
 }
 
-/// Asks a resolver, if there is one. Without one nothing is answered.
+/// Asks a resolver, if there is one. Without one, returns `Ok(None)`.
 pub fn ask<'input, R: EntityResolver<'input>>(
     resolver: &Option<R>,
     pub_id: Option<&str>,

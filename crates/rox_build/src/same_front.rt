@@ -1,12 +1,12 @@
-//! Bytes that are compared sixteen at a time.
+//! Comparison of bytes, sixteen at a time.
 
 ghost use Rattle.std.specs.Prelude.{◌≡◌, ◌<◌, ℕ, slice_index};
 ghost use Rattle.rox_build.specs.SameFronts.{ClosesFront, HaveSixteen};
 
-use rox_tables::compare::same_long;
+use rox_rows::compare::same_long;
 use std::simd::prelude::*;
 
-/// How many of the first sixteen bytes come before one that differs, or more where none does.
+/// Returns how many of the first sixteen bytes come before one that differs, or more than sixteen if none differs.
 #[inline(always)]
 fn same_count(one: &[u8], other: &[u8]) -> usize
     requires { HaveSixteen one.now other.now }
@@ -18,7 +18,7 @@ fn same_count(one: &[u8], other: &[u8]) -> usize
     differ.trailing_zeros() as usize
 }
 
-/// Whether both have so many bytes, and these are the same, and `>` stands behind them in the other.
+/// Returns whether the first `count` bytes of both are equal, and followed by `>` in `other`.
 #[inline(always)]
 pub fn closes_front(one: &[u8], other: &[u8], count: usize) -> bool
     ensures { ClosesFront one.now other.now count result }

@@ -1,5 +1,5 @@
 -- Documents, and their limits.
-use Rattle.std.specs.Prelude.{◌≡◌, ℕ, ◌+◌, ◌-◌, ◌^◌, ◌≤◌, Option, Bool, true, false, ◌&&◌, List, [], ◌∷◌, ◌++◌, length, if◌then◌else◌, bytes_eq, sum_by, flat_map}
+use Rattle.std.specs.Prelude.{◌≡◌, ℕ, ◌+◌, ◌-◌, ◌^◌, ◌≤◌, Option, Bool, true, false, ◌&&◌, List, [], ◌∷◌, ◌++◌, length, if◌then◌else◌, bytes_eq, sum_by, flat_map, IfSome, IsUtf8}
 use Rattle.std.specs.List.{list_any}
 use Rattle.rox_grammar.specs.Chars.{is_space}
 use Rattle.rox_grammar.specs.Forest.{Forest, Nil, Cons, join, size}
@@ -87,9 +87,9 @@ Permits allow dtd = dtd ≡ true → allow ≡ true
 pub data AsksNext (src : List ℕ) (asked : List Asked) (request : Request) (p : ℕ) : Type 0 where
   at_entity : (i j : ℕ) (before items : Forest Item) → PrologTo src i before → SubsetTo src i j items asked → AsksAt src j request p → AsksNext src asked request p
 
--- What was asked, in order, while the text was read: for each its declaration stands next, after those before it. Nothing is asked
--- where no document type declaration may stand.
+-- What was asked, in order, while the text was read: for each its declaration stands next, after those before it, and the answer is
+-- a text in UTF-8, or none. Nothing is asked where no document type declaration may stand.
 pub data HasAsked (src : List ℕ) (allow : Bool) : List Asked → Type 0 where
   nothing : HasAsked src allow []
   one_more : (asked : List Asked) (request : Request) (p : ℕ) (answer : Option (List ℕ)) → allow ≡ true → AsksNext src asked request p
-      → HasAsked src allow (asked ++ record { request = request; answer = answer } ∷ [])
+      → IfSome answer IsUtf8 → HasAsked src allow (asked ++ record { request = request; answer = answer } ∷ [])

@@ -10,7 +10,7 @@ use Rattle.std.proofs.lemmas.List.{append-nil, drop-take, drop-drop, take-append
 use Rattle.std.proofs.lemmas.List.Folds.{list_all-append}
 use Rattle.std.proofs.lemmas.Str.{chars-nil, chars-append, chars_past_char, encodes-chars, length-encode, len_utf8_bounds, len_utf8_ascii, IsUtf8-between, IsCharBoundary-before_ascii, IsCharBoundary-after_ascii}
 use Rattle.rox_reading.proofs.Stretches.{range_length, range_parts}
-use Rattle.rox_scan.proofs.RunLemmas.{stands_ascii}
+use Rattle.rox_bytes.proofs.RunLemmas.{stands_ascii}
 use Rattle.rox_grammar.specs.Chars.{is_char}
 use Rattle.rox_grammar.specs.Runs.{run_end, passing, first_passes, begins, StandsAt}
 use Rattle.rox_grammar.specs.Constructs.{AreChars}

@@ -1,9 +1,3 @@
-pub mod LaneLemmas
-pub mod MarkLemmas
-pub mod NearLemmas
-pub mod PlainLemmas
-pub mod RunLemmas
-pub mod TableLemmas
 pub mod Marking
 pub mod QuoteLemmas
 pub mod PairLemmas

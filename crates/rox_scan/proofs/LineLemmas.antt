@@ -3,11 +3,11 @@ use Rattle.std.proofs.Common.{◌≡◌, ℕ, ◌+◌, ◌<◌, ◌≤◌, true,
 use Rattle.std.specs.Str.{IsUtf8, IsCharBoundary}
 use Rattle.std.proofs.lemmas.Bool.{cases_eq, false≢true}
 use Rattle.std.proofs.lemmas.List.{get_or-take, length-take-le}
-use Rattle.rox_scan.specs.ByteSets.{AllPass, is_text_byte}
+use Rattle.rox_bytes.specs.ByteSets.{AllPass, is_text_byte}
 use Rattle.rox_scan.specs.Lookahead.{IsLine, IsLookahead, changes_run, ends_run}
 use Rattle.rox_scan.proofs.CharLemmas.{ascii_char}
 use Rattle.rox_scan.proofs.LongerLemmas.{no_run_end, run_near, run_on, run_same}
-use Rattle.rox_scan.proofs.NearLemmas.{near_found}
+use Rattle.rox_bytes.proofs.NearLemmas.{near_found}
 
 return_stops : is_text_byte 13 ≡ false
 unfolding is_text_byte

@@ -15,10 +15,10 @@ use Rattle.rox_grammar.specs.FixedTexts.{word_text}
 use Rattle.rox_reading.specs.Lexical.{has_mark, chars_up_to, text_to, string_at}
 use Rattle.rox_reading.specs.Markup.{raw_value_at, comment_at}
 use Rattle.rox_reading.specs.Values.{is_special}
-use Rattle.rox_scan.specs.ByteSets.{is_char_byte, AllPass, is_value_byte, is_wide_value_byte, is_quoted_byte, is_text_byte, is_comment_byte, is_ascii_comment_byte}
+use Rattle.rox_bytes.specs.ByteSets.{is_char_byte, AllPass, is_value_byte, is_wide_value_byte, is_quoted_byte, is_text_byte, is_comment_byte, is_ascii_comment_byte}
 use Rattle.rox_scan.specs.Lookahead.{IsLookahead, ends_value, ends_run, changes_run, ends_comment, changes_comment}
-use Rattle.rox_scan.proofs.NearLemmas.{near_chars, near_found, none_among, value_is_plain, value_cut, value_widens, wide_value_is_plain, wide_value_cut, quoted_is_plain, quoted_cut, text_is_plain, text_cut, comment_is_plain, comment_cut, ascii_comment_widens, ascii_comment_cut}
-use Rattle.rox_scan.proofs.MarkLemmas.{before_mark_is, not_from_first, fails, stands_split, stands_from_split}
+use Rattle.rox_bytes.proofs.NearLemmas.{near_chars, near_found, none_among, value_is_plain, value_cut, value_widens, wide_value_is_plain, wide_value_cut, quoted_is_plain, quoted_cut, text_is_plain, text_cut, comment_is_plain, comment_cut, ascii_comment_widens, ascii_comment_cut}
+use Rattle.rox_bytes.proofs.MarkLemmas.{before_mark_is, not_from_first, fails, stands_split, stands_from_split}
 use Rattle.rox_scan.proofs.CharLemmas.{chars_joined}
 use Rattle.rox_reading.proofs.Stretches.{range_parts, range_length}
 
@@ -120,7 +120,7 @@ value_open quote b q h = grind (arith, nat_tests)
 wide_same : (b : ℕ) → 128 ≤ b → is_special b ≡ false
 wide_same b wide = grind (arith, nat_tests)
 
-wide_open : (quote b : ℕ) → (quote == 39 || quote == 34) ≡ true → 128 ≤ b → (b == quote || b == 60) ≡ false
+pub wide_open : (quote b : ℕ) → (quote == 39 || quote == 34) ≡ true → 128 ≤ b → (b == quote || b == 60) ≡ false
 wide_open quote b q wide = grind (arith, nat_tests)
 
 -- the bytes of a value from i on that the first look passes

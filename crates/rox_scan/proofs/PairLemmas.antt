@@ -15,17 +15,16 @@ use Rattle.rox_grammar.specs.Written.{Name}
 use Rattle.rox_reading.specs.Lexical.{qname_at, byte_at, quote_at, string_at, chars_up_to}
 use Rattle.rox_reading.specs.Markup.{pair_at}
 use Rattle.rox_grammar.specs.declared.fault.Word.TheVariants as word
-use Rattle.rox_scan.specs.ByteSets.{AllPass, is_part_byte}
-use Rattle.rox_scan.specs.DoctypeViews.{IsOfLetters}
-use Rattle.rox_scan.proofs.MarkLemmas.{stands_fits, stands_reads}
-use Rattle.rox_scan.proofs.NearLemmas.{part_begins, part_stops}
-use Rattle.rox_scan.proofs.RunLemmas.{run_stops_ascii}
+use Rattle.rox_bytes.specs.ByteSets.{AllPass, is_part_byte, IsOfLetters}
+use Rattle.rox_bytes.proofs.MarkLemmas.{stands_fits, stands_reads}
+use Rattle.rox_bytes.proofs.NearLemmas.{part_begins, part_stops}
+use Rattle.rox_bytes.proofs.RunLemmas.{run_stops_ascii}
 
 -- a byte that stands there
 stands_there : (src : List ℕ) (i b : ℕ) → slice_index src i ≡ b → 0 < b → i < length src
 stands_there src i b is some = elim (cases_lt i (length src)) as (λ x. i < length src) [ inl more ↦ more | inr past ↦ let out : slice_index src i ≡ 0 = get_or_past src i 0 past in absurd (omega arith) ]
 
-byte_is : (src : List ℕ) (i b : ℕ) → slice_index src i ≡ b → 0 < b → byte_at b src i ≡ Ok (tt, i + 1)
+pub byte_is : (src : List ℕ) (i b : ℕ) → slice_index src i ≡ b → 0 < b → byte_at b src i ≡ Ok (tt, i + 1)
 unfolding byte_at
 byte_is src i b is some = rw (lt-leb (length src) i (stands_there src i b is some), eq-eqb (slice_index src i) b is) refl
 
@@ -36,7 +35,7 @@ quote_is src i is =
     rw (lt-leb (length src) i (stands_there src i 34 is (omega arith)), e) (ap (λ (n : ℕ). Ok (n, i + 1)) is)
 
 -- a name without colon, behind which `=` stands
-name_is : (src : List ℕ) (i k : ℕ) → begins is_name_start src i ≡ true → k ≡ run_end is_part_char src i → slice_index src k ≡ 61 → qname_at src i ≡ Ok (record { prefix = []; local = slice_range src i k }, k)
+pub name_is : (src : List ℕ) (i k : ℕ) → begins is_name_start src i ≡ true → k ≡ run_end is_part_char src i → slice_index src k ≡ 61 → qname_at src i ≡ Ok (record { prefix = []; local = slice_range src i k }, k)
 unfolding qname_at
 name_is src i k some end is = rw (← end, is, some) refl
 

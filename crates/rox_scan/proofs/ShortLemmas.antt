@@ -9,9 +9,9 @@ use Rattle.rox_grammar.specs.Content.{is_verbatim}
 use Rattle.rox_grammar.specs.Search.{byte_from}
 use Rattle.rox_reading.specs.Lexical.{has_mark, chars_up_to}
 use Rattle.rox_reading.specs.Values.{raw_character_data_at}
-use Rattle.rox_scan.specs.ByteSets.{AllPass, is_text_byte}
-use Rattle.rox_scan.proofs.NearLemmas.{near_found, near_chars, text_is_plain, none_among, read_among}
-use Rattle.rox_scan.proofs.MarkLemmas.{no_mark}
+use Rattle.rox_bytes.specs.ByteSets.{AllPass, is_text_byte}
+use Rattle.rox_bytes.proofs.NearLemmas.{near_found, near_chars, text_is_plain, none_among, read_among}
+use Rattle.rox_bytes.proofs.MarkLemmas.{no_mark}
 use Rattle.rox_scan.specs.Lookahead.{IsLookahead, ends_run, changes_run}
 use Rattle.rox_scan.proofs.LongerLemmas.{looked_run}
 

@@ -1,7 +1,4 @@
-pub mod ScanResults
+pub mod CursorSteps
 pub mod Views
-pub mod ByteSets
-pub mod Nibbles
 pub mod DoctypeViews
 pub mod Lookahead
-pub mod Windows

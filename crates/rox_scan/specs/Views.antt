@@ -1,4 +1,4 @@
--- What the scanner's values are without where they lie in memory.
+-- The values of the scanner, without where they are in memory.
 use Rattle.std.specs.Prelude.{◌≡◌, ◌≤◌, List, ℕ, Bool, Option, Result, IfOk, Ok, option_map, slice_range}
 use Rattle.std.specs.Borrow.{Bor}
 use Rattle.std.specs.Str.{IsCharBoundary}
@@ -7,7 +7,7 @@ use Rattle.rox_reading.specs.Markup as markup
 use Rattle.rox_reading.specs.Values.{raw_character_data_at}
 use Rattle.rox_grammar.specs.Failures.{name_view}
 use Rattle.rox_grammar.specs.declared.fault.Fault.{Fault}
-use Rattle.rox_scan.specs.ScanResults.{Steps}
+use Rattle.rox_scan.specs.CursorSteps.{Steps}
 use Rattle.rox_scan.specs.declared.cursor.Cursor.{Cursor}
 use Rattle.rox_scan.specs.declared.character_data.RawCharacterData.{RawCharacterData}
 use Rattle.rox_scan.specs.declared.markup.Instruction.{Instruction}
@@ -24,7 +24,7 @@ text_view o = option_map (λ x. x.now) o
 abbrev pub instruction_view : Instruction → markup.Instruction
 instruction_view p = record { target = p.target.now; value = text_view p.value }
 
--- a comment is read at this place
+-- A comment is read at `i`.
 pub record IsComment (src : List ℕ) (i : ℕ) (c : WholeComment) : Type 0 where
   pub read : markup.comment_at src i ≡ Ok (c.text.now, c.end)
   pub cut : IsCharBoundary src c.end
@@ -41,43 +41,43 @@ tag_item_view (item.More a) = markup.more (attribute_view a)
 tag_item_view item.Open = markup.opened
 tag_item_view item.Empty = markup.closed
 
--- the attribute's value is what stands between two places of the text
+-- The value of the attribute is the text between two of its offsets.
 pub record HasValue (text : List ℕ) (a : RawAttribute) : Type 0 where
   pub ordered : a.value_start ≤ a.value_end
   pub from : IsCharBoundary text a.value_start
   pub until : IsCharBoundary text a.value_end
   pub is : a.value.now ≡ slice_range text a.value_start a.value_end
-  -- it says whether it has nothing to change
+  -- It is known whether the value needs no replacement.
   pub verbatim : a.is_verbatim ≡ is_verbatim_value a.value.now
 
--- a value in these quotes is read up to the quote, and it says whether it has nothing to change
+-- A value in the quotes `quote` is read up to the quote, and the result says whether it needs no replacement.
 pub record ReadsValue (quote : ℕ) (old new : Cursor) (result : Result RawValue Fault) : Type 0 where
   pub read : Steps (λ x. x.text.now) old new result (markup.raw_value_at quote)
   pub text : IfOk result (λ x. x.text.now ≡ slice_range old.text.now old.pos new.pos)
   pub verbatim : IfOk result (λ x. x.is_verbatim ≡ is_verbatim_value x.text.now)
 
--- a value in these quotes is passed over, up to the quote, and the answer says whether it has nothing to change
+-- A value in the quotes `quote` is passed, up to the quote, and the result says whether it needs no replacement.
 pub record PassesValue (quote : ℕ) (old new : Cursor) (result : Result Bool Fault) : Type 0 where
   pub read : Steps (λ _. slice_range old.text.now old.pos new.pos) old new result (markup.raw_value_at quote)
   pub verbatim : IfOk result (λ v. v ≡ is_verbatim_value (slice_range old.text.now old.pos new.pos))
 
--- the same of an attribute that a start tag holds next
+-- The value of an attribute that is the next item of a start tag is the text between two of its offsets.
 abbrev pub TagItemHasValue : List ℕ → TagItem → Type 0
 TagItemHasValue text (item.More a) = HasValue text a
 TagItemHasValue text item.Open = Unit {0}
 TagItemHasValue text item.Empty = Unit {0}
 
--- an attribute is read, and its value is what stands between its places
+-- An attribute is read, and its value is the text between its offsets.
 pub record ReadsAttribute (old new : Cursor) (result : Result RawAttribute Fault) : Type 0 where
   pub read : Steps attribute_view old new result markup.attribute_at
   pub text : IfOk result (λ a. HasValue old.text.now a)
 
--- so is what a start tag holds next
+-- The next item of a start tag is read. If it is an attribute, its value is the text between its offsets.
 pub record ReadsTagItem (old new : Cursor) (result : Result TagItem Fault) : Type 0 where
   pub read : Steps tag_item_view old new result markup.tag_item_at
   pub text : IfOk result (λ t. TagItemHasValue old.text.now t)
 
--- a run of character data is read, and it says whether it has nothing to change
+-- Character data is read, and the result says whether it needs no replacement.
 pub record ReadsRun (old new : Cursor) (result : Result RawCharacterData Fault) : Type 0 where
   pub read : Steps (λ raw. raw.text.now) old new result raw_character_data_at
   pub verbatim : IfOk result (λ raw. raw.is_verbatim ≡ is_verbatim raw.text.now)

@@ -1,5 +1,5 @@
-//! Runs of character data as they stand (XML 1.0 section 2.4): a first look, a longer one where that stops at a byte that may be
-//! in order, and the fault of `]]>`.
+//! Character data as it is written (XML 1.0 section 2.4). There is a fast path, a slow path from a byte that may be valid, and
+//! the fault of `]]>`.
 
 ghost use Rattle.std.specs.Prelude.{◌≡◌, ◌==◌, ◌||◌, ◌&&◌, ◌+◌, ◌<◌, ◌≤◌, ℕ, IfOk, IfSome, OnOk, Ok, false, true, length, slice_index, slice_range};
 ghost use Rattle.std.specs.Str.{IsCharBoundary};
@@ -8,27 +8,26 @@ ghost use Rattle.rox_grammar.specs.Runs.{begins};
 ghost use Rattle.rox_grammar.specs.Constructs.{AreChars};
 ghost use Rattle.rox_grammar.specs.Content as content;
 ghost use Rattle.rox_reading.specs.Values as spec;
-ghost use Rattle.rox_scan.specs.ByteSets as near;
-ghost use Rattle.rox_scan.specs.ByteSets.{EndsText};
+ghost use Rattle.rox_bytes.specs.ByteSets as near;
+ghost use Rattle.rox_bytes.specs.ByteSets.{EndsText};
 ghost use Rattle.rox_scan.specs.Lookahead as longer;
 ghost use Rattle.rox_scan.specs.Lookahead.{IsLineRun, IsLookahead, IsStep, LooksAhead};
 ghost use Rattle.rox_scan.specs.Views.{ReadsRun};
-ghost use Rattle.rox_scan.specs.ScanResults.{HasWideAt};
+ghost use Rattle.rox_bytes.specs.ScanResults.{HasWideAt};
 
-use crate::byte_set::{BEHIND_CONTROLS, ByteSet, find_other, skip_set, wide_first};
 use crate::cursor::Cursor;
 use crate::lookahead::{Lookahead, after_char, is_mark_at};
-use crate::nibbles::by_low;
-use crate::runs::{after_byte, is_at};
-use crate::search::{before_either, byte_from, has_mark};
+use rox_bytes::byte_set::{BEHIND_CONTROLS, ByteSet, find_other, skip_set, wide_first};
+use rox_bytes::nibbles::by_low;
+use rox_bytes::runs::{after_byte, is_at};
+use rox_bytes::search::{before_either, byte_from, has_mark};
 use rox_grammar::fault::Fault;
 use std::simd::prelude::*;
 
-/// The bytes of character data that stand for themselves: no `&`, `<` or `]`, not 239, and no control but TAB and LF.
+/// The bytes of character data that need no other test: no `&`, `<` or `]`, not 239, and no control except TAB and LF.
 pub struct TextByte;
 
-// A `#` at the place of each byte of character data that stands for itself: all but `&`, `<`, `]`, 239 and the controls except
-// TAB and LF.
+// A `#` at the index of each byte of the set: all except `&`, `<`, `]`, 239 and the controls other than TAB and LF.
 static TEXT_BYTES: [u8; 256] = *b"\
     .........##.....................\
     ######.#####################.###\
@@ -39,7 +38,7 @@ static TEXT_BYTES: [u8; 256] = *b"\
     ################################\
     ###############.################";
 
-// The controls of the set, and the ASCII bytes above them that are none of it, each at its low half.
+// The controls of the set, and the ASCII bytes above them that are not in it, each at its low half.
 const TEXT_EXCEPTIONS: [u8; 16] = [
     1, 0, 0, 0, 0, 0, b'&', 0, 0, b'\t', b'\n', 0, b'<', b']', 0, 0,
 ];
@@ -60,14 +59,14 @@ impl ByteSet for TextByte {
     }
 }
 
-/// The ASCII bytes of them.
+/// The ASCII bytes of `TextByte`.
 pub struct AsciiTextByte;
 
 impl ByteSet for AsciiTextByte {
     ghost test = { near.is_ascii_text_byte };
 
     #[inline(always)]
-    #[tactic(auto, unfolding(crate::specs::ByteSets::is_ascii_text_byte))]
+    #[tactic(auto, unfolding(rox_bytes::specs::ByteSets::is_ascii_text_byte))]
     fn has(byte: u8) -> bool {
         (byte < 128) & TextByte::has(byte)
     }
@@ -80,8 +79,8 @@ impl ByteSet for AsciiTextByte {
     }
 }
 
-/// Where the `<` stands behind the bytes of character data from `at` on that stand for themselves, if one does. Most often they are
-/// ASCII, for which a look is quicker.
+/// Returns the offset of the `<` after the bytes of character data from `at` on that need no replacement, if one is there. Most
+/// often these bytes are ASCII, for which the test is quicker.
 #[inline(always)]
 pub fn text_end(text: &str, at: usize) -> Option<usize>
     requires { at ≤ length text.now }
@@ -99,7 +98,7 @@ pub fn text_end(text: &str, at: usize) -> Option<usize>
     None
 }
 
-/// Whether a run ends at `at`: a `<` stands there, or the text ends.
+/// Returns whether character data ends at `at`: a `<` is there, or the text ends.
 #[inline(always)]
 pub fn ends_character_data(text: &str, at: usize) -> bool
     requires { at ≤ length text.now }
@@ -108,7 +107,7 @@ pub fn ends_character_data(text: &str, at: usize) -> bool
     at == text.len() || text.as_bytes()[at] == b'<'
 }
 
-/// `&` or a carriage return.
+/// Returns whether a byte changes character data: `&` or CR.
 #[inline(always)]
 fn changes_run(byte: u8) -> bool
     ensures { result ≡ longer.changes_run byte }
@@ -116,7 +115,7 @@ fn changes_run(byte: u8) -> bool
     (byte == b'&') | (byte == b'\r')
 }
 
-/// A run of character data as far as it is in order, up to a `<`, a `]]>` or the end.
+/// Returns how far the character data from the cursor on is valid, up to a `<`, a `]]>` or the end.
 pub fn scan_character_data(from: Cursor<'_>) -> Lookahead
     ensures { LooksAhead (longer.ends_run from.entry.text.now) longer.changes_run
         from.entry.text.now from.entry.pos result.end result.is_verbatim }
@@ -140,7 +139,7 @@ pub fn scan_character_data(from: Cursor<'_>) -> Lookahead
     Lookahead { end, is_verbatim }
 }
 
-/// Whether these are the bytes of U+FFFE or U+FFFF behind the first, which stands at `at`.
+/// Returns whether the two bytes after `at` are the last two of U+FFFE or U+FFFF.
 #[inline(always)]
 fn begins_no_char(text: &str, at: usize) -> bool
     requires { at < length text.now }
@@ -150,7 +149,7 @@ fn begins_no_char(text: &str, at: usize) -> bool
     is_at(text, at + 1, 191) && (is_at(text, at + 2, 190) || is_at(text, at + 2, 191))
 }
 
-/// The place behind the Char that begins with 239 at `at`, or `at` where U+FFFE or U+FFFF begins.
+/// Returns the offset after the Char that starts with 239 at `at`, or `at` if it is U+FFFE or U+FFFF, which are not Chars.
 #[inline(always)]
 fn after_wide(text: &str, at: usize) -> usize
     requires { HasWideAt text.now at }
@@ -162,7 +161,7 @@ fn after_wide(text: &str, at: usize) -> usize
     at + 3
 }
 
-/// Where character data from here on ends that stands for itself, or goes on with another byte.
+/// Returns the end of the character data from the cursor on that needs no replacement. It ends there, or another byte follows.
 #[inline(always)]
 pub fn plain_run_end(from: Cursor<'_>) -> usize
     ensures { IsLookahead (longer.ends_run from.entry.text.now) longer.changes_run
@@ -176,7 +175,8 @@ pub fn plain_run_end(from: Cursor<'_>) -> usize
     near
 }
 
-/// The same where a character may begin with 239, as full-width forms do: all but U+FFFE and U+FFFF are Chars.
+/// Like `plain_run_end`, but from a character that starts with byte 239, as full-width forms do. All of these except U+FFFE and
+/// U+FFFF are Chars.
 #[inline(never)]
 fn wide_run_end(from: Cursor<'_>) -> usize
     ensures { IsLookahead (longer.ends_run from.entry.text.now) longer.changes_run
@@ -199,7 +199,7 @@ fn wide_run_end(from: Cursor<'_>) -> usize
     end
 }
 
-/// Where a run ends that is a line end, a CR and a LF, and behind it bytes that stand for themselves. None where it is another.
+/// Returns the end of the character data at `from` if it is CR LF followed only by `TextByte`s; otherwise `None`.
 #[inline(always)]
 pub fn line_run_end(from: Cursor<'_>) -> Option<usize>
     ensures { IfSome result (IsLineRun from.entry.text.now from.entry.pos) }
@@ -220,7 +220,7 @@ pub fn line_run_end(from: Cursor<'_>) -> Option<usize>
     Some(end)
 }
 
-/// Whether the bytes are a run's text as they stand: they have no `&` and no CR.
+/// Returns whether character data needs no replacement: it has no `&` and no CR.
 #[inline]
 fn is_verbatim(bytes: &[u8]) -> bool
     ensures { result ≡ content.is_verbatim bytes.now }
@@ -228,15 +228,15 @@ fn is_verbatim(bytes: &[u8]) -> bool
     before_either(bytes, b'&', b'\r') == bytes.len()
 }
 
-/// A run of character data as it stands. `is_verbatim` says that it has no reference and no carriage return.
+/// Character data as it is written. `is_verbatim` is true if it has no reference and no CR.
 #[derive(Clone, Copy)]
 pub struct RawCharacterData<'input> {
     pub text: &'input str,
     pub is_verbatim: bool,
 }
 
-/// A run of character data, up to the next `<` or the end (XML 1.0 section 2.4), as it stands: of Chars, and without `]]>`,
-/// which is a fault at its end.
+/// Reads character data as it is written, up to the next `<` or the end (XML 1.0 section 2.4). A character that is not a Char is
+/// a fault. So is a `]]>`, at the end of the data.
 pub fn raw_character_data<'input>(
     cursor: &mut Cursor<'input>,
 ) -> Result<RawCharacterData<'input>, Fault>
@@ -255,7 +255,7 @@ pub fn raw_character_data<'input>(
     faulty_character_data(cursor)
 }
 
-/// The same of a run that is not in order.
+/// Like `raw_character_data`, but the slow path, for character data with a fault.
 #[cold]
 #[inline(never)]
 #[tactic(auto, unfolding(rox_reading::specs::Values::raw_character_data_at))]

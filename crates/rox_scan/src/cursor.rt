@@ -1,17 +1,23 @@
-//! A place in a source, and the small steps that read from it.
+//! An offset in a source, and the small steps that read from it.
 
 ghost use Rattle.std.specs.Prelude.{◌≡◌, ◌==◌, ◌||◌, IfOk, ◌+◌, ◌<◌, ◌≤◌, true, length, slice_range, nat_le};
 ghost use Rattle.std.specs.Str.{IsCharBoundary, IsUtf8};
 ghost use Rattle.std.proofs.Props.{props};
+ghost use Rattle.rox_grammar.specs.Chars.{is_space};
+ghost use Rattle.rox_grammar.specs.Runs.{run_end};
+ghost use Rattle.rox_grammar.specs.Search as search;
+ghost use Rattle.rox_grammar.specs.ExpectedTexts.{expected_text};
+ghost use Rattle.rox_bytes.specs.ScanResults.{Finds};
 
-use crate::byte_set::{ByteSet, SpaceByte, part_end};
-use crate::chars::{NameChar, NameStart};
 use crate::lookahead::chars_end;
-use crate::runs::{after_byte, begins, char_at, is_at, run_end, space_end};
+use memchr::memmem;
+use rox_bytes::byte_set::{ByteSet, SpaceByte, part_end, skip_set};
+use rox_bytes::chars::{NameChar, NameStart};
+use rox_bytes::runs::{after_byte, begins, char_at, is_at, run_end};
 use rox_grammar::fault::{Due, Expected, Fault, Word};
 use rox_grammar::name::QName;
 
-/// A place between two characters of a source, as a count of bytes from its start.
+/// An offset in a source, in bytes from its start, between two characters.
 #[derive(Clone, Copy)]
 pub struct Cursor<'input> {
     pub text: &'input str,
@@ -20,10 +26,10 @@ pub struct Cursor<'input> {
     pub ghost cut: { IsCharBoundary text.now pos },
 }
 
-/// Fixed texts of up to so many bytes are compared in line.
+/// The length in bytes of the longest fixed text that is compared in line.
 const WIDEST: usize = 8;
 
-/// A quote, `'` or `"`, in which a value stands.
+/// A quote, `'` or `"`, around a value.
 #[derive(Clone, Copy)]
 pub struct Quote {
     pub byte: u8,
@@ -32,13 +38,14 @@ pub struct Quote {
 
 impl<'input> Cursor<'input> {
     ghost use Rattle.rox_grammar.specs.Failures.{name_view};
-    ghost use Rattle.rox_scan.specs.ScanResults.{AreBoundaries, HasAsciiAt, IsAt, IsBoundaryFrom, MovesTo, ReadsChars, StandsWithin, Steps};
+    ghost use Rattle.rox_bytes.specs.ScanResults.{AreBoundaries, HasAsciiAt, IsBoundaryFrom};
+    ghost use Rattle.rox_scan.specs.CursorSteps.{IsAt, MovesTo, ReadsChars, StandsWithin, Steps};
     ghost use Rattle.rox_grammar.specs.Search.{stands};
     ghost use Rattle.rox_grammar.specs.FixedTexts.{word_text};
     ghost use Rattle.rox_grammar.specs.Names.{spaces_end};
     ghost use Rattle.rox_reading.specs.Lexical as spec;
 
-    /// The start of a source.
+    /// Returns a cursor at the start of a source.
     #[inline]
     pub fn new(text: &'input str) -> Cursor<'input>
         ensures { IsAt text.entry 0 result }
@@ -46,7 +53,7 @@ impl<'input> Cursor<'input> {
         Cursor { text, pos: 0 }
     }
 
-    /// A place of a source.
+    /// Returns a cursor at the offset `pos` of a source.
     #[inline]
     pub fn at(text: &'input str, pos: usize) -> Cursor<'input>
         requires { IsCharBoundary text.now pos }
@@ -55,7 +62,8 @@ impl<'input> Cursor<'input> {
         Cursor { text, pos }
     }
 
-    /// The place `start` of a source that ends at `end`. Places count from the start of the whole text.
+    /// Returns a cursor at the offset `start` of a source that is cut off at `end`. Offsets count from the start of the whole
+    /// text.
     #[inline]
     pub fn within(text: &'input str, start: usize, end: usize) -> Cursor<'input>
         requires { AreBoundaries text.now start end }
@@ -67,7 +75,7 @@ impl<'input> Cursor<'input> {
         }
     }
 
-    /// Whether the source ends here.
+    /// Returns whether the source ends at the cursor.
     #[inline(always)]
     #[tactic(auto, using(std::proofs::lemmas::Bool::Decides::nat_tests))]
     pub fn is_at_end(&self) -> bool
@@ -76,7 +84,7 @@ impl<'input> Cursor<'input> {
         self.pos >= self.text.len()
     }
 
-    /// Moves past an ASCII byte that stands here.
+    /// Moves past the ASCII byte at the cursor.
     #[inline(always)]
     pub fn advance(&mut self)
         requires { HasAsciiAt self.old.text.now self.old.pos }
@@ -85,7 +93,7 @@ impl<'input> Cursor<'input> {
         self.pos += 1;
     }
 
-    /// Moves past any white space, also none (XML 1.0 [3] S).
+    /// Moves past white space, if there is any (XML 1.0 [3] S).
     #[inline(always)]
     pub fn spaces(&mut self)
         ensures { MovesTo (spaces_end self.old.text.now self.old.pos) self.old self.new }
@@ -93,7 +101,7 @@ impl<'input> Cursor<'input> {
         self.pos = space_end(*self);
     }
 
-    /// One or more white space. Any other byte is a fault, and so is the end.
+    /// Reads one or more characters of white space. Any other byte is a fault, and so is the end.
     #[inline]
     #[tactic(auto, unfolding(rox_reading::specs::Lexical::space_at))]
     pub fn space(&mut self) -> Result<(), Fault>
@@ -110,7 +118,7 @@ impl<'input> Cursor<'input> {
         Ok(())
     }
 
-    /// The ASCII byte. Any other is a fault, and so is the end.
+    /// Reads the ASCII byte `byte`. Any other byte is a fault, and so is the end.
     #[inline]
     #[tactic(auto, unfolding(rox_reading::specs::Lexical::byte_at))]
     pub fn byte(&mut self, byte: u8) -> Result<(), Fault>
@@ -128,7 +136,7 @@ impl<'input> Cursor<'input> {
         Ok(())
     }
 
-    /// A quote, `'` or `"`, which it answers. Any other byte is a fault, and so is the end.
+    /// Reads a quote, `'` or `"`, and returns it. Any other byte is a fault, and so is the end.
     #[inline]
     #[tactic(auto, unfolding(rox_reading::specs::Lexical::quote_at))]
     pub fn quote(&mut self) -> Result<Quote, Fault>
@@ -145,7 +153,7 @@ impl<'input> Cursor<'input> {
         Ok(Quote { byte: here })
     }
 
-    /// The longest name (XML 1.0 [5] Name). It is a fault where none begins here.
+    /// Reads the longest name (XML 1.0 [5] Name). It is a fault if no name starts at the cursor.
     #[inline]
     #[tactic(auto, unfolding(rox_reading::specs::Lexical::name_at))]
     pub fn name(&mut self) -> Result<&'input str, Fault>
@@ -159,9 +167,10 @@ impl<'input> Cursor<'input> {
         Ok(&self.text[start..self.pos])
     }
 
-    /// Whether the fixed text stands here. A long one is compared out of line: most that are none differ in their second byte.
+    /// Returns whether the fixed text `word` is at the cursor. A long one is compared out of line: most texts that differ from it
+    /// do so in the second byte.
     #[inline]
-    #[tactic(auto, using(crate::proofs::MarkLemmas::differs_early), unfolding(rox_grammar::specs::Search::stands))]
+    #[tactic(auto, using(rox_bytes::proofs::MarkLemmas::differs_early), unfolding(rox_grammar::specs::Search::stands))]
     pub fn starts(&self, word: Word) -> bool
         ensures { result ≡ stands (word_text word) self.now.text.now self.now.pos }
     {
@@ -173,7 +182,7 @@ impl<'input> Cursor<'input> {
         rest.starts_with(word)
     }
 
-    /// Moves past a fixed text that stands here.
+    /// Moves past the fixed text `word`, which is at the cursor.
     #[inline]
     pub fn skip(&mut self, word: Word)
         requires { stands (word_text word) self.old.text.now self.old.pos ≡ true }
@@ -182,7 +191,7 @@ impl<'input> Cursor<'input> {
         self.pos += word.text().len();
     }
 
-    /// The fixed text. It is a fault where it does not stand here.
+    /// Reads the fixed text `expected`. It is a fault if the text is not at the cursor.
     #[inline]
     #[tactic(auto, unfolding(rox_reading::specs::Lexical::string_at))]
     pub fn string(&mut self, expected: Expected) -> Result<(), Fault>
@@ -196,8 +205,8 @@ impl<'input> Cursor<'input> {
         Ok(())
     }
 
-    /// The longest run of name characters, split at its colon (Namespaces in XML section 4). A second colon, an empty local
-    /// part and a part that does not begin as a name are faults at the start of the run.
+    /// Reads the longest run of name characters, split at its colon (Namespaces in XML section 4). A second colon, an empty local
+    /// part and a part that does not start as a name are faults at the start of the run.
     #[inline(always)]
     #[tactic(auto, unfolding(rox_reading::specs::Lexical::qname_at))]
     pub fn qname(&mut self) -> Result<QName<'input>, Fault>
@@ -231,7 +240,7 @@ impl<'input> Cursor<'input> {
         })
     }
 
-    /// The text up to `end`. A character that is no Char (XML 1.0 [2]) is a fault at its place.
+    /// Reads the text up to `end`. A character that is not a Char (XML 1.0 [2]) is a fault at its offset.
     #[inline]
     #[tactic(auto, unfolding(rox_reading::specs::Lexical::chars_up_to))]
     pub fn chars_up_to(&mut self, end: usize) -> Result<&'input str, Fault>
@@ -249,4 +258,40 @@ impl<'input> Cursor<'input> {
         self.pos = end;
         Ok(&self.text[start..end])
     }
+}
+
+/// Returns the end of the white space that starts at the cursor, sixteen bytes at a time.
+#[inline(always)]
+pub fn far_space_end(from: Cursor<'_>) -> usize
+    ensures { Finds from.entry.text.now from.entry.pos result
+        (run_end is_space from.entry.text.now from.entry.pos) }
+{
+    skip_set::<SpaceByte>(from.text, from.pos)
+}
+
+/// Returns the end of the white space that starts at the cursor, byte by byte.
+#[inline(always)]
+#[tactic(auto, using(rox_bytes::proofs::RunLemmas::space_steps))]
+pub fn space_end(from: Cursor<'_>) -> usize
+    ensures { Finds from.entry.text.now from.entry.pos result
+        (run_end is_space from.entry.text.now from.entry.pos) }
+{
+    let text = from.text;
+    let bytes = text.as_bytes();
+    let mut end = from.pos;
+    while end < bytes.len() && SpaceByte::has(bytes[end]) {
+        end += 1;
+    }
+    end
+}
+
+/// Returns the offset of the first `mark` from the cursor on, or the end. The time is linear in the length of the text, whatever
+/// it holds.
+#[inline]
+pub fn mark_from(from: Cursor<'_>, mark: Expected) -> usize
+    ensures { Finds from.entry.text.now from.entry.pos result
+        (search.mark_from (expected_text mark) from.entry.text.now from.entry.pos) }
+{
+    let rest = from.text[from.pos..].as_bytes();
+    from.pos + memmem::find(rest, mark.text()).unwrap_or(rest.len())
 }

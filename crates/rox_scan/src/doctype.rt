@@ -5,15 +5,15 @@ ghost use Rattle.rox_grammar.specs.Search.{stands};
 ghost use Rattle.rox_grammar.specs.FixedTexts.{word_text};
 ghost use Rattle.rox_grammar.specs.declared.fault.Word.TheVariants as word;
 ghost use Rattle.rox_reading.specs.Doctype as spec;
-ghost use Rattle.rox_scan.specs.ScanResults.{Steps};
+ghost use Rattle.rox_scan.specs.CursorSteps.{Steps};
 ghost use Rattle.rox_scan.specs.DoctypeViews.{ReadsQuoted, definition_view, head_view, inner_at, is_skipped_declaration, outer_at, skipped_declaration_at, request_view, subset_end_at};
 
 use crate::cursor::Cursor;
-use crate::runs::{after_byte, is_at};
-use crate::search::byte_from;
+use rox_bytes::runs::{after_byte, is_at};
+use rox_bytes::search::byte_from;
 use rox_grammar::fault::{Due, Fault, Word};
 
-/// What an external entity is known by: its public identifier, if it has one, and its system identifier, as they are written
+/// The identifiers of an external entity: its public identifier, if it has one, and its system identifier, as they are written
 /// (XML 1.0 [75] ExternalID).
 #[derive(Clone, Copy)]
 pub struct ExternalId<'input> {
@@ -21,16 +21,16 @@ pub struct ExternalId<'input> {
     pub uri: &'input str,
 }
 
-/// What an entity is declared as (XML 1.0 [73] EntityDef, [74] PEDef).
+/// The definition of an entity (XML 1.0 [73] EntityDef, [74] PEDef).
 #[derive(Clone, Copy)]
 pub enum Definition<'input> {
     /// The text in quotes: its start, in the source cut off at its end.
     Inner(Cursor<'input>),
-    /// What has to be asked for.
+    /// The identifiers by which the entity must be requested.
     Outer(ExternalId<'input>),
 }
 
-/// An entity's declaration, up to its definition.
+/// The declaration of an entity, up to its definition.
 #[derive(Clone, Copy)]
 pub struct EntityHead<'input> {
     /// Whether it is a parameter entity, declared by `%`.
@@ -39,7 +39,7 @@ pub struct EntityHead<'input> {
 }
 
 impl<'input> Cursor<'input> {
-    /// The places between which a text in quotes stands. It ends at the first quote like the one before it.
+    /// Reads a text in quotes, and returns its range in bytes. It ends at the first quote that equals the one before it.
     #[tactic(auto, unfolding(rox_reading::specs::Doctype::quoted_at))]
     fn quoted_span(&mut self) -> Result<(usize, usize), Fault>
         ensures { ReadsQuoted self.old self.new result }
@@ -52,7 +52,8 @@ impl<'input> Cursor<'input> {
         Ok((start, end))
     }
 
-    /// Any characters but the quote, in quotes (XML 1.0 [11] SystemLiteral, [12] PubidLiteral). It answers the text between these.
+    /// Reads any characters except the quote, in quotes (XML 1.0 [11] SystemLiteral, [12] PubidLiteral). Returns the text between
+    /// these.
     #[tactic(auto, unfolding(rox_reading::specs::Doctype::quoted_at))]
     fn quoted(&mut self) -> Result<&'input str, Fault>
         ensures { Steps (λ x. x.now) self.old self.new result spec.quoted_at }
@@ -61,7 +62,7 @@ impl<'input> Cursor<'input> {
         Ok(&self.text[start..end])
     }
 
-    /// The system identifier, from `SYSTEM`.
+    /// Reads the system identifier, from `SYSTEM`.
     #[tactic(auto, unfolding(rox_reading::specs::Doctype::system_at))]
     fn system(&mut self) -> Result<ExternalId<'input>, Fault>
         requires { stands (word_text word.System) self.old.text.now self.old.pos ≡ true }
@@ -76,7 +77,7 @@ impl<'input> Cursor<'input> {
         })
     }
 
-    /// The public identifier and the system identifier, from `PUBLIC`.
+    /// Reads the public identifier and the system identifier, from `PUBLIC`.
     #[tactic(auto, unfolding(rox_reading::specs::Doctype::public_at))]
     fn public(&mut self) -> Result<ExternalId<'input>, Fault>
         requires { stands (word_text word.Public) self.old.text.now self.old.pos ≡ true }
@@ -93,7 +94,7 @@ impl<'input> Cursor<'input> {
         })
     }
 
-    /// An external identifier, from `SYSTEM` or `PUBLIC` (XML 1.0 [75] ExternalID). Anything else is a fault.
+    /// Reads an external identifier, from `SYSTEM` or `PUBLIC` (XML 1.0 [75] ExternalID). Anything else is a fault.
     #[tactic(auto, unfolding(rox_reading::specs::Doctype::external_id_at))]
     fn external_id(&mut self) -> Result<ExternalId<'input>, Fault>
         ensures { Steps request_view self.old self.new result spec.external_id_at }
@@ -107,7 +108,7 @@ impl<'input> Cursor<'input> {
         Err(Fault::InvalidExternalID(self.pos))
     }
 
-    /// A name, or nothing where the source ends.
+    /// Reads a name, or nothing if the source ends.
     #[tactic(auto, unfolding(rox_reading::specs::Doctype::name_or_end_at))]
     fn name_or_end(&mut self) -> Result<&'input str, Fault>
         ensures { Steps (λ x. x.now) self.old self.new result spec.name_or_end_at }
@@ -118,8 +119,8 @@ impl<'input> Cursor<'input> {
         self.name()
     }
 
-    /// White space and the notation of an external entity, if one is named here (XML 1.0 [76] NDataDecl). A parameter entity
-    /// has none, and no white space is read for it.
+    /// Reads white space and the notation of an external entity, if one is named at the cursor (XML 1.0 [76] NDataDecl). A
+    /// parameter entity has no notation, and no white space is read for it.
     #[tactic(auto, unfolding(rox_reading::specs::Doctype::notation_at))]
     fn notation(&mut self, parameter: bool) -> Result<(), Fault>
         ensures { Steps (λ x. x) self.old self.new result (spec.notation_at parameter) }
@@ -137,7 +138,7 @@ impl<'input> Cursor<'input> {
         Ok(())
     }
 
-    /// A text in quotes, as the replacement text that it is (XML 1.0 [9] EntityValue, section 4.5).
+    /// Reads a text in quotes, and returns it as the replacement text (XML 1.0 [9] EntityValue, section 4.5).
     fn inner(&mut self) -> Result<Definition<'input>, Fault>
         ensures { Steps definition_view self.old self.new result inner_at }
     {
@@ -145,7 +146,7 @@ impl<'input> Cursor<'input> {
         Ok(Definition::Inner(Cursor::within(self.text, start, end)))
     }
 
-    /// An external identifier, and the notation behind it.
+    /// Reads an external identifier, and the notation after it.
     fn outer(&mut self, parameter: bool) -> Result<Definition<'input>, Fault>
         ensures { Steps definition_view self.old self.new result (outer_at parameter) }
     {
@@ -154,8 +155,8 @@ impl<'input> Cursor<'input> {
         Ok(Definition::Outer(id))
     }
 
-    /// What an entity is declared as (XML 1.0 [73] EntityDef, [74] PEDef). Where neither a quote nor the first letter of
-    /// `SYSTEM` or `PUBLIC` stands it is a fault, and so is the end.
+    /// Reads the definition of an entity (XML 1.0 [73] EntityDef, [74] PEDef). It is a fault if neither a quote nor the first
+    /// letter of `SYSTEM` or `PUBLIC` is at the cursor, and so is the end.
     #[tactic(auto, unfolding(rox_reading::specs::Doctype::definition_at))]
     pub fn definition(&mut self, parameter: bool) -> Result<Definition<'input>, Fault>
         ensures { Steps definition_view self.old self.new result (spec.definition_at parameter) }
@@ -173,7 +174,7 @@ impl<'input> Cursor<'input> {
         Err(Fault::InvalidChar2(Due::EntityDefinition, here, self.pos))
     }
 
-    /// `%` and the white space behind it, if it stands here. Answers whether it does.
+    /// Reads `%` and the white space after it, if it is at the cursor. Returns whether it is.
     #[tactic(auto, unfolding(rox_reading::specs::Doctype::kind_at))]
     fn kind(&mut self) -> Result<bool, Fault>
         ensures { Steps (λ x. x) self.old self.new result spec.kind_at }
@@ -186,7 +187,7 @@ impl<'input> Cursor<'input> {
         Ok(true)
     }
 
-    /// An entity's declaration, from `<!ENTITY` up to its definition (XML 1.0 [71] GEDecl, [72] PEDecl).
+    /// Reads the declaration of an entity, from `<!ENTITY` up to its definition (XML 1.0 [71] GEDecl, [72] PEDecl).
     #[tactic(auto, unfolding(rox_reading::specs::Doctype::entity_head_at))]
     pub fn entity_head(&mut self) -> Result<EntityHead<'input>, Fault>
         requires { stands (word_text word.EntityStart) self.old.text.now self.old.pos ≡ true }
@@ -200,7 +201,7 @@ impl<'input> Cursor<'input> {
         Ok(EntityHead { parameter, name })
     }
 
-    /// An external identifier, if one stands here.
+    /// Reads an external identifier, if one is at the cursor.
     #[tactic(auto, unfolding(rox_reading::specs::Doctype::external_id_if))]
     fn external_id_if(&mut self) -> Result<(), Fault>
         ensures { Steps (λ x. x) self.old self.new result spec.external_id_if }
@@ -211,8 +212,8 @@ impl<'input> Cursor<'input> {
         Ok(())
     }
 
-    /// A document type declaration, from `<!DOCTYPE` up to its `[` or `>` (XML 1.0 [28] doctypedecl). Its external subset is
-    /// never asked for.
+    /// Reads a document type declaration, from `<!DOCTYPE` up to its `[` or `>` (XML 1.0 [28] doctypedecl). Its external subset
+    /// is never requested.
     #[tactic(auto, unfolding(rox_reading::specs::Doctype::doctype_head_at))]
     pub fn doctype_head(&mut self) -> Result<(), Fault>
         requires { stands (word_text word.DoctypeStart) self.old.text.now self.old.pos ≡ true }
@@ -227,7 +228,8 @@ impl<'input> Cursor<'input> {
         Ok(())
     }
 
-    /// Whether a declaration stands here that is passed over (XML 1.0 [45] elementdecl, [52] AttlistDecl, [82] NotationDecl).
+    /// Returns whether a declaration that is skipped is at the cursor (XML 1.0 [45] elementdecl, [52] AttlistDecl, [82]
+    /// NotationDecl).
     pub fn is_skipped_declaration(&self) -> bool
         ensures { result ≡ is_skipped_declaration self.now.text.now self.now.pos }
     {
@@ -236,8 +238,8 @@ impl<'input> Cursor<'input> {
             || self.starts(Word::NotationStart)
     }
 
-    /// Moves past a declaration, to its first `>`, even one within quotes. Where none follows it is a fault at `start`, where
-    /// the document type declaration begins.
+    /// Moves past a declaration, to after its first `>`, even one in quotes. If none follows, it is a fault at `start`, where the
+    /// document type declaration starts.
     pub fn skip_declaration(&mut self, start: usize) -> Result<(), Fault>
         ensures { Steps (λ x. x) self.old self.new result (skipped_declaration_at start) }
     {
@@ -249,7 +251,7 @@ impl<'input> Cursor<'input> {
         Ok(())
     }
 
-    /// The end of a document type declaration, from the `]` of its internal subset (XML 1.0 [28] doctypedecl).
+    /// Reads the end of a document type declaration, from the `]` of its internal subset (XML 1.0 [28] doctypedecl).
     pub fn subset_end(&mut self) -> Result<(), Fault>
         requires { slice_index self.old.text.now self.old.pos ≡ 93 }
         ensures { Steps (λ x. x) self.old self.new result subset_end_at }

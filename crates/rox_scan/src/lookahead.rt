@@ -1,5 +1,5 @@
-//! A longer look at a value or a comment, where the first look stops at a byte that may be in order: a reference, white space,
-//! the other quote, a dash, or a character that begins with 239.
+//! The slow path of values and comments, from a byte that ends the fast path but may be valid. These are bytes of references,
+//! white space, the other quote, a dash, and 239.
 
 ghost use Rattle.std.specs.Prelude.{◌≡◌, ◌==◌, ◌||◌, ◌<◌, ◌≤◌, ℕ, true, length, slice_index};
 ghost use Rattle.std.specs.Str.{IsCharBoundary};
@@ -9,27 +9,29 @@ ghost use Rattle.rox_grammar.specs.Constructs.{AreChars};
 ghost use Rattle.rox_grammar.specs.Search.{stands};
 ghost use Rattle.rox_grammar.specs.Content as content;
 ghost use Rattle.rox_reading.specs.Values as reading;
-ghost use Rattle.rox_scan.specs.ByteSets as near;
+ghost use Rattle.rox_bytes.specs.ByteSets as near;
 ghost use Rattle.rox_scan.specs.Lookahead as longer;
 ghost use Rattle.rox_scan.specs.Lookahead.{EndsComment, IsAfterChar, IsLookahead, LooksAhead, LooksAtValue};
-ghost use Rattle.rox_scan.specs.ScanResults.{Finds, HasCharAt, MayHaveMark};
+ghost use Rattle.rox_bytes.specs.ScanResults.{Finds, HasCharAt, MayHaveMark};
 
-use crate::byte_set::{AsciiCommentByte, ByteSet, CharByte, CommentByte, WideValueByte, skip_set};
-use crate::chars::{Class, XmlChar};
 use crate::cursor::{Cursor, Quote};
-use crate::nibbles::by_low;
-use crate::runs::char_at;
+use rox_bytes::byte_set::{
+    AsciiCommentByte, ByteSet, CharByte, CommentByte, WideValueByte, skip_set,
+};
+use rox_bytes::chars::{Class, XmlChar};
+use rox_bytes::nibbles::by_low;
+use rox_bytes::runs::char_at;
 use rox_grammar::fault::Word;
 use std::simd::prelude::*;
 
-/// What a longer look tells: up to `end` all is in order, and whether it stands for itself.
+/// The result of the slow path: all is valid up to `end`, and `is_verbatim` is true if it needs no replacement.
 #[derive(Clone, Copy)]
 pub struct Lookahead {
     pub end: usize,
     pub is_verbatim: bool,
 }
 
-/// The place behind the Char that begins at `at`, or `at` where a character begins that is none.
+/// Returns the offset after the Char that starts at `at`, or `at` if the character there is not a Char.
 #[inline(always)]
 pub fn after_char(text: &str, at: usize) -> usize
     requires { HasCharAt text.now at }
@@ -47,7 +49,7 @@ pub fn after_char(text: &str, at: usize) -> usize
     }
 }
 
-/// Where the Chars from `at` on end.
+/// Returns the end of the Chars from the cursor on.
 #[inline]
 pub fn chars_end(from: Cursor<'_>) -> usize
     ensures { Finds from.entry.text.now from.entry.pos result
@@ -66,10 +68,10 @@ pub fn chars_end(from: Cursor<'_>) -> usize
     end
 }
 
-/// Whether the mark stands at `at`. Where its first byte does not, no other is looked at.
+/// Returns whether `mark` is at `at`. Other bytes are compared only if the first is equal.
 #[inline(always)]
 #[tactic(auto, using(crate::proofs::LongerLemmas::apart_from), unfolding(rox_grammar::specs::Search::stands))]
-pub(crate) fn is_mark_at(text: &str, at: usize, mark: &[u8]) -> bool
+pub fn is_mark_at(text: &str, at: usize, mark: &[u8]) -> bool
     requires { MayHaveMark text.now at mark.now }
     ensures { result ≡ stands mark.now text.now at }
 {
@@ -77,7 +79,7 @@ pub(crate) fn is_mark_at(text: &str, at: usize, mark: &[u8]) -> bool
     bytes[at] == mark[0] && bytes[at..].starts_with(mark)
 }
 
-/// `&`, or white space that is no space.
+/// Returns whether a byte is `&`, or white space other than the space.
 #[inline(always)]
 pub fn is_special(byte: u8) -> bool
     ensures { result ≡ reading.is_special byte }
@@ -85,7 +87,7 @@ pub fn is_special(byte: u8) -> bool
     (byte == b'&') | ((byte == b'\t') | ((byte == b'\n') | (byte == b'\r')))
 }
 
-/// Whether a byte stands at `at` that changes a value.
+/// Returns true only if the byte at `at` changes a value.
 #[inline(always)]
 pub fn changes(text: &str, at: usize) -> bool
     ensures { result ≡ true → reading.is_special (slice_index text.now at) ≡ true }
@@ -94,10 +96,10 @@ pub fn changes(text: &str, at: usize) -> bool
     at < bytes.len() && is_special(bytes[at])
 }
 
-/// The bytes of a stretch of a value: all but `&` and white space that is no space.
+/// The bytes of a value that do not change it: all except `&` and white space other than the space.
 pub struct StretchByte;
 
-// What ends a stretch, each byte at its low half.
+// The bytes that are not in the set, each at its low half.
 const STRETCH_ENDS: [u8; 16] = [
     1, 0, 0, 0, 0, 0, b'&', 0, 0, b'\t', b'\n', 0, 0, b'\r', 0, 0,
 ];
@@ -106,7 +108,7 @@ impl ByteSet for StretchByte {
     ghost test = { near.is_stretch_byte };
 
     #[inline(always)]
-    #[tactic(auto, unfolding(crate::specs::ByteSets::is_stretch_byte))]
+    #[tactic(auto, unfolding(rox_bytes::specs::ByteSets::is_stretch_byte))]
     fn has(byte: u8) -> bool {
         !is_special(byte)
     }
@@ -117,17 +119,17 @@ impl ByteSet for StretchByte {
     }
 }
 
-/// The bytes of a stretch of a run: all but `&` and CR.
+/// The bytes of character data that do not change it: all except `&` and CR.
 pub struct RunByte;
 
-// What ends a stretch, each byte at its low half.
+// The bytes that are not in the set, each at its low half.
 const RUN_ENDS: [u8; 16] = [1, 0, 0, 0, 0, 0, b'&', 0, 0, 0, 0, 0, 0, b'\r', 0, 0];
 
 impl ByteSet for RunByte {
     ghost test = { near.is_run_byte };
 
     #[inline(always)]
-    #[tactic(auto, unfolding(crate::specs::ByteSets::is_run_byte))]
+    #[tactic(auto, unfolding(rox_bytes::specs::ByteSets::is_run_byte))]
     fn has(byte: u8) -> bool {
         (byte != b'&') & (byte != b'\r')
     }
@@ -138,8 +140,8 @@ impl ByteSet for RunByte {
     }
 }
 
-/// A value as far as it is in order, up to its quote, a `<` or a `&`: where there is one reference there are often many, and a search
-/// for the quote is quicker then.
+/// Returns how far the value from the cursor on is valid, up to its quote, a `<` or a `&`. It stops at a `&`, as a value with one
+/// reference often has many. A search for the quote is quicker then.
 pub fn scan_value(from: Cursor<'_>, quote: Quote) -> Lookahead
     ensures { LooksAtValue quote.byte from.entry.text.now from.entry.pos result.end
         result.is_verbatim }
@@ -163,7 +165,7 @@ pub fn scan_value(from: Cursor<'_>, quote: Quote) -> Lookahead
     Lookahead { end, is_verbatim }
 }
 
-/// A comment as far as it is in order, up to two dashes or the end.
+/// Returns how far the text of a comment from the cursor on is valid, up to two dashes or the end.
 pub fn comment_end(from: Cursor<'_>) -> usize
     ensures { LooksAhead (longer.ends_comment from.entry.text.now) longer.changes_comment
         from.entry.text.now from.entry.pos result true }
@@ -184,7 +186,8 @@ pub fn comment_end(from: Cursor<'_>) -> usize
     end
 }
 
-/// Where the text of a comment ends that begins at `at`, if it is in order, or 0: by a longer look, as it has other bytes too.
+/// Returns the end of the rest of a comment's text that starts at `at`, if it is valid, or 0. This is the slow path, for comments
+/// with other bytes too.
 #[inline(never)]
 fn far_comment_end(text: &str, at: usize) -> usize
     requires { IsCharBoundary text.now at }
@@ -198,7 +201,7 @@ fn far_comment_end(text: &str, at: usize) -> usize
     }
 }
 
-/// Where the ASCII bytes of a comment end that stand for themselves.
+/// Returns the end of the ASCII bytes of a comment from the cursor on that need no other test.
 #[inline(always)]
 fn ascii_comment_end(from: Cursor<'_>) -> usize
     ensures { IsLookahead (longer.ends_comment from.entry.text.now) longer.changes_comment
@@ -207,7 +210,8 @@ fn ascii_comment_end(from: Cursor<'_>) -> usize
     skip_set::<AsciiCommentByte>(from.text, from.pos)
 }
 
-/// Where the text of a comment ends that begins here, if it is in order, or 0. Most are of ASCII bytes, for which a look is quicker.
+/// Returns the end of a comment's text that starts at the cursor, if it is valid, or 0. Most comments are of ASCII bytes, for
+/// which the test is quicker.
 #[inline(always)]
 pub fn comment_text_end(from: Cursor<'_>) -> usize
     ensures { 0 < result → EndsComment from.entry.text.now from.entry.pos result }
@@ -220,7 +224,7 @@ pub fn comment_text_end(from: Cursor<'_>) -> usize
     far_comment_end(text, near)
 }
 
-/// Whether a value has no `&` and no white space but spaces.
+/// Returns whether a value needs no replacement: it has no `&` and no white space other than spaces.
 pub fn is_verbatim_value(bytes: &[u8]) -> bool
     ensures { result ≡ content.is_verbatim_value bytes.now }
 {

@@ -7,22 +7,22 @@ ghost use Rattle.rox_grammar.specs.Tree.{none_if_empty};
 ghost use Rattle.rox_grammar.specs.declared.fault.Word.TheVariants as word;
 ghost use Rattle.rox_reading.specs.Lexical as lexical;
 ghost use Rattle.rox_reading.specs.Markup as spec;
-ghost use Rattle.rox_scan.specs.ScanResults.{Steps};
+ghost use Rattle.rox_scan.specs.CursorSteps.{Steps};
 ghost use Rattle.rox_scan.specs.Views.{IsComment, instruction_view, text_view};
 
-use crate::cursor::Cursor;
+use crate::cursor::{Cursor, mark_from};
 use crate::lookahead::comment_text_end;
-use crate::search::{has_mark, mark_from};
+use rox_bytes::search::has_mark;
 use rox_grammar::fault::{Expected, Fault, Word};
 
-/// A processing instruction as it is written. It has no value where nothing but white space follows its target.
+/// A processing instruction as it is written. Its value is `None` if only white space follows its target.
 #[derive(Clone, Copy)]
 pub struct Instruction<'input> {
     pub target: &'input str,
     pub value: Option<&'input str>,
 }
 
-/// Nothing in place of an empty text.
+/// Returns a text, or `None` if it is empty.
 #[inline]
 fn none_if_empty(text: &str) -> Option<&str>
     ensures { none_if_empty text.now ≡ text_view result }
@@ -30,14 +30,14 @@ fn none_if_empty(text: &str) -> Option<&str>
     if text.is_empty() { None } else { Some(text) }
 }
 
-/// A comment that is in order: its text, and the place behind it.
+/// A valid comment: its text, and the offset after it.
 #[derive(Clone, Copy)]
 pub struct WholeComment<'input> {
     pub text: &'input str,
     pub end: usize,
 }
 
-/// The comment that `<!--` begins here, if it is in order.
+/// Returns the comment that starts with the `<!--` at the cursor, if it is valid.
 #[inline(always)]
 pub fn whole_comment<'input>(from: Cursor<'input>) -> Option<WholeComment<'input>>
     requires { stands (word_text word.CommentStart) from.text.now from.pos ≡ true }
@@ -59,7 +59,7 @@ pub fn whole_comment<'input>(from: Cursor<'input>) -> Option<WholeComment<'input
 }
 
 impl<'input> Cursor<'input> {
-    /// The text up to the first mark, and the mark.
+    /// Reads the text up to the first `mark`, and the mark. Returns the text.
     #[inline]
     #[tactic(auto, unfolding(rox_reading::specs::Lexical::text_to))]
     fn text_to(&mut self, mark: Expected) -> Result<&'input str, Fault>
@@ -71,8 +71,8 @@ impl<'input> Cursor<'input> {
         Ok(text)
     }
 
-    /// A comment, from `<!--` to its end `-->` (XML 1.0 section 2.5). It answers the text between these. Two dashes within
-    /// the text, or one at its end, are a fault at the comment's start.
+    /// Reads a comment, from `<!--` to its end `-->` (XML 1.0 section 2.5). Returns the text between these. Two dashes in the
+    /// text, or one at its end, are a fault at the comment's start.
     #[inline]
     pub fn comment(&mut self) -> Result<&'input str, Fault>
         requires { stands (word_text word.CommentStart) self.old.text.now self.old.pos ≡ true }
@@ -87,7 +87,7 @@ impl<'input> Cursor<'input> {
         Ok(whole.text)
     }
 
-    /// The same, behind its `<!--`, of a comment that is not in order.
+    /// Like `comment`, but from after the `<!--`, which is at `start`. This is the slow path, for comments that are not valid.
     #[cold]
     #[inline(never)]
     #[tactic(auto, unfolding(rox_reading::specs::Markup::comment_at))]
@@ -103,7 +103,7 @@ impl<'input> Cursor<'input> {
         Ok(text)
     }
 
-    /// A processing instruction, from `<?` to its end `?>` (XML 1.0 section 2.6). An XML declaration is a fault here.
+    /// Reads a processing instruction, from `<?` to its end `?>` (XML 1.0 section 2.6). An XML declaration is a fault here.
     #[inline]
     #[tactic(auto, unfolding(rox_reading::specs::Markup::instruction_at))]
     pub fn instruction(&mut self) -> Result<Instruction<'input>, Fault>
@@ -123,7 +123,7 @@ impl<'input> Cursor<'input> {
         })
     }
 
-    /// A CDATA section, from `<![CDATA[` to its end `]]>` (XML 1.0 section 2.7). It answers the text between these.
+    /// Reads a CDATA section, from `<![CDATA[` to its end `]]>` (XML 1.0 section 2.7). Returns the text between these.
     #[inline]
     #[tactic(auto, unfolding(rox_reading::specs::Markup::cdata_at))]
     pub fn cdata(&mut self) -> Result<&'input str, Fault>

@@ -1,16 +1,18 @@
-//! Character data up to the end of its source, as most replacement texts are: what has sixteen bytes at most is seen at one look.
+//! Character data up to the end of its source, as most replacement texts are. If it has at most sixteen bytes, they are tested in
+//! one pass.
 
 ghost use Rattle.std.specs.Prelude.{◌≡◌, length, true};
-ghost use Rattle.rox_scan.specs.ByteSets.{AllPass, EndsInBlock};
+ghost use Rattle.rox_bytes.specs.ByteSets.{AllPass, EndsInBlock};
 ghost use Rattle.rox_scan.specs.Lookahead as longer;
 ghost use Rattle.rox_scan.specs.Lookahead.{IsLookahead};
 
-use crate::byte_set::ByteSet;
 use crate::character_data::{TextByte, plain_run_end};
 use crate::cursor::Cursor;
+use rox_bytes::byte_set::ByteSet;
 use std::simd::prelude::*;
 
-/// Whether the bytes from `at` up to the end, sixteen at most, are all in the set. They are seen among the last sixteen.
+/// Returns true only if the bytes from `at` up to the end, at most sixteen, are all in the set. They are tested among the last
+/// sixteen bytes.
 #[inline(always)]
 fn passes_to_end<C: ByteSet>(bytes: &[u8], at: usize) -> bool
     requires { EndsInBlock bytes.now at }
@@ -22,7 +24,7 @@ fn passes_to_end<C: ByteSet>(bytes: &[u8], at: usize) -> bool
     rest == 0
 }
 
-/// Whether character data from here up to the end of its source stands for itself.
+/// Returns true only if the character data from the cursor up to the end of its source needs no replacement.
 #[inline(always)]
 pub fn is_plain_to_end(from: Cursor<'_>) -> bool
     ensures { result ≡ true

@@ -1,24 +1,24 @@
-//! Where a text begins, behind its byte order mark, and where a resolver's answer does, behind its declaration too (XML 1.0
-//! sections 4.3.1 and 4.3.3).
+//! Where a text starts, after its byte order mark. A resolver's answer starts after its declaration too (XML 1.0 sections 4.3.1
+//! and 4.3.3).
 
 ghost use Rattle.std.specs.Prelude.{◌≡◌, ◌==◌};
 ghost use Rattle.std.specs.List.{starts_with};
 ghost use Rattle.rox_grammar.specs.TextStart.{after_bom};
 ghost use Rattle.rox_grammar.specs.FixedTexts.{bom};
 ghost use Rattle.rox_scan.specs.DoctypeViews.{IsReplacementOf};
-ghost use Rattle.rox_scan.specs.ScanResults.{IsAt};
+ghost use Rattle.rox_scan.specs.CursorSteps.{IsAt};
 
 use crate::cursor::Cursor;
 use rox_grammar::fault::Fault;
 
-/// Whether a byte order mark stands at the start (XML 1.0 section 4.3.3).
+/// Returns whether a text starts with a byte order mark (XML 1.0 section 4.3.3).
 fn has_byte_order_mark(text: &str) -> bool
     ensures { result ≡ starts_with ◌==◌ text.now bom }
 {
     text.as_bytes().starts_with(b"\xEF\xBB\xBF")
 }
 
-/// The start of a text, behind its byte order mark if it has one.
+/// Returns the start of a text, after its byte order mark if it has one.
 pub fn start_of(text: &str) -> Cursor<'_>
     ensures { IsAt text.entry (after_bom text.entry.now) result }
 {
@@ -29,8 +29,8 @@ pub fn start_of(text: &str) -> Cursor<'_>
     }
 }
 
-/// The replacement text that a resolver's answer gives: what follows its byte order mark and its declaration (XML 1.0 section
-/// 4.3.1). It counts its places from its own start.
+/// Returns the replacement text of a resolver's answer: what follows its byte order mark and its declaration (XML 1.0 section
+/// 4.3.1). Its offsets count from its own start.
 #[tactic(auto, unfolding(rox_reading::specs::Doctype::answer_text))]
 pub fn replacement_in<'input>(answer: &'input str) -> Result<Cursor<'input>, Fault>
     ensures { IsReplacementOf answer.entry.now result }

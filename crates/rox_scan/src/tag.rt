@@ -1,31 +1,32 @@
-//! What tags hold: the attributes of a start tag as they are written, its end, and the name of an end tag (XML 1.0 section 3.1).
+//! The contents of tags (XML 1.0 section 3.1). They are the attributes of a start tag as they are written, its end, and the name
+//! of an end tag.
 
 ghost use Rattle.std.specs.Prelude.{◌≡◌, ◌==◌, true};
 ghost use Rattle.rox_grammar.specs.Search.{stands};
 ghost use Rattle.rox_grammar.specs.FixedTexts.{word_text};
 ghost use Rattle.rox_grammar.specs.declared.fault.Word.TheVariants as word;
 ghost use Rattle.rox_reading.specs.Markup as spec;
-ghost use Rattle.rox_scan.specs.ScanResults.{Steps};
+ghost use Rattle.rox_scan.specs.CursorSteps.{Steps};
 ghost use Rattle.rox_scan.specs.Views.{PassesValue, ReadsAttribute, ReadsTagItem, ReadsValue, end_tag_view};
 
-use crate::byte_set::{ValueByte, skip_set};
 use crate::cursor::{Cursor, Quote};
 use crate::lookahead::{is_verbatim_value, scan_value};
-use crate::runs::is_at;
-use crate::search::either_from;
+use rox_bytes::byte_set::{ValueByte, skip_set};
+use rox_bytes::runs::is_at;
+use rox_bytes::search::either_from;
 use rox_grammar::fault::{Due, Fault, Word};
 use rox_grammar::name::QName;
 
-/// An end tag: its name, and the place where the name ends.
+/// An end tag: its name, and the offset at which the name ends.
 #[derive(Clone, Copy)]
 pub struct EndTag<'input> {
     pub name: QName<'input>,
     pub name_end: usize,
 }
 
-/// An attribute before its value is looked at. Its name stands from `start` up to `name_end`, and its value from
-/// `value_start` up to `value_end`, where the closing quote stands. `is_verbatim` says that it has no reference and no
-/// white space but spaces.
+/// An attribute whose value is not read yet. Its name is from `start` up to `name_end`, and its value from `value_start` up to
+/// `value_end`, where the closing quote is. `is_verbatim` is true if the value has no reference and no white space other than
+/// spaces.
 #[derive(Clone, Copy)]
 pub struct RawAttribute<'input> {
     pub start: usize,
@@ -37,14 +38,14 @@ pub struct RawAttribute<'input> {
     pub is_verbatim: bool,
 }
 
-/// An attribute's value as it is written. `is_verbatim` says that it has no reference and no white space but spaces.
+/// An attribute's value as it is written. `is_verbatim` is true if it has no reference and no white space other than spaces.
 #[derive(Clone, Copy)]
 struct RawValue<'input> {
     text: &'input str,
     is_verbatim: bool,
 }
 
-/// What a start tag holds next: an attribute, or its end `>` or `/>`.
+/// The next item of a start tag: an attribute, or its end `>` or `/>`.
 #[derive(Clone, Copy)]
 pub enum TagItem<'input> {
     More(RawAttribute<'input>),
@@ -53,7 +54,7 @@ pub enum TagItem<'input> {
 }
 
 impl<'input> Cursor<'input> {
-    /// An end tag, from `</` to its `>` (XML 1.0 [42] ETag).
+    /// Reads an end tag, from `</` to its `>` (XML 1.0 [42] ETag).
     #[inline(always)]
     #[tactic(auto, unfolding(rox_reading::specs::Markup::end_tag_at))]
     pub fn end_tag(&mut self) -> Result<EndTag<'input>, Fault>
@@ -68,9 +69,9 @@ impl<'input> Cursor<'input> {
         Ok(EndTag { name, name_end })
     }
 
-    /// The text up to the quote or a `<`, one of which has to follow.
+    /// Reads the text up to the quote or a `<`, one of which must follow.
     #[inline]
-    #[tactic(auto, using(crate::proofs::NearLemmas::near_plain, crate::proofs::NearLemmas::value_cut))]
+    #[tactic(auto, using(rox_bytes::proofs::NearLemmas::near_plain, rox_bytes::proofs::NearLemmas::value_cut))]
     fn raw_value(&mut self, quote: Quote) -> Result<RawValue<'input>, Fault>
         ensures { ReadsValue quote.byte self.old self.new result }
     {
@@ -90,8 +91,7 @@ impl<'input> Cursor<'input> {
         })
     }
 
-    /// The same, by a longer look. It moves to the end of the value, and answers whether that has no reference and no white
-    /// space but spaces.
+    /// Like `raw_value`, but the slow path. Moves to the end of the value, and returns whether it needs no replacement.
     #[inline(never)]
     fn value_by_characters(&mut self, quote: Quote) -> Result<bool, Fault>
         ensures { PassesValue quote.byte self.old self.new result }
@@ -104,7 +104,7 @@ impl<'input> Cursor<'input> {
         self.slow_value(quote)
     }
 
-    /// The same of a value with a reference, of one that is not in order, and of one that no quote of its own ends.
+    /// Like `value_by_characters`, but for a value with a reference, with a fault, or without a closing quote of its own.
     #[inline(never)]
     #[tactic(auto, unfolding(rox_reading::specs::Markup::raw_value_at))]
     fn slow_value(&mut self, quote: Quote) -> Result<bool, Fault>
@@ -118,8 +118,8 @@ impl<'input> Cursor<'input> {
         Ok(is_verbatim_value(text.as_bytes()))
     }
 
-    /// An attribute as it is written: a name, `=`, and a value in quotes (XML 1.0 [41] Attribute). A `<` in the value is a
-    /// fault at its place.
+    /// Reads an attribute as it is written: a name, `=`, and a value in quotes (XML 1.0 [41] Attribute). A `<` in the value is a
+    /// fault at its offset.
     #[inline]
     #[tactic(auto, unfolding(rox_reading::specs::Markup::attribute_at))]
     pub fn attribute(&mut self) -> Result<RawAttribute<'input>, Fault>
@@ -147,7 +147,7 @@ impl<'input> Cursor<'input> {
         })
     }
 
-    /// White space, then an attribute or the end of the start tag (XML 1.0 [40] STag, [44] EmptyElemTag). An attribute
+    /// Reads white space, then an attribute or the end of the start tag (XML 1.0 [40] STag, [44] EmptyElemTag). An attribute
     /// without white space before it is a fault.
     #[inline]
     #[tactic(auto, unfolding(rox_reading::specs::Markup::tag_item_at))]

@@ -1,21 +1,22 @@
-//! The declaration that a text may begin with (XML 1.0 [23] XMLDecl, [77] TextDecl).
+//! The declaration that a text may start with (XML 1.0 [23] XMLDecl, [77] TextDecl).
 
 ghost use Rattle.std.specs.Prelude.{◌≡◌, ◌||◌, ◌+◌, ◌<◌, Ok, if◌then◌else◌, true};
 ghost use Rattle.rox_grammar.specs.Search.{stands};
 ghost use Rattle.rox_grammar.specs.FixedTexts.{word_text};
 ghost use Rattle.rox_grammar.specs.declared.fault.Word.TheVariants as word;
 ghost use Rattle.rox_reading.specs.Markup as spec;
-ghost use Rattle.rox_scan.specs.ScanResults.{MovesTo, Steps};
-ghost use Rattle.rox_scan.specs.DoctypeViews.{IsOfLetters, StandsAsName, up_to_quote, xml_decl_if};
+ghost use Rattle.rox_scan.specs.CursorSteps.{MovesTo, Steps};
+ghost use Rattle.rox_scan.specs.DoctypeViews.{StandsAsName, up_to_quote, xml_decl_if};
+ghost use Rattle.rox_bytes.specs.ByteSets.{IsOfLetters};
 
-use crate::byte_set::{ByteSet, SpaceByte, ValueByte, skip_set};
 use crate::cursor::{Cursor, Quote};
-use crate::runs::{after_byte, is_at};
-use crate::search::either_from;
+use rox_bytes::byte_set::{ByteSet, SpaceByte, ValueByte, skip_set};
+use rox_bytes::runs::{after_byte, is_at};
+use rox_bytes::search::either_from;
 use rox_grammar::fault::{Due, Expected, Fault, Word};
 
 impl<'input> Cursor<'input> {
-    /// A value of the XML declaration, up to the quote or a `<`: at one look where the quote stands behind plain bytes.
+    /// Reads a value of the XML declaration, up to the quote or a `<`. The fast path reads plain bytes before a quote.
     #[inline(always)]
     fn value(&mut self, quote: Quote) -> Result<&'input str, Fault>
         ensures { Steps (λ x. x.now) self.old self.new result (up_to_quote quote.byte) }
@@ -30,7 +31,7 @@ impl<'input> Cursor<'input> {
         self.chars_up_to(end)
     }
 
-    /// A name, `=`, and a value in quotes, of the XML declaration.
+    /// Reads a pair of the XML declaration: a name, `=`, and a value in quotes.
     #[tactic(auto, unfolding(rox_reading::specs::Markup::pair_at))]
     fn pair(&mut self) -> Result<(), Fault>
         ensures { Steps (λ x. x) self.old self.new result spec.pair_at }
@@ -44,7 +45,7 @@ impl<'input> Cursor<'input> {
         self.byte(quote.byte)
     }
 
-    /// White space, or nothing where `?>` stands or the source ends.
+    /// Reads white space, or nothing if `?>` is at the cursor or the source ends.
     #[tactic(auto, unfolding(rox_reading::specs::Markup::gap_at))]
     fn gap(&mut self) -> Result<(), Fault>
         ensures { Steps (λ x. x) self.old self.new result spec.gap_at }
@@ -63,7 +64,7 @@ impl<'input> Cursor<'input> {
         Err(Fault::InvalidChar2(Due::Space, here, self.pos))
     }
 
-    /// A pair and a gap if the word stands here.
+    /// Reads a pair and a gap, if the word `name` is at the cursor.
     #[tactic(auto, unfolding(rox_reading::specs::Markup::pair_if))]
     fn pair_if(&mut self, name: Word) -> Result<(), Fault>
         ensures { Steps (λ x. x) self.old self.new result (spec.pair_if name) }
@@ -75,8 +76,8 @@ impl<'input> Cursor<'input> {
         self.gap()
     }
 
-    /// The same at one look, if the name is this one, which stands here, `=` and a double quote stand right behind it, and the value
-    /// has plain bytes alone. Else the cursor stands somewhere.
+    /// Reads the pair `name="…"` by the fast path, if it has no white space and plain bytes only. If false is returned, the
+    /// cursor's position is unspecified.
     #[inline(always)]
     fn usual_pair(&mut self, name: Word) -> bool
         ensures { result ≡ true → StandsAsName name self.old
@@ -100,7 +101,7 @@ impl<'input> Cursor<'input> {
         true
     }
 
-    /// The same of the gap behind it.
+    /// Reads a gap by the fast path. Returns false if the source ends at the cursor, or if neither white space nor `?>` is there.
     #[inline(always)]
     #[tactic(auto, unfolding(rox_reading::specs::Markup::gap_at))]
     fn usual_gap(&mut self) -> bool
@@ -116,7 +117,8 @@ impl<'input> Cursor<'input> {
         self.starts(Word::PIEnd)
     }
 
-    /// The same of both, if the word stands here.
+    /// Reads a pair and a gap by the fast path, if the word `name` is at the cursor. If false is returned, the cursor's position
+    /// is unspecified.
     #[inline(always)]
     #[tactic(auto, unfolding(rox_reading::specs::Markup::pair_if))]
     fn usual_pair_if(&mut self, name: Word) -> bool
@@ -132,7 +134,8 @@ impl<'input> Cursor<'input> {
         self.usual_gap()
     }
 
-    /// The same of the pair `standalone`, if it stands here, behind which no gap is due.
+    /// Reads the pair `standalone` by the fast path, if it is at the cursor. No gap is required after it. If false is returned,
+    /// the cursor's position is unspecified.
     #[inline(always)]
     fn usual_last_pair(&mut self) -> bool
         ensures { result ≡ true → Steps (λ x. x) self.old self.new (Ok tt) (λ src i.
@@ -145,7 +148,8 @@ impl<'input> Cursor<'input> {
         self.usual_pair(Word::Standalone)
     }
 
-    /// The same of the XML declaration, from `<?xml` and a space. Its answer is one word, so that nothing is cleared for it.
+    /// Reads the XML declaration by the fast path, from `<?xml` and a space. The result is one word, so that nothing is cleared
+    /// for it. If false is returned, the cursor's position is unspecified.
     #[inline(always)]
     #[tactic(auto, unfolding(rox_reading::specs::Markup::xml_decl_at))]
     fn usual_declaration(&mut self) -> bool
@@ -171,7 +175,7 @@ impl<'input> Cursor<'input> {
         true
     }
 
-    /// Moves past `<?xml`, up to the space behind it.
+    /// Moves past `<?xml`, up to the space after it.
     #[inline]
     fn skip_xml_decl_start(&mut self)
         requires { stands (word_text word.XmlDeclStart) self.old.text.now self.old.pos ≡ true }
@@ -180,7 +184,8 @@ impl<'input> Cursor<'input> {
         self.pos += 5;
     }
 
-    /// The XML declaration, from `<?xml` and a space to its end `?>` (XML 1.0 [23] XMLDecl). Its values are read and not kept.
+    /// Reads the XML declaration, from `<?xml` and a space to its end `?>` (XML 1.0 [23] XMLDecl). Its values are read and not
+    /// stored.
     #[tactic(auto, unfolding(rox_reading::specs::Markup::xml_decl_at))]
     #[cold]
     #[inline(never)]
@@ -202,7 +207,7 @@ impl<'input> Cursor<'input> {
         self.string(Expected::PIEnd)
     }
 
-    /// The declaration that a text begins with, if it does (XML 1.0 [23] XMLDecl, [77] TextDecl).
+    /// Reads the declaration that a text starts with, if it has one (XML 1.0 [23] XMLDecl, [77] TextDecl).
     pub fn xml_decl_if(&mut self) -> Result<(), Fault>
         ensures { Steps (λ x. x) self.old self.new result xml_decl_if }
     {

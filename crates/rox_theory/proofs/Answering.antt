@@ -68,7 +68,7 @@ module _ (src : List ℕ) (utf8 : IsUtf8 src) (allow : Bool) where
 
     later_asked : (o : Opened src begun) → allow ≡ true → (asked : List Asked) → HasLater src (o.s + 1) asked → HasAsked src allow asked
     later_asked o may asked not_yet = nothing
-    later_asked o may asked (one_later first request p answer l) = one_more first request p answer may (later_next o first request p l)
+    later_asked o may asked (one_later first request p answer l text) = one_more first request p answer may (later_next o first request p l) text
 
     within_asked : allow ≡ true → (asked : List Asked) → HasWithin src begun asked → HasAsked src allow asked
     within_asked may asked (inl none) = subst (HasAsked src allow) (sym none) nothing

@@ -1,7 +1,7 @@
 -- Declarations of entities: what is read stands there, with what is asked for it, and what stands there is read, whatever
 -- replies follow.
 use Rattle.std.proofs.Common.{◌≡◌, ℕ, ◌+◌, ◌<◌, ◌≤◌, ◌⊎◌, Bool, true, cond, List, [], ◌∷◌, ◌++◌, length, take, drop, Option, Result, refl, sym, ap, subst, arith, inl, inr}
-use Rattle.std.specs.Prelude.{Ok, Err, Some, None}
+use Rattle.std.specs.Prelude.{Ok, Err, Some, None, IfSome}
 use Rattle.std.specs.Str.{IsUtf8, IsCharBoundary}
 use Rattle.rox_grammar.specs.declared.fault.Fault.{Fault}
 use Rattle.rox_grammar.specs.declared.fault.Word.TheVariants as word
@@ -67,9 +67,18 @@ answer_fault (Some t) e h =
 
 -- ---- what is asked
 
+-- what is answered is a text in UTF-8, or none
+pub replied_text : (answer : Option (List ℕ)) → IsTextReply (Ok answer) → IfSome answer IsUtf8
+replied_text None h = tt
+replied_text (Some text) h = h
+
+given_text : (answer : Option (List ℕ)) (text : Option Replacement) → GivesReplacement answer text → IfSome answer IsUtf8
+given_text answer text nothing = tt
+given_text answer text (the_rest t d utf8 may) = utf8
+
 -- nothing is asked, or this once
 abbrev pub OnceAsked : List ℕ → ℕ → List Asked → Type 0
-OnceAsked src i asked = (asked ≡ []) ⊎ ((request : Request) × (answer : Option (List ℕ)) × (p : ℕ) × (asked ≡ once request answer) × AsksAt src i request p)
+OnceAsked src i asked = (asked ≡ []) ⊎ ((request : Request) × (answer : Option (List ℕ)) × (p : ℕ) × (asked ≡ once request answer) × AsksAt src i request p × IfSome answer IsUtf8)
 
 -- ---- what is read stands there
 
@@ -131,8 +140,8 @@ module _ (src : List ℕ) (utf8 : IsUtf8 src) where
             let s = definition_sound head.0.parameter src head.1 (outer request, j) is in
             asks_at head.0.parameter begun.0 begun.1 head.1 s.0 begun.2 s.1 s.2
 
-        asked_once : (answer : Option (List ℕ)) → OnceAsked src d.state.at (once request answer)
-        asked_once answer = inr (request, answer, j, refl, asks_here)
+        asked_once : (answer : Option (List ℕ)) → next_reply d.replies ≡ Ok answer → OnceAsked src d.state.at (once request answer)
+        asked_once answer replied = inr (request, answer, j, refl, asks_here, replied_text answer (subst IsTextReply replied (next_text d.replies texts).0))
 
         outer_outcome : EntityOutcome src d (entity_step src d)
         unfolding entity_step
@@ -149,8 +158,8 @@ module _ (src : List ℕ) (utf8 : IsUtf8 src) where
             rw (is_head, is, replied, read, ends)
             (entity_is (once request answer) text j end.1 (other_replies d.replies) t.1
             (external head.1 s.0 j request answer text s.1 (not_cut src head.0.parameter s.0 j c.0 s.2) gives) c.0 c.1))
-            (λ f ill. rw (is_head, is, replied, read, ill) (asked_once answer)))
-            (λ e ill. rw (is_head, is, replied, ill) (fault_outcome src d (once request answer) e (answer_fault answer e ill) (asked_once answer))))
+            (λ f ill. rw (is_head, is, replied, read, ill) (asked_once answer replied)))
+            (λ e ill. rw (is_head, is, replied, ill) (fault_outcome src d (once request answer) e (answer_fault answer e ill) (asked_once answer replied))))
             (λ message refuses. rw (is_head, is, refuses) (refl, asks_here))
 
       module _ (t : Replacement) (j : ℕ) (is : definition_at head.0.parameter src head.1 ≡ Ok (inner t, j)) where
@@ -186,7 +195,7 @@ module _ (src : List ℕ) (utf8 : IsUtf8 src) where
     where
       by_definition : (text : Option Replacement) (asked : List Asked) → IsDefinition src parameter d e asked text → OnceAsked src i asked
       by_definition text asked (internal _ c _ q) = inl refl
-      by_definition text asked (external _ x _ request answer _ is may gives) = inr (request, answer, e, refl, external_entity parameter n m d x begins is may)
+      by_definition text asked (external _ x _ request answer _ is may gives) = inr (request, answer, e, refl, external_entity parameter n m d x begins is may, given_text answer text gives)
 
   -- what it is goes forward
   notation_moves : (parameter : Bool) (i j : ℕ) → MayHaveNotation src parameter i j → i ≤ j

@@ -1,6 +1,7 @@
 -- The items of a document type declaration: what is read stands there, with what is asked, and what stands there is read,
 -- whatever replies follow.
 use Rattle.std.proofs.Common.{◌≡◌, ℕ, zero, suc, ◌+◌, ◌<◌, ◌≤◌, ◌⊎◌, ◌==◌, ◌||◌, true, nat_le, nat_lt, List, [], ◌++◌, length, Option, Ok, Err, refl, sym, ap, ◌∙◌, subst, arith, inl, inr, append_assoc}
+use Rattle.std.specs.Prelude.{IfSome}
 use Rattle.std.specs.Str.{IsUtf8, IsCharBoundary}
 use Rattle.std.proofs.lemmas.List.{append-nil}
 use Rattle.std.proofs.lemmas.Bool.{cond_both, leb-true, ltb-true, eqb-true, or_cases}
@@ -110,7 +111,7 @@ pub record Later (src : List ℕ) (i : ℕ) (asked : List Asked) (request : Requ
 -- what was asked: each stands next, after those before it
 pub data HasLater (src : List ℕ) (i : ℕ) : List Asked → Type 0 where
   not_yet : HasLater src i []
-  one_later : (asked : List Asked) (request : Request) (p : ℕ) (answer : Option (List ℕ)) → Later src i asked request p → HasLater src i (asked ++ once request answer)
+  one_later : (asked : List Asked) (request : Request) (p : ℕ) (answer : Option (List ℕ)) → Later src i asked request p → IfSome answer IsUtf8 → HasLater src i (asked ++ once request answer)
 
 -- the resolver's refusal is of what is asked next
 abbrev pub RefusalStands : List ℕ → ℕ → List Asked → Refusal → Type 0
@@ -129,8 +130,8 @@ later_front src i j one first es front asked request p l = record { j = l.j; nod
 has_front : (src : List ℕ) (i j : ℕ) (one : Forest Item) (first : List Asked) (es : List Entity) → Fronts src i j one first es → HasLater src i first → (asked : List Asked) → HasLater src j asked
     → HasLater src i (first ++ asked)
 has_front src i j one first es front h asked not_yet = subst (HasLater src i) (sym (append-nil first)) h
-has_front src i j one first es front h asked (one_later before request p answer l) =
-    subst (HasLater src i) (append_assoc first before (once request answer)) (one_later (first ++ before) request p answer (later_front src i j one first es front before request p l))
+has_front src i j one first es front h asked (one_later before request p answer l text) =
+    subst (HasLater src i) (append_assoc first before (once request answer)) (one_later (first ++ before) request p answer (later_front src i j one first es front before request p l) text)
 
 -- ---- what is read stands there
 
@@ -199,7 +200,7 @@ module _ (src : List ℕ) (utf8 : IsUtf8 src) where
   -- what is asked once behind white space
   once_later : (i : ℕ) (asked : List Asked) → IsCharBoundary src i → OnceAsked src (spaces_end src i) asked → HasLater src i asked
   once_later i asked cut (inl none) = subst (HasLater src i) (sym none) not_yet
-  once_later i asked cut (inr (request, answer, p, is, asks)) = subst (HasLater src i) (sym is) (one_later [] request p answer (asks_later i request p cut asks))
+  once_later i asked cut (inr (request, answer, p, is, asks, text)) = subst (HasLater src i) (sym is) (one_later [] request p answer (asks_later i request p cut asks) text)
     where
       asks_later : (i : ℕ) (request : Request) (p : ℕ) → IsCharBoundary src i → AsksAt src (spaces_end src i) request p → Later src i [] request p
       asks_later i request p cut asks =

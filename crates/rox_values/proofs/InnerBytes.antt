@@ -3,8 +3,8 @@ use Rattle.std.proofs.Common.{◌≡◌, ℕ, ◌<◌, ◌≤◌, true, false, L
 use Rattle.std.specs.Str.{IsCharBoundary}
 use Rattle.std.proofs.lemmas.Bool.Decides.{nat_tests}
 use Rattle.rox_grammar.specs.Search.{byte_from}
-use Rattle.rox_scan.specs.ByteSets.{AllPass}
-use Rattle.rox_scan.proofs.NearLemmas.{near_found}
+use Rattle.rox_bytes.specs.ByteSets.{AllPass}
+use Rattle.rox_bytes.proofs.NearLemmas.{near_found}
 use Rattle.rox_values.specs.Values.{ends_stretch, is_inner_byte}
 
 inner_plain : (b : ℕ) → is_inner_byte b ≡ true → ends_stretch b ≡ false

@@ -7,3 +7,4 @@ pub mod Binding
 pub mod PartLemmas
 pub mod ValueOpening
 pub mod SectionLemmas
+pub mod Lifting

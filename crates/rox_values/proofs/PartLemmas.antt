@@ -144,10 +144,6 @@ value_fails main es opener openings_left failure.Memory front done whole n src s
 value_fails main es opener openings_left (failure.Fault f) front done whole n src stop i same some more h =
     fault_behind front whole (refusal.here f) (sym same ∙ value_fault main es opener openings_left done n src stop i f some more h)
 
--- a replacement text that is refused
-opened_refused : {A : Type 0} (front : List ℕ) (read : Result (List ℕ × ℕ) Refusal) (next : List ℕ × ℕ → Result (List ℕ × A) Refusal) (e : Refusal) → read ≡ Err e → text_behind front (read >>= next) ≡ Err e
-opened_refused front read next e h = rw h refl
-
 value_opens_err : (main : Bool) (es : List Entity) (opener : ValueInclusion) (openings_left : ℕ) (front : List ℕ) (n : ℕ) (src : List ℕ) (stop i j : ℕ) (t : Replacement) (e : Refusal) → 0 < n → i < stop
     → value_bit_at main es src stop i ≡ Ok (opens t, j) → opener t j openings_left ≡ Err e → text_behind front (value_text main es opener n src stop i openings_left) ≡ Err e
 unfolding value_text

@@ -67,20 +67,8 @@ any_before (x ∷ xs) h =
       | inr other ↦ let more = rw other.0 at h in rw other.0 (any_before xs (omega arith))
     ]
 
-any_there : (xs : List ℕ) → position_or_len (λ c. c == 13) xs ≢ length xs → list_any (λ b. b == 13) xs ≡ true
-any_there [] h = absurd (h refl)
-any_there (x ∷ xs) h =
-    elim (eqb_tells x 13) [
-      | inl cr ↦ rw cr.0 refl
-      | inr other ↦ rw other.0 (any_there xs (λ same. h (rw other.0 (omega arith))))
-    ]
-
 -- a section without CR
 pub section_plain : (raw : List ℕ) → position_or_len (λ c. c == 13) raw ≡ length raw → section_text raw ≡ record { value = raw; borrowed = true }
 section_plain raw h =
     let all : line_ends (literals raw) ≡ raw = rw (take_all (length raw) raw (omega arith), drop_all (length raw) raw (omega arith), append-nil) at (stretch raw (length raw) (sym h)) in
     rw (any_before raw h, all) refl
-
--- and with one, once its text is read
-pub section_changed : (raw text : List ℕ) → position_or_len (λ c. c == 13) raw ≢ length raw → text ≡ line_ends (literals raw) → section_text raw ≡ record { value = text; borrowed = false }
-section_changed raw text h is = rw (any_there raw h, is) refl

@@ -1,4 +1,4 @@
--- How the code reads a text, as reading says it.
+-- The context of a text, as the code holds it and as reading states it.
 use Rattle.std.specs.Prelude.{ℕ, List}
 use Rattle.rox_grammar.specs.Entities.{Entity}
 use Rattle.rox_reading.specs.Machine as machine

@@ -13,29 +13,30 @@ use Rattle.rox_values.specs.HeldEntities.{named_cmp}
 use Rattle.rox_values.specs.declared.entities.Entities.{Entities}
 use Rattle.rox_values.specs.declared.context.Context.{Context}
 
--- what a name stands for
+-- The replacement text of `name`.
 abbrev pub text_in : Entities → List ℕ → Option Replacement
 text_in e name = option_map replacement_view (get_by (named_cmp name) e.texts)
 
--- the entities that are held are those that these declare
+-- The entities that are held are those that `es` declares.
 pub record AreDeclared (es : List Entity) (e : Entities) : Type 0 where
   pub texts : (name : List ℕ) → text_in e name ≡ text_of es name
 
--- how values are read, where these are declared
+-- How values are read, if the entities `es` are declared.
 abbrev pub values_in : List Entity → Context → Values
 values_in es context = values_of es context.depth_left context.main
 
--- how many may be opened within a replacement text whose reference ends at `after`, where so many may be open within one another
+-- How many replacement texts may be opened inside one whose reference ends at `after`. `depth_left` may be open inside one
+-- another.
 abbrev pub opened_at : (depth_left : ℕ) → (main : Bool) → (after openings_left : ℕ) → Result ℕ Fault
 opened_at zero main after openings_left = Err (fault.EntityReferenceLoop after)
 opened_at (suc d) main after openings_left = budget main after openings_left
 
--- a text is opened, or this fault
+-- A text is opened, or the fault is that of `read`.
 abbrev pub Opens : Result (Context × ℕ) Fault → Result ℕ Fault → Type 0
 Opens (Ok x) read = read ≡ Ok x.1
 Opens (Err f) read = read ≡ Err f
 
--- How a text is read that a reference opens, which ends at `after`, and how many may be opened within it; or this fault.
+-- The context of a text whose reference ends at `after`, and how many may be opened inside it, or the fault.
 pub record OpensWithin (around : Context) (after openings_left elements : ℕ) (result : Result (Context × ℕ) Fault) : Type 0 where
   pub value : Opens result (opened_at around.depth_left around.main after openings_left)
   pub context : IfOk result (λ x. x.0 ≡ record { main = false; depth_left = around.depth_left - 1; open_around = elements; entities = around.entities })

@@ -10,12 +10,12 @@ use Rattle.rox_grammar.specs.declared.failure.Failure.TheVariants as failure
 use Rattle.rox_values.specs.declared.parse_error.ParseError.{ParseError}
 use Rattle.rox_values.specs.declared.parse_error.ParseError.TheVariants as refused
 
--- nothing is said where memory ran out, and else what is read is this fault of the source
+-- What is read is the fault of the source. Nothing is stated if memory ran out.
 abbrev pub IsFailure : {B : Type 0} → Failure → Result B Refusal → Type 0
 IsFailure failure.Memory read = Unit {0}
 IsFailure (failure.Fault f) read = read ≡ Err (refusal.here f)
 
--- the same where entities may be opened
+-- What is read is the refusal, if entities may be opened. Nothing is stated if memory ran out.
 abbrev pub IsRefusal : {B : Type 0} → ParseError → Result B Refusal → Type 0
 IsRefusal refused.Memory read = Unit {0}
 IsRefusal (refused.Fault f) read = read ≡ Err (refusal.here f)
@@ -26,7 +26,7 @@ abbrev pub of_failure : Failure → ParseError
 of_failure failure.Memory = refused.Memory
 of_failure (failure.Fault f) = refused.Fault f
 
--- the same, of a source that another one opened
+-- The refusal of the source `source`, as the text that opened it reports it.
 abbrev pub seen_from : Bor (List ℕ) → ParseError → ParseError
 seen_from source refused.Memory = refused.Memory
 seen_from source (refused.Fault f) = refused.FaultIn source f

@@ -1,4 +1,4 @@
-//! The values of attributes: what they stand for, with references and white space (XML 1.0 sections 3.3.3 and 4.1).
+//! The values of attributes, with references and white space replaced (XML 1.0 sections 3.3.3 and 4.1).
 
 ghost use Rattle.std.specs.Prelude.{◌≡◌, Bool, List, Result, Ok, false, ◌≤◌, ◌<◌, length, slice_index, true};
 ghost use Rattle.std.specs.List.{position_or_len};
@@ -8,7 +8,7 @@ ghost use Rattle.std.specs.Str.{IsCharBoundary};
 ghost use Rattle.rox_grammar.specs.Search.{byte_from};
 ghost use Rattle.rox_reading.specs.Values as spec;
 ghost use Rattle.rox_scan.specs.Views.{HasValue};
-ghost use Rattle.rox_scan.specs.ScanResults.{Finds};
+ghost use Rattle.rox_bytes.specs.ScanResults.{Finds};
 ghost use Rattle.rox_grammar.specs.Entities.{Entity};
 ghost use Rattle.rox_grammar.specs.declared.fault.Fault.{Fault};
 ghost use Rattle.rox_reading.specs.Machine.{value_opener};
@@ -20,17 +20,17 @@ use crate::context::Context;
 use crate::parse_error::ParseError;
 use crate::reference::{Reference, found, read_reference};
 use crate::text_value::TextValue;
+use rox_bytes::byte_set::{ByteSet, skip_set};
+use rox_bytes::nibbles::by_low;
+use rox_bytes::runs::is_at;
 use rox_grammar::failure::Failure;
 use rox_grammar::fault::Fault;
-use rox_scan::byte_set::{ByteSet, skip_set};
 use rox_scan::cursor::Cursor;
 use rox_scan::lookahead::{StretchByte, is_special};
-use rox_scan::nibbles::by_low;
-use rox_scan::runs::is_at;
 use rox_scan::tag::RawAttribute;
 use std::simd::prelude::*;
 
-/// The first place from here on of a special byte of a value, or the end.
+/// Returns the offset of the first special byte of a value from the cursor on, or the end.
 #[inline(always)]
 fn special_from(from: Cursor<'_>) -> usize
     ensures { Finds from.entry.text.now from.entry.pos result
@@ -39,7 +39,7 @@ fn special_from(from: Cursor<'_>) -> usize
     skip_set::<StretchByte>(from.text, from.pos)
 }
 
-/// Appends a space for the white space byte that stands here, and nothing for a CR right before a LF.
+/// Appends a space for the white space byte at the cursor, and nothing for a CR right before a LF.
 #[tactic(auto, unfolding(rox_reading::specs::Values::value_bit_at))]
 fn white_space(cursor: &mut Cursor<'_>, stop: usize, out: &mut String) -> Result<(), Failure>
     requires { BeginsWhiteSpace cursor.old.text.now cursor.old.pos stop }
@@ -56,8 +56,8 @@ fn white_space(cursor: &mut Cursor<'_>, stop: usize, out: &mut String) -> Result
     Ok(())
 }
 
-/// Appends a character that a reference names which begins at `start`, in a value. Within a replacement text white space gives a
-/// space, and a `<` is a fault (XML 1.0 sections 3.1 and 3.3.3).
+/// Appends the character that the reference at `start` names, in a value. In a replacement text TAB, LF and CR give a space, and
+/// a `<` is a fault (XML 1.0 sections 3.1 and 3.3.3).
 #[inline(always)]
 fn character_in_value(
     character: char,
@@ -84,7 +84,7 @@ fn character_in_value(
     Ok(())
 }
 
-/// Appends the character of the reference that stands here, in a value; or answers the replacement text that it names.
+/// Appends the character of the reference at the cursor, in a value, or returns the replacement text that it names.
 #[inline(always)]
 #[tactic(auto, unfolding(rox_reading::specs::Values::value_reference_at))]
 fn expand_in_value<'input>(
@@ -110,10 +110,10 @@ fn expand_in_value<'input>(
     }
 }
 
-/// The bytes of a stretch of a value within a replacement text: all but `<`, `&` and white space that is no space.
+/// The bytes of a value in a replacement text that do not change it: all except `<`, `&` and white space other than the space.
 struct InnerByte;
 
-// What ends a stretch, each byte at its low half.
+// The bytes that are not in the set, each at its low half.
 const INNER_ENDS: [u8; 16] = [
     1, 0, 0, 0, 0, 0, b'&', 0, 0, b'\t', b'\n', 0, b'<', b'\r', 0, 0,
 ];
@@ -133,7 +133,7 @@ impl ByteSet for InnerByte {
     }
 }
 
-/// The first place from here on of a special byte of a value or a `<`, or the end.
+/// Returns the offset of the first special byte of a value or `<` from the cursor on, or the end.
 #[inline(always)]
 fn stretch_end(from: Cursor<'_>) -> usize
     ensures { Finds from.entry.text.now from.entry.pos result
@@ -142,7 +142,8 @@ fn stretch_end(from: Cursor<'_>) -> usize
     skip_set::<InnerByte>(from.text, from.pos)
 }
 
-/// Appends all of a value in a replacement text up to the next special byte. A character that is no Char, and a `<`, is a fault.
+/// Appends the bytes of a value in a replacement text up to the next special byte. A character that is not a Char is a fault, and
+/// so is a `<`.
 #[cold]
 #[inline(never)]
 #[tactic(auto, unfolding(rox_reading::specs::Values::value_bit_at, rox_reading::specs::Values::stretch_at))]
@@ -164,7 +165,7 @@ fn inner_stretch(cursor: &mut Cursor<'_>, stop: usize, out: &mut String) -> Resu
     Ok(())
 }
 
-/// Appends all of a value in the main text up to the next special byte.
+/// Appends the bytes of a value in the main text up to the next special byte.
 #[tactic(auto, unfolding(rox_reading::specs::Values::value_bit_at, rox_reading::specs::Values::stretch_at))]
 fn main_stretch(cursor: &mut Cursor<'_>, stop: usize, out: &mut String) -> Result<(), Failure>
     requires { BeginsStretch cursor.old.text.now cursor.old.pos stop }
@@ -182,8 +183,8 @@ fn main_stretch(cursor: &mut Cursor<'_>, stop: usize, out: &mut String) -> Resul
     Ok(())
 }
 
-/// Appends a bit of a value: a reference, white space, or all up to the next of these; or answers the replacement text that a
-/// reference names.
+/// Appends the next item of a value: a reference, white space, or all up to the next of these. If a reference names a replacement
+/// text, this is returned.
 #[inline(always)]
 #[tactic(auto, unfolding(rox_reading::specs::Values::value_bit_at))]
 fn value_bit<'input>(
@@ -213,8 +214,8 @@ fn value_bit<'input>(
     Ok(None)
 }
 
-/// Appends what the value's text from here up to `stop` stands for, where so many replacement texts may be opened; it has at most
-/// so many bits. Answers how many may be opened behind it.
+/// Appends the value of the text from the cursor up to `stop`, which has at most `bits` items. `openings_left` replacement texts
+/// may be opened in it. Returns how many may be opened after it.
 #[cycle(values)]
 fn value_text<'input>(
     cursor: &mut Cursor<'input>,
@@ -242,8 +243,8 @@ fn value_text<'input>(
     Ok(openings_left)
 }
 
-/// Appends a replacement text as a part of a value (XML 1.0 section 4.4.5). The reference ends at `after`. Answers how many may
-/// be opened behind it.
+/// Appends a replacement text as a part of a value (XML 1.0 section 4.4.5). The reference ends at `after`. Returns how many
+/// replacement texts may be opened after it.
 #[cycle(values)]
 #[cold]
 #[inline(never)]
@@ -268,9 +269,9 @@ fn open_value<'input>(
     }
 }
 
-/// An attribute's value (XML 1.0 section 3.3.3): a slice of the source where it has no reference and no white space but
-/// spaces, and else what it stands for, in `scratch`, which is cleared first; and how many replacement texts may be opened
-/// behind it, where so many could before.
+/// Returns an attribute's value (XML 1.0 section 3.3.3), and how many replacement texts may be opened after it. The value is a
+/// slice of the source if it has no reference and no white space other than spaces. Otherwise it is in `scratch`, which is
+/// cleared first. `openings_left` replacement texts could be opened before it.
 #[inline]
 #[tactic(auto, unfolding(rox_reading::specs::Values::value_at))]
 pub fn value<'input>(

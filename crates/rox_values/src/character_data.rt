@@ -1,23 +1,23 @@
-//! What the parts of character data stand for, with references and line ends (XML 1.0 sections 2.4, 2.11 and 4.1).
+//! The parts of character data, with references and line ends replaced (XML 1.0 sections 2.4, 2.11 and 4.1).
 
 ghost use Rattle.std.specs.Prelude.{◌≡◌, ◌≢◌, ◌==◌, ◌||◌, ◌-◌, false, ◌<◌, ◌≤◌, slice_index, true};
 ghost use Rattle.rox_grammar.specs.Search.{byte_from};
 ghost use Rattle.std.specs.String.{string_bytes};
 ghost use Rattle.std.specs.Str.{IsCharBoundary};
 ghost use Rattle.rox_reading.specs.Values as spec;
-ghost use Rattle.rox_scan.specs.ScanResults.{Finds};
+ghost use Rattle.rox_bytes.specs.ScanResults.{Finds};
 ghost use Rattle.rox_values.specs.Values.{AppendsFrom, AppendsBitFrom, AppendsPartFrom, BeginsData, BeginsMainData, StopsAt};
 
 use crate::context::Context;
 use crate::line_ends::line_end;
 use crate::reference::{Reference, found, read_reference};
+use rox_bytes::byte_set::skip_set;
+use rox_bytes::search::byte_from;
 use rox_grammar::failure::Failure;
-use rox_scan::byte_set::skip_set;
 use rox_scan::cursor::Cursor;
 use rox_scan::lookahead::RunByte;
-use rox_scan::search::byte_from;
 
-/// Appends the character of the reference that stands here, in a run; or answers the replacement text that it names.
+/// Appends the character of the reference at the cursor, in character data, or returns the replacement text that it names.
 #[inline(always)]
 #[tactic(auto, unfolding(rox_reading::specs::Values::expansion_at))]
 fn expand<'input>(
@@ -43,7 +43,7 @@ fn expand<'input>(
     }
 }
 
-/// The first place from here on of a `&` or a CR, or the end.
+/// Returns the offset of the first `&` or CR from the cursor on, or the end.
 #[inline(always)]
 fn change_from(from: Cursor<'_>) -> usize
     ensures { Finds from.entry.text.now from.entry.pos result
@@ -52,7 +52,7 @@ fn change_from(from: Cursor<'_>) -> usize
     skip_set::<RunByte>(from.text, from.pos)
 }
 
-/// Appends all of a run up to the next `&` or CR.
+/// Appends the bytes of character data up to the next `&` or CR.
 #[tactic(auto, unfolding(rox_reading::specs::Values::data_bit_at))]
 #[inline(always)]
 fn main_data(cursor: &mut Cursor<'_>, stop: usize, out: &mut String) -> Result<(), Failure>
@@ -71,7 +71,7 @@ fn main_data(cursor: &mut Cursor<'_>, stop: usize, out: &mut String) -> Result<(
     Ok(())
 }
 
-/// Appends all of a run of a replacement text up to the next `&`.
+/// Appends the bytes of character data of a replacement text up to the next `&`.
 #[tactic(auto, unfolding(rox_reading::specs::Values::data_bit_at))]
 fn inner_data(cursor: &mut Cursor<'_>, stop: usize, out: &mut String) -> Result<(), Failure>
     requires { BeginsData cursor.old.text.now cursor.old.pos stop }
@@ -86,8 +86,8 @@ fn inner_data(cursor: &mut Cursor<'_>, stop: usize, out: &mut String) -> Result<
     Ok(())
 }
 
-/// Appends a bit of a run: a reference, a line end, or all up to the next of these; or answers the replacement text that a
-/// reference names. Within a replacement text line ends stay as they are.
+/// Appends the next item of character data: a reference, a line end, or all up to the next of these. If a reference names a
+/// replacement text, this is returned. In a replacement text line ends stay as they are.
 #[tactic(auto, unfolding(rox_reading::specs::Values::data_bit_at))]
 #[inline(always)]
 fn data_bit<'input>(
@@ -117,8 +117,8 @@ fn data_bit<'input>(
     Ok(None)
 }
 
-/// Appends what the run from here up to `stop` stands for, or up to the next reference to an entity, whose replacement text
-/// it answers. Within a replacement text line ends stay as they are.
+/// Appends the text of the character data from the cursor up to `stop` or the next reference to an entity. Returns the
+/// replacement text of that entity. In a replacement text line ends stay as they are.
 #[inline(always)]
 pub fn data_part<'input>(
     cursor: &mut Cursor<'input>,

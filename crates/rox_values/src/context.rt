@@ -1,4 +1,4 @@
-//! How a text is read: what differs between the main text and replacement texts.
+//! The context of a text: what differs between the main text and replacement texts.
 
 ghost use Rattle.std.specs.Prelude.{◌≡◌, ◌-◌, ◌<◌, IfOk, false, true};
 ghost use Rattle.rox_reading.specs.Machine.{left_behind};
@@ -7,26 +7,26 @@ ghost use Rattle.rox_values.specs.DeclaredEntities.{OpensWithin};
 use crate::entities::Entities;
 use rox_grammar::fault::Fault;
 
-/// At most so many replacement texts are open at once.
+/// The maximum number of replacement texts that are open at once.
 pub const MOST_DEEP: u32 = 10;
 
-/// A reference of the main text may open so many more within the text that it opens.
+/// The maximum number of replacement texts opened inside the one that a main-text reference opens.
 pub const MOST_WITHIN: u32 = 255;
 
-/// How a text is read.
+/// The context in which a text is read.
 #[derive(Clone, Copy)]
 pub struct Context<'e, 'input> {
-    /// It is the main text, and no replacement text.
+    /// Whether the text is the main text, not a replacement text.
     pub main: bool,
-    /// How many replacement texts may be opened within one another.
+    /// How many replacement texts may be opened inside one another.
     pub depth_left: u32,
-    /// How many elements are open around it.
+    /// How many elements are open around the text.
     pub open_around: usize,
     pub entities: &'e Entities<'input>,
 }
 
 impl<'e, 'input> Context<'e, 'input> {
-    /// How the main text is read.
+    /// Returns the context of the main text.
     pub fn main_text(entities: &'e Entities<'input>) -> Context<'e, 'input>
         ensures { result ≡ record {
           main = true;
@@ -43,8 +43,8 @@ impl<'e, 'input> Context<'e, 'input> {
         }
     }
 
-    /// How a replacement text is read that a reference opens, which ends at `after`, where so many may still be opened and so
-    /// many elements are open; and how many may be opened within it. It is a fault where none may.
+    /// Returns the context of a replacement text whose reference ends at `after`, and how many more may be opened inside it.
+    /// `openings_left` could be opened before it, and `open_around` elements are open. It is a fault if none may be opened.
     pub fn opened(
         self,
         after: usize,
@@ -71,7 +71,8 @@ impl<'e, 'input> Context<'e, 'input> {
         Ok((within, openings_left - 1))
     }
 
-    /// How many may be opened behind the reference, where so many could before it, and are left behind the text that it opened.
+    /// Returns how many replacement texts may be opened after the reference: `before` in the main text, `inner` in a replacement
+    /// text.
     pub fn left_behind(self, before: u32, inner: u32) -> u32
         ensures { result ≡ left_behind self.entry.main before inner }
     {

@@ -11,19 +11,19 @@ use rox_scan::cursor::Cursor;
 use std::alloc::{AllocError, Global};
 use std::collections::BTreeMap;
 
-/// So many rows of entities there are.
+/// The number of rows of entities.
 const ROWS: usize = 61;
 
-/// So many entities of a row are looked at.
+/// The number of entities tried in a row before the map is searched.
 const FEW: u32 = 8;
 
-/// So many entities have rows.
+/// The maximum number of entities that are in rows.
 const MOST_LISTED: usize = 65536;
 
-/// Stands for no entity.
+/// The index that means that there is no entity.
 const NONE: u32 = u32::MAX;
 
-/// An entity, and the one before it in its row.
+/// An entity, and the index of the one before it in its row.
 #[derive(Clone, Copy)]
 struct Declared<'input> {
     code: u64,
@@ -32,19 +32,21 @@ struct Declared<'input> {
     before: u32,
 }
 
-/// The entities of a document, by name, each behind its code. A replacement text is the place where it begins, in a source that
-/// ends where the text does: the main text, or what was answered for an external entity.
+/// The entities of a document, by code and name. A replacement text is a cursor at its start, in a source that ends where the
+/// text does. The source is the main text, or what a resolver returned for an external entity.
 #[derive(Drop)]
 pub struct Entities<'input> {
     texts: BTreeMap<(u64, &'input str), Cursor<'input>>,
-    /// The first ones, as they were declared: most references are found here, in rows by code, without a search of the map.
+    /// The first entities, in the order of their declarations. Most references are found here, in rows by code, without a search
+    /// of the map.
     listed: Vec<Declared<'input>>,
-    /// The last of each row. Empty as long as none is declared.
+    /// The index of the last entity of each row. Empty as long as no entity is declared.
     rows: Vec<u32>,
     pub ghost held: { (i : ℕ) (d : Declared) → i < length listed.items → IsHeld texts (get_or listed.items i d) },
 }
 
-/// A number that few names share, of their length and four of their bytes: it is compared more quickly than names are.
+/// Returns a number that few names share, made from their length and four of their bytes. It is compared more quickly than names
+/// are.
 #[inline(always)]
 #[tactic(auto, unfolding(crate::specs::HeldEntities::code_of))]
 fn code(name: &str) -> u64
@@ -60,13 +62,13 @@ fn code(name: &str) -> u64
     (count.min(255) as u64 * 65536 + ends) * 65536 + inner
 }
 
-/// The row of a code.
+/// Returns the row of a code.
 #[inline(always)]
 fn row_of(code: u64) -> usize {
     (code % ROWS as u64) as usize
 }
 
-/// Puts an entity at the end of its row, and answers which stood there. The only error is want of memory.
+/// Puts an entity at the end of its row. Returns the index of the entity that was there, or `NONE`.
 fn link(rows: &mut Vec<u32>, code: u64, index: u32) -> Result<u32, AllocError> {
     if rows.is_empty() {
         rows.resize(ROWS, NONE)?;
@@ -82,7 +84,7 @@ fn link(rows: &mut Vec<u32>, code: u64, index: u32) -> Result<u32, AllocError> {
 impl<'input> Entities<'input> {
     ghost use Rattle.rox_values.specs.DeclaredEntities.{AreDeclared, text_in};
 
-    /// None.
+    /// Returns the entities of a document that declares none.
     pub fn new(alloc: Global) -> Entities<'input>
         ensures { AreDeclared [] result }
     {
@@ -93,7 +95,7 @@ impl<'input> Entities<'input> {
         }
     }
 
-    /// The replacement text of a name of this code, if it is among the last of its row.
+    /// Returns the replacement text of a name with the code `code`, if it is among the last `FEW` of its row.
     #[inline(always)]
     fn near(&self, code: u64, name: &str) -> Option<Cursor<'input>>
         ensures { IfSome result (λ text. get_by (named_cmp name.now) self.entry.now.texts
@@ -115,7 +117,7 @@ impl<'input> Entities<'input> {
         None
     }
 
-    /// The same of all.
+    /// Like `near`, but searches all entities.
     #[inline(never)]
     fn far(&self, name: &'input str) -> Option<Cursor<'input>>
         ensures { result ≡ get_by (named_cmp name.now) self.entry.now.texts }
@@ -126,7 +128,7 @@ impl<'input> Entities<'input> {
         }
     }
 
-    /// The replacement text of a name, if it is declared.
+    /// Returns the replacement text of a name, if it is declared.
     #[inline(always)]
     pub fn get(&self, name: &'input str) -> Option<Cursor<'input>>
         ensures { option_map replacement_view result ≡ text_in self.entry.now name.entry.now }
@@ -137,7 +139,7 @@ impl<'input> Entities<'input> {
         }
     }
 
-    /// Puts an entity that the map has into its row. The only error is want of memory.
+    /// Puts an entity that the map has into its row.
     fn list(&mut self, name: &'input str, text: Cursor<'input>) -> Result<(), AllocError>
         requires { get_by (named_cmp name.now) self.old.texts ≡ Some text }
         ensures { self.new.texts ≡ self.old.texts }
@@ -156,8 +158,7 @@ impl<'input> Entities<'input> {
         Ok(())
     }
 
-    /// Declares a name. Of several declarations of one name the first is binding (XML 1.0 section 4.2). The only error is want
-    /// of memory.
+    /// Declares a name. If a name has several declarations, the first is binding (XML 1.0 section 4.2).
     pub fn declare(&mut self, name: &'input str, text: Cursor<'input>) -> Result<(), AllocError>
         ensures { (es : List Entity) → AreDeclared es self.old
             → OnOk result

@@ -1,4 +1,4 @@
-//! The values of attributes, and the parts of a run of text: references, entities and line ends.
+//! The values of attributes, and the parts of character data: references, entities and line ends.
 #![tactic(auto)]
 
 pub mod attribute_value;

@@ -3,16 +3,16 @@
 ghost use Rattle.std.specs.Prelude.{◌≡◌, ◌++◌, List, IfOk, OnOk, ◌<◌, true};
 ghost use Rattle.std.specs.String.{string_bytes};
 ghost use Rattle.rox_reading.specs.Values as spec;
-ghost use Rattle.rox_scan.specs.ScanResults.{HasCharAt};
+ghost use Rattle.rox_bytes.specs.ScanResults.{HasCharAt};
 ghost use Rattle.rox_values.specs.Values.{AppendsFrom, AppendsSectionPart, BeginsLineEnd, section_rest};
 
+use rox_bytes::runs::{after_byte, is_at};
+use rox_bytes::search::byte_from;
 use rox_grammar::failure::Failure;
 use rox_scan::cursor::Cursor;
-use rox_scan::runs::{after_byte, is_at};
-use rox_scan::search::byte_from;
 use std::alloc::AllocError;
 
-/// Appends a line feed for the line end that stands here: a CR, and the LF behind it if one stands there before `stop`.
+/// Appends a line feed for the line end at the cursor: a CR, and the LF after it if one is there before `stop`.
 #[tactic(auto, unfolding(rox_reading::specs::Values::data_bit_at))]
 pub(crate) fn line_end(
     cursor: &mut Cursor<'_>,
@@ -42,7 +42,7 @@ pub fn line_feeds(raw: &str, out: &mut String) -> Result<(), AllocError>
     Ok(())
 }
 
-/// Appends a part of a CDATA section: a line end, or all up to the next CR. It answers where the part ends.
+/// Appends the next item of a CDATA section: a line end, or all up to the next CR. Returns the offset after it.
 #[tactic(auto, using(crate::proofs::SectionLemmas::part_stretch, crate::proofs::SectionLemmas::stretch_moves, crate::proofs::SectionLemmas::part_feed, crate::proofs::SectionLemmas::part_return))]
 fn section_part(raw: &str, at: usize, out: &mut String) -> Result<usize, AllocError>
     requires { HasCharAt raw.now at }

@@ -8,8 +8,8 @@ use rox_grammar::failure::Failure;
 use rox_grammar::fault::Fault;
 use std::alloc::{AllocError, AllocFailed};
 
-/// Why a text is refused: memory ran out, or there is a fault, in the source that is read or in another, or the resolver
-/// refused the request that ends at this place of the main text.
+/// Why a text is refused. `Memory`: memory ran out. `Fault`: there is a fault in the source that is read. `FaultIn`: there is one
+/// in another source. `Resolver`: the resolver refused the request that ends at this offset of the main text.
 #[derive(Drop)]
 pub enum ParseError<'input> {
     Memory,
@@ -19,7 +19,7 @@ pub enum ParseError<'input> {
 }
 
 impl<'input> ParseError<'input> {
-    /// The same, of a source that another one opened.
+    /// Returns the error as the text that opened `source` reports it: a `Fault` becomes a `FaultIn` of `source`.
     #[cold]
     pub fn within(self, source: &'input str) -> ParseError<'input>
         ensures { result ≡ seen_from source.entry self.entry }

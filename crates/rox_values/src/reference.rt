@@ -7,18 +7,18 @@ ghost use Rattle.rox_grammar.specs.Entities.{Entity, text_of};
 ghost use Rattle.rox_grammar.specs.References as spec;
 ghost use Rattle.rox_grammar.specs.Runs as grammar;
 ghost use Rattle.rox_reading.specs.Values as reading;
-ghost use Rattle.rox_scan.specs.ScanResults.{Finds};
+ghost use Rattle.rox_bytes.specs.ScanResults.{Finds};
 ghost use Rattle.rox_values.specs.DeclaredEntities.{AreDeclared};
 ghost use Rattle.rox_values.specs.Values.{AreDigits, FindsEntity, IsDigitValue, IsOnward, ReadsReference, base_of, is_digit_of};
 
 use crate::context::Context;
+use rox_bytes::byte_set::{PartByte, skip_set};
+use rox_bytes::chars::{Class, NameChar, NameStart, XmlChar};
+use rox_bytes::runs::{after_byte, begins, is_at, run_end};
 use rox_grammar::fault::{Fault, Span};
-use rox_scan::byte_set::{PartByte, skip_set};
-use rox_scan::chars::{Class, NameChar, NameStart, XmlChar};
 use rox_scan::cursor::Cursor;
-use rox_scan::runs::{after_byte, begins, is_at, run_end};
 
-/// What a reference names: a character, or an entity, by its name and where that stands.
+/// What a reference names: a character, or an entity, by the span of its name and by its name.
 #[derive(Clone, Copy)]
 pub enum Reference<'input> {
     Character(char),
@@ -28,13 +28,13 @@ pub enum Reference<'input> {
 /// The least number that is too large for a reference.
 const TOO_LARGE: u64 = 1 << 32;
 
-/// Digits: where they end, and the number that they stand for, or `TOO_LARGE` if that is less.
+/// Digits: the offset at which they end, and their number, or `TOO_LARGE` if that is less.
 struct Digits {
     end: usize,
     number: u64,
 }
 
-/// Whether the byte is a digit, of base 16 or of base 10.
+/// Returns whether a byte is a digit, of base 16 or of base 10.
 #[inline(always)]
 fn is_digit(byte: u8, hexadecimal: bool) -> bool
     ensures { result ≡ is_digit_of hexadecimal byte }
@@ -47,7 +47,7 @@ fn is_digit(byte: u8, hexadecimal: bool) -> bool
     }
 }
 
-/// The number that a digit stands for.
+/// Returns the number that a digit means.
 #[inline]
 fn digit_value(byte: u8) -> u64
     ensures { IsDigitValue byte result }
@@ -62,7 +62,7 @@ fn digit_value(byte: u8) -> u64
     value as u64
 }
 
-/// The digits that begin at `at`, perhaps none.
+/// Returns the digits that start at `at`, if there are any.
 #[inline(always)]
 #[tactic(auto, using(crate::proofs::DigitLemmas::digit_steps, crate::proofs::DigitLemmas::one_more_digit))]
 fn read_digits(text: &str, at: usize, hexadecimal: bool) -> Digits
@@ -80,7 +80,7 @@ fn read_digits(text: &str, at: usize, hexadecimal: bool) -> Digits
     Digits { end, number }
 }
 
-/// The character of a number. A number that is no character gives U+FFFD.
+/// Returns the character with the number `number`. A number that is not that of a character gives U+FFFD.
 #[inline]
 fn character(number: u32) -> char
     ensures { result ≡ spec.character number }
@@ -88,7 +88,7 @@ fn character(number: u32) -> char
     char::from_u32(number).unwrap_or('\u{FFFD}')
 }
 
-/// Whether the character may stand in XML (XML 1.0 [2] Char). Most are told by one range.
+/// Returns whether a character is allowed in XML (XML 1.0 [2] Char). One range decides for most.
 #[inline(always)]
 fn may_stand(character: char) -> bool
     ensures { result ≡ is_char character }
@@ -96,8 +96,8 @@ fn may_stand(character: char) -> bool
     matches!(character, ' '..='\u{D7FF}') || XmlChar::has(character)
 }
 
-/// The digits from `digits` on and the `;` of a reference that stands here. It is a fault where there is no digit, where the
-/// number is 2^32 or more, and where it is that of no Char.
+/// Reads the digits from `digits` on and the `;` of the reference at the cursor. It is a fault if there is no digit or no `;`. It
+/// is also one if the number is 2^32 or more, or if its character is not a Char.
 #[inline(always)]
 #[tactic(auto, unfolding(rox_reading::specs::Values::number_at))]
 fn number<'input>(
@@ -123,7 +123,7 @@ fn number<'input>(
     Ok(Reference::Character(character))
 }
 
-/// The character that one of the five predefined names stands for (XML 1.0 section 4.6).
+/// Returns the character of one of the five predefined names (XML 1.0 section 4.6).
 #[inline]
 fn predefined(name: &str) -> Option<char>
     ensures { result ≡ spec.predefined name.now }
@@ -138,7 +138,8 @@ fn predefined(name: &str) -> Option<char>
     }
 }
 
-/// Where the name ends that begins here. Its first ASCII bytes but colons, most often all, are passed over by vectors.
+/// Returns the end of the name that starts at the cursor. Its first ASCII bytes except colons, most often all, are passed by
+/// vectors.
 #[inline(always)]
 fn name_end(from: Cursor<'_>) -> usize
     ensures { Finds from.entry.text.now from.entry.pos result
@@ -148,7 +149,7 @@ fn name_end(from: Cursor<'_>) -> usize
     run_end::<NameChar>(text, skip_set::<PartByte>(text, from.pos))
 }
 
-/// The name and the `;` of a reference that stands here, with its `&`.
+/// Reads the reference at the cursor to a name, from its `&` to its `;`.
 #[inline(always)]
 #[tactic(auto, unfolding(rox_reading::specs::Values::name_reference_at))]
 fn name_reference<'input>(cursor: &mut Cursor<'input>) -> Result<Reference<'input>, Fault>
@@ -172,8 +173,8 @@ fn name_reference<'input>(cursor: &mut Cursor<'input>) -> Result<Reference<'inpu
     })
 }
 
-/// The reference that stands here, from its `&` to its `;` (XML 1.0 [66] CharRef, [68] EntityRef). One that is not well
-/// formed is a fault at its start.
+/// Reads the reference at the cursor, from its `&` to its `;` (XML 1.0 [66] CharRef, [68] EntityRef). One that is not well-formed
+/// is a fault at its start.
 #[inline(always)]
 #[tactic(auto, unfolding(rox_reading::specs::Values::reference_at))]
 pub fn read_reference<'input>(cursor: &mut Cursor<'input>) -> Result<Reference<'input>, Fault>
@@ -193,8 +194,8 @@ pub fn read_reference<'input>(cursor: &mut Cursor<'input>) -> Result<Reference<'
     number(cursor, digits + 1, true)
 }
 
-/// The replacement text of a name, which stands at `span` in a reference that begins at `start`. A name that is not declared is
-/// a fault there.
+/// Returns the replacement text of the name `name`, which is at `span` in a reference that starts at `start`. A name that is not
+/// declared is a fault there.
 #[inline(always)]
 pub(crate) fn found<'input>(
     context: Context<'_, 'input>,

@@ -1,12 +1,12 @@
-//! A text that is read: a slice of the source, or a text of its own where line ends, references or white space change it; and the
-//! text of a CDATA section as one (XML 1.0 sections 2.7 and 2.11).
+//! A text that was read: a slice of the source, or a changed text if line ends, references or white space change it. The text of
+//! a CDATA section is read as one of these (XML 1.0 sections 2.7 and 2.11).
 
 ghost use Rattle.std.specs.Prelude.{◌≡◌, IfOk};
 ghost use Rattle.std.specs.String.{string_bytes};
 ghost use Rattle.rox_values.specs.Values.{piece_view, section_text};
 
 use crate::line_ends::line_feeds;
-use rox_scan::search::before_byte;
+use rox_bytes::search::before_byte;
 use std::alloc::AllocError;
 
 /// A text: a slice of the source, or what the caller's buffer holds.
@@ -16,8 +16,8 @@ pub enum TextValue<'input> {
     Changed,
 }
 
-/// The text of a CDATA section (XML 1.0 sections 2.7 and 2.11): a slice of the source where it has no CR, and else with a LF
-/// for each line end, in `scratch`, which is cleared first. The only error is want of memory.
+/// Returns the text of a CDATA section (XML 1.0 sections 2.7 and 2.11). It is a slice of the source if it has no CR. Otherwise it
+/// is in `scratch`, which is cleared first, with a LF for each line end.
 #[inline]
 pub fn cdata_text<'input>(
     raw: &'input str,

@@ -3,7 +3,7 @@ use Rattle.std.proofs.lemmas.Result.{err_from_is_err_and}
 use Rattle.std.specs.String.{string_bytes}
 use Rattle.rox_values.specs.Values.{piece_view, section_text}
 use Rattle.rox_reading.specs.Refusals.{lifted}
-use Rattle.rox_build.proofs.Stepping.{cdata_is, cdata_fails, text_stepped, same_shows}
+use Rattle.rox_builder.proofs.Stepping.{cdata_is, cdata_fails, text_stepped, same_shows}
 use Rattle.rox_build.proofs.constructs.cdata.Goals as goal
 
 pub returns : goal.returns

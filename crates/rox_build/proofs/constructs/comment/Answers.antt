@@ -3,7 +3,7 @@ use Rattle.std.proofs.lemmas.Result.{err_from_is_err_and}
 use Rattle.rox_grammar.specs.Tree as tree
 use Rattle.rox_grammar.specs.Written.{Item, Comment}
 use Rattle.rox_reading.specs.Refusals.{lifted}
-use Rattle.rox_build.proofs.Stepping.{comment_is, comment_fails, item_stepped}
+use Rattle.rox_builder.proofs.Stepping.{comment_is, comment_fails, item_stepped}
 use Rattle.rox_build.proofs.constructs.comment.Goals as goal
 
 pub returns : goal.returns

@@ -7,16 +7,17 @@ use Rattle.rox_reading.specs.State.{State}
 use Rattle.rox_reading.specs.Machine.{opened_by}
 use Rattle.rox_reading.specs.Refusals.{lifted}
 use Rattle.rox_values.specs.Contexts.{context_of}
-use Rattle.rox_build.specs.ElementRow.{Tagged}
-use Rattle.rox_build.specs.BuilderState.{IsNode, IsConsistent, IsOpened, ScansTo}
-use Rattle.rox_build.specs.declared.builder.OpenElement.{OpenElement}
-use Rattle.rox_build.proofs.SameNames.{opened_named}
-use Rattle.rox_build.proofs.SpelledNames.{tag_is_named}
-use Rattle.rox_build.specs.SpelledNames.{SpellsName}
-use Rattle.rox_tables.specs.declared.rows.tables.NodeKind.TheVariants as kind
+use Rattle.rox_tags.specs.ElementRow.{Tagged}
+use Rattle.rox_builder.specs.BuilderState.{IsNode, IsConsistent, ScansTo}
+use Rattle.rox_names.specs.OpenElements.{IsOpened}
+use Rattle.rox_names.specs.declared.open_element.OpenElement.{OpenElement}
+use Rattle.rox_names.proofs.SameNames.{opened_named}
+use Rattle.rox_names.proofs.SpelledNames.{tag_is_named}
+use Rattle.rox_names.specs.SpelledNames.{SpellsName}
+use Rattle.rox_rows.specs.declared.row.NodeKind.TheVariants as kind
 use Rattle.rox_build.proofs.Declared.{some_declare}
-use Rattle.rox_build.proofs.Lifting.{refused_too}
-use Rattle.rox_build.proofs.Growing.{grown_shows}
+use Rattle.rox_values.proofs.Lifting.{refused_too}
+use Rattle.rox_builder.proofs.Growing.{grown_shows}
 use Rattle.rox_build.proofs.Opening.{grown_by, is_node, is_opening, fine_by, fine_kept, fine_more, namespace_by, tag_fails, tag_is, empty_stepped, open_stepped}
 use Rattle.rox_build.proofs.constructs.element.Goals as goal
 

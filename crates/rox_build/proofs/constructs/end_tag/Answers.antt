@@ -10,16 +10,17 @@ use Rattle.rox_grammar.specs.State.{Open}
 use Rattle.rox_reading.specs.Machine.{name_span}
 use Rattle.rox_values.specs.Contexts.{context_of}
 use Rattle.rox_reading.specs.Refusals.{here, lifted}
-use Rattle.rox_build.specs.BuilderState.{HasName, IsConsistent, IsOpenWithin, opened_in, open_name, Represents}
-use Rattle.rox_build.specs.declared.builder.OpenElement.{OpenElement}
+use Rattle.rox_builder.specs.BuilderState.{IsConsistent, opened_in, Represents}
+use Rattle.rox_names.specs.OpenElements.{HasName, IsOpenWithin, open_name}
+use Rattle.rox_names.specs.declared.open_element.OpenElement.{OpenElement}
 use Rattle.rox_grammar.specs.declared.fault.Span.{Span}
 use Rattle.rox_grammar.specs.declared.fault.Fault.TheVariants as fault
-use Rattle.rox_tables.proofs.Stable.{all_take}
-use Rattle.rox_tables.specs.declared.rows.tables.ElementTables.{ElementTables}
-use Rattle.rox_build.proofs.SameNames.{all_last}
-use Rattle.rox_build.proofs.Showing.{last_split}
+use Rattle.rox_rows.proofs.Stable.{all_take}
+use Rattle.rox_scopes.specs.declared.tables.ElementTables.{ElementTables}
+use Rattle.rox_build.proofs.Closing.{all_last}
+use Rattle.rox_builder.proofs.Showing.{last_split}
 use Rattle.std.specs.List.{AllByRecursion}
-use Rattle.rox_build.proofs.Stepping.{end_is, end_fails, end_below, opened_deep, closed_at_root, closed_other, closed_stepped}
+use Rattle.rox_builder.proofs.Stepping.{end_is, end_fails, end_below, opened_deep, closed_at_root, closed_other, closed_stepped}
 use Rattle.rox_build.proofs.constructs.end_tag.Goals as goal
 
 pub returns-in_err-tag : goal.returns-in_err-tag

@@ -4,7 +4,7 @@ use Rattle.rox_grammar.specs.Tree as tree
 use Rattle.rox_grammar.specs.Written.{Item, PI}
 use Rattle.rox_scan.specs.Views.{instruction_view}
 use Rattle.rox_reading.specs.Refusals.{lifted}
-use Rattle.rox_build.proofs.Stepping.{instruction_is, instruction_fails, item_stepped}
+use Rattle.rox_builder.proofs.Stepping.{instruction_is, instruction_fails, item_stepped}
 use Rattle.rox_build.proofs.constructs.instruction.Goals as goal
 
 pub returns : goal.returns

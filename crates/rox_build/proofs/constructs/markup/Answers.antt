@@ -1,9 +1,9 @@
 use Rattle.std.proofs.Common.{◌+◌, refl, sym, ap, ◌∙◌, slice_index, List, ℕ, arith, rules}
 use Rattle.std.proofs.lemmas.Bool.{ne_eqb}
 use Rattle.std.proofs.lemmas.Result.{err_from_is_err_and}
-use Rattle.rox_build.proofs.Lifting.{refused_too}
+use Rattle.rox_values.proofs.Lifting.{refused_too}
 use Rattle.rox_values.specs.Contexts.{context_of}
-use Rattle.rox_build.proofs.Stepping.{two_stand, step_is_markup}
+use Rattle.rox_builder.proofs.Stepping.{two_stand, step_is_markup}
 use Rattle.rox_build.proofs.constructs.markup.Goals as goal
 
 pub instruction-requires : goal.instruction-requires

@@ -3,14 +3,15 @@ use Rattle.std.proofs.lemmas.List.{length-take-le}
 use Rattle.rox_grammar.specs.State.{inside}
 use Rattle.rox_grammar.specs.Written.{Name}
 use Rattle.rox_reading.specs.Machine.{name_span}
-use Rattle.rox_tables.specs.Rows.{node_rows}
-use Rattle.rox_tables.specs.StoredNodes.{data_of}
-use Rattle.rox_tables.specs.declared.rows.tables.NodeData.{NodeData}
-use Rattle.rox_build.specs.BuilderState.{OpenRow, name_length, open_lines, open_name, opened_in, with_rows}
-use Rattle.rox_build.specs.OpenRows.{top}
-use Rattle.rox_build.proofs.Showing.{innermost_start, rows_count}
-use Rattle.rox_build.proofs.SpelledNames.{kept_bounds}
-use Rattle.rox_build.proofs.Stepping.{top_placed, top_view}
+use Rattle.rox_rows.specs.Rows.{node_rows}
+use Rattle.rox_rows.specs.StoredNodes.{data_of}
+use Rattle.rox_rows.specs.declared.row.NodeData.{NodeData}
+use Rattle.rox_builder.specs.BuilderState.{OpenRow, open_lines, opened_in, with_rows}
+use Rattle.rox_names.specs.OpenElements.{name_length, open_name}
+use Rattle.rox_builder.specs.OpenRows.{top}
+use Rattle.rox_builder.proofs.Showing.{innermost_start, rows_count}
+use Rattle.rox_names.proofs.SpelledNames.{kept_bounds}
+use Rattle.rox_builder.proofs.Stepping.{top_placed, top_view}
 use Rattle.rox_build.proofs.constructs.open_span.Goals.{then-row-len, else-row-len}
 use Rattle.rox_build.proofs.constructs.open_span.Goals as goal
 

@@ -4,9 +4,9 @@ use Rattle.rox_reading.specs.State.{State}
 use Rattle.rox_reading.specs.Machine.{data_parts, drive_text}
 use Rattle.rox_values.specs.DeclaredEntities.{AreDeclared}
 use Rattle.rox_values.specs.Contexts.{context_of}
-use Rattle.rox_build.specs.BuilderState.{IsConsistent, IsInState, HoldsState}
-use Rattle.rox_build.proofs.Parting.{Parting}
-use Rattle.rox_build.proofs.TextLooping.{Texting}
+use Rattle.rox_builder.specs.BuilderState.{IsConsistent, IsInState, HoldsState}
+use Rattle.rox_builder.proofs.Parting.{Parting}
+use Rattle.rox_builder.proofs.TextLooping.{Texting}
 use Rattle.rox_build.proofs.content.+content.Given as goal
 
 abbrev pub decreases-open_other_text : goal.decreases-open_other_text

@@ -6,9 +6,9 @@ use Rattle.rox_grammar.specs.State.{is_root}
 use Rattle.rox_reading.specs.Machine.{step}
 use Rattle.rox_values.specs.Contexts.{context_of}
 use Rattle.rox_build.proofs.Looping.{drives_on, drive_fails, drive_done, drive_cut}
-use Rattle.rox_build.specs.BuilderState.{ScansTo}
+use Rattle.rox_builder.specs.BuilderState.{ScansTo}
 use Rattle.rox_build.proofs.Twice.{drives_past}
-use Rattle.rox_build.proofs.Stepping.{fine_open, rows_kept, state_kept}
+use Rattle.rox_builder.proofs.Stepping.{fine_open, rows_kept, state_kept}
 use Rattle.rox_build.proofs.content.content.Goals as goal
 
 pub loop-turn-init : goal.loop-turn-init

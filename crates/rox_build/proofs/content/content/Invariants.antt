@@ -4,7 +4,7 @@ use Rattle.rox_reading.specs.Machine.{drive}
 use Rattle.rox_grammar.specs.Entities.{Entity}
 use Rattle.rox_values.specs.DeclaredEntities.{AreDeclared}
 use Rattle.rox_values.specs.Contexts.{context_of}
-use Rattle.rox_build.specs.BuilderState.{IsConsistent, IsInState}
+use Rattle.rox_builder.specs.BuilderState.{IsConsistent, IsInState}
 use Rattle.rox_build.proofs.Looping.{Driving}
 use Rattle.rox_build.proofs.content.content.Given as goal
 

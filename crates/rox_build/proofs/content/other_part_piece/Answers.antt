@@ -6,8 +6,8 @@ use Rattle.std.proofs.lemmas.Result.{err_from_is_err_and}
 use Rattle.rox_reading.specs.Values.{data_part}
 use Rattle.rox_values.specs.Contexts.{context_of}
 use Rattle.rox_values.specs.Values.{next_view}
-use Rattle.rox_build.proofs.Stepping.{same_shows}
-use Rattle.rox_build.proofs.Parting.{rests_of, text_rests, text_refused, part_piece_is, part_piece_fails}
+use Rattle.rox_builder.proofs.Stepping.{same_shows}
+use Rattle.rox_builder.proofs.Parting.{rests_of, text_rests, text_refused, part_piece_is, part_piece_fails}
 use Rattle.rox_build.proofs.content.other_part_piece.Goals as goal
 
 pub returns-in_err-scratch_piece : goal.returns-in_err-scratch_piece

@@ -5,10 +5,10 @@ use Rattle.std.specs.String.{string_bytes}
 use Rattle.rox_reading.specs.Machine.{with_piece}
 use Rattle.rox_grammar.specs.Failures.{Fails}
 use Rattle.rox_values.specs.Contexts.{context_of}
-use Rattle.rox_build.specs.PendingText.{text_before}
-use Rattle.rox_build.specs.BuilderState.{Adds}
-use Rattle.rox_build.proofs.Parting.{rests_of}
-use Rattle.rox_build.proofs.Joining.{part_appended, part_piece_over}
+use Rattle.rox_builder.specs.PendingText.{text_before}
+use Rattle.rox_builder.specs.BuilderState.{Adds}
+use Rattle.rox_builder.proofs.Parting.{rests_of}
+use Rattle.rox_builder.proofs.Joining.{part_appended, part_piece_over}
 use Rattle.rox_build.proofs.content.part_piece.Goals as goal
 
 pub returns-in_err-end_part : goal.returns-in_err-end_part

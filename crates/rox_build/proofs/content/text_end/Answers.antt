@@ -1,6 +1,6 @@
 use Rattle.std.proofs.Common.{arith}
 use Rattle.rox_values.specs.Contexts.{context_of}
-use Rattle.rox_build.proofs.TextLooping.{opened_depth, text_closed, text_open}
+use Rattle.rox_builder.proofs.TextLooping.{opened_depth, text_closed, text_open}
 use Rattle.rox_build.proofs.content.text_end.Goals as goal
 
 pub returns-then-len-context : goal.returns-then-len-context

@@ -8,7 +8,8 @@ use Rattle.rox_reading.specs.Machine.{at_place}
 use Rattle.rox_reading.proofs.Settling.{doctype_head_stops, doctype_cut_stops, doctype_plain, doctype_other_stops}
 use Rattle.rox_build.specs.Requests.{Allows}
 use Rattle.rox_build.proofs.Asking.{none_given}
-use Rattle.rox_build.proofs.Items.{sees_at, stands_within, with_subset}
+use Rattle.rox_build.proofs.Items.{sees_at, with_subset}
+use Rattle.rox_bytes.proofs.RunLemmas.{stands_within}
 use Rattle.rox_build.proofs.dtd.document_type.Goals as goal
 
 pub returns-in_err-doctype_head : goal.returns-in_err-doctype_head

@@ -7,8 +7,8 @@ use Rattle.rox_reading.specs.Doctype.{Asks, Dtd}
 use Rattle.rox_reading.specs.Answering.{left_with}
 use Rattle.rox_build.specs.Requests.{Reply, Allows}
 use Rattle.rox_build.specs.Asking.{IsSubsetSoFar, ItemOutcome}
-use Rattle.rox_build.specs.Outcomes.{MayStep}
-use Rattle.rox_build.specs.declared.builder.Builder.{Builder}
+use Rattle.rox_builder.specs.Outcomes.{MayStep}
+use Rattle.rox_builder.specs.declared.builder.Builder.{Builder}
 use Rattle.rox_values.specs.declared.entities.Entities.{Entities}
 use Rattle.rox_values.specs.declared.parse_error.ParseError.{ParseError}
 use Rattle.rox_scan.specs.declared.cursor.Cursor.{Cursor}

@@ -5,7 +5,7 @@ use Rattle.rox_reading.specs.Answering.{left_with}
 use Rattle.rox_build.specs.Requests.{Allows}
 use Rattle.rox_build.specs.Asking.{IsSubsetSoFar}
 use Rattle.rox_values.specs.DeclaredEntities.{AreDeclared}
-use Rattle.rox_build.specs.BuilderState.{IsConsistent, IsInState}
+use Rattle.rox_builder.specs.BuilderState.{IsConsistent, IsInState}
 use Rattle.rox_build.proofs.dtd.subset.Given as goal
 
 abbrev pub invariant-loop-turn : goal.invariant-loop-turn

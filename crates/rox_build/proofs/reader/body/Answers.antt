@@ -10,7 +10,7 @@ use Rattle.rox_values.specs.Refusals.{IsFailure, IsRefusal}
 use Rattle.rox_values.specs.DeclaredEntities.{AreDeclared}
 use Rattle.rox_values.specs.Contexts.{context_of}
 use Rattle.rox_values.specs.declared.context.Context.{Context}
-use Rattle.rox_build.specs.BuilderState.{IsInState}
+use Rattle.rox_builder.specs.BuilderState.{IsInState}
 use Rattle.rox_build.proofs.Wholes.{no_body, tag_fails_body, content_fails_body, misc_fails_body, a_body}
 use Rattle.rox_build.proofs.reader.body.Goals as goal
 use Rattle.rox_build.proofs.reader.body.Goals.{in-Read, in-NotRead+in_ok-element-in-NotRead, then-is_at_end-via-then-is_at_end, then-is_at_end-via-else-is_at_end+then-as_bytes-cursor-ne60}

@@ -5,9 +5,9 @@ use Rattle.rox_grammar.specs.Doctype.{Request, Asked}
 use Rattle.rox_build.specs.Requests.{Reply, Allows}
 use Rattle.rox_build.specs.Asking.{AreGiven, StopsBy}
 use Rattle.rox_build.specs.Built.{BuiltRefusal}
-use Rattle.rox_build.specs.BuilderState.{IsInState}
+use Rattle.rox_builder.specs.BuilderState.{IsInState}
 use Rattle.rox_build.specs.WholeTexts.{IsBegun, start_state}
-use Rattle.rox_build.specs.declared.builder.Builder.{Builder}
+use Rattle.rox_builder.specs.declared.builder.Builder.{Builder}
 use Rattle.rox_scan.specs.declared.cursor.Cursor.{Cursor}
 use Rattle.rox_values.specs.declared.parse_error.ParseError.{ParseError}
 use Rattle.rox_values.specs.declared.parse_error.ParseError.TheVariants as code

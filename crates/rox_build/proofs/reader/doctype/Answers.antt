@@ -3,12 +3,12 @@ use Rattle.std.proofs.lemmas.Grind.{common_steps}
 use Rattle.std.proofs.lemmas.Result.{err_from_is_err_and}
 use Rattle.rox_grammar.specs.declared.fault.Word.TheVariants as word
 use Rattle.rox_grammar.specs.FixedTexts.{at}
-use Rattle.rox_build.specs.Readiness.{MayRead}
+use Rattle.rox_builder.specs.Readiness.{MayRead}
 use Rattle.rox_reading.specs.Doctype.{with_state}
 use Rattle.rox_reading.proofs.Settling.{no_doctype_here, forbidden_stops, doctype_stops, doctype_read, doctype_run, step_run}
 use Rattle.rox_build.specs.Requests.{Allows}
 use Rattle.rox_build.proofs.Asking.{none_given, stops_by}
-use Rattle.rox_build.proofs.Lifting.{lifted_ok}
+use Rattle.rox_values.proofs.Lifting.{lifted_ok}
 use Rattle.rox_build.proofs.Documents.{behind_fails}
 use Rattle.rox_build.proofs.reader.doctype.Goals as goal
 

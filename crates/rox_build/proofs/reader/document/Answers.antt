@@ -10,7 +10,7 @@ use Rattle.rox_reading.proofs.Settling.{doctype_run, whole_run, whole_doctype_st
 use Rattle.rox_build.specs.Requests.{Allows}
 use Rattle.rox_build.specs.WholeTexts.{start_state, beginning}
 use Rattle.rox_build.proofs.Asking.{none_given, stops_by}
-use Rattle.rox_build.proofs.Lifting.{lifted_ok}
+use Rattle.rox_values.proofs.Lifting.{lifted_ok}
 use Rattle.rox_build.proofs.Wholes.{misc_open}
 use Rattle.rox_build.proofs.Rooted.{doctype_open}
 use Rattle.rox_build.proofs.Documents.{beginning_fails, beginning_parts, told, root_fails, root_ends}

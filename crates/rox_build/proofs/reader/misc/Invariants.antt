@@ -2,7 +2,7 @@ use Rattle.std.proofs.Common.{◌≡◌, ◌-◌, ℕ, length}
 use Rattle.rox_reading.specs.State.{State}
 use Rattle.rox_reading.specs.Refusals.{lifted}
 use Rattle.rox_reading.specs.WholeText.{misc}
-use Rattle.rox_build.specs.BuilderState.{IsConsistent, IsInState}
+use Rattle.rox_builder.specs.BuilderState.{IsConsistent, IsInState}
 use Rattle.rox_build.proofs.Looping.{Going}
 use Rattle.rox_build.proofs.reader.misc.Given as goal
 

@@ -3,7 +3,7 @@ use Rattle.std.proofs.lemmas.Grind.{common_steps}
 use Rattle.std.proofs.lemmas.Result.{err_from_is_err_and}
 use Rattle.std.proofs.lemmas.Bool.{leb-true, leb-false}
 use Rattle.rox_grammar.specs.State.{Open, root}
-use Rattle.rox_build.specs.BuilderState.{Represents}
+use Rattle.rox_builder.specs.BuilderState.{Represents}
 use Rattle.rox_build.proofs.Documents.{body_fails, more_stands, no_element, an_element}
 use Rattle.rox_build.proofs.Wholes.{body_open}
 use Rattle.rox_build.proofs.reader.rest.Goals as goal

@@ -1,7 +1,7 @@
 use Rattle.std.proofs.Common.{◌≡◌, ℕ, List, true, false, sym, ap, ◌∙◌, slice_index, refl, arith}
 use Rattle.std.proofs.lemmas.Bool.{and_parts}
-use Rattle.rox_scan.specs.ByteSets.{is_ascii_text_byte, is_text_byte}
-use Rattle.rox_scan.proofs.LaneLemmas.{passes_on}
+use Rattle.rox_bytes.specs.ByteSets.{is_ascii_text_byte, is_text_byte}
+use Rattle.rox_bytes.proofs.LaneLemmas.{passes_on}
 use Rattle.rox_scan.proofs.character_data.text_end.Goals as goal
 
 is_of_text : (b : ℕ) → is_ascii_text_byte b ≡ true → is_text_byte b ≡ true

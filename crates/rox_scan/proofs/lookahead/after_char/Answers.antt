@@ -2,7 +2,7 @@ use Rattle.std.proofs.Common.{◌≡◌, ℕ, List, true, ◌<◌, slice_index, 
 use Rattle.std.proofs.lemmas.Str.{IsCharBoundary-after_ascii, len_utf8_bounds}
 use Rattle.rox_grammar.specs.Chars.{is_char}
 use Rattle.rox_scan.proofs.CharLemmas.{no_step, one_char, ascii_char, wide_bytes}
-use Rattle.rox_scan.proofs.RunLemmas.{begins_at, begins_ascii}
+use Rattle.rox_bytes.proofs.RunLemmas.{begins_at, begins_ascii}
 use Rattle.rox_scan.proofs.lookahead.after_char.Goals as goal
 
 pub returns-then-has_byte : goal.returns-then-has_byte

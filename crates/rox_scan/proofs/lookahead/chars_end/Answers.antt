@@ -1,7 +1,7 @@
 use Rattle.std.proofs.Common.{sym, ◌∙◌, arith}
 use Rattle.rox_grammar.specs.Chars.{is_char}
-use Rattle.rox_scan.specs.ByteSets.{is_char_byte}
-use Rattle.rox_scan.proofs.NearLemmas.{near_chars, char_cut}
+use Rattle.rox_bytes.specs.ByteSets.{is_char_byte}
+use Rattle.rox_bytes.proofs.NearLemmas.{near_chars, char_cut}
 use Rattle.rox_scan.proofs.CharLemmas.{chars_joined, chars_go_on, run_ends_here}
 use Rattle.rox_scan.proofs.lookahead.chars_end.Goals as goal
 

@@ -1,8 +1,8 @@
 use Rattle.std.proofs.Common.{◌≡◌, ◌+◌, ◌-◌, ◌≤◌, ◌/◌, ◌^◌, ◌==◌, ℕ, Bool, true, List, not, map, length, sym, ap, subst, ◌∙◌, arith}
 use Rattle.std.specs.Simd.Lanes.{chunk, mask_l}
 use Rattle.std.proofs.lemmas.Bool.Decides.{nat_tests}
-use Rattle.rox_scan.specs.ByteSets.{AllPass}
-use Rattle.rox_scan.proofs.LaneLemmas.{counted_none, block_passes, mask_from}
+use Rattle.rox_bytes.specs.ByteSets.{AllPass}
+use Rattle.rox_bytes.proofs.LaneLemmas.{counted_none, block_passes, mask_from}
 use Rattle.rox_scan.proofs.short_run.passes_to_end.Goals as goal
 
 is_none : (n : ℕ) → (n == 0) ≡ true → n ≡ 0

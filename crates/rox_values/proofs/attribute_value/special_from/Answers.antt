@@ -1,5 +1,5 @@
 use Rattle.std.proofs.Common.{sym}
-use Rattle.rox_scan.proofs.NearLemmas.{stretch_ends, stretch_cut}
+use Rattle.rox_bytes.proofs.NearLemmas.{stretch_ends, stretch_cut}
 use Rattle.rox_values.proofs.attribute_value.special_from.Goals as goal
 
 pub returns : goal.returns

@@ -1,5 +1,5 @@
 use Rattle.std.proofs.Common.{sym}
-use Rattle.rox_scan.proofs.NearLemmas.{part_ends, part_ends_cut}
+use Rattle.rox_bytes.proofs.NearLemmas.{part_ends, part_ends_cut}
 use Rattle.rox_values.proofs.character_data.change_from.Goals as goal
 
 pub returns : goal.returns

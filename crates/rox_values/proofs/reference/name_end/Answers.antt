@@ -1,5 +1,5 @@
 use Rattle.std.proofs.Common.{◌∙◌, arith}
-use Rattle.rox_scan.proofs.NearLemmas.{part_cut}
+use Rattle.rox_bytes.proofs.NearLemmas.{part_cut}
 use Rattle.rox_values.proofs.NameRuns.{name_goes_on}
 use Rattle.rox_values.proofs.reference.name_end.Goals as goal
 

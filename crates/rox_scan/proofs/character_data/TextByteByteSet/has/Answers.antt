@@ -1,8 +1,8 @@
 -- The table is held against the definition at each of the 256 bytes, by computing.
 use Rattle.std.proofs.Common.{get_or, nat_eq, refl, arith}
 use Rattle.rox_scan.specs.declared.character_data.TheConstants.{TEXT_BYTES}
-use Rattle.rox_scan.specs.ByteSets.{is_text_byte}
-use Rattle.rox_scan.proofs.TableLemmas.{agree_below, agree_at}
+use Rattle.rox_bytes.specs.ByteSets.{is_text_byte}
+use Rattle.rox_bytes.proofs.TableLemmas.{agree_below, agree_at}
 use Rattle.rox_scan.proofs.character_data.TextByteByteSet.has.Goals as goal
 
 pub returns : goal.returns

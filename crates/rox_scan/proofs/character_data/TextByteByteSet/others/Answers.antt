@@ -1,11 +1,11 @@
 -- The mask is held against the definition at each of the 256 bytes, by computing.
 use Rattle.std.proofs.Common.{not, refl, arith, bit_xor}
 use Rattle.std.proofs.lemmas.Simd.{zip2_of_maps}
-use Rattle.rox_scan.specs.Nibbles.{at_low}
-use Rattle.rox_scan.specs.ByteSets.{is_text_byte}
+use Rattle.rox_bytes.specs.Nibbles.{at_low}
+use Rattle.rox_bytes.specs.ByteSets.{is_text_byte}
 use Rattle.rox_scan.specs.declared.character_data.TheConstants.{TEXT_EXCEPTIONS}
-use Rattle.rox_scan.proofs.TableLemmas.{agree_below}
-use Rattle.rox_scan.proofs.LaneLemmas.{masked, against, either, map_same, equals, below}
+use Rattle.rox_bytes.proofs.TableLemmas.{agree_below}
+use Rattle.rox_bytes.proofs.LaneLemmas.{masked, against, either, map_same, equals, below}
 use Rattle.rox_scan.proofs.character_data.TextByteByteSet.others.Goals as goal
 
 pub returns : goal.returns

@@ -1,5 +1,5 @@
 use Rattle.std.proofs.Common.{sym, ◌∙◌, rules}
-use Rattle.rox_scan.proofs.NearLemmas.{short_value, value_cut, near_plain}
+use Rattle.rox_bytes.proofs.NearLemmas.{short_value, value_cut, near_plain}
 use Rattle.rox_scan.proofs.cursor.Cursor.raw_value.Goals as goal
 
 pub returns-then-is_at : goal.returns-then-is_at

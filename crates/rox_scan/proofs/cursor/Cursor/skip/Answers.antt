@@ -4,7 +4,7 @@ use Rattle.rox_grammar.specs.declared.fault.Word.{Word}
 use Rattle.rox_grammar.specs.declared.fault.Word.TheVariants as word
 use Rattle.rox_grammar.specs.Search.{stands}
 use Rattle.rox_grammar.specs.FixedTexts.{word_text}
-use Rattle.rox_scan.proofs.MarkLemmas.{stands_cut}
+use Rattle.rox_bytes.proofs.MarkLemmas.{stands_cut}
 use Rattle.rox_scan.proofs.cursor.Cursor.skip.Goals as goal
 
 -- a fixed text ends between two characters

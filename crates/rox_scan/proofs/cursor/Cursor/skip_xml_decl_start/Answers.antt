@@ -1,5 +1,5 @@
 use Rattle.std.proofs.Common.{lit<}
-use Rattle.rox_scan.proofs.MarkLemmas.{stands_front_cut}
+use Rattle.rox_bytes.proofs.MarkLemmas.{stands_front_cut}
 use Rattle.rox_scan.proofs.cursor.Cursor.skip_xml_decl_start.Goals as goal
 
 pub invariant_of-self : goal.invariant_of-self

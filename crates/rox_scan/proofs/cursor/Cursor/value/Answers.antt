@@ -1,5 +1,5 @@
 use Rattle.std.proofs.Common.{sym, ◌∙◌, rules}
-use Rattle.rox_scan.proofs.NearLemmas.{short_chars, value_cut}
+use Rattle.rox_bytes.proofs.NearLemmas.{short_chars, value_cut}
 use Rattle.rox_scan.proofs.cursor.Cursor.value.Goals as goal
 
 pub returns-then-is_at : goal.returns-then-is_at

@@ -1,11 +1,11 @@
 -- The mask is held against the definition at each of the 256 bytes, by computing.
 use Rattle.std.proofs.Common.{not, refl, arith}
 use Rattle.std.proofs.lemmas.Simd.{zip2_of_maps}
-use Rattle.rox_scan.specs.Nibbles.{at_low}
-use Rattle.rox_scan.specs.ByteSets.{is_run_byte}
+use Rattle.rox_bytes.specs.Nibbles.{at_low}
+use Rattle.rox_bytes.specs.ByteSets.{is_run_byte}
 use Rattle.rox_scan.specs.declared.lookahead.TheConstants.{RUN_ENDS}
-use Rattle.rox_scan.proofs.TableLemmas.{agree_below}
-use Rattle.rox_scan.proofs.LaneLemmas.{masked, map_same, equals}
+use Rattle.rox_bytes.proofs.TableLemmas.{agree_below}
+use Rattle.rox_bytes.proofs.LaneLemmas.{masked, map_same, equals}
 use Rattle.rox_scan.proofs.lookahead.RunByteByteSet.others.Goals as goal
 
 pub returns : goal.returns

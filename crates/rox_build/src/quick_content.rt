@@ -1,0 +1,450 @@
+//! Plain constructs of content, read by the fast path: character data that is a slice of the source, end tags, comments and start
+//! tags. Nothing fails here: the general step reads a construct that is not plain, or finds no room, from its first byte.
+
+ghost use Rattle.std.specs.Prelude.{◌≡◌, true};
+ghost use Rattle.rox_grammar.specs.declared.fault.Word.TheVariants as word;
+ghost use Rattle.rox_reading.specs.Machine as machine;
+ghost use Rattle.rox_reading.specs.Refusals.{lifted};
+ghost use Rattle.rox_builder.specs.BuilderState.{IsConsistent};
+ghost use Rattle.rox_builder.specs.Outcomes.{MayStep, ReadsAt, ReadsWhole};
+ghost use Rattle.rox_build.specs.PlainOutcomes.{MayReadBare, MayReadEnd, MayReadNear, MayReadPart, MayReadPlain, MayReadRows, MayReadRun, MayReadWord, ReadsIf, ReadsMarkup, ReadsRows, ReadsRun, ReadsStep, StandsApart, any_context};
+ghost use Rattle.rox_builder.specs.Readiness.{HasRoom, IsApart, MayReadAt};
+
+use crate::same_front::closes_front;
+use rox_builder::builder::Builder;
+use rox_bytes::byte_set::{PartByte, find_other, near_part_end, part_end};
+use rox_bytes::runs::{after_byte, is_at};
+use rox_grammar::fault::Word;
+use rox_rows::row::NodeKind;
+use rox_rows::storage::StringStorage;
+use rox_scan::character_data::{line_run_end, text_end};
+use rox_scan::cursor::Cursor;
+use rox_scan::markup::whole_comment;
+use rox_tags::quick_tag::{TagPlace, bare_start_tag, near_start_tag, plain_start_tag};
+use std::alloc::Global;
+
+/// The length in bytes of the longest text whose offsets all fit rows.
+const MOST_BYTES: usize = 4294967295;
+
+/// Returned in place of the offset after a construct that was not read.
+const NOT_READ: usize = usize::MAX;
+
+/// Returns true only if no text is open that character data at the cursor would continue.
+#[inline(always)]
+fn stands_apart(cursor: &Cursor<'_>, builder: &Builder<'_>) -> bool
+    ensures { result ≡ true → StandsApart cursor.now builder.now }
+{
+    is_at(cursor.text, cursor.pos, b'<') || !builder.is_text_open()
+}
+
+/// Reads character data, up to the next `<`, if it is a slice of the source. No text is open that it would continue. Returns
+/// whether it was read.
+#[inline(always)]
+fn plain_character_data<'input>(cursor: &mut Cursor<'input>, builder: &mut Builder<'input>) -> bool
+    requires { MayReadRun cursor.old builder.old }
+    ensures { ReadsRun cursor.old cursor.new builder.old builder.new result }
+{
+    let start = cursor.pos;
+    let text = cursor.text;
+    let Some(end) = text_end(text, start) else {
+        return false;
+    };
+    cursor.pos = end;
+    builder.put_text(start, end, &text[start..end]);
+    true
+}
+
+/// Reads character data if it is CR LF followed only by bytes that need no replacement. No text may be open that it would
+/// continue, and there must be room for it. Returns whether it was read.
+#[inline(never)]
+fn plain_line<'input>(
+    alloc: Global,
+    cursor: &mut Cursor<'input>,
+    builder: &mut Builder<'input>,
+) -> bool
+    requires { IsConsistent builder.old.tables builder.old.opened.items }
+    ensures { ReadsStep (λ k. k.values.main ≡ true) cursor.old cursor.new builder.old builder.new
+        result }
+{
+    let start = cursor.pos;
+    let text = cursor.text;
+    if text.len() > MOST_BYTES || builder.is_text_open() || builder.rows_left() == 0 {
+        return false;
+    }
+    let Some(stop) = line_run_end(*cursor) else {
+        return false;
+    };
+    if !builder.put_owned(alloc, start, stop, &text[start + 1..stop]) {
+        return false;
+    }
+    cursor.pos = stop;
+    true
+}
+
+/// Like `plain_line`, but only in the main text, where line ends are read as line feeds. It first tests for a CR at the cursor.
+#[inline(always)]
+pub fn plain_main_line<'input>(
+    alloc: Global,
+    cursor: &mut Cursor<'input>,
+    builder: &mut Builder<'input>,
+    main: bool,
+) -> bool
+    requires { IsConsistent builder.old.tables builder.old.opened.items }
+    ensures { ReadsStep (λ k. k.values.main ≡ main) cursor.old cursor.new builder.old builder.new
+        result }
+{
+    if !main {
+        return false;
+    }
+    if !is_at(cursor.text, cursor.pos, b'\r') {
+        return false;
+    }
+    plain_line(alloc, cursor, builder)
+}
+
+/// Reads an end tag, from its `</`, if it closes the innermost open element. It must have the very bytes of the element's name,
+/// with `>` right after them. More elements than the `open_around` ones around the text must be open. Returns whether it was
+/// read.
+#[inline(always)]
+fn plain_end_tag(cursor: &mut Cursor<'_>, builder: &mut Builder<'_>, open_around: usize) -> bool
+    requires { MayReadEnd cursor.old builder.old }
+    ensures { ReadsIf IsApart (λ k. k.open_around ≡ open_around)
+        (λ k src s. lifted (machine.end_step k src s)) cursor.old cursor.new builder.old
+        builder.new result }
+{
+    if builder.opened.len() <= open_around {
+        return false;
+    }
+    let Some(open) = builder.opened.last() else {
+        return false;
+    };
+    let text = cursor.text;
+    let slash = after_byte(text, cursor.pos, b'<');
+    let name = after_byte(text, slash, b'/');
+    let count = open.name_count as usize;
+    if !closes_front(open.source, &text.as_bytes()[name..], count) {
+        return false;
+    }
+    let close = name + count;
+    let end = after_byte(text, close, b'>');
+    cursor.pos = end;
+    builder.put_close(end);
+    true
+}
+
+/// Reads a start tag that is a name alone, from its `<`, if the name of its parent has no prefix. The first ASCII bytes of its
+/// name end at `near`. Returns whether it was read.
+#[inline(always)]
+fn bare_element<'input>(
+    cursor: &mut Cursor<'input>,
+    builder: &mut Builder<'input>,
+    near: usize,
+) -> bool
+    requires { MayReadBare cursor.old near builder.old }
+    ensures { ReadsIf IsApart any_context machine.tag_step cursor.old cursor.new builder.old
+        builder.new result }
+{
+    // Most tags have more than a name, so this is tested first.
+    let bytes = cursor.text.as_bytes();
+    if bytes[near] != b'>' || !builder.has_room_to_open() {
+        return false;
+    }
+    let Some(parent) = builder.innermost() else {
+        return false;
+    };
+    let start = cursor.pos;
+    let openings_left = builder.openings_left;
+    let Some(bare) = bare_start_tag(
+        cursor.text,
+        start,
+        &builder.tables,
+        &parent,
+        openings_left,
+        near,
+    ) else {
+        return false;
+    };
+    cursor.pos = bare.end;
+    builder.put_open(parent.row, cursor.text, start, &bare.tag);
+    true
+}
+
+/// Reads a start tag, from its `<` at `start`, if it is plain. The first part of its name ends at `part`. Returns the offset
+/// after it, or `NOT_READ`: an offset that is passed and returned by itself stays in registers.
+#[inline(never)]
+fn other_element<'input>(
+    text: &'input str,
+    start: usize,
+    builder: &mut Builder<'input>,
+    part: usize,
+) -> usize
+    requires { MayReadPart text.now start part builder.old }
+    ensures { ReadsAt machine.tag_step text.entry.now start result builder.old builder.new }
+{
+    if !builder.has_room_to_open() {
+        return NOT_READ;
+    }
+    let depth = builder.opened.len();
+    if depth == 0 {
+        return NOT_READ;
+    }
+    let above = &builder.opened[depth - 1];
+    let row = above.row;
+    let openings_left = builder.openings_left;
+    let held = builder.tables.attributes.len();
+    let Some(other) = plain_start_tag(
+        text,
+        TagPlace { start, part },
+        &mut builder.tables,
+        above,
+        openings_left,
+        &mut builder.buffers.seen,
+    ) else {
+        builder.tables.attributes.truncate(held);
+        return NOT_READ;
+    };
+    if other.tag.empty {
+        builder.put_leaf(row, start, other.end, NodeKind::Element(other.tag.element));
+        return other.end;
+    }
+    builder.put_open(row, text, start, &other.tag);
+    other.end
+}
+
+/// Like `other_element`, but for a tag whose name is of ASCII bytes, has no prefix and ends at `near`. If the name of its parent
+/// has no prefix either, its namespace is the parent's, which is read after the attributes.
+#[inline(always)]
+fn plain_element<'input>(
+    text: &'input str,
+    start: usize,
+    builder: &mut Builder<'input>,
+    near: usize,
+) -> usize
+    requires { MayReadNear text.now start near builder.old }
+    ensures { ReadsAt machine.tag_step text.entry.now start result builder.old builder.new }
+{
+    if !builder.has_room_to_open() {
+        return NOT_READ;
+    }
+    let depth = builder.opened.len();
+    if depth == 0 {
+        return NOT_READ;
+    }
+    if builder.opened[depth - 1].prefixed {
+        return other_element(text, start, builder, near);
+    }
+    let parent = &builder.opened[depth - 1];
+    let openings_left = builder.openings_left;
+    let from = builder.tables.attributes.len();
+    let Some(read) = near_start_tag(
+        text,
+        TagPlace { start, part: near },
+        &mut builder.tables,
+        parent,
+        openings_left,
+        &mut builder.buffers.seen,
+    ) else {
+        builder.tables.attributes.truncate(from);
+        return NOT_READ;
+    };
+    let row = parent.row;
+    if read.tag.empty {
+        builder.put_leaf(row, start, read.end, NodeKind::Element(read.tag.element));
+        return read.end;
+    }
+    builder.put_open(row, text, start, &read.tag);
+    read.end
+}
+
+/// Reads a comment, from `<!--`, if it is valid. Returns whether it was read.
+#[inline(always)]
+fn plain_comment<'input>(cursor: &mut Cursor<'input>, builder: &mut Builder<'input>) -> bool
+    requires { MayReadWord word.CommentStart cursor.old builder.old }
+    ensures { ReadsIf IsApart any_context (λ k src s. lifted (machine.comment_step k.limit src s))
+        cursor.old cursor.new builder.old builder.new result }
+{
+    let start = cursor.pos;
+    let Some(whole) = whole_comment(*cursor) else {
+        return false;
+    };
+    cursor.pos = whole.end;
+    let kind = NodeKind::Comment(StringStorage::Borrowed(whole.text));
+    builder.put_leaf(builder.parent(), start, cursor.pos, kind);
+    true
+}
+
+/// Reads the construct at `start`, if it is a valid comment. Returns the offset after it, or `NOT_READ`: a cursor that is lent to
+/// a call would leave its registers.
+#[inline(never)]
+#[tactic(auto, unfolding(rox_reading::specs::Machine::step))]
+fn plain_section<'input>(text: &'input str, start: usize, builder: &mut Builder<'input>) -> usize
+    requires { MayReadAt text.now start builder.old }
+    ensures { ReadsWhole machine.step text.entry.now start result builder.old builder.new }
+{
+    let mut cursor = Cursor { text, pos: start };
+    if !cursor.starts(Word::CommentStart) {
+        return NOT_READ;
+    }
+    if !plain_comment(&mut cursor, builder) {
+        return NOT_READ;
+    }
+    cursor.pos
+}
+
+/// Reads what `<` starts, if it is plain and finds room. Returns false if nothing was read.
+#[inline(always)]
+#[tactic(auto, unfolding(rox_reading::specs::Machine::step))]
+fn plain_markup<'input>(
+    cursor: &mut Cursor<'input>,
+    builder: &mut Builder<'input>,
+    open_around: usize,
+) -> bool
+    requires { MayReadPlain cursor.old builder.old }
+    ensures { ReadsMarkup (λ k. k.open_around ≡ open_around) cursor.old cursor.new builder.old
+        builder.new result }
+{
+    let bytes = cursor.text.as_bytes();
+    if cursor.pos + 1 >= bytes.len() {
+        return false;
+    }
+    let next = bytes[cursor.pos + 1];
+    let text = cursor.text;
+    let start = cursor.pos;
+    if next <= b'?' {
+        if next == b'/' {
+            return plain_end_tag(cursor, builder, open_around);
+        }
+        let behind = plain_section(text, start, builder);
+        if behind > MOST_BYTES {
+            return false;
+        }
+        cursor.pos = behind;
+        return true;
+    }
+    let name = after_byte(text, start, b'<');
+    let Some(near) = find_other::<PartByte>(text, name) else {
+        return false;
+    };
+    if bare_element(cursor, builder, near) {
+        return true;
+    }
+    // White space and `/` are lower than the colon.
+    let end = if bytes[near] < b':' {
+        plain_element(text, start, builder, near)
+    } else {
+        other_element(text, start, builder, near_part_end(text, name, near))
+    };
+    if end > MOST_BYTES {
+        return false;
+    }
+    cursor.pos = end;
+    true
+}
+
+/// Reads the constructs from the cursor on inside the root element, as long as they are plain. It stops when fewer than two of
+/// `rows` rows are left. Returns whether any was read.
+#[inline(always)]
+pub fn plain_stretch<'input>(
+    cursor: &mut Cursor<'input>,
+    builder: &mut Builder<'input>,
+    open_around: usize,
+    rows: usize,
+) -> bool
+    requires { MayReadRows rows builder.old }
+    ensures { ReadsRows open_around cursor.old cursor.new builder.old builder.new result }
+{
+    let mut here = *cursor;
+    if cursor.text.len() > MOST_BYTES {
+        return false;
+    }
+    // No text is open after markup, so one test is enough.
+    if !stands_apart(&here, builder) {
+        return false;
+    }
+    // Character data and the markup after it take at most one row each.
+    let most = builder.nodes.len() + rows;
+    let from = here.pos;
+    while builder.nodes.len() + 1 < most {
+        if builder.is_at_root() {
+            break;
+        }
+        let bytes = here.text.as_bytes();
+        if here.pos >= bytes.len() {
+            break;
+        }
+        if bytes[here.pos] != b'<' {
+            if !plain_character_data(&mut here, builder) {
+                break;
+            }
+        }
+        if !plain_markup(&mut here, builder, open_around) {
+            break;
+        }
+    }
+    *cursor = here;
+    here.pos > from
+}
+
+/// Like `plain_markup`, but in a replacement text. Few replacement texts have tags, so each start tag takes the slower path here.
+/// The fast one is then in line in one place only, `plain_stretch`.
+#[tactic(auto, unfolding(rox_reading::specs::Machine::step))]
+fn inner_markup<'input>(
+    cursor: &mut Cursor<'input>,
+    builder: &mut Builder<'input>,
+    around: usize,
+) -> bool
+    requires { MayReadPlain cursor.old builder.old }
+    ensures { ReadsStep (λ k. k.open_around ≡ around) cursor.old cursor.new builder.old builder.new
+        result }
+{
+    let bytes = cursor.text.as_bytes();
+    if cursor.pos + 1 >= bytes.len() {
+        return false;
+    }
+    let next = bytes[cursor.pos + 1];
+    if next == b'/' {
+        return plain_end_tag(cursor, builder, around);
+    }
+    let text = cursor.text;
+    let start = cursor.pos;
+    let stop = if next <= b'?' {
+        plain_section(text, start, builder)
+    } else {
+        other_element(
+            text,
+            start,
+            builder,
+            part_end(text, after_byte(text, start, b'<')),
+        )
+    };
+    if stop > MOST_BYTES {
+        return false;
+    }
+    cursor.pos = stop;
+    true
+}
+
+/// Reads the construct of a replacement text at the cursor, if it is plain and finds room. Returns false if nothing was read.
+#[inline(always)]
+#[tactic(auto, unfolding(rox_reading::specs::Machine::step))]
+pub fn plain_step<'input>(
+    cursor: &mut Cursor<'input>,
+    builder: &mut Builder<'input>,
+    open_around: usize,
+) -> bool
+    requires { MayStep cursor.old builder.old }
+    ensures { ReadsStep (λ k. k.open_around ≡ open_around) cursor.old cursor.new builder.old
+        builder.new result }
+{
+    let bytes = cursor.text.as_bytes();
+    if bytes.len() > MOST_BYTES || builder.rows_left() == 0 {
+        return false;
+    }
+    if bytes[cursor.pos] == b'<' {
+        return inner_markup(cursor, builder, open_around);
+    }
+    if builder.is_text_open() {
+        return false;
+    }
+    plain_character_data(cursor, builder)
+}

@@ -1,0 +1,10 @@
+pub mod Rows
+pub mod Showing
+pub mod Finishing
+pub mod Growing
+pub mod Stepping
+pub mod Parting
+pub mod TextLooping
+pub mod TextOpening
+pub mod Joining
+pub mod ShownTags

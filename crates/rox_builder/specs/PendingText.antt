@@ -1,0 +1,39 @@
+-- The text that may continue.
+use Rattle.std.specs.Prelude.{◌≡◌, ℕ, List, [], Option, Some, None}
+use Rattle.std.specs.Borrow.{Bor}
+use Rattle.rox_rows.specs.Storage.{storage_bytes}
+use Rattle.rox_rows.specs.declared.row.NodeKind.{NodeKind}
+use Rattle.rox_rows.specs.declared.row.NodeKind.TheVariants as kind
+use Rattle.rox_builder.specs.declared.pending.Pending.{Pending}
+use Rattle.rox_builder.specs.declared.pending.Pending.TheVariants as pending
+
+-- How many rows the text will take.
+abbrev pub waiting : Pending → ℕ
+waiting pending.None = 0
+waiting pending.Written = 0
+waiting pending.Joined = 1
+
+-- How many rows the text has.
+abbrev pub written : Pending → ℕ
+written pending.None = 0
+written pending.Written = 1
+written pending.Joined = 0
+
+-- The text of a row.
+abbrev pub text_of : NodeKind → List ℕ
+text_of kind.Root = []
+text_of (kind.Element e) = []
+text_of (kind.Text value) = storage_bytes value
+text_of (kind.Comment text) = []
+text_of (kind.PI pi) = []
+
+-- What a buffer of the bytes `bytes` has of the text.
+abbrev pub text_before : Pending → List ℕ → List ℕ
+text_before pending.None bytes = []
+text_before pending.Written bytes = []
+text_before pending.Joined bytes = bytes
+
+-- If the text is a slice of a source, its bytes are `bytes`.
+abbrev pub IsItsSlice : Option (Bor (List ℕ)) → List ℕ → Type 0
+IsItsSlice None bytes = Unit {0}
+IsItsSlice (Some slice) bytes = slice.now ≡ bytes

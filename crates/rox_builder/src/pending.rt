@@ -1,0 +1,22 @@
+//! Text that may continue.
+
+/// The text at the end of what is read, which adjacent pieces join.
+#[derive(Clone, Copy)]
+pub enum Pending {
+    None,
+    /// One piece, whose row is the last.
+    Written,
+    /// Pieces in a buffer.
+    Joined,
+}
+
+/// The text of `Pending::Joined`, and the range of its first piece in bytes. It is beside `Pending`, so that `Pending` is one
+/// byte.
+#[derive(Drop)]
+pub struct JoinedText<'input> {
+    pub text: String,
+    /// The text as a slice of its source, as long as it is one.
+    pub slice: Option<&'input str>,
+    pub start: usize,
+    pub end: usize,
+}

@@ -1,0 +1,401 @@
+//! Text nodes: adjacent pieces of character data are one text, which waits for its row while it may continue.
+
+ghost use Rattle.std.specs.Prelude.{◌<◌, ◌≤◌, ◌+◌, ◌≡◌, [], ℕ, length, is_some, IfOk, OnOk};
+ghost use Rattle.rox_rows.specs.StoredNodes.{kind_of};
+ghost use Rattle.rox_rows.specs.declared.row.NodeKind.TheVariants as kind;
+ghost use Rattle.rox_builder.specs.TakenText.{MayTakeLast, TakesLast};
+ghost use Rattle.rox_builder.specs.PendingText.{waiting, written, text_of, IsItsSlice};
+ghost use Rattle.rox_rows.specs.Storage.{storage_bytes, is_borrowed};
+ghost use Rattle.rox_builder.specs.declared.pending.Pending.TheVariants as pending;
+ghost use Rattle.std.specs.String.{string_bytes};
+
+use crate::builder::Builder;
+use crate::pending::{JoinedText, Pending};
+use rox_bytes::runs::is_at;
+use rox_grammar::failure::Failure;
+use rox_rows::node_table::NodeTable;
+use rox_rows::recent_texts::Recent;
+use rox_rows::row::NodeKind;
+use rox_rows::storage::StringStorage;
+use rox_rows::stored_node::KindRef;
+use rox_values::text_value::TextValue;
+use std::alloc::{AllocError, Global};
+
+/// The range of a text, in bytes of its source.
+#[derive(Clone, Copy)]
+struct TextRange {
+    start: usize,
+    end: usize,
+}
+
+/// Puts the text of a text node into the buffer `joined`, which is cleared first.
+fn start_joined(joined: &mut String, kind: KindRef<'_, '_>) -> Result<(), AllocError>
+    ensures ok { OnOk result (string_bytes joined.new ≡ text_of (kind_of kind.entry)) }
+{
+    joined.clear();
+    if let KindRef::Text(before) = kind {
+        joined.push_str(before.as_str())?;
+    }
+    Ok(())
+}
+
+/// Removes the last row, which is a text, and puts its text and `text` into the buffer. Returns the range of the row's text. If
+/// memory runs out, the rows are unchanged.
+#[cold]
+#[inline(never)]
+fn join_last(
+    nodes: &mut NodeTable<'_>,
+    joined: &mut String,
+    text: &str,
+) -> Result<TextRange, AllocError>
+    requires { MayTakeLast nodes.old }
+    ensures { TakesLast nodes.old nodes.new (string_bytes joined.new) text.now result }
+{
+    let last = nodes.len() - 1;
+    let row = nodes.row(last);
+    let range = TextRange {
+        start: row.start,
+        end: row.end,
+    };
+    start_joined(joined, row.kind)?;
+    joined.push_str(text)?;
+    nodes.truncate(last);
+    Ok(range)
+}
+
+/// Returns the storage of the text that waits for its row.
+#[inline(always)]
+fn storage_of<'input>(
+    alloc: Global,
+    recent: &mut Recent,
+    joined: &JoinedText<'input>,
+) -> Result<StringStorage<'input>, AllocError>
+    ensures borrowed { IfOk result (λ t. is_borrowed t ≡ is_some joined.now.slice) }
+    ensures bytes { IsItsSlice joined.now.slice (string_bytes joined.now.text)
+        → IfOk result (λ t. storage_bytes t ≡ string_bytes joined.now.text) }
+{
+    match joined.slice {
+        Some(slice) => Ok(StringStorage::Borrowed(slice)),
+        None => recent.owned(alloc, joined.text.as_str()),
+    }
+}
+
+impl<'input> Builder<'input> {
+    ghost use Rattle.std.specs.Prelude.{List, ◌-◌, false, true, Ok};
+    ghost use Rattle.rox_grammar.specs.Written.{Text};
+    ghost use Rattle.rox_reading.specs.State.{State};
+    ghost use Rattle.rox_reading.specs.Machine.{with_piece};
+    ghost use Rattle.rox_builder.specs.DataParts.{HasPart};
+    ghost use Rattle.rox_values.specs.Values.{piece_view};
+    ghost use Rattle.rox_builder.specs.BuilderState.{Represents, Adds, KeepsOpen};
+    ghost use Rattle.rox_builder.specs.Outcomes.{AddsText, Flushes};
+    ghost use Rattle.rox_builder.specs.Putting.{EndsRun, JoinsText, PutsOwned, PutsText, Settles, WaitsForMore};
+    ghost use Rattle.rox_builder.specs.Readiness.{MayPutText};
+
+    /// Writes the text that may continue, if there is one.
+    #[inline(always)]
+    pub(crate) fn flush(&mut self, alloc: Global) -> Result<(), AllocError>
+        ensures { Flushes self.old self.new result }
+    {
+        match self.pending {
+            Pending::None => Ok(()),
+            Pending::Written => {
+                self.pending = Pending::None;
+                Ok(())
+            }
+            Pending::Joined => {
+                self.flush_joined(alloc)?;
+                Ok(())
+            }
+        }
+    }
+
+    /// Writes the text in the buffer.
+    #[inline(never)]
+    fn flush_joined(&mut self, alloc: Global) -> Result<(), AllocError>
+        requires { self.old.pending ≡ pending.Joined }
+        ensures { Flushes self.old self.new result }
+    {
+        let text = storage_of(alloc, &mut self.recent, &self.joined)?;
+        let row = self.row(self.joined.start, self.joined.end, NodeKind::Text(text));
+        self.pending = Pending::None;
+        self.nodes.push(row)?;
+        Ok(())
+    }
+
+    /// Ends character data at `at`: a text that waits gets its row, if no text can continue there.
+    #[inline(always)]
+    pub fn end_run(&mut self, alloc: Global, text: &str, at: usize) -> Result<(), AllocError>
+        requires { at ≤ length text.now }
+        ensures { EndsRun self.old self.new result }
+    {
+        if !self.is_joining() {
+            return Ok(());
+        }
+        // A comment or a CDATA section can be between two texts.
+        if !is_at(text, at, b'<') || is_at(text, at + 1, b'!') {
+            return Ok(());
+        }
+        self.flush_joined(alloc)?;
+        self.pending = Pending::Written;
+        Ok(())
+    }
+
+    /// Adds a piece of text that is a slice of the source. The only fault is that there are too many nodes.
+    #[inline(always)]
+    pub fn slice_piece(
+        &mut self,
+        start: usize,
+        end: usize,
+        text: &'input str,
+    ) -> Result<(), Failure>
+        ensures { AddsText self.old self.new result (Text start end text.now true) }
+    {
+        match self.pending {
+            Pending::None => {
+                self.room()?;
+                let row = self.row(start, end, NodeKind::Text(StringStorage::Borrowed(text)));
+                self.nodes.push(row)?;
+                self.pending = Pending::Written;
+            }
+            Pending::Written => {
+                let range = join_last(&mut self.nodes, &mut self.joined.text, text)?;
+                self.joined.start = range.start;
+                self.joined.end = range.end;
+                self.joined.slice = None;
+                self.pending = Pending::Joined;
+            }
+            Pending::Joined => {
+                self.joined.text.push_str(text)?;
+                self.joined.slice = None;
+            }
+        }
+        Ok(())
+    }
+
+    /// Like `slice_piece`, but a text waits for its row, and the piece joins it.
+    #[inline(always)]
+    pub fn join_piece(&mut self, start: usize, end: usize, piece: &str) -> Result<(), AllocError>
+        requires { self.old.pending ≡ pending.Joined }
+        ensures { JoinsText self.old self.new result (Text start end piece.now true) }
+    {
+        self.joined.text.push_str(piece)?;
+        self.joined.slice = None;
+        Ok(())
+    }
+
+    /// Like `slice_piece`, but no text may continue, and the piece waits for its row. Returns false, with the builder unchanged,
+    /// if there are too many nodes.
+    #[inline(always)]
+    pub fn wait_for_more(
+        &mut self,
+        start: usize,
+        end: usize,
+        slice: &'input str,
+    ) -> Result<bool, AllocError>
+        requires { self.old.pending ≡ pending.None }
+        ensures { WaitsForMore self.old self.new result (Text start end slice.now true) }
+    {
+        if self.nodes.len() >= self.nodes_limit as usize {
+            return Ok(false);
+        }
+        self.joined.text.clear();
+        self.joined.text.push_str(slice)?;
+        self.joined.slice = Some(slice);
+        self.joined.start = start;
+        self.joined.end = end;
+        self.pending = Pending::Joined;
+        Ok(true)
+    }
+
+    /// Adds a piece of text with the bytes `changed`, which counts as owned, as the source is longer there. The only fault is
+    /// that there are too many nodes.
+    #[inline(always)]
+    pub fn owned_piece(
+        &mut self,
+        alloc: Global,
+        start: usize,
+        end: usize,
+        changed: &str,
+    ) -> Result<(), Failure>
+        ensures { AddsText self.old self.new result (Text start end changed.now false) }
+    {
+        match self.pending {
+            Pending::None => {
+                self.room()?;
+                let owned = self.recent.owned(alloc, changed)?;
+                let row = self.row(start, end, NodeKind::Text(owned));
+                self.nodes.push(row)?;
+                self.pending = Pending::Written;
+            }
+            Pending::Written => {
+                let range = join_last(&mut self.nodes, &mut self.joined.text, changed)?;
+                self.joined.start = range.start;
+                self.joined.end = range.end;
+                self.joined.slice = None;
+                self.pending = Pending::Joined;
+            }
+            Pending::Joined => {
+                self.joined.text.push_str(changed)?;
+                self.joined.slice = None;
+            }
+        }
+        Ok(())
+    }
+
+    /// Adds a piece of text that is in the buffer for values. The only fault is that there are too many nodes.
+    pub fn scratch_piece(&mut self, alloc: Global, start: usize, end: usize) -> Result<(), Failure>
+        ensures { AddsText self.old self.new result
+            (Text start end (string_bytes self.old.buffers.scratch) false) }
+    {
+        match self.pending {
+            Pending::None => {
+                self.room()?;
+                let owned = self.recent.owned(alloc, self.buffers.scratch.as_str())?;
+                let row = self.row(start, end, NodeKind::Text(owned));
+                self.nodes.push(row)?;
+                self.pending = Pending::Written;
+            }
+            Pending::Written => {
+                let text = self.buffers.scratch.as_str();
+                let range = join_last(&mut self.nodes, &mut self.joined.text, text)?;
+                self.joined.start = range.start;
+                self.joined.end = range.end;
+                self.joined.slice = None;
+                self.pending = Pending::Joined;
+            }
+            Pending::Joined => {
+                self.joined.text.push_str(self.buffers.scratch.as_str())?;
+                self.joined.slice = None;
+            }
+        }
+        Ok(())
+    }
+
+    /// Begins a part of character data, which is put into the buffer of the text that waits, if one does. Returns the length of
+    /// the buffer in bytes.
+    #[inline(always)]
+    pub fn begin_part(&mut self) -> usize
+        requires { written self.old.pending ≡ 0 }
+        ensures { HasPart result [] self.old self.new }
+    {
+        if let Pending::None = self.pending {
+            self.joined.text.clear();
+        }
+        self.joined.text.len()
+    }
+
+    /// Adds the bytes of the buffer from `before` on as a piece of text, unless there are none. The only fault is that there are
+    /// too many nodes.
+    #[inline(always)]
+    pub fn end_part(&mut self, before: usize, start: usize, end: usize) -> Result<(), Failure>
+        ensures value { (total : ℕ) (s : State) (bs : List ℕ) (b : Builder)
+            → Represents total s.stack s.done b → HasPart before bs b self.old
+            → Adds total result self.new (with_piece self.old.nodes_limit s start end bs) }
+        ensures kept { KeepsOpen self.old self.new }
+    {
+        if self.joined.text.len() == before {
+            return Ok(());
+        }
+        self.joined.slice = None;
+        match self.pending {
+            Pending::None => {
+                self.room()?;
+                self.joined.start = start;
+                self.joined.end = end;
+                self.pending = Pending::Joined;
+            }
+            Pending::Written => {}
+            Pending::Joined => {}
+        }
+        Ok(())
+    }
+
+    /// Adds a piece of text: a slice of the source, or otherwise what the buffer for values holds. The only fault is that there
+    /// are too many nodes.
+    #[inline(always)]
+    pub fn piece(
+        &mut self,
+        alloc: Global,
+        start: usize,
+        end: usize,
+        piece: TextValue<'input>,
+    ) -> Result<(), Failure>
+        ensures { let text = piece_view piece.entry (string_bytes self.old.buffers.scratch) in
+            AddsText self.old self.new result (Text start end text.value text.borrowed) }
+    {
+        match piece {
+            TextValue::Plain(text) => self.slice_piece(start, end, text),
+            TextValue::Changed => self.scratch_piece(alloc, start, end),
+        }
+    }
+
+    /// Returns whether a text waits in the buffer for its row.
+    #[inline(always)]
+    pub fn is_joining(&self) -> bool
+        ensures { result ≡ true → self.now.pending ≡ pending.Joined }
+    {
+        match self.pending {
+            Pending::Joined => true,
+            _ => false,
+        }
+    }
+
+    /// Returns whether a text that has its row may continue.
+    #[inline(always)]
+    pub fn is_written(&self) -> bool
+        ensures { result ≡ false → written self.now.pending ≡ 0 }
+    {
+        match self.pending {
+            Pending::Written => true,
+            _ => false,
+        }
+    }
+
+    /// Returns whether a text may continue.
+    #[inline(always)]
+    pub fn is_text_open(&self) -> bool
+        ensures { result ≡ false → self.now.pending ≡ pending.None }
+    {
+        match self.pending {
+            Pending::None => false,
+            _ => true,
+        }
+    }
+
+    /// Ends the text that may continue. No text waits for its row.
+    #[inline(always)]
+    pub(crate) fn settle(&mut self)
+        requires { waiting self.old.pending ≡ 0 }
+        ensures { Settles self.old self.new }
+    {
+        self.pending = Pending::None;
+    }
+
+    /// Puts a text that is a slice of the source. No text may continue, and there is room for its row.
+    #[inline(always)]
+    pub fn put_text(&mut self, start: usize, end: usize, text: &'input str)
+        requires { MayPutText self.old start end }
+        ensures { PutsText self.old self.new (Text start end text.now true) }
+    {
+        let row = self.row(start, end, NodeKind::Text(StringStorage::Borrowed(text)));
+        self.nodes.put(row);
+        self.pending = Pending::Written;
+    }
+
+    /// Like `put_text`, but for a text with the bytes `changed`, which counts as owned. Returns false, with the builder
+    /// unchanged, if memory is refused.
+    #[inline(always)]
+    pub fn put_owned(&mut self, alloc: Global, start: usize, end: usize, changed: &str) -> bool
+        requires { MayPutText self.old start end }
+        ensures { PutsOwned self.old self.new result (Text start end changed.now false) }
+    {
+        let Ok(owned) = self.recent.owned(alloc, changed) else {
+            return false;
+        };
+        let row = self.row(start, end, NodeKind::Text(owned));
+        self.nodes.put(row);
+        self.pending = Pending::Written;
+        true
+    }
+}

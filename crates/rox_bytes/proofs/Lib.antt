@@ -1,0 +1,6 @@
+pub mod LaneLemmas
+pub mod MarkLemmas
+pub mod NearLemmas
+pub mod PlainLemmas
+pub mod RunLemmas
+pub mod TableLemmas

@@ -1,0 +1,19 @@
+-- The mask is held against the definition at each of the 256 bytes, by computing.
+use Rattle.std.proofs.Common.{not, refl, arith}
+use Rattle.std.proofs.lemmas.Simd.{zip2_of_maps}
+use Rattle.rox_bytes.specs.Nibbles.{at_low}
+use Rattle.rox_bytes.specs.ByteSets.{is_value_byte, wide_first}
+use Rattle.rox_bytes.specs.declared.byte_set.TheConstants.{VALUE_ENDS}
+use Rattle.rox_bytes.proofs.TableLemmas.{agree_below}
+use Rattle.rox_bytes.proofs.LaneLemmas.{masked, against, either, map_same, equals, below}
+use Rattle.rox_bytes.proofs.byte_set.ValueByteByteSet.others.Goals as goal
+
+pub returns : goal.returns
+unfolding agree_below is_value_byte
+returns c =
+    let v = c.args.block in
+    let long = c.fits-block.0 in
+    masked _ (λ b. not (is_value_byte b)) v _ (omega (arith, long)) c.fits-block.1
+    (either (λ x. below (wide_first x) 160) (λ x. equals (at_low VALUE_ENDS x) x) v
+    (against below wide_first 160 16 v long c.wide_first.ensures)
+    (zip2_of_maps equals (at_low VALUE_ENDS) (λ x. x) v c.by_low.ensures (map_same v))) refl

@@ -1,0 +1,15 @@
+use Rattle.std.proofs.Common.{◌<◌, ◌+◌, arith}
+use Rattle.rox_bytes.proofs.LaneLemmas.{ends_on, first_seen, none_seen}
+use Rattle.rox_bytes.proofs.byte_set.bytes_end.Goals as goal
+
+pub returns-then-others-ne0 : goal.returns-then-others-ne0
+returns-then-others-ne0 g c =
+    let some : 0 < c.others_at-others.result = omega (arith, c.if-others-ne0.true) in
+    rw c.before_first.ensures (first_seen g.C.ByteSet.test c.args.bytes.now c.args.at c.others_at-others.result c.others_at-others.ensures some)
+
+pub returns : goal.returns
+returns g c =
+    let bytes = c.args.bytes.now in
+    let i = c.args.at in
+    let none = none_seen g.C.ByteSet.test bytes i c.others_at-others.result c.others_at-others.ensures (omega (arith, c.if-others-ne0.false)) in
+    ends_on g.C.ByteSet.test bytes i (i + 16) c.far_end.result (omega arith) none c.far_end.ensures

@@ -1,0 +1,4 @@
+pub mod ScanResults
+pub mod ByteSets
+pub mod Nibbles
+pub mod Windows

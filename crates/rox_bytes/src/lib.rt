@@ -1,0 +1,9 @@
+//! Bytes of a source: sets of bytes, classes of characters, runs of both, searches, and windows of sixteen bytes.
+#![tactic(auto)]
+
+pub mod byte_set;
+pub mod chars;
+pub mod nibbles;
+pub mod runs;
+pub mod search;
+pub mod window;

@@ -1,0 +1,4 @@
+pub mod Stable
+pub mod AttributeRows
+pub mod StoredNodes
+pub mod Words

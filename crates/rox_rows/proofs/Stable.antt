@@ -1,0 +1,130 @@
+-- What rows show stays as the tables behind them grow.
+use Rattle.std.proofs.Common.{◌≡◌, ℕ, zero, suc, ◌-◌, ◌<◌, ◌≤◌, List, [], ◌∷◌, ◌++◌, length, map, take, drop, refl, ap, ◌∙◌, arith, Option, Some, None}
+use Rattle.std.specs.List.{AllByRecursion, slice_range}
+use Rattle.std.specs.Option.{option_map}
+use Rattle.std.proofs.lemmas.List.{take-append-le, drop-append-le}
+use Rattle.rox_grammar.specs.Written.{NamespaceDecl}
+use Rattle.rox_grammar.specs.Tree as tree
+use Rattle.rox_rows.specs.Storage.{storage_bytes, is_borrowed}
+use Rattle.rox_rows.specs.declared.row.AttributeNamespace.{AttributeNamespace}
+use Rattle.rox_rows.specs.declared.row.AttributeNamespace.TheVariants as space
+use Rattle.rox_rows.specs.declared.row.NodeKind.{NodeKind}
+use Rattle.rox_rows.specs.declared.row.NodeKind.TheVariants as kind
+use Rattle.rox_rows.specs.declared.row.NodeData.{NodeData}
+use Rattle.rox_rows.specs.Rows.{RowView, row_view, node, numbered_place, attribute, namespace_at, scope_at, attribute_uri, NamespaceWithin, OptionWithin, KindWithin, AttributeRow}
+
+-- ---- lists
+
+pub all_take : {X : Type 0} (P : X → Type 0) (n : ℕ) (xs : List X) → AllByRecursion P xs → AllByRecursion P (take n xs)
+all_take P zero xs h = tt
+all_take P (suc n) [] h = tt
+all_take P (suc n) (x ∷ xs) (p, h) = (p, all_take P n xs h)
+
+pub all_drop : {X : Type 0} (P : X → Type 0) (n : ℕ) (xs : List X) → AllByRecursion P xs → AllByRecursion P (drop n xs)
+all_drop P zero xs h = h
+all_drop P (suc n) [] h = tt
+all_drop P (suc n) (x ∷ xs) (p, h) = all_drop P n xs h
+
+pub all_slice : {X : Type 0} (P : X → Type 0) (xs : List X) (i j : ℕ) → AllByRecursion P xs → AllByRecursion P (slice_range xs i j)
+all_slice P xs i j h = all_take P (j - i) (drop i xs) (all_drop P i xs h)
+
+pub all_append : {X : Type 0} (P : X → Type 0) (xs ys : List X) → AllByRecursion P xs → AllByRecursion P ys → AllByRecursion P (xs ++ ys)
+all_append P [] ys h k = k
+all_append P (x ∷ xs) ys (p, h) k = (p, all_append P xs ys h k)
+
+pub all_weaker : {X : Type 0} (P Q : X → Type 0) (xs : List X) → ((x : X) → P x → Q x) → AllByRecursion P xs → AllByRecursion Q xs
+all_weaker P Q [] w h = tt
+all_weaker P Q (x ∷ xs) w (p, h) = (w x p, all_weaker P Q xs w h)
+
+pub map_same : {X Y : Type 0} (f g : X → Y) (P : X → Type 0) (xs : List X) → ((x : X) → P x → f x ≡ g x) → AllByRecursion P xs → map f xs ≡ map g xs
+map_same f g P [] e h = refl
+map_same f g P (x ∷ xs) e (p, h) = ap (λ y. y ∷ map f xs) (e x p) ∙ ap (λ ys. g x ∷ ys) (map_same f g P xs e h)
+
+pub slice-append : {X : Type 0} (xs ys : List X) (i j : ℕ) → i ≤ j → j ≤ length xs → slice_range (xs ++ ys) i j ≡ slice_range xs i j
+slice-append xs ys i j ordered within =
+    let d = drop-append-le i xs ys (omega arith) in
+    ap (take (j - i)) d ∙ take-append-le (j - i) (drop i xs) ys (long xs i j ordered within)
+  where
+    long : {X : Type 0} (xs : List X) (i j : ℕ) → i ≤ j → j ≤ length xs → j - i ≤ length (drop i xs)
+    long xs zero j ordered within = omega arith
+    long [] (suc i) j ordered within = omega arith
+    long (x ∷ xs) (suc i) j ordered within = let k = long xs i (j - 1) (omega arith) (omega arith) in omega arith
+
+-- ---- entries
+
+pub namespace_at-append : (namespaces more : List NamespaceDecl) (i : ℕ) → i < length namespaces → namespace_at (namespaces ++ more) i ≡ namespace_at namespaces i
+namespace_at-append [] more i h = absurd (omega arith)
+namespace_at-append (d ∷ ds) more zero h = refl
+namespace_at-append (d ∷ ds) more (suc i) h = namespace_at-append ds more i (omega arith)
+
+pub attribute_uri-append : (namespaces more : List NamespaceDecl) (a : AttributeNamespace) → NamespaceWithin (length namespaces) a → attribute_uri (namespaces ++ more) a ≡ attribute_uri namespaces a
+attribute_uri-append namespaces more space.None h = refl
+attribute_uri-append namespaces more space.Xml h = refl
+attribute_uri-append namespaces more (space.Listed i) h = ap (λ (d : NamespaceDecl). Some d.uri) (namespace_at-append namespaces more i h)
+
+pub attribute-append : (namespaces more : List NamespaceDecl) (a : AttributeRow) → NamespaceWithin (length namespaces) a.0.namespace → attribute (namespaces ++ more) a ≡ attribute namespaces a
+attribute-append namespaces more a h = ap (λ (o : Option (List ℕ)).
+    let r : tree.Attribute = record { start = a.1.start; name_end = a.1.name_end; value_start = a.1.value_start; end = a.1.end; namespace = o; local = a.0.local.now; value = storage_bytes a.0.value; borrowed = is_borrowed a.0.value } in r)
+    (attribute_uri-append namespaces more a.0.namespace h)
+
+uri-append : (namespaces more : List NamespaceDecl) (o : Option ℕ) → OptionWithin (length namespaces) o
+    → option_map (λ i. (namespace_at (namespaces ++ more) i).uri) o ≡ option_map (λ i. (namespace_at namespaces i).uri) o
+uri-append namespaces more None h = refl
+uri-append namespaces more (Some i) h = ap (λ (d : NamespaceDecl). Some d.uri) (namespace_at-append namespaces more i h)
+
+-- ---- scopes
+
+pub scope_at-append : (lists more : List (List NamespaceDecl)) (i : ℕ) → i < length lists → scope_at (lists ++ more) i ≡ scope_at lists i
+scope_at-append [] more i h = absurd (omega arith)
+scope_at-append (l ∷ ls) more zero h = refl
+scope_at-append (l ∷ ls) more (suc i) h = scope_at-append ls more i (omega arith)
+
+-- ---- rows
+
+pub node-append : (as' moreA : List AttributeRow) (namespaces moreN : List NamespaceDecl) (ls moreL : List (List NamespaceDecl)) (start end : ℕ) (k : NodeKind)
+    → AllByRecursion (λ a. NamespaceWithin (length namespaces) a.0.namespace) as' → KindWithin (length as') (length namespaces) (length ls) k
+    → node (as' ++ moreA) (namespaces ++ moreN) (ls ++ moreL) start end k ≡ node as' namespaces ls start end k
+node-append as' moreA namespaces moreN ls moreL start end kind.Root ha h = refl
+node-append as' moreA namespaces moreN ls moreL start end (kind.Element e) ha (a, b, c, n) =
+    let listed_is : scope_at (ls ++ moreL) e.scope ≡ scope_at ls e.scope = scope_at-append ls moreL e.scope c in
+    let attributes_are : map (attribute (namespaces ++ moreN)) (slice_range (as' ++ moreA) e.attributes_from e.attributes_until) ≡ map (attribute namespaces) (slice_range as' e.attributes_from e.attributes_until) =
+    ap (map (attribute (namespaces ++ moreN))) (slice-append as' moreA e.attributes_from e.attributes_until a b)
+    ∙ map_same (attribute (namespaces ++ moreN)) (attribute namespaces) (λ a. NamespaceWithin (length namespaces) a.0.namespace) (slice_range as' e.attributes_from e.attributes_until) (attribute-append namespaces moreN)
+    (all_slice (λ a. NamespaceWithin (length namespaces) a.0.namespace) as' e.attributes_from e.attributes_until ha) in
+    let o = uri-append namespaces moreN (numbered_place e.namespace) n in
+    ap (λ (u : Option (List ℕ)). tree.Element start end u e.local.now (scope_at (ls ++ moreL) e.scope) (map (attribute (namespaces ++ moreN)) (slice_range (as' ++ moreA) e.attributes_from e.attributes_until))) o
+    ∙ ap (λ (l : List NamespaceDecl). tree.Element start end (option_map (λ i. (namespace_at namespaces i).uri) (numbered_place e.namespace)) e.local.now l (map (attribute (namespaces ++ moreN)) (slice_range (as' ++ moreA) e.attributes_from e.attributes_until))) listed_is
+    ∙ ap (λ (l : List tree.Attribute). tree.Element start end (option_map (λ i. (namespace_at namespaces i).uri) (numbered_place e.namespace)) e.local.now (scope_at ls e.scope) l) attributes_are
+node-append as' moreA namespaces moreN ls moreL start end (kind.Text v) ha h = refl
+node-append as' moreA namespaces moreN ls moreL start end (kind.Comment t) ha h = refl
+node-append as' moreA namespaces moreN ls moreL start end (kind.PI p) ha h = refl
+
+-- the rows show the same over tables that have grown
+pub lines-append : (as' moreA : List AttributeRow) (namespaces moreN : List NamespaceDecl) (ls moreL : List (List NamespaceDecl)) (rows : List NodeData)
+    → AllByRecursion (λ a. NamespaceWithin (length namespaces) a.0.namespace) as' → AllByRecursion (λ r. KindWithin (length as') (length namespaces) (length ls) r.kind) rows
+    → map (row_view (as' ++ moreA) (namespaces ++ moreN) (ls ++ moreL)) rows ≡ map (row_view as' namespaces ls) rows
+lines-append as' moreA namespaces moreN ls moreL rows ha h =
+    map_same (row_view (as' ++ moreA) (namespaces ++ moreN) (ls ++ moreL)) (row_view as' namespaces ls) (λ r. KindWithin (length as') (length namespaces) (length ls) r.kind) rows
+    (λ r k. ap (λ n. let x : RowView = record { parent = r.parent; subtree_end = r.subtree_end; node = n } in x) (node-append as' moreA namespaces moreN ls moreL r.start r.end r.kind ha k)) h
+
+-- ---- what a row names stays in the tables
+
+pub kind_more : (a n l a' n' l' : ℕ) (k : NodeKind) → a ≤ a' → n ≤ n' → l ≤ l' → KindWithin a n l k → KindWithin a' n' l' k
+kind_more a n l a' n' l' kind.Root x y z h = tt
+kind_more a n l a' n' l' (kind.Element e) x y z (p, q, r, o) = (p, omega arith, omega arith, option_more n n' (numbered_place e.namespace) y o)
+  where
+    option_more : (n n' : ℕ) (o : Option ℕ) → n ≤ n' → OptionWithin n o → OptionWithin n' o
+    option_more n n' None y h = tt
+    option_more n n' (Some i) y h = omega arith
+kind_more a n l a' n' l' (kind.Text v) x y z h = tt
+kind_more a n l a' n' l' (kind.Comment t) x y z h = h
+kind_more a n l a' n' l' (kind.PI p) x y z h = tt
+
+pub namespace_more : (n n' : ℕ) (a : AttributeNamespace) → n ≤ n' → NamespaceWithin n a → NamespaceWithin n' a
+namespace_more n n' space.None y h = tt
+namespace_more n n' space.Xml y h = tt
+namespace_more n n' (space.Listed i) y h = omega arith
+
+pub option_more : (n m : ℕ) (o : Option ℕ) → n ≤ m → OptionWithin n o → OptionWithin m o
+option_more n m None le within = tt
+option_more n m (Some i) le within = omega arith

@@ -1,0 +1,10 @@
+pub mod StoredNodes
+pub mod Rows
+pub mod Storage
+pub mod UsualPlaces
+pub mod StoredAttributes
+pub mod Growth
+pub mod Words
+pub mod NodeChanges
+pub mod Puts
+pub mod AttributeChanges

@@ -1,0 +1,82 @@
+-- Attributes as their table stores them. The offsets of most follow from their start; the others have theirs in a table of
+-- offsets.
+use Rattle.std.specs.Prelude.{◌≡◌, ◌==◌, ◌<◌, ◌-◌, Bool, true, false, ℕ, ◌+◌, Vec, vec_len, List, [], ◌∷◌, ◌++◌, length, get_or, take, if◌then◌else◌}
+use Rattle.std.specs.declared.alloc.Global.{Global}
+use Rattle.std.specs.Mem.{manually_drop_value}
+use Rattle.std.specs.Coded.{×_prop, →_prop, Unit-prop, Coded-set, coded_ℕ}
+use Rattle.rox_rows.specs.Storage.{storage_bytes, is_borrowed}
+use Rattle.rox_rows.specs.UsualPlaces.{usual_places}
+use Rattle.rox_rows.specs.declared.storage.StringStorage.{StringStorage}
+use Rattle.rox_rows.specs.declared.row.AttributeNamespace.{AttributeNamespace}
+use Rattle.rox_rows.specs.declared.row.AttributeNamespace.TheVariants as space
+use Rattle.rox_rows.specs.declared.row.AttributeData.{AttributeData}
+use Rattle.rox_rows.specs.declared.row.AttributePlaces.{AttributePlaces}
+use Rattle.rox_rows.specs.declared.stored_attribute.NamespaceKind.{NamespaceKind}
+use Rattle.rox_rows.specs.declared.stored_attribute.NamespaceKind.TheVariants as kind
+use Rattle.rox_rows.specs.declared.stored_attribute.StoredAttribute.{StoredAttribute}
+
+abbrev pub namespace_of : NamespaceKind → ℕ → AttributeNamespace
+namespace_of kind.None listed = space.None
+namespace_of kind.Xml listed = space.Xml
+namespace_of kind.Listed listed = space.Listed listed
+
+-- The content of an attribute.
+abbrev pub data_of : StoredAttribute → AttributeData
+data_of r = record { local = r.local; value = manually_drop_value r.value; namespace = namespace_of r.kind r.listed }
+
+-- The row `r` stores the attribute `item`, with the numbers `before` and `place`.
+pub record StoresAttribute (item : AttributeData) (before place : ℕ) (r : StoredAttribute) : Type 0 where
+  pub is : data_of r ≡ item
+  pub before_is : r.before ≡ before
+  pub place_is : r.place ≡ place
+
+-- The offsets of an attribute, beside the table of unusual offsets.
+abbrev pub places_in : List AttributePlaces → StoredAttribute → AttributePlaces
+places_in unusual r =
+    let usual = usual_places r.place r.before (length r.local.now) (length (storage_bytes (manually_drop_value r.value))) in
+    if r.before == 255 then get_or unusual r.place usual else usual
+
+abbrev pub row_in : List AttributePlaces → StoredAttribute → AttributeData × AttributePlaces
+row_in unusual r = (data_of r, places_in unusual r)
+
+-- The least length of the table of unusual offsets that has those of this row.
+abbrev pub place_bound : StoredAttribute → ℕ
+place_bound r = if r.before == 255 then r.place + 1 else 0
+
+-- How many of these rows are unusual.
+abbrev pub unusual_count : List StoredAttribute → ℕ
+unusual_count [] = 0
+unusual_count (r ∷ rs) = (if r.before == 255 then 1 else 0) + unusual_count rs
+
+-- The unusual rows have consecutive indices into the table of unusual offsets, from `n` on.
+abbrev pub AreNumbered : ℕ → List StoredAttribute → Type 0
+AreNumbered n [] = Unit {0}
+AreNumbered n (r ∷ rs) = ((r.before == 255) ≡ true → r.place ≡ n) × AreNumbered ((if r.before == 255 then 1 else 0) + n) rs
+
+pub AreNumbered-prop : (n : ℕ) (rows : List StoredAttribute) → IsProp (AreNumbered n rows)
+AreNumbered-prop n [] = Unit-prop
+AreNumbered-prop n (r ∷ rs) = ×_prop (→_prop (Coded-set coded_ℕ r.place n)) (AreNumbered-prop ((if r.before == 255 then 1 else 0) + n) rs)
+
+-- The index `i` if the value is owned, otherwise nothing.
+abbrev pub own_place : StringStorage → ℕ → List ℕ
+own_place value i = if is_borrowed value then [] else i ∷ []
+
+-- The indices of the rows whose values are owned. The first of the rows has the index `i`.
+abbrev pub owned_places : ℕ → List StoredAttribute → List ℕ
+owned_places i [] = []
+owned_places i (r ∷ rs) = own_place (manually_drop_value r.value) i ++ owned_places (i + 1) rs
+
+-- The rows after the first `count` are removed, and with them the indices of those whose values are owned.
+pub record TakesBack (count : ℕ) (old new : List StoredAttribute) (owned left : List ℕ) : Type 0 where
+  pub rows : new ≡ take count old
+  pub listed : owned_places 0 old ≡ owned → owned_places 0 new ≡ left
+
+-- The result is whether the offsets of a row do not follow from its start. If they do, `before` is a number of bytes.
+pub record TellsUnusual (r : StoredAttribute) (result : Bool) : Type 0 where
+  pub unusual : result ≡ (r.before == 255)
+  pub usual : result ≡ false → r.before < 255
+
+-- The last row is removed.
+pub record TakesLastRow (old new : Vec StoredAttribute Global) (owned left : List ℕ) : Type 0 where
+  pub taken : TakesBack (vec_len old - 1) old.items new.items owned left
+  pub count : vec_len new ≡ vec_len old - 1

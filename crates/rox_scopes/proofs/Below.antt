@@ -1,0 +1,202 @@
+-- The scope of an element, below that of the one around it.
+use Rattle.std.proofs.Common.{◌≡◌, ℕ, zero, suc, ◌+◌, ◌-◌, ◌<◌, ◌≤◌, Bool, true, false, List, [], ◌∷◌, ◌++◌, Option, Some, None, length, map, take, drop, reverse, get_or, refl, sym, ap, subst, ◌∙◌, arith, length-drop, append_assoc}
+use Rattle.std.specs.List.{slice_range}
+use Rattle.std.specs.Option.{option_map}
+use Rattle.std.proofs.Math.ListN.{drop_of_length-le}
+use Rattle.std.proofs.lemmas.List.{append-nil, map-append, length-map, take_all, reverse-reverse}
+use Rattle.std.proofs.Math.Seq.{drop-append_seam}
+use Rattle.rox_grammar.specs.declared.fault.Word.TheVariants.{Xml}
+use Rattle.rox_grammar.specs.FixedTexts.{word_text}
+use Rattle.rox_grammar.specs.Written.{NamespaceDecl}
+use Rattle.rox_grammar.specs.Tree.{is_declared}
+use Rattle.rox_scopes.specs.declared.tables.Namespace.{Namespace}
+use Rattle.rox_scopes.specs.declared.tables.Scope.{Scope}
+use Rattle.rox_scopes.specs.declared.tables.Scope.TheVariants as scope
+use Rattle.rox_scopes.specs.declared.tables.Stretch.{Stretch}
+use Rattle.rox_scopes.specs.declared.tables.ElementTables.{ElementTables}
+use Rattle.rox_scopes.specs.declared.bindings.PrefixBindings.{PrefixBindings}
+use Rattle.rox_rows.specs.Rows.{namespace_at, scope_at}
+use Rattle.rox_scopes.specs.Tables.{namespace_view, lists_of, AreRows, AreScopes}
+use Rattle.rox_scopes.specs.Scopes.{entries, places_in, ArePlaces, PrefixesOnce, others, unlisted, is_few_at}
+use Rattle.rox_scopes.specs.Ropes.{IsRope, IsListed}
+use Rattle.rox_scopes.specs.Bindings.{AreBindingsOf, IsBound, IsEntered, bound_place}
+use Rattle.rox_scopes.specs.TagScopes.{HasScope, HasBindings, HasBindingsOf, lists_in}
+use Rattle.rox_scopes.proofs.Pairs.{place_at, namespace_at-get, declared_none}
+use Rattle.rox_reading.proofs.Stretches.{slice-more, slice-rest}
+use Rattle.rox_scopes.proofs.Presenting.{keeps_grown}
+use Rattle.rox_scopes.proofs.Hiding.{others_more, others_none, others_xml, absent_others, once_both}
+use Rattle.rox_scopes.proofs.Sharing.{same_listed, listed_then}
+use Rattle.rox_scopes.proofs.Ropes.{scope_places, row_places, length-lists, places_in-grown, places_in-listed, lists-grown, lists-listed, scopes_more}
+
+pub listed_is : (namespaces : List NamespaceDecl) (listed after : List ℕ) (old new : List Scope) (a : ℕ) (ds es : List NamespaceDecl) → IsListed namespaces listed old after new a ds → ds ≡ es → IsListed namespaces listed old after new a es
+listed_is namespaces listed after old new a ds es x is = subst (IsListed namespaces listed old after new a) is x
+
+-- ---- what the element declares is hidden
+
+pub hides_none : (namespaces : List NamespaceDecl) (listed : List ℕ) (scopes : List Scope) (i own : ℕ) → AreScopes (length listed) scopes → i < length scopes
+    → IsListed namespaces listed scopes listed scopes i (others (entries namespaces (slice_range listed own own)) false (entries namespaces (places_in listed scopes i)))
+hides_none namespaces listed scopes i own h lt =
+    let none : own - own ≡ 0 = omega arith in
+    let nothing : slice_range listed own own ≡ [] = ap (λ n. take n (drop own listed)) none in
+    let ds = entries namespaces (places_in listed scopes i) in
+    same_listed namespaces listed scopes i (others (entries namespaces (slice_range listed own own)) false ds) h lt (sym (ap (λ xs. others (entries namespaces xs) false ds) nothing ∙ others_none ds))
+
+pub hides_more : (rows : List Namespace) (listed : List ℕ) (old mid new : List Scope) (own turn place left next : ℕ) (item : Namespace) (p : Option (List ℕ)) (ds : List NamespaceDecl)
+    → own ≤ turn → turn < length listed → ArePlaces (length rows) listed → place ≡ get_or listed turn 0 → p ≡ (namespace_view (get_or rows place item)).prefix
+    → IsListed (map namespace_view rows) listed old listed mid left (others (entries (map namespace_view rows) (slice_range listed own turn)) false ds)
+    → IsListed (map namespace_view rows) listed mid listed new next (unlisted p (entries (map namespace_view rows) (places_in listed mid left)))
+    → IsListed (map namespace_view rows) listed old listed new next (others (entries (map namespace_view rows) (slice_range listed own (turn + 1))) false ds)
+hides_more rows listed old mid new own turn place left next item p ds le lt ok same is x y =
+    let namespaces = map namespace_view rows in
+    let seen = slice_range listed own turn in
+    let last = get_or listed turn 0 in
+    let here : place < length rows = subst (λ i. i < length rows) (sym same) (place_at (length rows) listed turn 0 ok lt) in
+    let prefix : p ≡ (namespace_at namespaces last).prefix = is ∙ ap (λ (d : NamespaceDecl). d.prefix) (sym (namespace_at-get rows place item here)) ∙ ap (λ i. (namespace_at namespaces i).prefix) same in
+    let more : entries namespaces (slice_range listed own (turn + 1)) ≡ entries namespaces seen ++ namespace_at namespaces last ∷ [] =
+    ap (entries namespaces) (slice-more listed own turn 0 le lt) ∙ map-append (namespace_at namespaces) seen (last ∷ []) in
+    listed_is namespaces listed listed old new next (unlisted p (entries namespaces (places_in listed mid left))) (others (entries namespaces (slice_range listed own (turn + 1))) false ds)
+    (listed_then namespaces listed old mid new left next (others (entries namespaces seen) false ds) (unlisted p (entries namespaces (places_in listed mid left))) x y)
+    (ap (unlisted p) x.lists ∙ ap (λ q. unlisted q (others (entries namespaces seen) false ds)) prefix ∙ others_more (entries namespaces seen) (namespace_at namespaces last) ds ∙ ap (λ xs. others xs false ds) (sym more))
+
+pub hides_all : (listed : List ℕ) (own turn : ℕ) → length listed ≤ turn → slice_range listed own turn ≡ drop own listed
+hides_all listed own turn le = take_all (turn - own) (drop own listed) (rw length-drop (omega arith))
+
+-- all of it, and `xml` too if the flag says so
+pub hides_xml : (namespaces : List NamespaceDecl) (listed : List ℕ) (old mid new : List Scope) (own turn left next : ℕ) (xml : Bool) (ds : List NamespaceDecl) → length listed ≤ turn → xml ≡ true
+    → IsListed namespaces listed old listed mid left (others (entries namespaces (slice_range listed own turn)) false ds)
+    → IsListed namespaces listed mid listed new next (unlisted (Some (word_text Xml)) (entries namespaces (places_in listed mid left)))
+    → IsListed namespaces listed old listed new next (others (entries namespaces (drop own listed)) xml ds)
+hides_xml namespaces listed old mid new own turn left next xml ds le on x y =
+    let seen = slice_range listed own turn in
+    let mine = entries namespaces (drop own listed) in
+    listed_is namespaces listed listed old new next (unlisted (Some (word_text Xml)) (entries namespaces (places_in listed mid left))) (others mine xml ds)
+    (listed_then namespaces listed old mid new left next (others (entries namespaces seen) false ds) (unlisted (Some (word_text Xml)) (entries namespaces (places_in listed mid left))) x y)
+    (ap (unlisted (Some (word_text Xml))) x.lists ∙ others_xml (entries namespaces seen) ds ∙ ap (λ xs. others (entries namespaces xs) true ds) (hides_all listed own turn le) ∙ ap (λ b. others mine b ds) (sym on))
+
+pub hides_own : (namespaces : List NamespaceDecl) (listed : List ℕ) (old mid : List Scope) (own turn left : ℕ) (xml : Bool) (ds : List NamespaceDecl) → length listed ≤ turn → xml ≡ false
+    → IsListed namespaces listed old listed mid left (others (entries namespaces (slice_range listed own turn)) false ds) → IsListed namespaces listed old listed mid left (others (entries namespaces (drop own listed)) xml ds)
+hides_own namespaces listed old mid own turn left xml ds le off x =
+    listed_is namespaces listed listed old mid left (others (entries namespaces (slice_range listed own turn)) false ds) (others (entries namespaces (drop own listed)) xml ds) x
+    (ap (λ xs. others (entries namespaces xs) false ds) (hides_all listed own turn le) ∙ ap (λ b. others (entries namespaces (drop own listed)) b ds) (sym off))
+
+-- a prefix without a place is not among what is left
+pub absent_bound : (namespaces : List NamespaceDecl) (f : Option (List ℕ) → Option ℕ) (own ds left : List NamespaceDecl) (xml : Bool) (p : Option (List ℕ)) → IsBound namespaces f ds → left ≡ others own xml ds → f p ≡ None
+    → is_declared p left ≡ false
+absent_bound namespaces f own ds left xml p h e none =
+    ap (is_declared p) e ∙ absent_others own xml p ds (declared_none ds p (sym (h.uris p) ∙ ap (option_map (λ i. (namespace_at namespaces i).uri)) none))
+
+-- ---- rows of both
+
+pub joined_listed : (namespaces : List NamespaceDecl) (listed after : List ℕ) (old mid next new : List Scope) (rest first i : ℕ) (os ds : List NamespaceDecl) → IsListed namespaces listed old listed mid rest os → IsListed namespaces listed mid after next first ds
+    → IsRope next new i (λ l. places_in l next first ++ places_in l next rest) → IsListed namespaces listed old after new i (ds ++ os)
+joined_listed namespaces listed after old mid next new rest first i os ds x y z =
+    let kept : entries namespaces (places_in after next rest) ≡ os =
+    ap (λ ss. entries namespaces (places_in after ss rest)) y.rows_grown ∙ ap (entries namespaces) (places_in-grown after mid y.more_rows rest x.within)
+    ∙ ap (λ ls. entries namespaces (places_in ls mid rest)) y.grown ∙ ap (entries namespaces) (places_in-listed listed y.more mid rest x.scopes_are) ∙ x.lists in
+    record {
+      more = y.more;
+      grown = y.grown;
+      places = y.places;
+      more_rows = x.more_rows ++ (y.more_rows ++ z.more);
+      rows_grown = z.grown ∙ ap (λ xs. xs ++ z.more) y.rows_grown ∙ append_assoc mid y.more_rows z.more ∙ ap (λ xs. xs ++ (y.more_rows ++ z.more)) x.rows_grown ∙ append_assoc old x.more_rows (y.more_rows ++ z.more);
+      scopes_are = record { rows = z.rows; within = z.ends (length after) y.scopes_are.within };
+      within = z.within;
+      lists = ap (entries namespaces) (z.lists after y.scopes_are) ∙ map-append (namespace_at namespaces) (places_in after next first) (places_in after next rest)
+          ∙ ap (λ xs. xs ++ entries namespaces (places_in after next rest)) y.lists ∙ ap (λ xs. ds ++ xs) kept;
+    }
+
+-- ---- the tables
+
+pub lists_then : (namespaces : List NamespaceDecl) (listed after : List ℕ) (scopes rows : List Scope) (i : ℕ) (ds : List NamespaceDecl) → AreScopes (length listed) scopes → IsListed namespaces listed scopes after rows i ds
+    → (more : List (List NamespaceDecl)) × (lists_of namespaces after rows ≡ lists_of namespaces listed scopes ++ more)
+lists_then namespaces listed after scopes rows i ds h x =
+    let g = lists-grown namespaces after scopes x.more_rows in
+    (g.0, ap (lists_of namespaces after) x.rows_grown ∙ g.1 ∙ ap (λ xs. xs ++ g.0) (ap (λ ls. lists_of namespaces ls scopes) x.grown ∙ lists-listed namespaces listed x.more scopes h))
+
+-- the places of prefixes stay
+pub kept_then : (namespaces : List NamespaceDecl) (listed after : List ℕ) (scopes rows : List Scope) (i : ℕ) (ds : List NamespaceDecl) (x : PrefixBindings) → AreScopes (length listed) scopes → IsListed namespaces listed scopes after rows i ds
+    → AreBindingsOf namespaces (lists_of namespaces listed scopes) x → AreBindingsOf namespaces (lists_of namespaces after rows) x
+kept_then namespaces listed after scopes rows i ds x h y kept =
+    let l = lists_then namespaces listed after scopes rows i ds h y in
+    keeps_grown namespaces namespaces (lists_of namespaces listed scopes) (lists_of namespaces after rows) x [] l.0 (sym (append-nil namespaces)) l.1 kept
+
+pub few_here : (scopes : List Scope) (i : ℕ) (s : Stretch) (t : Scope) → i < length scopes → scope.Few s ≡ get_or scopes i t → is_few_at scopes i ≡ true
+few_here [] i s t lt h = absurd (omega arith)
+few_here (scope.Few x ∷ ss) zero s t lt h = refl
+few_here (scope.Back x ∷ ss) zero s t lt h = cc h
+few_here (scope.Concat b ∷ ss) zero s t lt h = cc h
+few_here (x ∷ ss) (suc i) s t lt h = few_here ss i s t (omega arith) h
+
+-- what a row of few lists
+pub few_lists : (namespaces : List NamespaceDecl) (ls : List ℕ) (scopes : List Scope) (i : ℕ) (s : Stretch) → AreRows scopes → i < length scopes → scope.Few s ≡ get_or scopes i (scope.Few s)
+    → entries namespaces (slice_range ls s.from s.until) ≡ scope_at (lists_of namespaces ls scopes) i
+few_lists namespaces ls scopes i s rows lt e = sym (scope_places namespaces ls scopes i ∙ ap (entries namespaces) (row_places ls scopes i (scope.Few s) rows lt e))
+
+-- it has become the innermost
+pub stood_in : (namespaces seen : List Namespace) (ls seen_ls : List ℕ) (scopes seen_scopes : List Scope) (x y : PrefixBindings) (i : ℕ) → seen ≡ namespaces → seen_ls ≡ ls → seen_scopes ≡ scopes
+    → (AreBindingsOf (map namespace_view seen) (lists_of (map namespace_view seen) seen_ls seen_scopes) x
+    → AreBindingsOf (map namespace_view seen) (lists_of (map namespace_view seen) seen_ls seen_scopes) y × IsBound (map namespace_view seen) (bound_place y) (scope_at (lists_of (map namespace_view seen) seen_ls seen_scopes) i))
+    → AreBindingsOf (map namespace_view namespaces) (lists_of (map namespace_view namespaces) ls scopes) x
+    → AreBindingsOf (map namespace_view namespaces) (lists_of (map namespace_view namespaces) ls scopes) y × IsBound (map namespace_view namespaces) (bound_place y) (scope_at (lists_of (map namespace_view namespaces) ls scopes) i)
+stood_in namespaces seen ls seen_ls scopes seen_scopes x y i n l s f = rw (sym n, sym l, sym s) f
+
+pub entered_in : (namespaces seen : List Namespace) (ls seen_ls : List ℕ) (x y : PrefixBindings) (from i : ℕ) (xml : Bool) → seen ≡ namespaces → seen_ls ≡ ls
+    → ((lists : List (List NamespaceDecl)) (above : List NamespaceDecl) → AreBindingsOf (map namespace_view seen) lists x → IsBound (map namespace_view seen) (bound_place x) above
+    → IsEntered (entries (map namespace_view seen) (reverse (slice_range seen_ls from (length seen_ls)))) xml above lists i → AreBindingsOf (map namespace_view seen) lists y × IsBound (map namespace_view seen) (bound_place y) (scope_at lists i))
+    → (lists : List (List NamespaceDecl)) (above : List NamespaceDecl) → AreBindingsOf (map namespace_view namespaces) lists x → IsBound (map namespace_view namespaces) (bound_place x) above
+    → IsEntered (entries (map namespace_view namespaces) (reverse (slice_range ls from (length ls)))) xml above lists i → AreBindingsOf (map namespace_view namespaces) lists y × IsBound (map namespace_view namespaces) (bound_place y) (scope_at lists i)
+entered_in namespaces seen ls seen_ls x y from i xml n l f = rw (sym n, sym l) f
+
+pub entered : (namespaces : List NamespaceDecl) (listed after : List ℕ) (scopes rows : List Scope) (i own from until : ℕ) (xml : Bool) (above : List NamespaceDecl) → after ≡ listed ++ reverse (drop own listed) → from ≡ length listed → until ≡ length after
+    → IsListed namespaces listed scopes after rows i (entries namespaces (drop own listed) ++ others (entries namespaces (drop own listed)) xml above)
+    → IsEntered (entries namespaces (reverse (slice_range after from until))) xml above (lists_of namespaces after rows) i
+entered namespaces listed after scopes rows i own from until xml above grown begins ends x =
+    let back = reverse (drop own listed) in
+    let n = length-lists namespaces after rows in
+    let slice : slice_range after from until ≡ back =
+    ap (slice_range after from) ends ∙ slice-rest after from ∙ ap (λ k. drop k after) begins ∙ ap (drop (length listed)) grown ∙ drop-append_seam listed back in
+    let mine : reverse (slice_range after from until) ≡ drop own listed = ap (reverse {A = ℕ}) slice ∙ reverse-reverse (drop own listed) in
+    let here : i < length rows = x.within in
+    let within : i < length (lists_of namespaces after rows) = omega arith in
+    record {
+      within = within;
+      made = scope_places namespaces after rows i ∙ x.lists ∙ ap (λ xs. entries namespaces xs ++ others (entries namespaces xs) xml above) (sym mine);
+    }
+
+-- what the scope lists that has this place
+pub has_scope : (o n : ElementTables) (above own i : ℕ) (xml : Bool) → n.namespaces ≡ o.namespaces → n.attributes ≡ o.attributes → ArePlaces (length o.namespaces.items.items) o.listed.items → AreScopes own o.scopes.items → own ≤ length o.listed.items
+    → PrefixesOnce (scope_at (lists_in o) above) → PrefixesOnce (entries (map namespace_view o.namespaces.items.items) (drop own o.listed.items)) → HasBindings n → HasBindingsOf n i
+    → IsListed (map namespace_view o.namespaces.items.items) o.listed.items o.scopes.items n.listed.items n.scopes.items i
+    (entries (map namespace_view o.namespaces.items.items) (drop own o.listed.items) ++ others (entries (map namespace_view o.namespaces.items.items) (drop own o.listed.items)) xml (scope_at (lists_in o) above))
+    → HasScope o n above own xml i
+has_scope o n above own i xml same attributes ok scopes le once own_once kept present x =
+    let namespaces = map namespace_view o.namespaces.items.items in
+    let mine = entries namespaces (drop own o.listed.items) in
+    let names_are = ap (λ v. map namespace_view v.items.items) same in
+    let m = length-map o.namespaces.items.items namespace_view in
+    let h = scopes_more own (length o.listed.items) o.scopes.items le scopes in
+    let l = lists_then namespaces o.listed.items n.listed.items o.scopes.items n.scopes.items i (mine ++ others mine xml (scope_at (lists_in o) above)) h x in
+    let lists : scope_at (lists_in n) i ≡ mine ++ others mine xml (scope_at (lists_in o) above) =
+    ap (λ ns. scope_at (lists_of ns n.listed.items n.scopes.items) i) names_are ∙ scope_places namespaces n.listed.items n.scopes.items i ∙ x.lists in
+    record {
+      namespaces = same;
+      attributes = attributes;
+      more = l.0;
+      lists_more = ap (λ ns. lists_of ns n.listed.items n.scopes.items) names_are ∙ l.1;
+      places = subst (λ v. ArePlaces (length v.items.items) n.listed.items) (sym same) (subst (λ k. ArePlaces k n.listed.items) m (x.places (subst (λ k. ArePlaces k o.listed.items) (sym m) ok)));
+      scopes = x.scopes_are;
+      within = x.within;
+      lists = lists;
+      once = subst PrefixesOnce (sym lists) (once_both mine xml (scope_at (lists_in o) above) own_once once);
+      kept = kept;
+      present = present;
+    }
+
+-- nothing is declared
+pub nothing_listed : (namespaces : List NamespaceDecl) (listed : List ℕ) (scopes : List Scope) (above own : ℕ) (xml : Bool) → AreScopes own scopes → own ≤ length listed → above < length scopes → length listed ≤ own → xml ≡ false
+    → IsListed namespaces listed scopes listed scopes above (entries namespaces (drop own listed) ++ others (entries namespaces (drop own listed)) xml (scope_at (lists_of namespaces listed scopes) above))
+nothing_listed namespaces listed scopes above own xml h le lt none off =
+    let ds = scope_at (lists_of namespaces listed scopes) above in
+    let nothing : drop own listed ≡ [] = drop_of_length-le listed none in
+    same_listed namespaces listed scopes above (entries namespaces (drop own listed) ++ others (entries namespaces (drop own listed)) xml ds) (scopes_more own (length listed) scopes le h) lt
+    (sym (scope_places namespaces listed scopes above) ∙ sym (ap (λ xs. entries namespaces xs ++ others (entries namespaces xs) xml ds) nothing ∙ ap (λ b. others [] b ds) off ∙ others_none ds))

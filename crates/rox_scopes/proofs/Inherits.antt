@@ -1,0 +1,105 @@
+-- The loop that lists what an element inherits.
+use Rattle.std.proofs.Common.{◌≡◌, ℕ, zero, suc, ◌+◌, ◌-◌, ◌<◌, ◌≤◌, ◌&&◌, ◌||◌, not, Bool, true, false, List, [], ◌∷◌, ◌++◌, length, map, drop, get_or, refl, sym, ap, ◌∙◌, arith, append_assoc}
+use Rattle.std.specs.List.{slice_range}
+use Rattle.std.proofs.lemmas.List.{map-append, append-nil}
+use Rattle.std.proofs.lemmas.List.Elements.{filter-append}
+use Rattle.rox_grammar.specs.Written.{NamespaceDecl}
+use Rattle.rox_grammar.specs.Tree.{is_declared, is_xml}
+use Rattle.rox_reading.proofs.Stretches.{slice-more, slice-rest}
+use Rattle.rox_scopes.specs.declared.tables.Namespace.{Namespace}
+use Rattle.rox_rows.specs.Rows.{namespace_at}
+use Rattle.rox_scopes.specs.Tables.{namespace_view}
+use Rattle.rox_scopes.specs.Scopes.{entries, ArePlaces, others}
+use Rattle.rox_rows.proofs.Stable.{slice-append, all_append}
+use Rattle.rox_scopes.proofs.Pairs.{place_at, namespace_at-get}
+
+pub record Inherited (rows : List Namespace) (old : List ℕ) (own : ℕ) (xml : Bool) (from turn end : ℕ) (now : List ℕ) : Type 0 where
+  pub end_is : end ≡ length old
+  pub more : List ℕ
+  pub now_is : now ≡ old ++ more
+  pub places : ArePlaces (length rows) more
+  pub same : entries (map namespace_view rows) more ≡ others (entries (map namespace_view rows) (drop own old)) xml (entries (map namespace_view rows) (slice_range old from turn))
+
+pub get_or-front : {A : Type 0} (xs ys : List A) (k : ℕ) (d : A) → k < length xs → get_or (xs ++ ys) k d ≡ get_or xs k d
+get_or-front [] ys k d h = absurd (omega arith)
+get_or-front (x ∷ xs) ys zero d h = refl
+get_or-front (x ∷ xs) ys (suc k) d h = get_or-front xs ys k d (omega arith)
+
+pub begins : (rows : List Namespace) (old : List ℕ) (own : ℕ) (xml : Bool) (from end : ℕ) → end ≡ length old → Inherited rows old own xml from from end old
+begins rows old own xml from end e =
+    let z : from - from ≡ 0 = omega arith in
+    record { end_is = e; more = []; now_is = sym (append-nil old); places = tt; same = rw z refl }
+
+-- one more of the parent's
+step : (rows : List Namespace) (old : List ℕ) (own : ℕ) (xml : Bool) (from turn : ℕ) → from ≤ turn → turn < length old
+    → others (entries (map namespace_view rows) (drop own old)) xml (entries (map namespace_view rows) (slice_range old from (turn + 1)))
+    ≡ others (entries (map namespace_view rows) (drop own old)) xml (entries (map namespace_view rows) (slice_range old from turn))
+    ++ others (entries (map namespace_view rows) (drop own old)) xml (namespace_at (map namespace_view rows) (get_or old turn 0) ∷ [])
+step rows old own xml from turn le lt =
+    let namespaces = map namespace_view rows in
+    let mine = entries namespaces (drop own old) in
+    ap (λ xs. others mine xml (entries namespaces xs)) (slice-more old from turn 0 le lt)
+    ∙ ap (others mine xml) (map-append (namespace_at namespaces) (slice_range old from turn) (get_or old turn 0 ∷ []))
+    ∙ filter-append (λ d. not (is_declared d.prefix mine || (xml && is_xml d.prefix))) (entries namespaces (slice_range old from turn)) (namespace_at namespaces (get_or old turn 0) ∷ [])
+
+-- it is not declared, and is listed
+pub lists : (rows : List Namespace) (old : List ℕ) (own : ℕ) (xml : Bool) (from turn end place : ℕ) (now next : List ℕ) → Inherited rows old own xml from turn end now
+    → ArePlaces (length rows) old → from ≤ turn → turn < length old → place ≡ get_or old turn 0
+    → (is_declared (namespace_at (map namespace_view rows) place).prefix (entries (map namespace_view rows) (drop own old)) || (xml && is_xml (namespace_at (map namespace_view rows) place).prefix)) ≡ false
+    → next ≡ now ++ place ∷ [] → Inherited rows old own xml from (turn + 1) end next
+lists rows old own xml from turn end place now next h ok le lt is other push =
+    let namespaces = map namespace_view rows in
+    let mine = entries namespaces (drop own old) in
+    let here : place < length rows = rw is (place_at (length rows) old turn 0 ok lt) in
+    let one : others mine xml (namespace_at namespaces (get_or old turn 0) ∷ []) ≡ namespace_at namespaces place ∷ [] =
+    ap (λ p. others mine xml (namespace_at namespaces p ∷ [])) (sym is) ∙ rw other refl in
+    record {
+      end_is = h.end_is;
+      more = h.more ++ place ∷ [];
+      now_is = push ∙ ap (λ xs. xs ++ place ∷ []) h.now_is ∙ append_assoc old h.more (place ∷ []);
+      places = all_append (λ i. i < length rows) h.more (place ∷ []) h.places (here, tt);
+      same = map-append (namespace_at namespaces) h.more (place ∷ []) ∙ ap (λ xs. xs ++ namespace_at namespaces place ∷ []) h.same
+          ∙ ap (λ xs. others mine xml (entries namespaces (slice_range old from turn)) ++ xs) (sym one) ∙ sym (step rows old own xml from turn le lt);
+    }
+
+-- it is declared, and is not listed
+pub skips : (rows : List Namespace) (old : List ℕ) (own : ℕ) (xml : Bool) (from turn end place : ℕ) (now : List ℕ) → Inherited rows old own xml from turn end now
+    → from ≤ turn → turn < length old → place ≡ get_or old turn 0
+    → (is_declared (namespace_at (map namespace_view rows) place).prefix (entries (map namespace_view rows) (drop own old)) || (xml && is_xml (namespace_at (map namespace_view rows) place).prefix)) ≡ true
+    → Inherited rows old own xml from (turn + 1) end now
+skips rows old own xml from turn end place now h le lt is mine' =
+    let namespaces = map namespace_view rows in
+    let mine = entries namespaces (drop own old) in
+    let none : others mine xml (namespace_at namespaces (get_or old turn 0) ∷ []) ≡ [] =
+    ap (λ p. others mine xml (namespace_at namespaces p ∷ [])) (sym is) ∙ rw mine' refl in
+    record {
+      end_is = h.end_is;
+      more = h.more;
+      now_is = h.now_is;
+      places = h.places;
+      same = h.same ∙ sym (step rows old own xml from turn le lt ∙ ap (λ xs. others mine xml (entries namespaces (slice_range old from turn)) ++ xs) none ∙ append-nil _);
+    }
+
+get_or-any : {A : Type 0} (xs : List A) (k : ℕ) (d e : A) → k < length xs → get_or xs k d ≡ get_or xs k e
+get_or-any [] k d e h = absurd (omega arith)
+get_or-any (x ∷ xs) zero d e h = refl
+get_or-any (x ∷ xs) (suc k) d e h = get_or-any xs k d e (omega arith)
+
+-- what a turn of the loop looks at, and what its test says
+pub looked : (rows : List Namespace) (old : List ℕ) (own : ℕ) (xml : Bool) (from turn end place : ℕ) (now seen : List ℕ) (item : Namespace) (r : Bool)
+    → Inherited rows old own xml from turn end now → ArePlaces (length rows) old → own ≤ length old → turn < length old → seen ≡ now → place ≡ get_or now turn place
+    → r ≡ (is_declared (namespace_view (get_or rows place item)).prefix (entries (map namespace_view rows) (slice_range seen own end)) || (xml && is_xml (namespace_view (get_or rows place item)).prefix))
+    → (place ≡ get_or old turn 0)
+    × (r ≡ (is_declared (namespace_at (map namespace_view rows) place).prefix (entries (map namespace_view rows) (drop own old)) || (xml && is_xml (namespace_at (map namespace_view rows) place).prefix)))
+looked rows old own xml from turn end place now seen item r h ok within lt same is test =
+    let namespaces = map namespace_view rows in
+    let p : place ≡ get_or old turn 0 = is ∙ ap (λ xs. get_or xs turn place) h.now_is ∙ get_or-front old h.more turn place lt ∙ get_or-any old turn place 0 lt in
+    let here : place < length rows = rw p (place_at (length rows) old turn 0 ok lt) in
+    let e : namespace_at namespaces place ≡ namespace_view (get_or rows place item) = namespace_at-get rows place item here in
+    let mine : slice_range seen own end ≡ drop own old =
+    ap (λ xs. slice_range xs own end) (same ∙ h.now_is) ∙ ap (slice_range (old ++ h.more) own) h.end_is
+    ∙ slice-append old h.more own (length old) within (omega arith) ∙ slice-rest old own in (
+      p,
+      test ∙ ap (λ xs. is_declared (namespace_view (get_or rows place item)).prefix (entries namespaces xs) || (xml && is_xml (namespace_view (get_or rows place item)).prefix)) mine
+          ∙ ap (λ (d : NamespaceDecl). is_declared d.prefix (entries namespaces (drop own old)) || (xml && is_xml d.prefix)) (sym e),
+    )

@@ -1,0 +1,68 @@
+use Rattle.std.proofs.Common.{rules, ◌≡◌, ◌≤◌, ◌<◌, ◌-◌, ◌++◌, ◌∷◌, ◌∙◌, [], map, length, get_or, ap, subst, sym, refl, arith}
+use Rattle.rox_rows.specs.Rows.{scope_at}
+use Rattle.rox_scopes.specs.Tables.{namespace_view, lists_of}
+use Rattle.rox_scopes.specs.Scopes.{places_in}
+use Rattle.rox_scopes.specs.Bindings.{bound_place, IsBound}
+use Rattle.rox_scopes.specs.declared.bindings.ScopeFrame.{ScopeFrame}
+use Rattle.rox_scopes.proofs.Ropes.{count_places, scope_places, length-lists}
+use Rattle.rox_scopes.proofs.Presenting.{stacked_push, keeps_by, bound_from, bound_all, bound_none}
+use Rattle.rox_scopes.proofs.bindings.PrefixBindings.make_innermost.Goals as goal
+
+pub returns-then-is_in : goal.returns-then-is_in
+returns-then-is_in c = record {
+  same = search rules;
+  value = λ h.
+      let namespaces = map namespace_view c.args.namespaces.now in
+      let lists = lists_of namespaces c.args.listed.now c.args.scopes.now in
+      let left = c.in_ok-leave_inner.ensures.keeps namespaces lists h in
+      (left, c.is_in.ensures.bound c.if-is_in.true namespaces lists left);
+}
+
+pub position_at-position-requires : goal.position_at-position-requires
+position_at-position-requires c =
+    let n : c.count-many.result ≡ length (places_in c.args.listed.now c.args.scopes.now c.args.scope) = c.count-many.ensures ∙ count_places c.args.listed.now c.args.scopes.now c.args.scope c.requires.scopes c.requires.within in
+    record { scope = search rules; index = omega arith }
+
+pub loop-turn-init : goal.loop-turn-init
+loop-turn-init c =
+    let namespaces = map namespace_view c.args.namespaces.now in
+    record {
+      bound = bound_none namespaces (places_in c.args.listed.now c.args.scopes.now c.args.scope) (bound_place c.clear.new.self) (c.clear.ensures.bound namespaces);
+      keeps = c.clear.ensures.keeps;
+    }
+
+pub loop-turn-preserved : goal.loop-turn-preserved
+loop-turn-preserved c =
+    let l = c.loop-turn in
+    let places = places_in c.args.listed.now c.args.scopes.now c.args.scope in
+    let n : c.count-many.result ≡ length places = c.count-many.ensures ∙ count_places c.args.listed.now c.args.scopes.now c.args.scope c.requires.scopes c.requires.within in
+    let lt : l.turn < length places = omega arith in
+    let i : c.count-many.result - 1 - l.turn ≡ length places - 1 - l.turn = ap (λ k. k - 1 - l.turn) n in
+    record {
+      bound = bound_from (map namespace_view c.args.namespaces.now) places l.turn (bound_place c.bind.new.self) _ lt (c.position_at-position.ensures.value ∙ ap (λ k. get_or places k 0) i) (c.in_ok-bind.ensures.bound _ l.invariant.bound);
+      keeps = λ namespaces lists. c.in_ok-bind.ensures.keeps namespaces lists (l.invariant.keeps namespaces lists);
+    }
+
+pub returns : goal.returns
+returns c = record {
+  same = search rules;
+  value = λ h.
+      let namespaces = map namespace_view c.args.namespaces.now in
+      let lists = lists_of namespaces c.args.listed.now c.args.scopes.now in
+      let places = places_in c.args.listed.now c.args.scopes.now c.args.scope in
+      let x = c.loop-turn.self in
+      let many : c.count-many.result ≡ length places = c.count-many.ensures ∙ count_places c.args.listed.now c.args.scopes.now c.args.scope c.requires.scopes c.requires.within in
+      let bound = bound_all namespaces places c.loop-turn.turn (bound_place x) (omega arith) c.loop-turn.invariant.bound in
+      let here : IsBound namespaces (bound_place x) (scope_at lists c.args.scope) = subst (IsBound namespaces (bound_place x)) (sym (scope_places namespaces c.args.listed.now c.args.scopes.now c.args.scope)) bound in
+      let kept = c.loop-turn.invariant.keeps namespaces lists in
+      let l : ScopeFrame = record { scope = c.args.scope; count = c.len-count.result } in
+      let k = x.replaced.ok.0 in
+      let count : c.len-count.result ≡ length x.replaced.items = omega arith in
+      let low : 0 ≤ length x.replaced.items = omega arith in
+      let n = length-lists namespaces c.args.listed.now c.args.scopes.now in
+      let within : c.args.scope < length lists = omega arith in (
+        keeps_by namespaces lists _ x.replaced.items (x.layers.items ++ l ∷ []) refl c.in_ok-push.ensures.items
+            (stacked_push namespaces lists x.replaced.items (bound_place x) 0 x.layers.items l count low within here kept.stacked),
+        here,
+      );
+}

@@ -1,0 +1,106 @@
+-- The scope of an element, in the tables.
+use Rattle.std.specs.Prelude.{◌≡◌, ℕ, ◌<◌, ◌≤◌, Bool, false, List, ◌++◌, Option, None, length, map, drop, reverse, slice_index_or}
+use Rattle.std.specs.Borrow.{Bor}
+use Rattle.rox_grammar.specs.Tree.{is_declared}
+use Rattle.rox_grammar.specs.Written.{NamespaceDecl}
+use Rattle.rox_rows.specs.Rows.{scope_at}
+use Rattle.rox_scopes.specs.Tables.{namespace_view, lists_of, AreScopes}
+use Rattle.rox_scopes.specs.Bindings.{AreBindingsOf, IsBound, bound_place}
+use Rattle.rox_scopes.specs.Scopes.{entries, places_in, ArePlaces, PrefixesOnce, others, is_few_at}
+use Rattle.rox_scopes.specs.PrefixSet.{IsBelowFew, IsPrefixSet}
+use Rattle.rox_scopes.specs.Ropes.{IsListed, IsScopeOf}
+use Rattle.rox_scopes.specs.declared.bindings.PrefixBindings.{PrefixBindings}
+use Rattle.rox_scopes.specs.declared.tables.ElementTables.{ElementTables}
+use Rattle.rox_scopes.specs.declared.tables.Namespace.{Namespace}
+use Rattle.rox_scopes.specs.declared.tables.Scope.{Scope}
+use Rattle.rox_scopes.specs.declared.tables.Scope.TheVariants as row
+use Rattle.rox_scopes.specs.declared.tables.Stretch.{Stretch}
+
+-- The declarations that each scope lists.
+abbrev pub lists_in : ElementTables → List (List NamespaceDecl)
+lists_in t = lists_of (map namespace_view t.namespaces.items.items) t.listed.items t.scopes.items
+
+-- The bindings of prefixes are those of scopes in these tables.
+abbrev pub HasBindings : ElementTables → Type 0
+HasBindings t = AreBindingsOf (map namespace_view t.namespaces.items.items) (lists_in t) t.present
+
+-- The bindings of prefixes are those of what this scope lists, unless it lists few.
+unfoldable pub HasBindingsOf : ElementTables → ℕ → Type 0
+HasBindingsOf t scope = is_few_at t.scopes.items scope ≡ false → IsBound (map namespace_view t.namespaces.items.items) (bound_place t.present) (scope_at (lists_in t) scope)
+
+-- A start tag is read whose parent has the scope `above`. What it declares is listed from `own` on, each prefix once.
+pub record HasOpenTag (t : ElementTables) (above own : ℕ) : Type 0 where
+  pub places : ArePlaces (length t.namespaces.items.items) t.listed.items
+  pub own_within : own ≤ length t.listed.items
+  pub scopes : AreScopes own t.scopes.items
+  pub above_within : above < length t.scopes.items
+  pub once : PrefixesOnce (scope_at (lists_in t) above)
+  pub own_once : PrefixesOnce (entries (map namespace_view t.namespaces.items.items) (drop own t.listed.items))
+  pub kept : HasBindings t
+
+-- A start tag is read as in `HasOpenTag`, and the keys are its prefixes if they are many.
+pub record HasTagPrefixes (t : ElementTables) (keys : List (Option (Bor (List ℕ)))) (above own : ℕ) : Type 0 where
+  pub tag : HasOpenTag t above own
+  pub prefix_set : IsPrefixSet (map namespace_view t.namespaces.items.items) (drop own t.listed.items) keys
+
+-- A tag is read whose parent's scope `above` lists many, each prefix once, and has its bindings. What the tag declares is listed
+-- from `from` on.
+pub record IsBelowMany (table : List Namespace) (listed : List ℕ) (scopes : List Scope) (present : PrefixBindings) (above from : ℕ) : Type 0 where
+  pub scope : IsScopeOf (length table) listed scopes above
+  pub own : from ≤ length listed
+  pub once : PrefixesOnce (entries (map namespace_view table) (places_in listed scopes above))
+  pub bound : IsBound (map namespace_view table) (bound_place present) (entries (map namespace_view table) (places_in listed scopes above))
+
+-- The scope `scope` is that of an element whose parent has the scope `above`. Its declarations are those listed from `own` on,
+-- and `xml` if the flag is true.
+pub record HasScope (old new : ElementTables) (above own : ℕ) (xml : Bool) (scope : ℕ) : Type 0 where
+  pub namespaces : new.namespaces ≡ old.namespaces
+  pub attributes : new.attributes ≡ old.attributes
+  pub more : List (List NamespaceDecl)
+  pub lists_more : lists_in new ≡ lists_in old ++ more
+  pub places : ArePlaces (length new.namespaces.items.items) new.listed.items
+  pub scopes : AreScopes (length new.listed.items) new.scopes.items
+  pub within : scope < length new.scopes.items
+  pub lists : scope_at (lists_in new) scope
+      ≡ entries (map namespace_view old.namespaces.items.items) (drop own old.listed.items)
+      ++ others (entries (map namespace_view old.namespaces.items.items) (drop own old.listed.items)) xml (scope_at (lists_in old) above)
+  pub once : PrefixesOnce (scope_at (lists_in new) scope)
+  pub kept : HasBindings new
+  pub present : HasBindingsOf new scope
+
+-- The rows list some of `listed`, and `first` is at most its length.
+pub record IsTurnable (listed : List ℕ) (rows : List Scope) (first : ℕ) : Type 0 where
+  pub from : first ≤ length listed
+  pub scopes : AreScopes (length listed) rows
+
+-- What is listed from `first` on is listed once more, in reverse order. The new row `scope` reads it in the original order.
+pub record AddsBack (listed : List ℕ) (scopes : List Scope) (after : List ℕ) (rows : List Scope) (first scope : ℕ) : Type 0 where
+  pub value : (namespaces : List NamespaceDecl) → IsListed namespaces listed scopes after rows scope (entries namespaces (drop first listed))
+  pub own : after ≡ listed ++ reverse (drop first listed)
+
+-- A tag is read whose parent lists few, and the rows list some of `listed`.
+pub record IsBelowRows (table : List Namespace) (listed : List ℕ) (rows : List Scope) (keys : List (Option (Bor (List ℕ)))) (above : Stretch) (from : ℕ) : Type 0 where
+  pub below : IsBelowFew table listed keys above.from above.until from
+  pub scopes : AreScopes (length listed) rows
+
+-- The scope at the index `i` lists each prefix once, and does not list `prefix` if that has no place.
+pub record MayHide (table : List Namespace) (listed : List ℕ) (scopes : List Scope) (present : PrefixBindings) (i : ℕ) (prefix : Option (List ℕ)) : Type 0 where
+  pub scope : IsScopeOf (length table) listed scopes i
+  pub once : PrefixesOnce (entries (map namespace_view table) (places_in listed scopes i))
+  pub absent : bound_place present prefix ≡ None → is_declared prefix (entries (map namespace_view table) (places_in listed scopes i)) ≡ false
+
+-- What the tag declares is listed once more, in reverse order. The new row lists it, and then what `above` lists except what the
+-- tag declares.
+pub record ListsBelowMany (namespaces : List NamespaceDecl) (listed : List ℕ) (scopes : List Scope) (after : List ℕ) (rows : List Scope) (above from : ℕ) (xml : Bool) (scope : ℕ) : Type 0 where
+  pub value : IsListed namespaces listed scopes after rows scope
+      (entries namespaces (drop from listed) ++ others (entries namespaces (drop from listed)) xml (entries namespaces (places_in listed scopes above)))
+  pub own : after ≡ listed ++ reverse (drop from listed)
+
+-- The scope `above` is the stretch `stretch` of few.
+pub record HasFewAbove (t : ElementTables) (keys : List (Option (Bor (List ℕ)))) (above own : ℕ) (stretch : Stretch) : Type 0 where
+  pub prefixes : HasTagPrefixes t keys above own
+  pub few : row.Few stretch ≡ slice_index_or t.scopes.items above (row.Few stretch)
+
+-- The namespaces that the scope at the index `i` lists.
+abbrev pub scope_in_tables : ElementTables → ℕ → List NamespaceDecl
+scope_in_tables t i = scope_at (lists_in t) i

@@ -1,0 +1,62 @@
+//! What a reader asks of a namespace (Namespaces in XML 1.0, section 3).
+
+ghost use Rattle.std.specs.Prelude.{◌≡◌, true, bytes_eq};
+ghost use Rattle.std.specs.Option.{option_map, option_eq};
+ghost use Rattle.rox_scopes.specs.Tables.{namespace_view, has_borrowed_uri};
+
+use crate::tables::Namespace;
+use std::alloc::AllocError;
+
+impl<'input> Namespace<'input> {
+    /// Returns its prefix, or `None` for the default namespace.
+    #[inline]
+    pub fn name(&self) -> Option<&'input str>
+        ensures { option_map (λ s. s.now) result ≡ (namespace_view self.now).prefix }
+    {
+        self.name
+    }
+
+    /// Returns the URI that its prefix stands for; for the default namespace, the URI of names without a prefix.
+    #[inline]
+    pub fn uri(&self) -> &str
+        ensures { result.now ≡ (namespace_view self.now).uri }
+    {
+        self.uri.as_str()
+    }
+}
+
+/// Copies the namespace. The copy takes no memory if the URI is a slice of the input.
+impl<'input> Clone for Namespace<'input> {
+    ghost is_clone = { λ n copy. namespace_view copy ≡ namespace_view n };
+
+    ghost is_infallible = { λ n. has_borrowed_uri n ≡ true };
+
+    fn clone(&self) -> Result<Namespace<'input>, AllocError> {
+        let uri = self.uri.clone()?;
+        Ok(Namespace {
+            name: self.name,
+            uri,
+        })
+    }
+}
+
+impl PartialEq for Namespace<'_> {
+    ghost use Rattle.std.specs.Ordering.{on, eq_of_both};
+    ghost use Rattle.std.specs.Cmp.{partial_equiv_from_equiv, and_equiv, on_equiv};
+    ghost use Rattle.std.specs.Cmp.Lexicographic.{options_equiv, nat_list_eq_equiv};
+
+    ghost eq = { eq_of_both (on (λ n. (namespace_view n).prefix) (option_eq bytes_eq)) (on (λ n. (namespace_view n).uri) bytes_eq) };
+
+    ghost laws = { partial_equiv_from_equiv (and_equiv (on_equiv (λ n. (namespace_view n).prefix) (options_equiv nat_list_eq_equiv)) (on_equiv (λ n. (namespace_view n).uri) nat_list_eq_equiv)) };
+
+    fn eq(&self, other: &Self) -> bool {
+        self.name() == other.name() && self.uri() == other.uri()
+    }
+}
+
+impl Eq for Namespace<'_> {
+    ghost use Rattle.std.proofs.Common.{rules};
+    ghost use Rattle.std.specs.Cmp.Rules.{comparing};
+
+    ghost laws = { Prim.search (comparing, rules) };
+}

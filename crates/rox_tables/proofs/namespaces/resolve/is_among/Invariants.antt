@@ -1,9 +1,0 @@
-use Rattle.std.proofs.Common.{◌≡◌, false, map, take}
-use Rattle.std.specs.List.{list_any}
-use Rattle.rox_tables.specs.Rows.{namespace_view}
-use Rattle.rox_tables.specs.StoredAttributes.{data_of}
-use Rattle.rox_tables.specs.ResolvedNames.{has_expanded}
-use Rattle.rox_tables.proofs.namespaces.resolve.is_among.Given as goal
-
-abbrev pub invariant-loop-attribute : goal.invariant-loop-attribute
-invariant-loop-attribute l = list_any (λ a. has_expanded (map namespace_view l.namespaces) l.namespace l.local (data_of a)) (take l.attribute-index l.done) ≡ false

@@ -1,4 +1,0 @@
-use Rattle.rox_tables.proofs.namespaces.rope.+position_at.Given as goal
-
-abbrev pub decreases-position_at : goal.decreases-position_at
-decreases-position_at l = l.scope

@@ -1,8 +1,0 @@
-use Rattle.std.proofs.Common.{◌≡◌, None, map, take}
-use Rattle.rox_grammar.specs.Tree.{uri_of}
-use Rattle.rox_tables.specs.Rows.{namespace_view}
-use Rattle.rox_tables.specs.Scopes.{prefix_view, entries, places_in}
-use Rattle.rox_tables.proofs.namespaces.rope.index_of.Given as goal
-
-abbrev pub invariant-loop-index : goal.invariant-loop-index
-invariant-loop-index l = uri_of (entries (map namespace_view l.namespaces) (take l.index (places_in l.listed l.scopes l.scope))) (prefix_view l.prefix) ≡ None

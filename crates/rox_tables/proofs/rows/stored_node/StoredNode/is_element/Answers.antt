@@ -1,5 +1,0 @@
-use Rattle.rox_tables.proofs.StoredNodes.{other_element}
-use Rattle.rox_tables.proofs.rows.stored_node.StoredNode.is_element.Goals as goal
-
-pub returns-in_default : goal.returns-in_default
-returns-in_default c = λ pis. other_element pis c.args.self.now.kind c.in_default.not-Element

@@ -1,5 +1,0 @@
-use Rattle.rox_tables.proofs.StoredNodes.{other_text}
-use Rattle.rox_tables.proofs.rows.stored_node.StoredNode.is_text.Goals as goal
-
-pub returns-in_default : goal.returns-in_default
-returns-in_default c = λ pis. other_text pis c.args.self.now.kind c.in_default.not-Text

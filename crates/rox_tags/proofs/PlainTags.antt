@@ -1,0 +1,533 @@
+-- Start tags that are read at one look.
+use Rattle.std.proofs.Common.{◌≡◌, ◌≢◌, inl, inr, ℕ, suc, ◌+◌, ◌-◌, ◌<◌, ◌≤◌, ◌||◌, ◌==◌, Bool, true, false, List, [], ◌∷◌, ◌++◌, Option, length, map, drop, slice_index, slice_range, refl, sym, ap, subst, ◌∙◌, arith, Ok, append_assoc, bytes_eq}
+use Rattle.std.specs.List.{AllByRecursion}
+use Rattle.std.proofs.lemmas.Bool.{lt-leb, eqb-true, ne_eqb, cases_lt}
+use Rattle.std.proofs.lemmas.List.{append-nil, map-append, length-map}
+use Rattle.std.proofs.Common.{Some, None}
+use Rattle.std.specs.Option.{IfSome}
+use Rattle.rox_scopes.specs.declared.tables.Namespace.{Namespace}
+use Rattle.rox_tags.specs.declared.quick_tag.TagEnd.{TagEnd}
+use Rattle.std.proofs.Common.{length-append}
+use Rattle.std.specs.Option.{option_map, is_some}
+use Rattle.rox_grammar.specs.WellNamed.{may_name}
+use Rattle.rox_scopes.proofs.Pairs.{declared_some}
+use Rattle.rox_grammar.specs.Tree.{listed, element_namespace}
+use Rattle.rox_grammar.specs.Document.{most_attributes}
+use Rattle.rox_rows.specs.Rows.{numbered_place, scope_at, namespace_at, OptionWithin, attribute_rows}
+use Rattle.rox_scopes.specs.Scopes.{ArePlaces, PrefixesOnce, entries, places_in}
+use Rattle.rox_scopes.specs.TagScopes.{lists_in}
+use Rattle.rox_rows.specs.UsualPlaces.{usual_places}
+use Rattle.rox_rows.specs.declared.row.ElementData.{ElementData}
+use Rattle.rox_scopes.specs.declared.tables.ElementTables.{ElementTables}
+use Rattle.rox_scopes.specs.declared.tables.Scope.{Scope}
+use Rattle.rox_scopes.proofs.Listing.{listed-none}
+use Rattle.rox_scopes.proofs.Presenting.{finds_few}
+use Rattle.rox_scopes.proofs.Ropes.{scope_places, all_places}
+use Rattle.rox_tags.specs.ElementRow.{IsElement}
+use Rattle.std.proofs.Math.Seq.{drop-append_seam}
+use Rattle.rox_rows.specs.declared.row.AttributeNamespace.{AttributeNamespace}
+use Rattle.rox_grammar.specs.Tree as tree
+use Rattle.rox_grammar.specs.Tree.{attribute_in}
+use Rattle.rox_grammar.specs.Failures.{name_view}
+use Rattle.rox_grammar.specs.Content.{is_verbatim_value}
+use Rattle.rox_grammar.specs.declared.fault.Fault.{Fault}
+use Rattle.rox_grammar.specs.Entities.{Entity}
+use Rattle.rox_grammar.specs.Names.{spaces_end}
+use Rattle.rox_grammar.specs.Written.{Name, Attribute, NamespaceDecl, is_namespace_decl}
+use Rattle.rox_reading.specs.Lexical.{qname_at, quote_at}
+use Rattle.rox_reading.specs.Markup.{RawAttribute, TagItem, more, opened, closed, attribute_at, raw_value_at, tag_item_at, end_tag_at}
+use Rattle.rox_reading.specs.Values.{ValueInclusion, is_special, value_at}
+use Rattle.rox_reading.specs.Tags.{Values, attributes_at, names_tested, attribute_with}
+use Rattle.rox_scopes.specs.Bindings.{FindsBinding}
+use Rattle.rox_rows.specs.Rows.{AttributeRow, NamespaceWithin, attribute}
+use Rattle.rox_scopes.specs.Tables.{namespace_view}
+use Rattle.rox_rows.specs.Storage.{storage_bytes, is_borrowed}
+use Rattle.rox_names.specs.TagDeclarations.{unresolved_view}
+use Rattle.rox_names.specs.ResolvedNames.{AddsResolved, row_of_unresolved}
+use Rattle.rox_scopes.specs.declared.bindings.PrefixBindings.{PrefixBindings}
+use Rattle.rox_names.specs.declared.unresolved_attribute.UnresolvedAttribute.{UnresolvedAttribute}
+use Rattle.rox_rows.proofs.Stable.{all_append}
+use Rattle.rox_tags.specs.PlainParts.{IsAttributeNamespace, IsLocalPart}
+use Rattle.rox_tags.specs.PlainTag.{EndsVerbatim, HasPlainValue, HasScope, IsQuoteBehindEquals, few_in, IsValueStart, IsPlainAttribute, AddsPlain, PlainSoFar, ArePlainAttributes, EndsNear, holding}
+use Rattle.std.specs.Str.{IsUtf8, IsCharBoundary}
+use Rattle.std.proofs.lemmas.Bool.Decides.{nat_tests}
+use Rattle.std.proofs.lemmas.Str.{IsCharBoundary-after_ascii}
+use Rattle.rox_grammar.specs.Chars.{is_space, is_name_start, is_name_char, is_part_char}
+use Rattle.rox_bytes.specs.ByteSets.{AllPass, EndsSet, is_part_byte, is_value_byte}
+use Rattle.std.proofs.lemmas.Bool.{cases_eq}
+use Rattle.rox_scan.specs.Lookahead.{ends_value}
+use Rattle.rox_scan.proofs.LongerLemmas.{looked_on, looked_value, value_near}
+use Rattle.rox_bytes.proofs.NearLemmas.{near_plain, short_value, value_cut, part_cut, part_stops, part_ascii}
+use Rattle.rox_bytes.proofs.NearLemmas.{part_begins as letter_begins}
+use Rattle.rox_bytes.proofs.TableLemmas.{agree_below, agree_at}
+use Rattle.std.proofs.Common.{not, ◌&&◌, nat_lt}
+use Rattle.rox_grammar.specs.Runs.{begins, run_end}
+use Rattle.rox_bytes.proofs.RunLemmas.{begins_ascii, run_stops_ascii, space_on, space_stops, space_cut, stands_within}
+use Rattle.rox_names.proofs.Resolving.{nothing_left, row_shown}
+use Rattle.rox_scan.proofs.PairLemmas.{byte_is}
+
+quote_is : (src : List ℕ) (i q : ℕ) → slice_index src i ≡ q → i < length src → (q == 39 || q == 34) ≡ true → quote_at src i ≡ Ok (q, i + 1)
+unfolding quote_at
+quote_is src i q is within quote =
+    let k = lt-leb (length src) i within in
+    let e : (slice_index src i == 39 || slice_index src i == 34) ≡ true = ap (λ (n : ℕ). n == 39 || n == 34) is ∙ quote in
+    rw (k, e) (ap (λ (n : ℕ). Ok (n, i + 1)) is)
+
+-- an attribute, piece by piece
+pub attribute_is : (src : List ℕ) (i : ℕ) (name : Name) (n e b q j : ℕ) → qname_at src i ≡ Ok (name, n) → e ≡ spaces_end src n → slice_index src e ≡ 61 → b ≡ spaces_end src (e + 1)
+    → slice_index src b ≡ q → b < length src → (q == 39 || q == 34) ≡ true → 0 < q → raw_value_at q src (b + 1) ≡ Ok (slice_range src (b + 1) j, j) → slice_index src j ≡ q
+    → attribute_at src i ≡ Ok (record { start = i; name = name; name_end = n; value_start = b + 1; value_end = j }, j + 1)
+unfolding attribute_at
+attribute_is src i name n e b q j named equals is before here within quote some value behind =
+    rw (named, ← equals, byte_is src e 61 is (omega arith), ← before, quote_is src b q here within quote, value, byte_is src j q behind some) refl
+
+-- ---- where a value begins
+
+pub quote_ascii : (b : ℕ) → (b == 39 || b == 34) ≡ true → b < 128
+quote_ascii b h = grind (arith, nat_tests)
+
+past_space : (b : ℕ) → 32 < b → is_space b ≡ false
+past_space b h = grind (arith, nat_tests)
+
+-- no white space
+pub no_space : (src : List ℕ) (i : ℕ) → IsUtf8 src → IsCharBoundary src i → i < length src → 32 < slice_index src i → i ≡ spaces_end src i
+no_space src i utf8 cut within here = sym (space_stops src i utf8 cut within (past_space (slice_index src i) here))
+
+-- white space that is one space
+pub one_space : (src : List ℕ) (i : ℕ) → IsUtf8 src → i + 1 < length src → slice_index src i ≡ 32 → 32 < slice_index src (i + 1) → i + 1 ≡ spaces_end src i
+one_space src i utf8 within here behind =
+    let on = space_on src i utf8 (omega arith) (ap is_space here) in
+    let cut = space_cut src i utf8 (omega arith) (ap is_space here) in
+    sym (space_stops src (i + 1) utf8 cut within (past_space (slice_index src (i + 1)) behind)) ∙ on
+
+quote_is_no_space : (b : ℕ) → (b == 39 || b == 34) ≡ true → is_space b ≡ false
+quote_is_no_space b h = grind (arith, nat_tests)
+
+-- behind a quote
+pub behind_quote : (src : List ℕ) (n q : ℕ) → IsUtf8 src → n + 1 < length src → slice_index src (n + 1) ≡ q → (q == 39 || q == 34) ≡ true → IsCharBoundary src (n + 2)
+behind_quote src n q utf8 within here quote =
+    let ascii = quote_ascii q quote in
+    let place : n + 1 + 1 ≡ n + 2 = omega arith in
+    subst (IsCharBoundary src) place (IsCharBoundary-after_ascii src (n + 1) utf8 within (omega (arith, here, ascii)))
+
+-- a value up to a quote each byte of which stands for itself
+pub value_closed : (src : List ℕ) (i e q : ℕ) → IsUtf8 src → IsCharBoundary src i → (q == 39 || q == 34) ≡ true → i ≤ e → e ≤ length src → AllPass is_value_byte src i e
+    → (slice_index src e == q) ≡ true → HasPlainValue src i q e (slice_range src i e)
+value_closed src i e q utf8 cut quote onward within passes here =
+    let end = value_cut src i e utf8 cut onward within passes in
+    record {
+      read = short_value src i e q utf8 cut quote onward end passes here;
+      verbatim = near_plain src i e onward within passes;
+      here = eqb-true _ _ here;
+      onward = onward;
+      cut = end;
+      is = refl;
+    }
+
+-- the same of one that goes on behind them
+pub value_went_on : (src : List ℕ) (i n j q : ℕ) → IsUtf8 src → IsCharBoundary src i → (q == 39 || q == 34) ≡ true → i ≤ n → n ≤ length src → AllPass is_value_byte src i n
+    → EndsVerbatim src n q j → HasPlainValue src i q j (slice_range src i j)
+value_went_on src i n j q utf8 cut quote onward within passes ends =
+    let near = value_near src q i n utf8 quote cut onward within passes in
+    let look = looked_on is_special (ends_value q src) src i n j true true utf8 cut near ends.looked in
+    record {
+      read = looked_value src q i j true quote look ends.here;
+      verbatim = sym look.verbatim_is;
+      here = eqb-true _ _ ends.here;
+      onward = look.onward;
+      cut = look.cut;
+      is = refl;
+    }
+
+-- right behind the name
+pub value_starts : (src : List ℕ) (i : ℕ) → IsUtf8 src → i + 1 < length src → slice_index src i ≡ 61 → (slice_index src (i + 1) == 39 || slice_index src (i + 1) == 34) ≡ true
+    → IsValueStart src i (i + 2)
+value_starts src i utf8 within is quote =
+    let ascii = quote_ascii (slice_index src (i + 1)) quote in
+    let place : i + 1 + 1 ≡ i + 2 = omega arith in
+    record {
+      equals = i;
+      before = i + 1;
+      spaces = sym (run_stops_ascii is_space src i utf8 (omega arith) (omega (arith, is)) (ap is_space is));
+      is = is;
+      spaces_behind = sym (run_stops_ascii is_space src (i + 1) utf8 within ascii (quote_is_no_space (slice_index src (i + 1)) quote));
+      quote = quote;
+      start = omega arith;
+      within = within;
+      onward = omega arith;
+      cut = subst (IsCharBoundary src) place (IsCharBoundary-after_ascii src (i + 1) utf8 within ascii);
+    }
+
+-- an attribute whose value begins so
+pub attribute_reads : (src : List ℕ) (i : ℕ) (name : Name) (n s q j e : ℕ) → qname_at src i ≡ Ok (name, n) → (v : IsValueStart src n s) → slice_index src (s - 1) ≡ q → (q == 39 || q == 34) ≡ true → 0 < q
+    → raw_value_at q src s ≡ Ok (slice_range src s j, j) → slice_index src j ≡ q → e ≡ j + 1
+    → attribute_at src i ≡ Ok (record { start = i; name = name; name_end = n; value_start = s; value_end = j }, e)
+attribute_reads src i name n s q j e named v here quote some value behind done =
+    let place : s - 1 ≡ v.before = omega (arith, v.start) in
+    let quoted = subst (λ (k : ℕ). slice_index src k ≡ q) place here in
+    let read = subst (λ (k : ℕ). raw_value_at q src k ≡ Ok (slice_range src k j, j)) v.start value in
+    rw (v.start, done) (attribute_is src i name n v.equals v.before q j named v.spaces v.is v.spaces_behind quoted v.within quote some read behind)
+
+-- where one stands that is written as most are
+pub usual_are : (start before local value n s e : ℕ) → n ≡ start + before + local → s ≡ n + 2 → e ≡ s + value + 1
+    → usual_places start before local value ≡ record { start = start; name_end = n; value_start = s; end = e }
+usual_are start before local value n s e name from end = rw (end, from, name) refl
+
+-- ---- what a tag holds next
+
+pub item_opened : (src : List ℕ) (i j : ℕ) → j ≡ spaces_end src i → slice_index src j ≡ 62 → tag_item_at src i ≡ Ok (opened, j + 1)
+unfolding tag_item_at
+item_opened src i j spaces here =
+    let k = lt-leb (length src) j (stands_within src j 62 here (omega arith)) in
+    rw (← spaces, k, here) refl
+
+pub item_closed : (src : List ℕ) (i j : ℕ) → j ≡ spaces_end src i → slice_index src j ≡ 47 → slice_index src (j + 1) ≡ 62 → tag_item_at src i ≡ Ok (closed, j + 2)
+unfolding tag_item_at
+item_closed src i j spaces here behind =
+    let k = lt-leb (length src) j (stands_within src j 47 here (omega arith)) in
+    let e : j + 1 + 1 ≡ j + 2 = omega arith in
+    rw (← spaces, k, here, byte_is src (j + 1) 62 behind (omega arith), e) refl
+
+pub item_more : (src : List ℕ) (i j e : ℕ) (raw : RawAttribute) → j ≡ spaces_end src i → (j ≡ i → ⊥) → (slice_index src j == 47) ≡ false → (slice_index src j == 62) ≡ false → j < length src
+    → attribute_at src j ≡ Ok (raw, e) → tag_item_at src i ≡ Ok (more raw, e)
+unfolding tag_item_at
+item_more src i j e raw spaces some slash close within is =
+    let k = lt-leb (length src) j within in
+    let n = ne_eqb j i some in
+    rw (← spaces, k, slash, close, n, is) refl
+
+-- whether a tag that ends so is empty
+abbrev IsEnd : TagItem → Bool → Type 0
+IsEnd (more raw) empty = ⊥
+IsEnd opened empty = empty ≡ false
+IsEnd closed empty = empty ≡ true
+
+-- ---- one attribute after another
+
+pub plain_starts : (namespaces : List NamespaceDecl) (few : Option (List ℕ)) (present : PrefixBindings) (src : List ℕ) (start : ℕ) (old : List AttributeRow) → PlainSoFar namespaces few present src start old start old
+plain_starts namespaces few present src start old = record {
+  written = [];
+  more = [];
+  rows = sym (append-nil old);
+  within = tt;
+  shown = λ scope h. refl;
+  tested = λ scope rest h. refl;
+  turns = length src;
+  enough = omega arith;
+  read = λ context cut known openings_left. refl;
+}
+
+-- a value is read as it stands
+pub value_is : (main : Bool) (es : List Entity) (opener : ValueInclusion) (src : List ℕ) (i j openings_left : ℕ) → is_verbatim_value (slice_range src i j) ≡ true
+    → value_at main es opener src i j openings_left ≡ Ok (record { value = slice_range src i j; borrowed = true }, openings_left)
+unfolding value_at
+value_is main es opener src i j openings_left plain = rw plain refl
+
+-- one turn
+turn_is : (src : List ℕ) (i j n : ℕ) (a : UnresolvedAttribute) (written : List Attribute) (context : Values) (cut : Fault) (known : List NamespaceDecl) (openings_left : ℕ) (h : IsPlainAttribute src j a)
+    → i < length src → tag_item_at src i ≡ Ok (more (record { start = j; name = name_view a.name; name_end = a.name_end; value_start = a.value_start; value_end = h.value_end }), a.end)
+    → is_namespace_decl (name_view a.name) ≡ false
+    → attributes_at (suc n) context cut known src i openings_left (holding written) ≡ attributes_at n context cut known src a.end openings_left (holding (written ++ unresolved_view a ∷ []))
+unfolding attributes_at
+turn_is src i j n a written context cut known openings_left h within item other =
+    let k = lt-leb (length src) i within in
+    let v = h.value context.main context.entities context.opener openings_left in
+    let view : attribute_with (record { start = j; name = name_view a.name; name_end = a.name_end; value_start = a.value_start; value_end = h.value_end }) (record { value = storage_bytes a.value; borrowed = is_borrowed a.value }) ≡ unresolved_view a =
+    rw (h.start, h.end) refl in
+    rw (k, item, v, other) (ap (λ (x : Attribute). attributes_at n context cut known src a.end openings_left (holding (written ++ x ∷ []))) view)
+
+pub plain_more : (namespaces : List NamespaceDecl) (few : Option (List ℕ)) (present : PrefixBindings) (src : List ℕ) (start : ℕ) (old : List AttributeRow) (i j : ℕ) (now next : List AttributeRow) (a : UnresolvedAttribute)
+    → PlainSoFar namespaces few present src start old i now → i ≤ j → j ≡ spaces_end src i → (j ≡ i → ⊥) → (slice_index src j == 47) ≡ false → (slice_index src j == 62) ≡ false
+    → IsPlainAttribute src j a → is_namespace_decl (name_view a.name) ≡ false → AddsResolved namespaces few present (length old) now next a
+    → PlainSoFar namespaces few present src start old a.end next
+plain_more namespaces few present src start old i j now next a g onward spaces some slash close plain other r =
+    let row = row_of_unresolved a r.namespace in
+    let view = unresolved_view a in
+    let on = plain.onward in
+    let fits = plain.cut.0 in
+    let within : j < length src = omega arith in
+    let here : i < length src = omega arith in
+    let enough = g.enough in
+    let n = g.turns - 1 in
+    let one : g.turns ≡ suc n = omega arith in
+    let behind : drop (length old) now ≡ g.more = ap (drop (length old)) g.rows ∙ drop-append_seam old g.more in
+    let item = item_more src i j a.end _ spaces some slash close within plain.read in
+    record {
+      written = g.written ++ view ∷ [];
+      more = g.more ++ row ∷ [];
+      rows = r.rows ∙ ap (λ xs. xs ++ row ∷ []) g.rows ∙ append_assoc old g.more (row ∷ []);
+      within = all_append (λ a. NamespaceWithin (length namespaces) a.0.namespace) g.more (row ∷ []) g.within (r.within, tt);
+      shown = λ scope h. map-append (attribute namespaces) g.more (row ∷ []) ∙ ap (λ xs. xs ++ attribute namespaces row ∷ []) (g.shown scope h)
+          ∙ ap (λ (x : tree.Attribute). map (attribute_in scope) g.written ++ x ∷ []) (row_shown namespaces scope a r.namespace (r.there scope h))
+          ∙ sym (map-append (attribute_in scope) g.written (view ∷ []));
+      tested = λ scope rest h. ap (names_tested scope []) (append_assoc g.written (view ∷ []) rest) ∙ g.tested scope (view ∷ rest) h
+          ∙ r.tested scope g.written rest h (ap (map (attribute namespaces)) behind ∙ g.shown scope h);
+      turns = n;
+      enough = omega arith;
+      read = λ context cut known openings_left. g.read context cut known openings_left ∙ ap (λ (m : ℕ). attributes_at m context cut known src i openings_left (holding g.written)) one
+          ∙ turn_is src i j n a g.written context cut known openings_left plain here item other;
+    }
+
+end_is : (src : List ℕ) (i n j : ℕ) (item : TagItem) (empty : Bool) (written : List Attribute) (context : Values) (cut : Fault) (known : List NamespaceDecl) (openings_left : ℕ) → i < length src → tag_item_at src i ≡ Ok (item, j)
+    → IsEnd item empty → attributes_at (suc n) context cut known src i openings_left (holding written) ≡ Ok (record { held = holding written; empty = empty; openings_left = openings_left }, j)
+unfolding attributes_at
+end_is src i n j (more raw) empty written context cut known openings_left within is h = absurd h
+end_is src i n j opened empty written context cut known openings_left within is h = let k = lt-leb (length src) i within in rw (k, is, h) refl
+end_is src i n j closed empty written context cut known openings_left within is h = let k = lt-leb (length src) i within in rw (k, is, h) refl
+
+pub plain_ends : (namespaces : List NamespaceDecl) (few : Option (List ℕ)) (present : PrefixBindings) (src : List ℕ) (start : ℕ) (old : List AttributeRow) (i j : ℕ) (now : List AttributeRow) (item : TagItem) (empty : Bool)
+    → PlainSoFar namespaces few present src start old i now → i < length src → tag_item_at src i ≡ Ok (item, j) → IsEnd item empty → ArePlainAttributes namespaces few present src start old j empty now
+plain_ends namespaces few present src start old i j now item empty g within is h =
+    let enough = g.enough in
+    let n = g.turns - 1 in
+    let one : g.turns ≡ suc n = omega arith in
+    record {
+      written = g.written;
+      more = g.more;
+      rows = g.rows;
+      within = g.within;
+      shown = g.shown;
+      tested = λ scope k. ap (names_tested scope []) (sym (append-nil g.written)) ∙ g.tested scope [] k ∙ nothing_left scope g.written;
+      read = λ context cut known openings_left. g.read context cut known openings_left ∙ ap (λ (m : ℕ). attributes_at m context cut known src i openings_left (holding g.written)) one
+          ∙ end_is src i n j item empty g.written context cut known openings_left within is h;
+    }
+
+-- of an empty tag, and of one that opens
+pub opens_there : (namespaces : List NamespaceDecl) (few : Option (List ℕ)) (present : PrefixBindings) (src : List ℕ) (start : ℕ) (old : List AttributeRow) (i j : ℕ) (now : List AttributeRow)
+    → PlainSoFar namespaces few present src start old i now → i ≤ j → j ≡ spaces_end src i → slice_index src j ≡ 62 → ArePlainAttributes namespaces few present src start old (j + 1) false now
+opens_there namespaces few present src start old i j now g onward spaces here =
+    let within = stands_within src j 62 here (omega arith) in
+    plain_ends namespaces few present src start old i (j + 1) now opened false g (omega arith) (item_opened src i j spaces here) refl
+
+pub closes_there : (namespaces : List NamespaceDecl) (few : Option (List ℕ)) (present : PrefixBindings) (src : List ℕ) (start : ℕ) (old : List AttributeRow) (i j : ℕ) (now : List AttributeRow)
+    → PlainSoFar namespaces few present src start old i now → i ≤ j → j ≡ spaces_end src i → slice_index src j ≡ 47 → slice_index src (j + 1) ≡ 62
+    → ArePlainAttributes namespaces few present src start old (j + 2) true now
+closes_there namespaces few present src start old i j now g onward spaces here behind =
+    let within = stands_within src j 47 here (omega arith) in
+    plain_ends namespaces few present src start old i (j + 2) now closed true g (omega arith) (item_closed src i j spaces here behind) refl
+
+pub ends_or_not : (namespaces : List NamespaceDecl) (few : Option (List ℕ)) (present : PrefixBindings) (src : List ℕ) (start : ℕ) (old : List AttributeRow) (i j : ℕ) (now : List AttributeRow) (r : Option TagEnd)
+    → PlainSoFar namespaces few present src start old i now → i ≤ j → j ≡ spaces_end src i
+    → IfSome r (λ e. e.empty ≡ false → (slice_index src j ≡ 62) × (e.at ≡ j + 1))
+    → IfSome r (λ e. e.empty ≡ true → (slice_index src j ≡ 47) × ((slice_index src (j + 1) ≡ 62) × (e.at ≡ j + 2)))
+    → IfSome r (λ e. ArePlainAttributes namespaces few present src start old e.at e.empty now)
+ends_or_not namespaces few present src start old i j now None g onward spaces opens closes = tt
+ends_or_not namespaces few present src start old i j now (Some e) g onward spaces opens closes = which e.empty refl
+  where
+    which : (b : Bool) → e.empty ≡ b → ArePlainAttributes namespaces few present src start old e.at e.empty now
+    which false is = let o = opens is in rw (o.1, is) (opens_there namespaces few present src start old i j now g onward spaces o.0)
+    which true is = let c = closes is in rw (c.1.1, is) (closes_there namespaces few present src start old i j now g onward spaces c.0 c.1.0)
+
+-- a name begins with no other byte
+begins_apart : (src : List ℕ) (j b : ℕ) → IsUtf8 src → begins is_name_start src j ≡ true → 0 < b → b < 128 → is_name_start b ≡ false → (slice_index src j == b) ≡ false
+begins_apart src j b utf8 begins some ascii other =
+    ne_eqb (slice_index src j) b (λ is.
+    let within = stands_within src j b is some in
+    let here = begins_ascii is_name_start src j utf8 within (omega (arith, is)) in
+    cc (here, begins, is, other))
+
+-- so there the tag does not end
+pub begins_no_end : (src : List ℕ) (j : ℕ) → IsUtf8 src → begins is_name_start src j ≡ true → ((slice_index src j == 47) ≡ false) × ((slice_index src j == 62) ≡ false)
+unfolding is_name_start
+begins_no_end src j utf8 begins = (begins_apart src j 47 utf8 begins (omega arith) (omega arith) refl, begins_apart src j 62 utf8 begins (omega arith) (omega arith) refl)
+
+-- nor where a byte above both stands
+pub above_no_end : (b : ℕ) → 62 < b → ((b == 47) ≡ false) × ((b == 62) ≡ false)
+above_no_end b above = (ne_eqb b 47 (λ is. omega (arith, is, above)), ne_eqb b 62 (λ is. omega (arith, is, above)))
+
+-- a name begins with each byte of a part above `>`, which is held against the definitions by computing
+part_starts : (b : ℕ) → b < 128 → (not (is_part_byte b && nat_lt 62 b) || is_name_start b) ≡ true
+unfolding agree_below is_part_byte is_part_char is_name_char is_name_start
+part_starts b lt = agree_at (λ b. not (is_part_byte b && nat_lt 62 b) || is_name_start b) (λ b. true) 128 refl b lt
+
+starts_by : (b : ℕ) → (not (is_part_byte b && nat_lt 62 b) || is_name_start b) ≡ true → is_part_byte b ≡ true → 62 < b → is_name_start b ≡ true
+starts_by b agreed h above = grind (arith, nat_tests)
+
+pub part_begins : (src : List ℕ) (i : ℕ) → IsUtf8 src → i < length src → is_part_byte (slice_index src i) ≡ true → 62 < slice_index src i → begins is_name_start src i ≡ true
+part_begins src i utf8 within part above =
+    let b = slice_index src i in
+    let ascii = part_ascii b part in
+    begins_ascii is_name_start src i utf8 within ascii ∙ starts_by b (part_starts b ascii) part above
+
+-- a part of a name that ends at another byte, up to `>`
+pub ascii_begins : (src : List ℕ) (i e : ℕ) → IsUtf8 src → EndsSet is_part_byte src i e → 62 < slice_index src i → slice_index src e ≤ 62 → begins is_name_start src i ≡ true
+ascii_begins src i e utf8 near above end = elim (cases_eq e i) [
+  | inl none ↦ let at = ap (slice_index src) none in absurd (omega (arith, at, above, end))
+  | inr some ↦ part_begins src i utf8 (omega (arith, near.onward, near.within, some)) (near.passes i (omega arith) (omega (arith, near.onward, some))) above
+]
+
+-- each byte of a part of a name stands for itself in a value, which is held against the definitions by computing
+part_is_plain : (b : ℕ) → b < 128 → (not (is_part_byte b) || is_value_byte b) ≡ true
+unfolding agree_below is_part_byte is_part_char is_name_char is_name_start is_value_byte
+part_is_plain b lt = agree_at (λ b. not (is_part_byte b) || is_value_byte b) (λ b. true) 128 refl b lt
+
+plain_by : (b : ℕ) → (not (is_part_byte b) || is_value_byte b) ≡ true → is_part_byte b ≡ true → is_value_byte b ≡ true
+plain_by b agreed h = grind (arith, nat_tests)
+
+no_quote_is_plain : (q : ℕ) → (q == 39 || q == 34) ≡ true → is_value_byte q ≡ false
+unfolding is_value_byte
+no_quote_is_plain q h = grind (arith, nat_tests)
+
+equals_is_plain : is_value_byte 61 ≡ true
+unfolding is_value_byte
+equals_is_plain = refl
+
+-- so the first that does not is the quote behind the name and its `=`
+pub quote_first : (src : List ℕ) (i j q : ℕ) → EndsSet is_part_byte src i j → IsQuoteBehindEquals src j q → EndsSet is_value_byte src i (j + 1)
+quote_first src i j q name behind =
+    let onward = name.onward in
+    record {
+      onward = omega (arith, onward);
+      within = omega (arith, behind.within);
+      passes = λ k low high. elim (cases_lt k j) [
+        | inl inside ↦ let part = name.passes k low inside in plain_by _ (part_is_plain _ (part_ascii _ part)) part
+        | inr last ↦ let same : k ≡ j = omega arith in ap is_value_byte (ap (slice_index src) same ∙ behind.equals) ∙ equals_is_plain
+      ];
+      stops = λ more. ap is_value_byte behind.here ∙ no_quote_is_plain q behind.quote;
+    }
+
+-- the attributes of the tag so far are in their namespaces
+pub done_within : (ns : List Namespace) (few : Option (List ℕ)) (present : PrefixBindings) (src : List ℕ) (start from : ℕ) (old : List AttributeRow) (i : ℕ) (now : List AttributeRow)
+    → PlainSoFar (map namespace_view ns) few present src start old i now → from ≡ length old → AllByRecursion (λ (a : AttributeRow). NamespaceWithin (length ns) a.0.namespace) (drop from now)
+done_within ns few present src start from old i now g at =
+    let behind : drop from now ≡ g.more = ap (λ (n : ℕ). drop n now) at ∙ ap (drop (length old)) g.rows ∙ drop-append_seam old g.more in
+    rw behind (subst (λ (n : ℕ). AllByRecursion (λ (a : AttributeRow). NamespaceWithin n a.0.namespace) g.more) (length-map ns namespace_view) g.within)
+
+-- ---- the scope of the tag is that of its parent, which lists few
+
+pub few_within : (t : ElementTables) (ns : List Namespace) (scopes : List Scope) (listed ps : List ℕ) (scope : ℕ) → ns ≡ t.namespaces.items.items → scopes ≡ t.scopes.items → listed ≡ t.listed.items
+    → ArePlaces (length t.namespaces.items.items) t.listed.items → ps ≡ places_in listed scopes scope → ArePlaces (length ns) ps
+few_within t ns scopes listed ps scope n s l all few = rw (few, s, l, n) (all_places (length t.namespaces.items.items) t.listed.items t.scopes.items scope all)
+
+-- each prefix is among them once
+pub few_once : (t : ElementTables) (ns : List Namespace) (scopes : List Scope) (listed ps : List ℕ) (scope : ℕ) → ns ≡ t.namespaces.items.items → scopes ≡ t.scopes.items → listed ≡ t.listed.items
+    → PrefixesOnce (scope_at (lists_in t) scope) → ps ≡ places_in listed scopes scope → PrefixesOnce (entries (map namespace_view ns) ps)
+few_once t ns scopes listed ps scope n s l once few =
+    rw (few, s, l, n) (subst PrefixesOnce (scope_places (map namespace_view t.namespaces.items.items) t.listed.items t.scopes.items scope) once)
+
+pub few_found : (t : ElementTables) (ns : List Namespace) (scopes : List Scope) (listed ps : List ℕ) (scope : ℕ) → ns ≡ t.namespaces.items.items → scopes ≡ t.scopes.items → listed ≡ t.listed.items
+    → ps ≡ places_in listed scopes scope → FindsBinding (map namespace_view ns) (Some ps) t.present (scope_at (lists_in t) scope)
+few_found t ns scopes listed ps scope n s l few =
+    let namespaces = map namespace_view t.namespaces.items.items in
+    rw n (finds_few namespaces ps t.present (scope_at (lists_in t) scope) (scope_places namespaces t.listed.items t.scopes.items scope ∙ ap (entries namespaces) (sym (rw (s, l) at few))))
+
+-- the places that were found are those of the scope
+pub few_is : (t : ElementTables) (scopes : List Scope) (listed ps : List ℕ) (scope : ℕ) → scopes ≡ t.scopes.items → listed ≡ t.listed.items → ps ≡ places_in listed scopes scope
+    → ps ≡ places_in t.listed.items t.scopes.items scope
+few_is t scopes listed ps scope s l few = rw (s, l) at few
+
+pub scope_found : (t : ElementTables) (scope : ℕ) → FindsBinding (map namespace_view t.namespaces.items.items) (few_in t scope) t.present (scope_at (lists_in t) scope)
+scope_found t scope = few_found t t.namespaces.items.items t.scopes.items t.listed.items (places_in t.listed.items t.scopes.items scope) scope refl refl refl refl
+
+-- where the attributes alone have changed, the scope is there, and attributes are added in it
+pub scope_stays : (old now : ElementTables) (scope : ℕ) → now ≡ record old { attributes = now.attributes } → HasScope old scope → HasScope now scope
+scope_stays old now scope is h = subst (λ (t : ElementTables). HasScope t scope) (sym is) (record { places = h.places; scopes = h.scopes; within = h.within; once = h.once })
+
+pub adds_there : (old now : ElementTables) (scope from : ℕ) (src : List ℕ) (i j : ℕ) (before after : List AttributeRow) → now ≡ record old { attributes = now.attributes }
+    → AddsPlain (map namespace_view now.namespaces.items.items) (few_in now scope) now.present from src i j before after
+    → AddsPlain (map namespace_view old.namespaces.items.items) (few_in old scope) old.present from src i j before after
+adds_there old now scope from src i j before after is x =
+    subst (λ (t : ElementTables). AddsPlain (map namespace_view t.namespaces.items.items) (few_in t scope) t.present from src i j before after) is x
+
+pub others_stay : (old now new : ElementTables) → now ≡ record old { attributes = now.attributes } → new ≡ record now { attributes = new.attributes } → new ≡ record old { attributes = new.attributes }
+others_stay old now new one other = other ∙ ap (λ (t : ElementTables). record t { attributes = new.attributes }) one
+
+-- a name with a namespace, or without a prefix, is one that an element may have
+pub named_known : (scope : List NamespaceDecl) (n : Name) (u : List ℕ) → element_namespace scope n ≡ Some u → may_name scope n ≡ true
+named_known scope n u h = which n.prefix refl
+  where
+    or_true : (a : Bool) → (a || true) ≡ true
+    or_true true = refl
+    or_true false = refl
+
+    which : (p : List ℕ) → n.prefix ≡ p → may_name scope n ≡ true
+    which [] is = rw is refl
+    which (b ∷ bs) is = rw is (rw (declared_some scope (Some (b ∷ bs)) u (rw is at h)) (or_true (bytes_eq (b ∷ bs) [])))
+
+pub named_by : (namespaces scope : List NamespaceDecl) (n : Name) (o : Option ℕ) → is_some o ≡ true → option_map (λ i. (namespace_at namespaces i).uri) o ≡ element_namespace scope n → may_name scope n ≡ true
+named_by namespaces scope n None some is = cc some
+named_by namespaces scope n (Some i) some is = named_known scope n _ (sym is)
+
+pub numbered_some : (number : ℕ) → number ≢ 0 → is_some (numbered_place number) ≡ true
+numbered_some Prim.Native.Nat.zero some = absurd (some refl)
+numbered_some (Prim.Native.Nat.suc i) some = refl
+
+-- a name without prefix has no namespace in any scope
+pub bare_namespace : (t : ElementTables) (n : ℕ) (name : Name) → name.prefix ≡ [] → IsAttributeNamespace t n name AttributeNamespace.None
+bare_namespace t n name bare = record {
+  within = tt;
+  there = λ ds h. rw bare refl;
+  known = λ ds h. rw bare refl;
+}
+
+-- what the tables hold of a plain tag
+pub plain_element : (old new : ElementTables) (e : ElementData) (above : List NamespaceDecl) (few : Option (List ℕ)) (src : List ℕ) (start j : ℕ) (empty : Bool) (name : Name)
+    → (x : ArePlainAttributes (map namespace_view old.namespaces.items.items) few old.present src start (attribute_rows old.attributes) j empty (attribute_rows new.attributes))
+    → FindsBinding (map namespace_view old.namespaces.items.items) few old.present above → new ≡ record old { attributes = new.attributes }
+    → e.attributes_from ≡ length (attribute_rows old.attributes) → e.attributes_until ≡ length (attribute_rows new.attributes) → length (attribute_rows new.attributes) ≤ most_attributes → e.local.now ≡ name.local
+    → option_map (λ i. (namespace_at (map namespace_view old.namespaces.items.items) i).uri) (numbered_place e.namespace) ≡ element_namespace above name → OptionWithin (length old.namespaces.items.items) (numbered_place e.namespace)
+    → e.scope < length old.scopes.items → scope_at (lists_in old) e.scope ≡ above → IsElement old new e (listed above []) name x.written
+plain_element old new e above few src start j empty name x finds others from until most local namespace within scope lists =
+    let none = listed-none above in
+    let namespaces : map namespace_view new.namespaces.items.items ≡ map namespace_view old.namespaces.items.items = ap (λ (t : ElementTables). map namespace_view t.namespaces.items.items) others in
+    record {
+      attributes = record { more = x.more; grown = x.rows; same = rw (none, namespaces) (x.shown above finds); within = rw namespaces x.within };
+      attributes_from = from;
+      attributes_until = until;
+      few = most;
+      local = local;
+      namespace = rw (none, namespaces) namespace;
+      namespace_within = rw (ap (λ (t : ElementTables). length t.namespaces.items.items) others) within;
+      scope_within = rw (ap (λ (t : ElementTables). length t.scopes.items) others) scope;
+      lists = rw (ap lists_in others, none) lists;
+    }
+
+-- how many attributes the tag has
+pub plain_count : (namespaces scope : List NamespaceDecl) (few : Option (List ℕ)) (present : PrefixBindings) (src : List ℕ) (start : ℕ) (old : List AttributeRow) (j : ℕ) (empty : Bool) (new : List AttributeRow)
+    → (x : ArePlainAttributes namespaces few present src start old j empty new) → FindsBinding namespaces few present scope → length old + length x.written ≡ length new
+plain_count namespaces scope few present src start old j empty new x finds =
+    let n = ap length x.rows ∙ length-append old x.more in
+    let m : length x.more ≡ length x.written = sym (length-map x.more (attribute namespaces)) ∙ ap length (x.shown scope finds) ∙ length-map x.written (attribute_in scope) in
+    omega arith
+
+-- an end tag, piece by piece
+pub end_tag_is : (src : List ℕ) (i : ℕ) (name : Name) (n e : ℕ) → qname_at src (i + 2) ≡ Ok (name, n) → e ≡ spaces_end src n → slice_index src e ≡ 62
+    → end_tag_at src i ≡ Ok (record { name = name; name_end = n }, e + 1)
+unfolding end_tag_at
+end_tag_is src i name n e named spaces here = rw (named, ← spaces, byte_is src e 62 here (omega arith)) refl
+
+-- ---- a name of ASCII bytes
+
+pub near_ends : (src : List ℕ) (i j : ℕ) → IsUtf8 src → EndsNear src i j → j ≡ run_end is_part_char src i
+near_ends src i j utf8 h = part_stops src i j utf8 h.ends.onward h.ends.within h.ends.passes h.ends.stops (λ _. omega (arith, h.stops))
+
+pub near_cut : (src : List ℕ) (i j : ℕ) → IsUtf8 src → IsCharBoundary src i → EndsNear src i j → IsCharBoundary src j
+near_cut src i j utf8 cut h = part_cut src i j utf8 cut h.ends.onward h.ends.within h.ends.passes
+
+-- a part of ASCII bytes that begins a name
+near_begins : (src : List ℕ) (i j : ℕ) → IsUtf8 src → EndsNear src i j → begins is_name_start src i ≡ true
+near_begins src i j utf8 h =
+    let more : i < j = elim (cases_lt i j) [
+      | inl less ↦ less
+      | inr past ↦ let same : i ≡ j = omega (arith, past, h.ends.onward) in absurd (let letter = subst (λ (k : ℕ). 63 < slice_index src k) same h.letter in omega (arith, letter, h.stops))
+    ] in
+    letter_begins src i j utf8 more h.ends.within h.ends.passes h.letter
+
+-- a name without colon
+name_is : (src : List ℕ) (i k : ℕ) → begins is_name_start src i ≡ true → k ≡ run_end is_part_char src i → slice_index src k ≢ 58 → qname_at src i ≡ Ok (record { prefix = []; local = slice_range src i k }, k)
+unfolding qname_at
+name_is src i k some end is =
+    let no : (slice_index src k == 58) ≡ false = ne_eqb (slice_index src k) 58 is in
+    rw (← end, no, some) refl
+
+pub near_named : (src : List ℕ) (i j : ℕ) → IsUtf8 src → EndsNear src i j → qname_at src i ≡ Ok (record { prefix = []; local = slice_range src i j }, j)
+near_named src i j utf8 h = name_is src i j (near_begins src i j utf8 h) (near_ends src i j utf8 h) h.no_colon
+
+-- a local part of them
+pub near_local : (src : List ℕ) (i j : ℕ) → IsUtf8 src → IsCharBoundary src i → EndsNear src i j → IsLocalPart src i j
+near_local src i j utf8 cut h = record {
+  begins = near_begins src i j utf8 h;
+  other = ne_eqb (slice_index src i) 58 (λ same. absurd (let letter = h.letter in omega (arith, letter, same)));
+  part = record { place = near_ends src i j utf8 h; onward = h.ends.onward; cut = near_cut src i j utf8 cut h };
+  stops = ne_eqb (slice_index src j) 58 h.no_colon;
+}

@@ -1,0 +1,70 @@
+-- Where a value ends that has a reference, or white space which is no space.
+use Rattle.std.proofs.Common.{◌≡◌, ℕ, ◌+◌, ◌-◌, ◌<◌, ◌≤◌, ◌==◌, ◌||◌, true, false, not, List, length, get_or, slice_range, drop, refl, sym, ap, ◌∙◌, arith, get_or-drop, length-drop}
+use Rattle.std.specs.List.{list_any}
+use Rattle.std.specs.Str.{IsUtf8, IsCharBoundary}
+use Rattle.std.proofs.lemmas.Bool.Decides.{nat_tests}
+use Rattle.std.proofs.lemmas.List.{get_or-take, length-take-le}
+use Rattle.std.proofs.lemmas.List.Folds.{list_any_at}
+use Rattle.rox_reading.specs.Values.{is_special}
+use Rattle.rox_grammar.specs.Constructs.{AreChars}
+use Rattle.rox_bytes.specs.ByteSets.{AllPass, is_char_byte, is_value_byte, is_wide_value_byte}
+use Rattle.rox_scan.specs.Lookahead.{IsLookahead, ends_value}
+use Rattle.rox_scan.proofs.LongerLemmas.{near_looked, char_looked, looked_on, wide_open}
+use Rattle.rox_bytes.proofs.NearLemmas.{value_is_plain, value_cut, value_apart}
+use Rattle.rox_tags.specs.SpacedBytes.{is_spaced_byte, none_changes}
+
+spaced_is_plain : (b : ℕ) → is_spaced_byte b ≡ true → is_char_byte b ≡ true
+unfolding is_spaced_byte is_wide_value_byte is_value_byte
+spaced_is_plain b h = grind (arith, nat_tests)
+
+spaced_open : (quote b : ℕ) → (quote == 39 || quote == 34) ≡ true → is_spaced_byte b ≡ true → (b == quote || b == 60) ≡ false
+unfolding is_spaced_byte is_wide_value_byte is_value_byte
+spaced_open quote b q h = grind (arith, nat_tests)
+
+spaced_leads : (b : ℕ) → is_spaced_byte b ≡ false → 128 ≤ b → 192 ≤ b
+unfolding is_spaced_byte is_wide_value_byte is_value_byte
+spaced_leads b h wide = grind (arith, nat_tests)
+
+-- where the bytes end a character begins
+spaced_cut : (src : List ℕ) (e : ℕ) → e ≤ length src → (e < length src → is_spaced_byte (get_or src e 0) ≡ false) → IsCharBoundary src e
+spaced_cut src e within stops = (within, λ more wide. spaced_leads _ (stops more) wide)
+
+-- a special byte among them changes them
+changed_among : (src : List ℕ) (i k e : ℕ) → i ≤ k → k < e → e ≤ length src → is_special (get_or src k 0) ≡ true → list_any is_special (slice_range src i e) ≡ true
+changed_among src i k e le more within here =
+    let at : i + (k - i) ≡ k = omega arith in
+    let read : get_or (slice_range src i e) (k - i) 0 ≡ get_or src k 0 = get_or-take (e - i) (drop i src) (k - i) 0 (omega arith) ∙ get_or-drop i src (k - i) 0 ∙ ap (λ (n : ℕ). get_or src n 0) at in
+    let long = length-take-le (e - i) (drop i src) (omega (arith, length-drop i src)) in
+    list_any_at is_special (slice_range src i e) (k - i) 0 (omega (arith, long)) (ap is_special read ∙ here)
+
+-- bytes of the set from i on
+pub spaced_near : (src : List ℕ) (quote i e : ℕ) → IsUtf8 src → (quote == 39 || quote == 34) ≡ true → IsCharBoundary src i → i ≤ e → e ≤ length src → AllPass is_spaced_byte src i e
+    → (e < length src → is_spaced_byte (get_or src e 0) ≡ false) → IsLookahead (ends_value quote src) none_changes src i e true
+spaced_near src quote i e utf8 q start le within all stops =
+    near_looked is_spaced_byte none_changes (ends_value quote src) src i e utf8 start le (spaced_cut src e within stops) all spaced_is_plain (λ b h. refl) (λ n h. spaced_open quote _ q h)
+
+-- and a character behind them, and the bytes behind that
+pub spaced_on : (src : List ℕ) (quote i j n e : ℕ) → IsUtf8 src → (quote == 39 || quote == 34) ≡ true → IsCharBoundary src i → IsLookahead (ends_value quote src) none_changes src i j true
+    → j < n → IsCharBoundary src n → AreChars src j n → ((k : ℕ) → j < k → k < n → 128 ≤ get_or src k 0) → ends_value quote src j ≡ false
+    → n ≤ e → e ≤ length src → AllPass is_spaced_byte src n e → (e < length src → is_spaced_byte (get_or src e 0) ≡ false) → IsLookahead (ends_value quote src) none_changes src i e true
+spaced_on src quote i j n e utf8 q start f some cut chars wide here le within all stops =
+    let ends = ends_value quote src in
+    let one = char_looked none_changes ends src j n some cut chars wide (λ b h. refl) (λ k h. wide_open quote _ q h) here in
+    let two = looked_on none_changes ends src i j n true true utf8 start f one in
+    looked_on none_changes ends src i n e true true utf8 start two (spaced_near src quote n e utf8 q cut le within all stops)
+
+-- bytes that stand for themselves, and behind them up to the quote others, one of which changes the value
+pub spaced_looked : (src : List ℕ) (quote i j k e : ℕ) → IsUtf8 src → (quote == 39 || quote == 34) ≡ true → IsCharBoundary src i → i ≤ j → j ≤ length src → AllPass is_value_byte src i j
+    → IsLookahead (ends_value quote src) none_changes src j e true → j ≤ k → k < e → is_special (get_or src k 0) ≡ true
+    → IsLookahead (ends_value quote src) is_special src i e false
+spaced_looked src quote i j k e utf8 q start le within front rest low high here =
+    let ends = ends_value quote src in
+    let first = near_looked is_value_byte none_changes ends src i j utf8 start le (value_cut src i j utf8 start le within front) front value_is_plain (λ b h. refl) (λ n h. value_apart quote _ q h) in
+    let look = looked_on none_changes ends src i j e true true utf8 start first rest in
+    record {
+      onward = look.onward;
+      cut = look.cut;
+      chars = look.chars;
+      apart = look.apart;
+      verbatim_is = sym (ap not (changed_among src i k e (omega arith) high look.cut.0 here));
+    }

@@ -1,0 +1,148 @@
+use Rattle.std.proofs.Common.{rules, ◌≡◌, ◌≤◌, ◌+◌, length, map, refl, sym, ap, subst, ◌∙◌, arith, ℕ, length-append}
+use Rattle.std.specs.List.{AllByRecursion}
+use Rattle.std.specs.Option.{option_map}
+use Rattle.std.proofs.lemmas.List.{length-map}
+use Rattle.std.proofs.lemmas.Result.{err_from_is_err_and}
+use Rattle.rox_grammar.specs.Tree.{attribute_in}
+use Rattle.rox_grammar.specs.Document.{most_attributes, most_pairs}
+use Rattle.rox_grammar.specs.Failures.{name_view}
+use Rattle.rox_rows.specs.Rows.{namespace_at, attribute, scope_at, NamespaceWithin, OptionWithin, AttributeRow, attribute_rows}
+use Rattle.rox_scopes.specs.Tables.{namespace_view}
+use Rattle.rox_scopes.specs.Bindings.{places_view}
+use Rattle.rox_names.specs.TagDeclarations.{unresolved_view}
+use Rattle.rox_scopes.specs.TagScopes.{lists_in}
+use Rattle.rox_scopes.proofs.Finding.{looks_for, found_for, seen_by}
+use Rattle.rox_rows.proofs.Stable.{option_more}
+use Rattle.rox_tags.proofs.Starting.{tested_amiss, tested_unknown, tested_known}
+use Rattle.rox_tags.proofs.tag.element_data.Goals as goal
+
+pub few_places-few-requires : goal.few_places-few-requires
+few_places-few-requires c = rw (c.deref.ensures.value, c.deref-2.ensures.value) (record { scopes = c.requires.scopes; within = c.requires.within })
+
+pub resolve-requires : goal.resolve-requires
+resolve-requires c =
+    let t = c.args.elements.now in
+    rw c.as_slice.ensures.value (looks_for t c.deref.result.now c.deref-2.result.now c.few_places-few.result c.args.scope c.deref.ensures.value c.deref-2.ensures.value c.requires.places
+    c.few_places-few.ensures.few c.few_places-few.ensures.many c.requires.present)
+
+pub element_namespace-requires : goal.element_namespace-requires
+element_namespace-requires c = record {
+  within =
+      let t = c.args.elements.now in
+      rw c.as_slice-2.ensures.value (looks_for t c.deref.result.now c.deref-2.result.now c.few_places-few.result c.args.scope c.deref.ensures.value c.deref-2.ensures.value c.requires.places
+      c.few_places-few.ensures.few c.few_places-few.ensures.many c.requires.present);
+  small = search rules;
+}
+
+pub returns-in_err-resolve : goal.returns-in_err-resolve
+returns-in_err-resolve c = record {
+  others = search rules;
+  tested = search rules;
+  element = search rules;
+  err =
+      let t = c.args.elements.now in
+      let namespaces = map namespace_view t.namespaces.items.items in
+      let scope = scope_at (lists_in t) c.args.scope in
+      let written = map unresolved_view c.args.taken.now.items in
+      let count = length (attribute_rows t.attributes) in
+      let name = name_view c.args.name in
+      let few : count + length written ≤ most_attributes =
+      (let k = c.args.taken.now.ok.0 in let a = c.if-len-from.false in let b = c.len-from.ensures in let l = c.len.ensures in let most = c.requires.few in let m = length-map c.args.taken.now.items unresolved_view in omega arith) in
+      let finds = found_for t c.deref.result.now c.deref-2.result.now c.few_places-few.result c.args.scope c.deref.ensures.value c.deref-2.ensures.value c.few_places-few.ensures.few c.few_places-few.ensures.many c.requires.present in
+      let here = seen_by t c.as_slice.result.now (places_view c.few_places-few.result) scope c.as_slice.ensures.value finds in
+      let e = c.in_err-resolve.field-0.0 in
+      let p = err_from_is_err_and c.from_residual.result c.from_residual.ensures.1 in
+      rw (p.1, p.2) (tested_amiss e scope count c.args.at name written few (c.in_err-resolve.ensures scope here));
+}
+
+pub returns-in_err-namespace : goal.returns-in_err-namespace
+returns-in_err-namespace c = record {
+  others = search rules;
+  tested = search rules;
+  element = search rules;
+  err =
+      let t = c.args.elements.now in
+      let namespaces = map namespace_view t.namespaces.items.items in
+      let scope = scope_at (lists_in t) c.args.scope in
+      let written = map unresolved_view c.args.taken.now.items in
+      let count = length (attribute_rows t.attributes) in
+      let name = name_view c.args.name in
+      let few : count + length written ≤ most_attributes =
+      (let k = c.args.taken.now.ok.0 in let a = c.if-len-from.false in let b = c.len-from.ensures in let l = c.len.ensures in let most = c.requires.few in let m = length-map c.args.taken.now.items unresolved_view in omega arith) in
+      let finds = found_for t c.deref.result.now c.deref-2.result.now c.few_places-few.result c.args.scope c.deref.ensures.value c.deref-2.ensures.value c.few_places-few.ensures.few c.few_places-few.ensures.many c.requires.present in
+      let here = seen_by t c.as_slice.result.now (places_view c.few_places-few.result) scope c.as_slice.ensures.value finds in
+      let here2 = seen_by t c.as_slice-2.result.now (places_view c.few_places-few.result) scope c.as_slice-2.ensures.value finds in
+      let fine = (c.in_ok-resolve.ensures scope here).0 in
+      let p = err_from_is_err_and c.from_residual-in_err-namespace.result c.from_residual-in_err-namespace.ensures.1 in
+      let k = c.in_err-namespace.ensures.err scope here2 in
+      rw (p.1, p.2) (tested_unknown scope count c.args.at name written c.in_err-namespace.field-0.0 few fine k.0 k.1);
+}
+
+pub overflow_cast-result-2 : goal.overflow_cast-result-2
+overflow_cast-result-2 c =
+    let t = c.args.elements.now in
+    let namespaces = map namespace_view t.namespaces.items.items in
+    let scope = scope_at (lists_in t) c.args.scope in
+    let written = map unresolved_view c.args.taken.now.items in
+    let count = length (attribute_rows t.attributes) in
+    let few : count + length written ≤ most_attributes =
+    (let k = c.args.taken.now.ok.0 in let a = c.if-len-from.false in let b = c.len-from.ensures in let l = c.len.ensures in let most = c.requires.few in let m = length-map c.args.taken.now.items unresolved_view in omega arith) in
+    let finds = found_for t c.deref.result.now c.deref-2.result.now c.few_places-few.result c.args.scope c.deref.ensures.value c.deref-2.ensures.value c.few_places-few.ensures.few c.few_places-few.ensures.many c.requires.present in
+    let here = seen_by t c.as_slice.result.now (places_view c.few_places-few.result) scope c.as_slice.ensures.value finds in
+    let moved = (c.in_ok-resolve.ensures scope here).1 in
+    let grown = ap length moved.1 ∙ length-append (attribute_rows t.attributes) moved.0 in
+    let n = ap length moved.2 in
+    let a = length-map moved.0 (attribute (map namespace_view c.as_slice.result.now)) in
+    let b = length-map written (attribute_in scope) in
+    let until = c.len-2.ensures in
+    omega arith
+
+pub returns : goal.returns
+returns c =
+    let t = c.args.elements.now in
+    let namespaces = map namespace_view t.namespaces.items.items in
+    let scope = scope_at (lists_in t) c.args.scope in
+    let written = map unresolved_view c.args.taken.now.items in
+    let count = length (attribute_rows t.attributes) in
+    let name = name_view c.args.name in
+    let few : count + length written ≤ most_attributes =
+    (let k = c.args.taken.now.ok.0 in let a = c.if-len-from.false in let b = c.len-from.ensures in let l = c.len.ensures in let most = c.requires.few in let m = length-map c.args.taken.now.items unresolved_view in omega arith) in
+    let finds = found_for t c.deref.result.now c.deref-2.result.now c.few_places-few.result c.args.scope c.deref.ensures.value c.deref-2.ensures.value c.few_places-few.ensures.few c.few_places-few.ensures.many c.requires.present in
+    let here = seen_by t c.as_slice.result.now (places_view c.few_places-few.result) scope c.as_slice.ensures.value finds in
+    let here2 = seen_by t c.as_slice-2.result.now (places_view c.few_places-few.result) scope c.as_slice-2.ensures.value finds in
+    record {
+      others = search rules;
+      tested = tested_known scope count c.args.at name written few (c.in_ok-resolve.ensures scope here).0 (c.in_ok-namespace.ensures.ok scope here2).1;
+      element =
+          let seen : map namespace_view c.as_slice.result.now ≡ namespaces = ap (map namespace_view) c.as_slice.ensures.value in
+          let seen2 : map namespace_view c.as_slice-2.result.now ≡ namespaces = ap (map namespace_view) c.as_slice-2.ensures.value in
+          let moved = (c.in_ok-resolve.ensures scope here).1 in
+          let named = c.in_ok-namespace.ensures.ok scope here2 in
+          let o = c.in_ok-namespace.namespace in
+          let place = subst (λ (n : ℕ). OptionWithin n o) (ap length c.as_slice-2.ensures.value) c.in_ok-namespace.ensures.within in
+          let number = c.namespace_number.ensures (option_more (length t.namespaces.items.items) most_pairs o c.requires.few_names place) in
+          let same : map (attribute namespaces) moved.0 ≡ map (attribute_in scope) written =
+          ap (λ ns. map (attribute ns) moved.0) (sym seen) ∙ moved.2 in
+          let wide : length c.as_slice.result.now ≡ length namespaces = ap length c.as_slice.ensures.value ∙ sym (length-map t.namespaces.items.items namespace_view) in
+          let grown = ap length moved.1 ∙ length-append (attribute_rows t.attributes) moved.0 in
+          let n = ap length same in
+          let a = length-map moved.0 (attribute namespaces) in
+          let b = length-map written (attribute_in scope) in
+          record {
+            attributes = record {
+              more = moved.0;
+              grown = moved.1;
+              same = same;
+              within = subst (λ (n : ℕ). AllByRecursion (λ (a : AttributeRow). NamespaceWithin n a.0.namespace) moved.0) wide moved.3;
+            };
+            attributes_from = c.len-from.ensures;
+            attributes_until = c.len-2.ensures;
+            few = omega arith;
+            local = refl;
+            namespace = rw number (ap (λ ns. option_map (λ i. (namespace_at ns i).uri) o) (sym seen2) ∙ named.0);
+            namespace_within = rw number place;
+            scope_within = c.requires.within;
+            lists = refl;
+          };
+      err = search rules;
+    }

@@ -1,0 +1,6 @@
+pub mod TagReadiness
+pub mod TagState
+pub mod ElementRow
+pub mod PlainTag
+pub mod PlainParts
+pub mod SpacedBytes

@@ -1,0 +1,433 @@
+//! Attributes by the quick reader, put into their table: those whose values refer only to predefined entities (XML 1.0 sections
+//! 3.1 and 4.6). Nothing fails here: if an attribute is not read, the general reader reads its tag again, from its `<`.
+
+ghost use Rattle.std.specs.Prelude.{◌^◌, ◌≡◌, ◌<◌, ◌+◌, ◌-◌, ◌==◌, ◌||◌, IfSome, length, bytes_eq, false, []};
+ghost use Rattle.std.specs.Str.{IsCharBoundary};
+ghost use Rattle.rox_grammar.specs.Runs.{begins};
+ghost use Rattle.rox_grammar.specs.Failures.{name_view};
+ghost use Rattle.rox_grammar.specs.Written.{Name};
+ghost use Rattle.rox_tags.specs.PlainParts.{FindsPlainAttribute, IsAttributeNamespace, MayPutNamed, MayPutPart, PutsSome};
+ghost use Rattle.rox_tags.specs.PlainTag.{HasScope, IsNearAttribute, IsPlainAttribute, MayPut, PutsPlain};
+
+use crate::quick_name::{PlainName, plain_name, prefixed_name, some_place, whole_name};
+use crate::quick_tag::near_space_end;
+use crate::quick_value::{
+    PlainValue, plain_value, plain_value_end, quote_before, quote_behind_equals, seen_quote,
+    seen_value, value_start,
+};
+use crate::spaced_value::{spaced_value, spaced_value_ends};
+use rox_bytes::byte_set::{PartByte, ValueByte, part_end, skip_set};
+use rox_bytes::chars::NameStart;
+use rox_bytes::runs::{after_byte, begins, is_at};
+use rox_bytes::window::{WIDTH, Window};
+use rox_grammar::name::QName;
+use rox_names::namespace_decl::is_namespace_decl;
+use rox_names::resolve::{put_changed, put_resolved, put_usual_attribute};
+use rox_names::seen_names::SeenNames;
+use rox_names::unresolved_attribute::{UnresolvedAttribute, UsualAttribute};
+use rox_rows::compare::same_text;
+use rox_rows::recent_texts::Recent;
+use rox_rows::row::AttributeNamespace;
+use rox_rows::storage::StringStorage;
+use rox_rows::stored_attribute::UNUSUAL;
+use rox_scopes::scope::{few_places, find_near};
+use rox_scopes::tables::ElementTables;
+use std::alloc::Global;
+
+/// Returns the length of a text in bytes, which is always less than 2^63.
+#[inline]
+pub fn byte_count(text: &str) -> usize
+    ensures value { result ≡ length text.now }
+    ensures small { length text.now < 2 ^ 63 }
+{
+    let bytes = text.as_bytes();
+    bytes.len()
+}
+
+/// The maximum number of attributes in a document.
+pub const MOST_ATTRIBUTES: usize = 4294967294;
+
+/// The longest name, in bytes, that fits into a 16-byte window with `=` and a quote.
+const MOST_NAME: usize = 14;
+
+/// Returns the attribute that starts at `start`, if it is plain: its value needs no replacement.
+#[inline(always)]
+#[tactic(auto, unfolding(rox_reading::specs::Markup::attribute_at))]
+fn plain_attribute<'input>(text: &'input str, start: usize) -> Option<UnresolvedAttribute<'input>>
+    requires { IsCharBoundary text.now start }
+    ensures { FindsPlainAttribute text.entry.now start result }
+{
+    let colon = part_end(text, start);
+    let name = plain_name(text, start, colon)?;
+    let value_start = value_start(text, name.end);
+    if value_start == 0 {
+        return None;
+    }
+    let quote = quote_before(text, value_start);
+    let near = skip_set::<ValueByte>(text, value_start);
+    let value_end = plain_value_end(text, value_start, quote, near)?;
+    Some(UnresolvedAttribute {
+        start,
+        name_end: name.end,
+        value_start,
+        end: after_byte(text, value_end, quote),
+        name: name.name,
+        value: StringStorage::Borrowed(&text[value_start..value_end]),
+    })
+}
+
+/// Returns the attribute that starts at `start`, if its value needs a replacement that does not depend on context. The value is
+/// owned.
+#[inline(always)]
+fn spaced_attribute<'input>(
+    alloc: Global,
+    text: &'input str,
+    start: usize,
+    recent: &mut Option<Box<Recent>>,
+) -> Option<UnresolvedAttribute<'input>>
+    requires { IsCharBoundary text.now start }
+    ensures { IfSome result (λ a. IsPlainAttribute text.entry.now start a) }
+{
+    let colon = part_end(text, start);
+    let name = plain_name(text, start, colon)?;
+    let from = value_start(text, name.end);
+    if from == 0 {
+        return None;
+    }
+    let quote = quote_before(text, from);
+    let ends = spaced_value_ends(text, from, quote)?;
+    let value = spaced_value(alloc, text, from, ends, recent)?;
+    Some(UnresolvedAttribute {
+        start,
+        name_end: name.end,
+        value_start: from,
+        end: after_byte(text, ends.end, quote),
+        name: name.name,
+        value,
+    })
+}
+
+/// Returns the namespace of the prefix `prefix` of an attribute in the scope `scope`. The prefix is not empty. Returns `None` if
+/// it is not known or the scope lists many places.
+#[inline(always)]
+fn prefix_namespace(
+    elements: &ElementTables<'_>,
+    scope: u32,
+    prefix: &str,
+    near: &mut usize,
+) -> Option<AttributeNamespace>
+    requires { HasScope elements.now scope }
+    ensures { (n : Name) → n.prefix ≡ prefix.entry.now → bytes_eq n.prefix [] ≡ false
+        → IfSome result (λ s. IsAttributeNamespace elements.entry.now scope n s) }
+{
+    if same_text(prefix, "xml") {
+        return Some(AttributeNamespace::Xml);
+    }
+    let places = few_places(&elements.scopes, &elements.listed, scope)?;
+    let namespaces = elements.namespaces.as_slice();
+    match find_near(namespaces, places, prefix, near) {
+        Some(place) => Some(AttributeNamespace::Listed(place)),
+        None => None,
+    }
+}
+
+/// Returns the namespace of an attribute's name in the scope `scope`. Most names have no prefix and need no look-up. Returns
+/// `None` if the prefix is not known or the scope lists many places.
+#[inline(always)]
+fn namespace_in(
+    elements: &ElementTables<'_>,
+    scope: u32,
+    name: QName<'_>,
+    near: &mut usize,
+) -> Option<AttributeNamespace>
+    requires { HasScope elements.now scope }
+    ensures { IfSome result
+        (λ s. IsAttributeNamespace elements.entry.now scope (name_view name.entry) s) }
+{
+    if name.prefix.is_empty() {
+        return Some(AttributeNamespace::None);
+    }
+    prefix_namespace(elements, scope, name.prefix, near)
+}
+
+/// Puts the attribute that starts at `start` after those of its tag, which `seen` records. Its value must need a replacement that
+/// does not depend on context. Returns the offset after it, or 0 with the table unchanged. A declaration is not put.
+#[cold]
+#[inline(never)]
+fn put_spaced_attribute<'input>(
+    text: &'input str,
+    start: usize,
+    elements: &mut ElementTables<'input>,
+    scope: u32,
+    seen: &mut SeenNames,
+) -> usize
+    requires { MayPut text.now start elements.old scope seen.old }
+    ensures { PutsPlain elements.old elements.new scope seen.old seen.new text.entry.now
+        start result }
+{
+    let alloc = *elements.attributes.items.allocator();
+    let Some(one) = spaced_attribute(alloc, text, start, &mut seen.values) else {
+        return 0;
+    };
+    if is_namespace_decl(one.name) {
+        return 0;
+    }
+    let Some(namespace) = namespace_in(elements, scope, one.name, &mut seen.near) else {
+        return 0;
+    };
+    let end = one.end;
+    if put_changed(
+        &elements.namespaces,
+        &mut elements.attributes,
+        seen,
+        namespace,
+        one,
+    ) {
+        end
+    } else {
+        0
+    }
+}
+
+/// Like `put_spaced_attribute`, but also puts an attribute whose value needs no replacement, however it is written.
+#[cold]
+#[inline(never)]
+fn put_other_attribute<'input>(
+    text: &'input str,
+    start: usize,
+    elements: &mut ElementTables<'input>,
+    scope: u32,
+    seen: &mut SeenNames,
+) -> usize
+    requires { MayPut text.now start elements.old scope seen.old }
+    ensures { PutsPlain elements.old elements.new scope seen.old seen.new text.entry.now
+        start result }
+{
+    let Some(one) = plain_attribute(text, start) else {
+        return put_spaced_attribute(text, start, elements, scope, seen);
+    };
+    let name = one.name;
+    if is_namespace_decl(name) {
+        return 0;
+    }
+    let Some(places) = few_places(&elements.scopes, &elements.listed, scope) else {
+        return 0;
+    };
+    let namespaces = elements.namespaces.as_slice();
+    let behind = one.end;
+    if !put_resolved(
+        namespaces,
+        Some(places),
+        &elements.present,
+        &mut elements.attributes,
+        seen,
+        one,
+    ) {
+        return 0;
+    }
+    behind
+}
+
+/// Returns the attribute or declaration after the white space at `at`, if it is written as most are. Then `=` and a quote follow
+/// right after its name, and its value needs no replacement.
+#[inline(always)]
+pub fn near_attribute<'input>(text: &'input str, at: usize) -> Option<UnresolvedAttribute<'input>>
+    requires { IsCharBoundary text.now at }
+    ensures { IfSome result (λ a. IsNearAttribute text.entry.now at a) }
+{
+    let small = byte_count(text);
+    if at + 1 >= text.len() {
+        return None;
+    }
+    let start = near_space_end(text, at);
+    if start == at || !begins::<NameStart>(text, start) {
+        return None;
+    }
+    let colon = part_end(text, start);
+    let name = plain_name(text, start, colon)?;
+    let quote = quote_behind_equals(text, name.end);
+    if quote == 0 {
+        return None;
+    }
+    let equals = after_byte(text, name.end, b'=');
+    let first = after_byte(text, equals, quote);
+    let near = skip_set::<ValueByte>(text, first);
+    let close = plain_value_end(text, first, quote, near)?;
+    Some(UnresolvedAttribute {
+        start,
+        name_end: name.end,
+        value_start: first,
+        end: after_byte(text, close, quote),
+        name: name.name,
+        value: StringStorage::Borrowed(&text[first..close]),
+    })
+}
+
+/// An attribute whose name and value were read, with `=` and a quote right after its name.
+#[derive(Clone, Copy)]
+pub struct NamedAttribute<'input> {
+    pub start: usize,
+    /// The number of bytes of its name before the local part: the prefix and the colon.
+    pub before: usize,
+    pub name: PlainName<'input>,
+    pub value: PlainValue<'input>,
+}
+
+/// Puts the attribute `read`, whose namespace is `namespace`, after those of its tag, which `seen` records. Returns the offset
+/// after it, or `None` with the table unchanged. A declaration is not put. Most attributes are usual and take no call.
+#[inline(always)]
+fn put_named_attribute<'input>(
+    text: &'input str,
+    read: NamedAttribute<'input>,
+    elements: &mut ElementTables<'input>,
+    scope: u32,
+    namespace: AttributeNamespace,
+    seen: &mut SeenNames,
+) -> Option<usize>
+    requires { MayPutNamed text.now read elements.old scope namespace seen.old }
+    ensures { PutsSome elements.old elements.new scope seen.old seen.new text.entry.now
+        read.entry.start result }
+{
+    let start = read.start;
+    let quote = quote_before(text, read.name.end + 2);
+    if is_namespace_decl(read.name.name) {
+        return None;
+    }
+    if read.before >= UNUSUAL as usize {
+        return some_place(put_other_attribute(text, start, elements, scope, seen));
+    }
+    let one = UsualAttribute {
+        start: start as u32,
+        before: read.before as u8,
+        local: read.name.name.local,
+        value: read.value.text,
+    };
+    if !put_usual_attribute(
+        &elements.namespaces,
+        &mut elements.attributes,
+        seen,
+        namespace,
+        one,
+    ) {
+        return None;
+    }
+    Some(after_byte(text, read.value.end, quote))
+}
+
+/// Like `put_attribute`, but for attributes whose first bytes, up to `part`, are not followed by `=` and a quote. Most often
+/// these bytes are the prefix. Returns 0 where that returns `None`.
+#[inline(never)]
+fn put_prefixed_attribute<'input>(
+    text: &'input str,
+    start: usize,
+    part: usize,
+    elements: &mut ElementTables<'input>,
+    scope: u32,
+    seen: &mut SeenNames,
+) -> usize
+    requires { MayPutPart text.now start part elements.old scope seen.old }
+    ensures { PutsPlain elements.old elements.new scope seen.old seen.new text.entry.now
+        start result }
+{
+    if !is_at(text, part, b':') {
+        return put_other_attribute(text, start, elements, scope, seen);
+    }
+    // The namespace is looked up first, while little else is in registers.
+    let Some(namespace) = prefix_namespace(elements, scope, &text[start..part], &mut seen.near)
+    else {
+        return 0;
+    };
+    let Some(name) = prefixed_name(text, start, part) else {
+        return put_other_attribute(text, start, elements, scope, seen);
+    };
+    let quote = quote_before(text, name.end + 2);
+    let near = skip_set::<ValueByte>(text, name.end + 2);
+    let Some(value) = plain_value(text, name.end + 2, quote, near) else {
+        return put_spaced_attribute(text, start, elements, scope, seen);
+    };
+    let read = NamedAttribute {
+        start,
+        before: part + 1 - start,
+        name,
+        value,
+    };
+    let Some(behind) = put_named_attribute(text, read, elements, scope, namespace, seen) else {
+        return 0;
+    };
+    behind
+}
+
+/// Like `put_attribute`, but for attributes whose name does not fit into a window, as it is long or the text ends. Returns 0
+/// where that returns `None`.
+#[inline(never)]
+fn put_far_attribute<'input>(
+    text: &'input str,
+    start: usize,
+    elements: &mut ElementTables<'input>,
+    scope: u32,
+    seen: &mut SeenNames,
+) -> usize
+    requires { MayPut text.now start elements.old scope seen.old }
+    ensures { PutsPlain elements.old elements.new scope seen.old seen.new text.entry.now
+        start result }
+{
+    let part = skip_set::<PartByte>(text, start);
+    let quote = quote_behind_equals(text, part);
+    if quote == 0 {
+        return put_prefixed_attribute(text, start, part, elements, scope, seen);
+    }
+    let name = whole_name(text, start, part);
+    let near = skip_set::<ValueByte>(text, part + 2);
+    let Some(value) = plain_value(text, part + 2, quote, near) else {
+        return put_spaced_attribute(text, start, elements, scope, seen);
+    };
+    let namespace = AttributeNamespace::None;
+    let read = NamedAttribute {
+        start,
+        before: 0,
+        name,
+        value,
+    };
+    put_named_attribute(text, read, elements, scope, namespace, seen).unwrap_or(0)
+}
+
+/// Puts the attribute that starts at `start` after those of its tag, which `seen` records. Returns the offset after it, or `None`
+/// with the table unchanged. A declaration is not put. Most attributes have a short name without prefix.
+#[inline(always)]
+pub fn put_attribute<'input>(
+    text: &'input str,
+    start: usize,
+    elements: &mut ElementTables<'input>,
+    scope: u32,
+    seen: &mut SeenNames,
+) -> Option<usize>
+    requires { MayPut text.now start elements.old scope seen.old }
+    ensures { PutsSome elements.old elements.new scope seen.old seen.new text.entry.now
+        start result }
+{
+    if text.len() - start < WIDTH {
+        return some_place(put_far_attribute(text, start, elements, scope, seen));
+    }
+    let window = Window::new(text, start);
+    let count = window.part_count();
+    if count > MOST_NAME {
+        return some_place(put_far_attribute(text, start, elements, scope, seen));
+    }
+    let part = start + count;
+    let quote = seen_quote(text, part);
+    if quote == 0 {
+        return some_place(put_prefixed_attribute(text, start, part, elements, scope, seen));
+    }
+    let name = whole_name(text, start, part);
+    let Some(value) = seen_value(text, window, count + 2, quote) else {
+        return some_place(put_spaced_attribute(text, start, elements, scope, seen));
+    };
+    let namespace = AttributeNamespace::None;
+    let read = NamedAttribute {
+        start,
+        before: 0,
+        name,
+        value,
+    };
+    put_named_attribute(text, read, elements, scope, namespace, seen)
+}

@@ -1,0 +1,336 @@
+//! Start tags by the quick reader: those without declarations whose attribute values refer only to predefined entities (XML 1.0
+//! sections 3.1 and 4.6). Nothing fails here: the general reader reads a tag that is not plain, or finds no room, from its `<`.
+
+ghost use Rattle.std.specs.Prelude.{◌≡◌, ◌<◌, ◌+◌, ◌-◌, ◌==◌, Ok, IfSome, slice_index, true, false};
+ghost use Rattle.rox_grammar.specs.Chars.{is_space};
+ghost use Rattle.rox_grammar.specs.Runs.{run_end, begins};
+ghost use Rattle.rox_grammar.specs.Failures.{name_view};
+ghost use Rattle.rox_bytes.specs.ScanResults.{Finds};
+ghost use Rattle.rox_tags.specs.PlainParts.{EndsEmpty, EndsTag, FindsElementNamespace, IsNextItem, MayNameBelow, MayNameIn, MayReadBareTag, MayReadNearTag, MayReadPlainTag};
+ghost use Rattle.rox_tags.specs.PlainTag.{IsBareTag, IsBeforeLast, MayReadAttributes, ReadsAttributes, ReadsTag};
+
+use crate::quick_attribute::{MOST_ATTRIBUTES, byte_count, put_attribute};
+use crate::quick_name::{near_name, plain_name};
+use rox_bytes::runs::{after_byte, begins, is_at};
+use rox_grammar::name::QName;
+use rox_names::open_element::{OpenElement, has_prefix};
+use rox_names::resolve::element_namespace;
+use rox_names::seen_names::SeenNames;
+use rox_names::start_tag::StartTag;
+use rox_rows::compare::same_text;
+use rox_rows::row::{ElementData, namespace_number};
+use rox_scan::cursor::{Cursor, far_space_end};
+use rox_scopes::scope::few_places;
+use rox_scopes::tables::ElementTables;
+
+/// The end of a start tag: the offset after its `>`, and whether the tag is empty.
+#[derive(Clone, Copy)]
+pub struct TagEnd {
+    pub at: usize,
+    pub empty: bool,
+}
+
+/// Returns the end of the start tag whose `/` is at `at`, if `>` follows it.
+#[inline(always)]
+fn empty_end(text: &str, at: usize) -> Option<TagEnd>
+    requires { slice_index text.now at ≡ 47 }
+    ensures { EndsEmpty text.now at result }
+{
+    let behind = after_byte(text, at, b'/');
+    if !is_at(text, behind, b'>') {
+        return None;
+    }
+    Some(TagEnd {
+        at: after_byte(text, behind, b'>'),
+        empty: true,
+    })
+}
+
+/// Returns the end of the white space that starts at `at`, before the last byte. Most often it is one space, or there is none.
+#[inline(always)]
+pub fn near_space_end(text: &str, at: usize) -> usize
+    requires { IsBeforeLast text.now at }
+    ensures { Finds text.now at result (run_end is_space text.now at) }
+{
+    let bytes = text.as_bytes();
+    if bytes[at] == b' ' && bytes[at + 1] > b' ' {
+        return after_byte(text, at, b' ');
+    }
+    if bytes[at] > b' ' {
+        return at;
+    }
+    far_space_end(Cursor { text, pos: at })
+}
+
+/// The item after white space: its offset, and whether it may be an attribute.
+#[derive(Clone, Copy)]
+pub struct NextItem {
+    pub at: usize,
+    pub may_begin: bool,
+}
+
+/// Returns the item after the white space that starts at `at`, before the last byte. A name starts with no byte up to `>`.
+#[inline(always)]
+pub fn next_item(text: &str, at: usize) -> NextItem
+    requires { IsBeforeLast text.now at }
+    ensures { IsNextItem text.now at result }
+{
+    let bytes = text.as_bytes();
+    if bytes[at] == b' ' && bytes[at + 1] > b'>' {
+        return NextItem {
+            at: after_byte(text, at, b' '),
+            may_begin: true,
+        };
+    }
+    let end = near_space_end(text, at);
+    NextItem {
+        at: end,
+        may_begin: end != at && end < text.len() && bytes[end] > b'>',
+    }
+}
+
+/// Returns the end of a start tag, if it is at `at`.
+#[inline(always)]
+pub fn tag_end(text: &str, at: usize) -> Option<TagEnd>
+    ensures { EndsTag text.now at result }
+{
+    if is_at(text, at, b'>') {
+        return Some(TagEnd {
+            at: after_byte(text, at, b'>'),
+            empty: false,
+        });
+    }
+    if is_at(text, at, b'/') {
+        return empty_end(text, at);
+    }
+    None
+}
+
+/// Reads the attributes of a tag from `start` up to its end, if they are plain and find room. Each is put into the table, with
+/// its namespace in the scope `scope`. If `None` is returned, the table may have some of them too.
+#[inline(always)]
+fn some_attributes<'input>(
+    text: &'input str,
+    start: usize,
+    elements: &mut ElementTables<'input>,
+    scope: u32,
+    seen: &mut SeenNames,
+) -> Option<TagEnd>
+    requires { MayReadAttributes text.now start elements.old scope }
+    ensures { ReadsAttributes elements.old elements.new scope text.entry.now start result }
+{
+    seen.begin(elements.attributes.len());
+    let mut at = start;
+    while at + 1 < text.len() {
+        let next = next_item(text, at);
+        if !next.may_begin {
+            return tag_end(text, next.at);
+        }
+        at = put_attribute(text, next.at, elements, scope, seen)?;
+    }
+    None
+}
+
+/// Like `some_attributes`, but first tests whether white space follows the name. Many tags have no attributes, and then no white
+/// space follows.
+#[inline(always)]
+fn plain_attributes<'input>(
+    text: &'input str,
+    start: usize,
+    elements: &mut ElementTables<'input>,
+    scope: u32,
+    seen: &mut SeenNames,
+) -> Option<TagEnd>
+    requires { MayReadAttributes text.now start elements.old scope }
+    ensures { ReadsAttributes elements.old elements.new scope text.entry.now start result }
+{
+    let bytes = text.as_bytes();
+    if start < bytes.len() && bytes[start] > b' ' {
+        return tag_end(text, start);
+    }
+    some_attributes(text, start, elements, scope, seen)
+}
+
+/// A plain start tag that was read, and the offset at which it ends.
+#[derive(Clone, Copy)]
+pub struct PlainTag<'input> {
+    pub tag: StartTag<'input>,
+    pub end: usize,
+}
+
+/// Returns the start tag at `start`, a name alone, if the name of `parent` has no prefix. The element has the namespace and the
+/// scope of `parent`. Its name is of ASCII bytes and ends at `near`. `openings` replacement texts may be opened after the tag.
+#[inline(always)]
+pub fn bare_start_tag<'input>(
+    text: &'input str,
+    start: usize,
+    elements: &ElementTables<'input>,
+    parent: &OpenElement<'input>,
+    openings: u32,
+    near: usize,
+) -> Option<PlainTag<'input>>
+    requires { MayReadBareTag text.now start near elements.now parent.now }
+    ensures { IfSome result (λ t. IsBareTag elements.entry.now parent.entry.now text.entry.now start
+        openings t) }
+{
+    if parent.prefixed {
+        return None;
+    }
+    let name_at = after_byte(text, start, b'<');
+    let local = near_name(text, name_at, near);
+    let count = elements.attributes.len();
+    let element = ElementData {
+        local,
+        attributes_from: count as u32,
+        attributes_until: count as u32,
+        scope: parent.scope,
+        namespace: parent.namespace,
+    };
+    let tag = StartTag {
+        name: QName { prefix: "", local },
+        name_start: name_at,
+        name_end: near,
+        element,
+        empty: false,
+        openings_left: openings,
+    };
+    let end = after_byte(text, near, b'>');
+    Some(PlainTag { tag, end })
+}
+
+/// Returns the number of an element's namespace in the scope `scope`, as rows store it. Returns `None` if the prefix of its name
+/// is not known or the scope lists many places.
+#[inline(always)]
+pub fn other_namespace(
+    elements: &ElementTables<'_>,
+    name: QName<'_>,
+    at: usize,
+    scope: u32,
+) -> Option<u16>
+    requires { MayNameIn elements.now scope at }
+    ensures { FindsElementNamespace elements.entry.now scope (name_view name.entry) result }
+{
+    let places = few_places(&elements.scopes, &elements.listed, scope)?;
+    let namespaces = elements.namespaces.as_slice();
+    match element_namespace(namespaces, Some(places), &elements.present, name, at) {
+        Ok(namespace) => Some(namespace_number(namespace)),
+        Err(_) => None,
+    }
+}
+
+/// Like `other_namespace`, but in the scope of the parent. Most names have no prefix, like the parent's, or its prefix. Their
+/// namespace is that of the parent.
+#[inline(always)]
+fn tag_namespace(
+    elements: &ElementTables<'_>,
+    name: QName<'_>,
+    at: usize,
+    parent: &OpenElement<'_>,
+) -> Option<u16>
+    requires { MayNameBelow elements.now parent.now (name_view name) at }
+    ensures { FindsElementNamespace elements.entry.now parent.entry.now.scope
+        (name_view name.entry) result }
+{
+    let above = parent.namespace;
+    if name.prefix.is_empty() && !parent.prefixed {
+        return Some(above);
+    }
+    if above != 0 && has_prefix(parent, name.prefix) {
+        return Some(above);
+    }
+    other_namespace(elements, name, at, parent.scope)
+}
+
+/// The offset at which a start tag starts, and that at which the first part of its name ends.
+#[derive(Clone, Copy)]
+pub struct TagPlace {
+    pub start: usize,
+    pub part: usize,
+}
+
+/// Reads the start tag at `place`, a child of `parent`, if it is plain and finds room. Its attributes are in the table then. If
+/// `None` is returned, the table may have some of them too. `openings_left` replacement texts may be opened after the tag.
+#[inline(always)]
+pub fn plain_start_tag<'input>(
+    text: &'input str,
+    place: TagPlace,
+    elements: &mut ElementTables<'input>,
+    parent: &OpenElement<'input>,
+    openings_left: u32,
+    seen: &mut SeenNames,
+) -> Option<PlainTag<'input>>
+    requires { MayReadPlainTag text.now place elements.old parent.now }
+    ensures { ReadsTag elements.old elements.new parent.entry.now text.entry.now place.start
+        openings_left result }
+{
+    let small = byte_count(text);
+    let name_start = after_byte(text, place.start, b'<');
+    let name = plain_name(text, name_start, place.part)?;
+    if same_text(name.name.prefix, "xmlns") {
+        return None;
+    }
+    let from = elements.attributes.len();
+    let namespace = tag_namespace(elements, name.name, name_start, parent)?;
+    let end = plain_attributes(text, name.end, elements, parent.scope, seen)?;
+    let until = elements.attributes.len();
+    if until > MOST_ATTRIBUTES {
+        return None;
+    }
+    let element = ElementData {
+        local: name.name.local,
+        attributes_from: from as u32,
+        attributes_until: until as u32,
+        scope: parent.scope,
+        namespace,
+    };
+    let tag = StartTag {
+        name: name.name,
+        name_start,
+        name_end: name.end,
+        element,
+        empty: end.empty,
+        openings_left,
+    };
+    Some(PlainTag { tag, end: end.at })
+}
+
+/// Like `plain_start_tag`, but neither the name of the tag nor that of `above` has a prefix. The tag's name is of ASCII bytes.
+#[inline(always)]
+pub fn near_start_tag<'input>(
+    text: &'input str,
+    place: TagPlace,
+    elements: &mut ElementTables<'input>,
+    above: &OpenElement<'input>,
+    openings: u32,
+    seen: &mut SeenNames,
+) -> Option<PlainTag<'input>>
+    requires { MayReadNearTag text.now place elements.old above.now }
+    ensures { ReadsTag elements.old elements.new above.entry.now text.entry.now place.start openings
+        result }
+{
+    let first = elements.attributes.len();
+    let close = some_attributes(text, place.part, elements, above.scope, seen)?;
+    let last = elements.attributes.len();
+    if last > MOST_ATTRIBUTES {
+        return None;
+    }
+    // What the attributes do not need is read after them, so that it takes no register meanwhile.
+    let name_at = after_byte(text, place.start, b'<');
+    let local = near_name(text, name_at, place.part);
+    let element = ElementData {
+        local,
+        attributes_from: first as u32,
+        attributes_until: last as u32,
+        scope: above.scope,
+        namespace: above.namespace,
+    };
+    let tag = StartTag {
+        name: QName { prefix: "", local },
+        name_start: name_at,
+        name_end: place.part,
+        element,
+        empty: close.empty,
+        openings_left: openings,
+    };
+    Some(PlainTag { tag, end: close.at })
+}
