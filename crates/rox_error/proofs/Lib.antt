@@ -1,2 +1,3 @@
+pub mod CountLemmas
 pub mod PositionLemmas
 pub mod WordLemmas

@@ -1,32 +1,41 @@
--- Where in a text an error stands.
+-- Where in a text an error is.
+use Rattle.std.specs.Prelude.{Option, Some, None}
 use Rattle.rox_error.specs.declared.position.TextPos.{TextPos}
 use Rattle.rox_error.specs.declared.error.Error.{Error}
 use Rattle.rox_error.specs.declared.error.Error.TheVariants as error
 
--- the position that an error keeps, and the first of a text where it keeps none
+-- the position that the error keeps, or none
+abbrev pub kept_position : Error → Option TextPos
+kept_position (error.InvalidXmlPrefixUri p) = Some p
+kept_position (error.UnexpectedXmlUri p) = Some p
+kept_position (error.UnexpectedXmlnsUri p) = Some p
+kept_position (error.InvalidElementNamePrefix p) = Some p
+kept_position (error.DuplicatedNamespace n p) = Some p
+kept_position (error.UnknownNamespace n p) = Some p
+kept_position (error.UnexpectedCloseTag e a p) = Some p
+kept_position (error.UnexpectedEntityCloseTag p) = Some p
+kept_position (error.UnknownEntityReference n p) = Some p
+kept_position (error.MalformedEntityReference p) = Some p
+kept_position (error.EntityReferenceLoop p) = Some p
+kept_position (error.InvalidAttributeValue p) = Some p
+kept_position (error.DuplicatedAttribute n p) = Some p
+kept_position (error.UnexpectedDeclaration p) = Some p
+kept_position (error.InvalidName p) = Some p
+kept_position (error.NonXmlChar c p) = Some p
+kept_position (error.InvalidChar e a p) = Some p
+kept_position (error.InvalidChar2 e a p) = Some p
+kept_position (error.InvalidString s p) = Some p
+kept_position (error.InvalidExternalID p) = Some p
+kept_position (error.EntityResolver p m) = Some p
+kept_position (error.InvalidComment p) = Some p
+kept_position (error.InvalidCharacterData p) = Some p
+kept_position (error.UnknownToken p) = Some p
+kept_position other = None
+
+-- that position, or 1:1 if there is none
+abbrev pub position_or_first : Option TextPos → TextPos
+position_or_first None = record { row = 1; col = 1 }
+position_or_first (Some p) = p
+
 abbrev pub position_of : Error → TextPos
-position_of (error.InvalidXmlPrefixUri p) = p
-position_of (error.UnexpectedXmlUri p) = p
-position_of (error.UnexpectedXmlnsUri p) = p
-position_of (error.InvalidElementNamePrefix p) = p
-position_of (error.DuplicatedNamespace n p) = p
-position_of (error.UnknownNamespace n p) = p
-position_of (error.UnexpectedCloseTag e a p) = p
-position_of (error.UnexpectedEntityCloseTag p) = p
-position_of (error.UnknownEntityReference n p) = p
-position_of (error.MalformedEntityReference p) = p
-position_of (error.EntityReferenceLoop p) = p
-position_of (error.InvalidAttributeValue p) = p
-position_of (error.DuplicatedAttribute n p) = p
-position_of (error.UnexpectedDeclaration p) = p
-position_of (error.InvalidName p) = p
-position_of (error.NonXmlChar c p) = p
-position_of (error.InvalidChar e a p) = p
-position_of (error.InvalidChar2 e a p) = p
-position_of (error.InvalidString s p) = p
-position_of (error.InvalidExternalID p) = p
-position_of (error.EntityResolver p m) = p
-position_of (error.InvalidComment p) = p
-position_of (error.InvalidCharacterData p) = p
-position_of (error.UnknownToken p) = p
-position_of other = record { row = 1; col = 1 }
+position_of e = position_or_first (kept_position e)

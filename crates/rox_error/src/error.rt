@@ -1,85 +1,98 @@
-//! Why a text is refused, as a caller is told.
-
-ghost use Rattle.std.specs.Prelude.{◌++◌, Some, codes, encode_utf8};
-ghost use Rattle.std.specs.Fmt.{◌++?◌, DisplaysOnOk, WritesOnOk};
-ghost use Rattle.rox_error.specs.Messages.{position_text, quoted};
+//! The errors that a parse returns.
 
 use crate::position::TextPos;
 use std::alloc::{AllocError, AllocFailed};
-use std::fmt;
 
-/// Why a text is refused. Each kind but those without a field keeps the position that it is named at. What was due is named by
-/// fixed words, so callers have it as `Error<'static>`; a function that asks a resolver gives it at any lifetime.
+/// Why `Document::parse` or `Document::parse_with_options` returned no document.
+///
+/// Most kinds keep the position of the fault: a row and a column of the text, or of the replacement text or the resolver's answer
+/// that the fault is in. `position` returns it. `docs/ERRORS.md` says for each kind when a parse returns it, and at which position.
+///
+/// `InvalidChar2` and `InvalidString` keep fixed words. A parse without a resolver returns an `Error<'static>`; one with a resolver
+/// returns an `Error<'w>` with any lifetime `'w`.
+///
+/// ```
+/// let text = "<a>\n</b>";
+/// let error = Document::parse(alloc, text).expect_err(&rt, text);
+/// assert!(rt; error.position() == Some(TextPos::new(2, 1)));
+/// let printed = error.to_string(alloc)?;
+/// assert!(rt; printed.as_str() == "expected 'a' tag, not 'b' at 2:1");
+/// ```
 #[derive(Debug, Drop, PartialEq, Eq, Hash)]
 pub enum Error<'w> {
-    /// The prefix `xml` is declared with another URI (Namespaces in XML section 3).
+    /// The prefix `xml` is declared with a URI other than its own (Namespaces in XML 3).
     InvalidXmlPrefixUri(TextPos),
-    /// The URI of the prefix `xml` is declared for another prefix (Namespaces in XML section 3).
+    /// The URI of the prefix `xml` is declared for another prefix (Namespaces in XML 3).
     UnexpectedXmlUri(TextPos),
-    /// The URI of the prefix `xmlns` is declared (Namespaces in XML section 3).
+    /// The URI of the prefix `xmlns` is declared (Namespaces in XML 3).
     UnexpectedXmlnsUri(TextPos),
-    /// An element's prefix is `xmlns` (Namespaces in XML section 3).
+    /// The name of an element has the prefix `xmlns` (Namespaces in XML 3).
     InvalidElementNamePrefix(TextPos),
-    /// One element declares a prefix twice, or `xmlns` for the default.
+    /// A start tag declares a prefix twice, or the default namespace twice (XML 1.0 3.1). Keeps the prefix; for the default
+    /// namespace the word `xmlns`.
     DuplicatedNamespace(String, TextPos),
-    /// A prefix is used that is not declared (Namespaces in XML section 5).
+    /// A name has a prefix that is not declared (Namespaces in XML 5). Keeps the prefix.
     UnknownNamespace(String, TextPos),
-    /// An end tag has another name than the innermost open element: that of the element, and that of the tag.
+    /// The name of an end tag differs from that of the innermost open element (XML 1.0 3). Keeps the expected name, then the name
+    /// in the tag.
     UnexpectedCloseTag(String, String, TextPos),
-    /// An end tag in a replacement text closes an element that was opened outside of it.
+    /// An end tag in a replacement text is for an element that was opened outside of that text (XML 1.0 4.3.2).
     UnexpectedEntityCloseTag(TextPos),
-    /// A reference names an entity that is not declared (XML 1.0 section 4.1).
+    /// A reference is to an entity that is not declared (XML 1.0 4.1). Keeps the name of the entity.
     UnknownEntityReference(String, TextPos),
-    /// A reference is not well formed (XML 1.0 section 4.1).
+    /// A reference is not well formed (XML 1.0 4.1).
     MalformedEntityReference(TextPos),
-    /// References lie too deep or are too many inside replacement texts.
+    /// References are nested more than ten deep, or a reference of the text opens more than 256 replacement texts.
     EntityReferenceLoop(TextPos),
-    /// A replacement text brings a `<` into an attribute's value (XML 1.0 section 3.1). One that stands in the value itself is
-    /// an `InvalidChar`, in place of the closing quote.
+    /// The replacement text of an entity has a `<`, and a reference to it is in the value of an attribute (XML 1.0 3.1). For a `<`
+    /// in the value itself the error is `InvalidChar`.
     InvalidAttributeValue(TextPos),
-    /// Two attributes of one element have one name.
+    /// Two attributes of an element have the same expanded name (Namespaces in XML 6.3). Keeps the local name.
     DuplicatedAttribute(String, TextPos),
-    /// There is no element, or the text ends in the start tag of the first one, right behind its name or an attribute.
+    /// The text has no root element, or ends in its start tag, right after the name or an attribute.
     NoRootNode,
-    /// The text ends inside the root element.
+    /// The text ends inside the root element, after its start tag.
     UnclosedRootNode,
-    /// `<?xml` and a space stand elsewhere than at the start of the text (XML 1.0 section 2.8). Where no space follows, and
-    /// for other letters, as in `<?XML?>`, it is a processing instruction.
+    /// `<?xml` and a space (U+0020) are not at the start of the text (XML 1.0 2.8). Without the space after it, `<?xml` starts a
+    /// processing instruction.
     UnexpectedDeclaration(TextPos),
-    /// There is a DOCTYPE, and none is allowed.
+    /// The text has a document type declaration, and `ParsingOptions::allow_dtd` is false.
     DtdDetected,
-    /// There are more nodes than are allowed.
+    /// The document would have more nodes than `ParsingOptions::nodes_limit`.
     NodesLimitReached,
-    /// There are more than 4,294,967,294 attributes, declarations of namespaces aside.
+    /// The document would have more than 4,294,967,294 attributes. Declarations of namespaces do not count.
     AttributesLimitReached,
-    /// There are more than 65,535 distinct pairs of a prefix, or the default, and a URI that are declared and listed.
+    /// The elements of the document would list more than 65,535 distinct pairs of a prefix and its URI. The default namespace
+    /// counts like a prefix.
     NamespacesLimitReached,
-    /// No Name stands where one is due (XML 1.0 section 2.3).
+    /// A Name is expected and missing (XML 1.0 2.3).
     InvalidName(TextPos),
-    /// A character that no XML text may have (XML 1.0 section 2.2).
+    /// A character is not allowed in XML (XML 1.0 2.2). Keeps the character.
     NonXmlChar(char, TextPos),
-    /// The byte that is due, and the one that stands there.
+    /// One byte is expected, and another one is there. Keeps the expected byte, then the one that is there.
     InvalidChar(u8, u8, TextPos),
-    /// What is due, and the byte that stands there.
+    /// One of several things is expected, and missing. Keeps words for what is expected, then the byte that is there.
     InvalidChar2(&'w str, u8, TextPos),
-    /// The text that is due.
+    /// A fixed text, such as `version`, is expected and missing. Keeps that text.
     InvalidString(&'w str, TextPos),
-    /// No ExternalID stands where one is due (XML 1.0 section 4.2.2).
+    /// An ExternalID is expected and missing (XML 1.0 4.2.2).
     InvalidExternalID(TextPos),
-    /// The resolver of external entities refused, with these words.
+    /// The resolver refused a request. Keeps the position of the declaration that the request is for, and the words of the
+    /// resolver.
     EntityResolver(TextPos, String),
-    /// A comment has `--` or ends in `-` (XML 1.0 section 2.5).
+    /// A comment contains `--`, or ends in `-` (XML 1.0 2.5).
     InvalidComment(TextPos),
-    /// Character data has `]]>` (XML 1.0 section 2.4).
+    /// Character data contains `]]>` (XML 1.0 2.4).
     InvalidCharacterData(TextPos),
-    /// No construct begins here.
+    /// No construct of the grammar starts here.
     UnknownToken(TextPos),
-    /// The text ends inside a construct.
+    /// The text ends inside of a construct.
     UnexpectedEndOfStream,
-    /// There is no memory.
+    /// Memory ran out. This says nothing about the text.
     OutOfMemory,
 }
 
+/// Copies the error. A copy needs memory only for the texts that the error owns, so a kind without an own text is always copied.
 impl Clone for Error<'_> {
     ghost use Rattle.rox_error.specs.Copies.{IsCopy, NamesNothing};
 
@@ -144,11 +157,20 @@ impl Clone for Error<'_> {
 
 impl Error<'_> {
     ghost use Rattle.std.specs.Prelude.{◌≡◌};
-    ghost use Rattle.rox_error.specs.ErrorPositions.{position_of};
+    ghost use Rattle.rox_error.specs.ErrorPositions.{kept_position, position_of};
 
-    /// The position that the error is named at, or 1:1 where it keeps none.
-    pub fn pos(&self) -> TextPos
-        ensures { result ≡ position_of self.now }
+    /// Returns the position that the error keeps, or `None` if its kind keeps none. The kinds without a position are
+    /// `NoRootNode`, `UnclosedRootNode`, `DtdDetected`, `NodesLimitReached`, `AttributesLimitReached`, `NamespacesLimitReached`,
+    /// `UnexpectedEndOfStream` and `OutOfMemory`: each of them is about the whole text, or about memory.
+    ///
+    /// ```
+    /// // the text ends inside of `a`
+    /// let error = Document::parse(alloc, "<a>").expect_err(&rt, "<a>");
+    /// assert!(rt; error.position().is_none());
+    /// assert!(rt; error.pos() == TextPos::new(1, 1));
+    /// ```
+    pub fn position(&self) -> Option<TextPos>
+        ensures { result ≡ kept_position self.now }
     {
         match self {
             Error::InvalidXmlPrefixUri(pos)
@@ -174,7 +196,7 @@ impl Error<'_> {
             | Error::EntityResolver(pos, _)
             | Error::InvalidComment(pos)
             | Error::InvalidCharacterData(pos)
-            | Error::UnknownToken(pos) => *pos,
+            | Error::UnknownToken(pos) => Some(*pos),
             Error::NoRootNode
             | Error::UnclosedRootNode
             | Error::DtdDetected
@@ -182,234 +204,17 @@ impl Error<'_> {
             | Error::AttributesLimitReached
             | Error::NamespacesLimitReached
             | Error::UnexpectedEndOfStream
-            | Error::OutOfMemory => TextPos::new(1, 1),
+            | Error::OutOfMemory => None,
         }
     }
-}
 
-impl fmt::Display for Error<'_> {
-    ghost use Rattle.rox_error.specs.Messages.{message};
-
-    ghost output = { message };
-
-    fn fmt<W: fmt::Write>(&self, f: &mut fmt::Formatter<W>) -> fmt::Result {
-        match self {
-            Error::InvalidXmlPrefixUri(pos) => write_at(
-                f,
-                "'xml' namespace prefix mapped to wrong URI at ",
-                pos,
-            ),
-            Error::UnexpectedXmlUri(pos) => write_at(
-                f,
-                "the 'xml' namespace URI is used for not 'xml' prefix at ",
-                pos,
-            ),
-            Error::UnexpectedXmlnsUri(pos) => write_around(
-                f,
-                "the 'xmlns' URI is used at ",
-                pos,
-                ", but it must not be declared",
-            ),
-            Error::InvalidElementNamePrefix(pos) => write_around(
-                f,
-                "the 'xmlns' prefix is used at ",
-                pos,
-                ", but it must not be",
-            ),
-            Error::DuplicatedNamespace(name, pos) => write_defined(f, "namespace '", name, pos),
-            Error::UnknownNamespace(name, pos) => write_named(
-                f,
-                "an unknown namespace prefix '",
-                name,
-                pos,
-            ),
-            Error::UnexpectedCloseTag(expected, actual, pos) => write_names(
-                f, expected, actual, pos,
-            ),
-            Error::UnexpectedEntityCloseTag(pos) => write_at(f, "unexpected close tag at ", pos),
-            Error::UnknownEntityReference(name, pos) => write_named(
-                f,
-                "unknown entity reference '",
-                name,
-                pos,
-            ),
-            Error::MalformedEntityReference(pos) => write_at(
-                f,
-                "malformed entity reference at ",
-                pos,
-            ),
-            Error::EntityReferenceLoop(pos) => write_at(
-                f,
-                "a possible entity reference loop is detected at ",
-                pos,
-            ),
-            Error::InvalidAttributeValue(pos) => write_at(f, "unescaped '<' found at ", pos),
-            Error::DuplicatedAttribute(name, pos) => write_defined(f, "attribute '", name, pos),
-            Error::NoRootNode => f.write_str("the document does not have a root node"),
-            Error::UnclosedRootNode => f.write_str("the root node was opened but never closed"),
-            Error::UnexpectedDeclaration(pos) => write_at(f, "unexpected XML declaration at ", pos),
-            Error::DtdDetected => f.write_str("XML with DTD detected"),
-            Error::NodesLimitReached => f.write_str("nodes limit reached"),
-            Error::AttributesLimitReached => f.write_str("more than 2^32 attributes were parsed"),
-            Error::NamespacesLimitReached => f.write_str(
-                "more than 2^16 unique namespaces were parsed",
-            ),
-            Error::InvalidName(pos) => write_at(f, "invalid name token at ", pos),
-            Error::NonXmlChar(character, pos) => write_char(f, *character, pos),
-            Error::InvalidChar(expected, actual, pos) => write_bytes(f, *expected, *actual, pos),
-            Error::InvalidChar2(expected, actual, pos) => write_byte(f, expected, *actual, pos),
-            Error::InvalidString(expected, pos) => write_named(f, "expected '", expected, pos),
-            Error::InvalidExternalID(pos) => write_at(f, "invalid ExternalID at ", pos),
-            Error::EntityResolver(pos, reason) => write_reason(f, pos, reason),
-            Error::InvalidComment(pos) => write_around(f, "comment at ", pos, " contains '--'"),
-            Error::InvalidCharacterData(pos) => write_around(
-                f,
-                "']]>' at ",
-                pos,
-                " is not allowed inside a character data",
-            ),
-            Error::UnknownToken(pos) => write_at(f, "unknown token at ", pos),
-            Error::UnexpectedEndOfStream => f.write_str("unexpected end of stream"),
-            Error::OutOfMemory => f.write_str("out of memory"),
-        }
-    }
-}
-
-/// Writes a text that ends in a position.
-fn write_at<W: fmt::Write>(f: &mut fmt::Formatter<W>, front: &str, pos: &TextPos) -> fmt::Result
-    ensures { WritesOnOk W.write_str_gives f.old result (front.now ++ position_text pos.now) f.new }
-{
-    write!(f, "{front}{pos}")
-}
-
-/// Writes a text with a position in it.
-fn write_around<W: fmt::Write>(
-    f: &mut fmt::Formatter<W>,
-    front: &str,
-    pos: &TextPos,
-    end: &str,
-) -> fmt::Result
-    ensures { WritesOnOk W.write_str_gives f.old result
-        (front.now ++ (position_text pos.now ++ end.now)) f.new }
-{
-    write!(f, "{front}{pos}{end}")
-}
-
-/// Writes what is said of a name, the quote in front of it with it, and where the name stands.
-fn write_named<W: fmt::Write>(
-    f: &mut fmt::Formatter<W>,
-    front: &str,
-    name: &str,
-    pos: &TextPos,
-) -> fmt::Result
-    ensures { WritesOnOk W.write_str_gives f.old result
-        (front.now ++ (name.now ++ (codes "' at " ++ position_text pos.now))) f.new }
-{
-    write!(f, "{front}{name}' at {pos}")
-}
-
-/// Writes that a name is given twice.
-fn write_defined<W: fmt::Write>(
-    f: &mut fmt::Formatter<W>,
-    front: &str,
-    name: &str,
-    pos: &TextPos,
-) -> fmt::Result
-    ensures { WritesOnOk W.write_str_gives f.old result
-        (front.now ++ (name.now
-        ++ (codes "' at " ++ (position_text pos.now ++ codes " is already defined")))) f.new }
-{
-    write!(f, "{front}{name}' at {pos} is already defined")
-}
-
-/// Writes which name was due, and which stands there.
-fn write_names<W: fmt::Write>(
-    f: &mut fmt::Formatter<W>,
-    expected: &str,
-    actual: &str,
-    pos: &TextPos,
-) -> fmt::Result
-    ensures { WritesOnOk W.write_str_gives f.old result (codes "expected '"
-        ++ (expected.now
-        ++ (codes "' tag, not '" ++ (actual.now ++ (codes "' at " ++ position_text pos.now)))))
-        f.new }
-{
-    write!(f, "expected '{expected}' tag, not '{actual}' at {pos}")
-}
-
-/// Writes which character stands there.
-fn write_char<W: fmt::Write>(
-    f: &mut fmt::Formatter<W>,
-    character: char,
-    pos: &TextPos,
-) -> fmt::Result
-    ensures { DisplaysOnOk W.write_str_gives f.old result
-        (Some (codes "a non-XML character ") ++? quoted character ++? Some (codes " found at "
-        ++ position_text pos.now)) f.new }
-{
-    let quoted = Quoted(character);
-    write!(f, "a non-XML character {quoted} found at {pos}")
-}
-
-/// Writes which byte was due, and which stands there.
-fn write_bytes<W: fmt::Write>(
-    f: &mut fmt::Formatter<W>,
-    expected: u8,
-    actual: u8,
-    pos: &TextPos,
-) -> fmt::Result
-    ensures { WritesOnOk W.write_str_gives f.old result (codes "expected '"
-        ++ (encode_utf8 expected
-        ++ (codes "' not '" ++ (encode_utf8 actual ++ (codes "' at " ++ position_text pos.now)))))
-        f.new }
-{
-    let expected = char::from(expected);
-    let actual = char::from(actual);
-    write!(f, "expected '{expected}' not '{actual}' at {pos}")
-}
-
-/// Writes what was due, and which byte stands there.
-fn write_byte<W: fmt::Write>(
-    f: &mut fmt::Formatter<W>,
-    expected: &str,
-    actual: u8,
-    pos: &TextPos,
-) -> fmt::Result
-    ensures { WritesOnOk W.write_str_gives f.old result (codes "expected "
-        ++ (expected.now
-        ++ (codes " not '" ++ (encode_utf8 actual ++ (codes "' at " ++ position_text pos.now)))))
-        f.new }
-{
-    let actual = char::from(actual);
-    write!(f, "expected {expected} not '{actual}' at {pos}")
-}
-
-/// Writes why a resolver refused.
-fn write_reason<W: fmt::Write>(
-    f: &mut fmt::Formatter<W>,
-    pos: &TextPos,
-    reason: &str,
-) -> fmt::Result
-    ensures { WritesOnOk W.write_str_gives f.old result (codes "entity resolver failed at "
-        ++ (position_text pos.now ++ (codes ": " ++ reason.now))) f.new }
-{
-    write!(f, "entity resolver failed at {pos}: {reason}")
-}
-
-/// A character between quotes, as its debug form has it. That of the two past ASCII that no text may have is written here.
-#[derive(Drop)]
-struct Quoted(char);
-
-impl fmt::Display for Quoted {
-    ghost use Rattle.rox_error.specs.Messages.{quoted};
-
-    ghost output = { λ q. quoted q.0 };
-
-    fn fmt<W: fmt::Write>(&self, f: &mut fmt::Formatter<W>) -> fmt::Result {
-        match self.0 {
-            '\u{fffe}' => write!(f, "'\\u{{fffe}}'"),
-            '\u{ffff}' => write!(f, "'\\u{{ffff}}'"),
-            character => write!(f, "{character:?}"),
+    /// Returns the position of the error, or 1:1 if its kind keeps none. `position` tells these apart.
+    pub fn pos(&self) -> TextPos
+        ensures { result ≡ position_of self.now }
+    {
+        match self.position() {
+            Some(position) => position,
+            None => TextPos::new(1, 1),
         }
     }
 }

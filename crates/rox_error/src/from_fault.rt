@@ -1,4 +1,4 @@
-//! From a fault of a source to the error that is told of it.
+//! From a fault of a text to the error that reports it.
 
 ghost use Rattle.std.specs.Prelude.{◌≡◌, IfOk, MatchResult};
 ghost use Rattle.rox_grammar.specs.ExpectedTexts.{expected_text};
@@ -11,30 +11,28 @@ use rox_grammar::fault::{Due, Expected, Fault, Span};
 use std::alloc::{AllocError, Global};
 use std::str;
 
-impl<'w> Error<'w> {
-    /// The error of this fault of `text`: rows and columns in place of counts of bytes, and names in place of spans. Where
-    /// there is no memory for a name it is `OutOfMemory`.
-    #[cold]
-    pub fn from_fault(alloc: Global, text: &str, fault: Fault) -> Error<'w>
-        ensures { IsErrorOf text.now fault result }
-    {
-        match told(alloc, text, fault) {
-            Ok(error) => error,
-            Err(_) => Error::OutOfMemory,
-        }
-    }
-
-    /// The error of a resolver that refused the request which `text` makes at `at`, with these words.
-    #[cold]
-    pub fn from_resolver(text: &str, at: usize, words: String) -> Error<'w>
-        ensures { result ≡ error.EntityResolver (position_at text.now at) words }
-    {
-        Error::EntityResolver(pos(text, at), words)
+/// Returns the error of a fault of `text`: it has rows and columns where the fault has offsets in bytes, and names where the fault
+/// has spans. Returns `OutOfMemory` if there is no memory for a name.
+#[cold]
+pub fn error_of_fault<'w>(alloc: Global, text: &str, fault: Fault) -> Error<'w>
+    ensures { IsErrorOf text.now fault result }
+{
+    match with_names(alloc, text, fault) {
+        Ok(error) => error,
+        Err(_) => Error::OutOfMemory,
     }
 }
 
-/// The error of a fault. The only `Err` is want of memory for a name.
-fn told<'w>(alloc: Global, text: &str, fault: Fault) -> Result<Error<'w>, AllocError>
+/// Returns the error of a resolver that refused a request with `reason`. `text` makes the request at the offset `at`, in bytes.
+#[cold]
+pub fn error_of_resolver<'w>(text: &str, at: usize, reason: String) -> Error<'w>
+    ensures { result ≡ error.EntityResolver (position_at text.now at) reason }
+{
+    Error::EntityResolver(pos(text, at), reason)
+}
+
+/// Returns the error of a fault.
+fn with_names<'w>(alloc: Global, text: &str, fault: Fault) -> Result<Error<'w>, AllocError>
     ensures { MatchResult result (IsErrorOf text.now fault)
         (λ _. IsErrorOf text.now fault error.OutOfMemory) }
 {
@@ -101,14 +99,14 @@ fn told<'w>(alloc: Global, text: &str, fault: Fault) -> Result<Error<'w>, AllocE
     }
 }
 
-/// The position of a place.
+/// Returns the position of the character at the offset `at`, in bytes.
 fn pos(text: &str, at: usize) -> TextPos
     ensures { result ≡ position_at text.now at }
 {
     text_pos_at(text, at)
 }
 
-/// The text of a span. The only error is want of memory.
+/// Returns the text of a span.
 fn named(alloc: Global, text: &str, span: Span) -> Result<String, AllocError>
     ensures { IfOk result (Names text.now span) }
 {
@@ -116,7 +114,7 @@ fn named(alloc: Global, text: &str, span: Span) -> Result<String, AllocError>
     String::from_str(alloc, name)
 }
 
-/// What was due, in words.
+/// Returns what was expected, in words.
 fn due_words(due: Due) -> &'static str
     ensures { result.now ≡ due_text due }
 {
@@ -129,7 +127,7 @@ fn due_words(due: Due) -> &'static str
     }
 }
 
-/// The fixed text that was due.
+/// Returns the fixed text that was expected.
 fn fixed_text(expected: Expected) -> &'static str
     ensures { result.now ≡ expected_text expected }
 {

@@ -1,6 +1,8 @@
-//! What a caller is told of a text that is refused: the kind of the fault, its row and column, and its printed text.
+//! The errors that callers are given: the kind of the fault, its row and column, and its message.
 #![tactic(auto)]
 
+mod counting;
 pub mod error;
-mod from_fault;
+pub mod from_fault;
+pub mod message;
 pub mod position;

@@ -4,10 +4,17 @@ ghost use Rattle.std.specs.Prelude.{◌≡◌, ◌+◌, min};
 ghost use Rattle.std.specs.Str.{IsCharBoundary};
 ghost use Rattle.rox_grammar.specs.Positions as spec;
 
-use memchr::{memchr_iter, memrchr};
+use crate::counting::{FirstByte, LineFeed, count};
+use memchr::memrchr;
 use std::fmt;
 
-/// A row and a column, both from 1. A column counts characters.
+/// A position in a text: a row and a column, both from 1. The column counts characters.
+///
+/// ```
+/// let document = Document::parse(alloc, "<r>\n  <a/>\n</r>")?;
+/// // the byte where `<a/>` starts
+/// assert!(rt; document.text_pos_at(6) == TextPos::new(2, 3));
+/// ```
 #[derive(Clone, Copy, Debug, PartialEq, Eq, Hash)]
 pub struct TextPos {
     pub row: u32,
@@ -15,7 +22,7 @@ pub struct TextPos {
 }
 
 impl TextPos {
-    /// The position of this row and column.
+    /// Returns the position with this row and this column.
     #[inline]
     pub fn new(row: u32, col: u32) -> TextPos
         ensures row { result.row ≡ row }
@@ -37,7 +44,7 @@ impl fmt::Display for TextPos {
     }
 }
 
-/// The start of the character that stands at `at`, or the end.
+/// Returns the offset, in bytes, at which the character at the offset `at` starts, or the length of the text if `at` is past it.
 #[inline]
 fn round_down(text: &str, at: usize) -> usize
     ensures place { result ≡ spec.round_down text.now at }
@@ -50,7 +57,7 @@ fn round_down(text: &str, at: usize) -> usize
     place
 }
 
-/// One more than the count, or the greatest number.
+/// Returns `count + 1`, or `u32::MAX` if that is less.
 #[inline]
 fn counted(count: usize) -> u32
     ensures { result ≡ min (count + 1) 4294967295 }
@@ -62,7 +69,7 @@ fn counted(count: usize) -> u32
     }
 }
 
-/// What follows the last line feed.
+/// Returns what follows the last line feed, or the whole text if it has none.
 fn last_line(front: &str) -> &str
     ensures { result.now ≡ spec.last_line front.now }
 {
@@ -72,17 +79,17 @@ fn last_line(front: &str) -> &str
     }
 }
 
-/// The position of the character at the byte `at` of `text`, where a place inside a character is that of the character, and
-/// a place past the end is the end. Rows end at each line feed (XML 1.0 section 2.11). A row or a column past the greatest
-/// `u32` is that number. It reads the text up to `at` once.
+/// Returns the position of the character at the offset `at` of `text`, in bytes. Inside of a character this is the position of that
+/// character, and past the end that of the end. A row ends with each line feed (XML 1.0 2.11). A row or a column greater than
+/// `u32::MAX` is returned as `u32::MAX`. Reads the text up to `at` once.
 #[tactic(auto, unfolding(rox_grammar::specs::Positions::row_of, rox_grammar::specs::Positions::col_of))]
 pub fn text_pos_at(text: &str, at: usize) -> TextPos
     ensures row { result.row ≡ spec.row_of text.now at }
     ensures col { result.col ≡ spec.col_of text.now at }
 {
     let front = &text[..round_down(text, at)];
-    let rows = memchr_iter(b'\n', front.as_bytes()).count();
-    let cols = last_line(front).chars().count();
+    let rows = count::<LineFeed>(front.as_bytes());
+    let cols = count::<FirstByte>(last_line(front).as_bytes());
     TextPos {
         row: counted(rows),
         col: counted(cols),

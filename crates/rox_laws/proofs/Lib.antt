@@ -17,3 +17,4 @@ mod Lying
 mod Counted
 mod Placed
 mod Literals
+pub mod ElementCuts

@@ -11,7 +11,7 @@ use Rattle.rox_grammar.specs.Tree.{Node, Attribute, same_prefix}
 use Rattle.roxmltree.specs.NodeParts.{node_at, listed_of, attributes_of}
 use Rattle.roxmltree.specs.ExpandedNames.{same_expanded_name, named, IsNamedAt}
 use Rattle.rox_laws.specs.TreeLaws.{PrefixesOnce, same_attribute_name, NamesOnce, NamesDistinct}
-use Rattle.rox_tables.proofs.Pairs.{same_prefix-true, same_prefix-refl}
+use Rattle.rox_scopes.proofs.Pairs.{same_prefix-true, same_prefix-refl}
 use Rattle.roxmltree.specs.EachNode.{EachNode}
 use Rattle.roxmltree.proofs.Everywhere.{at_each}
 

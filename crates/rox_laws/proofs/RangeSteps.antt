@@ -1,12 +1,13 @@
 -- The ranges of nodes that are nested, by the nodes' ids.
-use Rattle.std.proofs.Common.{◌≡◌, ℕ, ◌+◌, ◌<◌, ◌≤◌, List, [], ◌∷◌, Some, refl, arith, ⊎_elim}
+use Rattle.std.proofs.Common.{◌≡◌, ℕ, ◌+◌, ◌<◌, ◌≤◌, List, [], ◌∷◌, Some, arith, ⊎_elim}
 use Rattle.std.proofs.lemmas.Bool.{cases_lt, cases_eq}
 use Rattle.rox_grammar.specs.Forest.{Forest, Nil, Cons, size}
 use Rattle.rox_grammar.specs.Tree.{Node}
 use Rattle.roxmltree.specs.Places.{ids, Place, places, preorder, place, first, parent, next_sibling}
 use Rattle.roxmltree.specs.NodeParts.{node_at, start_of, end_of}
 use Rattle.rox_laws.specs.RangeLaws.{RangesNested}
-use Rattle.roxmltree.proofs.Preorder.{at, Sits, sits, length-places}
+use Rattle.roxmltree.proofs.Preorder.{at, Sits}
+use Rattle.roxmltree.proofs.Tops.{whole_sits}
 
 -- the range of a node of the list
 abbrev start_at : List Place → ℕ → ℕ
@@ -56,12 +57,6 @@ before_next T up left b (Cons x c r) from to s h i l m j =
     (λ high. before_next T up (b ∷ left) (b + (1 + size c)) r (end_of x) to s.3 h.3 i high (omega arith) j)
     (cases_lt i (b + (1 + size c))))
     (cases_eq i b)
-
--- a tree stands in its own list
-whole_sits : (f : Forest Node) → Sits (preorder f) [] [] 0 f
-unfolding preorder
-whole_sits f =
-    sits (places [] [] 0 f) [] [] 0 f (λ k m. let e : 0 + k ≡ k = omega arith in rw e refl) (omega (arith, length-places [] [] 0 f))
 
 -- a node's range lies in its parent's
 pub range_in_parent : (f : Forest Node) (to i q : ℕ) → RangesNested 0 to f → i < size f → parent f i ≡ Some q

@@ -8,7 +8,7 @@ use Rattle.rox_grammar.specs.Tree.{same_prefix, is_declared, listed, uri_of, sco
 use Rattle.rox_grammar.specs.WellNamed.{ItemWellNamed}
 use Rattle.rox_grammar.proofs.NamesApart.{DeclarableBehind, declarable_behind}
 use Rattle.rox_laws.specs.NearestDeclaration.{declared_at, xml}
-use Rattle.rox_tables.proofs.Pairs.{same_prefix-true, same_prefix-refl}
+use Rattle.rox_scopes.proofs.Pairs.{same_prefix-true, same_prefix-refl}
 use Rattle.rox_laws.proofs.Once.{some_none}
 
 -- ---- one row of declarations

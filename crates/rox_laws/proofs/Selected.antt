@@ -1,5 +1,5 @@
 -- The attributes of a document's nodes stand in its text.
-use Rattle.std.proofs.Common.{◌≡◌, ◌≢◌, inl, inr, ℕ, zero, suc, ◌+◌, ◌-◌, ◌<◌, ◌≤◌, ◌==◌, ◌||◌, Bool, true, false, not, eqb, List, [], ◌∷◌, ◌++◌, map, length, refl, sym, ap, ◌∙◌, subst, arith}
+use Rattle.std.proofs.Common.{◌≡◌, ◌≢◌, inl, inr, ℕ, ◌+◌, ◌-◌, ◌<◌, ◌≤◌, ◌==◌, ◌||◌, Bool, true, false, not, eqb, List, [], ◌∷◌, ◌++◌, map, length, refl, sym, ap, ◌∙◌, subst, arith}
 use Rattle.std.specs.Prelude.{All, filter}
 use Rattle.std.proofs.lemmas.Bool.{not-true, or_parts, eqb-false}
 use Rattle.std.proofs.lemmas.List.Elements.{All-nil, All-cons}
@@ -29,15 +29,9 @@ use Rattle.rox_laws.proofs.Forward.{attribute_forward, attributes_forward, ends_
 use Rattle.rox_laws.proofs.Nested.{content_forward}
 use Rattle.rox_laws.proofs.EachNodeLemmas.{each_join, each_merge, each_resolved}
 use Rattle.rox_grammar.specs.Content.{attribute}
+use Rattle.rox_faults.proofs.FaultRows.{slice_split}
 
 -- ---- one attribute
-
--- a slice in two parts
-slice_split : (src : List ℕ) (d i k j : ℕ) → i + d ≡ k → k ≤ j → j ≤ length src → slice src i j ≡ slice src i k ++ slice src k j
-slice_split src zero i k j to le inside = let e : i ≡ k = omega arith in rw (e, slice_nil src k) refl
-slice_split src (suc d) i k j to le inside =
-    slice_cons src i j (omega arith) inside ∙ ap (λ (r : List ℕ). byte src i ∷ r) (slice_split src d (i + 1) k j (omega arith) le inside)
-    ∙ ap (λ (r : List ℕ). r ++ slice src k j) (sym (slice_cons src i k (omega arith) (omega arith)))
 
 -- a colon and a local part
 after_colon : (src : List ℕ) (k j : ℕ) → byte src k ≡ 58 → k < j → j ≤ length src → slice src k j ≡ 58 ∷ slice src (k + 1) j

@@ -1,4 +1,4 @@
-//! Laws of elements that are put in the place of others, each a function whose contract is the law.
+//! Laws of elements that are exchanged for others, each a function whose contract is the law.
 
 ghost use Rattle.std.specs.Prelude.{◌≡◌, true, false};
 ghost use Rattle.rox_exchange.specs.ExchangeLaws.{AreSeparate, StaysContained, GoesBack, Commutes};
@@ -10,22 +10,23 @@ use crate::laws::whole;
 use roxmltree::laws::document_is_whole;
 use roxmltree::{Document, Node};
 
-/// The root element of a document without a document type declaration stands alone: above it is the root node, which lists
-/// nothing. So such a document may be `exchange`'s other, as what `reparse` answers.
+/// States that the root element of a document without a document type declaration is self-contained. Its only ancestor is the
+/// root node, which lists nothing. So `exchange` accepts every such document as its other one, as those that `reparse` returns.
 pub fn root_elements_stand_alone(document: &Document<'_>)
     ensures { document.now.dtd ≡ false → stands_alone document.now (root_id document.now.tree) ≡ true }
 {
     document_is_whole(document);
 }
 
-/// The element that `exchange` puts in is self-contained, and so is each node outside of it that was so before.
+/// States that the element which `exchange` puts in is self-contained. States too that each node outside of it stays
+/// self-contained if it was so before.
 pub fn elements_stay_contained(node: Node<'_, '_>, other: &Document<'_>)
     requires mine { stands_alone (document_of node) (id_of node) ≡ true }
     requires others { stands_alone other.now (root_id other.now.tree) ≡ true }
     ensures { StaysContained (tree_of node.entry) (id_of node.entry) other.now.tree (root_id other.now.tree) }
 {}
 
-/// The old element put back in the place of the new one gives the first text and the first tree.
+/// States that exchanging the new element for the old one again gives the first text and the first tree.
 pub fn exchanges_go_back(node: Node<'_, '_>, other: &Document<'_>)
     requires mine { stands_alone (document_of node) (id_of node) ≡ true }
     requires others { stands_alone other.now (root_id other.now.tree) ≡ true }
@@ -35,7 +36,8 @@ pub fn exchanges_go_back(node: Node<'_, '_>, other: &Document<'_>)
     document_is_whole(other);
 }
 
-/// At two nodes of a document, neither below the other, exchanges in either order give one text and one tree.
+/// States that two exchanges at separate nodes of one document give the same text and the same tree in either order. Nodes are
+/// separate if neither is a descendant of the other.
 pub fn exchanges_commute(
     first: Node<'_, '_>,
     one: &Document<'_>,

@@ -1,85 +1,85 @@
--- Paths as they are written: places in the bytes of a text, from 0.
+-- The text of paths: offsets in the bytes of a text, from 0.
 use Rattle.std.specs.Prelude.{◌≡◌, ◌≢◌, ◌⊎◌, ℕ, ◌+◌, ◌<◌, ◌≤◌, ◌==◌, ◌||◌, List, [], ◌∷◌, Some, None, length}
 use Rattle.std.specs.Str.{IsCharBoundary}
 use Rattle.rox_grammar.specs.Search.{byte_from}
 use Rattle.rox_grammar.specs.Names.{byte, slice}
 use Rattle.rox_path.specs.Steps.{Expanded, PathStep, child, descendant}
 
--- where a local name ends that begins at i: at the next `/`, `{` or `}`, or at the end of the text
+-- The end of a local name that begins at `i`: the next `/`, `{` or `}`, or the end of the text.
 abbrev pub local_end : List ℕ → ℕ → ℕ
 local_end text i = byte_from (λ c. c == 47 || c == 123 || c == 125) text i
 
--- where a URI ends that begins at i: at the next `}`, or at the end of the text
+-- The end of a URI that begins at `i`: the next `}`, or the end of the text.
 abbrev pub uri_end : List ℕ → ℕ → ℕ
 uri_end text i = byte_from (λ c. c == 125) text i
 
--- a name from i up to j: a local name, which is not empty, or `{`, a URI, `}` and a local name
+-- A name from `i` up to `j`: a local name, which is not empty, or `{`, a URI, `}` and a local name.
 pub data IsStepName (text : List ℕ) (i : ℕ) : ℕ → Expanded → Type 0 where
   local_alone : i < local_end text i → IsStepName text i (local_end text i) (None, slice text i (local_end text i))
   with_uri : (u : ℕ) → byte text i ≡ 123 → u ≡ uri_end text (i + 1) → u < length text → u + 1 < local_end text (u + 1)
       → IsStepName text i (local_end text (u + 1)) (Some (slice text (i + 1) u), slice text (u + 1) (local_end text (u + 1)))
 
--- a step from i up to j: `/` or `//`, and a name
+-- A step from `i` up to `j`: `/` or `//`, and a name.
 pub data IsStep (text : List ℕ) (i j : ℕ) : PathStep → Type 0 where
   one_slash : (name : Expanded) → byte text i ≡ 47 → IsStepName text (i + 1) j name → IsStep text i j (child name)
   two_slashes : (name : Expanded) → byte text i ≡ 47 → byte text (i + 1) ≡ 47 → IsStepName text (i + 2) j name → IsStep text i j (descendant name)
 
--- what ends at j is not empty, and is cut off between two characters
+-- What is read from `i` up to `j` is not empty, and `j` is between two characters.
 pub record EndsBehind (text : List ℕ) (i j : ℕ) : Type 0 where
   pub onward : i < j
   pub cut : IsCharBoundary text j
 
--- a local name from i up to where it ends
+-- A local name is read from `i` up to its end `j`.
 pub record ReadsLocal (text : List ℕ) (i j : ℕ) (read : List ℕ) : Type 0 where
   pub end : j ≡ local_end text i
   pub local : read ≡ slice text i j
   pub ends : EndsBehind text i j
 
--- a name from i up to where it ends
+-- A name is read from `i` up to its end `j`.
 pub record ReadsName (text : List ℕ) (i j : ℕ) (read : Expanded) : Type 0 where
   pub name : IsStepName text i j read
   pub ends : EndsBehind text i j
 
--- a step from i up to where it ends
+-- A step is read from `i` up to its end `j`.
 pub record ReadsStep (text : List ℕ) (i j : ℕ) (read : PathStep) : Type 0 where
   pub step : IsStep text i j read
   pub ends : EndsBehind text i j
 
--- a URI that begins at i ends here: at a `}`, or at the end of the text
+-- A URI that begins at `i` ends at `j`: at a `}`, or at the end of the text.
 pub record ReadsUri (text : List ℕ) (i j : ℕ) : Type 0 where
   pub value : j ≡ uri_end text i
   pub onward : i ≤ j
   pub within : j ≤ length text
   pub found : j < length text → byte text j ≡ 125
 
--- one or more steps from i up to the end
+-- One or more steps are from `i` up to the end of the text.
 pub data IsPath (text : List ℕ) : ℕ → List PathStep → Type 0 where
   last_step : (i : ℕ) (s : PathStep) → IsStep text i (length text) s → IsPath text i (s ∷ [])
   then_steps : (i j : ℕ) (s : PathStep) (steps : List PathStep) → IsStep text i j s → IsPath text j steps → IsPath text i (s ∷ steps)
 
--- steps lead from the start of the text up to here
+-- Steps are from the start of the text up to this offset.
 pub data StepsTo (text : List ℕ) : ℕ → Type 0 where
   no_step : StepsTo text 0
   one_more : (i j : ℕ) (s : PathStep) → StepsTo text i → IsStep text i j s → StepsTo text j
 
--- in a step that begins at i a name is due at n
+-- A name is required at this offset, in a step that begins at `i`.
 pub data NameDue (text : List ℕ) (i : ℕ) : ℕ → Type 0 where
   behind_one : byte text i ≡ 47 → byte text (i + 1) ≢ 47 → NameDue text i (i + 1)
   behind_two : byte text i ≡ 47 → byte text (i + 1) ≡ 47 → NameDue text i (i + 2)
 
--- a name is due at n, and from k on none goes on: where a local name is due and is empty, or at a `{` without `}`
+-- A name is required at `n`, and none continues from this offset on. A local name is empty there, or there is a `{` without `}`.
 pub data IsBadName (text : List ℕ) (n : ℕ) : ℕ → Type 0 where
   no_local : byte text n ≢ 123 → local_end text n ≡ n → IsBadName text n n
   no_brace : byte text n ≡ 123 → uri_end text (n + 1) ≡ length text → IsBadName text n n
   no_local_behind : (u : ℕ) → byte text n ≡ 123 → u ≡ uri_end text (n + 1) → u < length text → local_end text (u + 1) ≡ u + 1
       → IsBadName text n (u + 1)
 
--- a step is due at i, and from k on none goes on
+-- A step is required at `i`, and none continues from this offset on.
 pub data IsBadStep (text : List ℕ) (i : ℕ) : ℕ → Type 0 where
   no_slash : byte text i ≢ 47 → IsBadStep text i i
   no_name : (n k : ℕ) → NameDue text i n → IsBadName text n k → IsBadStep text i k
 
--- where a text is no path: the first place from the left that no path goes on from. A step is due at the start, and where
--- one ends before the end of the text.
+-- The text is not a path, and this is the first offset from which no path continues. A step is required at the start, and after
+-- each step that ends before the text does.
 pub data IsBadAt (text : List ℕ) : ℕ → Type 0 where
   bad_step : (i k : ℕ) → StepsTo text i → (i ≡ 0) ⊎ (i < length text) → IsBadStep text i k → IsBadAt text k

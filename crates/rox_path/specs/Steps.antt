@@ -4,16 +4,16 @@ use Rattle.roxmltree.specs.ExpandedNames.{expanded}
 use Rattle.rox_path.specs.declared.steps.Step.{Step}
 use Rattle.rox_path.specs.declared.steps.Step.TheVariants as step
 
--- a namespace, or none, and a local name
+-- A namespace, or none, and a local name.
 abbrev pub Expanded : Type 0
 Expanded = Option (List ℕ) × List ℕ
 
--- to the children of this name, or to all nodes of this name below
+-- A step to the children with this name, or to the descendants with this name.
 pub data PathStep : Type 0 where
   child : Expanded → PathStep
   descendant : Expanded → PathStep
 
--- what a step says
+-- The step that the code's `Step` is.
 abbrev pub step_of : Step → PathStep
 step_of (step.Child name) = child (expanded name)
 step_of (step.Descendant name) = descendant (expanded name)

@@ -1,4 +1,4 @@
-//! Path queries: the elements that a path of names leads to, as `/svg/{http://www.w3.org/2000/svg}g//path`.
+//! Path queries: the elements that a path of names reaches, such as `/svg/{http://www.w3.org/2000/svg}g//path`.
 #![tactic(auto)]
 
 pub mod parse;

@@ -1,4 +1,4 @@
-//! Paths as they are written: `//item/{urn:x}name`.
+//! The text of paths: `//item/{urn:x}name`.
 
 ghost use Rattle.std.specs.Prelude.{◌≡◌, ◌≢◌, ℕ, ◌≤◌, ◌==◌, List, map, IfOk, Err, Some, MatchResult, length};
 ghost use Rattle.std.specs.Str.{IsCharBoundary};
@@ -15,12 +15,16 @@ use roxmltree::ExpandedName;
 use std::alloc::{AllocError, AllocFailed, Global};
 use std::fmt;
 
-/// Why a path is not read.
+/// The reason why a path is refused.
+///
+/// ```
+/// assert!(rt; parse_path(alloc, "r").err() == Some(PathError::BadPath(0)));
+/// ```
 #[derive(Clone, Copy, Debug, PartialEq, Eq)]
 pub enum PathError {
-    /// The text is no path. The byte is the first place from the left that no path goes on from.
+    /// The text is not a path. The number is an offset in bytes, from 0: the first from which no path continues.
     BadPath(usize),
-    /// There is no memory.
+    /// Memory ran out.
     OutOfMemory,
 }
 
@@ -55,8 +59,17 @@ impl<T: Drop> From<AllocFailed<T>> for PathError {
     }
 }
 
-/// The steps of a path: one or more, each `/` or `//` and a name. A name is a local name, or `{`, the URI of its namespace,
-/// `}` and a local name. The steps borrow from the text.
+/// Returns the steps of a path: one or more, each `/` or `//` and a name. A name is a local name, or `{`, the URI of its
+/// namespace, `}` and a local name. The steps borrow from `text`.
+///
+/// Fails with `BadPath` if `text` is not a path, and with `OutOfMemory` if memory runs out.
+///
+/// ```
+/// let document = Document::parse(alloc, "<r><g><a/></g><a/></r>")?;
+/// let steps = parse_path(alloc, "/r//a")?;
+/// let found = select(alloc, document.root(), &steps)?;
+/// assert!(rt; found.len() == 2);
+/// ```
 pub fn parse_path<'q>(alloc: Global, text: &'q str) -> Result<Vec<Step<'q>>, PathError>
     ensures ok { IfOk result (λ steps. IsPath text.now 0 (map step_of steps.items)) }
     ensures bad { (k : ℕ) → result ≡ Err (PathError.BadPath k) → IsBadAt text.now k }
@@ -73,7 +86,7 @@ pub fn parse_path<'q>(alloc: Global, text: &'q str) -> Result<Vec<Step<'q>>, Pat
     Ok(steps)
 }
 
-/// The step that begins at this place, and where it ends.
+/// Returns the step that begins at the offset `at`, and the offset after it.
 fn step_at<'q>(text: &'q str, at: usize) -> Result<(Step<'q>, usize), PathError>
     requires { IsCharBoundary text.now at }
     ensures { MatchResult result (λ r. ReadsStep text.now at r.1 (step_of r.0))
@@ -91,7 +104,7 @@ fn step_at<'q>(text: &'q str, at: usize) -> Result<(Step<'q>, usize), PathError>
     }
 }
 
-/// The name that begins at this place, and where it ends.
+/// Returns the name that begins at the offset `at`, and the offset after it.
 fn name_at<'q>(text: &'q str, at: usize) -> Result<(ExpandedName<'q, 'q>, usize), PathError>
     requires { IsCharBoundary text.now at }
     ensures { MatchResult result (λ r. ReadsName text.now at r.1 (expanded r.0))
@@ -109,7 +122,8 @@ fn name_at<'q>(text: &'q str, at: usize) -> Result<(ExpandedName<'q, 'q>, usize)
     Ok((ExpandedName::from((&text[at + 1..close], local)), end))
 }
 
-/// The local name that begins at this place, and where it ends: at the next `/`, `{` or `}`, or at the end.
+/// Returns the local name that begins at the offset `at`, and the offset after it. It ends at the next `/`, `{` or `}`, or at the
+/// end of the text.
 #[tactic(auto, unfolding(rox_grammar::specs::Search::byte_from))]
 fn local_at(text: &str, at: usize) -> Result<(&str, usize), PathError>
     requires { IsCharBoundary text.now at }
@@ -124,7 +138,7 @@ fn local_at(text: &str, at: usize) -> Result<(&str, usize), PathError>
     Ok((&text[at..end], end))
 }
 
-/// Where a URI ends that begins at this place: at the next `}`, or at the end.
+/// Returns the offset after a URI that begins at `at`: that of the next `}`, or the end of the text.
 #[tactic(auto, unfolding(rox_grammar::specs::Search::byte_from))]
 fn uri_end(text: &str, at: usize) -> usize
     requires { at ≤ length text.now }
@@ -134,7 +148,7 @@ fn uri_end(text: &str, at: usize) -> usize
     at + memchr(b'}', rest).unwrap_or(rest.len())
 }
 
-/// Whether this byte stands at this place.
+/// Returns whether the byte `wanted` is at the offset `at`.
 fn is_at(text: &str, at: usize, wanted: u8) -> bool
     requires { wanted ≢ 0 }
     ensures { result ≡ (byte text.now at == wanted) }

@@ -1,4 +1,4 @@
-//! The nodes that steps lead to.
+//! The nodes that steps reach.
 
 ghost use Rattle.std.specs.Prelude.{◌≡◌, ℕ, List, map, filter, IfOk};
 ghost use Rattle.roxmltree.specs.ExpandedNames.{expanded};
@@ -14,9 +14,17 @@ use roxmltree::laws::{
 use roxmltree::{ExpandedName, Node};
 use std::alloc::{AllocError, Global};
 
-/// The nodes that these steps lead to from a node, in document order, each once. No steps lead to the node itself.
+/// Returns the nodes that the steps reach from `start`, in document order, without duplicates. Without steps, it returns `start`
+/// alone.
 ///
-/// It takes one pass over the nodes below the start for each step, however deep they lie.
+/// It takes one pass over the descendants of `start` for each step, whatever their depth.
+///
+/// ```
+/// let document = Document::parse(alloc, "<r><g><a/></g><a/></r>")?;
+/// let steps = parse_path(alloc, "/r//a")?;
+/// let found = select(alloc, document.root(), &steps)?;
+/// assert!(rt; found.len() == 2);
+/// ```
 pub fn select<'a, 'input>(
     alloc: Global,
     start: Node<'a, 'input>,
@@ -37,7 +45,7 @@ pub fn select<'a, 'input>(
     marked_nodes(alloc, start, &marks)
 }
 
-/// A mark on the start, and none on the nodes below it.
+/// Returns a mark for `start`, and none for its descendants.
 fn start_alone(alloc: Global, start: Node<'_, '_>) -> Result<Vec<bool>, AllocError>
     ensures { IfOk result
         (λ marks. marks.items ≡ map (is_first (id_of start.entry)) (subtree_of start.entry)) }
@@ -49,7 +57,7 @@ fn start_alone(alloc: Global, start: Node<'_, '_>) -> Result<Vec<bool>, AllocErr
     Ok(marks)
 }
 
-/// Marks on the nodes of this name whose parent is marked.
+/// Returns marks for the elements with this name whose parent is marked.
 fn mark_children(
     alloc: Global,
     start: Node<'_, '_>,
@@ -71,7 +79,7 @@ fn mark_children(
     Ok(next)
 }
 
-/// Marks on the nodes of this name above which a node is marked.
+/// Returns marks for the elements with this name that have a marked ancestor.
 fn mark_descendants(
     alloc: Global,
     start: Node<'_, '_>,
@@ -84,7 +92,7 @@ fn mark_descendants(
         (subtree_of start.entry)) }
 {
     laws(start);
-    // of each node whether one above it is marked
+    // for each node, whether an ancestor is marked
     let mut below = Vec::new(alloc);
     let mut next = Vec::new(alloc);
     for node in start.descendants() {
@@ -95,7 +103,7 @@ fn mark_descendants(
     Ok(next)
 }
 
-/// Whether a node above this one is marked. Of each node before it, `below` says so.
+/// Returns whether a node has a marked ancestor. `below` says so of each node before it.
 fn is_below(start: Node<'_, '_>, marks: &[bool], below: &[bool], node: Node<'_, '_>) -> bool
     requires { MarksSoFar start marks.now below.now node }
     ensures { result ≡ is_below (id_of start.entry) marks.now (node_ref node.entry) }
@@ -107,7 +115,7 @@ fn is_below(start: Node<'_, '_>, marks: &[bool], below: &[bool], node: Node<'_, 
     }
 }
 
-/// The nodes that are marked, in order.
+/// Returns the marked nodes, in document order.
 fn marked_nodes<'a, 'input>(
     alloc: Global,
     start: Node<'a, 'input>,
@@ -125,7 +133,7 @@ fn marked_nodes<'a, 'input>(
     Ok(nodes)
 }
 
-/// Whether a node is marked, where the first mark is the start's.
+/// Returns whether a node is marked. The first mark is that of `start`.
 fn is_marked(start: Node<'_, '_>, marks: &[bool], node: Node<'_, '_>) -> bool
     ensures { result ≡ is_marked (id_of start.entry) marks.now (id_of node.entry) }
 {
@@ -134,7 +142,7 @@ fn is_marked(start: Node<'_, '_>, marks: &[bool], node: Node<'_, '_>) -> bool
     first <= id && marks.get(id - first) == Some(&true)
 }
 
-/// What holds of the tree that a node is in.
+/// States the laws of the tree that a node is in.
 fn laws(node: Node<'_, '_>)
     ensures { Laws (tree_of node.entry) }
 {

@@ -2,11 +2,18 @@
 
 use roxmltree::ExpandedName;
 
-/// A step of a path: from a node to elements of this name.
+/// A step of a path: from a node to elements with this name.
+///
+/// ```
+/// let document = Document::parse(alloc, "<r><g><a/></g><a/></r>")?;
+/// let steps = [Step::Child("r".into()), Step::Child("a".into())];
+/// let found = select(alloc, document.root(), &steps)?;
+/// assert!(rt; found.len() == 1);
+/// ```
 #[derive(Clone, Copy, PartialEq, Eq, Debug)]
 pub enum Step<'q> {
-    /// To its children.
+    /// A step to the children of the node.
     Child(ExpandedName<'q, 'q>),
-    /// To all nodes below it, at any depth.
+    /// A step to the descendants of the node, at any depth.
     Descendant(ExpandedName<'q, 'q>),
 }

@@ -7,8 +7,8 @@ pub mod ids;
 pub mod paths;
 pub mod qualified;
 pub mod records;
-#[cfg(test)]
-mod tests;
+pub mod resolvers;
+pub mod walks;
 
 pub use crate::answers::{
     AttributeAnswers, NamespaceAnswers, attribute_answers, namespace_answers,
@@ -18,3 +18,5 @@ pub use crate::ids::element_by_id;
 pub use crate::paths::{QueryError, records_at};
 pub use crate::qualified::resolve;
 pub use crate::records::{Record, RecordsError, read_records};
+pub use crate::resolvers::{parse_answered, parse_named};
+pub use crate::walks::{element_source, first_with_id, last_with_id, levels, source_of};

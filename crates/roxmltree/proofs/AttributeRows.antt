@@ -3,12 +3,13 @@ use Rattle.std.proofs.Common.{◌≡◌, ℕ, zero, suc, ◌+◌, ◌-◌, ◌==
 use Rattle.std.specs.List.{AllByRecursion, slice_range}
 use Rattle.std.proofs.lemmas.List.{length-map, take_more, take_all, take-map, drop-map, map-append}
 use Rattle.rox_grammar.specs.Tree as tree
-use Rattle.rox_tables.specs.Rows.{AttributeRow, NamespaceWithin, attribute, attribute_rows, namespace_view}
-use Rattle.rox_tables.specs.StoredAttributes.{AreNumbered, data_of, row_in, place_bound, unusual_count}
-use Rattle.rox_tables.specs.declared.rows.tables.AttributePlaces.{AttributePlaces}
-use Rattle.rox_tables.specs.declared.rows.tables.Tables.{Tables}
-use Rattle.rox_tables.specs.declared.rows.stored_attribute.StoredAttribute.{StoredAttribute}
-use Rattle.rox_tables.specs.declared.rows.attributes.AttributeTable.{AttributeTable}
+use Rattle.rox_rows.specs.Rows.{AttributeRow, NamespaceWithin, attribute, attribute_rows}
+use Rattle.rox_scopes.specs.Tables.{namespace_view}
+use Rattle.rox_rows.specs.StoredAttributes.{AreNumbered, data_of, row_in, place_bound, unusual_count}
+use Rattle.rox_rows.specs.declared.row.AttributePlaces.{AttributePlaces}
+use Rattle.rox_scopes.specs.declared.tables.Tables.{Tables}
+use Rattle.rox_rows.specs.declared.stored_attribute.StoredAttribute.{StoredAttribute}
+use Rattle.rox_rows.specs.declared.attributes.AttributeTable.{AttributeTable}
 use Rattle.roxmltree.specs.NamespaceBound.{namespace_bound}
 use Rattle.roxmltree.proofs.Entries.{reach_within}
 

@@ -1,10 +1,11 @@
 -- Rows of namespaces and of attributes, and what they name.
 use Rattle.std.proofs.Common.{◌≡◌, ℕ, zero, suc, ◌<◌, ◌≤◌, List, [], ◌∷◌, length, get_or, map, ap, arith}
-use Rattle.rox_tables.specs.Storage.{storage_bytes}
-use Rattle.rox_tables.specs.Rows.{namespace_view, namespace_at, NamespaceWithin}
-use Rattle.rox_tables.specs.declared.rows.tables.Namespace.{Namespace}
-use Rattle.rox_tables.specs.declared.rows.tables.AttributeNamespace.{AttributeNamespace}
-use Rattle.rox_tables.specs.declared.rows.tables.AttributeNamespace.TheVariants as space
+use Rattle.rox_rows.specs.Storage.{storage_bytes}
+use Rattle.rox_rows.specs.Rows.{namespace_at, NamespaceWithin}
+use Rattle.rox_scopes.specs.Tables.{namespace_view}
+use Rattle.rox_scopes.specs.declared.tables.Namespace.{Namespace}
+use Rattle.rox_rows.specs.declared.row.AttributeNamespace.{AttributeNamespace}
+use Rattle.rox_rows.specs.declared.row.AttributeNamespace.TheVariants as space
 use Rattle.roxmltree.specs.NamespaceBound.{namespace_bound}
 
 -- a namespace's row is the entry of its place

@@ -16,6 +16,8 @@ pub mod AttributeRows
 pub mod Stretches
 pub mod Ranges
 pub mod Few
+pub mod LaterChildren
+pub mod Chains
 pub mod Fronts
 pub mod FewAttributes
 pub mod Everywhere

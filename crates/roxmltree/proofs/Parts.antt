@@ -1,22 +1,24 @@
 -- What an element's row says of its namespaces and attributes.
-use Rattle.std.proofs.Common.{◌≡◌, ℕ, ◌<◌, List, [], ◌∷◌, None, arith, length, get_or, map, slice_range, refl, sym, ap, ◌∙◌, subst}
+use Rattle.std.proofs.Common.{◌≡◌, ℕ, ◌<◌, List, [], None, length, get_or, map, slice_range, refl, sym, ap, ◌∙◌, subst}
 use Rattle.std.specs.Option.{option_map}
 use Rattle.rox_grammar.specs.Forest.{Forest, size}
 use Rattle.rox_grammar.specs.Tree.{Node}
 use Rattle.rox_grammar.specs.Written.{NamespaceDecl}
-use Rattle.rox_tables.specs.Rows.{HoldsTree, numbered_place, KindWithin, node, names_of, scopes_of, scope_at, attribute, namespace_at, attribute_rows, AttributeRow}
-use Rattle.rox_tables.specs.Scopes.{places_in, ArePlaces}
-use Rattle.rox_tables.specs.declared.rows.tables.NodeKind.{NodeKind}
-use Rattle.rox_tables.specs.declared.rows.tables.NodeKind.TheVariants as kind
-use Rattle.rox_tables.specs.declared.rows.tables.NodeData.{NodeData}
-use Rattle.rox_tables.specs.declared.rows.tables.ElementData.{ElementData}
-use Rattle.rox_tables.specs.declared.rows.tables.Tables.{Tables}
-use Rattle.rox_tables.proofs.Ropes.{scope_places, all_places}
+use Rattle.rox_rows.specs.Rows.{numbered_place, KindWithin, node, scope_at, attribute, namespace_at, attribute_rows, AttributeRow}
+use Rattle.rox_scopes.specs.Tables.{HoldsTree, names_of, scopes_of}
+use Rattle.rox_scopes.specs.Scopes.{places_in, ArePlaces}
+use Rattle.rox_rows.specs.declared.row.NodeKind.{NodeKind}
+use Rattle.rox_rows.specs.declared.row.NodeKind.TheVariants as kind
+use Rattle.rox_rows.specs.declared.row.NodeData.{NodeData}
+use Rattle.rox_rows.specs.declared.row.ElementData.{ElementData}
+use Rattle.rox_scopes.specs.declared.tables.Tables.{Tables}
+use Rattle.rox_scopes.proofs.Ropes.{scope_places, all_places}
 use Rattle.roxmltree.specs.Places.{place}
 use Rattle.roxmltree.specs.NodeParts.{namespace_of, listed_of, attributes_of}
 use Rattle.roxmltree.proofs.Rows.{row_line, in_rows}
-use Rattle.rox_tables.specs.Rows.{node_rows}
+use Rattle.rox_rows.specs.Rows.{node_rows}
 use Rattle.roxmltree.proofs.Bare.{row_within}
+use Rattle.rox_build.proofs.RootTags.{none_below}
 
 -- the node of a row
 row_node : (t : Tables) (f : Forest Node) (i : ℕ) (x : NodeData) → HoldsTree t f → i < size f → x ≡ get_or (node_rows t.nodes) i x → node (attribute_rows t.attributes) (names_of t) (scopes_of t) x.start x.end x.kind ≡ (place f i).item
@@ -75,11 +77,6 @@ pub row_no_listed : (t : Tables) (f : Forest Node) (i : ℕ) (x : NodeData) → 
 row_no_listed t f i x h l r n =
     sym (none_listed (attribute_rows t.attributes) (names_of t) (scopes_of t) x.start x.end x.kind n) ∙ ap listed_of (row_node t f i x h l r)
 
--- where the table has no namespaces, nothing is listed
-no_places : (places : List ℕ) → ArePlaces 0 places → places ≡ []
-no_places [] h = refl
-no_places (p ∷ ps) (a, h) = absurd (omega arith)
-
 lists_nothing : (az : List AttributeRow) (namespaces : List NamespaceDecl) (lists : List (List NamespaceDecl)) (start end : ℕ) (k : NodeKind) → ((e : ElementData) → scope_at lists e.scope ≡ []) → [] ≡ listed_of (node az namespaces lists start end k)
 lists_nothing az namespaces lists start end kind.Root n = refl
 lists_nothing az namespaces lists start end (kind.Element e) n = sym (n e)
@@ -91,7 +88,7 @@ pub row_lists_nothing : (t : Tables) (f : Forest Node) (i : ℕ) (x : NodeData) 
 row_lists_nothing t f i x h l r z =
     let places : ElementData → List ℕ = λ e. places_in t.listed.items t.scopes.items e.scope in
     let none : (e : ElementData) → places e ≡ [] =
-    λ e. no_places (places e) (subst (λ n. ArePlaces n (places e)) z (all_places (length t.namespaces.items) t.listed.items t.scopes.items e.scope h.sound.listed)) in
+    λ e. none_below (places e) (subst (λ n. ArePlaces n (places e)) z (all_places (length t.namespaces.items) t.listed.items t.scopes.items e.scope h.sound.listed)) in
     lists_nothing (attribute_rows t.attributes) (names_of t) (scopes_of t) x.start x.end x.kind
     (λ e. scope_places (names_of t) t.listed.items t.scopes.items e.scope ∙ ap (map (namespace_at (names_of t))) (none e))
     ∙ ap listed_of (row_node t f i x h l r)

@@ -2,8 +2,8 @@
 use Rattle.std.proofs.Common.{◌≡◌, ℕ, ◌+◌, ◌<◌, Bool, true, false, if◌then◌else◌, List, length, get_or, drop, bytes_eq, ap, ◌∙◌}
 use Rattle.std.proofs.lemmas.List.{drop_more}
 use Rattle.rox_grammar.specs.Written.{NamespaceDecl}
-use Rattle.rox_tables.specs.Rows.{namespace_at}
-use Rattle.rox_tables.specs.Scopes.{entries}
+use Rattle.rox_rows.specs.Rows.{namespace_at}
+use Rattle.rox_scopes.specs.Scopes.{entries}
 use Rattle.roxmltree.specs.ExpandedNames.{first_prefix}
 
 -- the namespace at a place is of the URI

@@ -327,6 +327,32 @@ up_to_leads f j q i up g =
     let c' : Chain (preorder f) (g.through ++ q ∷ i ∷ up) = subst (λ (xs : List ℕ). Chain (preorder f) xs) g.is c in
     subst (λ (xs : List ℕ). child_in xs i ≡ q) (sym g.is) (child_behind (preorder f) g.through q i up c')
 
+-- what is come to is a child of the node above it
+leads_under : (f : Forest Node) (j q i : ℕ) (up : List ℕ) → Leads (preorder f) j q (i ∷ up) → parent f q ≡ Some i
+unfolding place
+leads_under f j q i up g =
+    let h = here f j (omega (arith, g.inside, length-preorder f)) in
+    let c : Chain (preorder f) (j ∷ (at (preorder f) j).above) = (g.inside, refl, rw h.is h.chain) in
+    let c' : Chain (preorder f) (g.through ++ q ∷ i ∷ up) = subst (λ (xs : List ℕ). Chain (preorder f) xs) g.is c in
+    ap first (chain_at (preorder f) g.through q (i ∷ up) c')
+
+-- a step from a node towards the child of q that is above it
+pub climbs : (f : Forest Node) (i p r q : ℕ) → i < size f → parent f (up_to f i q) ≡ Some q → (i ≡ 0 → parent f i ≡ None) → (0 < i → parent f i ≡ Some p) → (0 < i → parent f i ≡ Some r) → (r ≡ q → ⊥)
+    → (p < size f) × (up_to f i q ≡ up_to f p q) × (length (place f p).above < length (place f i).above)
+climbs f i p r q l under none some again ne =
+    ⊎_elim
+    (λ low.
+    let here : up_to f i q ≡ i = up_to_root f i q (none low) in
+    let child : parent f i ≡ Some q = rw here at under in
+    absurd (let z : None ≡ Some q = sym (none low) ∙ child in cc))
+    (λ high.
+    let e = some (omega arith) in
+    let z : Some r ≡ Some p = sym (again (omega arith)) ∙ e in
+    let same : r ≡ p = cc in
+    let k = parent_is f i p l e in
+    (k.0, up_to_above f i p q l e (rw same at ne), omega (arith, ap length k.1)))
+    (cases_eq i 0)
+
 last_none : (b : ℕ) (f : Forest Node) → size f ≡ 0 → last (ids b f) ≡ None
 last_none b Nil e = refl
 last_none b (Cons x c r) e = absurd (omega arith)
@@ -339,6 +365,15 @@ last_child_some f i j l m e =
     let r = right_end (preorder f) (i ∷ h.up) [] (i + 1) h.below j h.under (omega arith) (omega arith) in
     let u = up_to_leads f j r.top i h.up r.leads in
     rw (place_is f i h) (rw u r.is)
+
+pub last_child_under : (f : Forest Node) (i j : ℕ) → i < size f → 1 < (place f i).count → i + (place f i).count ≡ j + 1 → parent f (up_to f j i) ≡ Some i
+last_child_under f i j l m e =
+    let h = here f i l in
+    let k : 1 < 1 + size h.below = rw (place_is f i h) at m in
+    let e' : i + (1 + size h.below) ≡ j + 1 = rw (place_is f i h) at e in
+    let r = right_end (preorder f) (i ∷ h.up) [] (i + 1) h.below j h.under (omega arith) (omega arith) in
+    let u = up_to_leads f j r.top i h.up r.leads in
+    rw u (leads_under f j r.top i h.up r.leads)
 
 pub last_child_none : (f : Forest Node) (i : ℕ) → i < size f → (place f i).count ≤ 1 → last_child f i ≡ None
 last_child_none f i l m =
@@ -357,6 +392,16 @@ prev_some f i j p (k ∷ up) (q ∷ left) prior e is n =
     let u' : up_to f j p ≡ q = rw (same, parent_same) at u in
     ap Some (sym u')
 
+prev_under : (f : Forest Node) (i j p : ℕ) (up left : List ℕ) → Prior (preorder f) i up left → i ≡ j + 1 → first up ≡ Some p → (p ≡ j → ⊥) → parent f (up_to f j p) ≡ Some p
+prev_under f i j p [] left prior e is n = cc
+prev_under f i j p (q ∷ up) [] prior e is n = let same : q ≡ p = cc in absurd (n (omega (arith, prior)))
+prev_under f i j p (k ∷ up) (q ∷ left) prior e is n =
+    let same : prior.0 ≡ j = omega (arith, prior.1) in
+    let parent_same : k ≡ p = cc in
+    let u = up_to_leads f prior.0 q k up prior.2 in
+    let u' : up_to f j p ≡ q = rw (same, parent_same) at u in
+    rw u' (leads_under f prior.0 q k up prior.2 ∙ ap Some parent_same)
+
 prev_none : (f : Forest Node) (i j : ℕ) (up left : List ℕ) → Chain (preorder f) up → Prior (preorder f) i up left → i ≡ j + 1 → first up ≡ Some j → first left ≡ None
 prev_none f i j up [] c p e n = refl
 prev_none f i j up (q ∷ left) c p e n =
@@ -373,6 +418,9 @@ no_before f i up (q ∷ left) p e = absurd (omega (arith, p.1))
 
 pub prev_sibling_some : (f : Forest Node) (i j p : ℕ) → i < size f → i ≡ j + 1 → parent f i ≡ Some p → (p ≡ j → ⊥) → prev_sibling f i ≡ Some (up_to f j p)
 prev_sibling_some f i j p l e = let h = here f i l in rw (place_is f i h) (prev_some f i j p h.up h.left h.prior e)
+
+pub prev_sibling_under : (f : Forest Node) (i j p : ℕ) → i < size f → i ≡ j + 1 → parent f i ≡ Some p → (p ≡ j → ⊥) → parent f (up_to f j p) ≡ Some p
+prev_sibling_under f i j p l e = let h = here f i l in rw (place_is f i h) (prev_under f i j p h.up h.left h.prior e)
 
 pub prev_sibling_none : (f : Forest Node) (i j : ℕ) → i < size f → i ≡ j + 1 → parent f i ≡ Some j → prev_sibling f i ≡ None
 prev_sibling_none f i j l e = let h = here f i l in rw (place_is f i h) (prev_none f i j h.up h.left h.chain h.prior e)

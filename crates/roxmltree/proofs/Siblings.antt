@@ -192,11 +192,6 @@ nothing (x ∷ xs) e = cc
 pub no_children : (f : Forest Node) (i : ℕ) → first_child f i ≡ None → (place f i).children ≡ []
 no_children f i e = nothing (place f i).children e
 
-pub last_child_there : (f : Forest Node) (i c : ℕ) → i < size f → first_child f i ≡ Some c → last_child f i ≡ None → ⊥
-last_child_there f i c l e u =
-    let k = child_row f i c l e in
-    last_some c (place f c).after (ap last (sym k.1) ∙ u)
-
 -- ---- the axes as lists
 range_append : (a m n k : ℕ) → a + m ≡ k → range_with_len a m ++ range_with_len k n ≡ range_with_len a (m + n)
 range_append a zero n k e = let same : k ≡ a = omega arith in let z : 0 + n ≡ n = omega arith in rw (same, z) refl
@@ -216,9 +211,6 @@ descendants_is f i l =
     let h = here f i l in
     let z : 1 + size h.below ≡ suc (size h.below) = omega arith in
     rw (place_is f i h) (rw z (ap (λ xs. i ∷ xs) (all_ids_is (i + 1) h.below)))
-
-pub next_siblings_step : (f : Forest Node) (i n : ℕ) → i < size f → next_sibling f i ≡ Some n → i ∷ (place f i).after ≡ i ∷ n ∷ (place f n).after
-next_siblings_step f i n l e = ap (λ xs. i ∷ xs) (next_row f i n l e).1
 
 before_prior : (T : List Place) (i : ℕ) (up left : List ℕ) (q : ℕ) → Prior T i up left → first left ≡ Some q → (q < length T) × (left ≡ q ∷ (at T q).before)
 before_prior T i up [] q p e = cc

@@ -163,7 +163,7 @@ module _ (limit : ℕ) (allow : Bool) (allows : Request → Reply → Type 0) (s
 -- nothing is asked where no document type declaration may stand
 none_asked : (src : List ℕ) (asked : List Asked) → HasAsked src false asked → asked ≡ []
 none_asked src asked nothing = refl
-none_asked src asked (one_more before request p answer may next) = absurd (true≢false (sym may))
+none_asked src asked (one_more before request p answer may next text) = absurd (true≢false (sym may))
 
 -- and there the fault is what is read of the text alone
 pub first_plain : (limit : ℕ) (allows : Request → Reply → Type 0) (src : List ℕ) → IsUtf8 src → (e : Error) → IsFirst limit false allows src e

@@ -1,8 +1,9 @@
 -- An attribute as callers see it.
 use Rattle.std.specs.Prelude.{map}
 use Rattle.rox_grammar.specs.Tree as tree
-use Rattle.rox_tables.specs.Rows.{attribute, namespace_view}
-use Rattle.rox_tables.specs.StoredAttributes.{row_in}
+use Rattle.rox_rows.specs.Rows.{attribute}
+use Rattle.rox_scopes.specs.Tables.{namespace_view}
+use Rattle.rox_rows.specs.StoredAttributes.{row_in}
 use Rattle.roxmltree.specs.declared.attributes.Attribute.{Attribute}
 
 abbrev pub attribute_of : Attribute → tree.Attribute

@@ -4,10 +4,11 @@ use Rattle.std.specs.Coded.{Coded, coded_list}
 use Rattle.std.specs.List.{AllByRecursion}
 use Rattle.rox_grammar.specs.Written.{NamespaceDecl}
 use Rattle.rox_grammar.specs.Tree as tree
-use Rattle.rox_tables.specs.Rows.{attribute, attribute_rows, namespace_view, namespace_at, AreScopes, NamespaceWithin}
-use Rattle.rox_tables.specs.Scopes.{places_in, ArePlaces}
-use Rattle.rox_tables.specs.StoredAttributes.{data_of, row_in, place_bound}
-use Rattle.rox_tables.specs.declared.rows.tables.Tables.{Tables}
+use Rattle.rox_rows.specs.Rows.{attribute, attribute_rows, namespace_at, NamespaceWithin}
+use Rattle.rox_scopes.specs.Tables.{namespace_view, AreScopes}
+use Rattle.rox_scopes.specs.Scopes.{places_in, ArePlaces}
+use Rattle.rox_rows.specs.StoredAttributes.{data_of, row_in, place_bound}
+use Rattle.rox_scopes.specs.declared.tables.Tables.{Tables}
 use Rattle.roxmltree.specs.NamespaceBound.{namespace_bound}
 use Rattle.roxmltree.specs.TreeCodes.{attribute_code, namespace_decl_code}
 pub use Rattle.roxmltree.specs.AttributeView.{attribute_of}

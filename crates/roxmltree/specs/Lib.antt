@@ -16,6 +16,7 @@ pub mod Links
 pub mod NodeRows
 pub mod NodeRef
 pub mod Elements
+pub mod LaterNodes
 pub mod SiblingRange
 pub mod ChildrenLeft
 pub mod DescendantsLeft
@@ -42,5 +43,6 @@ pub use Rattle.rox_reading.specs.Answering
 pub use Rattle.rox_build.specs.Requests
 pub use Rattle.rox_error.specs.FaultErrors
 pub use Rattle.rox_error.specs.Messages
-pub use Rattle.rox_tables.specs.Rows
-pub use Rattle.rox_tables.specs.Storage
+pub use Rattle.rox_rows.specs.Rows
+pub use Rattle.rox_rows.specs.Storage
+pub use Rattle.rox_scopes.specs.Tables

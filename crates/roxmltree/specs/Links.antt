@@ -1,7 +1,7 @@
 -- What the row of a node says of its links.
 use Rattle.std.specs.Prelude.{◌≡◌, ◌+◌, ◌^◌, ◌<◌, Some, None}
 use Rattle.rox_grammar.specs.Forest.{size}
-use Rattle.rox_tables.specs.declared.rows.stored_node.StoredNode.{StoredNode}
+use Rattle.rox_rows.specs.declared.stored_node.StoredNode.{StoredNode}
 use Rattle.roxmltree.specs.Places.{place, parent}
 use Rattle.roxmltree.specs.NodeRef.{id_of, tree_of}
 use Rattle.roxmltree.specs.declared.nodes.Node.{Node}

@@ -1,7 +1,7 @@
 -- How many namespaces a table needs for an attribute's row.
 use Rattle.std.specs.Prelude.{ℕ, ◌+◌}
-use Rattle.rox_tables.specs.declared.rows.tables.AttributeNamespace.{AttributeNamespace}
-use Rattle.rox_tables.specs.declared.rows.tables.AttributeNamespace.TheVariants as space
+use Rattle.rox_rows.specs.declared.row.AttributeNamespace.{AttributeNamespace}
+use Rattle.rox_rows.specs.declared.row.AttributeNamespace.TheVariants as space
 
 abbrev pub namespace_bound : AttributeNamespace → ℕ
 namespace_bound space.None = 0

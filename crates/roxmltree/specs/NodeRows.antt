@@ -3,15 +3,16 @@ use Rattle.std.specs.Prelude.{◌≡◌, ℕ, List, Option, Some, None, get_or, 
 use Rattle.std.specs.Coded.{Coded, Coded-set, code_by, coded×, coded_ℕ, coded_list, coded_bool, Unit-prop, le_prop}
 use Rattle.rox_grammar.specs.Forest.{Forest}
 use Rattle.rox_grammar.specs.Tree.{Node}
-use Rattle.rox_tables.specs.Rows.{RowView, HoldsTree, IsRow, EndsWithin, NamespaceWithin, OptionWithin, KindWithin}
-use Rattle.rox_tables.specs.declared.rows.tables.Tables.{Tables}
-use Rattle.rox_tables.specs.declared.rows.tables.AttributeNamespace.{AttributeNamespace}
-use Rattle.rox_tables.specs.declared.rows.tables.AttributeNamespace.TheVariants as space
-use Rattle.rox_tables.specs.declared.rows.tables.NodeKind.{NodeKind}
-use Rattle.rox_tables.specs.declared.rows.tables.NodeKind.TheVariants as kind
-use Rattle.rox_tables.specs.declared.rows.tables.Scope.{Scope}
-use Rattle.rox_tables.specs.declared.rows.tables.Scope.TheVariants as scope
-use Rattle.rox_tables.specs.declared.rows.stored_node.StoredNode.{StoredNode}
+use Rattle.rox_rows.specs.Rows.{RowView, NamespaceWithin, OptionWithin, KindWithin}
+use Rattle.rox_scopes.specs.Tables.{HoldsTree, IsRow, EndsWithin}
+use Rattle.rox_scopes.specs.declared.tables.Tables.{Tables}
+use Rattle.rox_rows.specs.declared.row.AttributeNamespace.{AttributeNamespace}
+use Rattle.rox_rows.specs.declared.row.AttributeNamespace.TheVariants as space
+use Rattle.rox_rows.specs.declared.row.NodeKind.{NodeKind}
+use Rattle.rox_rows.specs.declared.row.NodeKind.TheVariants as kind
+use Rattle.rox_scopes.specs.declared.tables.Scope.{Scope}
+use Rattle.rox_scopes.specs.declared.tables.Scope.TheVariants as scope
+use Rattle.rox_rows.specs.declared.stored_node.StoredNode.{StoredNode}
 use Rattle.roxmltree.specs.TreeCodes.{node_code}
 
 -- the tables hold this tree, and the row is that of its node of this id

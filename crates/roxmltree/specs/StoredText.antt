@@ -1,9 +1,9 @@
 -- Texts and instructions as the tables hold them.
 use Rattle.std.specs.Prelude.{ℕ, Bool, List, Option}
 use Rattle.std.specs.Option.{option_map}
-use Rattle.rox_tables.specs.Storage.{storage_bytes, is_borrowed}
-use Rattle.rox_tables.specs.declared.rows.storage.StringStorage.{StringStorage}
-use Rattle.rox_tables.specs.declared.rows.tables.PI.{PI}
+use Rattle.rox_rows.specs.Storage.{storage_bytes, is_borrowed}
+use Rattle.rox_rows.specs.declared.storage.StringStorage.{StringStorage}
+use Rattle.rox_rows.specs.declared.row.PI.{PI}
 
 -- the bytes, and whether they are a slice of the input
 abbrev pub stored : StringStorage → List ℕ × Bool

@@ -2,10 +2,10 @@
 use Rattle.std.specs.Prelude.{ℕ, Bool, List, [], Option, Some, None}
 use Rattle.std.specs.Option.{option_map}
 use Rattle.rox_grammar.specs.Tree.{Node, Root, Element, Text, Comment, PI}
-use Rattle.rox_tables.specs.Storage.{storage_bytes, is_borrowed}
+use Rattle.rox_rows.specs.Storage.{storage_bytes, is_borrowed}
 use Rattle.roxmltree.specs.StoredText.{stored}
-use Rattle.rox_tables.specs.declared.rows.tables.NodeKind.{NodeKind}
-use Rattle.rox_tables.specs.declared.rows.tables.NodeKind.TheVariants as kind
+use Rattle.rox_rows.specs.declared.row.NodeKind.{NodeKind}
+use Rattle.rox_rows.specs.declared.row.NodeKind.TheVariants as kind
 
 -- all but the namespaces and the attributes
 abbrev pub stripped : Node → Node

@@ -2,19 +2,29 @@
 
 ghost use Rattle.std.specs.Prelude.{◌≡◌, ◌≤◌, ◌-◌, None, length, bytes_eq};
 ghost use Rattle.std.specs.Option.{option_map, option_eq};
-ghost use Rattle.rox_tables.specs.Rows.{namespace_view};
-ghost use Rattle.rox_tables.specs.StoredAttributes.{data_of, place_bound};
+ghost use Rattle.rox_scopes.specs.Tables.{namespace_view};
+ghost use Rattle.rox_rows.specs.StoredAttributes.{data_of, place_bound};
 ghost use Rattle.roxmltree.specs.NamespaceBound.{namespace_bound};
 
 use crate::names::{ExpandedName, NS_XML_URI, equal_names};
-use rox_tables::rows::storage::StringStorage;
-use rox_tables::rows::stored_attribute::{NamespaceKind, StoredAttribute};
-use rox_tables::rows::tables::{AttributeNamespace, Tables};
+use rox_rows::row::AttributeNamespace;
+use rox_rows::storage::StringStorage;
+use rox_rows::stored_attribute::{NamespaceKind, StoredAttribute};
+use rox_scopes::tables::Tables;
 use std::fmt;
 use std::marker::Model;
 use std::ops::Range;
 
 /// An attribute of an element (XML 1.0 section 3.1).
+///
+/// ```
+/// let document = Document::parse(alloc, "<e id='x'/>")?;
+/// let id = document.root_element().attribute_node("id".into());
+/// let id = id.expect(&rt, "an attribute");
+/// assert!(rt; id.value() == "x");
+/// assert!(rt; id.range().start == 3);
+/// assert!(rt; id.range_value().start == 7);
+/// ```
 #[derive(Clone, Copy)]
 pub struct Attribute<'a, 'input> {
     row: &'a StoredAttribute<'input>,
@@ -28,7 +38,7 @@ impl<'a, 'input> Attribute<'a, 'input> {
     ghost use Rattle.roxmltree.specs.ExpandedNames.{expanded, same_expanded_name};
     ghost use Rattle.roxmltree.specs.StoredText.{stored};
 
-    /// The namespace of its name. None where the name has no prefix.
+    /// Returns the URI of its namespace, or `None` if its name has no prefix (Namespaces in XML 1.0 section 6.2).
     #[inline]
     #[tactic(auto, using(crate::proofs::Entries::entry_uri))]
     pub fn namespace(&self) -> Option<&'a str>
@@ -44,7 +54,7 @@ impl<'a, 'input> Attribute<'a, 'input> {
         }
     }
 
-    /// Its local name.
+    /// Returns its local name.
     #[inline]
     pub fn name(&self) -> &'input str
         ensures { result.now ≡ (attribute_of self.now).local }
@@ -52,7 +62,7 @@ impl<'a, 'input> Attribute<'a, 'input> {
         self.row.local
     }
 
-    /// Whether it has this name.
+    /// Returns whether it has this expanded name.
     #[inline]
     pub(crate) fn has_name(&self, name: &ExpandedName<'_, '_>) -> bool
         ensures { result
@@ -62,7 +72,7 @@ impl<'a, 'input> Attribute<'a, 'input> {
         equal_names(self.name(), name.name()) && self.has_namespace(name.namespace())
     }
 
-    /// Whether it has this local name, and no namespace.
+    /// Returns whether it has this local name, and no namespace.
     #[inline(always)]
     fn has_plain_name(&self, local: &str) -> bool
         ensures { result
@@ -78,7 +88,7 @@ impl<'a, 'input> Attribute<'a, 'input> {
         }
     }
 
-    /// Whether it has this namespace, or none.
+    /// Returns whether it has this namespace, or none for `None`.
     #[inline]
     fn has_namespace(&self, uri: Option<&str>) -> bool
         ensures { result ≡ option_eq bytes_eq (attribute_of self.now).namespace (option_map
@@ -91,7 +101,7 @@ impl<'a, 'input> Attribute<'a, 'input> {
         }
     }
 
-    /// Its value (XML 1.0 section 3.3.3).
+    /// Returns its normalized value (XML 1.0 section 3.3.3).
     #[inline]
     pub fn value(&self) -> &'a str
         ensures { result.now ≡ (attribute_of self.now).value }
@@ -99,7 +109,7 @@ impl<'a, 'input> Attribute<'a, 'input> {
         self.row.value.as_str()
     }
 
-    /// Its value, with whether it is a slice of the input.
+    /// Returns its value as storage, which distinguishes a slice of the input from an owned text.
     #[inline]
     pub fn value_storage(&self) -> &StringStorage<'input>
         ensures { stored result.now
@@ -108,7 +118,7 @@ impl<'a, 'input> Attribute<'a, 'input> {
         &self.row.value
     }
 
-    /// Where it starts in its source, in bytes.
+    /// Returns the offset of its first byte in its source, from 0.
     #[inline]
     pub fn position(&self) -> usize
         ensures { result ≡ (attribute_of self.now).start }
@@ -116,7 +126,7 @@ impl<'a, 'input> Attribute<'a, 'input> {
         self.tables.attributes.places(self.row).start
     }
 
-    /// Where it stands in its source, in bytes: from its name to its closing quote, the quote included.
+    /// Returns its range of bytes in its source, from its name through its closing quote.
     #[inline]
     pub fn range(&self) -> Range<usize>
         ensures start { result.start ≡ (attribute_of self.now).start }
@@ -126,7 +136,7 @@ impl<'a, 'input> Attribute<'a, 'input> {
         places.start..places.end
     }
 
-    /// Where its name stands in its source, in bytes.
+    /// Returns the range of bytes of its name in its source, the prefix included.
     #[inline]
     pub fn range_qname(&self) -> Range<usize>
         ensures start { result.start ≡ (attribute_of self.now).start }
@@ -136,7 +146,7 @@ impl<'a, 'input> Attribute<'a, 'input> {
         places.start..places.name_end
     }
 
-    /// Where its value stands in its source, in bytes, without the quotes.
+    /// Returns the range of bytes of its value in its source, without the quotes.
     #[inline]
     pub fn range_value(&self) -> Range<usize>
         ensures start { result.start ≡ (attribute_of self.now).value_start }
@@ -172,7 +182,15 @@ impl fmt::Debug for Attribute<'_, '_> {
     }
 }
 
-/// Attributes of one element, from both ends: a stretch of the table of attributes.
+/// An iterator, from both ends, over attributes of one element: a slice of the table of attributes.
+///
+/// ```
+/// let document = Document::parse(alloc, "<e b='1' a='2'/>")?;
+/// let mut attributes = document.root_element().attributes();
+/// assert!(rt; attributes.len() == 2);
+/// let first = attributes.next().expect(&rt, "an attribute");
+/// assert!(rt; first.name() == "b");
+/// ```
 #[derive(Clone, Drop)]
 pub struct Attributes<'a, 'input> {
     pub(crate) tables: &'a Tables<'input>,
@@ -195,11 +213,11 @@ impl<'a, 'input> Model for Attributes<'a, 'input> {
 
 impl<'a, 'input> Attributes<'a, 'input> {
     ghost use Rattle.std.specs.Prelude.{map, slice_range};
-    ghost use Rattle.rox_tables.specs.Rows.{attribute, attribute_rows};
+    ghost use Rattle.rox_rows.specs.Rows.{attribute, attribute_rows};
     ghost use Rattle.roxmltree.specs.ElementLists.{attribute_of, IsAttributeStretch};
     ghost use Rattle.roxmltree.specs.ExpandedNames.{expanded, named};
 
-    /// A stretch of the attributes of all elements.
+    /// Returns the attributes at the indices `from..until` of those of all elements.
     #[inline]
     pub(crate) fn part(
         tables: &'a Tables<'input>,
@@ -215,7 +233,7 @@ impl<'a, 'input> Attributes<'a, 'input> {
         Attributes { tables, rest }
     }
 
-    /// The first of these of this local name that has no namespace.
+    /// Returns the first of these attributes that has this local name and no namespace.
     #[inline(always)]
     pub(crate) fn plain_named(
         attributes: Attributes<'a, 'input>,
@@ -231,7 +249,8 @@ impl<'a, 'input> Attributes<'a, 'input> {
         None
     }
 
-    /// The first of these of this name. It is kept out of line, since most names that are looked up have no namespace.
+    /// Returns the first of these attributes that has this expanded name. It is out of line, since most names that are looked up
+    /// have no namespace.
     #[inline(never)]
     pub(crate) fn named(
         attributes: Attributes<'a, 'input>,
@@ -298,6 +317,7 @@ impl<'a, 'input> DoubleEndedIterator for Attributes<'a, 'input> {
 
     ghost next_back_gives = { YieldsLastBy attribute_of (λ s. s) };
 
+    #[inline]
     fn next_back(&mut self) -> Option<Attribute<'a, 'input>> {
         let rest = self.rest;
         if rest.is_empty() {

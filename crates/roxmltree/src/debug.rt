@@ -4,16 +4,17 @@ ghost use Rattle.std.specs.Iterator.{IsFinite};
 
 use crate::nodes::Node;
 use crate::tree::Document;
-use rox_tables::rows::stored_node::KindRef;
+use rox_rows::stored_node::KindRef;
 use std::fmt;
 
-/// Prints the tree, a node after the other, by a loop: however deep it is, no stack is used up.
+/// Prints the tree, one node after the other, in a loop: no depth of the tree uses up the stack.
 impl fmt::Debug for Document<'_> {
     fn fmt<W: fmt::Write>(&self, f: &mut fmt::Formatter<W>) -> fmt::Result {
         writeln!(f, "Document [")?;
         let mut nodes = self.descendants();
         nodes.next();
-        // the node that the next one is below, and how many elements are open: their ends are yet to be printed
+        // The parent of the next node is `innermost` or an ancestor of it. `open` elements are open: their ends are still to be
+        // printed.
         let mut innermost = self.root();
         let mut open = 0;
         for node in nodes {
@@ -33,7 +34,7 @@ impl fmt::Debug for Document<'_> {
     }
 }
 
-/// Prints its kind, with its names or its text; the nodes below it are not printed.
+/// Prints the kind of the node, with its names or its text. Its descendants are not printed.
 impl fmt::Debug for Node<'_, '_> {
     fn fmt<W: fmt::Write>(&self, f: &mut fmt::Formatter<W>) -> fmt::Result {
         match self.kind() {
@@ -60,7 +61,8 @@ impl fmt::Debug for Node<'_, '_> {
     }
 }
 
-// How many elements are around a node, where so many are around what is in the innermost of those that are open.
+// Returns how many elements are around `node`. `innermost` is the innermost open element, and `open` elements are around its
+// content.
 fn count_around(innermost: Node<'_, '_>, open: u32, node: Node<'_, '_>) -> u32 {
     let parent = node.row().parent;
     let mut around = open;
@@ -73,7 +75,7 @@ fn count_around(innermost: Node<'_, '_>, open: u32, node: Node<'_, '_>) -> u32 {
     around
 }
 
-// A node, and how many elements are around it. An element with children is left open.
+// Prints a node that is inside `around` elements. An element with children is left open.
 fn write_node<W: fmt::Write>(
     f: &mut fmt::Formatter<W>,
     node: Node<'_, '_>,
@@ -94,7 +96,7 @@ fn write_node<W: fmt::Write>(
     }
 }
 
-// Ends the open elements, the innermost first, but for so many of the outermost.
+// Prints the ends of the open elements, the innermost first, except the `kept` outermost.
 fn close_elements<W: fmt::Write>(f: &mut fmt::Formatter<W>, kept: u32, open: u32) -> fmt::Result {
     for around in (kept..open).rev() {
         write_line(f, around, 2, "]")?;
@@ -103,7 +105,7 @@ fn close_elements<W: fmt::Write>(f: &mut fmt::Formatter<W>, kept: u32, open: u32
     Ok(())
 }
 
-// What an element has of a kind, each on a line of its own, or nothing where it has none.
+// Prints what an element has of one kind, each item on its own line, or nothing if there is none.
 fn write_list<T: fmt::Debug + Drop, I: ExactSizeIterator<Item = T>, W: fmt::Write>(
     f: &mut fmt::Formatter<W>,
     around: u32,
@@ -123,7 +125,7 @@ fn write_list<T: fmt::Debug + Drop, I: ExactSizeIterator<Item = T>, W: fmt::Writ
     write_line(f, around, 2, "]")
 }
 
-// A line, behind eight spaces for each element around it and four for each of these steps.
+// Prints a line after eight spaces for each of the elements around it, and four for each step.
 fn write_line<D: fmt::Display + Drop, W: fmt::Write>(
     f: &mut fmt::Formatter<W>,
     around: u32,

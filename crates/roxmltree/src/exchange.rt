@@ -1,4 +1,4 @@
-//! Elements that stand by themselves in the text: parsed alone, and put in the place of others.
+//! Self-contained elements: parsed alone, and exchanged for others.
 
 ghost use Rattle.std.specs.Prelude.{◌≡◌, ℕ, true, false, IfOk, IfErr};
 ghost use Rattle.rox_grammar.specs.Names.{slice};
@@ -19,18 +19,26 @@ impl<'a, 'input> Node<'a, 'input> {
     ghost use Rattle.roxmltree.specs.NodeRef.{id_of, document_of, tree_of, item_of, node_refs};
     ghost use Rattle.roxmltree.specs.Elements.{root_id};
 
-    /// Whether it is an element of a text without a document type declaration, and no node above it lists a namespace (Namespaces
-    /// in XML 1.0 section 6). Such an element's part of the text says by itself what all its names and references stand for, so
-    /// that it can be parsed alone and put elsewhere.
+    /// Returns whether it is a self-contained element (Namespaces in XML 1.0 section 6). Its text has no document type
+    /// declaration, and no ancestor lists a namespace. The slice of the text with such an element defines all its names and
+    /// references by itself. So it can be parsed alone and put elsewhere.
     pub fn is_self_contained(&self) -> bool
         ensures { result ≡ stands_alone (document_of self.now) (id_of self.now) }
     {
         !self.document.has_doctype() && self.is_contained()
     }
 
-    /// The document of its part of the text: this element alone, with what is below it, all ranges counted from its start. Its
-    /// key is 0, and it has no document type declaration, so that its root element may be exchanged for others. It fails only for
-    /// want of memory.
+    /// Returns the document of this element alone, parsed from its slice of the text. The element has to be self-contained
+    /// (`is_self_contained`). It keeps its descendants, and all offsets count from its start. The key is 0. The document has no
+    /// document type declaration, so its root element may be exchanged for others. Fails only if memory runs out.
+    ///
+    /// ```
+    /// let document = Document::parse(alloc, "<r><a>1</a></r>")?;
+    /// let a = document.root_element().first_child().expect(&rt, "a child");
+    /// assert!(rt; a.is_self_contained());
+    /// let copy = a.reparse(alloc)?;
+    /// assert!(rt; copy.input_text() == "<a>1</a>");
+    /// ```
     pub fn reparse(&self, alloc: Global) -> Result<Document<'input>, Error<'static>>
         requires { stands_alone (document_of self.now) (id_of self.now) ≡ true }
         ensures node { IfOk result
@@ -44,9 +52,19 @@ impl<'a, 'input> Node<'a, 'input> {
         Document::parse(alloc, self.own_text())
     }
 
-    /// The text that this element is in, with the root element of the other document in its place. That text is a document: its
-    /// tree is this one with the other's root element exchanged for this element. So `Document::parse` answers it, but for want
-    /// of memory, if its nodes, attributes and namespaces are not too many.
+    /// Returns the text of this document with the root element of `other` in place of this element. Both elements have to be
+    /// self-contained (`is_self_contained`). The new text is a document: its tree is this one with that element exchanged. So
+    /// `Document::parse` returns it, unless memory runs out or its nodes, attributes or namespaces are too many.
+    ///
+    /// ```
+    /// let document = Document::parse(alloc, "<r><a>1</a></r>")?;
+    /// let other = Document::parse(alloc, "<b/>")?;
+    /// let a = document.root_element().first_child().expect(&rt, "a child");
+    /// assert!(rt; a.is_self_contained());
+    /// assert!(rt; other.root_element().is_self_contained());
+    /// let text = a.exchange(alloc, &other)?;
+    /// assert!(rt; text.as_str() == "<r><b/></r>");
+    /// ```
     pub fn exchange(&self, alloc: Global, other: &Document<'_>) -> Result<String, AllocError>
         requires mine { stands_alone (document_of self.now) (id_of self.now) ≡ true }
         requires others { stands_alone other.now (root_id other.now.tree) ≡ true }
@@ -65,14 +83,14 @@ impl<'a, 'input> Node<'a, 'input> {
         Ok(answer)
     }
 
-    /// Whether it is an element, and no node above it lists a namespace.
+    /// Returns whether it is an element, and no ancestor lists a namespace.
     fn is_contained(&self) -> bool
         ensures { result ≡ self_contained (tree_of self.now) (id_of self.now) }
     {
         self.is_element() && AxisIter::list_none(self.above())
     }
 
-    /// The nodes above it, nearest first.
+    /// Returns its ancestors without itself, nearest first.
     fn above(&self) -> AxisIter<'a, 'input>
         ensures { result
             ≡ node_refs (document_of self.now) (place (tree_of self.now) (id_of self.now)).above }
@@ -82,7 +100,7 @@ impl<'a, 'input> Node<'a, 'input> {
         nodes
     }
 
-    /// Whether it lists no namespace.
+    /// Returns whether it lists no namespace.
     #[tactic(auto, using(crate::proofs::Contained::none_long))]
     fn lists_none(&self) -> bool
         ensures { result ≡ none_of (listed_of (item_of self.now)) }
@@ -90,7 +108,7 @@ impl<'a, 'input> Node<'a, 'input> {
         self.namespaces().len() == 0
     }
 
-    /// Its part of the text.
+    /// Returns its slice of the text.
     fn own_text(&self) -> &'input str
         requires { stands_alone (document_of self.now) (id_of self.now) ≡ true }
         ensures { result.now
@@ -107,7 +125,7 @@ impl<'a, 'input> AxisIter<'a, 'input> {
     ghost use Rattle.std.specs.List.{list_all};
     ghost use Rattle.roxmltree.specs.NodeParts.{node_at};
 
-    /// Whether none of these nodes lists a namespace.
+    /// Returns whether none of these nodes lists a namespace.
     fn list_none(nodes: AxisIter<'a, 'input>) -> bool
         ensures { result ≡ list_all (λ s. none_of (listed_of (node_at s.0.tree s.1))) nodes.entry }
     {

@@ -1,16 +1,16 @@
-//! Iterators over nodes, each of which answers None again after its end.
+//! Iterators over nodes. After its end, each returns `None` again.
 
 ghost use Rattle.std.specs.Prelude.{◌≡◌, ◌∷◌, [], ◌++◌};
 
 use crate::nodes::{Node, NodeId};
 use crate::tree::Document;
-use rox_tables::rows::stored_node::StoredNode;
-use rox_tables::rows::tables::Tables;
+use rox_rows::stored_node::StoredNode;
+use rox_scopes::tables::Tables;
 use std::alloc::AllocError;
 use std::fmt;
 use std::marker::Model;
 
-/// What to go along.
+/// The direction of an `AxisIter`.
 #[derive(Clone, Copy, Debug)]
 pub(crate) enum Axis {
     Ancestors,
@@ -20,7 +20,19 @@ pub(crate) enum Axis {
     LastChildren,
 }
 
-/// A node, and those after it along an axis.
+/// An iterator over a node and those after it along an axis.
+///
+/// ```
+/// let document = Document::parse(alloc, "<r lang='en'><a><b/></a></r>")?;
+/// let b = document.get_node(NodeId::new(3)).expect(&rt, "a node");
+/// let mut lang = None;
+/// for node in b.ancestors() {
+///     if lang.is_none() {
+///         lang = node.attribute("lang".into());
+///     }
+/// }
+/// assert!(rt; lang == Some("en"));
+/// ```
 #[derive(Debug, Drop)]
 pub struct AxisIter<'a, 'input> {
     pub(crate) node: Option<Node<'a, 'input>>,
@@ -45,6 +57,7 @@ impl<'a, 'input> AxisIter<'a, 'input> {
     ghost use Rattle.roxmltree.specs.AxisNodes.{axis_nodes_from};
     ghost use Rattle.roxmltree.specs.NodeRef.{node_ref};
 
+    #[inline(always)]
     #[tactic(auto, using(crate::proofs::Preorder::parent_is, crate::proofs::Siblings::no_parent, crate::proofs::Siblings::prev_row, crate::proofs::Siblings::no_prev, crate::proofs::Siblings::next_row, crate::proofs::Siblings::no_next, crate::proofs::Siblings::first_children_step, crate::proofs::Siblings::no_first_child, crate::proofs::Siblings::last_children_step, crate::proofs::Siblings::no_last_child))]
     fn step(axis: Axis, node: Node<'a, 'input>) -> Option<Node<'a, 'input>>
         ensures { axis_nodes_from axis (Some node.entry)
@@ -65,7 +78,8 @@ impl<'a, 'input> AxisIter<'a, 'input> {
     ghost use Rattle.roxmltree.specs.Elements.{nearest_element};
     ghost use Rattle.roxmltree.specs.NodeRef.{node_ref};
 
-    /// The first element of these nodes.
+    /// Returns the first element of these nodes, or `None` if there is none.
+    #[inline(always)]
     pub(crate) fn first_element(nodes: AxisIter<'a, 'input>) -> Option<Node<'a, 'input>>
         ensures { option_map node_ref result ≡ nearest_element nodes.entry }
     {
@@ -81,7 +95,7 @@ impl<'a, 'input> AxisIter<'a, 'input> {
 impl<'a, 'input> AxisIter<'a, 'input> {
     ghost use Rattle.std.specs.Prelude.{◌≡◌};
 
-    /// The same nodes once more.
+    /// Returns an iterator over the nodes that are left.
     fn copy(&self) -> AxisIter<'a, 'input>
         ensures { result ≡ self.now }
     {
@@ -114,6 +128,7 @@ impl<'a, 'input> Iterator for AxisIter<'a, 'input> {
 
     ghost remaining = { item_count (λ s. s) };
 
+    #[inline(always)]
     fn next(&mut self) -> Option<Node<'a, 'input>> {
         match self.node {
             None => None,
@@ -125,8 +140,15 @@ impl<'a, 'input> Iterator for AxisIter<'a, 'input> {
     }
 }
 
-/// A node and those below it in document order, from both ends. It holds the rows that are left, and the id of the first, so that
-/// going on is a step from row to row.
+/// An iterator, from both ends, over a node and its descendants in document order. It holds the rows that are left, and the id of
+/// the first. So each step goes from row to row.
+///
+/// ```
+/// let document = Document::parse(alloc, "<r>one<a>two</a></r>")?;
+/// let mut nodes = document.root_element().descendants();
+/// assert!(rt; nodes.len() == 4);
+/// assert!(rt; nodes.next() == Some(document.root_element()));
+/// ```
 #[derive(Drop)]
 pub struct Descendants<'a, 'input> {
     pub(crate) document: &'a Document<'input>,
@@ -154,7 +176,7 @@ impl<'a, 'input> Model for Descendants<'a, 'input> {
 impl<'a, 'input> Descendants<'a, 'input> {
     ghost use Rattle.std.specs.Prelude.{◌≡◌};
 
-    /// The same nodes once more.
+    /// Returns an iterator over the nodes that are left.
     fn copy(&self) -> Descendants<'a, 'input>
         ensures { result ≡ self.now }
     {
@@ -203,6 +225,7 @@ impl<'a, 'input> Iterator for Descendants<'a, 'input> {
 
     ghost remaining = { item_count (λ s. s) };
 
+    #[inline]
     #[tactic(auto, using(crate::proofs::Ranges::spots_first, crate::proofs::Ranges::spots_length))]
     fn next(&mut self) -> Option<Node<'a, 'input>> {
         let rest = self.rest;
@@ -236,6 +259,7 @@ impl<'a, 'input> DoubleEndedIterator for Descendants<'a, 'input> {
 
     ghost next_back_gives = { YieldsLastBy node_ref (λ s. s) };
 
+    #[inline]
     #[tactic(auto, using(crate::proofs::Ranges::spots_last, crate::proofs::Ranges::spots_length))]
     fn next_back(&mut self) -> Option<Node<'a, 'input>> {
         let rest = self.rest;
@@ -253,7 +277,15 @@ impl<'a, 'input> DoubleEndedIterator for Descendants<'a, 'input> {
     }
 }
 
-/// Children of one node, from both ends: those from one on that end before an id.
+/// An iterator, from both ends, over children of one node: those from the id `from` on that end before the id `until`.
+///
+/// ```
+/// let document = Document::parse(alloc, "<r>one<a/>two</r>")?;
+/// let mut children = document.root_element().children();
+/// let last = children.next_back().expect(&rt, "a child");
+/// assert!(rt; last.text() == Some("two"));
+/// assert!(rt; children.count() == 2);
+/// ```
 #[derive(Drop)]
 pub struct Children<'a, 'input> {
     pub(crate) document: &'a Document<'input>,
@@ -284,7 +316,8 @@ impl<'a, 'input> Children<'a, 'input> {
     ghost use Rattle.roxmltree.specs.Elements.{nearest_element};
     ghost use Rattle.roxmltree.specs.NodeRef.{node_ref};
 
-    /// The first element of these nodes.
+    /// Returns the first element of these nodes, or `None` if there is none.
+    #[inline]
     pub(crate) fn first_element(nodes: Children<'a, 'input>) -> Option<Node<'a, 'input>>
         ensures { option_map node_ref result ≡ nearest_element nodes.entry }
     {
@@ -296,7 +329,8 @@ impl<'a, 'input> Children<'a, 'input> {
         None
     }
 
-    /// The last element of these nodes.
+    /// Returns the last element of these nodes, or `None` if there is none.
+    #[inline]
     pub(crate) fn last_element(mut nodes: Children<'a, 'input>) -> Option<Node<'a, 'input>>
         ensures { option_map node_ref result ≡ nearest_element (reverse nodes.entry) }
     {
@@ -312,7 +346,7 @@ impl<'a, 'input> Children<'a, 'input> {
 impl<'a, 'input> Children<'a, 'input> {
     ghost use Rattle.std.specs.Prelude.{◌≡◌};
 
-    /// The same nodes once more.
+    /// Returns an iterator over the nodes that are left.
     fn copy(&self) -> Children<'a, 'input>
         ensures { result ≡ self.now }
     {
@@ -359,6 +393,7 @@ impl<'a, 'input> Iterator for Children<'a, 'input> {
 
     ghost remaining = { item_count (λ s. s) };
 
+    #[inline]
     #[tactic(auto, using(crate::proofs::Stretches::front_left, crate::proofs::Stretches::front_rest, crate::proofs::Stretches::front_none))]
     fn next(&mut self) -> Option<Node<'a, 'input>> {
         if self.from.0 >= self.until.0 {
@@ -377,6 +412,7 @@ impl<'a, 'input> DoubleEndedIterator for Children<'a, 'input> {
 
     ghost next_back_gives = { YieldsLastBy node_ref (λ s. s) };
 
+    #[inline]
     #[tactic(auto, using(crate::proofs::Stretches::back_left, crate::proofs::Stretches::back_rest, crate::proofs::Stretches::back_fewer, crate::proofs::Stretches::front_none))]
     fn next_back(&mut self) -> Option<Node<'a, 'input>> {
         if self.from.0 >= self.until.0 {

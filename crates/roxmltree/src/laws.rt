@@ -1,4 +1,4 @@
-//! Laws of every document that callers' proofs rest on, each a function whose contract is the law. More are in `rox_laws`.
+//! Laws of every document on which callers' proofs rest, each a function whose contract is the law. More laws are in `rox_laws`.
 
 ghost use Rattle.std.specs.Prelude.{◌≡◌, ℕ, ◌+◌, ◌<◌, ◌≤◌, ◌∷◌, ◌++◌, List, Some, IsUtf8};
 ghost use Rattle.std.specs.List.{Contains, range_with_len};
@@ -9,7 +9,7 @@ ghost use Rattle.roxmltree.specs.Places.{place, parent};
 
 use crate::tree::Document;
 
-/// What is true of every document: its tree is that of its text, which is in UTF-8.
+/// States that the tree of every document is that of its text, which is in UTF-8.
 pub fn document_is_whole(document: &Document<'_>)
     ensures parsed { (asked : List Asked)
         × IsTreeOf document.now.text document.now.dtd asked 4294967295 document.now.tree }
@@ -18,7 +18,7 @@ pub fn document_is_whole(document: &Document<'_>)
     document.whole();
 }
 
-/// A node's id is its place in document order, and its subtree ends within the document.
+/// States that a node's id is its index in document order, and that its subtree ends within the document.
 #[tactic(auto, using(crate::proofs::Preorder::place_id, crate::proofs::Preorder::place_end))]
 pub fn ids_are_places(document: &Document<'_>)
     ensures place { (i : ℕ) → i < size document.now.tree → (place document.now.tree i).id ≡ i }
@@ -28,7 +28,7 @@ pub fn ids_are_places(document: &Document<'_>)
     let _ = document;
 }
 
-/// The nodes above a node are its parent and the nodes above that.
+/// States that the ancestors of a node are its parent and the ancestors of its parent.
 #[tactic(auto, using(crate::proofs::Preorder::parent_is))]
 pub fn parents_are_the_nearest_above(document: &Document<'_>)
     ensures inside { (i q : ℕ) → i < size document.now.tree → parent document.now.tree i ≡ Some q
@@ -39,7 +39,7 @@ pub fn parents_are_the_nearest_above(document: &Document<'_>)
     let _ = document;
 }
 
-/// The nodes from one on in its subtree are the ids from its own on, each once: as many as the subtree has.
+/// States that the ids of a subtree, in document order, are consecutive and begin with that of its top node.
 #[tactic(auto, using(crate::proofs::Siblings::descendants_is))]
 pub fn descendants_are_in_order(document: &Document<'_>)
     ensures { (i : ℕ) → i < size document.now.tree
@@ -49,8 +49,8 @@ pub fn descendants_are_in_order(document: &Document<'_>)
     let _ = document;
 }
 
-/// From each node of a subtree but its top one comes up to the top: above it are some nodes, the top, and those above that.
-/// And a node is in the subtrees of all nodes above it.
+/// States that the ancestors of a node inside a subtree are some nodes, the top node, and the ancestors of that. States too that
+/// a node is in the subtrees of all its ancestors.
 pub fn descendants_are_below(document: &Document<'_>)
     ensures leads { (i j : ℕ) → i < size document.now.tree → i < j
         → j < i + (place document.now.tree i).count

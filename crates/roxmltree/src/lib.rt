@@ -1,4 +1,4 @@
-//! A read-only tree of an XML document, in document order.
+//! A read-only tree of an XML document, in document order. `Document::parse` returns the tree of a text.
 #![tactic(auto)]
 
 mod attributes;
@@ -27,9 +27,11 @@ pub use crate::nodes::{Node, NodeId, NodeIdTooLarge};
 pub use crate::options::ParsingOptions;
 pub use crate::tree::Document;
 pub use rox_build::resolver::{EntityResolver, NoResolver, ResolveWith};
+pub use rox_error::message::Message;
 pub use rox_error::position::TextPos;
-pub use rox_tables::rows::storage::StringStorage;
-pub use rox_tables::rows::tables::{Namespace, PI};
+pub use rox_rows::row::PI;
+pub use rox_rows::storage::StringStorage;
+pub use rox_scopes::tables::Namespace;
 
-/// Why a text is refused.
+/// The reason why a text is refused.
 pub type Error = rox_error::error::Error<'static>;

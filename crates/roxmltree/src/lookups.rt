@@ -1,9 +1,9 @@
-//! The name of an element, and what is looked up in its attributes and namespaces.
+//! The name of an element, and the search of its attributes and namespaces.
 
 ghost use Rattle.std.specs.Prelude.{◌≡◌, ◌&&◌, ◌<◌, ◌^◌, length, bytes_eq};
 ghost use Rattle.std.specs.Option.{option_map, is_some};
 ghost use Rattle.rox_grammar.specs.Tree.{uri_of};
-ghost use Rattle.rox_tables.specs.Rows.{namespace_view};
+ghost use Rattle.rox_scopes.specs.Tables.{namespace_view};
 ghost use Rattle.roxmltree.specs.NodeParts.{is_element_node, local_of, namespace_of, listed_of, attributes_of};
 ghost use Rattle.roxmltree.specs.ExpandedNames.{expanded, same_expanded_name, named, named_locally, prefix_of, first_prefix};
 ghost use Rattle.roxmltree.specs.ElementLists.{attribute_of};
@@ -13,10 +13,10 @@ use crate::attributes::{Attribute, Attributes};
 use crate::names::{ExpandedName, NS_XML_URI, equal_names};
 use crate::namespaces::NamespaceIter;
 use crate::nodes::Node;
-use rox_tables::rows::stored_node::KindRef;
+use rox_rows::stored_node::KindRef;
 
 impl<'a, 'input> Node<'a, 'input> {
-    /// The name of an element. The empty name without namespace for other nodes.
+    /// Returns the expanded name of an element. For other nodes, returns the empty name without a namespace.
     #[inline]
     pub fn tag_name(&self) -> ExpandedName<'a, 'input>
         ensures { expanded result ≡ (namespace_of (item_of self.now), local_of (item_of self.now)) }
@@ -24,7 +24,7 @@ impl<'a, 'input> Node<'a, 'input> {
         ExpandedName::from_parts(self.name_namespace(), self.local_name())
     }
 
-    /// The local name of an element. The empty text for other nodes.
+    /// Returns the local name of an element, or the empty text for other nodes.
     #[inline]
     #[tactic(auto, using(crate::proofs::Bare::local_of_bare))]
     fn local_name(&self) -> &'input str
@@ -36,7 +36,16 @@ impl<'a, 'input> Node<'a, 'input> {
         }
     }
 
-    /// Whether it is an element of this name.
+    /// Returns whether it is an element with this expanded name (Namespaces in XML 1.0 section 2.1).
+    ///
+    /// ```
+    /// let document = Document::parse(alloc, "<e xmlns='http://www.w3.org'/>")?;
+    /// let e = document.root_element();
+    /// assert!(rt; e.has_tag_name(("http://www.w3.org", "e").into()));
+    /// assert!(rt; !e.has_tag_name("e".into()));
+    /// assert!(rt; e.has_local_name("e"));
+    /// ```
+    #[inline]
     pub fn has_tag_name(&self, name: ExpandedName<'_, '_>) -> bool
         ensures { result
             ≡ (is_element_node (item_of self.now)
@@ -48,7 +57,8 @@ impl<'a, 'input> Node<'a, 'input> {
             && self.name_namespace() == name.namespace()
     }
 
-    /// Whether it is an element of this local name, whatever its namespace.
+    /// Returns whether it is an element with this local name, whatever its namespace.
+    #[inline]
     pub fn has_local_name(&self, local: &str) -> bool
         ensures { result
             ≡ (is_element_node (item_of self.now)
@@ -57,7 +67,15 @@ impl<'a, 'input> Node<'a, 'input> {
         self.is_element() && equal_names(self.local_name(), local)
     }
 
-    /// The attributes of an element, as written. An empty iterator for other nodes.
+    /// Returns an iterator over the attributes of an element, in written order, or an empty iterator for other nodes.
+    ///
+    /// ```
+    /// let document = Document::parse(alloc, "<e b='1' a='2'/>")?;
+    /// let mut attributes = document.root_element().attributes();
+    /// assert!(rt; attributes.len() == 2);
+    /// let first = attributes.next().expect(&rt, "an attribute");
+    /// assert!(rt; first.name() == "b");
+    /// ```
     #[inline]
     pub fn attributes(&self) -> Attributes<'a, 'input>
         ensures value { result ≡ attributes_of (item_of self.now) }
@@ -67,8 +85,16 @@ impl<'a, 'input> Node<'a, 'input> {
         self.own_attributes()
     }
 
-    /// The namespaces that an element lists: its own as written, and then those of its parent whose prefix it does not
-    /// declare (Namespaces in XML 1.0 section 6). An empty iterator for other nodes.
+    /// Returns an iterator over the namespaces that an element lists, or an empty iterator for other nodes. Its own come first,
+    /// as written. Then come those of its parent whose prefix it does not declare (Namespaces in XML 1.0 section 6).
+    ///
+    /// ```
+    /// let document = Document::parse(alloc, "<r xmlns='urn:d' xmlns:p='urn:p'/>")?;
+    /// let mut namespaces = document.root_element().namespaces();
+    /// let first = namespaces.next().expect(&rt, "a namespace");
+    /// assert!(rt; first.name().is_none());
+    /// assert!(rt; first.uri() == "urn:d");
+    /// ```
     #[inline]
     pub fn namespaces(&self) -> NamespaceIter<'a, 'input>
         ensures value { result ≡ listed_of (item_of self.now) }
@@ -84,7 +110,16 @@ impl<'a, 'input> Node<'a, 'input> {
         NamespaceIter::of_scope(scopes, listed, namespaces, element.scope)
     }
 
-    /// The attribute of this name.
+    /// Returns the attribute with this expanded name, or `None` if there is none.
+    ///
+    /// ```
+    /// let document = Document::parse(alloc, "<e id='x'/>")?;
+    /// let id = document.root_element().attribute_node("id".into());
+    /// let id = id.expect(&rt, "an attribute");
+    /// assert!(rt; id.value() == "x");
+    /// assert!(rt; id.range().start == 3);
+    /// assert!(rt; id.range_value().start == 7);
+    /// ```
     #[inline(always)]
     pub fn attribute_node(&self, name: ExpandedName<'_, '_>) -> Option<Attribute<'a, 'input>>
         ensures { option_map attribute_of result
@@ -96,7 +131,15 @@ impl<'a, 'input> Node<'a, 'input> {
         }
     }
 
-    /// The value of the attribute of this name.
+    /// Returns the value of the attribute with this expanded name, or `None` if there is none.
+    ///
+    /// ```
+    /// let document = Document::parse(alloc, "<e xmlns:n='urn:n' a='1' n:a='2'/>")?;
+    /// let e = document.root_element();
+    /// assert!(rt; e.attribute("a".into()) == Some("1"));
+    /// assert!(rt; e.attribute(("urn:n", "a").into()) == Some("2"));
+    /// assert!(rt; e.attribute("b".into()).is_none());
+    /// ```
     #[inline(always)]
     pub fn attribute(&self, name: ExpandedName<'_, '_>) -> Option<&'a str>
         ensures { option_map (λ s. s.now) result
@@ -109,7 +152,7 @@ impl<'a, 'input> Node<'a, 'input> {
         }
     }
 
-    /// Whether there is an attribute of this name.
+    /// Returns whether there is an attribute with this expanded name.
     #[inline(always)]
     pub fn has_attribute(&self, name: ExpandedName<'_, '_>) -> bool
         ensures { result
@@ -118,7 +161,7 @@ impl<'a, 'input> Node<'a, 'input> {
         self.attribute_node(name).is_some()
     }
 
-    /// The first attribute of this local name, whatever its namespace.
+    /// Returns the first attribute with this local name, whatever its namespace, or `None` if there is none.
     #[inline]
     pub fn attribute_local(&self, local: &str) -> Option<Attribute<'a, 'input>>
         ensures { option_map attribute_of result
@@ -132,17 +175,25 @@ impl<'a, 'input> Node<'a, 'input> {
         None
     }
 
-    /// The URI that is listed for the default namespace: `Some("")` where it was undeclared by `xmlns=''`, None where none is
-    /// listed, as on nodes that are no element.
+    /// Returns the URI that is listed for the default namespace: `Some("")` if `xmlns=''` undeclares it. Returns `None` if none
+    /// is listed, as on nodes that are not elements.
+    #[inline]
     pub fn default_namespace(&self) -> Option<&'a str>
         ensures { option_map (λ s. s.now) result ≡ uri_of (listed_of (item_of self.now)) None }
     {
         self.lookup_namespace_uri(None)
     }
 
-    /// The URI that is listed for this prefix, or, for None, for the default namespace. It is `Some("")` where the empty text
-    /// is declared. `xml` is never listed, so for it the answer is None; and so it is for `Some("")`, since no prefix is empty,
-    /// and on nodes that are no element.
+    /// Returns the URI that is listed for this prefix, or for the default namespace if `prefix` is `None`. It is `Some("")` if
+    /// the empty text is declared. Returns `None` if none is listed. That is so for `xml`, which is never listed, and for
+    /// `Some("")`, since no prefix is empty. It is so on nodes that are not elements.
+    ///
+    /// ```
+    /// let document = Document::parse(alloc, "<r xmlns:p='urn:p'><a/></r>")?;
+    /// let a = document.root_element().first_child().expect(&rt, "a child");
+    /// assert!(rt; a.lookup_namespace_uri(Some("p")) == Some("urn:p"));
+    /// assert!(rt; a.lookup_namespace_uri(None).is_none());
+    /// ```
     #[inline(always)]
     pub fn lookup_namespace_uri(&self, prefix: Option<&str>) -> Option<&'a str>
         ensures { option_map (λ s. s.now) result
@@ -154,8 +205,8 @@ impl<'a, 'input> Node<'a, 'input> {
         }
     }
 
-    /// The prefix of the first listed namespace of this URI: None where that is the default, and where none is listed, as on
-    /// nodes that are no element. `xml` for the URI of `xml`, on every node (Namespaces in XML 1.0 section 3).
+    /// Returns the prefix of the first listed namespace with this URI, or `None` if it is the default or there is none. The URI
+    /// of `xml` gives `xml` on every node (Namespaces in XML 1.0 section 3).
     #[inline(always)]
     pub fn lookup_prefix(&self, uri: &str) -> Option<&'input str>
         ensures { option_map (λ s. s.now) result

@@ -3,31 +3,31 @@
 ghost use Rattle.std.specs.Prelude.{◌≡◌, ◌≤◌, ◌+◌, length, Some, None, bytes_eq, slice_range};
 ghost use Rattle.std.specs.Int.{w64, from_le_bytes, to_le_bytes};
 ghost use Rattle.std.specs.Option.{option_map};
-ghost use Rattle.rox_tables.specs.Words.{HasLength};
+ghost use Rattle.rox_rows.specs.Words.{HasLength};
 ghost use Rattle.roxmltree.specs.ExpandedNames.{expanded, same_expanded_name};
 
-use rox_tables::compare::{Pair, WORD, same_bytes, same_words};
+use rox_rows::compare::{Pair, WORD, same_bytes, same_words};
 use std::fmt;
 
-/// The namespace of the prefix `xml`.
+/// The URI of the prefix `xml`.
 pub const NS_XML_URI: &str = "http://www.w3.org/XML/1998/namespace";
 
-/// The namespace of the prefix `xmlns`.
+/// The URI of the prefix `xmlns`.
 pub const NS_XMLNS_URI: &str = "http://www.w3.org/2000/xmlns/";
 
-/// The length from which on two names are compared out of line.
+/// The length in bytes from which on two names are compared out of line.
 const LONG: usize = 17;
 
-/// How many bytes a long word has.
+/// The number of bytes in a long word.
 const LONG_WORD: usize = 8;
 
-/// How many bytes two long words have.
+/// The number of bytes in two long words.
 const STRETCH: usize = 16;
 
-/// How many bytes a long word and a word have.
+/// The number of bytes in a long word and a word.
 const FRONT: usize = 12;
 
-/// Eight bytes as one long word.
+/// Returns the eight bytes from `at` on as one long word, the lowest byte first.
 #[inline(always)]
 fn long_word_at(bytes: &[u8], at: usize) -> u64
     requires { at + 8 ≤ length bytes.now }
@@ -46,7 +46,7 @@ fn long_word_at(bytes: &[u8], at: usize) -> u64
     ])
 }
 
-/// Whether eight bytes are the same in both.
+/// Returns whether both slices have the same eight bytes from `at` on.
 #[inline(always)]
 fn same_long_word(pair: Pair<'_, '_>, at: usize) -> bool
     requires { at + 8 ≤ length pair.one.now }
@@ -57,7 +57,7 @@ fn same_long_word(pair: Pair<'_, '_>, at: usize) -> bool
     long_word_at(pair.one, at) == long_word_at(pair.other, at)
 }
 
-/// Whether two stretches of eight to sixteen bytes, of one length, are the same: their first eight are, and their last eight.
+/// Returns whether two slices of eight to sixteen bytes are equal: their first eight bytes are, and their last eight.
 #[inline(always)]
 fn same_long_words(pair: Pair<'_, '_>) -> bool
     requires { HasLength 8 16 pair.one.now }
@@ -67,7 +67,7 @@ fn same_long_words(pair: Pair<'_, '_>) -> bool
     same_long_word(pair, 0) && same_long_word(pair, last)
 }
 
-/// Whether sixteen bytes are the same in both.
+/// Returns whether both slices have the same sixteen bytes from `at` on.
 #[inline(always)]
 fn same_stretch(pair: Pair<'_, '_>, at: usize) -> bool
     requires { at + 16 ≤ length pair.one.now }
@@ -80,8 +80,8 @@ fn same_stretch(pair: Pair<'_, '_>, at: usize) -> bool
     same_long_words(Pair { one, other })
 }
 
-/// Whether two long names of one length are the same. Most URIs have 32 bytes at most: their first sixteen are compared, and
-/// their last sixteen. It is kept out of line, so that what goes over many names stays short.
+/// Returns whether two slices of at least sixteen bytes are equal. Most URIs have at most 32 bytes, so their first sixteen are
+/// compared, and their last sixteen. It is out of line, so that loops over many names stay short.
 #[inline(never)]
 fn equal_long(pair: Pair<'_, '_>) -> bool
     requires { 16 ≤ length pair.one.now }
@@ -94,7 +94,7 @@ fn equal_long(pair: Pair<'_, '_>) -> bool
     same_stretch(pair, 0) && same_stretch(pair, last)
 }
 
-/// Whether two long names of one length are the same. Where their ends differ, no call is made.
+/// Like `equal_long`, but makes no call if the last eight bytes differ.
 #[inline(always)]
 fn equal_ends(pair: Pair<'_, '_>) -> bool
     requires { 16 ≤ length pair.one.now }
@@ -104,7 +104,7 @@ fn equal_ends(pair: Pair<'_, '_>) -> bool
     same_long_word(pair, last) && equal_long(pair)
 }
 
-/// Whether two names are the same. Most differ in length, which is compared first.
+/// Returns whether two names are equal. Most differ in length, which is compared first.
 #[inline(always)]
 pub(crate) fn equal_names(one: &str, other: &str) -> bool
     ensures { result ≡ bytes_eq one.now other.now }
@@ -128,7 +128,7 @@ pub(crate) fn equal_names(one: &str, other: &str) -> bool
     same_bytes(pair)
 }
 
-/// Whether two stretches of twelve bytes are the same.
+/// Returns whether two slices of twelve bytes are equal.
 #[inline(always)]
 fn same_front(pair: Pair<'_, '_>) -> bool
     requires { length pair.one.now ≡ 12 }
@@ -139,8 +139,8 @@ fn same_front(pair: Pair<'_, '_>) -> bool
     same_long_word(pair, 0) && same_words(Pair { one, other })
 }
 
-/// Whether two URIs of sixteen to twenty-eight bytes, of one length, are the same: their first twelve bytes are, and their last
-/// sixteen. Where they have twenty-eight no byte is read twice, since the compiler reads words only of what is read once.
+/// Returns whether two slices of sixteen to twenty-eight bytes are equal: their first twelve bytes are, and their last sixteen.
+/// With twenty-eight bytes no byte is read twice, since the compiler reads whole words only of bytes that are read once.
 #[inline(always)]
 fn same_short_uris(pair: Pair<'_, '_>) -> bool
     requires { HasLength 16 28 pair.one.now }
@@ -152,7 +152,7 @@ fn same_short_uris(pair: Pair<'_, '_>) -> bool
     same_front(Pair { one, other }) && same_stretch(pair, last)
 }
 
-/// Whether two URIs are the same. Those that are as long as many are compared without a call.
+/// Returns whether two URIs are equal. URIs of the most common lengths are compared without a call.
 #[inline(always)]
 pub(crate) fn equal_uris(one: &str, other: &str) -> bool
     ensures { result ≡ bytes_eq one.now other.now }
@@ -169,8 +169,15 @@ pub(crate) fn equal_uris(one: &str, other: &str) -> bool
     })
 }
 
-/// A local name and, if it has one, its namespace. Two are equal where their local names are equal, and both have no
-/// namespace or both have equal URIs.
+/// A local name and its namespace, if it has one. Two are equal if their local names are equal, and both have equal URIs or both
+/// have no namespace.
+///
+/// ```
+/// let name = ExpandedName::from(("urn:p", "a"));
+/// assert!(rt; name.namespace() == Some("urn:p"));
+/// assert!(rt; name.name() == "a");
+/// assert!(rt; ExpandedName::from("a").namespace().is_none());
+/// ```
 #[derive(Clone, Copy, PartialEq, Eq)]
 pub struct ExpandedName<'a, 'b> {
     local: &'b str,
@@ -178,7 +185,7 @@ pub struct ExpandedName<'a, 'b> {
 }
 
 impl<'a, 'b> ExpandedName<'a, 'b> {
-    /// The name of these parts.
+    /// Returns the name with this namespace and this local name.
     #[inline]
     pub(crate) fn from_parts(uri: Option<&'a str>, local: &'b str) -> ExpandedName<'a, 'b>
         ensures { expanded result ≡ (option_map (λ u. u.now) uri.entry, local.now) }
@@ -186,7 +193,7 @@ impl<'a, 'b> ExpandedName<'a, 'b> {
         ExpandedName { local, uri }
     }
 
-    /// Its namespace's URI.
+    /// Returns the URI of its namespace, or `None` if it has no namespace.
     #[inline]
     pub fn namespace(&self) -> Option<&'a str>
         ensures { option_map (λ u. u.now) result ≡ (expanded self.now).0 }
@@ -194,7 +201,7 @@ impl<'a, 'b> ExpandedName<'a, 'b> {
         self.uri
     }
 
-    /// Its local name.
+    /// Returns its local name.
     #[inline]
     pub fn name(&self) -> &'b str
         ensures { result.now ≡ (expanded self.now).1 }
@@ -204,7 +211,7 @@ impl<'a, 'b> ExpandedName<'a, 'b> {
 }
 
 impl ExpandedName<'static, 'static> {
-    /// The name of these parts.
+    /// Returns the name with the namespace `uri` and the local name `local`.
     #[inline]
     pub fn from_static(uri: &'static str, local: &'static str) -> ExpandedName<'static, 'static>
         ensures { expanded result ≡ (Some uri.now, local.now) }
@@ -216,7 +223,7 @@ impl ExpandedName<'static, 'static> {
     }
 }
 
-/// Prints `{uri}local`, or the local name alone where there is no namespace.
+/// Prints `{uri}local`, or only the local name if there is no namespace.
 impl fmt::Debug for ExpandedName<'_, '_> {
     fn fmt<W: fmt::Write>(&self, f: &mut fmt::Formatter<W>) -> fmt::Result {
         let local = self.local;

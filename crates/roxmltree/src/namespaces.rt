@@ -1,14 +1,23 @@
 //! The namespaces that an element lists.
 
 ghost use Rattle.std.specs.Prelude.{◌≡◌, length};
-ghost use Rattle.rox_tables.specs.Rows.{namespace_view};
+ghost use Rattle.rox_scopes.specs.Tables.{namespace_view};
 
-use rox_tables::namespaces::rope::{count, place_at};
-use rox_tables::rows::tables::{Namespace, Scope};
+use rox_scopes::rope::{count, place_at};
+use rox_scopes::tables::{Namespace, Scope};
 use std::fmt;
 use std::marker::Model;
 
-/// Namespaces that one element lists, from both ends: a stretch of what its scope lists.
+/// An iterator, from both ends, over namespaces that one element lists. Its items are those at the indices `from..until` of what
+/// its scope lists.
+///
+/// ```
+/// let document = Document::parse(alloc, "<r xmlns='urn:d' xmlns:p='urn:p'/>")?;
+/// let mut namespaces = document.root_element().namespaces();
+/// let first = namespaces.next().expect(&rt, "a namespace");
+/// assert!(rt; first.name().is_none());
+/// assert!(rt; first.uri() == "urn:d");
+/// ```
 #[derive(Clone, Drop)]
 pub struct NamespaceIter<'a, 'input> {
     pub(crate) scopes: &'a [Scope],
@@ -35,13 +44,13 @@ impl<'a, 'input> Model for NamespaceIter<'a, 'input> {
 
 impl<'a, 'input> NamespaceIter<'a, 'input> {
     ghost use Rattle.std.specs.Prelude.{[], map, ◌<◌, ◌^◌};
-    ghost use Rattle.rox_tables.specs.Rows.{namespace_at};
-    ghost use Rattle.rox_tables.specs.Scopes.{places_in};
-    ghost use Rattle.rox_tables.specs.Ropes.{IsScopeOf};
+    ghost use Rattle.rox_rows.specs.Rows.{namespace_at};
+    ghost use Rattle.rox_scopes.specs.Scopes.{places_in};
+    ghost use Rattle.rox_scopes.specs.Ropes.{IsScopeOf};
 
-    /// All that a scope lists of these places, in this table of namespaces.
+    /// Returns an iterator over all namespaces that a scope lists.
     #[inline]
-    #[tactic(auto, using(crate::proofs::Ends::whole, rox_tables::proofs::Ropes::count_places))]
+    #[tactic(auto, using(crate::proofs::Ends::whole, rox_scopes::proofs::Ropes::count_places))]
     pub(crate) fn of_scope(
         scopes: &'a [Scope],
         listed: &'a [u16],
@@ -63,7 +72,7 @@ impl<'a, 'input> NamespaceIter<'a, 'input> {
         }
     }
 
-    /// None, as nodes list that are no element.
+    /// Returns an empty iterator: nodes that are not elements list nothing.
     #[inline]
     pub(crate) fn empty() -> NamespaceIter<'a, 'input>
         ensures { result ≡ [] }
@@ -98,6 +107,7 @@ impl<'a, 'input> Iterator for NamespaceIter<'a, 'input> {
 
     ghost remaining = { item_count (λ s. s) };
 
+    #[inline]
     #[tactic(auto, using(crate::proofs::Ends::length_stretch))]
     fn next(&mut self) -> Option<&'a Namespace<'input>> {
         if self.from == self.until {
@@ -124,6 +134,7 @@ impl<'a, 'input> DoubleEndedIterator for NamespaceIter<'a, 'input> {
 
     ghost next_back_gives = { YieldsLastBy (λ n. namespace_view n.now) (λ s. s) };
 
+    #[inline]
     #[tactic(auto, using(crate::proofs::Ends::length_stretch))]
     fn next_back(&mut self) -> Option<&'a Namespace<'input>> {
         if self.from == self.until {

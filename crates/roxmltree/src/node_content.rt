@@ -1,4 +1,4 @@
-//! What a node is, where it stands in the text, and its text.
+//! The kind of a node, its range in the text, and its text.
 
 ghost use Rattle.std.specs.Prelude.{◌≡◌};
 ghost use Rattle.std.specs.Option.{option_map};
@@ -8,15 +8,24 @@ ghost use Rattle.roxmltree.specs.StoredText.{stored, instruction};
 ghost use Rattle.roxmltree.specs.NodeRef.{id_of, tree_of, item_of};
 
 use crate::nodes::Node;
-use rox_tables::rows::storage::StringStorage;
-use rox_tables::rows::stored_node::KindRef;
-use rox_tables::rows::tables::PI;
+use rox_rows::row::PI;
+use rox_rows::storage::StringStorage;
+use rox_rows::stored_node::KindRef;
 use std::ops::Range;
 
 /// The kinds of node.
+///
+/// ```
+/// let document = Document::parse(alloc, "<?style sheet?><r/>")?;
+/// let node = document.root().first_child().expect(&rt, "a child");
+/// assert!(rt; node.node_type() == NodeType::PI);
+/// let pi = node.pi().expect(&rt, "an instruction");
+/// assert!(rt; pi.target == "style");
+/// assert!(rt; pi.value == Some("sheet"));
+/// ```
 #[derive(Clone, Copy, PartialEq, Eq, Debug)]
 pub enum NodeType {
-    /// The one node above all others.
+    /// The one node that is the ancestor of all others.
     Root,
     Element,
     PI,
@@ -25,7 +34,7 @@ pub enum NodeType {
 }
 
 impl<'a, 'input> Node<'a, 'input> {
-    /// Its kind.
+    /// Returns its kind.
     #[inline]
     #[tactic(auto, using(crate::proofs::Bare::type_of_bare))]
     pub fn node_type(&self) -> NodeType
@@ -40,7 +49,7 @@ impl<'a, 'input> Node<'a, 'input> {
         }
     }
 
-    /// Whether it is the root node.
+    /// Returns whether it is the root node.
     #[inline]
     #[tactic(auto, using(crate::proofs::Bare::says_root_bare))]
     pub fn is_root(&self) -> bool
@@ -52,7 +61,7 @@ impl<'a, 'input> Node<'a, 'input> {
         }
     }
 
-    /// Whether it is an element.
+    /// Returns whether it is an element.
     #[inline]
     pub fn is_element(&self) -> bool
         ensures { result ≡ is_element_node (item_of self.now) }
@@ -60,7 +69,7 @@ impl<'a, 'input> Node<'a, 'input> {
         self.row.is_element()
     }
 
-    /// Whether it is a processing instruction.
+    /// Returns whether it is a processing instruction.
     #[inline]
     #[tactic(auto, using(crate::proofs::Bare::says_pi_bare))]
     pub fn is_pi(&self) -> bool
@@ -72,7 +81,7 @@ impl<'a, 'input> Node<'a, 'input> {
         }
     }
 
-    /// Whether it is a comment.
+    /// Returns whether it is a comment.
     #[inline]
     #[tactic(auto, using(crate::proofs::Bare::says_comment_bare))]
     pub fn is_comment(&self) -> bool
@@ -84,7 +93,7 @@ impl<'a, 'input> Node<'a, 'input> {
         }
     }
 
-    /// Whether it is a text node.
+    /// Returns whether it is a text node.
     #[inline]
     pub fn is_text(&self) -> bool
         ensures { result ≡ is_text_node (item_of self.now) }
@@ -92,8 +101,16 @@ impl<'a, 'input> Node<'a, 'input> {
         self.row.is_text()
     }
 
-    /// Where it stands in its source, in bytes: an element from its `<` to the end of its end tag, and the root node the whole
-    /// text. A text node that was merged of several runs and CDATA sections has the range of the first of them alone.
+    /// Returns its range of bytes in its source, with offsets from 0. An element's range is from its `<` to the end of its end
+    /// tag, the root node's is the whole text. A text node may be merged from several runs of character data and CDATA sections:
+    /// it has the range of the first.
+    ///
+    /// ```
+    /// let document = Document::parse(alloc, "<r><a/>text</r>")?;
+    /// let a = document.root_element().first_child().expect(&rt, "a child");
+    /// assert!(rt; a.range().start == 3);
+    /// assert!(rt; a.range().end == 7);
+    /// ```
     #[inline]
     #[tactic(auto, using(crate::proofs::Bare::start_of_bare, crate::proofs::Bare::end_of_bare))]
     pub fn range(&self) -> Range<usize>
@@ -107,7 +124,16 @@ impl<'a, 'input> Node<'a, 'input> {
         }
     }
 
-    /// The target and the value of a processing instruction (XML 1.0 section 2.6). None for other nodes.
+    /// Returns the target and the value of a processing instruction (XML 1.0 section 2.6), or `None` on other nodes.
+    ///
+    /// ```
+    /// let document = Document::parse(alloc, "<?style sheet?><r/>")?;
+    /// let node = document.root().first_child().expect(&rt, "a child");
+    /// assert!(rt; node.node_type() == NodeType::PI);
+    /// let pi = node.pi().expect(&rt, "an instruction");
+    /// assert!(rt; pi.target == "style");
+    /// assert!(rt; pi.value == Some("sheet"));
+    /// ```
     #[inline]
     #[tactic(auto, using(crate::proofs::Bare::pi_of_bare))]
     pub fn pi(&self) -> Option<PI<'input>>
@@ -119,7 +145,17 @@ impl<'a, 'input> Node<'a, 'input> {
         }
     }
 
-    /// The text of an element's first child if that is a text node, and of a comment or a text node its own.
+    /// Returns the text of an element's first child if that is a text node. Returns a comment's or a text node's own text.
+    /// Otherwise, and on other nodes, returns `None`.
+    ///
+    /// ```
+    /// let document = Document::parse(alloc, "<r>one<a>two</a>three</r>")?;
+    /// let r = document.root_element();
+    /// let a = r.first_element_child().expect(&rt, "an element");
+    /// assert!(rt; r.text() == Some("one"));
+    /// assert!(rt; a.text() == Some("two"));
+    /// assert!(rt; a.tail() == Some("three"));
+    /// ```
     #[inline]
     pub fn text(&self) -> Option<&'a str>
         ensures { option_map (λ s. s.now) result ≡ text (tree_of self.now) (id_of self.now) }
@@ -130,7 +166,15 @@ impl<'a, 'input> Node<'a, 'input> {
         }
     }
 
-    /// As `text`, with whether it is a slice of the input. A comment's always is.
+    /// Like `text`, but returns the storage, which distinguishes a slice of the input from an owned text. That of a comment is
+    /// always a slice.
+    ///
+    /// ```
+    /// let document = Document::parse(alloc, "<a>one &amp; two</a>")?;
+    /// let storage = document.root_element().text_storage().expect(&rt, "a text");
+    /// assert!(rt; storage.as_str() == "one & two");
+    /// assert!(rt; matches!(storage, StringStorage::Owned(_)));
+    /// ```
     #[inline]
     #[tactic(auto, using(crate::proofs::Bare::says_element_bare))]
     pub fn text_storage(&self) -> Option<&'a StringStorage<'input>>
@@ -147,7 +191,16 @@ impl<'a, 'input> Node<'a, 'input> {
         }
     }
 
-    /// The text of an element's next sibling if that is a text node.
+    /// Returns the text of an element's next sibling if that is a text node; otherwise, and on other nodes, `None`.
+    ///
+    /// ```
+    /// let document = Document::parse(alloc, "<r>one<a>two</a>three</r>")?;
+    /// let r = document.root_element();
+    /// let a = r.first_element_child().expect(&rt, "an element");
+    /// assert!(rt; r.text() == Some("one"));
+    /// assert!(rt; a.text() == Some("two"));
+    /// assert!(rt; a.tail() == Some("three"));
+    /// ```
     #[inline]
     pub fn tail(&self) -> Option<&'a str>
         ensures { option_map (λ s. s.now) result ≡ tail (tree_of self.now) (id_of self.now) }
@@ -158,7 +211,8 @@ impl<'a, 'input> Node<'a, 'input> {
         }
     }
 
-    /// As `tail`, with whether it is a slice of the input.
+    /// Like `tail`, but returns the storage, which distinguishes a slice of the input from an owned text.
+    #[inline]
     pub fn tail_storage(&self) -> Option<&'a StringStorage<'input>>
         ensures { option_map (λ s. stored s.now) result
             ≡ stored_tail (tree_of self.now) (id_of self.now) }
@@ -172,7 +226,7 @@ impl<'a, 'input> Node<'a, 'input> {
         }
     }
 
-    /// The text of a text node.
+    /// Returns the text of a text node, or `None` on other nodes.
     #[inline]
     #[tactic(auto, using(crate::proofs::Bare::text_content_bare))]
     fn own_text_storage(&self) -> Option<&'a StringStorage<'input>>

@@ -1,4 +1,4 @@
-//! A node of a document, its kind, and its neighbours.
+//! A node of a document, its id, and its neighbours.
 
 ghost use Rattle.std.specs.Prelude.{◌≡◌, ℕ, ◌+◌, ◌^◌, ◌<◌, ◌≤◌, length, ◌∷◌, IsTrue, ◌↔◌, ◌≢◌, ◌⊎◌, reverse};
 ghost use Rattle.std.specs.Option.{option_map};
@@ -9,22 +9,33 @@ ghost use Rattle.roxmltree.specs.Places.{place, parent, children, first_child, l
 
 use crate::iterators::{Axis, AxisIter, Children, Descendants};
 use crate::tree::Document;
-use rox_tables::rows::stored_node::StoredNode;
-use rox_tables::rows::tables::Tables;
+use rox_rows::stored_node::StoredNode;
+use rox_scopes::tables::Tables;
 use std::fmt;
 
-/// The place of a node in document order: the root node has 0.
+/// The id of a node: its index in document order. The root node has 0.
+///
+/// ```
+/// let document = Document::parse(alloc, "<r><a/></r>")?;
+/// let a = document.root_element().first_child().expect(&rt, "a child");
+/// assert!(rt; a.id() == NodeId::new(2));
+/// assert!(rt; a.id().get() == 2);
+/// ```
 #[derive(Clone, Copy, PartialEq, Eq, PartialOrd, Ord, Hash, Debug)]
 pub struct NodeId(pub(crate) u32);
 
-/// A number that is no node's id: past `u32::MAX`.
+/// The error for a number that is not a node's id: it is above `u32::MAX`.
+///
+/// ```
+/// assert!(rt; NodeId::try_from(4294967296usize) == Err(NodeIdTooLarge));
+/// ```
 #[derive(Clone, Copy, PartialEq, Eq, Debug)]
 pub struct NodeIdTooLarge;
 
 impl NodeId {
     ghost use Rattle.roxmltree.specs.NodeRef.{number};
 
-    /// The id of this number.
+    /// Returns the id with this number.
     #[inline]
     pub fn new(id: u32) -> NodeId
         ensures { number result ≡ id }
@@ -32,7 +43,7 @@ impl NodeId {
         NodeId(id)
     }
 
-    /// Its number.
+    /// Returns its number.
     #[inline]
     pub fn get(self) -> u32
         ensures { result ≡ number self }
@@ -40,7 +51,7 @@ impl NodeId {
         self.0
     }
 
-    /// Its number, as an index.
+    /// Returns its number as an index.
     #[inline]
     pub fn get_usize(self) -> usize
         ensures { result ≡ number self }
@@ -87,14 +98,24 @@ impl fmt::Display for NodeIdTooLarge {
 
 impl std::error::Error for NodeIdTooLarge {}
 
-/// A node of a document. Nodes are equal, ordered and hashed by the key of their document (`ParsingOptions::document_key`) and
-/// by their id. The key is 0 where none is given, so nodes of two documents may be equal: give each its own to tell them apart.
+/// A node of a document. Nodes are equal, ordered and hashed by the key of their document (`ParsingOptions::document_key`) and by
+/// their id. The key is 0 if none is given, so nodes of two documents may be equal. Give each document its own key to distinguish
+/// them.
+///
+/// ```
+/// let document = Document::parse(alloc, "<r><a/><b/></r>")?;
+/// let a = document.root_element().first_child().expect(&rt, "a child");
+/// let b = a.next_sibling().expect(&rt, "a sibling");
+/// assert!(rt; a.tag_name().name() == "a");
+/// assert!(rt; b.parent() == a.parent());
+/// assert!(rt; a < b);
+/// ```
 #[derive(Clone, Copy)]
 pub struct Node<'a, 'input> {
     pub(crate) document: &'a Document<'input>,
-    /// Those of the document.
+    /// The tables of the document.
     pub(crate) tables: &'a Tables<'input>,
-    /// Its row there, whose place is found once, however often the node is asked.
+    /// The row of the node in the tables, which is found once for all calls on the node.
     pub(crate) row: &'a StoredNode<'input>,
     pub(crate) id: NodeId,
     ghost in_tree: { id.0 < size document.now.tree },
@@ -102,11 +123,13 @@ pub struct Node<'a, 'input> {
 }
 
 impl<'a, 'input> Node<'a, 'input> {
+    ghost use Rattle.std.specs.Prelude.{All};
     ghost use Rattle.roxmltree.specs.GivesNode.{GivesNode};
+    ghost use Rattle.roxmltree.specs.LaterNodes.{IsLater};
     ghost use Rattle.roxmltree.specs.Elements.{nearest_element};
     ghost use Rattle.roxmltree.specs.NodeRef.{number, id_of, document_of, tree_of, node_ref, node_refs};
 
-    /// The document that it is in.
+    /// Returns the document that it is in.
     #[inline]
     pub fn document(&self) -> &'a Document<'input>
         ensures { result.now ≡ document_of self.now }
@@ -114,7 +137,7 @@ impl<'a, 'input> Node<'a, 'input> {
         self.document
     }
 
-    /// Its place in document order.
+    /// Returns its id: its index in document order, from 0.
     #[inline]
     pub fn id(&self) -> NodeId
         ensures { number result ≡ id_of self.now }
@@ -122,7 +145,7 @@ impl<'a, 'input> Node<'a, 'input> {
         self.id
     }
 
-    /// The node that it is a child of. None for the root node.
+    /// Returns the node that it is a child of, or `None` for the root node.
     #[inline]
     #[tactic(auto, using(crate::proofs::Preorder::parent_is))]
     pub fn parent(&self) -> Option<Node<'a, 'input>>
@@ -137,7 +160,7 @@ impl<'a, 'input> Node<'a, 'input> {
         }
     }
 
-    /// Its first child.
+    /// Returns its first child, or `None` if it has none.
     #[inline]
     #[tactic(auto, using(crate::proofs::Preorder::place_end, crate::proofs::Preorder::first_child_some, crate::proofs::Preorder::first_child_none))]
     pub fn first_child(&self) -> Option<Node<'a, 'input>>
@@ -152,7 +175,7 @@ impl<'a, 'input> Node<'a, 'input> {
         }
     }
 
-    /// The next child of its parent.
+    /// Returns the child of its parent right after it, or `None` if it is the last.
     #[inline]
     pub fn next_sibling(&self) -> Option<Node<'a, 'input>>
         ensures { GivesNode self.now (next_sibling (tree_of self.now) (id_of self.now)) result }
@@ -171,24 +194,27 @@ impl<'a, 'input> Node<'a, 'input> {
         }
     }
 
-    /// Of itself and the nodes above it, the nearest that is a child of this one, or else the root node.
-    #[tactic(auto, using(crate::proofs::Preorder::up_to_here, crate::proofs::Preorder::up_to_root, crate::proofs::Preorder::parent_depth))]
-    pub(crate) fn climb(self, parent: NodeId) -> Node<'a, 'input>
-        ensures id { id_of result ≡ up_to (tree_of self.entry) (id_of self.entry) (number parent) }
+    /// Returns, of this node and its ancestors, the one that is a child of `ancestor`, which is an ancestor of this node.
+    #[inline]
+    #[tactic(auto, using(crate::proofs::Preorder::up_to_here))]
+    pub(crate) fn climb(self, ancestor: NodeId) -> Node<'a, 'input>
+        requires { parent (tree_of self) (up_to (tree_of self) (id_of self) (number ancestor))
+            ≡ Some (number ancestor) }
+        ensures id { id_of result
+            ≡ up_to (tree_of self.entry) (id_of self.entry) (number ancestor) }
         ensures document { result.document ≡ self.entry.document }
     {
+        let document = self.document;
         let mut node = self;
-        while node.row().parent != parent.0 {
-            match node.parent() {
-                Some(above) => node = above,
-                None => return node,
-            }
+        while node.row().parent != ancestor.0 {
+            node = Node::of(document, NodeId(node.row().parent));
         }
         node
     }
 
-    /// Its last child.
-    #[tactic(auto, using(crate::proofs::Preorder::place_end, crate::proofs::Preorder::last_child_some, crate::proofs::Preorder::last_child_none))]
+    /// Returns its last child, or `None` if it has none.
+    #[inline]
+    #[tactic(auto, using(crate::proofs::Preorder::place_end, crate::proofs::Preorder::last_child_some, crate::proofs::Preorder::last_child_none, crate::proofs::Preorder::last_child_under))]
     pub fn last_child(&self) -> Option<Node<'a, 'input>>
         ensures { GivesNode self.now (last_child (tree_of self.now) (id_of self.now)) result }
     {
@@ -202,8 +228,9 @@ impl<'a, 'input> Node<'a, 'input> {
         }
     }
 
-    /// The child of its parent right before it.
-    #[tactic(auto, using(crate::proofs::Preorder::prev_sibling_some, crate::proofs::Preorder::prev_sibling_none, crate::proofs::Preorder::prev_sibling_root))]
+    /// Returns the child of its parent right before it, or `None` if it is the first.
+    #[inline]
+    #[tactic(auto, using(crate::proofs::Preorder::prev_sibling_some, crate::proofs::Preorder::prev_sibling_none, crate::proofs::Preorder::prev_sibling_root, crate::proofs::Preorder::prev_sibling_under))]
     pub fn prev_sibling(&self) -> Option<Node<'a, 'input>>
         ensures { GivesNode self.now (prev_sibling (tree_of self.now) (id_of self.now)) result }
     {
@@ -221,13 +248,23 @@ impl<'a, 'input> Node<'a, 'input> {
         }
     }
 
-    /// Its children, in order.
+    /// Returns an iterator over its children, in document order. Each child has a greater id than this node, so a recursion over
+    /// children ends.
+    ///
+    /// ```
+    /// let document = Document::parse(alloc, "<r>one<a/>two</r>")?;
+    /// let mut children = document.root_element().children();
+    /// let last = children.next_back().expect(&rt, "a child");
+    /// assert!(rt; last.text() == Some("two"));
+    /// assert!(rt; children.count() == 2);
+    /// ```
     #[inline]
-    #[tactic(auto, using(crate::proofs::Preorder::place_end, crate::proofs::Stretches::children_left, crate::proofs::Stretches::children_stretch, crate::proofs::Few::few_left_of_children))]
+    #[tactic(auto, using(crate::proofs::Preorder::place_end, crate::proofs::Stretches::children_left, crate::proofs::Stretches::children_stretch, crate::proofs::Few::few_left_of_children, crate::proofs::LaterChildren::left_later))]
     pub fn children(&self) -> Children<'a, 'input>
         ensures value { result
             ≡ node_refs (document_of self.now) (children (tree_of self.now) (id_of self.now)) }
         ensures few { length result < 2 ^ 32 }
+        ensures later { All (IsLater (node_ref self.now)) result }
     {
         let document = self.document;
         let row = self.row();
@@ -239,7 +276,14 @@ impl<'a, 'input> Node<'a, 'input> {
         }
     }
 
-    /// Itself and all nodes below it, in document order.
+    /// Returns an iterator over the node itself and all its descendants, in document order.
+    ///
+    /// ```
+    /// let document = Document::parse(alloc, "<r>one<a>two</a></r>")?;
+    /// let mut nodes = document.root_element().descendants();
+    /// assert!(rt; nodes.len() == 4);
+    /// assert!(rt; nodes.next() == Some(document.root_element()));
+    /// ```
     #[inline]
     #[tactic(auto, using(crate::proofs::Preorder::place_end, crate::proofs::Siblings::descendants_is, crate::proofs::Ranges::spots_length))]
     pub fn descendants(&self) -> Descendants<'a, 'input>
@@ -260,7 +304,19 @@ impl<'a, 'input> Node<'a, 'input> {
         }
     }
 
-    /// Itself and the nodes above it, nearest first.
+    /// Returns an iterator over the node itself and its ancestors, nearest first.
+    ///
+    /// ```
+    /// let document = Document::parse(alloc, "<r lang='en'><a><b/></a></r>")?;
+    /// let b = document.get_node(NodeId::new(3)).expect(&rt, "a node");
+    /// let mut lang = None;
+    /// for node in b.ancestors() {
+    ///     if lang.is_none() {
+    ///         lang = node.attribute("lang".into());
+    ///     }
+    /// }
+    /// assert!(rt; lang == Some("en"));
+    /// ```
     #[inline]
     #[tactic(auto, using(crate::proofs::Preorder::depth_le, crate::proofs::Ranges::length_spots))]
     pub fn ancestors(&self) -> AxisIter<'a, 'input>
@@ -276,7 +332,7 @@ impl<'a, 'input> Node<'a, 'input> {
         }
     }
 
-    /// Itself and its siblings before it, nearest first.
+    /// Returns an iterator over the node itself and its siblings before it, nearest first.
     #[inline]
     #[tactic(auto, using(crate::proofs::Few::few_before, crate::proofs::Ranges::length_spots))]
     pub fn prev_siblings(&self) -> AxisIter<'a, 'input>
@@ -292,7 +348,7 @@ impl<'a, 'input> Node<'a, 'input> {
         }
     }
 
-    /// Itself and its siblings after it.
+    /// Returns an iterator over the node itself and its siblings after it, nearest first.
     #[inline]
     #[tactic(auto, using(crate::proofs::Few::few_after, crate::proofs::Ranges::length_spots))]
     pub fn next_siblings(&self) -> AxisIter<'a, 'input>
@@ -308,7 +364,7 @@ impl<'a, 'input> Node<'a, 'input> {
         }
     }
 
-    /// Itself, its first child, the first child of that, and so on.
+    /// Returns an iterator over the node itself, its first child, the first child of that, and so on.
     #[inline]
     #[tactic(auto, using(crate::proofs::Few::few_first_children, crate::proofs::Ranges::length_spots))]
     pub fn first_children(&self) -> AxisIter<'a, 'input>
@@ -324,7 +380,7 @@ impl<'a, 'input> Node<'a, 'input> {
         }
     }
 
-    /// Itself, its last child, the last child of that, and so on.
+    /// Returns an iterator over the node itself, its last child, the last child of that, and so on.
     #[inline]
     #[tactic(auto, using(crate::proofs::Few::few_last_children, crate::proofs::Ranges::length_spots))]
     pub fn last_children(&self) -> AxisIter<'a, 'input>
@@ -340,7 +396,8 @@ impl<'a, 'input> Node<'a, 'input> {
         }
     }
 
-    /// The nearest element above it.
+    /// Returns the nearest ancestor that is an element, or `None` if there is none.
+    #[inline]
     pub fn parent_element(&self) -> Option<Node<'a, 'input>>
         ensures { option_map node_ref result
             ≡ nearest_element
@@ -351,7 +408,8 @@ impl<'a, 'input> Node<'a, 'input> {
         AxisIter::first_element(nodes)
     }
 
-    /// The nearest element among its siblings before it.
+    /// Returns the nearest element among its siblings before it, or `None` if there is none.
+    #[inline]
     pub fn prev_sibling_element(&self) -> Option<Node<'a, 'input>>
         ensures { option_map node_ref result
             ≡ nearest_element
@@ -362,7 +420,8 @@ impl<'a, 'input> Node<'a, 'input> {
         AxisIter::first_element(nodes)
     }
 
-    /// The nearest element among its siblings after it.
+    /// Returns the nearest element among its siblings after it, or `None` if there is none.
+    #[inline]
     pub fn next_sibling_element(&self) -> Option<Node<'a, 'input>>
         ensures { option_map node_ref result
             ≡ nearest_element
@@ -373,7 +432,8 @@ impl<'a, 'input> Node<'a, 'input> {
         AxisIter::first_element(nodes)
     }
 
-    /// The first element among its children.
+    /// Returns the first element among its children, or `None` if there is none.
+    #[inline]
     pub fn first_element_child(&self) -> Option<Node<'a, 'input>>
         ensures { option_map node_ref result
             ≡ nearest_element
@@ -382,7 +442,8 @@ impl<'a, 'input> Node<'a, 'input> {
         Children::first_element(self.children())
     }
 
-    /// The last element among its children.
+    /// Returns the last element among its children, or `None` if there is none.
+    #[inline]
     pub fn last_element_child(&self) -> Option<Node<'a, 'input>>
         ensures { option_map node_ref result
             ≡ nearest_element
@@ -392,7 +453,7 @@ impl<'a, 'input> Node<'a, 'input> {
         Children::last_element(self.children())
     }
 
-    /// Whether it has a child.
+    /// Returns whether it has a child.
     #[inline]
     pub fn has_children(&self) -> bool
         ensures { IsTrue result ↔ (first_child (tree_of self.now) (id_of self.now) ≢ None) }
@@ -400,7 +461,8 @@ impl<'a, 'input> Node<'a, 'input> {
         self.first_child().is_some()
     }
 
-    /// Whether its parent has another child.
+    /// Returns whether its parent has another child.
+    #[inline]
     pub fn has_siblings(&self) -> bool
         ensures { IsTrue result ↔ ((next_sibling (tree_of self.now) (id_of self.now) ≢ None) ⊎
             (prev_sibling (tree_of self.now) (id_of self.now) ≢ None)) }

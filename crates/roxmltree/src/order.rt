@@ -1,4 +1,4 @@
-//! Nodes compared: by the key of their document, and in one document by their order in it.
+//! The comparison of nodes: by the keys of their documents, and inside one document by document order.
 
 use crate::nodes::Node;
 use std::cmp::Ordering;

@@ -1,4 +1,4 @@
-//! From a text to its document.
+//! How a text is parsed into its document.
 
 ghost use Rattle.std.specs.Prelude.{◌≡◌, ◌≢◌, ◌++◌, ℕ, Bool, false, true, List, [], Err, IfOk, IfErr};
 ghost use Rattle.std.specs.Prelude.{String, string_bytes};
@@ -19,24 +19,36 @@ ghost use Rattle.roxmltree.specs.FirstError.{IsFirst, IsReadDocument, IsErrorOfR
 
 use crate::options::ParsingOptions;
 use crate::tree::Document;
-use rox_build::builder::Builder;
 use rox_build::reader::{build, first_tables};
 use rox_build::resolver::EntityResolver;
+use rox_builder::builder::Builder;
 use rox_error::error::Error;
+use rox_error::from_fault::{error_of_fault, error_of_resolver};
 use rox_error::position::TextPos;
 use rox_values::parse_error::ParseError;
 use std::alloc::Global;
 
 impl<'input> Document<'input> {
-    /// The document of a text, which is a document of XML 1.0 with namespaces as `docs/RULES.md` says it: well formed (XML 1.0
-    /// section 2.1) with well-formed namespaces (Namespaces in XML section 7) but for what `docs/DIFFERENCES.md` lists under
-    /// "Departures from the standards", and without a document type declaration. Its key is 0.
+    /// Returns the document of `text`, in which a document type declaration is an error. The key of the document is 0.
     ///
-    /// An `Err` says that the text is none, or has more than 4,294,967,295 nodes, 4,294,967,294 attributes or 65,535
-    /// distinct pairs of a prefix and its namespace; but for `Error::OutOfMemory`, which says nothing of the text. Any other
-    /// error is that of a fault: its kind, its position and its names. By the clause `fault` it stands there by the grammar:
-    /// all before the construct that it is found in is as it should be and within the limits. By the clause `first`, the one
-    /// that speaks of `reading`, it is the fault which reading from left to right meets first.
+    /// The text is a document as `docs/RULES.md` defines it. It is well formed (XML 1.0 section 2.1) and its namespaces are
+    /// (Namespaces in XML 1.0 section 7). The exceptions are listed in `docs/DIFFERENCES.md` under "Departures from the
+    /// standards".
+    ///
+    /// `Error::OutOfMemory` says nothing about the text. Any other error says that the text is not such a document or exceeds a
+    /// limit (`no_parse`). The limits are 4,294,967,295 nodes, 4,294,967,294 attributes, and 65,535 distinct pairs of a prefix
+    /// and its namespace.
+    ///
+    /// Such an error reports a fault: its kind, its position and its names. By the clause `fault`, the grammar has that fault
+    /// there: all before the construct with the fault is valid and within the limits. By the clause `first`, it is the fault that
+    /// reading from left to right meets first; `reading` defines that.
+    ///
+    /// ```
+    /// let document = Document::parse(alloc, "<list><item>one</item></list>")?;
+    /// assert!(rt; document.root_element().has_tag_name("list".into()));
+    /// // the end tag has another name
+    /// assert!(rt; Document::parse(alloc, "<list></item>").is_err());
+    /// ```
     pub fn parse(alloc: Global, text: &'input str) -> Result<Document<'input>, Error<'static>>
         ensures is_parse { IfOk result
             (λ document. IsTreeOf text.now false [] 4294967295 document.tree) }
@@ -55,19 +67,29 @@ impl<'input> Document<'input> {
         Document::parse_with_options(alloc, text, ParsingOptions::default())
     }
 
-    /// The same by options. A document type declaration may stand where `opt.allow_dtd` says so. Then the resolver is asked for
-    /// the external entities that it declares, and there are answers, allowed by its relation `allows`, with which the tree is
-    /// the text's (`is_parse`). That each declaration is asked for once, in order, and that these answers are the ones that were
-    /// given, is shown by tests alone. There are at most `opt.nodes_limit` nodes, the root node counted, and the key is
-    /// `opt.document_key`.
+    /// Returns the document of `text`, parsed with the options `opt`. A document type declaration is allowed if `opt.allow_dtd`
+    /// is true (XML 1.0 section 2.8). At most `opt.nodes_limit` nodes are allowed, the root node included. The key of the
+    /// document is `opt.document_key`.
     ///
-    /// An `Err` but `Error::OutOfMemory` and `Error::EntityResolver` says that there are answers, allowed by the relation, to what
-    /// the text asks for, such that no parse within the limits has answers that begin with them (`no_parse`).
-    /// `Error::EntityResolver` has words that the resolver may refuse that request with, and stands where it is made
-    /// (`resolver`). By the clause `fault` any other error is that of a fault which stands there by the grammar, after what was
-    /// asked until then. Its kind, its position and its names are those of the source that it counts in: this text, or a
-    /// replacement text of an entity, or an answer. By the clause `first` each error is that of what reading from left to right
-    /// meets first.
+    /// The resolver is asked for the external entities that a declaration declares (XML 1.0 section 4.2.2). The tree is that of
+    /// the text with some answers that its relation `allows` (`is_parse`). Only tests show that each declaration is asked for
+    /// once, in order, and that these answers are the given ones.
+    ///
+    /// `Error::OutOfMemory` says nothing about the text. `Error::EntityResolver` has words with which the resolver may refuse a
+    /// request, and the position of that request (`resolver`). For any other error there are allowed answers to what the text
+    /// asks for. No parse within the limits has answers that begin with these (`no_parse`).
+    ///
+    /// By the clause `fault`, such an error reports a fault that the grammar has there, after what was asked until then. Its
+    /// kind, position and names refer to the source it is in: this text, a replacement text of an entity, or an answer. By the
+    /// clause `first`, each error except `Error::OutOfMemory` is the one that reading from left to right meets first.
+    ///
+    /// ```
+    /// let mut options = ParsingOptions::default();
+    /// options.allow_dtd = true;
+    /// let text = "<!DOCTYPE r [<!ENTITY who 'you'>]><r>to &who;</r>";
+    /// let document = Document::parse_with_options(alloc, text, options)?;
+    /// assert!(rt; document.root_element().text() == Some("to you"));
+    /// ```
     pub fn parse_with_options<'w, R: EntityResolver<'input> + Drop>(
         alloc: Global,
         text: &'input str,
@@ -105,7 +127,7 @@ impl<'input> Document<'input> {
     }
 }
 
-/// The document of a text, as it is read.
+/// Returns the document of a text, or the first error that reading it meets.
 fn read<'input, 'w, R: EntityResolver<'input> + Drop>(
     alloc: Global,
     text: &'input str,
@@ -135,8 +157,8 @@ fn read<'input, 'w, R: EntityResolver<'input> + Drop>(
     Ok(Document::from_builder(text, opt.document_key, dtd, builder))
 }
 
-/// The answer where a text is refused. It is made whole before it is moved: else the place for it would be cleared first, whatever
-/// the answer is.
+/// Returns the error for a refused text. It is made whole before it is moved: otherwise its place would be cleared first, for
+/// every result.
 #[inline(always)]
 fn refusal<'input, 'w>(
     alloc: Global,
@@ -148,7 +170,7 @@ fn refusal<'input, 'w>(
     Err(told(alloc, text, refused))
 }
 
-/// What a caller is told of a refusal.
+/// Returns the error for a refusal.
 #[cold]
 #[inline(never)]
 fn told<'w>(alloc: Global, text: &str, refused: ParseError<'_>) -> Error<'w>
@@ -156,8 +178,8 @@ fn told<'w>(alloc: Global, text: &str, refused: ParseError<'_>) -> Error<'w>
 {
     match refused {
         ParseError::Memory => Error::OutOfMemory,
-        ParseError::Fault(fault) => Error::from_fault(alloc, text, fault),
-        ParseError::FaultIn(source, fault) => Error::from_fault(alloc, source, fault),
-        ParseError::Resolver(at, words) => Error::from_resolver(text, at, words),
+        ParseError::Fault(fault) => error_of_fault(alloc, text, fault),
+        ParseError::FaultIn(source, fault) => error_of_fault(alloc, source, fault),
+        ParseError::Resolver(at, words) => error_of_resolver(text, at, words),
     }
 }

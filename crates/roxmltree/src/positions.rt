@@ -7,9 +7,15 @@ use crate::tree::Document;
 use rox_error::position::{TextPos, text_pos_at};
 
 impl Document<'_> {
-    /// The row and the column, both from 1, of the character at the byte `pos` of the text: a place inside a character is
-    /// that of the character, and a place past the end is the end. Rows end at each line feed (XML 1.0 section 2.11). It
-    /// reads the text up to `pos`.
+    /// Returns the row and the column, both from 1, of the character at the offset `pos` in bytes. An offset inside a character
+    /// counts as that of the character, and an offset past the end as the end. Rows end at each line feed (XML 1.0 section 2.11).
+    /// The text up to `pos` is read, so the time grows with `pos`.
+    ///
+    /// ```
+    /// let document = Document::parse(alloc, "<r>\n  <a/>\n</r>")?;
+    /// // the byte where `<a/>` starts
+    /// assert!(rt; document.text_pos_at(6) == TextPos::new(2, 3));
+    /// ```
     pub fn text_pos_at(&self, pos: usize) -> TextPos
         ensures row { result.row ≡ row_of self.now.text pos }
         ensures col { result.col ≡ col_of self.now.text pos }

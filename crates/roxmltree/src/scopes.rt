@@ -1,19 +1,19 @@
-//! What a scope lists for a prefix, and for a URI. The stretches of a rope are gone over from leaf to leaf for a prefix: by its
-//! index each place would be sought from the top.
+//! The search of a scope for a prefix, and for a URI. For a prefix it goes through the stretches of a rope from leaf to leaf.
+//! Access by index would start at the top for each place.
 
 ghost use Rattle.std.specs.Prelude.{◌≡◌, ◌++◌, None, length, map, reverse};
 ghost use Rattle.std.specs.Option.{option_map};
 ghost use Rattle.rox_grammar.specs.Tree.{same_prefix, uri_of};
-ghost use Rattle.rox_tables.specs.Rows.{namespace_view};
-ghost use Rattle.rox_tables.specs.Scopes.{prefix_view, entries, places_in, ArePlaces};
-ghost use Rattle.rox_tables.specs.Ropes.{IsScopeOf};
+ghost use Rattle.rox_scopes.specs.Tables.{namespace_view};
+ghost use Rattle.rox_scopes.specs.Scopes.{prefix_view, entries, places_in, ArePlaces};
+ghost use Rattle.rox_scopes.specs.Ropes.{IsScopeOf};
 ghost use Rattle.roxmltree.specs.ExpandedNames.{first_prefix};
 
 use crate::names::{equal_names, equal_uris};
 use crate::namespaces::NamespaceIter;
-use rox_tables::rows::tables::{Concat, Namespace, Scope};
+use rox_scopes::tables::{Concat, Namespace, Scope};
 
-/// Whether a namespace is of this prefix, or is the default.
+/// Returns whether a namespace has this prefix, or is the default for `None`.
 #[inline(always)]
 fn has_prefix(namespace: &Namespace<'_>, prefix: Option<&str>) -> bool
     ensures { result ≡ same_prefix (namespace_view namespace.now).prefix
@@ -26,7 +26,7 @@ fn has_prefix(namespace: &Namespace<'_>, prefix: Option<&str>) -> bool
     }
 }
 
-/// The first at these places that is of this prefix, or is the default.
+/// Returns the first namespace at these places that has this prefix, or is the default for `None`.
 #[inline(always)]
 fn first_of<'a, 'input>(
     namespaces: &'a [Namespace<'input>],
@@ -47,7 +47,8 @@ fn first_of<'a, 'input>(
     None
 }
 
-/// The last of them, which is the first of a stretch from its back.
+/// Returns the last namespace at these places that has this prefix, or is the default for `None`. It is the first of a stretch in
+/// reverse order.
 #[inline(always)]
 fn last_of<'a, 'input>(
     namespaces: &'a [Namespace<'input>],
@@ -69,7 +70,8 @@ fn last_of<'a, 'input>(
     None
 }
 
-/// The first that a scope lists of this prefix, or the default: in line where the scope is one stretch.
+/// Returns the first namespace that a scope lists for this prefix, or the default for `None`. It is in line if the scope is one
+/// stretch.
 #[cycle(scope)]
 #[inline(always)]
 pub(crate) fn first_in_scope<'a, 'input>(
@@ -97,7 +99,8 @@ pub(crate) fn first_in_scope<'a, 'input>(
     }
 }
 
-/// The first that two scopes list, the one behind the other, of this prefix, or the default.
+/// Returns the first namespace for this prefix, or the default for `None`, that one of two scopes lists. `parts.first` is
+/// searched before `parts.rest`.
 #[cycle(scope)]
 #[inline(never)]
 fn first_in_parts<'a, 'input>(
@@ -120,7 +123,7 @@ fn first_in_parts<'a, 'input>(
     }
 }
 
-/// The prefix of the first at these places that is of this URI.
+/// Returns the prefix of the first namespace at these places that has this URI.
 #[inline(always)]
 fn prefix_among<'input>(
     namespaces: &[Namespace<'input>],
@@ -140,7 +143,7 @@ fn prefix_among<'input>(
     None
 }
 
-/// The prefix of the first that any scope lists of this URI. It is kept out of line, since few scopes list many.
+/// Returns the prefix of the first namespace with this URI that a scope lists. It is out of line, since few scopes list many.
 #[cold]
 #[inline(never)]
 fn first_of_uri<'input>(
@@ -163,7 +166,7 @@ fn first_of_uri<'input>(
     None
 }
 
-/// The prefix of the first that a scope lists of this URI: in line where the scope is one stretch from its front.
+/// Like `first_of_uri`, but in line if the scope is one stretch in order.
 #[inline(always)]
 pub(crate) fn prefix_in_scope<'input>(
     scopes: &[Scope],

@@ -1,10 +1,10 @@
-//! A document: the tables of its nodes, seen by callers as the one tree that they hold.
+//! A document: the tables of its nodes, which callers see as the one tree that they hold.
 
 ghost use Rattle.std.specs.Prelude.{◌≡◌, ◌^◌, ◌<◌, ◌≤◌, ℕ, List, length, Some, None, IfSome, IfNone};
 ghost use Rattle.std.specs.Option.{option_map};
 ghost use Rattle.rox_grammar.specs.Forest.{Forest, size};
 ghost use Rattle.rox_grammar.specs.Tree.{uri_of};
-ghost use Rattle.rox_tables.specs.Rows.{namespace_view};
+ghost use Rattle.rox_scopes.specs.Tables.{namespace_view};
 ghost use Rattle.roxmltree.specs.Places.{place, children};
 ghost use Rattle.roxmltree.specs.NodeParts.{node_at, is_element_node, is_text_node, start_of, end_of, content_of, namespace_of, listed_of, attributes_of};
 ghost use Rattle.roxmltree.specs.ExpandedNames.{first_prefix};
@@ -14,13 +14,20 @@ use crate::iterators::Descendants;
 use crate::namespaces::NamespaceIter;
 use crate::nodes::{Node, NodeId};
 use crate::scopes::{first_in_scope, prefix_in_scope};
-use rox_build::builder::Builder;
-use rox_tables::namespaces::namespace_table::NamespaceTable;
-use rox_tables::rows::stored_node::{KindRef, RowRef, StoredNode};
-use rox_tables::rows::tables::{ElementTables, Namespace, Tables, namespace_place};
+use rox_builder::builder::Builder;
+use rox_rows::row::namespace_place;
+use rox_rows::stored_node::{KindRef, RowRef, StoredNode};
+use rox_scopes::namespace_table::NamespaceTable;
+use rox_scopes::tables::{ElementTables, Namespace, Tables};
 use std::marker::Model;
 
 /// An XML document as a read-only tree of nodes.
+///
+/// ```
+/// let document = Document::parse(alloc, "<r><a/>text</r>")?;
+/// assert!(rt; document.descendants().count() == 4);
+/// assert!(rt; document.root_element().children().count() == 2);
+/// ```
 #[derive(Drop)]
 pub struct Document<'input> {
     text: &'input str,
@@ -48,16 +55,16 @@ impl<'input> Document<'input> {
     ghost use Rattle.rox_grammar.specs.Doctype.{Asked};
     ghost use Rattle.rox_grammar.specs.Document.{IsTreeOf};
     ghost use Rattle.std.specs.Prelude.{IsUtf8};
-    ghost use Rattle.rox_build.specs.BuilderState.{tables_of};
-    ghost use Rattle.rox_tables.specs.Rows.{HoldsTree};
-    ghost use Rattle.rox_tables.specs.StoredNodes.{kind_of};
+    ghost use Rattle.rox_builder.specs.BuilderState.{tables_of};
+    ghost use Rattle.rox_scopes.specs.Tables.{HoldsTree};
+    ghost use Rattle.rox_rows.specs.StoredNodes.{kind_of};
     ghost use Rattle.roxmltree.specs.DocumentTables.{HoldsDocument};
     ghost use Rattle.roxmltree.specs.Stripped.{stripped, stripped_row, content_in};
     ghost use Rattle.roxmltree.specs.NodeRef.{number, node_ref, node_refs, id_of, document_of};
     ghost use Rattle.roxmltree.specs.Elements.{nearest_element, root_id};
 
-    /// The document of a text, where it is known whether it has a document type declaration, from the builder of its tables. These
-    /// go from where they are to where they stay: a move of them all in between would cost as much as a tag.
+    /// Returns the document of `text` with the tables of `builder`. `dtd` is whether the text has a document type declaration.
+    /// The tables are moved directly into the document: one more move of all of them costs as much as a tag.
     #[inline(always)]
     pub(crate) fn from_builder(
         text: &'input str,
@@ -106,7 +113,7 @@ impl<'input> Document<'input> {
         }
     }
 
-    /// What is true of every document.
+    /// States in its contract what is true of every document. It does nothing.
     #[inline]
     pub(crate) fn whole(&self)
         ensures parsed { (asked : List Asked)
@@ -116,7 +123,7 @@ impl<'input> Document<'input> {
         let _ = &self.text;
     }
 
-    /// How many nodes there are.
+    /// Returns the number of nodes, the root node included.
     #[inline]
     pub(crate) fn count(&self) -> usize
         ensures value { result ≡ size self.now.tree }
@@ -125,7 +132,7 @@ impl<'input> Document<'input> {
         self.tables.nodes.len()
     }
 
-    /// What the caller gave to tell this document's nodes from those of others.
+    /// Returns the key that the caller gave to distinguish this document's nodes from those of others.
     #[inline]
     pub(crate) fn key(&self) -> u64
         ensures { result ≡ self.now.key }
@@ -133,7 +140,7 @@ impl<'input> Document<'input> {
         self.key
     }
 
-    /// Whether its text has a document type declaration.
+    /// Returns whether the text has a document type declaration.
     #[inline]
     pub(crate) fn has_doctype(&self) -> bool
         ensures { result ≡ self.now.dtd }
@@ -141,7 +148,14 @@ impl<'input> Document<'input> {
         self.dtd
     }
 
-    /// The text that was parsed.
+    /// Returns the text that was parsed.
+    ///
+    /// ```
+    /// let document = Document::parse(alloc, "<r><a x='1'>text</a></r>")?;
+    /// let a = document.root_element().first_child().expect(&rt, "a child");
+    /// let source = document.input_text().get(a.range());
+    /// assert!(rt; source == Some("<a x='1'>text</a>"));
+    /// ```
     #[inline]
     pub fn input_text(&self) -> &'input str
         ensures { result.now ≡ self.now.text }
@@ -149,7 +163,7 @@ impl<'input> Document<'input> {
         self.text
     }
 
-    /// The root node, the parent of all top nodes. Its id is 0.
+    /// Returns the root node, the parent of all top-level nodes. Its id is 0.
     #[inline]
     pub fn root(&self) -> Node<'_, 'input>
         ensures id { id_of result ≡ 0 }
@@ -159,7 +173,13 @@ impl<'input> Document<'input> {
         Node::of(self, NodeId(0))
     }
 
-    /// The outermost element (XML 1.0 section 2.1).
+    /// Returns the outermost element (XML 1.0 section 2.1). Every document has exactly one.
+    ///
+    /// ```
+    /// let document = Document::parse(alloc, "<!-- first --><r/>")?;
+    /// assert!(rt; document.root().children().count() == 2);
+    /// assert!(rt; document.root_element().id() == NodeId::new(2));
+    /// ```
     #[tactic(auto, using(crate::proofs::Tops::root_element_there, crate::proofs::Contained::nearest_is))]
     pub fn root_element(&self) -> Node<'_, 'input>
         ensures element { Some (node_ref result)
@@ -175,7 +195,13 @@ impl<'input> Document<'input> {
         }
     }
 
-    /// The node of an id, if the document has one.
+    /// Returns the node with this id, or `None` if the id is not below the number of nodes.
+    ///
+    /// ```
+    /// let document = Document::parse(alloc, "<r>text</r>")?;
+    /// assert!(rt; document.get_node(NodeId::new(0)) == Some(document.root()));
+    /// assert!(rt; document.get_node(NodeId::new(3)).is_none());
+    /// ```
     #[inline]
     pub fn get_node(&self, id: NodeId) -> Option<Node<'_, 'input>>
         ensures some { IfSome result (λ node. (number id < size self.now.tree)
@@ -189,7 +215,18 @@ impl<'input> Document<'input> {
         }
     }
 
-    /// All nodes, the root node first, in document order.
+    /// Returns an iterator over all nodes in document order. The root node is the first.
+    ///
+    /// ```
+    /// let document = Document::parse(alloc, "<r><a x='1'/><b><a x='2'/></b></r>")?;
+    /// let mut last = None;
+    /// for node in document.descendants() {
+    ///     if node.has_tag_name("a".into()) {
+    ///         last = node.attribute("x".into());
+    ///     }
+    /// }
+    /// assert!(rt; last == Some("2"));
+    /// ```
     #[inline]
     pub fn descendants(&self) -> Descendants<'_, 'input>
         ensures value { result ≡ node_refs self.now (place self.now.tree 0).descendants }
@@ -199,14 +236,14 @@ impl<'input> Document<'input> {
     }
 }
 
-/// What the tables say of a node, whose id is that of a row.
+/// What the tables hold of a node, whose id is the index of its row.
 impl<'a, 'input> Node<'a, 'input> {
-    ghost use Rattle.rox_tables.specs.StoredNodes.{kind_of};
+    ghost use Rattle.rox_rows.specs.StoredNodes.{kind_of};
     ghost use Rattle.roxmltree.specs.Links.{HasLinks};
     ghost use Rattle.roxmltree.specs.NodeRef.{id_of, item_of};
     ghost use Rattle.roxmltree.specs.Stripped.{stripped, stripped_row, content_in};
 
-    /// The node of this id.
+    /// Returns the node with this id.
     #[inline(always)]
     pub(crate) fn of(document: &'a Document<'input>, id: NodeId) -> Node<'a, 'input>
         requires { id.0 < size document.now.tree }
@@ -222,7 +259,7 @@ impl<'a, 'input> Node<'a, 'input> {
         }
     }
 
-    /// The row of a node, for its links.
+    /// Returns the row of the node, for its links.
     #[inline(always)]
     pub(crate) fn row(&self) -> &'a StoredNode<'input>
         ensures { HasLinks self.now result.now }
@@ -232,7 +269,7 @@ impl<'a, 'input> Node<'a, 'input> {
         self.row
     }
 
-    /// What a node is.
+    /// Returns the kind of the node.
     #[inline(always)]
     pub(crate) fn kind(&self) -> KindRef<'a, 'input>
         ensures item { let node = item_of self.now in stripped_row (start_of node)
@@ -243,7 +280,7 @@ impl<'a, 'input> Node<'a, 'input> {
         tables.nodes.kind(self.row)
     }
 
-    /// A node: where it stands, and what it is.
+    /// Returns the whole row of the node: its offsets and its kind.
     #[inline(always)]
     pub(crate) fn whole_row(&self) -> RowRef<'a, 'input>
         ensures { stripped_row result.start result.end (kind_of result.kind)
@@ -253,7 +290,7 @@ impl<'a, 'input> Node<'a, 'input> {
         tables.nodes.row(self.id.0 as usize)
     }
 
-    /// The namespace of an element's name.
+    /// Returns the URI of the namespace of an element's name; `None` if there is no namespace or the node is not an element.
     #[inline]
     pub(crate) fn name_namespace(&self) -> Option<&'a str>
         ensures { option_map (λ u. u.now) result ≡ namespace_of (item_of self.now) }
@@ -268,14 +305,14 @@ impl<'a, 'input> Node<'a, 'input> {
         }
     }
 
-    /// The attributes of an element.
+    /// Returns the attributes of an element, and none for other nodes.
     #[inline]
     #[tactic(auto, using(crate::proofs::Bare::attributes_none))]
     pub(crate) fn own_attributes(&self) -> Attributes<'a, 'input>
         ensures { result ≡ attributes_of (item_of self.now) }
     {
         let tables = self.tables;
-        // One comparison answers for what is no element: most nodes of many texts. So it is in the two functions below.
+        // One comparison is enough for nodes that are not elements, which most nodes of many texts are.
         if !self.is_element() {
             return Attributes::part(tables, 0, 0);
         }
@@ -289,7 +326,8 @@ impl<'a, 'input> Node<'a, 'input> {
         }
     }
 
-    /// The namespace that an element lists for this prefix, or for the default.
+    /// Returns the namespace that an element lists for this prefix, or for the default if it is `None`. Returns `None` if there
+    /// is no such namespace or the node is not an element.
     #[inline(always)]
     pub(crate) fn listed_for(&self, prefix: Option<&str>) -> Option<&'a Namespace<'input>>
         ensures { option_map (λ n. (namespace_view n.now).uri) result
@@ -313,7 +351,8 @@ impl<'a, 'input> Node<'a, 'input> {
         first_in_scope(scopes, listed, namespaces, element.scope, prefix)
     }
 
-    /// The prefix of the first namespace of this URI that an element lists.
+    /// Returns the prefix of the first namespace with this URI that an element lists. Returns `None` if that is the default, if
+    /// there is no such namespace, or if the node is not an element.
     #[inline(always)]
     pub(crate) fn prefix_listed_for(&self, uri: &str) -> Option<&'input str>
         ensures { option_map (λ s. s.now) result

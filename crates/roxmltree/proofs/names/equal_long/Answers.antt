@@ -1,5 +1,5 @@
 use Rattle.std.proofs.Common.{◌≡◌, ◌+◌, ◌-◌, length, sym, ◌∙◌, arith}
-use Rattle.rox_tables.proofs.Words.{last_tell}
+use Rattle.rox_rows.proofs.Words.{last_tell}
 use Rattle.roxmltree.proofs.names.equal_long.Goals as goal
 
 pub returns-then-same_stretch : goal.returns-then-same_stretch

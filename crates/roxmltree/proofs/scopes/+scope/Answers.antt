@@ -1,10 +1,11 @@
 use Rattle.std.proofs.Common.{◌≡◌, ℕ, List, ◌++◌, map, sym, ap, ◌∙◌}
 use Rattle.std.proofs.lemmas.List.{map-append}
 use Rattle.rox_grammar.specs.Tree.{uri_of}
-use Rattle.rox_tables.specs.Rows.{namespace_view, namespace_at}
-use Rattle.rox_tables.specs.Scopes.{prefix_view, entries, places_in}
-use Rattle.rox_tables.proofs.Ropes.{row_found}
-use Rattle.rox_tables.proofs.Pairs.{uri_of-append}
+use Rattle.rox_rows.specs.Rows.{namespace_at}
+use Rattle.rox_scopes.specs.Tables.{namespace_view}
+use Rattle.rox_scopes.specs.Scopes.{prefix_view, entries, places_in}
+use Rattle.rox_scopes.proofs.Ropes.{row_found}
+use Rattle.rox_scopes.proofs.Pairs.{uri_of-append}
 use Rattle.roxmltree.proofs.ListedFirst.{uri_of_front}
 use Rattle.roxmltree.proofs.scopes.+scope.Goals as goal
 

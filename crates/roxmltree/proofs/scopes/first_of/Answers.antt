@@ -1,9 +1,9 @@
 use Rattle.std.proofs.Common.{◌≡◌, ◌<◌, length, get_or, Some, true, false, map, sym, ap, ◌∙◌, arith}
 use Rattle.rox_grammar.specs.Tree.{same_prefix}
 use Rattle.rox_grammar.specs.Written.{NamespaceDecl}
-use Rattle.rox_tables.specs.Rows.{namespace_view}
-use Rattle.rox_tables.specs.Scopes.{prefix_view}
-use Rattle.rox_tables.proofs.Pairs.{place_at, uri_here, uri_none_more}
+use Rattle.rox_scopes.specs.Tables.{namespace_view}
+use Rattle.rox_scopes.specs.Scopes.{prefix_view}
+use Rattle.rox_scopes.proofs.Pairs.{place_at, uri_here, uri_none_more}
 use Rattle.roxmltree.proofs.Entries.{entry_is}
 use Rattle.roxmltree.proofs.scopes.first_of.Goals as goal
 

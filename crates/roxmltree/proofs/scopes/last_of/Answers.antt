@@ -2,9 +2,10 @@ use Rattle.std.proofs.Common.{◌≡◌, ◌<◌, ◌-◌, length, get_or, rever
 use Rattle.std.proofs.lemmas.List.{get_or-reverse, length-reverse}
 use Rattle.rox_grammar.specs.Tree.{same_prefix}
 use Rattle.rox_grammar.specs.Written.{NamespaceDecl}
-use Rattle.rox_tables.specs.Rows.{namespace_view, namespace_at}
-use Rattle.rox_tables.specs.Scopes.{prefix_view}
-use Rattle.rox_tables.proofs.Pairs.{place_at, uri_here, uri_none_more}
+use Rattle.rox_rows.specs.Rows.{namespace_at}
+use Rattle.rox_scopes.specs.Tables.{namespace_view}
+use Rattle.rox_scopes.specs.Scopes.{prefix_view}
+use Rattle.rox_scopes.proofs.Pairs.{place_at, uri_here, uri_none_more}
 use Rattle.roxmltree.proofs.Entries.{entry_is}
 use Rattle.roxmltree.proofs.scopes.last_of.Goals as goal
 

@@ -1,7 +1,7 @@
 use Rattle.std.proofs.Common.{◌≡◌, ◌<◌, length, get_or, true, false, map, bytes_eq, ℕ, List, sym, ap, ◌∙◌, arith}
 use Rattle.rox_grammar.specs.Written.{NamespaceDecl}
-use Rattle.rox_tables.specs.Rows.{namespace_view}
-use Rattle.rox_tables.proofs.Pairs.{place_at}
+use Rattle.rox_scopes.specs.Tables.{namespace_view}
+use Rattle.rox_scopes.proofs.Pairs.{place_at}
 use Rattle.roxmltree.proofs.Entries.{entry_is}
 use Rattle.roxmltree.proofs.PrefixFirst.{prefix_here, prefix_next}
 use Rattle.roxmltree.proofs.scopes.prefix_among.Goals as goal

@@ -1,6 +1,6 @@
 use Rattle.std.proofs.Common.{◌≡◌, drop, map}
-use Rattle.rox_tables.specs.Rows.{namespace_view}
-use Rattle.rox_tables.specs.Scopes.{entries}
+use Rattle.rox_scopes.specs.Tables.{namespace_view}
+use Rattle.rox_scopes.specs.Scopes.{entries}
 use Rattle.roxmltree.specs.ExpandedNames.{first_prefix}
 use Rattle.roxmltree.proofs.scopes.prefix_among.Given as goal
 

@@ -1,7 +1,7 @@
 use Rattle.std.proofs.Common.{ℕ, List, map, sym, ap, ◌∙◌}
-use Rattle.rox_tables.specs.Rows.{namespace_view}
-use Rattle.rox_tables.specs.Scopes.{entries}
-use Rattle.rox_tables.proofs.Ropes.{row_found}
+use Rattle.rox_scopes.specs.Tables.{namespace_view}
+use Rattle.rox_scopes.specs.Scopes.{entries}
+use Rattle.rox_scopes.proofs.Ropes.{row_found}
 use Rattle.roxmltree.specs.ExpandedNames.{first_prefix}
 use Rattle.roxmltree.proofs.scopes.prefix_in_scope.Goals as goal
 

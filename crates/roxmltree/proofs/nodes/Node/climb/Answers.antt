@@ -1,17 +1,46 @@
-use Rattle.std.proofs.Common.{sym, ap, ◌∙◌}
-use Rattle.roxmltree.specs.Places.{up_to}
-use Rattle.roxmltree.proofs.Preorder.{up_to_parent}
+use Rattle.std.proofs.Common.{◌≡◌, ◌<◌, Some, length, sym, ap, ◌∙◌, subst}
+use Rattle.rox_grammar.specs.Forest.{size}
+use Rattle.roxmltree.specs.declared.nodes.NodeId.{NodeId}
+use Rattle.roxmltree.specs.Places.{place, parent, up_to}
+use Rattle.roxmltree.proofs.Preorder.{climbs}
 use Rattle.roxmltree.proofs.nodes.Node.climb.Goals as goal
 
-pub loop-parent-preserved : goal.loop-parent-preserved
-loop-parent-preserved c =
-    let node = c.loop-parent.node in
-    let same = c.loop-parent.invariant.document in
-    let given = c.in-Some.ensures in
-    let step = up_to_parent node.document.now.tree node.id.0 c.in-Some.above.id.0 c.args.parent.0 c.row.result.now.parent node.in_tree given.0 c.row.ensures.no_parent c.row.ensures.parent_is c.loop-parent-test.true in
+pub of-node-requires : goal.of-node-requires
+of-node-requires c =
+    let node = c.loop-document.node in
+    let same = c.loop-document.invariant.document in
+    let under : parent node.document.now.tree (up_to node.document.now.tree node.id.0 c.args.ancestor.0) ≡ Some c.args.ancestor.0 =
+    ap (λ d. parent d.now.tree (up_to d.now.tree node.id.0 c.args.ancestor.0)) same ∙ ap (parent c.args.self.document.now.tree) c.loop-document.invariant.toward ∙ c.requires in
+    let step = climbs node.document.now.tree node.id.0 c.row-in-loop-document.result.now.parent c.row.result.now.parent c.args.ancestor.0 node.in_tree under c.row.ensures.no_parent c.row-in-loop-document.ensures.parent_is c.row.ensures.parent_is c.loop-document-test.true in
+    subst (λ d. c.row-in-loop-document.result.now.parent < size d.now.tree) same step.0
+
+-- the parent of the node is nearer to the child of the ancestor
+step : (c : goal.After-of-node) → let f = c.loop-document.node.document.now.tree in let i = c.loop-document.node.id.0 in let p = c.row-in-loop-document.result.now.parent in
+    (p < size f) × (up_to f i c.args.ancestor.0 ≡ up_to f p c.args.ancestor.0) × (length (place f p).above < length (place f i).above)
+step c =
+    let node = c.loop-document.node in
+    let same = c.loop-document.invariant.document in
+    let under : parent node.document.now.tree (up_to node.document.now.tree node.id.0 c.args.ancestor.0) ≡ Some c.args.ancestor.0 =
+    ap (λ d. parent d.now.tree (up_to d.now.tree node.id.0 c.args.ancestor.0)) same ∙ ap (parent c.args.self.document.now.tree) c.loop-document.invariant.toward ∙ c.requires in
+    climbs node.document.now.tree node.id.0 c.row-in-loop-document.result.now.parent c.row.result.now.parent c.args.ancestor.0 node.in_tree under c.row.ensures.no_parent c.row-in-loop-document.ensures.parent_is c.row.ensures.parent_is c.loop-document-test.true
+
+pub loop-document-preserved : goal.loop-document-preserved
+loop-document-preserved c =
+    let node = c.loop-document.node in
+    let same = c.loop-document.invariant.document in
+    let q = c.args.ancestor.0 in
+    let p = c.row-in-loop-document.result.now.parent in
     record {
-      document = given.1 ∙ same;
+      document = c.of-node.ensures.document;
       toward =
-          ap (λ d. up_to d.now.tree c.in-Some.above.id.0 c.args.parent.0) (sym same) ∙ sym step ∙ ap (λ d. up_to d.now.tree node.id.0 c.args.parent.0) same
-          ∙ c.loop-parent.invariant.toward;
+          ap (λ (i : NodeId). up_to c.args.self.document.now.tree i.0 q) c.of-node.ensures.id ∙ ap (λ d. up_to d.now.tree p q) (sym same) ∙ sym (step c).1
+          ∙ ap (λ d. up_to d.now.tree node.id.0 q) same
+          ∙ c.loop-document.invariant.toward;
     }
+
+pub loop-document-smaller : goal.loop-document-smaller
+loop-document-smaller c =
+    let node = c.loop-document.node in
+    let depth = length (place node.document.now.tree node.id.0).above in
+    let at = c.of-node.ensures.document ∙ sym c.loop-document.invariant.document in
+    subst (λ d. length (place d.now.tree c.of-node.result.id.0).above < depth) (sym at) (subst (λ (i : NodeId). length (place node.document.now.tree i.0).above < depth) (sym c.of-node.ensures.id) (step c).2)

@@ -1,5 +1,5 @@
 use Rattle.std.proofs.Common.{◌≤◌, length, arith}
-use Rattle.rox_tables.proofs.StoredNodes.{count_nodes}
+use Rattle.rox_rows.proofs.StoredNodes.{count_nodes}
 use Rattle.roxmltree.proofs.Rows.{row_count}
 use Rattle.roxmltree.proofs.Preorder.{place_end}
 use Rattle.roxmltree.proofs.nodes.Node.descendants.Goals as goal

@@ -3,10 +3,10 @@ use Rattle.std.proofs.lemmas.Bool.{eqb-true}
 use Rattle.rox_grammar.specs.Tree.{uri_of}
 use Rattle.rox_grammar.specs.Written.{NamespaceDecl}
 use Rattle.std.proofs.Common.{List}
-use Rattle.rox_tables.specs.Scopes.{prefix_view}
+use Rattle.rox_scopes.specs.Scopes.{prefix_view}
 use Rattle.roxmltree.proofs.Parts.{row_listed, row_no_listed, row_lists_nothing, element_within}
-use Rattle.rox_tables.specs.StoredNodes.{kind_of}
-use Rattle.rox_tables.proofs.StoredNodes.{lent_element}
+use Rattle.rox_rows.specs.StoredNodes.{kind_of}
+use Rattle.rox_rows.proofs.StoredNodes.{lent_element}
 use Rattle.roxmltree.proofs.NodeRows.{row_here}
 use Rattle.roxmltree.proofs.nodes.Node.listed_for.Goals as goal
 

@@ -1,7 +1,7 @@
 use Rattle.std.proofs.Common.{ap, arith, sym, ◌∙◌}
 use Rattle.roxmltree.proofs.Parts.{row_attributes, row_no_attributes, element_within}
-use Rattle.rox_tables.specs.StoredNodes.{kind_of}
-use Rattle.rox_tables.proofs.StoredNodes.{lent_element}
+use Rattle.rox_rows.specs.StoredNodes.{kind_of}
+use Rattle.rox_rows.proofs.StoredNodes.{lent_element}
 use Rattle.roxmltree.proofs.NodeRows.{row_here}
 use Rattle.roxmltree.proofs.nodes.Node.own_attributes.Goals as goal
 

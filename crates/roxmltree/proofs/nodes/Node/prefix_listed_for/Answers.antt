@@ -4,8 +4,8 @@ use Rattle.rox_grammar.specs.Written.{NamespaceDecl}
 use Rattle.std.proofs.Common.{List}
 use Rattle.roxmltree.specs.ExpandedNames.{first_prefix}
 use Rattle.roxmltree.proofs.Parts.{row_listed, row_no_listed, row_lists_nothing, element_within}
-use Rattle.rox_tables.specs.StoredNodes.{kind_of}
-use Rattle.rox_tables.proofs.StoredNodes.{lent_element}
+use Rattle.rox_rows.specs.StoredNodes.{kind_of}
+use Rattle.rox_rows.proofs.StoredNodes.{lent_element}
 use Rattle.roxmltree.proofs.NodeRows.{row_here}
 use Rattle.roxmltree.proofs.nodes.Node.prefix_listed_for.Goals as goal
 

@@ -1,7 +1,7 @@
 use Rattle.std.proofs.Common.{ap}
 use Rattle.rox_grammar.specs.Forest.{Forest}
 use Rattle.rox_grammar.specs.Tree.{Node}
-use Rattle.rox_build.specs.BuilderState.{tables_of}
+use Rattle.rox_builder.specs.BuilderState.{tables_of}
 use Rattle.roxmltree.proofs.Rows.{is_whole, same_tree}
 use Rattle.roxmltree.proofs.tree.Document.from_builder.Goals as goal
 

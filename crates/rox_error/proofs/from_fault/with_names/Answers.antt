@@ -1,6 +1,6 @@
 use Rattle.std.proofs.Common.{inl, ap}
 use Rattle.rox_error.specs.declared.error.Error.TheVariants as error
-use Rattle.rox_error.proofs.from_fault.told.Goals as goal
+use Rattle.rox_error.proofs.from_fault.with_names.Goals as goal
 
 pub returns-in_ok-named-in-DuplicatedNamespace : goal.returns-in_ok-named-in-DuplicatedNamespace
 returns-in_ok-named-in-DuplicatedNamespace c =

@@ -1,0 +1,53 @@
+//! Resolvers of external entities (XML 1.0 section 4.2.2).
+
+ghost use Rattle.std.specs.Prelude.{◌≡◌, Some, true, List, IfOk};
+ghost use Rattle.roxmltree.specs.Doctype.{Asked};
+ghost use Rattle.roxmltree.specs.Document.{IsTreeOf, Permits};
+ghost use Rattle.roxmltree.specs.Requests.{Allows, AreAllowed};
+
+use rox_error::error::Error;
+use roxmltree::{Document, EntityResolver, ParsingOptions, ResolveWith};
+use std::alloc::Global;
+
+/// Returns the document of a text whose external entities a resolver answers for, of whatever type it is.
+pub fn parse_answered<'input, 'w, R: EntityResolver<'input> + Drop>(
+    alloc: Global,
+    text: &'input str,
+    resolver: R,
+) -> Result<Document<'input>, Error<'w>>
+    requires can { R.can_resolve resolver }
+    ensures is_parse { IfOk result (λ document. (asked : List Asked)
+        × AreAllowed (Allows R.allows (Some resolver)) asked
+        × IsTreeOf text.now document.dtd asked 4294967295 document.tree) }
+{
+    let mut options = ParsingOptions::with_resolver(resolver);
+    options.allow_dtd = true;
+    Document::parse_with_options(alloc, text, options)
+}
+
+/// Returns the document of a text whose external entities are texts that were read before, each beside its system identifier.
+/// A text that names another is refused as `Error::EntityResolver`.
+pub fn parse_named<'input>(
+    alloc: Global,
+    text: &'input str,
+    texts: &[(&str, &'input str)],
+) -> Result<Document<'input>, roxmltree::Error> {
+    let resolver = ResolveWith::new(|_public_id, uri| {
+        match text_named(texts, uri) {
+            Some(text) => Ok(Some(text)),
+            None => Err(String::from_str(alloc, "no such text").unwrap_or(String::new(alloc))),
+        }
+    });
+    let mut options = ParsingOptions::with_resolver(resolver);
+    options.allow_dtd = true;
+    Document::parse_with_options(alloc, text, options)
+}
+
+fn text_named<'input>(texts: &[(&str, &'input str)], uri: &str) -> Option<&'input str> {
+    for (name, text) in texts {
+        if *name == uri {
+            return Some(*text);
+        }
+    }
+    None
+}

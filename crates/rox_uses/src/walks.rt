@@ -1,0 +1,82 @@
+//! Walks over a tree: by recursion, and by chains of iterators.
+
+ghost use Rattle.std.specs.Prelude.{◌≡◌, ◌<◌, ◌≤◌, true, false, None, IfSome, filter, slice_range};
+ghost use Rattle.std.specs.Option.{option_map};
+ghost use Rattle.std.specs.List.{find, last_or};
+ghost use Rattle.roxmltree.specs.NodeParts.{is_element_node, start_of, end_of};
+ghost use Rattle.roxmltree.specs.NodeRef.{node_ref, document_of, item_of};
+ghost use Rattle.roxmltree.specs.LaterNodes.{nodes_left_from};
+ghost use Rattle.rox_uses.specs.Ids.{has_id};
+ghost use Rattle.rox_uses.specs.Nodes.{nodes_of};
+
+use rox_laws::laws::element_is_a_slice;
+use roxmltree::{Document, Node};
+
+/// Returns the number of levels of the tree from a node down: 1 for a node without children.
+///
+/// The recursion ends, as each child has fewer nodes from it on in document order than its parent. The measure of this in
+/// `proofs/walks/+levels/Invariants.antt` and an invariant of the loop are all of its proof.
+pub fn levels(node: Node<'_, '_>) -> usize
+    ensures some { 0 < result }
+    ensures few { result ≤ nodes_left_from node.entry }
+{
+    let mut below: usize = 0;
+    for child in node.children() {
+        below = levels(child).max(below);
+    }
+    below.saturating_add(1)
+}
+
+/// Whether the attribute `id` of a node has this value.
+fn is_named(node: &Node<'_, '_>, id: &str) -> bool
+    ensures { result ≡ has_id id.now (node_ref node.now) }
+{
+    node.attribute("id".into()) == Some(id)
+}
+
+/// Returns the first element, in document order, whose attribute `id` has this value: `element_by_id` as a chain.
+pub fn first_with_id<'a, 'input>(
+    document: &'a Document<'input>,
+    id: &str,
+) -> Option<Node<'a, 'input>>
+    ensures { option_map node_ref result ≡ find (has_id id.now) (nodes_of document.now) }
+{
+    document.descendants().find(|node| is_named(node, id))
+}
+
+/// Returns the last element, in document order, whose attribute `id` has this value.
+pub fn last_with_id<'a, 'input>(
+    document: &'a Document<'input>,
+    id: &str,
+) -> Option<Node<'a, 'input>>
+    ensures { option_map node_ref result
+        ≡ last_or None (filter (has_id id.now) (nodes_of document.now)) }
+{
+    document
+        .descendants()
+        .filter(|node| is_named(node, id))
+        .last()
+}
+
+/// Returns the source of a node: the slice of the document's text that its range selects. Returns `None` if the range is none of
+/// that text, as the range of a node that comes from an answer of the resolver may be.
+pub fn source_of<'input>(node: Node<'_, 'input>) -> Option<&'input str>
+    ensures { IfSome result
+        (λ source. source.now
+        ≡ slice_range (document_of node.entry).text (start_of (item_of node.entry))
+        (end_of (item_of node.entry))) }
+{
+    node.document().input_text().get(node.range())
+}
+
+/// Returns the source of an element, from its `<` to its `>`.
+pub fn element_source<'input>(element: Node<'_, 'input>) -> &'input str
+    requires no_doctype { (document_of element).dtd ≡ false }
+    requires element { is_element_node (item_of element) ≡ true }
+    ensures { result.now
+        ≡ slice_range (document_of element.entry).text (start_of (item_of element.entry))
+        (end_of (item_of element.entry)) }
+{
+    element_is_a_slice(element);
+    &element.document().input_text()[element.range()]
+}
