@@ -37,11 +37,7 @@ fn parse<'t>(
     recorder: &Recorder<'t>,
     options: Options,
 ) -> Result<Document<'t>, Error> {
-    let resolver = ResolveWith {
-        by: |public_id: Option<&str>, uri: &str| -> Result<Option<&str>, String> {
-            recorder.answer(alloc, public_id, uri)
-        },
-    };
+    let resolver = ResolveWith::new(|public_id, uri| recorder.answer(alloc, public_id, uri));
     let parsing = ParsingOptions {
         allow_dtd: options.allow_dtd,
         nodes_limit: options.nodes_limit,

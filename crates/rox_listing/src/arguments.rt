@@ -1,4 +1,4 @@
-//! Reading of the program's arguments.
+//! The arguments of the program.
 
 ghost use Rattle.std.specs.Prelude.{◌≡◌, map, string_bytes, IfOk};
 ghost use Rattle.std.specs.Option.{option_map};
@@ -7,12 +7,13 @@ ghost use Rattle.rox_listing.specs.Command.{meaning, command_of, command_behind,
 use crate::options::Command;
 use std::alloc::{AllocError, Global};
 
-/// What the program says where its words are wrong.
+/// The text that the program prints if its arguments are wrong.
 pub const USAGE: &str = "usage: xmltree [--allow-dtd] [--path P] [FILE]";
 
-/// Reads the words after the program's name: `[--allow-dtd] [--path P] [FILE]`. None is a wrong argument: a word that begins
-/// with `-` and is neither `--allow-dtd` as the first word nor `--path` before P and FILE, or a second FILE. P may begin with
-/// any character. The only error is want of memory.
+/// Returns the command of the words after the program's name: `[--allow-dtd] [--path P] [FILE]`. P may begin with any character.
+///
+/// Returns `None` for a wrong argument. A word that begins with `-` is wrong, except P, `--allow-dtd` as the first word, and
+/// `--path` before P. A second FILE is wrong too.
 pub fn command(alloc: Global, words: &[String]) -> Result<Option<Command>, AllocError>
     ensures { IfOk result (λ c. option_map meaning c ≡ command_of (map string_bytes words.now)) }
 {
@@ -22,7 +23,7 @@ pub fn command(alloc: Global, words: &[String]) -> Result<Option<Command>, Alloc
     }
 }
 
-/// The command whose last words are these: a path or none, and a FILE or none.
+/// Returns the command whose last words are these: a path or none, and a FILE or none.
 #[tactic(auto, unfolding(crate::specs::Command::command_behind))]
 fn with_path(
     alloc: Global,
@@ -41,7 +42,7 @@ fn with_path(
     }
 }
 
-/// The command whose last words are these: none, or a FILE.
+/// Returns the command whose last words are these: none, or a FILE.
 fn with_file(
     alloc: Global,
     allow_dtd: bool,

@@ -11,7 +11,7 @@ pub struct Entry<'a> {
     pub value: &'a str,
 }
 
-/// The attributes of a node by their names, a local name and, where there is a namespace, `@` and its URI.
+/// Returns the attributes of a node, sorted by name. A name is a local name and, if there is a namespace, `@` and its URI.
 pub fn attribute_entries<'a>(
     alloc: Global,
     node: Node<'a, '_>,
@@ -26,7 +26,7 @@ pub fn attribute_entries<'a>(
     Ok(entries)
 }
 
-/// The namespaces that a node lists by their prefixes, `None` for the default. An empty URI is shown as `""`.
+/// Returns the namespaces that a node lists, sorted by prefix, with `None` for the default. An empty URI is shown as `""`.
 pub fn namespace_entries<'a>(
     alloc: Global,
     node: Node<'a, '_>,
@@ -53,7 +53,7 @@ fn full_name<'a>(
     }
 }
 
-// By the bytes of the names. Entries of one name keep their order.
+// Sorts by the bytes of the names. Entries with one name keep their order.
 fn sort(entries: &mut Vec<Entry<'_>>) -> Result<(), AllocError> {
     entries.sort_by(|a, b| a.name.as_str().cmp(&b.name.as_str()))
 }

@@ -1,4 +1,4 @@
-//! Why the program prints nothing.
+//! The reasons why the program prints nothing.
 
 ghost use Rattle.std.specs.Prelude.{◌≡◌};
 
@@ -6,14 +6,14 @@ use rox_path::PathError;
 use rox_programs::program_error::ProgramError;
 use std::fmt;
 
-/// Why the program could not do what it was asked.
+/// The reason why the program could not do what it was asked.
 #[derive(Drop)]
 pub enum Fault {
-    /// The path is none, from this byte on.
+    /// The path is not valid from this offset in bytes on.
     BadPath(usize),
     /// The input is refused.
     Refused(roxmltree::Error),
-    /// A fault that each of the programs can tell.
+    /// A fault that all programs may report.
     Program(ProgramError),
 }
 
@@ -53,7 +53,8 @@ impl From<ProgramError> for Fault {
 impl Fault {
     ghost use Rattle.rox_listing.specs.Fault.{status_of};
 
-    /// The exit status: 2 for a bad path and for faults of input and output, 1 for a text that is refused and for want of memory.
+    /// Returns the exit status. It is 2 for a bad path and for faults of input and output, 1 for a refused text and if memory
+    /// runs out.
     pub fn status(&self) -> u8
         ensures { result ≡ status_of self.now }
     {

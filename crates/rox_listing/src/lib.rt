@@ -1,4 +1,4 @@
-//! What the program `xmltree` does: the command of its arguments, and the listing of a tree or of the elements of a path.
+//! The program `xmltree`: the command that its arguments give, and the listing of a tree or of the elements of a path.
 #![tactic(auto)]
 
 pub mod arguments;

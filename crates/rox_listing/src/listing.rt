@@ -10,7 +10,7 @@ use roxmltree::{Document, Node, NodeId, NodeType, PI};
 use std::alloc::{AllocError, Global};
 use std::io::Write;
 
-/// Writes the tree of a document, a node after the other, by a loop: however deep it is, no stack is used up.
+/// Writes the tree of a document, one node after the other, in a loop: no depth of the tree uses up the stack.
 pub fn write_document<W: Write>(
     alloc: Global,
     document: &Document<'_>,
@@ -23,7 +23,7 @@ pub fn write_document<W: Write>(
     Ok(listed?)
 }
 
-/// Writes a line for each of these elements: its range and its name.
+/// Writes a line for each of these elements: its range in bytes and its name.
 pub fn write_elements<W: Write>(
     elements: &[Node<'_, '_>],
     out: &mut W,
@@ -45,7 +45,7 @@ fn write_nodes<W: Write>(
     document: &Document<'_>,
     out: &mut Output<'_, W>,
 ) -> Result<(), AllocError> {
-    // the elements that the node lies in, the outermost first
+    // the elements around the node, the outermost first
     let mut open = Vec::new(alloc);
     for node in document.descendants() {
         if let Some(parent) = node.parent() {
@@ -62,7 +62,7 @@ fn write_nodes<W: Write>(
     Ok(())
 }
 
-// Keeps the elements up to this one: none, where it is the root node.
+// Removes the elements after `parent` from `open`: all of them, if `parent` is the root node.
 fn leave(open: &mut Vec<NodeId>, parent: NodeId) {
     let kept = match open.iter().rposition(|id| *id == parent) {
         Some(at) => at + 1,
@@ -94,7 +94,7 @@ fn write_element<W: Write>(
     out: &mut Output<'_, W>,
 ) -> Result<(), AllocError> {
     write_label("- Element:\n", depth, 1, out);
-    // a tag name has no `@` where its URI is empty
+    // a tag name has no `@` if its URI is empty
     write_label("tag_name: ", depth, 3, out);
     write_name(node, out);
     write_attributes(alloc, node, depth, out)?;
@@ -148,7 +148,7 @@ fn write_namespaces<W: Write>(
     Ok(())
 }
 
-// The line before some entries. Where there are none it is not written.
+// Writes the line before some entries, or nothing if there are none.
 fn write_title<W: Write>(
     title: &str,
     entries: &[Entry<'_>],
@@ -166,7 +166,7 @@ fn write_text<W: Write>(kind: &str, node: Node<'_, '_>, depth: usize, out: &mut 
     write_quoted("", text, out);
 }
 
-// A processing instruction beside the root element is not listed.
+// Writes a processing instruction, unless it is beside the root element: that is not listed.
 fn write_pi<W: Write>(node: Node<'_, '_>, depth: usize, out: &mut Output<'_, W>) {
     if depth == 0 {
         return;
@@ -186,17 +186,17 @@ fn write_instruction<W: Write>(pi: PI<'_>, depth: usize, out: &mut Output<'_, W>
     }
 }
 
-// Writes a text in its debug form, behind a mark, and ends the line.
+// Writes a text in its debug form after `mark`, and ends the line.
 fn write_quoted<W: Write>(mark: &str, text: &str, out: &mut Output<'_, W>) {
     out.text(mark);
     write_debug(text, out);
     out.text("\n");
 }
 
-// Eight times what the lines of an element's children are further right than its own.
+// Eight indentations: the lines of an element's children have six more spaces than its own.
 const SPACES: &[u8; 48] = b"                                                ";
 
-// The spaces before a line, six for each element around its node and two for each of these steps, and how the line begins.
+// Writes the start of a line: six spaces for each element around its node, two for each of `steps`, and `label`.
 fn write_label<W: Write>(label: &str, depth: usize, steps: usize, out: &mut Output<'_, W>)
     requires { steps ≤ 24 }
 {

@@ -11,7 +11,7 @@ pub fn write_debug<W: Write>(text: &str, out: &mut Output<'_, W>) {
     }
 }
 
-/// Writes the places where a range starts and ends.
+/// Writes the offsets where a range starts and ends, in bytes.
 pub fn write_range<W: Write>(range: Range<usize>, out: &mut Output<'_, W>) {
     if out.result.is_ok() {
         let (start, end) = (range.start, range.end);

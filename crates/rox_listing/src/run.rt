@@ -1,4 +1,4 @@
-//! What the program does, from its input to its status.
+//! The program, from its input to its status.
 
 ghost use Rattle.std.specs.Prelude.{◌≡◌, ◌<◌, ◌≤◌, List, string_bytes, IsNone, IfSome, IsErrOf, MatchOption};
 ghost use Rattle.std.specs.Result.{IsErr};
@@ -15,13 +15,14 @@ use roxmltree::{Document, ParsingOptions};
 use std::alloc::Global;
 use std::io::{BufWriter, Read, Write};
 
-/// How many bytes are gathered before they are written.
+/// The number of bytes collected before they are written.
 const BUFFER: usize = 65536;
 
-/// Reads the path, if there is one, and the input, parses it and prints the listing of its tree, or a line for each node that
-/// the path leads to from the root node. The answer is the exit status. A fault is a line on `err`: status 1 for a text that
-/// is refused and for want of memory, 2 for a bad path, for input that cannot be read or is not UTF-8 and for output that
-/// cannot be written. An `input` of None is a file that could not be opened.
+/// Reads the path, if there is one, and the input. Parses the input and prints the listing of its tree, or a line for each node
+/// that the path reaches from the root node. An `input` of `None` is a file that could not be opened.
+///
+/// Returns the exit status, 0 if all went well. A fault is a line on `err`. The status is 1 for a refused text and if memory runs
+/// out. It is 2 for a bad path, for input that cannot be read or is not UTF-8, and for output that cannot be written.
 pub fn run<I: Read + Drop, O: Write, E: Write>(
     alloc: Global,
     command: &Command,
@@ -39,7 +40,7 @@ pub fn run<I: Read + Drop, O: Write, E: Write>(
         Ok(()) => 0,
         Err(fault) => {
             let status = fault.status();
-            // A fault of `err` itself can be told nowhere.
+            // A fault of `err` itself cannot be reported anywhere.
             let _ = writeln!(err, "error: {fault}");
             status
         }
@@ -81,7 +82,7 @@ fn print_text<O: Write>(
     }
 }
 
-// After a fault nothing more is written: what is still in the buffer is let go.
+// Writes what is asked for through a buffer. After a fault nothing more is written: the rest of the buffer is discarded.
 fn write_buffered<O: Write>(
     alloc: Global,
     document: &Document<'_>,

@@ -1,4 +1,4 @@
-//! Reading of the input.
+//! The reading of input.
 
 ghost use Rattle.std.specs.Prelude.{◌≡◌, IfOk, IfSome, IsErrOf, MatchOption, MatchResult, IsUtf8};
 
@@ -6,7 +6,8 @@ use crate::program_error::ProgramError;
 use std::alloc::Global;
 use std::io::{ErrorKind, Read};
 
-/// The bytes of the input, to its end. None is an input that could not be opened.
+/// Returns the bytes of the input, to its end. An `input` of `None` is one that could not be opened. Fails with `CannotRead` for
+/// that and if the input cannot be read, and with `OutOfMemory` if memory runs out.
 pub fn read_all<I: Read + Drop>(alloc: Global, input: Option<I>) -> Result<Vec<u8>, ProgramError>
     ensures { MatchOption input (IsErrOf result ProgramError.CannotRead)
         (λ reader. IfOk result
@@ -23,10 +24,10 @@ pub fn read_all<I: Read + Drop>(alloc: Global, input: Option<I>) -> Result<Vec<u
     }
 }
 
-/// The text of these bytes.
+/// Returns the text of these bytes. Fails with `NotUtf8` if they are not UTF-8.
 pub fn decode(bytes: &[u8]) -> Result<&str, ProgramError>
     ensures { MatchResult result (λ text. text.now ≡ bytes.now)
         (λ fault. (fault ≡ ProgramError.NotUtf8) × ¬ IsUtf8 bytes.now) }
 {
-    str::from_utf8(bytes).map_err(|_| ProgramError::NotUtf8)
+    simdutf8::basic::from_utf8(bytes).map_err(|_| ProgramError::NotUtf8)
 }

@@ -1,4 +1,4 @@
-//! What the programs share: the reading of an input, where a text is written, and the faults that each of them can tell.
+//! What the programs share: the reading of input, the writing of text, and the faults that all of them may report.
 #![tactic(auto)]
 
 pub mod input;

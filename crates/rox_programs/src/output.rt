@@ -3,8 +3,8 @@
 use std::io;
 use std::io::Write;
 
-/// A writer, and what came of what was written. Behind its first error nothing more is written, so that only the end of a
-/// text has to look for it: it cannot be let go otherwise.
+/// A writer, and the result of what was written. After its first error nothing more is written, so only the end of a text has to
+/// check `result`. It has no `Drop`, so it has to end in `into_result`.
 pub struct Output<'o, W: Write> {
     pub writer: &'o mut W,
     pub result: io::Result<()>,
@@ -18,13 +18,13 @@ impl<'o, W: Write> Output<'o, W> {
         }
     }
 
-    /// What came of all that was written.
+    /// Returns the result of all that was written.
     pub fn into_result(self) -> io::Result<()> {
         let Output { writer: _, result } = self;
         result
     }
 
-    /// Whether something could not be written.
+    /// Returns whether something could not be written.
     pub fn has_failed(&self) -> bool {
         self.result.is_err()
     }
@@ -36,7 +36,7 @@ impl<'o, W: Write> Output<'o, W> {
         }
     }
 
-    /// Writes a text as it is.
+    /// Writes a text unchanged.
     pub fn text(&mut self, text: &str) {
         self.bytes(text.as_bytes());
     }

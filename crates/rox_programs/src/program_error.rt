@@ -1,4 +1,4 @@
-//! Why a program does not do what it was asked, as each of the programs can tell.
+//! The reasons why a program does not do what it was asked, as far as all programs share them.
 
 ghost use Rattle.std.specs.Prelude.{◌≡◌};
 ghost use Rattle.rox_programs.specs.declared.program_error.ProgramError.TheVariants.{CannotWrite, OutOfMemory};
@@ -6,7 +6,7 @@ ghost use Rattle.rox_programs.specs.declared.program_error.ProgramError.TheVaria
 use std::alloc::{AllocError, AllocFailed};
 use std::{fmt, io};
 
-/// Why a program could not do what it was asked.
+/// The reason why a program could not do what it was asked.
 #[derive(Drop)]
 pub enum ProgramError {
     /// The input could not be opened or read to its end.
@@ -15,7 +15,7 @@ pub enum ProgramError {
     NotUtf8,
     /// The output could not be written to its end.
     CannotWrite,
-    /// There is no memory.
+    /// Memory ran out.
     OutOfMemory,
 }
 
@@ -47,7 +47,7 @@ impl<T: Drop> From<AllocFailed<T>> for ProgramError {
     }
 }
 
-/// Of a writer.
+/// The error of a writer.
 impl From<io::Error> for ProgramError {
     ghost from_gives = { λ _ error. error ≡ CannotWrite };
 
@@ -59,7 +59,7 @@ impl From<io::Error> for ProgramError {
 impl ProgramError {
     ghost use Rattle.rox_programs.specs.ProgramError.{status_of};
 
-    /// The exit status: 2 for faults of input and output, 1 for want of memory.
+    /// Returns the exit status: 2 for faults of input and output, 1 if memory runs out.
     pub fn status(&self) -> u8
         ensures { result ≡ status_of self.now }
     {
