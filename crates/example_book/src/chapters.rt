@@ -1,0 +1,73 @@
+//! A book whose chapters are external entities (XML 1.0 section 4.2.2), as `<!ENTITY first SYSTEM "first.xml">`.
+
+use roxmltree::{Document, Error, ParsingOptions, ResolveWith};
+use std::alloc::{AllocError, Global};
+use std::cell::RefCell;
+
+/// A file that an external entity names, and its text.
+#[derive(Drop)]
+pub struct Chapter {
+    pub name: String,
+    pub text: String,
+}
+
+/// Returns the system identifiers that a book asks for, in order. The book is read once with nothing answered, only to be
+/// told what it asks for: an error of that reading says nothing of the book.
+pub fn asked_for(alloc: Global, book: &str) -> Result<Vec<String>, AllocError> {
+    let asked = RefCell::new(Vec::new(alloc));
+    let resolver = ResolveWith::new(|_public_id, uri| {
+        match note(alloc, &asked, uri) {
+            Ok(()) => Ok(None),
+            Err(_) => Err(String::new(alloc)),
+        }
+    });
+    let mut options = ParsingOptions::with_resolver(resolver);
+    options.allow_dtd = true;
+    match Document::parse_with_options(alloc, book, options) {
+        Err(Error::EntityResolver(_, _) | Error::OutOfMemory) => Err(AllocError),
+        _ => Ok(asked.into_inner()),
+    }
+}
+
+fn note(alloc: Global, asked: &RefCell<Vec<String>>, uri: &str) -> Result<(), AllocError> {
+    let uri = String::from_str(alloc, uri)?;
+    if let Ok(mut asked) = asked.try_borrow_mut() {
+        asked.push(uri)?;
+    }
+    Ok(())
+}
+
+/// Returns the document of a book. An entity whose file is not among these chapters is empty.
+pub fn parse_book<'input>(
+    alloc: Global,
+    book: &'input str,
+    chapters: &'input [Chapter],
+) -> Result<Document<'input>, Error> {
+    let resolver = ResolveWith::new(|_public_id, uri| Ok(Some(text_of(chapters, uri))));
+    let mut options = ParsingOptions::with_resolver(resolver);
+    options.allow_dtd = true;
+    Document::parse_with_options(alloc, book, options)
+}
+
+fn text_of<'c>(chapters: &'c [Chapter], name: &str) -> &'c str {
+    for chapter in chapters {
+        if chapter.name.as_str() == name {
+            return chapter.text.as_str();
+        }
+    }
+    ""
+}
+
+/// Returns the name of the chapter that a refused book is refused for: the first with which it is refused if all after it are
+/// empty. Returns `None` if it is refused with all of them empty.
+pub fn faulty_chapter<'c>(alloc: Global, book: &str, chapters: &'c [Chapter]) -> Option<&'c str> {
+    if parse_book(alloc, book, &[]).is_err() {
+        return None;
+    }
+    for (at, chapter) in chapters.iter().enumerate() {
+        if parse_book(alloc, book, &chapters[..=at]).is_err() {
+            return Some(chapter.name.as_str());
+        }
+    }
+    None
+}

@@ -1,0 +1,85 @@
+//! Prints the contents of a book: `example_book FILE`. Its chapters are external entities, in files beside it. A line for each
+//! chapter has its number, its title, and how many words it has.
+#![tactic(auto)]
+
+mod chapters;
+
+use crate::chapters::{Chapter, asked_for, faulty_chapter, parse_book};
+use anyhow::{Context, Result, bail};
+use rox_path::{parse_path, select};
+use roxmltree::{Document, Node};
+use std::alloc::{AllocError, Global};
+use std::io::Write;
+use std::path::Path;
+use std::{env, fs};
+
+fn main(rt: HostRuntime) -> Result<()> {
+    let file = env::args(&rt)?.nth(1);
+    let file = file.context("usage: example_book FILE")?;
+    let text = fs::read_to_string(&rt, &file).context(format_args!("reading {file}"))?;
+    let names = asked_for(rt.alloc(), text.as_str())?;
+    let chapters = read_chapters(&rt, Path::new(file.as_str()), &names)?;
+    match parse_book(rt.alloc(), text.as_str(), &chapters) {
+        Ok(document) => print_contents(rt.alloc(), &document, &mut rt.stdout()),
+        Err(error) => match faulty_chapter(rt.alloc(), text.as_str(), &chapters) {
+            Some(name) => bail!("{name}: {error}"),
+            None => bail!("{file}: {error}"),
+        },
+    }
+}
+
+/// Reads the files of these names that lie beside the book.
+fn read_chapters(rt: &HostRuntime, book: Path<'_>, names: &[String]) -> Result<Vec<Chapter>> {
+    let mut chapters = Vec::new(rt.alloc());
+    for name in names {
+        let path = book.with_file_name(rt.alloc(), name.as_str())?;
+        let text = fs::read_to_string(rt, path).context(format_args!("reading {name}"))?;
+        let name = name.clone()?;
+        chapters.push(Chapter { name, text })?;
+    }
+    Ok(chapters)
+}
+
+fn print_contents<W: Write>(alloc: Global, document: &Document<'_>, out: &mut W) -> Result<()> {
+    let steps = parse_path(alloc, "//chapter")?;
+    let chapters = select(alloc, document.root(), &steps)?;
+    for (at, chapter) in chapters.iter().enumerate() {
+        let (number, words) = (at + 1, words(*chapter));
+        let title = title(alloc, *chapter)?;
+        writeln!(out, "{number}. {title} ({words} words)")?;
+    }
+    Ok(())
+}
+
+/// Returns the text of the first element `title` among the children of a chapter.
+fn title(alloc: Global, chapter: Node<'_, '_>) -> Result<String, AllocError> {
+    for child in chapter.children() {
+        if child.has_local_name("title") {
+            return full_text(alloc, child);
+        }
+    }
+    String::from_str(alloc, "without title")
+}
+
+/// Returns the texts of an element and of those in it, one after the other.
+fn full_text(alloc: Global, element: Node<'_, '_>) -> Result<String, AllocError> {
+    let mut text = String::new(alloc);
+    for node in element.descendants() {
+        if node.is_text() {
+            text.push_str(node.text().unwrap_or(""))?;
+        }
+    }
+    Ok(text)
+}
+
+/// Returns the number of words in the texts of an element and of those in it.
+fn words(element: Node<'_, '_>) -> usize {
+    let mut words = 0usize;
+    for node in element.descendants() {
+        if node.is_text() {
+            let text = node.text().unwrap_or("");
+            words = words.saturating_add(text.split_whitespace().count());
+        }
+    }
+    words
+}

@@ -1,0 +1,128 @@
+//! Prints the dependencies of a Maven project: `example_dependencies POM`. A line for each has its group, its name, its version
+//! and its scope; properties, as in `${junit.version}`, are replaced by their values.
+#![tactic(auto)]
+
+use anyhow::{Context, Result};
+use roxmltree::{Document, Node};
+use std::alloc::{AllocError, Global};
+use std::io::Write;
+use std::{env, fs};
+
+/// The most rounds in which the properties of a value are replaced: the value of one may name others, or itself.
+const MOST_ROUNDS: usize = 8;
+
+/// A value of more bytes is left as it is, so that properties that name each other do not make it explode.
+const MOST_BYTES: usize = 4096;
+
+fn main(rt: HostRuntime) -> Result<()> {
+    let file = env::args(&rt)?.nth(1);
+    let file = file.context("usage: example_dependencies POM")?;
+    let text = fs::read_to_string(&rt, &file).context(format_args!("reading {file}"))?;
+    let document = Document::parse(rt.alloc(), text.as_str()).context(format_args!(
+        "parsing {file}"
+    ))?;
+    print_dependencies(rt.alloc(), document.root_element(), &mut rt.stdout())
+}
+
+fn print_dependencies<W: Write>(alloc: Global, project: Node<'_, '_>, out: &mut W) -> Result<()> {
+    if let Some(dependencies) = child(project, "dependencies") {
+        for dependency in dependencies.children() {
+            if dependency.has_local_name("dependency") {
+                print_dependency(alloc, project, dependency, out)?;
+            }
+        }
+    }
+    Ok(())
+}
+
+fn print_dependency<W: Write>(
+    alloc: Global,
+    project: Node<'_, '_>,
+    dependency: Node<'_, '_>,
+    out: &mut W,
+) -> Result<()> {
+    let group = value(alloc, project, dependency, "groupId", "-")?;
+    let name = value(alloc, project, dependency, "artifactId", "-")?;
+    let version = value(alloc, project, dependency, "version", "-")?;
+    let scope = value(alloc, project, dependency, "scope", "compile")?;
+    writeln!(out, "{group}:{name}:{version} {scope}")?;
+    Ok(())
+}
+
+/// Returns what a child element says, with its properties replaced, or `otherwise` if there is no such child.
+fn value(
+    alloc: Global,
+    project: Node<'_, '_>,
+    element: Node<'_, '_>,
+    name: &str,
+    otherwise: &str,
+) -> Result<String, AllocError> {
+    let text = child_text(element, name).unwrap_or(otherwise);
+    with_properties(alloc, project, text)
+}
+
+/// Returns the first child element of this name, in whatever namespace: poms are written with one and without.
+fn child<'a, 'input>(element: Node<'a, 'input>, name: &str) -> Option<Node<'a, 'input>> {
+    for child in element.children() {
+        if child.has_local_name(name) {
+            return Some(child);
+        }
+    }
+    None
+}
+
+fn child_text<'a>(element: Node<'a, '_>, name: &str) -> Option<&'a str> {
+    Some(child(element, name)?.text()?.trim())
+}
+
+/// Returns the text with its properties replaced, and those in their values.
+fn with_properties(alloc: Global, project: Node<'_, '_>, text: &str) -> Result<String, AllocError> {
+    let mut value = String::from_str(alloc, text)?;
+    for _ in 0..MOST_ROUNDS {
+        if value.len() > MOST_BYTES || !value.as_str().contains("${") {
+            break;
+        }
+        value = replaced_once(alloc, project, value.as_str())?;
+    }
+    Ok(value)
+}
+
+/// Returns the text with each `${name}` replaced by the value of the property. One that is unknown stays as it is.
+fn replaced_once(alloc: Global, project: Node<'_, '_>, text: &str) -> Result<String, AllocError> {
+    let mut parts = text.split("${");
+    let mut value = String::from_str(alloc, parts.next().unwrap_or(""))?;
+    for part in parts {
+        push_property(&mut value, project, part)?;
+    }
+    Ok(value)
+}
+
+/// Appends the value of the property `name`, and what comes after, of a part `name}..`.
+fn push_property(value: &mut String, project: Node<'_, '_>, part: &str) -> Result<(), AllocError> {
+    if let Some((name, after)) = part.split_once('}') {
+        if let Some(property) = property(project, name) {
+            value.push_str(property)?;
+            return value.push_str(after);
+        }
+    }
+    value.push_str("${")?;
+    value.push_str(part)
+}
+
+/// Returns the value of a property: what the project says of itself, or else what its `properties` say.
+fn property<'a>(project: Node<'a, '_>, name: &str) -> Option<&'a str> {
+    match name {
+        "project.version" => own_or_parents(project, "version"),
+        "project.groupId" => own_or_parents(project, "groupId"),
+        "project.parent.version" => child_text(child(project, "parent")?, "version"),
+        _ => child_text(child(project, "properties")?, name),
+    }
+}
+
+/// Returns what a project says, or else what it says of its parent.
+fn own_or_parents<'a>(project: Node<'a, '_>, name: &str) -> Option<&'a str> {
+    match child_text(project, name) {
+        Some(text) => Some(text),
+        None => child_text(child(project, "parent")?, name),
+    }
+}

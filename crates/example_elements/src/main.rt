@@ -1,0 +1,51 @@
+//! Prints the name of each element of an XML text that comes on standard input, and its attributes.
+#![tactic(auto)]
+
+use roxmltree::{Document, Error};
+use std::io;
+use std::io::Write;
+use std::process::ExitCode;
+
+fn main(rt: HostRuntime) -> io::Result<ExitCode> {
+    let text = io::read_to_string(rt.alloc(), rt.stdin())?;
+    match Document::parse(rt.alloc(), text.as_str()) {
+        Ok(document) => {
+            print_elements(&document, &mut rt.stdout())?;
+            Ok(ExitCode::SUCCESS)
+        }
+        Err(error) => {
+            print_error(&error, text.as_str(), &mut rt.stderr())?;
+            Ok(ExitCode::FAILURE)
+        }
+    }
+}
+
+fn print_elements<W: Write>(document: &Document<'_>, out: &mut W) -> io::Result<()> {
+    for node in document.descendants().filter(|node| node.is_element()) {
+        let name = node.tag_name().name();
+        writeln!(out, "{name}")?;
+        for attribute in node.attributes() {
+            let (name, value) = (attribute.name(), attribute.value());
+            writeln!(out, "    {name} = {value:?}")?;
+        }
+    }
+    Ok(())
+}
+
+/// Prints the message of an error and, if it keeps a position, its line and a caret below the character there.
+fn print_error<W: Write>(error: &Error, text: &str, out: &mut W) -> io::Result<()> {
+    let message = error.message();
+    let Some(place) = error.position() else {
+        return writeln!(out, "error: {message}");
+    };
+    let line = text
+        .lines()
+        .nth((place.row as usize).saturating_sub(1))
+        .unwrap_or("");
+    writeln!(out, "{place}: {message}")?;
+    writeln!(out, "{line}")?;
+    for _ in 1..place.col {
+        write!(out, " ")?;
+    }
+    writeln!(out, "^")
+}
