@@ -35,6 +35,17 @@ fn node_of<'a, 'input>(
         .expect(rt, "no node of this id")
 }
 
+/// How many `x` there are.
+fn count_of_x(text: &str) -> usize {
+    let mut count: usize = 0;
+    for byte in text.as_bytes() {
+        if *byte == b'x' {
+            count = count.saturating_add(1);
+        }
+    }
+    count
+}
+
 /// The number of a node.
 fn number(node: Node<'_, '_>) -> u32 {
     node.id().get()

@@ -2,9 +2,11 @@
 
 ghost use Rattle.std.specs.Prelude.{◌≡◌, Some};
 
+mod asking;
 mod generated;
 mod limits;
 mod messages;
+mod resolvers;
 mod slices;
 
 use roxmltree::{Document, Error, Node, NodeId, ParsingOptions};

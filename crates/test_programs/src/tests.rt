@@ -67,12 +67,13 @@ fn text_in(written: &[u8]) -> &str {
 
 /// The words of a line, apart at spaces.
 fn words(rt: &(impl Abort + AllocGlobal), line: &str) -> Vec<String> {
-    let alloc = rt.alloc();
-    line.split(' ')
-        .filter(|word| !word.is_empty())
-        .map(|word| String::from_str(alloc, word))
-        .try_collect(alloc)
-        .expect(rt, "memory")
+    let mut words = Vec::new(rt.alloc());
+    for word in line.split(' ') {
+        if !word.is_empty() {
+            words.push(owned(rt, word)).expect(rt, "memory");
+        }
+    }
+    words
 }
 
 /// A text of one's own.

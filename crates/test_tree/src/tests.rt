@@ -1,13 +1,15 @@
 //! Worked answers of the public calls, in tables.
 
-mod axes;
+mod attributes;
 mod calls;
+mod documents;
 mod iterators;
+mod names;
+mod namespaces;
 mod order;
-mod parsing;
-mod paths;
 mod printed;
-mod text;
+mod scopes;
+mod storages;
 
 use roxmltree::{Document, Error, Node, NodeId, NodeType};
 use std::fmt::{Debug, Display};
@@ -60,6 +62,7 @@ fn is_of_kind(rt: &impl Abort, node: Node<'_, '_>, kind: NodeType) {
     same_at(rt, id, node.is_text(), kind == NodeType::Text);
     same_at(rt, id, node.is_comment(), kind == NodeType::Comment);
     same_at(rt, id, node.is_pi(), kind == NodeType::PI);
+    same_at(rt, id, node.pi().is_some(), kind == NodeType::PI);
 }
 
 /// How many children a node has.

@@ -3,14 +3,13 @@
 
 ghost use Rattle.std.specs.Prelude.{◌≡◌, Some};
 
-use super::same;
+use super::{count_of_x, same};
 use roxmltree::{
     Document, Error, ExpandedName, Node, ParsingOptions, ResolveWith, StringStorage, TextPos,
 };
 use std::alloc::{AllocError, Global};
 use std::cell::Cell;
 use std::process::Abort;
-use std::test::Fail;
 
 /// The answer of a parse, asked again where a growth was refused.
 fn answer<'input>(rt: &impl AllocGlobal, text: &'input str) -> Result<Document<'input>, Error> {
@@ -134,30 +133,28 @@ pub(super) fn opening(alloc: Global, count: usize) -> Result<String, AllocError>
 }
 
 /// The same, made again where its growth was refused. It has one.
-fn opened(rt: &impl AllocGlobal, count: usize) -> Result<String, AllocError> {
+fn opened(rt: &(impl Abort + AllocGlobal), count: usize) -> String {
     match opening(rt.alloc(), count) {
-        Ok(text) => Ok(text),
-        Err(_) => opening(rt.alloc(), count),
+        Ok(text) => text,
+        Err(_) => opening(rt.alloc(), count).expect(rt, "memory"),
     }
 }
 
 #[test]
-fn entities(rt: HostRuntime) -> Result<(), Fail> {
-    let text = opened(&rt, 255)?;
+fn entities(rt: HostRuntime) {
+    let text = opened(&rt, 255);
     let document = declared(&rt, text.as_str()).expect(&rt, "entities");
     let found = document.root_element().text().unwrap_or("");
     same(&rt, "count", found.len(), 255);
-    assert!(rt; found.bytes().all(|byte| byte == b'x'));
-    Ok(())
+    same(&rt, "count of x", count_of_x(found), 255);
 }
 
 #[test]
-fn entities_too_often(rt: HostRuntime) -> Result<(), Fail> {
-    let text = opened(&rt, 256)?;
+fn entities_too_often(rt: HostRuntime) {
+    let text = opened(&rt, 256);
     let error = declared(&rt, text.as_str()).expect_err(&rt, "a loop");
     let wanted = Error::EntityReferenceLoop(TextPos::new(1, 809));
     same(&rt, "error", error, wanted);
-    Ok(())
 }
 
 /// Ten entities that open one another.
@@ -192,9 +189,7 @@ pub(super) fn resolved<'input>(
     rt: &impl AllocGlobal,
     answer: Option<&'input str>,
 ) -> Result<Document<'input>, Error> {
-    let resolver = ResolveWith {
-        by: |_id: Option<&str>, _uri: &str| -> Result<Option<&str>, String> { Ok(answer) },
-    };
+    let resolver = ResolveWith::new(|_id, _uri| Ok(answer));
     Document::parse_with_options(rt.alloc(), EXTERNAL, answered_by(resolver))
 }
 
@@ -235,14 +230,10 @@ fn external_entities_without_a_text(rt: HostRuntime) {
 /// What a resolver's own refusal becomes.
 pub(super) fn refused_by_resolver(rt: &(impl Abort + AllocGlobal), words: String) -> Error {
     let words = Cell::new(Some(words));
-    let options = answered_by(ResolveWith {
-        by: |_id: Option<&str>, _uri: &str| -> Result<Option<&str>, String> {
-            match words.take() {
-                Some(words) => Err(words),
-                None => Ok(None),
-            }
-        },
-    });
+    let options = answered_by(ResolveWith::new(|_id, _uri| match words.take() {
+        Some(words) => Err(words),
+        None => Ok(None),
+    }));
     Document::parse_with_options(rt.alloc(), EXTERNAL, options).expect_err(rt, "a refusal")
 }
 
@@ -309,11 +300,10 @@ fn slices(rt: HostRuntime) {
 }
 
 #[test]
-fn texts_of_their_own(rt: HostRuntime) -> Result<(), Fail> {
+fn texts_of_their_own(rt: HostRuntime) {
     let text = match StringStorage::new_owned(rt.alloc(), "text") {
         Ok(text) => text,
-        Err(_) => StringStorage::new_owned(rt.alloc(), "text")?,
+        Err(_) => StringStorage::new_owned(rt.alloc(), "text").expect(&rt, "memory"),
     };
     same(&rt, "text", text.as_str(), "text");
-    Ok(())
 }

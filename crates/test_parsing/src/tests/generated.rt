@@ -5,7 +5,6 @@ use super::{answered_by, child_count, declared, declared_refusal, document_of, r
 use roxmltree::{Document, Error, ResolveWith};
 use std::alloc::{AllocError, Global};
 use std::process::Abort;
-use std::test::Fail;
 
 /// A piece of content, and whether it is a node that stands by itself: other pieces that touch are one text node.
 const PIECES: [(&str, bool); 6] = [
@@ -68,67 +67,72 @@ fn declared_children_of(rt: &(impl Abort + AllocGlobal), text: &str) -> usize {
 }
 
 #[test]
-fn texts_of_pieces(rt: HostRuntime) -> Result<(), Fail> {
+fn texts_of_pieces(rt: HostRuntime) {
     let alloc = rt.alloc();
     for row in 0..ROWS {
-        let Case { mut text, children } = case_of(alloc, row)?;
+        let Case { mut text, children } = case_of(alloc, row).expect(&rt, "memory");
         let count = children_of(&rt, text.as_str());
         same(&rt, text.as_str(), count, children);
         text.pop();
         let error = refusal_of(&rt, text.as_str());
         same(&rt, text.as_str(), error, Error::UnexpectedEndOfStream);
     }
-    Ok(())
 }
 
 #[test]
-fn texts_of_pieces_and_an_entity(rt: HostRuntime) -> Result<(), Fail> {
+fn texts_of_pieces_and_an_entity(rt: HostRuntime) {
     let alloc = rt.alloc();
     let parts = ["<!DOCTYPE r [<!ENTITY a 'x'>]><r>", "&a;", "</r>"];
     for row in 0..ROWS {
-        let Case { mut text, children } = case_within(alloc, row, parts)?;
+        let Case { mut text, children } = case_within(alloc, row, parts).expect(&rt, "memory");
         let count = declared_children_of(&rt, text.as_str());
         same(&rt, text.as_str(), count, children);
         text.pop();
         let error = declared_refusal(&rt, text.as_str());
         same(&rt, text.as_str(), error, Error::UnexpectedEndOfStream);
     }
-    Ok(())
 }
 
 #[test]
-fn pieces_in_an_entity(rt: HostRuntime) -> Result<(), Fail> {
+fn pieces_in_an_entity(rt: HostRuntime) {
     let parts = ["<!DOCTYPE r [<!ENTITY a '", "x", "'>]><r>&a;</r>"];
     for row in 0..ROWS {
-        let case = case_within(rt.alloc(), row, parts)?;
+        let case = case_within(rt.alloc(), row, parts).expect(&rt, "memory");
         let text = case.text.as_str();
         same(&rt, text, declared_children_of(&rt, text), case.children);
     }
-    Ok(())
+}
+
+/// The children of the root element where each external entity of this text has one answer.
+fn answered_children_of<'input>(
+    rt: &(impl Abort + AllocGlobal),
+    text: &'input str,
+    answer: &'input str,
+) -> usize {
+    let options = answered_by(ResolveWith::new(|_id, _uri| Ok(Some(answer))));
+    let document = Document::parse_with_options(rt.alloc(), text, options).expect(rt, answer);
+    child_count(document.root_element())
 }
 
 #[test]
-fn pieces_in_an_answer(rt: HostRuntime) -> Result<(), Fail> {
+fn pieces_in_an_answer(rt: HostRuntime) {
     let main = "<!DOCTYPE r [<!ENTITY a SYSTEM 'u'>]><r>&a;</r>";
     for row in 0..ROWS {
-        let case = case_within(rt.alloc(), row, ["", "x", ""])?;
+        let case = case_within(rt.alloc(), row, ["", "x", ""]).expect(&rt, "memory");
         let answer = case.text.as_str();
-        let options = answered_by(ResolveWith {
-            by: |_id: Option<&str>, _uri: &str| -> Result<Option<&str>, String> {
-                Ok(Some(answer))
-            },
-        });
-        let document = Document::parse_with_options(rt.alloc(), main, options).expect(&rt, answer);
-        let count = child_count(document.root_element());
-        same(&rt, answer, count, case.children);
+        same(
+            &rt,
+            answer,
+            answered_children_of(&rt, main, answer),
+            case.children,
+        );
     }
-    Ok(())
 }
 
 #[test]
-fn root_elements_of_pieces(rt: HostRuntime) -> Result<(), Fail> {
+fn root_elements_of_pieces(rt: HostRuntime) {
     for row in 0..ROWS {
-        let case = case_of(rt.alloc(), row)?;
+        let case = case_of(rt.alloc(), row).expect(&rt, "memory");
         let text = case.text.as_str();
         let document = document_of(&rt, text);
         let root = document.root_element();
@@ -136,5 +140,4 @@ fn root_elements_of_pieces(rt: HostRuntime) -> Result<(), Fail> {
         same(&rt, text, child_count(alone.root_element()), case.children);
         same(&rt, text, exchanged(&rt, root, &document).as_str(), text);
     }
-    Ok(())
 }

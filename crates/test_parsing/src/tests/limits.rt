@@ -13,9 +13,34 @@ fn default_options(rt: HostRuntime) {
     same(&rt, "document_key", options.document_key, 0);
 }
 
-/// An element with so many children, each of which declares another URI.
-fn declaring(alloc: Global, count: u32) -> Result<String, AllocError> {
-    let mut text = String::from_str(alloc, "<r>")?;
+/// Wants options to be printed so by `Debug`, with this in place of the resolver.
+fn debug_is<R>(rt: &(impl Abort + AllocGlobal), options: &ParsingOptions<R>, resolver: &str) {
+    let alloc = rt.alloc();
+    let printed = format!(in alloc; "{options:?}").expect(rt, "memory");
+    let wanted = format!(in alloc;
+        "ParsingOptions {{ allow_dtd: false, nodes_limit: 4294967295, entity_resolver: \"{resolver}\", document_key: 0 }}"
+    );
+    same(
+        rt,
+        "debug",
+        printed.as_str(),
+        wanted.expect(rt, "memory").as_str(),
+    );
+}
+
+/// A resolver that is not `Debug`.
+#[derive(Drop)]
+struct Silent;
+
+#[test]
+fn options_with_any_resolver_are_printed(rt: HostRuntime) {
+    debug_is(&rt, &ParsingOptions::default(), "None");
+    debug_is(&rt, &ParsingOptions::with_resolver(Silent), "Some(..)");
+}
+
+/// An element with so many children behind how it begins, each of which declares another URI.
+pub(super) fn declaring(alloc: Global, open: &str, count: u32) -> Result<String, AllocError> {
+    let mut text = String::from_str(alloc, open)?;
     for uri in 1..=count {
         write!(text, "<e xmlns:n='{uri}'/>")?;
     }
@@ -25,14 +50,14 @@ fn declaring(alloc: Global, count: u32) -> Result<String, AllocError> {
 
 #[test]
 fn as_many_namespaces_as_may_be(rt: HostRuntime) {
-    let text = declaring(rt.alloc(), 65535).expect(&rt, "memory");
+    let text = declaring(rt.alloc(), "<r>", 65535).expect(&rt, "memory");
     let document = document_of(&rt, text.as_str());
     same(&rt, "children", child_count(document.root_element()), 65535);
 }
 
 #[test]
 fn one_namespace_too_many(rt: HostRuntime) {
-    let text = declaring(rt.alloc(), 65536).expect(&rt, "memory");
+    let text = declaring(rt.alloc(), "<r>", 65536).expect(&rt, "memory");
     let error = refusal_of(&rt, text.as_str());
     assert!(rt; error == Error::NamespacesLimitReached);
     prints(&rt, &error, "more than 2^16 unique namespaces were parsed");
@@ -143,20 +168,47 @@ fn each_of_many_is_found(rt: HostRuntime) {
 
 /// How many `x` there are, where a text is nothing else.
 fn count_of(text: &str) -> Option<usize> {
-    if text.bytes().all(|byte| byte == b'x') {
-        Some(text.len())
-    } else {
-        None
+    for byte in text.as_bytes() {
+        if *byte != b'x' {
+            return None;
+        }
     }
+    Some(text.len())
 }
 
-/// An entity of 255 references to another, and so many references to it.
-fn opened_often(alloc: Global, count: usize) -> Result<String, AllocError> {
+/// A document type declaration with an entity `b` of 255 references to another, and the start tag after it.
+fn of_255_references(alloc: Global) -> Result<String, AllocError> {
     let mut text = String::from_str(alloc, "<!DOCTYPE r [<!ENTITY a 'x'><!ENTITY b '")?;
     for _ in 0..255 {
         text.push_str("&a;")?;
     }
     text.push_str("'>]><r>")?;
+    Ok(text)
+}
+
+/// How many bytes the values of a document have at most, by the law `trees_are_bounded`, if its longest replacement text has
+/// `longest` bytes.
+fn most_bytes(text: &str, longest: usize) -> usize {
+    let references = text.bytes().filter(|byte| *byte == b'&').count();
+    let opened = references.saturating_mul(256).saturating_mul(longest);
+    text.len().saturating_add(opened)
+}
+
+/// The bound of a text with 256 references, and what there is.
+#[test]
+fn bound_of_256_references(rt: HostRuntime) {
+    let mut text = of_255_references(rt.alloc()).expect(&rt, "memory");
+    text.push_str("&b;</r>").expect(&rt, "memory");
+    same(&rt, "bytes", text.len(), 819);
+    same(&rt, "bound", most_bytes(text.as_str(), 765), 50_135_859);
+    let document = declared(&rt, text.as_str());
+    let found = document.root_element().text().unwrap_or("");
+    same(&rt, "text", count_of(found), Some(255));
+}
+
+/// An entity of 255 references to another, and so many references to it.
+fn opened_often(alloc: Global, count: usize) -> Result<String, AllocError> {
+    let mut text = of_255_references(alloc)?;
     for _ in 0..count {
         text.push_str("&b;<i/>")?;
     }

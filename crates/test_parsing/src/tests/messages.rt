@@ -1,12 +1,12 @@
 //! What the errors print and compare by.
 
-use super::{refusal_of, same};
+use super::{prints, refusal_of, same};
 use rox_error::error::Error;
+use rox_error::from_fault::error_of_fault;
 use rox_error::position::{TextPos, text_pos_at};
 use rox_grammar::fault::{Due, Expected, Fault, Span};
 use std::alloc::Global;
 use std::process::Abort;
-use std::test::Fail;
 
 fn shows(rt: &(impl Abort + AllocGlobal), error: Error<'_>, text: &str) {
     let shown = error.to_string(rt.alloc()).expect(rt, "memory");
@@ -47,19 +47,19 @@ fn faults(rt: HostRuntime) {
     let close = Fault::UnexpectedCloseTag(opened, closed, 8);
     shows(
         &rt,
-        Error::from_fault(alloc, text, close),
+        error_of_fault(alloc, text, close),
         "expected 'b' tag, not 'c' at 2:4",
     );
     let space = Fault::InvalidChar2(Due::Space, b'"', 2);
     shows(
         &rt,
-        Error::from_fault(alloc, text, space),
+        error_of_fault(alloc, text, space),
         "expected a whitespace not '\"' at 1:2",
     );
     let version = Fault::InvalidString(Expected::Version, 14);
     shows(
         &rt,
-        Error::from_fault(alloc, text, version),
+        error_of_fault(alloc, text, version),
         "expected 'version' at 3:1",
     );
     same(&rt, text, text_pos_at(text, 1000), TextPos::new(3, 5));
@@ -75,7 +75,7 @@ fn unknown(rt: &(impl Abort + AllocGlobal), prefix: &str, pos: TextPos) -> Error
 fn copies_are_equal(rt: HostRuntime) {
     let error = unknown(&rt, "n", place());
     let copy = error.clone().expect(&rt, "memory");
-    assert!(rt; error == copy);
+    same(&rt, "equal", error == copy, true);
     same(&rt, "pos", copy.pos(), place());
 }
 
@@ -83,22 +83,66 @@ fn copies_are_equal(rt: HostRuntime) {
 fn errors_of_one_kind_differ_by_name(rt: HostRuntime) {
     let error = unknown(&rt, "n", place());
     let other = unknown(&rt, "m", place());
-    assert!(rt; error != other);
+    same(&rt, "equal", error == other, false);
 }
 
 #[test]
 fn errors_of_texts_are_values(rt: HostRuntime) {
     let error = unknown(&rt, "p", TextPos::new(1, 4));
     let read = refusal_of(&rt, "<e p:a=''/>");
-    assert!(rt; error == read);
+    same(&rt, "equal", error == read, true);
     let other = refusal_of(&rt, "<e q:a=''/>");
-    assert!(rt; error != other);
+    same(&rt, "equal", error == other, false);
 }
 
 #[test]
 fn errors_without_a_place_stand_at_the_start(rt: HostRuntime) {
     same(&rt, "pos", Error::NoRootNode.pos(), TextPos::new(1, 1));
     same(&rt, "pos", Error::OutOfMemory.pos(), TextPos::new(1, 1));
+    same(&rt, "position", Error::OutOfMemory.position(), None);
+    let error = Error::InvalidName(place());
+    same(&rt, "position", error.position(), Some(place()));
+}
+
+/// Wants an error to print this, and this without its position.
+fn says(rt: &(impl Abort + AllocGlobal), error: &Error<'_>, whole: &str, message: &str) {
+    prints(rt, error, whole);
+    prints(rt, &error.message(), message);
+}
+
+#[test]
+fn messages_without_their_places(rt: HostRuntime) {
+    says(
+        &rt,
+        &refusal_of(&rt, "<a></b>"),
+        "expected 'a' tag, not 'b' at 1:4",
+        "expected 'a' tag, not 'b'",
+    );
+    says(
+        &rt,
+        &refusal_of(&rt, "<a b='' b=''/>"),
+        "attribute 'b' at 1:9 is already defined",
+        "attribute 'b' is already defined",
+    );
+    says(
+        &rt,
+        &Error::UnexpectedXmlnsUri(place()),
+        "the 'xmlns' URI is used at 2:7, but it must not be declared",
+        "the 'xmlns' URI is used, but it must not be declared",
+    );
+    let reason = String::from_str(rt.alloc(), "no network").expect(&rt, "memory");
+    says(
+        &rt,
+        &Error::EntityResolver(place(), reason),
+        "entity resolver failed at 2:7: no network",
+        "entity resolver failed: no network",
+    );
+    says(
+        &rt,
+        &refusal_of(&rt, "<a>"),
+        "the root node was opened but never closed",
+        "the root node was opened but never closed",
+    );
 }
 
 /// A list of one position, whose growth may be refused.
@@ -109,10 +153,9 @@ fn listed(alloc: Global) -> Result<Vec<TextPos>, Error<'static>> {
 }
 
 #[test]
-fn want_of_memory_is_an_error(rt: HostRuntime) -> Result<(), Fail> {
+fn want_of_memory_is_an_error(rt: HostRuntime) {
     match listed(rt.alloc()) {
         Ok(places) => same(&rt, "places", places.len(), 1),
-        Err(error) => assert!(rt; error == Error::OutOfMemory),
+        Err(error) => same(&rt, "error", error, Error::OutOfMemory),
     }
-    Ok(())
 }

@@ -1,9 +1,9 @@
 //! Elements parsed alone, and put in the place of others.
 
+use super::limits::declaring;
 use super::{child_count, declared, document_of, node_of, refusal_of, same};
 use roxmltree::{Document, Error, Node};
 use std::process::Abort;
-use std::test::Fail;
 
 /// The text that a node is in, with the root element of another text in its place.
 pub(super) fn exchanged(
@@ -133,18 +133,13 @@ fn line_ends_around_an_exchange(rt: HostRuntime) {
 }
 
 #[test]
-fn too_many_namespaces_after_an_exchange(rt: HostRuntime) -> Result<(), Fail> {
-    let mut text = String::from_str(rt.alloc(), "<r><b/>")?;
-    for uri in 1..=65535 {
-        write!(text, "<e xmlns:n='{uri}'/>")?;
-    }
-    text.push_str("</r>")?;
+fn too_many_namespaces_after_an_exchange(rt: HostRuntime) {
+    let text = declaring(rt.alloc(), "<r><b/>", 65535).expect(&rt, "memory");
     let document = document_of(&rt, text.as_str());
     let other = document_of(&rt, "<e xmlns:n='65536'/>");
     let answer = exchanged(&rt, node_of(&rt, &document, 2), &other);
     let error = refusal_of(&rt, answer.as_str());
-    assert!(rt; error == Error::NamespacesLimitReached);
-    Ok(())
+    same(&rt, "error", error, Error::NamespacesLimitReached);
 }
 
 #[test]

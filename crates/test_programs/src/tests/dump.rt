@@ -1,7 +1,7 @@
-//! What `xmldump` writes, over readers and writers in memory. The wanted dumps are those of the Rust crate.
+//! What `xmldump` writes, over readers and writers in memory, but for the dumps of the rows of `texts/`, which `tools/check-texts`
+//! compares. The wanted dumps are those of the Rust crate.
 
 use super::{Cut, owned, refusing_after, same, text_in, words};
-use rox_dump::answers::Answer;
 use rox_dump::arguments::{USAGE, command};
 use rox_dump::options::{AnswerWord, Command, Options};
 use rox_dump::run::{read_text, run};
@@ -187,12 +187,14 @@ fn reads_answers(rt: HostRuntime) {
     same(&rt, "main", asked.main, Some("n.xml"));
     same(&rt, "axes", asked.options.axes, true);
     same(&rt, "answers", asked.answers.len(), 4);
-    for (answer, (kind, word)) in asked.answers.iter().zip(&[
+    let mut answers = asked.answers.iter();
+    for (kind, word) in &[
         ("file", "a.xml"),
         ("none", ""),
         ("err", "-x"),
         ("file", "--"),
-    ]) {
+    ] {
+        let answer = answers.next().expect(&rt, "no answer");
         is_answer(&rt, *answer, kind, word);
     }
 }
@@ -210,69 +212,6 @@ fn reads_files_of_answers(rt: HostRuntime) {
     same(&rt, "text", text.as_str(), "<a/>");
     is_no_text(&rt, Some(b"\xff".as_slice()), 2);
     is_no_text(&rt, None, 2);
-}
-
-/// Two external entities, the first of which is declared twice.
-const EXTERNAL: &str =
-    "<!DOCTYPE r [<!ENTITY a SYSTEM \"1\"><!ENTITY a PUBLIC 'p\"' \"\u{e9}\"><!ENTITY b SYSTEM ''>]><r>&a;&b;</r>";
-
-/// No answer for the first declaration, and a text for the second.
-fn answers(rt: &(impl Abort + AllocGlobal)) -> Sources {
-    let mut sources = no_sources(rt);
-    is_answered(rt, &mut sources, Answer::Nothing);
-    is_answered(rt, &mut sources, Answer::Text(owned(rt, "<a/>")));
-    sources
-}
-
-/// One more answer.
-fn is_answered(rt: &impl Abort, sources: &mut Sources, answer: Answer) {
-    sources.answers.push(answer).expect(rt, "memory");
-}
-
-/// Wants this of the external entities with these answers.
-fn external_wants(rt: &(impl Abort + AllocGlobal), allow_dtd: bool, sources: &Sources, out: &str) {
-    let mut options = Options::default();
-    options.allow_dtd = allow_dtd;
-    let wanted = Wanted {
-        status: 0,
-        out,
-        err: "",
-    };
-    wants_with(rt, options, sources, EXTERNAL.as_bytes(), wanted);
-}
-
-#[test]
-fn dumps_requests(rt: HostRuntime) {
-    let out = "REQ - \"1\"
-REQ \"p\\x22\" \"\\xc3\\xa9\"
-REQ - \"\"
-OK 4
-0 Root parent=- prev=- next=- first=1 last=1 range=0..99 text=- tail=-
-1 Element parent=0 prev=- next=- first=2 last=3 range=86..99 tag={-}\"r\" attrs=[] ns=[] text=- tail=-
-2 Element parent=1 prev=- next=3 first=- last=- range=0..4 tag={-}\"a\" attrs=[] ns=[] text=- tail=-
-3 Element parent=1 prev=2 next=- first=- last=- range=0..4 tag={-}\"a\" attrs=[] ns=[] text=- tail=-
-";
-    external_wants(&rt, true, &answers(&rt), out);
-}
-
-#[test]
-fn dumps_a_refusal_of_a_resolver(rt: HostRuntime) {
-    let mut sources = answers(&rt);
-    is_answered(&rt, &mut sources, Answer::Refusal(owned(&rt, "no\n")));
-    let out = "REQ - \"1\"
-REQ \"p\\x22\" \"\\xc3\\xa9\"
-REQ - \"\"
-ERR EntityResolver 1:83 entity resolver failed at 1:83: no\\x0a
-";
-    external_wants(&rt, true, &sources, out);
-    let out = "ERR DtdDetected 1:1 XML with DTD detected\n";
-    external_wants(&rt, false, &sources, out);
-}
-
-#[test]
-fn without_answers_nothing_is_requested(rt: HostRuntime) {
-    let out = "ERR UnknownEntityReference 1:89 unknown entity reference 'a' at 1:89\n";
-    external_wants(&rt, true, &no_sources(&rt), out);
 }
 
 #[test]
@@ -306,40 +245,6 @@ END 3
 }
 
 #[test]
-fn dumps_each_kind_of_node(rt: HostRuntime) {
-    let text = "<p:r xmlns:p=\"u\" a=\"1\" p:b=\"&lt;\u{e9}\">x<?t v?><!--\"\\--><b/>y&#13;</p:r>";
-    let dump = "OK 7
-0 Root parent=- prev=- next=- first=1 last=1 range=0..69 text=- tail=-
-1 Element parent=0 prev=- next=- first=2 last=6 range=0..69 tag={\"u\"}\"r\" attrs=[{-}\"a\"=B\"1\"@17..22,17..18,20..21 \
-{\"u\"}\"b\"=O\"<\\xc3\\xa9\"@23..35,23..26,28..34] ns=[\"p\"=\"u\"] text=B\"x\" tail=-
-2 Text parent=1 prev=- next=3 first=- last=- range=36..37 text=B\"x\" tail=-
-3 PI parent=1 prev=2 next=4 first=- last=- range=37..44 target=\"t\" value=\"v\" text=- tail=-
-4 Comment parent=1 prev=3 next=5 first=- last=- range=44..53 text=B\"\\x22\\x5c\" tail=-
-5 Element parent=1 prev=4 next=6 first=- last=- range=53..57 tag={-}\"b\" attrs=[] ns=[\"p\"=\"u\"] text=- tail=O\"y\\x0d\"
-6 Text parent=1 prev=5 next=- first=- last=- range=57..63 text=O\"y\\x0d\" tail=-
-";
-    let text = text.as_bytes();
-    wants(&rt, Options::default(), text, 0, dump, "");
-}
-
-/// Wants a text to be refused so, with at most so many nodes.
-fn is_refused(rt: &(impl Abort + AllocGlobal), text: &str, limit: u32, dump: &str) {
-    let mut options = Options::default();
-    options.nodes_limit = limit;
-    wants(rt, options, text.as_bytes(), 0, dump, "");
-}
-
-#[test]
-fn dumps_refusals(rt: HostRuntime) {
-    let dump = "ERR UnexpectedCloseTag 2:1 expected 'r' tag, not 's' at 2:1\n";
-    is_refused(&rt, "<r>\n</s>", 9, dump);
-    let dump = "ERR NonXmlChar 1:4 a non-XML character '\\x5cu{1}' found at 1:4\n";
-    is_refused(&rt, "<r>\u{1}</r>", 9, dump);
-    let dump = "ERR NodesLimitReached 1:1 nodes limit reached\n";
-    is_refused(&rt, "<r/>", 1, dump);
-}
-
-#[test]
 fn dumps_a_batch(rt: HostRuntime) {
     let batch = b"4\n<a/>\n3\n<a>\n2\n\xff\xfe\n0\n\n";
     let dump = "CASE 0 4
@@ -360,28 +265,6 @@ END 4
     options.axes = true;
     options.batch = true;
     wants(&rt, options, batch, 0, dump, "");
-}
-
-#[test]
-fn dumps_lookups(rt: HostRuntime) {
-    let text = "<r xmlns='u' xmlns:n='v' a='1' n:a='2'><n:b/></r>";
-    let dump = "OK 3
-0 Root parent=- prev=- next=- first=1 last=1 range=0..49 text=- tail=-
-  pos=1:1..1:50 default=- uris=[-=- \"xml\"=-] prefixes=[\"http://www.w3.org/XML/1998/namespace\"=\"xml\" \"\"=-] named=[] \
-own=false,false,false has=false value=- attrs_back=[] ns_back=[] order=0,1,2 order_back=2,1,0
-1 Element parent=0 prev=- next=- first=2 last=2 range=0..49 tag={\"u\"}\"r\" attrs=[{-}\"a\"=B\"1\"@25..30,25..26,28..29 \
-{\"v\"}\"a\"=B\"2\"@31..38,31..34,36..37] ns=[-=\"u\" \"n\"=\"v\"] text=- tail=-
-  pos=1:1..1:50 default=\"u\" uris=[-=\"u\" \"xml\"=- -=\"u\" \"n\"=\"v\"] \
-prefixes=[\"http://www.w3.org/XML/1998/namespace\"=\"xml\" \"\"=- \"u\"=- \"v\"=\"n\"] named=[{-}\"a\"@25,25,25 {\"v\"}\"a\"@31,25,25] \
-own=true,false,true has=false value=- attrs_back=[{\"v\"}\"a\" {-}\"a\"] ns_back=[\"n\" -] order=1,2 order_back=2,1
-2 Element parent=1 prev=- next=- first=- last=- range=39..45 tag={\"v\"}\"b\" attrs=[] ns=[-=\"u\" \"n\"=\"v\"] text=- tail=-
-  pos=1:40..1:46 default=\"u\" uris=[-=\"u\" \"xml\"=- -=\"u\" \"n\"=\"v\"] \
-prefixes=[\"http://www.w3.org/XML/1998/namespace\"=\"xml\" \"\"=- \"u\"=- \"v\"=\"n\"] named=[] \
-own=true,false,true has=false value=- attrs_back=[] ns_back=[\"n\" -] order=2 order_back=2
-";
-    let mut options = Options::default();
-    options.lookups = true;
-    wants(&rt, options, text.as_bytes(), 0, dump, "");
 }
 
 #[test]

@@ -323,8 +323,17 @@ fn lists_nested_elements(rt: HostRuntime) {
     let input = Some(text.as_bytes());
     let status = run(alloc, &no_options(), input, &mut out, &mut err);
     same(&rt, "status", status, 0);
-    let lines = out.iter().filter(|byte| **byte == b'\n').count();
-    same(&rt, "lines", lines, 900);
+    same(&rt, "lines", line_count(&out), 900);
+}
+
+fn line_count(text: &[u8]) -> usize {
+    let mut count: usize = 0;
+    for byte in text {
+        if *byte == b'\n' {
+            count = count.saturating_add(1);
+        }
+    }
+    count
 }
 
 /// Runs on a text with a path, and wants this status, and these texts on standard output and standard error.

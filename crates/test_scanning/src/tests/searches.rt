@@ -304,7 +304,10 @@ fn alone(fill: &'static str) -> Around {
 
 /// Wants a text to be read as it is where nothing that is sought stands in it.
 fn is_read_whole(rt: &(impl Abort + AllocGlobal), place: Place, [open, close]: [&str; 2]) {
-    for fill in fills(rt).iter().filter(|fill| !fill.is_empty()) {
+    for fill in &fills(rt) {
+        if fill.is_empty() {
+            continue;
+        }
         let text = filled(rt, [open, "", close], alone(fill));
         is_read(rt, place, text.as_str(), fill);
     }

@@ -2,16 +2,16 @@
 //! are told apart.
 
 ghost use Rattle.std.specs.Prelude.{◌<◌, IfOk};
-ghost use Rattle.rox_tables.specs.Ropes.{IsRow};
-ghost use Rattle.rox_tables.specs.Rows.{AreRows};
+ghost use Rattle.rox_scopes.specs.Ropes.{IsRow};
+ghost use Rattle.rox_scopes.specs.Tables.{AreRows};
 
-use rox_tables::namespaces::rope::{add, both, count, find, height, without};
-use rox_tables::rows::recent_texts::Recent;
-use rox_tables::rows::storage::StringStorage;
-use rox_tables::rows::tables::{Scope, Stretch};
+use super::{prints, same};
+use rox_rows::recent_texts::Recent;
+use rox_rows::storage::StringStorage;
+use rox_scopes::rope::{add, both, count, find, height, without};
+use rox_scopes::tables::{Scope, Stretch};
 use std::alloc::AllocError;
 use std::process::Abort;
-use std::test::Fail;
 
 /// How many stretches are joined.
 const MANY: u32 = 4000;
@@ -61,15 +61,15 @@ fn halved(scopes: &mut Vec<Scope>, scope: u32) -> Result<u32, AllocError>
 fn ropes_stay_low(rt: HostRuntime) {
     let mut scopes = Vec::new(rt.alloc());
     let scope = nested(&mut scopes).ok().expect(&rt, "out of memory");
-    assert_eq!(rt; count(&scopes, scope), 4000);
-    assert!(rt; height(&scopes, scope) < 18);
-    assert_eq!(rt; find(&scopes, scope, 3999), Some(0));
-    assert_eq!(rt; find(&scopes, scope, 1), Some(3998));
+    same(&rt, "count", count(&scopes, scope), 4000);
+    same(&rt, "is low", height(&scopes, scope) < 18, true);
+    same(&rt, "the last", find(&scopes, scope, 3999), Some(0));
+    same(&rt, "the second", find(&scopes, scope, 1), Some(3998));
     let left = halved(&mut scopes, scope).ok().expect(&rt, "out of memory");
-    assert_eq!(rt; count(&scopes, left), 2000);
-    assert!(rt; height(&scopes, left) < 18);
-    assert_eq!(rt; find(&scopes, left, 3998), Some(0));
-    assert!(rt; find(&scopes, left, 3999).is_none());
+    same(&rt, "count", count(&scopes, left), 2000);
+    same(&rt, "is low", height(&scopes, left) < 18, true);
+    same(&rt, "the last", find(&scopes, left, 3998), Some(0));
+    same(&rt, "one left out", find(&scopes, left, 3999), None);
 }
 
 /// An owned text of these bytes.
@@ -91,21 +91,24 @@ fn texts_of_one_length_are_told_apart(rt: HostRuntime) {
         let line = owned(&rt, &mut recent, "\n  ");
         let again = owned(&rt, &mut recent, "\n  ");
         let other = owned(&rt, &mut recent, "a b");
-        assert_eq!(rt; line.as_str(), "\n  ");
-        assert!(rt; again == line);
-        assert_eq!(rt; other.as_str(), "a b");
+        same(&rt, "line", line.as_str(), "\n  ");
+        same(&rt, "again", again == line, true);
+        same(&rt, "other", other.as_str(), "a b");
     }
 }
 
 #[test]
-fn texts_compare_by_bytes(rt: HostRuntime) -> Result<(), Fail> {
+fn texts_compare_by_bytes(rt: HostRuntime) {
     let slice = StringStorage::Borrowed("text");
-    let owned = StringStorage::new_owned(rt.alloc(), "text")?;
-    let copy = owned.clone()?;
-    assert!(rt; slice == owned);
-    assert!(rt; copy == owned);
-    assert!(rt; slice != StringStorage::Borrowed("texts"));
-    let shown = copy.to_string(rt.alloc())?;
-    assert_eq!(rt; shown.as_str(), "text");
-    Ok(())
+    let owned = StringStorage::new_owned(rt.alloc(), "text").expect(&rt, "memory");
+    let copy = owned.clone().expect(&rt, "memory");
+    same(&rt, "owned", slice == owned, true);
+    same(&rt, "copy", copy == owned, true);
+    same(
+        &rt,
+        "other",
+        slice == StringStorage::Borrowed("texts"),
+        false,
+    );
+    prints(&rt, &copy, "text");
 }

@@ -1,9 +1,9 @@
 //! Calls on a document that is read. None takes memory, so the answers hold as well where any one growth is refused.
 
-use super::axes::{leads_over, nearest, nearest_elements};
-use super::text::has;
 use super::{child_count, document_of, is_of_kind, node_of, number, same, same_at};
-use roxmltree::{Attribute, Document, Error, Node, NodeId, NodeType, PI, TextPos};
+use roxmltree::{
+    Attribute, AxisIter, Document, Error, Node, NodeId, NodeType, PI, StringStorage, TextPos,
+};
 use std::cmp::Ordering;
 use std::fmt;
 use std::fmt::{Debug, Write};
@@ -51,7 +51,8 @@ fn each_call(rt: &impl Abort, document: &Document<'_>) {
     element_has_its_name(rt, e);
     attributes_have(rt, r);
     attribute_has(rt, r);
-    namespaces_have(rt, r, e);
+    namespaces_have(rt, e);
+    namespaces_are_those_of_the_parent(rt, r, e);
     both_ends(rt, document, r);
     both_ends_of_an_element(rt, r);
     nodes_are_compared(rt, r, e);
@@ -75,17 +76,18 @@ fn document_has(rt: &impl Abort, document: &Document<'_>) {
 }
 
 fn nodes_have(rt: &impl Abort, document: &Document<'_>) {
-    for (node, (kind, start, end)) in document.descendants().zip(&[
-        (NodeType::Root, 0, 77),
-        (NodeType::Comment, 0, 8),
-        (NodeType::Element, 8, 77),
-        (NodeType::Text, 52, 59),
-        (NodeType::Element, 59, 65),
-        (NodeType::Text, 65, 66),
-        (NodeType::PI, 66, 73),
-    ]) {
+    for (id, kind, start, end) in &[
+        (0, NodeType::Root, 0, 77),
+        (1, NodeType::Comment, 0, 8),
+        (2, NodeType::Element, 8, 77),
+        (3, NodeType::Text, 52, 59),
+        (4, NodeType::Element, 59, 65),
+        (5, NodeType::Text, 65, 66),
+        (6, NodeType::PI, 66, 73),
+    ] {
+        let node = node_of(rt, document, *id);
         is_of_kind(rt, node, *kind);
-        same_at(rt, number(node), node.range(), *start..*end);
+        same_at(rt, *id, node.range(), *start..*end);
     }
     let instruction = PI {
         target: "t",
@@ -94,11 +96,50 @@ fn nodes_have(rt: &impl Abort, document: &Document<'_>) {
     same(rt, "PI", node_of(rt, document, 6).pi(), Some(instruction));
 }
 
+/// The text of a storage.
+fn text_in<'a>(storage: Option<&'a StringStorage<'_>>) -> Option<&'a str> {
+    match storage {
+        Some(storage) => Some(storage.as_str()),
+        None => None,
+    }
+}
+
+/// Wants a node to have this text and this tail.
+fn has(rt: &impl Abort, node: Node<'_, '_>, text: Option<&str>, tail: Option<&str>) {
+    let id = node.id().get();
+    same_at(rt, id, node.text(), text);
+    same_at(rt, id, text_in(node.text_storage()), text);
+    same_at(rt, id, node.tail(), tail);
+    same_at(rt, id, text_in(node.tail_storage()), tail);
+}
+
 fn nodes_have_texts(rt: &impl Abort, document: &Document<'_>) {
     has(rt, node_of(rt, document, 1), Some("c"), None);
     has(rt, node_of(rt, document, 2), Some("x&y"), None);
     has(rt, node_of(rt, document, 3), Some("x&y"), None);
     has(rt, node_of(rt, document, 4), None, Some("z"));
+}
+
+/// The next node along each axis: `parent`, `prev_sibling`, `next_sibling`, `first_child`, `last_child`.
+fn nearest(node: Node<'_, '_>) -> [Option<u32>; 5] {
+    [
+        node.parent().map(number),
+        node.prev_sibling().map(number),
+        node.next_sibling().map(number),
+        node.first_child().map(number),
+        node.last_child().map(number),
+    ]
+}
+
+/// The next element along each of these axes.
+fn nearest_elements(node: Node<'_, '_>) -> [Option<u32>; 5] {
+    [
+        node.parent_element().map(number),
+        node.prev_sibling_element().map(number),
+        node.next_sibling_element().map(number),
+        node.first_element_child().map(number),
+        node.last_element_child().map(number),
+    ]
 }
 
 fn nodes_are_near(rt: &impl Abort, r: Node<'_, '_>, e: Node<'_, '_>) {
@@ -116,6 +157,15 @@ fn nodes_are_near(rt: &impl Abort, r: Node<'_, '_>, e: Node<'_, '_>) {
     same(rt, "children", r.has_children(), true);
     same(rt, "siblings", r.has_siblings(), true);
     same(rt, "child count", child_count(r), 4);
+}
+
+/// Wants an axis to lead over these nodes, and then to stay at its end.
+fn leads_over(rt: &impl Abort, mut nodes: AxisIter<'_, '_>, wanted: &[u32]) {
+    for id in wanted {
+        same_at(rt, *id, nodes.next().map(number), Some(*id));
+    }
+    same(rt, "end", nodes.next().map(number), None);
+    same(rt, "behind the end", nodes.next().map(number), None);
 }
 
 fn ways_lead(rt: &impl Abort, r: Node<'_, '_>, e: Node<'_, '_>) {
@@ -137,7 +187,9 @@ fn element_has_its_name(rt: &impl Abort, e: Node<'_, '_>) {
 /// Wants the attributes of an element to be in these namespaces.
 fn attributes_are_in(rt: &impl Abort, element: Node<'_, '_>, wanted: &[Option<&str>]) {
     same(rt, "count", element.attributes().len(), wanted.len());
-    for (attribute, uri) in element.attributes().zip(wanted) {
+    let mut attributes = element.attributes();
+    for uri in wanted {
+        let attribute = attributes.next().expect(rt, "no attribute");
         same(rt, "URI", attribute.namespace(), *uri);
     }
 }
@@ -167,16 +219,23 @@ fn attribute_has(rt: &impl Abort, r: Node<'_, '_>) {
 /// What `e` lists.
 static LISTED: [(Option<&str>, &str); 2] = [(None, "u"), (Some("n"), "v")];
 
-fn namespaces_have(rt: &impl Abort, r: Node<'_, '_>, e: Node<'_, '_>) {
-    same(rt, "count", e.namespaces().len(), 2);
-    for (namespace, (name, uri)) in e.namespaces().zip(&LISTED) {
+fn namespaces_have(rt: &impl Abort, e: Node<'_, '_>) {
+    let mut namespaces = e.namespaces();
+    same(rt, "count", namespaces.len(), 2);
+    for (name, uri) in &LISTED {
+        let namespace = namespaces.next().expect(rt, "no namespace");
         same(rt, "prefix", namespace.name(), *name);
         same(rt, "URI", namespace.uri(), *uri);
     }
     same(rt, "default", e.default_namespace(), Some("u"));
     same(rt, "n", e.lookup_namespace_uri(Some("n")), Some("v"));
     same(rt, "v", e.lookup_prefix("v"), Some("n"));
-    for (one, other) in r.namespaces().zip(e.namespaces()) {
+}
+
+fn namespaces_are_those_of_the_parent(rt: &impl Abort, r: Node<'_, '_>, e: Node<'_, '_>) {
+    let mut inherited = e.namespaces();
+    for one in r.namespaces() {
+        let other = inherited.next().expect(rt, "no namespace");
         same(rt, "equal", one == other, true);
         let copy = other.clone().expect(rt, "memory");
         same(rt, "copy", *one == copy, true);

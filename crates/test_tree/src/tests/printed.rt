@@ -1,12 +1,11 @@
 //! What `Debug` prints. No text of it is promised: it names what it is of.
 
-use super::{document_of, node_of, refusal_of};
+use super::{document_of, node_of, refusal_of, same};
 use roxmltree::{
     ExpandedName, NodeId, NodeIdTooLarge, NodeType, ParsingOptions, StringStorage, TextPos,
 };
 use std::fmt::Debug;
 use std::process::Abort;
-use std::test::Fail;
 
 /// Wants this text in what is printed.
 fn names<T: Debug>(rt: &(impl Abort + AllocGlobal), value: &T, part: &str) {
@@ -15,7 +14,7 @@ fn names<T: Debug>(rt: &(impl Abort + AllocGlobal), value: &T, part: &str) {
 }
 
 #[test]
-fn values(rt: HostRuntime) -> Result<(), Fail> {
+fn values(rt: HostRuntime) {
     names(&rt, &TextPos::new(2, 7), "7");
     names(&rt, &NodeId::new(12), "12");
     names(&rt, &NodeIdTooLarge, "NodeIdTooLarge");
@@ -23,13 +22,13 @@ fn values(rt: HostRuntime) -> Result<(), Fail> {
     names(&rt, &ExpandedName::from(("uri", "local")), "local");
     names(&rt, &ParsingOptions::default(), "4294967295");
     names(&rt, &StringStorage::Borrowed("slice"), "slice");
-    names(&rt, &StringStorage::new_owned(rt.alloc(), "own")?, "own");
+    let owned = StringStorage::new_owned(rt.alloc(), "own").expect(&rt, "memory");
+    names(&rt, &owned, "own");
     names(&rt, &refusal_of(&rt, "<e p:a=''/>"), "UnknownNamespace");
-    Ok(())
 }
 
 #[test]
-fn parts_of_documents(rt: HostRuntime) -> Result<(), Fail> {
+fn parts_of_documents(rt: HostRuntime) {
     let document = document_of(&rt, "<e xmlns:n='uri' n:a='b'><?target value?></e>");
     let element = document.root_element();
     names(&rt, &node_of(&rt, &document, 0), "Root");
@@ -46,7 +45,6 @@ fn parts_of_documents(rt: HostRuntime) -> Result<(), Fail> {
     names(&rt, &element.children(), "Children");
     names(&rt, &element.ancestors(), "AxisIter");
     names(&rt, &document.descendants(), "Descendants");
-    Ok(())
 }
 
 /// What `Debug` prints of a document with a node of each kind.
@@ -76,10 +74,9 @@ const PRINTED: &str = "Document [
 ";
 
 #[test]
-fn a_document_prints_its_tree(rt: HostRuntime) -> Result<(), Fail> {
+fn a_document_prints_its_tree(rt: HostRuntime) {
     let text = "<!--c--><?t v?><r xmlns='u' a='1' b='x&amp;y'><e/>text</r>";
     let document = document_of(&rt, text);
-    let shown = format!(in rt.alloc(); "{document:?}")?;
-    assert_eq!(rt; shown.as_str(), PRINTED);
-    Ok(())
+    let shown = format!(in rt.alloc(); "{document:?}").expect(&rt, "memory");
+    same(&rt, "printed", shown.as_str(), PRINTED);
 }

@@ -1,4 +1,4 @@
-use Rattle.rox_tables.specs.Ropes.{IsRow}
+use Rattle.rox_scopes.specs.Ropes.{IsRow}
 use Rattle.test_scanning.proofs.tests.tables.nested.Given as goal
 
 abbrev pub invariant-loop-from : goal.invariant-loop-from

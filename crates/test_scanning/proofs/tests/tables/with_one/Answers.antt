@@ -1,5 +1,5 @@
 use Rattle.std.proofs.Common.{◌+◌, ◌≤◌, ◌∷◌, [], ap, ◌∙◌, length, length-append, arith}
-use Rattle.rox_tables.proofs.Ropes.{rows_push}
+use Rattle.rox_scopes.proofs.Ropes.{rows_push}
 use Rattle.test_scanning.proofs.tests.tables.with_one.Goals as goal
 
 pub both-requires : goal.both-requires

@@ -5,7 +5,6 @@ use roxmltree::{Document, Error, NoResolver, ParsingOptions, ResolveWith, TextPo
 use std::alloc::Global;
 use std::cell::Cell;
 use std::process::Abort;
-use std::test::Fail;
 
 /// A document whose one external entity stands in its content.
 const ONE: &str = "<!DOCTYPE foo [<!ENTITY bar SYSTEM \"baz.xml\">]> <qux>&bar;</qux>";
@@ -22,26 +21,21 @@ fn nobody_answers(rt: HostRuntime) {
 /// What this text is refused with where its resolver refuses with these words.
 fn refused_with(rt: &(impl Abort + AllocGlobal), text: &str, words: String) -> Error {
     let words = Cell::new(Some(words));
-    let options = answered_by(ResolveWith {
-        by: |_id: Option<&str>, _uri: &str| -> Result<Option<&str>, String> {
-            match words.take() {
-                Some(words) => Err(words),
-                None => Ok(None),
-            }
-        },
-    });
+    let options = answered_by(ResolveWith::new(|_id, _uri| match words.take() {
+        Some(words) => Err(words),
+        None => Ok(None),
+    }));
     Document::parse_with_options(rt.alloc(), text, options).expect_err(rt, text)
 }
 
 #[test]
-fn a_resolver_refuses(rt: HostRuntime) -> Result<(), Fail> {
-    let words = String::from_str(rt.alloc(), "no")?;
-    let again = words.clone()?;
+fn a_resolver_refuses(rt: HostRuntime) {
+    let words = String::from_str(rt.alloc(), "no").expect(&rt, "memory");
+    let again = words.clone().expect(&rt, "memory");
     let error = refused_with(&rt, ONE, words);
     prints(&rt, &error, "entity resolver failed at 1:45: no");
     let wanted = Error::EntityResolver(TextPos::new(1, 45), again);
     same(&rt, ONE, error, wanted);
-    Ok(())
 }
 
 /// The document of a text, whose chapters are texts that were read before: of each its system identifier and its text.
@@ -53,11 +47,7 @@ fn book<'input>(
     let options = ParsingOptions {
         allow_dtd: true,
         nodes_limit: u32::MAX,
-        entity_resolver: Some(ResolveWith {
-            by: |_public_id: Option<&str>, uri: &str| -> Result<Option<&str>, String> {
-                Ok(chapter(chapters, uri))
-            },
-        }),
+        entity_resolver: Some(ResolveWith::new(|_public_id, uri| Ok(chapter(chapters, uri)))),
         document_key: 0,
     };
     Document::parse_with_options(alloc, text, options)
@@ -73,19 +63,18 @@ fn chapter<'input>(chapters: &[(&str, &'input str)], uri: &str) -> Option<&'inpu
 }
 
 #[test]
-fn chapters_of_a_book(rt: HostRuntime) -> Result<(), Fail> {
+fn chapters_of_a_book(rt: HostRuntime) {
     let text =
         "<!DOCTYPE book [<!ENTITY a SYSTEM '1.xml'><!ENTITY b SYSTEM '2.xml'>]><book>&a;&b;</book>";
     let chapters = [("2.xml", "<c n='2'/>"), ("1.xml", "<c n='1'/>")];
-    let document = book(rt.alloc(), text, &chapters)?;
+    let document = book(rt.alloc(), text, &chapters).expect(&rt, text);
     let mut children = document.root_element().children();
     for number in ["1", "2"] {
-        let child = children.next().ok_or("no chapter")?;
+        let child = children.next().expect(&rt, "no chapter");
         same(&rt, number, child.attribute("n".into()), Some(number));
         same(&rt, number, child.range(), 0..10);
     }
-    assert!(rt; children.next().is_none());
+    same(&rt, "end", children.next().is_none(), true);
     let error = book(rt.alloc(), text, &[]).expect_err(&rt, text);
     prints(&rt, &error, "unknown entity reference 'a' at 1:77");
-    Ok(())
 }

@@ -1,12 +1,11 @@
-//! Look-ups among more than sixteen declarations, and what is listed from both ends and from the back. What is listed from the
-//! front, and how such texts are refused, is in `texts/scopes.txt`.
+//! What is listed of more than sixteen declarations from both ends and from the back, and look-ups of what an element hides. What is
+//! listed from the front, other look-ups, and how such texts are refused, are in `texts/scopes.txt`.
 
 use super::namespaces::{finds_prefix, finds_uri};
-use super::{document_of, node_of};
-use roxmltree::{NS_XML_URI, Namespace, Node};
+use super::{document_of, node_of, same};
+use roxmltree::{Namespace, Node};
 use std::alloc::{AllocError, Global};
 use std::process::Abort;
-use std::test::Fail;
 
 /// Twenty declarations. That of the default is the eighteenth.
 fn many() -> [(Option<&'static str>, &'static str); 20] {
@@ -58,58 +57,39 @@ fn text_of(
     Ok(text)
 }
 
-/// Wants an element to find each of these by its prefix and by its URI, and no others.
-fn finds_all(rt: &impl Abort, element: Node<'_, '_>, declared: &[(Option<&str>, &str)]) {
-    for (prefix, uri) in declared {
-        finds_uri(rt, element, *prefix, Some(*uri));
-        finds_prefix(rt, element, *uri, *prefix);
-    }
-    finds_uri(rt, element, Some("z"), None);
-    finds_prefix(rt, element, "Z", None);
-}
-
-#[test]
-fn many_on_one_tag(rt: HostRuntime) -> Result<(), Fail> {
-    let many = many();
-    for count in 15..21 {
-        let declared = &many[..count];
-        let text = text_of(rt.alloc(), "<a:e", declared, "/>")?;
-        let document = document_of(&rt, text.as_str());
-        finds_all(&rt, document.root_element(), declared);
-    }
-    Ok(())
-}
-
 /// Wants a namespace to have this prefix, or be the default, and this URI.
 fn is_pair(rt: &impl Abort, namespace: Option<&Namespace<'_>>, wanted: &(Option<&str>, &str)) {
     let namespace = namespace.expect(rt, "no namespace");
-    assert_eq!(rt; namespace.name(), wanted.0);
-    assert_eq!(rt; namespace.uri(), wanted.1);
+    same(rt, "prefix", namespace.name(), wanted.0);
+    same(rt, "URI", namespace.uri(), wanted.1);
 }
 
-/// Wants an element to list these, which are even in number, from both ends in turn.
-fn lists_from_both_ends(rt: &impl Abort, element: Node<'_, '_>, wanted: &[(Option<&str>, &str)]) {
+/// Wants an element to list these from the front, and those from the back, in turn, and no more.
+fn lists_from_both_ends(
+    rt: &impl Abort,
+    element: Node<'_, '_>,
+    fronts: &[(Option<&str>, &str)],
+    backs: &[(Option<&str>, &str)],
+) {
     let mut namespaces = element.namespaces();
-    for (front, back) in wanted
-        .iter()
-        .zip(wanted.iter().rev())
-        .take(wanted.len() / 2)
-    {
+    let mut backs = backs.iter();
+    for front in fronts {
+        let back = backs.next_back().expect(rt, "no namespace");
         is_pair(rt, namespaces.next(), front);
         is_pair(rt, namespaces.next_back(), back);
     }
-    assert!(rt; namespaces.next().is_none());
-    assert!(rt; namespaces.next_back().is_none());
+    same(rt, "end", namespaces.next().is_none(), true);
+    same(rt, "end", namespaces.next_back().is_none(), true);
 }
 
 #[test]
-fn many_from_both_ends(rt: HostRuntime) -> Result<(), Fail> {
+fn many_from_both_ends(rt: HostRuntime) {
     let many = many();
-    let text = text_of(rt.alloc(), "<r", &many, "><e/></r>")?;
+    let text = text_of(rt.alloc(), "<r", &many, "><e/></r>").expect(&rt, "memory");
     let document = document_of(&rt, text.as_str());
-    lists_from_both_ends(&rt, document.root_element(), &many);
-    lists_from_both_ends(&rt, node_of(&rt, &document, 2), &many);
-    Ok(())
+    let (fronts, backs) = many.split_at(10);
+    lists_from_both_ends(&rt, document.root_element(), fronts, backs);
+    lists_from_both_ends(&rt, node_of(&rt, &document, 2), fronts, backs);
 }
 
 /// Two elements, the first with four declarations, and with two elements in it.
@@ -117,8 +97,8 @@ const INNER: &str = "><c:e xmlns:q='1' xmlns='' xmlns:c='2' xmlns:z='3' q:x='' c
     <q:e/><e/></c:e><c:e q:x='' c:x='' a:x='' x=''/><e/></r>";
 
 #[test]
-fn inner_declarations_hide_outer_ones(rt: HostRuntime) -> Result<(), Fail> {
-    let text = text_of(rt.alloc(), "<r", &many(), INNER)?;
+fn inner_declarations_hide_outer_ones(rt: HostRuntime) {
+    let text = text_of(rt.alloc(), "<r", &many(), INNER).expect(&rt, "memory");
     let document = document_of(&rt, text.as_str());
     let (inner, behind) = (node_of(&rt, &document, 2), node_of(&rt, &document, 5));
     for (prefix, inside, outside) in &[
@@ -132,57 +112,6 @@ fn inner_declarations_hide_outer_ones(rt: HostRuntime) -> Result<(), Fail> {
     finds_prefix(&rt, inner, "Q", None);
     finds_prefix(&rt, behind, "Q", Some("q"));
     finds_prefix(&rt, behind, "1", None);
-    Ok(())
-}
-
-#[test]
-fn xml_among_many(rt: HostRuntime) -> Result<(), Fail> {
-    for (open, rest) in &[
-        (
-            "<r xmlns:xml='http://www.w3.org/XML/1998/namespace'",
-            " xml:x='' a:x=''><e xml:x='' a:x=''/></r>",
-        ),
-        (
-            "<r",
-            " xmlns:xml='http://www.w3.org/XML/1998/namespace' xml:x='' a:x=''><e xml:x='' a:x=''/></r>",
-        ),
-        (
-            "<r",
-            " xml:x='' a:x=''><e xmlns:xml='http://www.w3.org/XML/1998/namespace' xml:x='' a:x=''/></r>",
-        ),
-    ] {
-        let text = text_of(rt.alloc(), open, &many(), rest)?;
-        let document = document_of(&rt, text.as_str());
-        for id in [1, 2] {
-            let element = node_of(&rt, &document, id);
-            finds_uri(&rt, element, Some("xml"), None);
-            finds_prefix(&rt, element, NS_XML_URI, Some("xml"));
-        }
-    }
-    Ok(())
-}
-
-/// Elements around which the default is the empty text, and then another.
-const HIDDEN: &str = "><e xmlns=''><e x=''/><a:e/><e xmlns='v'/><e/></e><e x=''/></r>";
-
-#[test]
-fn an_empty_default_among_many(rt: HostRuntime) -> Result<(), Fail> {
-    let text = text_of(rt.alloc(), "<r", &many(), HIDDEN)?;
-    let document = document_of(&rt, text.as_str());
-    for (id, default) in &[
-        (1, "u"),
-        (2, ""),
-        (3, ""),
-        (4, ""),
-        (5, "v"),
-        (6, ""),
-        (7, "u"),
-    ] {
-        let element = node_of(&rt, &document, *id);
-        assert_eq!(rt; element.default_namespace(), Some(*default));
-        finds_uri(&rt, element, Some("s"), Some("S"));
-    }
-    Ok(())
 }
 
 /// Wants an element to list, from the back, so many of the twenty with the URI 0, the last of them first in front of the others.
@@ -196,7 +125,7 @@ fn lists_from_the_back(rt: &impl Abort, element: Node<'_, '_>, count: usize) {
     for (prefix, _) in declared {
         is_pair(rt, namespaces.next_back(), &(*prefix, "0"));
     }
-    assert!(rt; namespaces.next_back().is_none());
+    same(rt, "end", namespaces.next_back().is_none(), true);
 }
 
 /// Elements below the twenty, each in the one before it, that declare one of them each for the URI 0, with an element behind each.
@@ -215,13 +144,12 @@ fn levels(alloc: Global) -> Result<String, AllocError> {
 }
 
 #[test]
-fn levels_that_each_hide_one_of_many(rt: HostRuntime) -> Result<(), Fail> {
-    let text = levels(rt.alloc())?;
+fn levels_that_each_hide_one_of_many(rt: HostRuntime) {
+    let text = levels(rt.alloc()).expect(&rt, "memory");
     let document = document_of(&rt, text.as_str());
     for turn in 0..20 {
         let count = turn as usize;
         lists_from_the_back(&rt, node_of(&rt, &document, turn + 2), count + 1);
         lists_from_the_back(&rt, node_of(&rt, &document, turn + 22), 19 - count);
     }
-    Ok(())
 }

@@ -1,0 +1,49 @@
+//! What resolvers answer where no document is read: a closure, one that answers nothing, and none.
+
+ghost use Rattle.rox_build.specs.Requests.{MayAsk};
+
+use super::same;
+use rox_build::resolver::{EntityResolver, NoResolver, ResolveWith, ask};
+
+/// What is answered for the entity of this system identifier.
+fn answer_for<'input, R: EntityResolver<'input> + Drop>(
+    resolver: Option<R>,
+    uri: &str,
+) -> Result<Option<&'input str>, String>
+    requires { MayAsk R.can_resolve resolver }
+{
+    ask(&resolver, Some("-//E//TEXT"), uri)
+}
+
+/// What a closure answers for the entity of this system identifier, which has the text of one chapter.
+fn chapter_for<'input>(chapter: &'input str, uri: &str) -> Result<Option<&'input str>, String> {
+    let resolver = ResolveWith::new(|pub_id, uri| {
+        if pub_id.is_some() && uri == "chapter.xml" {
+            Ok(Some(chapter))
+        } else {
+            Ok(None)
+        }
+    });
+    answer_for(Some(resolver), uri)
+}
+
+#[test]
+fn a_closure_answers(rt: HostRuntime) {
+    let answer = chapter_for("<p/>", "chapter.xml").ok();
+    same(&rt, "chapter", answer, Some(Some("<p/>")));
+    let answer = chapter_for("<p/>", "other.xml").ok();
+    same(&rt, "other", answer, Some(None));
+}
+
+#[test]
+fn nobody_answers(rt: HostRuntime) {
+    let answer = answer_for(Some(NoResolver), "chapter.xml").ok();
+    same(&rt, "no resolver", answer, Some(None));
+    let none: Option<NoResolver> = None;
+    same(
+        &rt,
+        "none",
+        answer_for(none, "chapter.xml").ok(),
+        Some(None),
+    );
+}
