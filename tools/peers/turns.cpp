@@ -1,7 +1,9 @@
 // Has parsers do a work on a text in turn, in one process.
 //
 //     turns measure MICROSECONDS ROUNDS WORKS FILE..     prints what each turn took, and what a document holds
-//     turns repeat PARSER REPEATS FILE                   parses alone, for a count of instructions
+//     turns repeat PARSER WORK REPEATS FILE              does a work alone, for a count of instructions
+//
+// WORKS are numbers between commas. It is built without pugixml where WITHOUT_PUGIXML is defined.
 //
 // A parser is a function that does a work so many times between two marks. At a mark the time and the memory in use are noted. The
 // library marks by asking for MARK bytes, since it calls nothing of a program in C++.
@@ -14,11 +16,14 @@
 #include <fstream>
 #include <iterator>
 #include <malloc.h>
+#include <sstream>
 #include <string>
 #include <time.h>
 #include <vector>
 
+#ifndef WITHOUT_PUGIXML
 #include "pugixml.hpp"
+#endif
 
 static const size_t MARK = 5151515;
 
@@ -85,6 +90,7 @@ extern "C" void __wrap_free(void* at) {
 
 typedef uint64_t (*Work)(const char* text, size_t length, uint32_t work, uint32_t repeats);
 
+#ifndef WITHOUT_PUGIXML
 static uint64_t turns_of_pugixml(const char* text, size_t length, uint32_t work, uint32_t repeats, unsigned options) {
     uint64_t parsed = 0;
     if (work != 0) {
@@ -113,6 +119,7 @@ static uint64_t turns_of_pugixml_trimmed(const char* text, size_t length, uint32
 static uint64_t turns_of_pugixml_all(const char* text, size_t length, uint32_t work, uint32_t repeats) {
     return turns_of_pugixml(text, length, work, repeats, pugi::parse_full | pugi::parse_ws_pcdata);
 }
+#endif
 
 // Declares the libraries, and lists them in LIBRARIES.
 #include "libraries.hpp"
@@ -128,8 +135,10 @@ struct Parser {
 static const Parser PARSERS[] = {
     LIBRARIES
     {"crate", turns_of_crate, true},
+#ifndef WITHOUT_PUGIXML
     {"pugixml", turns_of_pugixml_all, false},
     {"pugixml-trimmed", turns_of_pugixml_trimmed, false},
+#endif
 };
 
 static std::string text_of(const char* path) {
@@ -181,8 +190,9 @@ static void measure(const char* path, double nanoseconds, int rounds, const char
         takers.push_back(&parser);
         printf("held\t%s\t%s\t%zu\n", path, parser.name, held_by(parser, text));
     }
-    for (const char* at = works; *at; at++) {
-        const uint32_t work = *at - '0';
+    std::istringstream numbers(works);
+    for (std::string number; std::getline(numbers, number, ',');) {
+        const uint32_t work = std::stoul(number);
         std::vector<const Parser*> doers;
         std::vector<uint32_t> repeats;
         for (const Parser* parser : takers) {
@@ -223,16 +233,16 @@ int main(int count, char** words) {
         }
         return 0;
     }
-    if (count == 5 && !strcmp(words[1], "repeat")) {
-        const std::string text = text_of(words[4]);
+    if (count == 6 && !strcmp(words[1], "repeat")) {
+        const std::string text = text_of(words[5]);
         for (const Parser& parser : PARSERS) {
             uint64_t sum;
             if (!strcmp(parser.name, words[2])) {
-                turn(parser, text, 0, atoi(words[3]), &sum);
+                turn(parser, text, atoi(words[3]), atoi(words[4]), &sum);
                 return sum == 0;
             }
         }
     }
-    fprintf(stderr, "usage: turns measure MICROSECONDS ROUNDS WORKS FILE.. | turns repeat PARSER REPEATS FILE\n");
+    fprintf(stderr, "usage: turns measure MICROSECONDS ROUNDS WORKS FILE.. | turns repeat PARSER WORK REPEATS FILE\n");
     return 2;
 }

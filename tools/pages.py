@@ -1,0 +1,115 @@
+"""What `tools/calls` and `tools/quotes` share: the items of sources, and whether a source has some lines."""
+import pathlib
+import re
+
+TOP = pathlib.Path(__file__).resolve().parent.parent
+ITEM = re.compile(r"^pub (struct|enum|trait|fn|const) (\w+)")
+IMPL = re.compile(r"^impl\b")
+CLAUSE = re.compile(r"^\s*(requires|ensures)\*? ?(\w+ )?\{")
+
+
+def sources(crate):
+    """The text of each file of a crate."""
+    for file in sorted((TOP / "crates" / crate / "src").rglob("*.rt")):
+        yield file.read_text()
+
+
+def items(lines, indent):
+    """The items of a block of lines that are indented so: the comment of each, and its header up to its body."""
+    comment, number = [], 0
+    while number < len(lines):
+        line = lines[number]
+        rest = line[len(indent) :]
+        if line.startswith(indent + "///"):
+            comment.append(rest[3:].removeprefix(" ").rstrip())
+        elif line.startswith(indent) and rest[:1] not in (" ", "#", "}", "/", "") and not rest.startswith("ghost"):
+            header = [rest]
+            while not re.search(r"[{;,]$|^\s*(requires|ensures)\b", header[-1]) or header[-1].rstrip().endswith(","):
+                if number + 1 == len(lines) or re.fullmatch(r"[\w(].*,", header[0]):
+                    break
+                number += 1
+                header.append(lines[number])
+            yield comment, header
+            comment = []
+        elif line.startswith(indent) and rest[:1] == "#":
+            pass
+        else:
+            comment = []
+        number += 1
+
+
+def blocks(text):
+    """The items at the top of a file: the comment, the attributes, the header and the body of each."""
+    lines = text.splitlines()
+    comment, attributes, number = [], [], 0
+    while number < len(lines):
+        line = lines[number]
+        if line.startswith("///"):
+            comment.append(line[3:].removeprefix(" ").rstrip())
+        elif line.startswith("#["):
+            attributes.append(line)
+        elif ITEM.match(line) or IMPL.match(line):
+            header = [line]
+            while not re.search(r"[{};]$", header[-1]) and not re.match(r"\s*(requires|ensures)\b", header[-1]):
+                number += 1
+                header.append(lines[number])
+            body = []
+            if not header[-1].endswith(";"):
+                while lines[number] != "}" and not header[-1].endswith("{}"):
+                    number += 1
+                    body.append(lines[number])
+            yield comment, attributes, header, body[:-1]
+            comment, attributes = [], []
+        else:
+            comment, attributes = [], []
+        number += 1
+
+
+def without_clauses(lines):
+    """The lines, without those of clauses."""
+    kept, depth = [], 0
+    for line in lines:
+        if depth or CLAUSE.match(line):
+            depth += line.count("{") - line.count("}")
+        else:
+            kept.append(line)
+    return kept
+
+
+def dedented(lines):
+    """The lines without the indentation that all have, and without empty lines at both ends."""
+    lines = [line.rstrip() for line in lines]
+    while lines and not lines[0]:
+        lines.pop(0)
+    while lines and not lines[-1]:
+        lines.pop()
+    spaces = min((len(line) - len(line.lstrip()) for line in lines if line), default=0)
+    return [line[spaces:] for line in lines]
+
+
+def has(lines, block):
+    """Whether a block is among some lines."""
+    first = block[0].strip()
+    return any(
+        line.strip() == first and dedented(lines[at : at + len(block)]) == block for at, line in enumerate(lines)
+    )
+
+
+def files(pattern):
+    """The lines of each file of the crates that has such a path, once with and once without its clauses."""
+    for file in sorted(TOP.glob(f"crates/*/{pattern}")):
+        lines = file.read_text().splitlines()
+        yield lines
+        yield without_clauses(lines)
+
+
+def is_quoted(kind, block):
+    """Whether a block is in a source, or, of antt, in `specs` or `proofs`."""
+    paths = ("src/**/*.rt",) if kind == "rust" else ("specs/**/*.antt", "proofs/**/*.antt")
+    block = dedented(block.splitlines())
+    return any(has(lines, block) for path in paths for lines in files(path))
+
+
+def examples(comment):
+    """The examples in the lines of a comment."""
+    return re.findall(r"^```\n(.*?)^```$", "\n".join(comment) + "\n", re.M | re.S)

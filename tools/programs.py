@@ -1,0 +1,223 @@
+"""What the programs of this repository are made from, and where they stand.
+
+A program is `proved` or `compiled`, without proof, and stands in `out/proved` or `out/compiled`; beside it NAME.sum has a sum of all
+that it was made from. It is written elsewhere and renamed, and the sum comes last: one without its sum counts for nothing.
+`out/NAME.runs` says which of the two a start runs, and which files were looked at for that: while none of them is touched, the next
+start runs it without looking at their contents.
+"""
+
+import contextlib
+import fcntl
+import functools
+import hashlib
+import importlib
+import os
+import shutil
+import subprocess
+import sys
+import time
+
+TOP = os.path.dirname(os.path.dirname(os.path.realpath(__file__)))
+# What each kind is made from: the parts of each crate, and files beside them.
+PARTS = {"proved": ("src", "specs", "proofs"), "compiled": ("src",)}
+FILES = {"proved": ("crates.txt",), "compiled": ("crates.txt", "tools/unproved.py")}
+
+
+class Failed(Exception):
+    """Why a program cannot be made, and what a tool of the kit said of it."""
+
+    def __init__(self, why, said=""):
+        super().__init__(why)
+        self.said = said.strip()
+
+
+@functools.lru_cache(maxsize=None)
+def kit():
+    """The kit's folder."""
+    try:
+        ran = subprocess.run(["rt", "doc"], stdin=subprocess.DEVNULL, capture_output=True, text=True)
+    except FileNotFoundError:
+        raise Failed("there is no command rt, which comes with the Rattle kit") from None
+    if ran.returncode or not ran.stdout.split():
+        raise Failed("rt does not tell where the kit is", ran.stderr)
+    return os.path.dirname(ran.stdout.split()[-1])
+
+
+@functools.lru_cache(maxsize=None)
+def rtlib():
+    """The module of the kit's `rt`: before a command its `guarded()` has this command's end be that of the other one."""
+    sys.path.insert(0, f"{kit()}/bin")
+    return importlib.import_module("rtlib")
+
+
+def read_crates(clone=None):
+    """The libraries that each crate of a clone uses, by its name, those of the kit among them. It is this one, if none is given."""
+    with open(f"{clone or TOP}/crates.txt", encoding="utf-8") as file:
+        lines = [line.split("#")[0].partition(":") for line in file if ":" in line.split("#")[0]]
+    return {name.split()[0]: uses.split() for name, _, uses in lines}
+
+
+def crates_below(root, crates):
+    """The crates that one stands on, each behind those below it, and itself at the end."""
+    if root not in crates:
+        raise Failed(f"crates.txt has no line for {root}")
+    found = []
+
+    def collect(name):
+        for it in crates[name]:
+            if it in crates and it not in found:
+                collect(it)
+        if name not in found:
+            found.append(name)
+
+    collect(root)
+    return found
+
+
+def is_program(name):
+    return os.path.isfile(f"{TOP}/crates/{name}/src/main.rt")
+
+
+def place(kind, name):
+    return f"{TOP}/out/{kind}/{name}"
+
+
+def sources(kind, name):
+    """The paths below the top that a program is made from, of files and folders."""
+    parts = [f"crates/{it}/{part}" for it in crates_below(name, read_crates()) for part in PARTS[kind]]
+    return [*FILES[kind], *(it for it in parts if os.path.isdir(f"{TOP}/{it}"))]
+
+
+def files_of(path):
+    """A file, or all files of a folder, in order."""
+    if os.path.isfile(path):
+        return [path]
+    return sorted(f"{at}/{it}" for at, _, names in os.walk(path) for it in names)
+
+
+def sum_of(top, paths, *more):
+    """A sum of files, with their places below a folder, and of what else is given."""
+    total = hashlib.sha256(repr(more).encode())
+    for file in (it for path in paths for it in files_of(f"{top}/{path}")):
+        with open(file, "rb") as it:
+            text = it.read()
+        total.update(repr((os.path.relpath(file, top), len(text))).encode() + text)
+    return total.hexdigest()
+
+
+def made_from(kind, name):
+    """A sum of all that a program is made from: of crates.txt the lines of the crates below."""
+    crates = read_crates()
+    lines = [(it, crates[it]) for it in crates_below(name, crates)]
+    return sum_of(TOP, [it for it in sources(kind, name) if it != "crates.txt"], lines)
+
+
+def now():
+    """The time in nanoseconds, less what the clock of files may be behind."""
+    return time.time_ns() - 100_000_000
+
+
+def touched(paths, since):
+    """Whether one of these files, or of the files and folders in these, was changed at a time or later, whatever date it bears."""
+    for path in paths:
+        walked = [path, *(f"{at}/{it}" for at, folders, names in os.walk(path) for it in folders + names)]
+        if any(os.lstat(it).st_ctime_ns >= since for it in walked):
+            return True
+    return False
+
+
+def read(file):
+    with contextlib.suppress(FileNotFoundError), open(file, encoding="utf-8") as it:
+        return it.read()
+    return ""
+
+
+def remove(file):
+    with contextlib.suppress(FileNotFoundError):
+        os.remove(file)
+
+
+def write(file, text):
+    """Writes a file, which nobody sees half written."""
+    with open(f"{file}.new", "w", encoding="utf-8") as it:
+        it.write(text)
+    os.replace(f"{file}.new", file)
+
+
+def stands(kind, name):
+    """Whether a program stands that was made from what the sources are now."""
+    was = read(f"{place(kind, name)}.sum")
+    return bool(was) and os.access(place(kind, name), os.X_OK) and was == made_from(kind, name)
+
+
+def standing(name):
+    """The kind of the program that stands, the proved one first."""
+    return next((kind for kind in PARTS if stands(kind, name)), None)
+
+
+def choose(kind, name, since):
+    """Notes which program a start runs, as looked at since then."""
+    files = [it for of_kind in FILES.values() for it in of_kind]
+    paths = dict.fromkeys([*files, *(f"crates/{it}" for it in crates_below(name, read_crates()))])
+    file = f"{TOP}/out/{name}.runs"
+    # where it cannot be written each start looks at the files again
+    with contextlib.suppress(OSError):
+        write(file, "\n".join([kind, *paths]) + "\n")
+        os.utime(file, ns=(since, since))
+
+
+def put(kind, name, made, since, total):
+    """Puts a program in its place, if its sources have that sum as they had it then, and none was touched since."""
+    looked = now()
+    if made_from(kind, name) != total or touched(sources(kind, name), since):
+        raise Failed("a source was changed meanwhile: start it again")
+    to = place(kind, name)
+    for ending in (".sum", ".by-rattle"):
+        remove(f"{to}{ending}")
+    os.replace(made, to)
+    write(f"{to}.sum", total)
+    choose(kind, name, looked)
+
+
+@contextlib.contextmanager
+def alone(folder, who, what):
+    """Holds a folder while it works in it, once no other command does."""
+    held = os.open(folder, os.O_RDONLY)
+    try:
+        try:
+            fcntl.flock(held, fcntl.LOCK_EX | fcntl.LOCK_NB)
+        except BlockingIOError:
+            print(f"{who}: waits for another command, {what}", file=sys.stderr, flush=True)
+            fcntl.flock(held, fcntl.LOCK_EX)
+        yield
+    finally:
+        os.close(held)
+
+
+@contextlib.contextmanager
+def room_in(folder):
+    """A folder to work in, in one that is held: what others left there, which were killed, is removed."""
+    for name in os.listdir(folder):
+        if name.startswith("room-"):
+            shutil.rmtree(f"{folder}/{name}")
+    room = f"{folder}/room-{os.getpid()}"
+    os.mkdir(room)
+    try:
+        yield room
+    finally:
+        shutil.rmtree(room, ignore_errors=True)
+
+
+def ended(who, work):
+    """Runs the work of a command, and ends with its status: 3, with a line that says why, where a program cannot be made."""
+    try:
+        sys.exit(work())
+    except KeyboardInterrupt:
+        sys.exit(130)
+    except Failed as why:
+        lines = [why.said] if why.said else []
+        print(*lines, f"{who}: the program cannot be built: {why}", sep="\n", file=sys.stderr)
+    except OSError as error:
+        at = os.path.relpath(error.filename, TOP) if error.filename else "a file"
+        print(f"{who}: the program cannot be built: {at}: {error.strerror}", file=sys.stderr)
+    sys.exit(3)
