@@ -14,8 +14,7 @@ use Rattle.rox_grammar.specs.Tree.{Node, Root, resolved, document_tree}
 use Rattle.rox_grammar.specs.Names.{byte, slice}
 use Rattle.rox_grammar.specs.Content.{IsElement, empty, nest, start_tag}
 use Rattle.rox_grammar.specs.WellNamed.{AreWellNamed}
-use Rattle.rox_grammar.specs.TextStart.{after_bom, MayHaveXmlDecl, not_declared}
-use Rattle.rox_grammar.specs.FixedTexts.{bom}
+use Rattle.rox_grammar.specs.TextStart.{after_bom, MayHaveXmlDecl, not_declared, bom}
 use Rattle.rox_grammar.specs.Entities.{no_entities}
 use Rattle.rox_grammar.specs.Document.{Misc, no_misc}
 use Rattle.rox_theory.proofs.Constructions.{name_byte}
@@ -31,12 +30,12 @@ use Rattle.rox_exchange.proofs.CutsContent.{element_cut}
 use Rattle.rox_exchange.proofs.MovedItems.{moved_named, moved_resolved}
 use Rattle.rox_exchange.proofs.Context.{join_nil}
 
--- the first two bytes of an element
+-- The first two bytes of an element.
 pub element_begins : (src : List ℕ) (i j b c : ℕ) (one : Forest Item) → IsElement true no_entities src i j b c one → (byte src i ≡ 60) × (byte src (i + 1) ≢ 63)
 element_begins src i j b c one (empty _ _ _ _ _ (start_tag n last name written begin is_name list end)) = let k = name_byte src (i + 1) name n is_name in (begin, k.no_question)
 element_begins src i j b c one (nest _ k m p _ _ d _ _ kids (start_tag n last name written begin is_name list end) inner close) = let k = name_byte src (i + 1) name n is_name in (begin, k.no_question)
 
--- no declaration begins with it
+-- No declaration begins with it.
 pub undeclared : (src : List ℕ) (i j b c : ℕ) (one : Forest Item) → IsElement true no_entities src i j b c one → at word.XmlDeclStart src i ≡ false
 undeclared src i j b c one is =
     let first = element_begins src i j b c one is in
@@ -45,7 +44,7 @@ undeclared src i j b c one is =
       | inr out ↦ out
     ]
 
--- nor a byte order mark
+-- Nor a byte order mark.
 unmarked : (src : List ℕ) → byte src 0 ≡ 60 → after_bom src ≡ 0
 unfolding stands
 unmarked src first =
@@ -54,7 +53,7 @@ unmarked src first =
       | inr out ↦ rw out refl
     ]
 
--- what it is written in
+-- What it is written in.
 pub alone_utf8 : (src : List ℕ) (s e openings_left : ℕ) (one : Forest Item) → IsUtf8 src → IsElement true no_entities src s e 255 openings_left one → (e ≤ length src) × IsUtf8 (slice src s e)
 alone_utf8 src s e openings_left one utf8 is =
     let ends = element_ends true no_entities src s e 255 openings_left one is in
@@ -70,7 +69,7 @@ alone_utf8 src s e openings_left one utf8 is =
     let d : drop s (take e src) ≡ slice src s e = ap (λ (k : ℕ). drop s (take k src)) (sym q) ∙ drop-take s (e - s) src in
     (inside, subst IsUtf8 d (IsUtf8-drop (take e src) s (IsUtf8-take src e utf8 cut) start))
 
--- an element of the slice
+-- An element of the slice.
 pub element_alone : (src : List ℕ) (s e openings_left : ℕ) (one : Forest Item) → IsUtf8 src → IsElement true no_entities src s e 255 openings_left one
     → IsElement true no_entities (slice src s e) 0 (e - s) 255 openings_left (moved_items (record { add = 0; sub = s }) one)
 element_alone src s e openings_left one utf8 is =
@@ -91,7 +90,7 @@ element_alone src s e openings_left one utf8 is =
     subst (λ (k : ℕ). IsElement true no_entities (slice src s e) k (e - s) 255 openings_left (moved_items mv one)) z
     (subst (λ (k : ℕ). IsElement true no_entities (slice src s e) (s + 0 - s) k 255 openings_left (moved_items mv one)) z' cut)
 
--- how long it is
+-- How long it is.
 alone_long : (src : List ℕ) (s e openings_left : ℕ) (one : Forest Item) → IsUtf8 src → IsElement true no_entities src s e 255 openings_left one → e - s ≡ length (slice src s e)
 alone_long src s e openings_left one utf8 is =
     let a = alone_utf8 src s e openings_left one utf8 is in
@@ -99,7 +98,7 @@ alone_long src s e openings_left one utf8 is =
     let lt = element_lt src true no_entities s e 255 openings_left one is in
     omega (arith, length-take (e - s) (drop s src), length-drop s src)
 
--- a parse of it
+-- A parse of it.
 pub parse_alone : (src : List ℕ) (s e openings_left : ℕ) (one : Forest Item) → IsUtf8 src → IsElement true no_entities src s e 255 openings_left one → AreWellNamed [] one
     → ParseWithout (slice src s e) (moved_items (record { add = 0; sub = s }) one)
 parse_alone src s e openings_left one utf8 is named =
@@ -121,7 +120,7 @@ parse_alone src s e openings_left one utf8 is named =
       well_named = moved_named mv [] one named;
     }
 
--- its tree
+-- Its tree.
 pub shown_alone : (src : List ℕ) (s e openings_left : ℕ) (one : Forest Item) → IsUtf8 src → IsElement true no_entities src s e 255 openings_left one
     → Cons (Root (e - s)) (shifted (record { add = 0; sub = s }) (resolved [] one)) Nil ≡ document_tree (length (slice src s e)) (moved_items (record { add = 0; sub = s }) one)
 shown_alone src s e openings_left one utf8 is =
@@ -129,7 +128,7 @@ shown_alone src s e openings_left one utf8 is =
     ap (λ (k : ℕ). Cons (Root k) (shifted mv (resolved [] one)) Nil) (alone_long src s e openings_left one utf8 is)
     ∙ ap (λ (f : Forest Node). Cons (Root (length (slice src s e))) f Nil) (sym (moved_resolved mv [] one))
 
--- a document of it
+-- A document of it.
 pub reparse_at : (src : List ℕ) (s e openings_left : ℕ) (one : Forest Item) → IsUtf8 src → IsElement true no_entities src s e 255 openings_left one → AreWellNamed [] one
     → HasTree (slice src s e) (Cons (Root (e - s)) (shifted (record { add = 0; sub = s }) (resolved [] one)) Nil)
 reparse_at src s e openings_left one utf8 is named =

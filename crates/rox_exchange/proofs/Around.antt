@@ -1,4 +1,4 @@
--- What stands around the root element stands wherever the same bytes follow, and in each source with the same front.
+-- What is around the root element stands wherever the same bytes follow, and in each source with the same front.
 use Rattle.std.proofs.Common.{◌≡◌, ℕ, ◌+◌, ◌≤◌, List, sym, ap, ◌∙◌, subst, arith}
 use Rattle.rox_grammar.specs.Chars.{is_space}
 use Rattle.rox_grammar.specs.Forest.{Forest}

@@ -4,6 +4,7 @@ use Rattle.std.proofs.lemmas.Bool.{cases_Bool, eq-eqb, ne_eqb}
 use Rattle.rox_grammar.specs.Forest.{Forest, Nil, Cons, join}
 use Rattle.rox_grammar.specs.Written.{Tag, Item, Element, Text, Comment, PI, glue, merge}
 use Rattle.rox_grammar.specs.Entities.{no_entities}
+use Rattle.rox_grammar.specs.References.{entity_reference}
 use Rattle.rox_grammar.specs.Content.{DataByte, piece, last_part, then_entity, comment, instruction, IsElement, empty, nest, Content, ends, run, cdata, misc, node}
 use Rattle.rox_grammar.specs.RunParts.{Parts}
 use Rattle.rox_grammar.specs.Exchange.{Move, moved}
@@ -48,14 +49,14 @@ piece_up_to s start stop borrowed (x ∷ ss) = tt
 module _ (src : List ℕ) where
   parts_up_to : (s start stop i b c : ℕ) (items : Forest Item) → Parts true no_entities src start stop i b c items → EndUpTo s items
   parts_up_to s start stop i b c items (last_part _ _ ss is) = piece_up_to s start stop _ ss
-  parts_up_to s start stop i b c items (then_entity _ p n j _ d _ ss one more is reference name opens rest) = absurd opens
+  parts_up_to s start stop i b c items (then_entity _ p j _ d _ _ ss one more is (entity_reference n reference name) opens rest) = absurd opens
 
-  -- an element is one item
+  -- An element is one item.
   pub one_element : (i j b c : ℕ) (one : Forest Item) → IsElement true no_entities src i j b c one → (t : Tag) × (kids : Forest Item) × (one ≡ Cons (Element i j t) kids Nil)
   one_element i j b c one (empty _ _ _ _ t is) = (t, Nil, refl)
   one_element i j b c one (nest _ k n p _ _ d _ t kids is inner end) = (t, merge kids, refl)
 
-  -- content holds no element that ends behind it
+  -- Content holds no element that ends after it.
   pub content_up_to : (s i j b c : ℕ) (items : Forest Item) → j ≤ s → Content true no_entities src i j b c items → EndUpTo s items
   content_up_to s i j b c items fits (ends _ _) = tt
   content_up_to s i j b c items fits (run _ k _ _ d _ one more is parts rest) =
@@ -69,7 +70,7 @@ module _ (src : List ℕ) where
       let le = content_le src true no_entities k j d c more rest in
       rw o.2 (lt, omega arith, content_up_to s k j d c more fits rest)
 
-  -- content and content behind it
+  -- Content and content after it.
   pub content_join : (i j l b c d : ℕ) (f g : Forest Item) → Content true no_entities src i j b c f → Content true no_entities src j l c d g → Content true no_entities src i l b d (join f g)
   content_join i j l b c d f g (ends _ _) more = more
   content_join i j l b c d f g (run _ k _ _ x _ one behind is parts rest) more =
@@ -80,7 +81,7 @@ module _ (src : List ℕ) where
       rw (join_assoc one behind g) (node i k l b x d one (join behind g) is (content_join k j l x c d behind g rest more))
 
   mutual
-    -- where the element stands that is within
+    -- Where the element stands that is within.
     pub element_bounds : (s e : ℕ) (hole : Forest Item) (i j : ℕ) (all : Forest Item) → ElementWith src s e hole i j all → (i ≤ s) × (e ≤ j)
     element_bounds s e hole i j all here = (omega arith, omega arith)
     element_bounds s e hole i j all (inside _ k n p _ t kids is inner end) =
@@ -93,7 +94,7 @@ module _ (src : List ℕ) where
         (omega (arith, content_le src true no_entities i k 255 255 before front, b.0), omega (arith, content_le src true no_entities l j 255 255 after behind, b.1))
 
   mutual
-    -- with it the whole is an element
+    -- With it the whole is an element.
     pub element_whole : (s e : ℕ) (hole : Forest Item) (i j : ℕ) (all : Forest Item) → IsElement true no_entities src s e 255 255 hole → ElementWith src s e hole i j all → IsElement true no_entities src i j 255 255 all
     element_whole s e hole i j all one here = one
     element_whole s e hole i j all one (inside _ k n p _ t kids is inner end) = nest i k n p j 255 255 255 t kids is (content_whole s e hole k n kids one inner) end
@@ -105,7 +106,7 @@ module _ (src : List ℕ) where
 -- ---- the row with another element in the place of the one that starts at s
 
 module _ (mv : Move) (one : Forest Item) (s : ℕ) where
-  -- what stands before it stays
+  -- What is before it stays.
   pub past_front : (f g : Forest Item) → EndUpTo s f → exchanged_items mv one s (join f g) ≡ join f (exchanged_items mv one s g)
   past_front Nil g up = refl
   past_front (Cons (Element a z t) children rest) g (lt, le, more) =
@@ -117,7 +118,7 @@ module _ (mv : Move) (one : Forest Item) (s : ℕ) where
   past_front (Cons (PI a z v o) children rest) g up = ap (Cons (PI a z v o) children) (past_front rest g up)
 
 module _ (mv : Move) (s x y : ℕ) (tag : Tag) (below : Forest Item) where
-  -- a text in front of it
+  -- A text in front of it.
   exchanged_glue : (a z : ℕ) (v : List ℕ) (borrowed : Bool) (under f : Forest Item)
       → exchanged_items mv (Cons (Element x y tag) below Nil) s (glue (Text a z v borrowed) under f) ≡ glue (Text a z v borrowed) under (exchanged_items mv (Cons (Element x y tag) below Nil) s f)
   exchanged_glue a z v borrowed under Nil = refl
@@ -133,7 +134,7 @@ module _ (mv : Move) (s x y : ℕ) (tag : Tag) (below : Forest Item) where
   exchanged_glue a z v borrowed under (Cons (Comment b w u) children rest) = refl
   exchanged_glue a z v borrowed under (Cons (PI b w u o) children rest) = refl
 
-  -- texts that touch
+  -- Texts that touch.
   pub exchanged_merge : (f : Forest Item) → exchanged_items mv (Cons (Element x y tag) below Nil) s (merge f) ≡ merge (exchanged_items mv (Cons (Element x y tag) below Nil) s f)
   exchanged_merge Nil = refl
   exchanged_merge (Cons (Text a z v borrowed) children rest) = exchanged_glue a z v borrowed children (merge rest) ∙ ap (glue (Text a z v borrowed) children) (exchanged_merge rest)
@@ -150,7 +151,7 @@ module _ (mv : Move) (s x y : ℕ) (tag : Tag) (below : Forest Item) where
 
 module _ (mv : Move) (src own : List ℕ) (s e x : ℕ) (hole : Forest Item) (tag old : Tag) (below under : Forest Item) (lt : s < e)
     (is_hole : hole ≡ Cons (Element s e old) under Nil) (front : Fronts src own (s + 1)) (behind : Follows mv src e own (moved mv e)) where
-  -- what is put in
+  -- What is put in.
   abbrev new : Forest Item
   new = Cons (Element s x tag) below Nil
 
@@ -186,7 +187,7 @@ module _ (mv : Move) (src own : List ℕ) (s e x : ℕ) (hole : Forest Item) (ta
         (element_exchanged k l one at is)
         (content_moves mv src own l j 255 255 after (from mv src own e (moved mv e) l (omega arith) behind) rest))
       where
-        -- what stands behind it moves
+        -- What is after it moves.
         at_one : (k l : ℕ) (one after : Forest Item) → ElementWith src s e hole k l one → exchanged_items mv new s (join one after) ≡ join (exchanged_items mv new s one) (moved_items mv after)
         at_one k l one after here =
             let same = eq-eqb s s refl in
@@ -201,7 +202,7 @@ module _ (mv : Move) (src own : List ℕ) (s e x : ℕ) (hole : Forest Item) (ta
             let within = lt-ltb s l (omega arith) in
             rw (differs, within) refl
 
--- another element in the place of the one that stands from s to e
+-- Another element in the place of the one that is from s to e.
 pub exchange_element : (mv : Move) (src own : List ℕ) (s e : ℕ) (hole one : Forest Item) (i j : ℕ) (all : Forest Item) → Fronts src own (s + 1) → Follows mv src e own (moved mv e)
     → IsElement true no_entities src s e 255 255 hole → IsElement true no_entities own s (moved mv e) 255 255 one → ElementWith src s e hole i j all
     → ElementWith own s (moved mv e) one i (moved mv j) (exchanged_items mv one s all)

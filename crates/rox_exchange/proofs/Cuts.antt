@@ -1,4 +1,4 @@
--- What stands in a source stands in each that has the same bytes up to its end.
+-- What is in a source is in each that has the same bytes up to its end.
 use Rattle.std.proofs.Common.{◌≡◌, ℕ, zero, suc, ◌+◌, ◌-◌, ◌<◌, ◌≤◌, ◌⊎◌, ◌==◌, Bool, true, false, List, [], ◌∷◌, ◌++◌, length, take, drop, get_or, refl, sym, ap, ◌∙◌, subst, arith, inl, inr, length-drop, length-take}
 use Rattle.std.specs.List.{position_or_len, starts_with}
 use Rattle.std.proofs.lemmas.Bool.{cases_Bool}
@@ -23,20 +23,20 @@ use Rattle.rox_theory.proofs.Productions.{comment_parts, comment_made, char_data
 use Rattle.rox_theory.proofs.FirstMarks.{mark_behind, unmarked_run}
 use Rattle.rox_theory.proofs.RunLemmas.{run_inside}
 
--- two lists with one front agree byte by byte
+-- Two lists with one front agree byte by byte.
 pub heads : (n x y : ℕ) (xs ys : List ℕ) → take (suc n) (x ∷ xs) ≡ take (suc n) (y ∷ ys) → (x ≡ y) × (take n xs ≡ take n ys)
 heads n x y xs ys h = (cc, cc)
 
--- a mark that begins a list begins its front
+-- A mark that begins a list begins its front.
 pub starts_take : (mark : List ℕ) (n : ℕ) (xs : List ℕ) → length mark ≤ n → starts_with ◌==◌ (take n xs) mark ≡ starts_with ◌==◌ xs mark
 starts_take mark n xs fits = rw (take-take (length mark) n xs fits) refl
 
--- a mark that begins both
+-- A mark that begins both.
 pub starts_cut : (mark : List ℕ) (n : ℕ) (xs ys : List ℕ) → take n xs ≡ take n ys → length mark ≤ n → starts_with ◌==◌ xs mark ≡ starts_with ◌==◌ ys mark
 starts_cut mark n xs ys h fits =
     sym (starts_take mark n xs fits) ∙ ap (λ (zs : List ℕ). starts_with ◌==◌ zs mark) h ∙ starts_take mark n ys fits
 
--- the first byte that passes
+-- The first byte that passes.
 pub first_cut : (p : ℕ → Bool) (n : ℕ) (xs ys : List ℕ) → take n xs ≡ take n ys → position_or_len p xs < n → position_or_len p ys ≡ position_or_len p xs
 first_cut p zero xs ys h some = absurd (omega arith)
 first_cut p (suc n) [] [] h some = refl
@@ -53,7 +53,7 @@ first_cut p (suc n) (x ∷ xs) (y ∷ ys) h some =
           rw (later, there) (ap (λ (k : ℕ). 1 + k) ih))
     ]
 
--- the first mark
+-- The first mark.
 pub mark_cut : (mark : List ℕ) (n : ℕ) (xs ys : List ℕ) → take n xs ≡ take n ys → before_mark mark xs + length mark ≤ n → 0 < length mark → before_mark mark ys ≡ before_mark mark xs
 mark_cut mark zero xs ys h fits some = absurd (omega arith)
 mark_cut mark (suc n) [] [] h fits some = refl
@@ -71,51 +71,51 @@ mark_cut mark (suc n) (x ∷ xs) (y ∷ ys) h fits some =
     ]
 
 module _ (src to : List ℕ) (m : ℕ) (same : take m src ≡ take m to) where
-  -- the fronts behind a place agree
+  -- The fronts after a place agree.
   pub fronts : (i : ℕ) → i ≤ m → take (m - i) (drop i src) ≡ take (m - i) (drop i to)
   fronts i le =
       let e : i + (m - i) ≡ m = omega arith in
       sym (drop-take i (m - i) src) ∙ ap (λ (k : ℕ). drop i (take k src)) e ∙ ap (drop i) same ∙ sym (ap (λ (k : ℕ). drop i (take k to)) e) ∙ drop-take i (m - i) to
 
-  -- and up to one
+  -- And up to one.
   pub front : (j : ℕ) → j ≤ m → take j src ≡ take j to
   front j le = sym (take-take j m src le) ∙ ap (take j) same ∙ take-take j m to le
 
-  -- a byte
+  -- A byte.
   pub byte_cut : (i : ℕ) → i < m → byte src i ≡ byte to i
   byte_cut i lt = sym (get_or-take m src i 0 lt) ∙ ap (λ (bs : List ℕ). get_or bs i 0) same ∙ get_or-take m to i 0 lt
 
-  -- a fixed text
+  -- A fixed text.
   pub stands_cut : (mark : List ℕ) (i : ℕ) → i + length mark ≤ m → stands mark src i ≡ stands mark to i
   unfolding stands
   stands_cut mark i fits = starts_cut mark (m - i) (drop i src) (drop i to) (fronts i (omega arith)) (omega arith)
 
-  -- the first place of a fixed text
+  -- The first place of a fixed text.
   pub mark_from_cut : (mark : List ℕ) (i e : ℕ) → e ≡ mark_from mark src i → e + length mark ≤ m → 0 < length mark → e ≡ mark_from mark to i
   unfolding mark_from
   mark_from_cut mark i e is fits some =
       let q = mark_cut mark (m - i) (drop i src) (drop i to) (fronts i (omega arith)) (omega arith) some in
       omega arith
 
-  -- the first place of a byte
+  -- The first place of a byte.
   pub byte_from_cut : (p : ℕ → Bool) (i e : ℕ) → e ≡ byte_from p src i → e < m → e ≡ byte_from p to i
   unfolding byte_from
   byte_from_cut p i e is fits =
       let q = first_cut p (m - i) (drop i src) (drop i to) (fronts i (omega arith)) (omega arith) in
       omega arith
 
-  -- Chars
+  -- Chars.
   pub chars_cut : (i j : ℕ) → j ≤ m → AreChars src i j → AreChars to i j
   chars_cut i j le are = subst (λ (bs : List ℕ). run_end is_char bs i ≡ j) (front j le) are
 
-  -- a slice
+  -- A slice.
   pub slice_cut : (i j : ℕ) → i ≤ j → j ≤ m → slice src i j ≡ slice to i j
   slice_cut i j le fits =
       let e : i + (j - i) ≡ j = omega arith in
       let f = front (i + (j - i)) (omega arith) in
       sym (drop-take i (j - i) src) ∙ ap (drop i) f ∙ drop-take i (j - i) to
 
-  -- a place within both
+  -- A place within both.
   pub within_cut : (e : ℕ) → e < m → e < length src → e < length to
   within_cut e lt inside =
       let n : length (take m src) ≡ length (take m to) = ap length same in
@@ -123,7 +123,7 @@ module _ (src to : List ℕ) (m : ℕ) (same : take m src ≡ take m to) where
 
   -- ---- constructs
 
-  -- a comment
+  -- A comment.
   pub comment_cut : (i e j : ℕ) → j ≤ m → IsComment src i e j → IsComment to i e j
   unfolding run_end
   comment_cut i e j fits is =
@@ -137,7 +137,7 @@ module _ (src to : List ℕ) (m : ℕ) (same : take m src ≡ take m to) where
         next = (comment_parts is).next;
       })
 
-  -- a literal
+  -- A literal.
   pub literal_cut : (i e j : ℕ) → j ≤ m → IsAttValue src i e j → IsAttValue to i e j
   unfolding run_end
   literal_cut i e j fits is =
@@ -155,7 +155,7 @@ module _ (src to : List ℕ) (m : ℕ) (same : take m src ≡ take m to) where
         is.2 ∙ ap (λ (bs : List ℕ). byte_from (λ c. c == 60) bs (i + 1)) (front e (omega arith)),
       )
 
-  -- a run that `<` ends
+  -- A run that `<` ends.
   pub run_cut : (i j : ℕ) → j < m → IsCharacterData src i j → IsCharacterData to i j
   run_cut i j fits is =
       let some = (char_data_parts is).some in
@@ -168,7 +168,7 @@ module _ (src to : List ℕ) (m : ℕ) (same : take m src ≡ take m to) where
 
 -- ---- runs of characters
 
--- characters that pass, with others behind them
+-- Characters that pass, with others after them.
 pub passing_front : (p : ℕ → Bool) (cs ds : List ℕ) → passing p (cs ++ ds) < length (encode_utf8_all cs) → passing p (cs ++ ds) ≡ passing p cs
 passing_front p [] ds some = absurd (omega arith)
 passing_front p (c ∷ cs) ds some =
@@ -182,7 +182,7 @@ passing_front p (c ∷ cs) ds some =
       | inr fails ↦ rw fails refl
     ]
 
--- a run that ends before the end of a text in UTF-8 ends there whatever follows the text
+-- A run that ends before the end of a text in UTF-8 ends there whatever follows the text.
 pub run_end_front : (p : ℕ → Bool) (front back : List ℕ) (i : ℕ) → IsUtf8 front → IsCharBoundary front i → run_end p (front ++ back) i < length front → run_end p (front ++ back) i ≡ run_end p front i
 unfolding run_end
 run_end_front p front back i utf8 cut below =
@@ -194,12 +194,12 @@ run_end_front p front back i utf8 cut below =
     let some : passing p (chars (drop i front) ++ chars back) < length (encode_utf8_all (chars (drop i front))) = subst (λ (cs : List ℕ). passing p cs < length (encode_utf8_all (chars (drop i front)))) both (omega arith) in
     ap (λ (cs : List ℕ). i + passing p cs) both ∙ ap (λ (k : ℕ). i + k) (passing_front p (chars (drop i front)) (chars back) some)
 
--- a run goes forwards
+-- A run goes forwards.
 forwards : (src : List ℕ) (i : ℕ) → i ≤ run_end is_name_char src i
 unfolding run_end
 forwards src i = omega arith
 
--- so a name that ends before the end of a text is a name in the text alone
+-- So a name that ends before the end of a text is a name in the text alone.
 pub name_front : (front back : List ℕ) (i j : ℕ) → IsUtf8 front → IsCharBoundary front i → j < length front → IsName (front ++ back) i j → IsName front i j
 unfolding begins
 name_front front back i j utf8 cut below is =
@@ -212,7 +212,7 @@ name_front front back i j utf8 cut below is =
       longest = is.longest ∙ run_end_front is_name_char front back i utf8 cut below';
     }
   where
-    -- the first character is in front
+    -- The first character is in front.
     first_front : (cs ds : List ℕ) → i < length front → encode_utf8_all cs ≡ drop i front → first_passes is_name_start (cs ++ ds) ≡ true → first_passes is_name_start cs ≡ true
     first_front [] ds inside is' h =
         let n : 0 ≡ length front - i = ap length is' ∙ length-drop i front in

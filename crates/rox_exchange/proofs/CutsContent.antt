@@ -1,4 +1,4 @@
--- Elements and content without entities stand in each source with the same front.
+-- Elements and content without entities are in each source with the same front.
 use Rattle.std.proofs.Common.{ℕ, ◌+◌, ◌<◌, ◌≤◌, ◌==◌, Bool, true, false, not, List, sym, ap, ◌∙◌, subst, arith}
 use Rattle.std.specs.List.{list_any}
 use Rattle.rox_grammar.specs.Chars.{is_space}
@@ -7,6 +7,7 @@ use Rattle.rox_grammar.specs.Written.{Item, Text, Comment, PI, leaf}
 use Rattle.rox_grammar.specs.Tree.{none_if_empty}
 use Rattle.rox_grammar.specs.Names.{slice, spaces_end}
 use Rattle.rox_grammar.specs.Entities.{no_entities}
+use Rattle.rox_grammar.specs.References.{entity_reference}
 use Rattle.rox_grammar.specs.Content.{literals, line_ends, last_part, then_entity, IsMisc, comment, instruction, IsElement, empty, nest, Content, ends, run, cdata, misc, node}
 use Rattle.rox_grammar.specs.RunParts.{Parts}
 use Rattle.rox_exchange.specs.Local.{Fronts}
@@ -17,13 +18,13 @@ use Rattle.rox_exchange.proofs.Order.{run_le, comment_le, cdata_le, pi_le, end_l
 use Rattle.rox_theory.proofs.Productions.{comment_parts, pi_parts, cdata_parts, char_data_parts}
 
 module _ (src to : List ℕ) (m : ℕ) (f : Fronts src to m) where
-  -- the parts of a run
+  -- The parts of a run.
   pub parts_cut : (main : Bool) (start stop i b c : ℕ) (items : Forest Item) → start ≤ stop → stop ≤ m → Parts main no_entities src start stop i b c items → Parts main no_entities to start stop i b c items
   parts_cut main start stop i b c items le fits (last_part _ _ ss is) =
       rw (slice_cut src to m f.same start stop le fits) (last_part i b ss (part_cut src to m f main stop i ss fits is))
-  parts_cut main start stop i b c items le fits (then_entity _ p n j _ d _ ss one more is reference name opens rest) = absurd opens
+  parts_cut main start stop i b c items le fits (then_entity _ p j _ d _ _ ss one more is (entity_reference n reference name) opens rest) = absurd opens
 
-  -- a comment or a processing instruction
+  -- A comment or a processing instruction.
   pub misc_cut : (i j : ℕ) (item : Item) → j ≤ m → IsMisc src i j item → IsMisc to i j item
   misc_cut i j item fits (comment _ e _ is) =
       let next = (comment_parts is).next in
@@ -41,7 +42,7 @@ module _ (src to : List ℕ) (m : ℕ) (f : Fronts src to m) where
       (instruction i n e j p.0))
 
   mutual
-    -- content, behind which something comes
+    -- Content, after which something comes.
     pub content_cut : (i j b c : ℕ) (items : Forest Item) → j < m → Content true no_entities src i j b c items → Content true no_entities to i j b c items
     content_cut i j b c items fits (ends _ _) = ends i b
     content_cut i j b c items fits (run _ k _ _ d _ one more is parts rest) =
@@ -62,7 +63,7 @@ module _ (src to : List ℕ) (m : ℕ) (f : Fronts src to m) where
         let le = content_le src true no_entities k j d c more rest in
         node i k j b d c one more (element_cut i k b d one (omega arith) is) (content_cut k j d c more fits rest)
 
-    -- an element
+    -- An element.
     pub element_cut : (i j b c : ℕ) (one : Forest Item) → j ≤ m → IsElement true no_entities src i j b c one → IsElement true no_entities to i j b c one
     element_cut i j b c one fits (empty _ _ _ _ t is) = empty i j b c t (tag_cut src to m f true no_entities i j b c true t fits is)
     element_cut i j b c one fits (nest _ k n p _ _ d _ t kids is inner end) =

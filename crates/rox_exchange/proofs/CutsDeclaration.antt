@@ -1,4 +1,4 @@
--- A declaration stands in each source with the same front. It ends in `>`, and no word in it but the last has that byte.
+-- A declaration is in each source with the same front. It ends in `>`, and no word in it but the last has that byte.
 use Rattle.std.proofs.Common.{◌≡◌, ◌≢◌, ℕ, zero, suc, ◌+◌, ◌-◌, ◌<◌, ◌≤◌, ◌==◌, ◌&&◌, Bool, true, false, List, [], ◌∷◌, take, drop, length, get_or, refl, sym, ap, ◌∙◌, subst, arith, inl, inr, get_or-drop}
 use Rattle.std.proofs.lemmas.Bool.{ne_eqb}
 use Rattle.std.specs.List.{starts_with}
@@ -20,16 +20,16 @@ use Rattle.rox_exchange.proofs.CutsTags.{pair_cut}
 use Rattle.rox_exchange.proofs.Fronts.{stands_reads, behind}
 use Rattle.rox_exchange.proofs.Order.{run_le, qname_le, eq_lt, literal_lt}
 
--- the byte is none of these
+-- The byte is none of these.
 abbrev pub IsMissing : ℕ → List ℕ → Type 0
 IsMissing c [] = Unit {0}
 IsMissing c (b ∷ bs) = (b ≢ c) × IsMissing c bs
 
--- byte by byte
+-- Byte by byte.
 starts_on : (x w : ℕ) (xs ws : List ℕ) → starts_with ◌==◌ (x ∷ xs) (w ∷ ws) ≡ ((w == x) && starts_with ◌==◌ xs ws)
 starts_on x w xs ws = refl
 
--- a text without a byte begins one list as it begins another that is the same up to that byte
+-- A text without a byte begins one list as it begins another that is the same up to that byte.
 starts_before : (c : ℕ) (mark : List ℕ) → 0 < c → IsMissing c mark → (n k : ℕ) (xs ys : List ℕ) → take n xs ≡ take n ys → k < n → get_or xs k 0 ≡ c → starts_with ◌==◌ xs mark ≡ starts_with ◌==◌ ys mark
 starts_before c [] some none n k xs ys same below is = refl
 starts_before c (w ∷ ws) some (no_end, none) zero k xs ys same below is = absurd (omega arith)
@@ -55,7 +55,7 @@ lacks_standalone : IsMissing 62 (word_text word.Standalone)
 lacks_standalone = ((λ e. omega arith), ((λ e. omega arith), ((λ e. omega arith), ((λ e. omega arith), ((λ e. omega arith), ((λ e. omega arith), ((λ e. omega arith), ((λ e. omega arith), ((λ e. omega arith), ((λ e. omega arith), tt))))))))))
 
 module _ (src to : List ℕ) (m : ℕ) (f : Fronts src to m) where
-  -- a fixed text that lacks a byte, in front of that byte
+  -- A fixed text that lacks a byte, in front of that byte.
   pub word_cut : (c : ℕ) (mark : List ℕ) (i q : ℕ) → 0 < c → IsMissing c mark → i ≤ q → q < m → byte src q ≡ c → stands mark src i ≡ stands mark to i
   unfolding stands
   word_cut c mark i q some none le below is =
@@ -72,7 +72,7 @@ module _ (src to : List ℕ) (m : ℕ) (f : Fronts src to m) where
   may_le w i j (is_pair name n v e k here is gap) = omega (arith, pair_lt i n v e k name is, run_le is_space src k)
   may_le w i j (no_pair none) = omega arith
 
-  -- where `>` stands at q, and white space or the end of the declaration is left before it
+  -- Where `>` is at q, and white space or the end of the declaration is left before it.
   module _ (q : ℕ) (below : q < m) (is_end : byte src q ≡ 62) (inside : q < length src) where
     gap_cut : (i : ℕ) → i ≤ spaces_end src i → spaces_end src i + 1 ≤ q → spaces_end src i ≡ spaces_end to i → IsFollowed src i → IsFollowed to i
     gap_cut i on le same (inl some) = inl (omega (arith, same))
@@ -90,7 +90,7 @@ module _ (src to : List ℕ) (m : ℕ) (f : Fronts src to m) where
     may_cut w i j lacks cut le (no_pair none) =
         (no_pair (sym (word_cut 62 (word_text w) i q (omega arith) lacks (omega arith) below is_end) ∙ none), cut)
 
-  -- the first and the last byte of the declaration
+  -- The first and the last byte of the declaration.
   pub declaration_cut : (i j : ℕ) → j ≤ m → IsXmlDecl src i j → IsXmlDecl to i j
   declaration_cut i j fits (xml_decl e p opens (standalone v _ (encoding _ _ (version here) first) second) third closes) =
       let le_v = may_le word.Version (spaces_end src (i + 5)) v first in

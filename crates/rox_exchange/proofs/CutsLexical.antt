@@ -1,4 +1,4 @@
--- Names, references and the constructs that hold no others stand in each source with the same front.
+-- Names, references and the constructs that hold no others are in each source with the same front.
 use Rattle.std.proofs.Common.{◌≡◌, ◌≢◌, ℕ, ◌+◌, ◌^◌, ◌<◌, ◌≤◌, Bool, false, List, [], take, refl, sym, ap, ◌∙◌, subst, arith, inl, inr}
 use Rattle.std.specs.Str.{IsCharBoundary}
 use Rattle.std.proofs.lemmas.Bool.{cases_Bool, cases_lt}
@@ -18,31 +18,31 @@ use Rattle.rox_exchange.proofs.Order.{run_le, name_le, ncname_le, qname_le, cdat
 use Rattle.rox_theory.proofs.Productions.{ncname_parts, ncname_made, number_parts, number_made, reference_parts, reference_made, pi_parts, pi_made, cdata_parts, cdata_made, end_parts, end_made}
 
 module _ (src to : List ℕ) (m : ℕ) (f : Fronts src to m) where
-  -- white space
+  -- White space.
   pub space_cut : (i e : ℕ) → IsCharBoundary (take m src) i → e < m → e ≡ spaces_end src i → (e ≡ spaces_end to i) × IsCharBoundary (take m src) e
   space_cut i e cut below is = run_cuts src to m f is_space i e cut below is
 
-  -- a byte that a place has, and one that it has not
+  -- A byte that a place has, and one that it has not.
   pub has_byte : (b i : ℕ) → i < m → byte src i ≡ b → byte to i ≡ b
   has_byte b i below is = sym (byte_cut src to m f.same i below) ∙ is
 
   pub has_other : (b i : ℕ) → i < m → byte src i ≢ b → byte to i ≢ b
   has_other b i below differs = λ is. differs (byte_cut src to m f.same i below ∙ is)
 
-  -- a name
+  -- A name.
   pub name_cut : (i j : ℕ) → IsCharBoundary (take m src) i → j < m → IsName src i j → IsName to i j × IsCharBoundary (take m src) j
   name_cut i j cut below is =
       let r = run_cuts src to m f is_name_char i j cut below is.longest in
       (record { starts = sym (begins_cut src to m f is_name_start i cut (omega (arith, name_le src i j is))) ∙ is.starts; longest = r.0 }, r.1)
 
-  -- a name without colon
+  -- A name without colon.
   pub ncname_cut : (i j : ℕ) → IsCharBoundary (take m src) i → j < m → IsNCName src i j → IsNCName to i j × IsCharBoundary (take m src) j
   ncname_cut i j cut below is =
       let r = run_cuts src to m f is_part_char i j cut below (ncname_parts is).longest in
       let le = ncname_le src i j is in
       (ncname_made (record { starts = sym (begins_cut src to m f is_name_start i cut (omega arith)) ∙ (ncname_parts is).starts; no_colon = has_other 58 i (omega arith) (ncname_parts is).no_colon; longest = r.0 }), r.1)
 
-  -- a name in a namespace
+  -- A name in a namespace.
   pub qname_cut : (i : ℕ) (name : Name) (j : ℕ) → IsCharBoundary (take m src) i → j < m → IsQName src i name j → IsQName to i name j × IsCharBoundary (take m src) j
   qname_cut i name j cut below (unprefixed _ _ n last) =
       let r = ncname_cut i j cut below n in
@@ -66,7 +66,7 @@ module _ (src to : List ℕ) (m : ℕ) (f : Fronts src to m) where
       let s = slice_cut src to m f.same (i + 1) j le (omega arith) in
       (subst (λ (bs : List ℕ). IsQName to i (record { prefix = []; local = bs }) j) (sym s) (colon_first i j (has_byte 58 i (omega arith) colon) r.0 (has_other 58 j below last)), r.1)
 
-  -- Eq
+  -- Eq.
   pub eq_cut : (i j : ℕ) → IsCharBoundary (take m src) i → j < m → IsEq src i j → IsEq to i j
   eq_cut i j cut below is =
       let next = is.1 in
@@ -75,7 +75,7 @@ module _ (src to : List ℕ) (m : ℕ) (f : Fronts src to m) where
       let r = space_cut (spaces_end src i + 1) j (behind src to m f 61 (spaces_end src i) (omega arith) is.0 (omega arith)) below is.1 in
       (ap (byte to) (sym s.0) ∙ has_byte 61 (spaces_end src i) (omega arith) is.0, r.0 ∙ ap (λ (x : ℕ). spaces_end to (x + 1)) s.0)
 
-  -- a number
+  -- A number.
   pub number_cut : (base : ℕ) (p : ℕ → Bool) (d c j : ℕ) → j ≤ m → IsNumber base p src d c j → IsNumber base p to d c j
   number_cut base p d c j fits is =
       let e = (number_parts is).e in
@@ -93,7 +93,7 @@ module _ (src to : List ℕ) (m : ℕ) (f : Fronts src to m) where
         next = (number_parts is).next;
       })
 
-  -- a reference
+  -- A reference.
   pub reference_cut : (i n j : ℕ) → j ≤ m → IsReference src i n j → IsReference to i n j
   reference_cut i n j fits is =
       let next = (reference_parts is).next in
@@ -105,14 +105,14 @@ module _ (src to : List ℕ) (m : ℕ) (f : Fronts src to m) where
         next = (reference_parts is).next;
       })
 
-  -- its name
+  -- Its name.
   pub reference_same : (i n j : ℕ) → j ≤ m → IsReference src i n j → slice src (i + 1) n ≡ slice to (i + 1) n
   reference_same i n j fits is =
       let next = (reference_parts is).next in
       let lt = reference_lt src i n j is in
       slice_cut src to m f.same (i + 1) n (omega arith) (omega arith)
 
-  -- a reference to a character
+  -- A reference to a character.
   pub character_cut : (i c j : ℕ) → j ≤ m → IsCharacter src i c j → IsCharacter to i c j
   character_cut i c j fits (decimal opens is) =
       let some = (number_parts is).some in
@@ -125,7 +125,7 @@ module _ (src to : List ℕ) (m : ℕ) (f : Fronts src to m) where
   character_cut i c j fits (named n is known) =
       named n (reference_cut i n j fits is) (ap predefined (sym (reference_same i n j fits is)) ∙ known)
 
-  -- no declaration begins where `?` comes so soon
+  -- No declaration begins where `?` comes so soon.
   undeclared : (i e : ℕ) → i + 2 ≤ e → e + 2 ≤ m → at word.XmlDeclStart src i ≡ false → byte to e ≡ 63 → at word.XmlDeclStart to i ≡ false
   undeclared i e le fits before close =
       elim (cases_lt m (i + 6)) as (λ s. at word.XmlDeclStart to i ≡ false) [
@@ -148,7 +148,7 @@ module _ (src to : List ℕ) (m : ℕ) (f : Fronts src to m) where
         ]
       ]
 
-  -- a processing instruction
+  -- A processing instruction.
   pub pi_cut : (i n e j : ℕ) → j ≤ m → IsPI src i n e j → IsPI to i n e j × (spaces_end src n ≡ spaces_end to n)
   pi_cut i n e j fits is =
       let next = (pi_parts is).next in
@@ -175,7 +175,7 @@ module _ (src to : List ℕ) (m : ℕ) (f : Fronts src to m) where
         s.0,
       )
 
-  -- a CDATA section
+  -- A CDATA section.
   pub cdata_cut : (i e j : ℕ) → j ≤ m → IsCData src i e j → IsCData to i e j
   cdata_cut i e j fits is =
       let next = (cdata_parts is).next in
@@ -188,7 +188,7 @@ module _ (src to : List ℕ) (m : ℕ) (f : Fronts src to m) where
         next = (cdata_parts is).next;
       })
 
-  -- an end tag
+  -- An end tag.
   pub end_cut : (i : ℕ) (name : Name) (n j : ℕ) → j ≤ m → IsEnd src i name n j → IsEnd to i name n j
   end_cut i name n j fits is =
       let next = (end_parts is).next in

@@ -1,11 +1,11 @@
--- Character data, values, attributes and tags stand in each source with the same front.
+-- Character data, values, attributes and tags are in each source with the same front.
 use Rattle.std.proofs.Common.{◌≡◌, ◌≢◌, ℕ, ◌+◌, ◌<◌, ◌≤◌, ◌⊎◌, ◌==◌, Bool, true, false, List, ◌∷◌, take, refl, sym, ap, ◌∙◌, subst, arith, inl, inr}
 use Rattle.std.specs.Str.{IsCharBoundary}
 use Rattle.std.proofs.lemmas.Bool.{eqb-true, cases_lt}
 use Rattle.rox_grammar.specs.Chars.{is_space}
 use Rattle.rox_grammar.specs.Written.{Name, Attribute, Tag}
 use Rattle.rox_grammar.specs.Names.{byte, spaces_end}
-use Rattle.rox_grammar.specs.References.{predefined}
+use Rattle.rox_grammar.specs.References.{predefined, entity_reference}
 use Rattle.rox_grammar.specs.Constructs.{IsAttValue, IsPair}
 use Rattle.rox_grammar.specs.Content.{Inclusion, DataByte, literal, Part, part_ends, as_written, from_reference, Value, value_ends, line_end, white, other, a_character, an_entity, is_verbatim_value, IsAttribute, attribute, Attributes, no_more, one_more, TagEnds, opened, closed, IsTag, start_tag}
 use Rattle.rox_exchange.specs.Local.{Fronts}
@@ -17,7 +17,7 @@ use Rattle.rox_grammar.specs.Constructs.{IsPair}
 use Rattle.rox_grammar.specs.Content.{attribute}
 
 module _ (src to : List ℕ) (m : ℕ) (f : Fronts src to m) where
-  -- a part
+  -- A part.
   pub part_cut : (main : Bool) (j i : ℕ) (ss : List DataByte) → j ≤ m → Part main src j i ss → Part main to j i ss
   part_cut main j i ss fits part_ends = part_ends
   part_cut main j i ss fits (as_written _ rest lt no_amp is) =
@@ -26,7 +26,7 @@ module _ (src to : List ℕ) (m : ℕ) (f : Fronts src to m) where
   part_cut main j i ss fits (from_reference _ n c rest is le more) =
       from_reference i n c rest (character_cut src to m f i c n (omega arith) is) le (part_cut main j n rest fits more)
 
-  -- a value
+  -- A value.
   pub value_cut : (main : Bool) (Includes : Inclusion) (j i b c : ℕ) (v : List ℕ) → j ≤ m → Value main Includes src j i b c v → Value main Includes to j i b c v
   value_cut main Includes j i b c v fits (value_ends _) = value_ends b
   value_cut main Includes j i b c v fits (line_end _ _ _ _ lt cr lf more) =
@@ -53,13 +53,13 @@ module _ (src to : List ℕ) (m : ℕ) (f : Fronts src to m) where
       (other i b c w lt (n 38 x₁) (n 9 x₂) (n 10 x₃) (n 13 x₄) (n 60 x₅) (value_cut main Includes j (i + 1) b c w fits more))
   value_cut main Includes j i b c v fits (a_character _ n x _ _ w is le allowed more) =
       a_character i n x b c w (character_cut src to m f i x n (omega arith) is) le allowed (value_cut main Includes j n b c w fits more)
-  value_cut main Includes j i b c v fits (an_entity _ n p _ d _ u w is name le opens more) =
+  value_cut main Includes j i b c v fits (an_entity _ p _ d _ _ u w (entity_reference n is name) le opens more) =
       let same = reference_same src to m f i n p (omega arith) is in
-      an_entity i n p b d c u w (reference_cut src to m f i n p (omega arith) is) (ap predefined (sym same) ∙ name) le
+      an_entity i p b d c _ u w (entity_reference n (reference_cut src to m f i n p (omega arith) is) (ap predefined (sym same) ∙ name)) le
       (subst (λ (bs : List ℕ). Includes.value bs b u d) same opens)
       (value_cut main Includes j p d c w fits more)
 
-  -- a character begins behind a literal
+  -- A character begins after a literal.
   pub behind_literal : (i e j : ℕ) → j ≤ m → IsAttValue src i e j → IsCharBoundary (take m src) j
   behind_literal i e j fits is =
       let next = is.0.3 in
@@ -70,7 +70,7 @@ module _ (src to : List ℕ) (m : ℕ) (f : Fronts src to m) where
       let small : byte src i < 128 = elim is.0.0 as (λ s. byte src i < 128) [ inl one ↦ omega arith | inr two ↦ omega arith ] in
       subst (IsCharBoundary (take m src)) (sym next) (behind src to m f (byte src i) e (omega arith) same small)
 
-  -- a pair ends in its quote
+  -- A pair ends in its quote.
   pub pair_cut : (i n v e j : ℕ) (name : Name) → IsCharBoundary (take m src) i → j ≤ m → IsPair src i name n v e j → IsPair to i name n v e j × IsCharBoundary (take m src) j
   pair_cut i n v e j name cut fits (is_name, eq, text) =
       let next = text.0.3 in
@@ -80,7 +80,7 @@ module _ (src to : List ℕ) (m : ℕ) (f : Fronts src to m) where
       let named = qname_cut src to m f i name n cut (omega arith) is_name in
       ((named.0, eq_cut src to m f n v named.1 (omega arith) eq, literal_cut src to m f.same v e j fits text), behind_literal v e j fits text)
 
-  -- an attribute, and a character begins behind it
+  -- An attribute, and a character begins after it.
   pub attribute_cut : (main : Bool) (Includes : Inclusion) (i j b c : ℕ) (a : Attribute) → IsCharBoundary (take m src) i → j ≤ m → IsAttribute main Includes src i j b c a
       → IsAttribute main Includes to i j b c a × IsCharBoundary (take m src) j
   attribute_cut main Includes i j b c a cut fits (attribute n v e name value is read) =
@@ -92,7 +92,7 @@ module _ (src to : List ℕ) (m : ℕ) (f : Fronts src to m) where
       let one = attribute n v e name value there.0 (value_cut main Includes e (v + 1) b c value (omega arith) read) in
       (subst (λ (x : Bool). IsAttribute main Includes to i j b c (of x)) (ap is_verbatim_value (sym same)) one, there.1)
 
-  -- attributes
+  -- Attributes.
   pub attributes_cut : (main : Bool) (Includes : Inclusion) (i j b c : ℕ) (as' : List Attribute) → IsCharBoundary (take m src) i → j ≤ m → Attributes main Includes src i j b c as'
       → Attributes main Includes to i j b c as' × IsCharBoundary (take m src) j
   attributes_cut main Includes i j b c as' cut fits (no_more _ _) = (no_more i b, cut)
@@ -105,7 +105,7 @@ module _ (src to : List ℕ) (m : ℕ) (f : Fronts src to m) where
       let others = attributes_cut main Includes n j d c rest one.1 fits more in
       (one_more i n j b d c a rest (omega arith) (subst (λ (x : ℕ). IsAttribute main Includes to x n b d a) same one.0) others.0, others.1)
 
-  -- the end of a tag
+  -- The end of a tag.
   pub tag_ends_cut : (i : ℕ) (is_empty : Bool) (j : ℕ) → IsCharBoundary (take m src) i → j ≤ m → TagEnds src i is_empty j → TagEnds to i is_empty j
   tag_ends_cut i is_empty j cut fits (opened _ close) =
       let same = (space_cut src to m f i (spaces_end src i) cut (omega arith) refl).0 in
@@ -117,7 +117,7 @@ module _ (src to : List ℕ) (m : ℕ) (f : Fronts src to m) where
       (closed i (ap (byte to) (sym same) ∙ has_byte src to m f 47 (spaces_end src i) (omega arith) slash)
       (ap (λ (x : ℕ). byte to (x + 1)) (sym same) ∙ has_byte src to m f 62 (spaces_end src i + 1) (omega arith) close))
 
-  -- a tag
+  -- A tag.
   pub tag_cut : (main : Bool) (Includes : Inclusion) (i j b c : ℕ) (is_empty : Bool) (t : Tag) → j ≤ m → IsTag main Includes src i j b c is_empty t → IsTag main Includes to i j b c is_empty t
   tag_cut main Includes i j b c is_empty _ fits (start_tag n last name written begin is_name list end) =
       let le = qname_le src (i + 1) name n is_name in

@@ -10,8 +10,7 @@ use Rattle.rox_grammar.specs.Written.{Tag, Item, Element, leaf}
 use Rattle.rox_grammar.specs.Names.{byte, slice}
 use Rattle.rox_grammar.specs.Content.{comment, instruction, IsElement}
 use Rattle.rox_grammar.specs.WellNamed.{AreWellNamed}
-use Rattle.rox_grammar.specs.TextStart.{after_bom, MayHaveXmlDecl, declared, not_declared}
-use Rattle.rox_grammar.specs.FixedTexts.{bom}
+use Rattle.rox_grammar.specs.TextStart.{after_bom, MayHaveXmlDecl, declared, not_declared, bom}
 use Rattle.rox_grammar.specs.Entities.{no_entities}
 use Rattle.rox_grammar.specs.Document.{Misc, no_misc, space, an_item}
 use Rattle.rox_grammar.specs.Exchange.{Move, moved, replaced}
@@ -39,7 +38,7 @@ use Rattle.rox_exchange.proofs.Put.{sizes, parts, put, behind, in_front, exchang
 lacks_bom : IsMissing 60 bom
 lacks_bom = ((λ e. omega arith), ((λ e. omega arith), ((λ e. omega arith), tt)))
 
--- behind its first byte the start of a declaration has no `<`
+-- After its first byte the start of a declaration has no `<`.
 abbrev behind_first : List ℕ
 behind_first = 63 ∷ 120 ∷ 109 ∷ 108 ∷ 32 ∷ []
 
@@ -52,12 +51,12 @@ no_second (suc (suc (suc (suc zero)))) e = omega arith
 no_second (suc (suc (suc (suc (suc j))))) e = cc e
 
 module _ (src to : List ℕ) (s : ℕ) (f : Fronts src to (s + 1)) (begins : byte src s ≡ 60) (begins' : byte to s ≡ 60) (none_there : at word.XmlDeclStart to s ≡ false) where
-  -- a byte order mark
+  -- A byte order mark.
   bom_cut : after_bom src ≡ after_bom to
   unfolding stands
   bom_cut = ap (λ (b : Bool). cond b 3 0) (word_cut src to (s + 1) f 60 bom 0 s (omega arith) lacks_bom (omega arith) (omega arith) begins)
 
-  -- no declaration
+  -- No declaration.
   undeclared_cut : (i : ℕ) → i ≤ s → at word.XmlDeclStart src i ≡ false → at word.XmlDeclStart to i ≡ false
   undeclared_cut i le none =
       elim (cases_Bool (at word.XmlDeclStart to i)) as (λ q. at word.XmlDeclStart to i ≡ false) [
@@ -87,7 +86,7 @@ module _ (src : List ℕ) (s e : ℕ) (t : Tag) (kids : Forest Item) where
   none_around i j items (an_item _ k _ item more one rest) is =
       elim (stands_join s e t kids (leaf item) more is) as (λ q. ⊥) [ inl early ↦ no_misc_item src s e t kids i k item one early | inr late ↦ none_around k j more rest late ]
 
-  -- so an element of the document is in the root element
+  -- So an element of the document is in the root element.
   pub in_root : (tops : Forest Item) (p : ParseWithout src tops) → StandsInEach s e t kids tops → StandsInEach s e t kids p.one
   in_root tops p is =
       elim (stands_join s e t kids p.before (join p.one p.after) (subst (StandsInEach s e t kids) p.is_tree is)) as (λ q. StandsInEach s e t kids p.one) [
@@ -104,14 +103,14 @@ up_to_around src s i j items (space _ _ _ white rest) = up_to_around src s (i + 
 up_to_around src s i j items (an_item _ k _ _ more (comment _ x _ is) rest) = up_to_around src s k j more rest
 up_to_around src s i j items (an_item _ k _ _ more (instruction _ n x _ is) rest) = up_to_around src s k j more rest
 
--- the top nodes of a document are in order
+-- The top nodes of a document are in order.
 pub tops_ordered : (src : List ℕ) (tops : Forest Item) → ParseWithout src tops → Ordered 0 (length src) tops
 tops_ordered src tops p =
     let one = ordered_join p.start p.end (length src) p.one p.after (element_ordered src p.start p.end 255 p.openings_left p.one p.element) (around_ordered src p.end (length src) p.after p.misc_after) in
     let all = ordered_join p.prolog.0 p.start (length src) p.before (join p.one p.after) (around_ordered src p.prolog.0 p.start p.before p.prolog.2) one in
     subst (Ordered 0 (length src)) (sym p.is_tree) (wider p.prolog.0 (length src) 0 (length src) (join p.before (join p.one p.after)) (omega arith) (omega arith) all)
 
--- a row that one element begins, with another within it
+-- A row that one element begins, with another within it.
 exchanged_front : (mv : Move) (new : Forest Item) (s i j : ℕ) (t : Tag) (kids after : Forest Item) → i ≤ s → s < j
     → exchanged_items mv new s (join (Cons (Element i j t) kids Nil) after) ≡ join (exchanged_items mv new s (Cons (Element i j t) kids Nil)) (moved_items mv after)
 exchanged_front mv new s i j t kids after le lt =
@@ -127,11 +126,11 @@ module _ (src other : List ℕ) (s e a z : ℕ) (t : Tag) (kids one : Forest Ite
   abbrev hole : Forest Item
   hole = Cons (Element s e t) kids Nil
 
-  -- where the element stands
+  -- Where the element is.
   placed : ElementWith src s e hole p.start p.end p.one × IsElement true no_entities src s e 255 255 hole
   placed = element_found src s e t kids p.start p.end 255 p.openings_left p.one p.element (in_root src s e t kids tops p is)
 
-  -- the items of the new text
+  -- The items of the new text.
   items_are : exchanged_items (record { add = z - a; sub = e - s }) (moved_items (record { add = s; sub = a }) one) s tops
       ≡ join p.before (join (exchanged_items (record { add = z - a; sub = e - s }) (moved_items (record { add = s; sub = a }) one) s p.one) (moved_items (record { add = z - a; sub = e - s }) p.after))
   items_are =
@@ -146,7 +145,7 @@ module _ (src other : List ℕ) (s e a z : ℕ) (t : Tag) (kids one : Forest Ite
       (exchanged_front mv put_in s p.start p.end o.0 o.1 p.after b0 (omega arith)) in
       ap (exchanged_items mv put_in s) p.is_tree ∙ past_front mv put_in s p.before (join p.one p.after) (up_to_around src s p.prolog.0 p.start p.before p.prolog.2) ∙ ap (join p.before) front
 
-  -- how long it is
+  -- How long it is.
   pub long_exchanged : moved (record { add = z - a; sub = e - s }) (length src) ≡ length (replaced src s e (slice other a z))
   long_exchanged =
       let n = sizes src other s e a z utf8 utf8' hole one placed.1 new in

@@ -22,7 +22,7 @@ use Rattle.rox_exchange.proofs.Documents.{tops_ordered}
 use Rattle.rox_exchange.proofs.Exchanging.{shifted_size, moved_element, contained_inside, subtree_some, later, itself_contained, itself_there, before_contained, before_there, behind_contained, behind_there}
 use Rattle.rox_exchange.proofs.Wholes.{Whole, whole, same_tree, exchange_whole, utf8_exchanged, cut_is}
 
--- a self-contained node is one element
+-- A self-contained node is one element.
 pub single : (f : Forest Node) (k : ℕ) → self_contained f k ≡ true → (node : Node) × (children : Forest Node) × (subtree f k ≡ Cons node children Nil) × (is_element_node node ≡ true)
 single Nil k is = cc is
 single (Cons node children rest) zero is = (node, children, refl, is)
@@ -54,7 +54,7 @@ moved_end m (tree.Text start end value borrowed) is = cc is
 moved_end m (tree.Comment start end text) is = cc is
 moved_end m (tree.PI start end target value) is = cc is
 
--- where a self-contained node starts and ends once it has moved
+-- Where a self-contained node starts and ends once it has moved.
 row_moved : (m : Move) (f : Forest Node) (k : ℕ) → self_contained f k ≡ true → (row_start (shifted m (subtree f k)) ≡ moved m (start_at f k)) × (row_end (shifted m (subtree f k)) ≡ moved m (end_at f k))
 row_moved m f k is =
     let s = single f k is in
@@ -69,7 +69,7 @@ module _ (f : Forest Node) (id : ℕ) (other : Forest Node) (at : ℕ) (is : sel
   abbrev goes : Move
   goes = record { add = start_at f id; sub = start_at other at }
 
-  -- by what is put in
+  -- By what is put in.
   by_new : (P : Forest Node → Type 0) → ((node : Node) (children : Forest Node) → is_element_node node ≡ true → P (Cons node children Nil)) → P (subtree other at)
   by_new P all = let s = single other at is' in subst P (sym s.2) (all s.0 s.1 s.3)
 
@@ -93,7 +93,7 @@ module _ (f : Forest Node) (id : ℕ) (other : Forest Node) (at : ℕ) (is : sel
       by_new (λ (g : Forest Node). subtree (exchanged mv (shifted goes g) f id) k ≡ subtree f k)
       (λ node children element. before_there mv (moved_node goes node) (shifted goes children) f id k (contained_inside f id is) before less)
 
-  -- where a node behind it goes
+  -- Where a node after it goes.
   later_is : (node : Node) (children : Forest Node) (k : ℕ) → k + size (Cons node children Nil) - size (subtree f id) ≡ later mv (moved_node goes node) (shifted goes children) f id k
   later_is node children k = omega (arith, shifted_size goes children)
 
@@ -121,7 +121,7 @@ module _ (f : Forest Node) (id : ℕ) (other : Forest Node) (at : ℕ) (is : sel
         ];
   }
 
--- ---- of two self-contained nodes the one behind the other starts where the other ends, or later
+-- ---- of two self-contained nodes the one after the other starts where the other ends, or later
 
 bounds : (i j : ℕ) (f : Forest Item) (k : ℕ) → Ordered i j f → self_contained (resolved [] f) k ≡ true → (i ≤ start_at (resolved [] f) k) × (end_at (resolved [] f) k ≤ j)
 bounds i j f k order is =
@@ -211,7 +211,7 @@ apart_in i j (Cons (PI a z v o) children rest) (suc k) (suc l) (bare, next) is i
     let fits' : suc k + size (subtree (resolved [] rest) (k - 0)) ≤ suc l = rw k_out at fits in
     rw (k_out, l_out) (apart_in i j rest (k - 0) (l - 0) next k_is' l_is' (omega arith))) is is' le
 
--- by ids of the whole tree
+-- By ids of the whole tree.
 apart_tops : (n : ℕ) (tops : Forest Item) (i j : ℕ) → Ordered 0 n tops → self_contained (document_tree n tops) i ≡ true → self_contained (document_tree n tops) j ≡ true
     → i + size (subtree (document_tree n tops) i) ≤ j → end_at (document_tree n tops) i ≤ start_at (document_tree n tops) j
 apart_tops n tops zero j order is is' le = cc is
@@ -232,7 +232,7 @@ apart_ids text f i j h is is' le =
 
 -- ---- on texts
 
--- what stands in the middle, replaced
+-- What is in the middle, replaced.
 replace_mid : (x y v b : List ℕ) (i j : ℕ) → i ≡ length x → j ≡ length x + length y → replaced (x ++ (y ++ v)) i j b ≡ x ++ (b ++ v)
 replace_mid x y v b i j at_i at_j =
     let front : take i (x ++ (y ++ v)) ≡ x = ap (λ (k : ℕ). take k (x ++ (y ++ v))) at_i ∙ take_seam x (y ++ v) in
@@ -240,7 +240,7 @@ replace_mid x y v b i j at_i at_j =
     ap (λ (k : ℕ). drop k (x ++ (y ++ v))) (at_j ∙ sym (length-append x y)) ∙ ap (drop (length (x ++ y))) (sym (append_assoc x y v)) ∙ drop-append_seam (x ++ y) v in
     ap (λ (p : List ℕ). p ++ (b ++ drop j (x ++ (y ++ v)))) front ∙ ap (λ (d : List ℕ). x ++ (b ++ d)) back
 
--- a slice and what is behind it
+-- A slice and what is after it.
 rejoin : (t : List ℕ) (i j : ℕ) → i ≤ j → slice t i j ++ drop j t ≡ drop i t
 rejoin t i j le =
     let e : j ≡ i + (j - i) = omega arith in
@@ -252,7 +252,7 @@ slice_long t i j le inside = omega (arith, length-take (j - i) (drop i t), lengt
 assoc_three : (x y z w : List ℕ) → (x ++ (y ++ z)) ++ w ≡ x ++ (y ++ (z ++ w))
 assoc_three x y z w = append_assoc x (y ++ z) w ∙ ap (λ (l : List ℕ). x ++ l) (append_assoc y z w)
 
--- two places, one behind the other, in either order
+-- Two places, one after the other, in either order.
 two_places : (t one two : List ℕ) (s e s' e' n : ℕ) → s ≤ e → e ≤ s' → s' ≤ e' → e' ≤ length t → length one ≡ n
     → replaced (replaced t s e one) (s' + n - (e - s)) (e' + n - (e - s)) two ≡ replaced (replaced t s' e' two) s e one
 two_places t one two s e s' e' n le mid le' inside long =
@@ -289,14 +289,14 @@ module _ (text : List ℕ) (f : Forest Node) (id : ℕ) (other_text : List ℕ) 
   abbrev w' : Whole other_text other at
   w' = whole other_text other at h' is'
 
-  -- the new document
+  -- The new document.
   pub new_tree : HasTree (text_with f text id other other_text at) (with_other f id other at)
   new_tree = exchange_whole text f id other_text other at utf8 utf8' w w'
 
   pub new_utf8 : IsUtf8 (text_with f text id other other_text at)
   new_utf8 = utf8_exchanged text f id other_text other at utf8 utf8' w w'
 
-  -- where what was put in stands
+  -- Where what was put in is.
   starts_there : start_at (with_other f id other at) id ≡ start_at f id
   starts_there =
       let r = (row_moved (record { add = start_at f id; sub = start_at other at }) other at is').0 in
@@ -333,7 +333,7 @@ module _ (text : List ℕ) (f : Forest Node) (id : ℕ) (other_text : List ℕ) 
         same_tree text (with_other (with_other f id other at) id f id) f utf8 (subst (λ (t : List ℕ). HasTree t (with_other (with_other f id other at) id f id)) text_back back) h;
   }
 
--- one node behind the other
+-- One node after the other.
 module _ (text : List ℕ) (f : Forest Node) (i : ℕ) (one_text : List ℕ) (one : Forest Node) (a : ℕ) (j : ℕ) (two_text : List ℕ) (two : Forest Node) (b : ℕ)
     (utf8 : IsUtf8 text) (utf8_one : IsUtf8 one_text) (utf8_two : IsUtf8 two_text) (h : HasTree text f) (h_one : HasTree one_text one) (h_two : HasTree two_text two)
     (is_i : self_contained f i ≡ true) (is_j : self_contained f j ≡ true) (is_a : self_contained one a ≡ true) (is_b : self_contained two b ≡ true) (behind : i + size (subtree f i) ≤ j) where
@@ -406,7 +406,7 @@ module _ (text : List ℕ) (f : Forest Node) (i : ℕ) (one_text : List ℕ) (on
         (subst (λ (t : List ℕ). HasTree t (with_other f2 (id_after f j two b i) one a)) (sym texts_agree) right);
   }
 
--- two nodes, neither of which is below the other
+-- Two nodes, neither of which is below the other.
 pub commutes : (text : List ℕ) (f : Forest Node) (i : ℕ) (one_text : List ℕ) (one : Forest Node) (a : ℕ) (j : ℕ) (two_text : List ℕ) (two : Forest Node) (b : ℕ)
     → IsUtf8 text → IsUtf8 one_text → IsUtf8 two_text → HasTree text f → HasTree one_text one → HasTree two_text two
     → self_contained f i ≡ true → self_contained f j ≡ true → self_contained one a ≡ true → self_contained two b ≡ true → AreSeparate f i j → Commutes f text i one one_text a j two two_text b

@@ -38,14 +38,14 @@ stretched_element m (Text start end value borrowed) = refl
 stretched_element m (Comment start end text) = refl
 stretched_element m (PI start end target value) = refl
 
--- what moves stays self-contained
+-- What moves stays self-contained.
 shifted_contained : (m : Move) (f : Forest Node) (k : ℕ) → self_contained (shifted m f) k ≡ self_contained f k
 shifted_contained m Nil k = refl
 shifted_contained m (Cons node children rest) zero = moved_element m node
 shifted_contained m (Cons node children rest) (suc k) =
     rw (shifted_size m children, moved_lists m node, shifted_contained m children k, shifted_contained m rest (k - size children)) refl
 
--- and is what it was, moved
+-- And is what it was, moved.
 shifted_subtree : (m : Move) (f : Forest Node) (k : ℕ) → subtree (shifted m f) k ≡ shifted m (subtree f k)
 shifted_subtree m Nil k = refl
 shifted_subtree m (Cons node children rest) zero = refl
@@ -55,7 +55,7 @@ shifted_subtree m (Cons node children rest) (suc k) =
       | inr le ↦ (let out = le-ltb k (size children) le in rw (shifted_size m children, out) (shifted_subtree m rest (k - size children)))
     ]
 
--- a node is there
+-- A node is there.
 pub subtree_some : (f : Forest Node) (k : ℕ) → k < size f → 0 < size (subtree f k)
 subtree_some Nil k lt = absurd (omega arith)
 subtree_some (Cons node children rest) zero lt = omega arith
@@ -65,7 +65,7 @@ subtree_some (Cons node children rest) (suc k) lt =
       | inr past ↦ (let out = le-ltb k (size children) past in rw out (subtree_some rest (k - size children) (omega arith)))
     ]
 
--- a subtree ends in the tree
+-- A subtree ends in the tree.
 pub subtree_ends : (f : Forest Node) (k : ℕ) → k < size f → k + size (subtree f k) ≤ size f
 subtree_ends Nil k lt = absurd (omega arith)
 subtree_ends (Cons node children rest) zero lt = omega arith
@@ -75,7 +75,7 @@ subtree_ends (Cons node children rest) (suc k) lt =
       | inr past ↦ (let out = le-ltb k (size children) past in let n = subtree_ends rest (k - size children) (omega arith) in rw out (omega arith))
     ]
 
--- a self-contained node is there
+-- A self-contained node is there.
 pub contained_inside : (f : Forest Node) (k : ℕ) → self_contained f k ≡ true → k < size f
 contained_inside Nil k is = cc is
 contained_inside (Cons node children rest) zero is = omega arith
@@ -93,7 +93,7 @@ module _ (m : Move) (new : Node) (below : Forest Node) where
   abbrev one : Forest Node
   one = Cons new below Nil
 
-  -- how many nodes there are then
+  -- How many nodes there are then.
   pub exchanged_size : (f : Forest Node) (id : ℕ) → id < size f → size (exchanged m one f id) + size (subtree f id) ≡ size f + size one
   exchanged_size Nil id lt = absurd (omega arith)
   exchanged_size (Cons node children rest) zero lt = omega (arith, shifted_size m rest)
@@ -109,14 +109,14 @@ module _ (m : Move) (new : Node) (below : Forest Node) where
             rw out (omega arith))
       ]
 
-  -- the node itself is there still
+  -- The node itself is there still.
   stays_under : (f : Forest Node) (id k : ℕ) → id < size f → k ≤ id → k < size (exchanged m one f id)
   stays_under f id k lt le =
       let n = exchanged_size f id lt in
       let e = subtree_ends f id lt in
       omega arith
 
-  -- what was put in
+  -- What was put in.
   pub itself_contained : (f : Forest Node) (id : ℕ) → self_contained f id ≡ true → self_contained (exchanged m one f id) id ≡ is_element_node new
   itself_contained Nil id is = cc is
   itself_contained (Cons node children rest) zero is = refl
@@ -146,7 +146,7 @@ module _ (m : Move) (new : Node) (below : Forest Node) where
         | inr past ↦ (let out = le-ltb id (size children) past in rw out (rw out (itself_there rest (id - size children) (omega arith))))
       ]
 
-  -- a node in front of it, or above it
+  -- A node in front of it, or above it.
   pub before_contained : (f : Forest Node) (id k : ℕ) → id < size f → k < id → self_contained (exchanged m one f id) k ≡ self_contained f k
   before_contained Nil id k lt before = absurd (omega arith)
   before_contained (Cons node children rest) zero k lt before = absurd (omega arith)
@@ -174,7 +174,7 @@ module _ (m : Move) (new : Node) (below : Forest Node) where
         ]
       ]
 
-  -- in front of it and not above it
+  -- In front of it and not above it.
   pub before_there : (f : Forest Node) (id k : ℕ) → id < size f → k + size (subtree f k) ≤ id → k < id → subtree (exchanged m one f id) k ≡ subtree f k
   before_there Nil id k lt before less = absurd (omega arith)
   before_there (Cons node children rest) zero k lt before less = absurd (omega arith)
@@ -202,7 +202,7 @@ module _ (m : Move) (new : Node) (below : Forest Node) where
         ]
       ]
 
-  -- where a node behind it goes
+  -- Where a node after it goes.
   abbrev pub later : Forest Node → ℕ → ℕ → ℕ
   later f id k = k + size one - size (subtree f id)
 

@@ -1,4 +1,4 @@
--- What stands at a place of a source stands wherever the same bytes follow: bytes, runs, marks, slices.
+-- What is at a place of a source stands wherever the same bytes follow: bytes, runs, marks, slices.
 use Rattle.std.proofs.Common.{◌≡◌, ℕ, ◌+◌, ◌-◌, ◌≤◌, ◌==◌, Bool, List, length, take, drop, get_or, sym, ap, ◌∙◌, subst, arith, length-drop, get_or-drop}
 use Rattle.std.specs.List.{position_or_len, starts_with, prefix_len}
 use Rattle.std.specs.Str.{chars}
@@ -13,17 +13,17 @@ use Rattle.rox_grammar.specs.Exchange.{Move, moved}
 use Rattle.rox_exchange.specs.Local.{Follows}
 
 module _ (m : Move) (src to : List ℕ) where
-  -- so it does further on
+  -- So it does further on.
   pub on : (i k n : ℕ) → Follows m src i to k → Follows m src (i + n) to (k + n)
   on i k n f =
       let is = f.at in
       record { same = sym (drop-drop n i src) ∙ ap (drop n) f.same ∙ drop-drop n k to; at = omega arith }
 
-  -- where a place moves to
+  -- Where a place moves to.
   pub lands : (i k : ℕ) → Follows m src i to k → moved m i ≡ k
   lands i k f = let is = f.at in omega arith
 
-  -- and from each later place on
+  -- And from each later place on.
   pub from : (i k j : ℕ) → i ≤ j → Follows m src i to k → Follows m src j to (moved m j)
   from i k j le f =
       let is = f.at in
@@ -31,27 +31,27 @@ module _ (m : Move) (src to : List ℕ) where
       let b : k + (j - i) ≡ moved m j = omega arith in
       subst (λ (x : ℕ). Follows m src j to x) b (subst (λ (x : ℕ). Follows m src x to (k + (j - i))) a (on i k (j - i) f))
 
-  -- from where it lands
+  -- From where it lands.
   pub here : (i k : ℕ) → Follows m src i to k → Follows m src i to (moved m i)
   here i k f = from i k i (omega arith) f
 
-  -- a byte
+  -- A byte.
   pub byte_moves : (i k : ℕ) → Follows m src i to k → byte src i ≡ byte to k
   byte_moves i k f =
       let z : i + 0 ≡ i = omega arith in
       let y : k + 0 ≡ k = omega arith in
       ap (byte src) (sym z) ∙ sym (get_or-drop i src 0 0) ∙ ap (λ (bs : List ℕ). get_or bs 0 0) f.same ∙ get_or-drop k to 0 0 ∙ ap (byte to) y
 
-  -- how much is left
+  -- How much is left.
   pub rest_moves : (i k : ℕ) → Follows m src i to k → length src - i ≡ length to - k
   rest_moves i k f = sym (length-drop i src) ∙ ap length f.same ∙ length-drop k to
 
-  -- a fixed text
+  -- A fixed text.
   pub stands_moves : (mark : List ℕ) (i k : ℕ) → Follows m src i to k → stands mark src i ≡ stands mark to k
   unfolding stands
   stands_moves mark i k f = ap (λ (bs : List ℕ). starts_with ◌==◌ bs mark) f.same
 
-  -- the first place of a fixed text
+  -- The first place of a fixed text.
   pub mark_moves : (mark : List ℕ) (i k e : ℕ) → Follows m src i to k → e ≡ mark_from mark src i → moved m e ≡ mark_from mark to k
   unfolding mark_from
   mark_moves mark i k e f is =
@@ -59,7 +59,7 @@ module _ (m : Move) (src to : List ℕ) where
       let q : before_mark mark (drop i src) ≡ before_mark mark (drop k to) = ap (before_mark mark) f.same in
       omega arith
 
-  -- the first place of a byte
+  -- The first place of a byte.
   pub byte_from_moves : (p : ℕ → Bool) (i k e : ℕ) → Follows m src i to k → e ≡ byte_from p src i → moved m e ≡ byte_from p to k
   unfolding byte_from
   byte_from_moves p i k e f is =
@@ -67,7 +67,7 @@ module _ (m : Move) (src to : List ℕ) where
       let q : position_or_len p (drop i src) ≡ position_or_len p (drop k to) = ap (position_or_len p) f.same in
       omega arith
 
-  -- the end of a stretch of bytes
+  -- The end of a stretch of bytes.
   pub bytes_end_moves : (p : ℕ → Bool) (i k e : ℕ) → Follows m src i to k → e ≡ bytes_end p src i → moved m e ≡ bytes_end p to k
   unfolding bytes_end
   bytes_end_moves p i k e f is =
@@ -75,7 +75,7 @@ module _ (m : Move) (src to : List ℕ) where
       let q : prefix_len p (drop i src) ≡ prefix_len p (drop k to) = ap (prefix_len p) f.same in
       omega arith
 
-  -- the end of a run of characters
+  -- The end of a run of characters.
   pub run_end_moves : (p : ℕ → Bool) (i k e : ℕ) → Follows m src i to k → e ≡ run_end p src i → moved m e ≡ run_end p to k
   unfolding run_end
   run_end_moves p i k e f is =
@@ -83,12 +83,12 @@ module _ (m : Move) (src to : List ℕ) where
       let q : passing p (chars (drop i src)) ≡ passing p (chars (drop k to)) = ap (λ (bs : List ℕ). passing p (chars bs)) f.same in
       omega arith
 
-  -- its first character
+  -- Its first character.
   pub begins_moves : (p : ℕ → Bool) (i k : ℕ) → Follows m src i to k → begins p src i ≡ begins p to k
   unfolding begins
   begins_moves p i k f = ap (λ (bs : List ℕ). first_passes p (chars bs)) f.same
 
-  -- what stands up to a place, from another on
+  -- What is up to a place, from another on.
   pub front_moves : (i k e : ℕ) → i ≤ e → Follows m src i to k → drop i (take e src) ≡ drop k (take (moved m e) to)
   front_moves i k e le f =
       let at = f.at in
@@ -97,7 +97,7 @@ module _ (m : Move) (src to : List ℕ) where
       let b : k + d ≡ moved m e = omega arith in
       ap (λ (n : ℕ). drop i (take n src)) (sym a) ∙ drop-take i d src ∙ ap (take d) f.same ∙ sym (drop-take k d to) ∙ ap (λ (n : ℕ). drop k (take n to)) b
 
-  -- Chars
+  -- Chars.
   pub chars_move : (i k e : ℕ) → i ≤ e → Follows m src i to k → AreChars src i e → AreChars to k (moved m e)
   unfolding run_end
   chars_move i k e le f are =
@@ -105,7 +105,7 @@ module _ (m : Move) (src to : List ℕ) where
       let q : passing is_char (chars (drop i (take e src))) ≡ passing is_char (chars (drop k (take (moved m e) to))) = ap (λ (bs : List ℕ). passing is_char (chars bs)) (front_moves i k e le f) in
       omega arith
 
-  -- a byte of what stands up to a place
+  -- A byte of what is up to a place.
   pub markup_moves : (p : ℕ → Bool) (i k e : ℕ) → i ≤ e → Follows m src i to k → e ≡ byte_from p (take e src) i → moved m e ≡ byte_from p (take (moved m e) to) k
   unfolding byte_from
   markup_moves p i k e le f is =
@@ -113,17 +113,17 @@ module _ (m : Move) (src to : List ℕ) where
       let q : position_or_len p (drop i (take e src)) ≡ position_or_len p (drop k (take (moved m e) to)) = ap (position_or_len p) (front_moves i k e le f) in
       omega arith
 
-  -- a slice
+  -- A slice.
   pub slice_moves : (i k e : ℕ) → i ≤ e → Follows m src i to k → slice src i e ≡ slice to k (moved m e)
   slice_moves i k e le f =
       let at = f.at in
       let d : e - i ≡ moved m e - k = omega arith in
       ap (λ (n : ℕ). take n (drop i src)) d ∙ ap (take (moved m e - k)) f.same
 
--- the other way
+-- The other way.
 pub back : (m : Move) (src to : List ℕ) (i k : ℕ) → Follows m src i to k → Follows (record { add = m.sub; sub = m.add }) to k src i
 back m src to i k f = let at = f.at in record { same = sym f.same; at = omega arith }
 
--- there and back
+-- There and back.
 pub back_lands : (m : Move) (src to : List ℕ) (i k j : ℕ) → i ≤ j → Follows m src i to k → moved (record { add = m.sub; sub = m.add }) (moved m j) ≡ j
 back_lands m src to i k j le f = let at = f.at in omega arith

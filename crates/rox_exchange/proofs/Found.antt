@@ -5,6 +5,7 @@ use Rattle.rox_grammar.specs.Written.{Tag, Item, Element, Text, Comment, PI, glu
 use Rattle.rox_grammar.specs.Entities.{no_entities}
 use Rattle.std.specs.List.{list_any}
 use Rattle.rox_grammar.specs.Names.{slice}
+use Rattle.rox_grammar.specs.References.{entity_reference}
 use Rattle.rox_grammar.specs.Content.{DataByte, literals, line_ends, piece, last_part, then_entity, IsMisc, comment, instruction, IsElement, empty, nest, Content, ends, run, cdata, misc, node}
 use Rattle.rox_grammar.specs.RunParts.{Parts}
 use Rattle.rox_theory.proofs.Following.{tag_free}
@@ -12,7 +13,7 @@ use Rattle.rox_exchange.specs.ElementWith.{ElementWith, here, inside, ContentWit
 use Rattle.rox_exchange.proofs.Context.{join_assoc, join_nil, content_join}
 use Rattle.rox_exchange.specs.SourceKinds.{StandsInEach, first, below, beside}
 
--- the element in front, or one further on
+-- The element in front, or one further on.
 cases_front : (s e : ℕ) (t : Tag) (kids : Forest Item) (i j : ℕ) (u : Tag) (low rest : Forest Item) → StandsInEach s e t kids (Cons (Element i j u) low rest)
     → ((s ≡ i) × (e ≡ j) × (t ≡ u) × (kids ≡ low)) ⊎ (StandsInEach s e t kids low ⊎ StandsInEach s e t kids rest)
 cases_front s e t kids i j u low rest (first _) = inl (refl, refl, refl, refl)
@@ -27,7 +28,7 @@ module _ (s e : ℕ) (t : Tag) (kids : Forest Item) where
   stands_join (Cons item children rest) g (beside _ _ _ is) =
       elim (stands_join rest g is) as (λ q. StandsInEach s e t kids (Cons item children rest) ⊎ StandsInEach s e t kids g) [ inl is ↦ inl (beside item children rest is) | inr is ↦ inr is ]
 
-  -- behind a text
+  -- After a text.
   past_text : (a z : ℕ) (v : List ℕ) (borrowed : Bool) (under f : Forest Item) → StandsInEach s e t kids (Cons (Text a z v borrowed) under f) → StandsInEach s e t kids under ⊎ StandsInEach s e t kids f
   past_text a z v borrowed under f (below _ _ _ is) = inl is
   past_text a z v borrowed under f (beside _ _ _ is) = inr is
@@ -46,7 +47,7 @@ module _ (s e : ℕ) (t : Tag) (kids : Forest Item) where
   stands_glue a z v borrowed under (Cons (Comment x y u) children rest) is = past_text a z v borrowed under (Cons (Comment x y u) children rest) is
   stands_glue a z v borrowed under (Cons (PI x y u o) children rest) is = past_text a z v borrowed under (Cons (PI x y u o) children rest) is
 
-  -- texts that touch hide no element
+  -- Texts that touch hide no element.
   pub stands_merge : (f : Forest Item) → StandsInEach s e t kids (merge f) → StandsInEach s e t kids f
   stands_merge Nil is = is
   stands_merge (Cons (Text a z v borrowed) children rest) is =
@@ -62,11 +63,11 @@ module _ (s e : ℕ) (t : Tag) (kids : Forest Item) where
   stands_merge (Cons (PI a z u o) children rest) (below _ _ _ is) = below (PI a z u o) children rest is
   stands_merge (Cons (PI a z u o) children rest) (beside _ _ _ is) = beside (PI a z u o) children rest (stands_merge rest is)
 
-  -- an empty row has none
+  -- An empty row has none.
   pub in_none : StandsInEach s e t kids Nil → ⊥
   in_none is = elim is [ ]
 
-  -- a part has none
+  -- A part has none.
   no_piece : (start stop : ℕ) (borrowed : Bool) (ss : List DataByte) → StandsInEach s e t kids (piece start stop borrowed ss) → ⊥
   no_piece start stop borrowed [] is = in_none is
   no_piece start stop borrowed (x ∷ ss) is = nowhere _ _ _ _ is
@@ -80,7 +81,7 @@ module _ (src : List ℕ) where
 
   parts_free : (start stop i b c : ℕ) (items : Forest Item) → Parts true no_entities src start stop i b c items → (d : ℕ) → Parts true no_entities src start stop i d d items
   parts_free start stop i b c items (last_part _ _ ss is) d = last_part i d ss is
-  parts_free start stop i b c items (then_entity _ p n j _ x _ ss one more is reference name opens rest) d = absurd opens
+  parts_free start stop i b c items (then_entity _ p j _ x _ _ ss one more is (entity_reference n reference name) opens rest) d = absurd opens
 
   mutual
     pub content_free : (i j b c : ℕ) (items : Forest Item) → Content true no_entities src i j b c items → (d : ℕ) → Content true no_entities src i j d d items
@@ -98,12 +99,12 @@ module _ (src : List ℕ) (s e : ℕ) (t : Tag) (kids : Forest Item) where
   abbrev hole : Forest Item
   hole = Cons (Element s e t) kids Nil
 
-  -- content in front of content with it
+  -- Content in front of content with it.
   ahead : (i k j : ℕ) (f g : Forest Item) → Content true no_entities src i k 255 255 f → ContentWith src s e hole k j g → ContentWith src s e hole i j (join f g)
   ahead i k j f g front (between _ x y _ before one after is mid rest) =
       rw (← join_assoc f before (join one after)) (between i x y j (join f before) one after (content_join src i k x 255 255 255 f before front is) mid rest)
 
-  -- an item that is no element
+  -- An item that is not an element.
   pub no_misc_item : (i k : ℕ) (item : Item) → IsMisc src i k item → StandsInEach s e t kids (leaf item) → ⊥
   no_misc_item i k item (comment _ x _ is) (below _ _ _ low) = in_none s e t kids low
   no_misc_item i k item (comment _ x _ is) (beside _ _ _ low) = in_none s e t kids low
@@ -116,10 +117,10 @@ module _ (src : List ℕ) (s e : ℕ) (t : Tag) (kids : Forest Item) where
 
   no_parts : (start stop i b c : ℕ) (items : Forest Item) → Parts true no_entities src start stop i b c items → StandsInEach s e t kids items → ⊥
   no_parts start stop i b c items (last_part _ _ ss is) stands = no_piece s e t kids start stop _ ss stands
-  no_parts start stop i b c items (then_entity _ p n j _ x _ ss one more is reference name opens rest) stands = absurd opens
+  no_parts start stop i b c items (then_entity _ p j _ x _ _ ss one more is (entity_reference n reference name) opens rest) stands = absurd opens
 
   mutual
-    -- an element among the items has its place, and is an element
+    -- An element among the items has its place, and is an element.
     pub element_found : (i j b c : ℕ) (all : Forest Item) → IsElement true no_entities src i j b c all → StandsInEach s e t kids all → ElementWith src s e hole i j all × IsElement true no_entities src s e 255 255 hole
     element_found i j b c all (empty _ _ _ _ u is) stands =
         elim (cases_front s e t kids i j u Nil Nil stands) as (λ q. ElementWith src s e hole i j (leaf (Element i j u)) × IsElement true no_entities src s e 255 255 hole) [

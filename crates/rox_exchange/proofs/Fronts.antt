@@ -1,4 +1,4 @@
--- What stands in a source stands in each that has the same bytes up to its end: runs of characters, and where characters begin.
+-- What is in a source is in each that has the same bytes up to its end: runs of characters, and where characters begin.
 use Rattle.std.proofs.Common.{◌≡◌, ℕ, zero, suc, ◌+◌, ◌-◌, ◌<◌, Bool, true, false, not, List, [], ◌∷◌, ◌++◌, length, take, drop, get_or, refl, sym, ap, ◌∙◌, subst, arith, inl, inr, add-zero, length-drop, length-take, length-append, get_or-drop, take-append-drop}
 use Rattle.std.specs.List.{prefix_len}
 use Rattle.std.specs.Char.{encode_utf8, len_utf8}
@@ -20,7 +20,7 @@ use Rattle.rox_exchange.proofs.Cuts.{heads, fronts, run_end_front}
 
 -- ---- of one source
 
--- behind the characters that pass another begins
+-- After the characters that pass another begins.
 boundary_in : (p : ℕ → Bool) (src cs : List ℕ) (i : ℕ) → IsUtf8 src → IsCharBoundary src i → drop i src ≡ encode_utf8_all cs → IsCharBoundary src (i + passing p cs)
 boundary_in p src [] i utf8 cut is = rw (add-zero i) cut
 boundary_in p src (c ∷ cs) i utf8 cut is =
@@ -35,7 +35,7 @@ boundary_in p src (c ∷ cs) i utf8 cut is =
       | inr fails ↦ rw (fails, add-zero i) cut
     ]
 
--- a run that begins where a character does ends so
+-- A run that begins where a character does ends so.
 run_boundary : (p : ℕ → Bool) (src : List ℕ) (i : ℕ) → IsUtf8 src → IsCharBoundary src i → IsCharBoundary src (run_end p src i)
 unfolding run_end
 run_boundary p src i utf8 cut =
@@ -43,19 +43,19 @@ run_boundary p src i utf8 cut =
     let all : chars (drop i src) ≡ spelled.0 = ap chars (sym spelled.1.1) ∙ chars-encodes spelled.0 spelled.1.0 in
     rw all (boundary_in p src spelled.0 i utf8 cut (sym spelled.1.1))
 
--- the byte that was looked for passes
+-- The byte that was looked for passes.
 pub from_here : (p : ℕ → Bool) (src : List ℕ) (i : ℕ) → byte_from p src i < length src → p (byte src (byte_from p src i)) ≡ true
 unfolding byte_from
 from_here p src i below =
     let q = prefix_len_stops (λ c. not (p c)) (drop i src) 0 (rw length-drop (omega arith)) in
     not-false _ (rw get_or-drop at q)
 
--- where a mark stands, each of its bytes stands
+-- Where a mark is, each of its bytes stands.
 pub stands_reads : (mark src : List ℕ) (i j : ℕ) → stands mark src i ≡ true → j < length mark → byte src (i + j) ≡ get_or mark j 0
 unfolding stands
 stands_reads mark src i j h within = at_reads 0 src mark i _ ((starts_is Decides-eqb (drop i src) mark true (sym h)).0 refl) j within
 
--- characters that pass and one that does not, with others behind them
+-- Characters that pass and one that does not, with others after them.
 passing_more : (p : ℕ → Bool) (cs ds : List ℕ) → passing p cs < length (encode_utf8_all cs) → passing p (cs ++ ds) ≡ passing p cs
 passing_more p [] ds some = absurd (omega arith)
 passing_more p (c ∷ cs) ds some =
@@ -69,7 +69,7 @@ passing_more p (c ∷ cs) ds some =
       | inr fails ↦ rw fails refl
     ]
 
--- a run that ends before the end of a text in UTF-8 ends there with anything behind the text
+-- A run that ends before the end of a text in UTF-8 ends there with anything after the text.
 run_end_more : (p : ℕ → Bool) (front back : List ℕ) (i : ℕ) → IsUtf8 front → IsCharBoundary front i → run_end p front i < length front → run_end p (front ++ back) i ≡ run_end p front i
 unfolding run_end
 run_end_more p front back i utf8 cut below =
@@ -80,7 +80,7 @@ run_end_more p front back i utf8 cut below =
     let n : length (encode_utf8_all (chars (drop i front))) ≡ length front - i = ap length spelled ∙ length-drop i front in
     ap (λ (cs : List ℕ). i + passing p cs) both ∙ ap (λ (k : ℕ). i + k) (passing_more p (chars (drop i front)) (chars back) (omega arith))
 
--- its first character is that of the text
+-- Its first character is that of the text.
 begins_more : (p : ℕ → Bool) (front back : List ℕ) (i : ℕ) → IsUtf8 front → IsCharBoundary front i → i < length front → begins p (front ++ back) i ≡ begins p front i
 unfolding begins
 begins_more p front back i utf8 cut below =
@@ -94,7 +94,7 @@ begins_more p front back i utf8 cut below =
         absurd (omega arith)
     some (c ∷ cs) ds is = refl
 
--- the stretch of bytes that pass
+-- The stretch of bytes that pass.
 stretch_cut : (p : ℕ → Bool) (n : ℕ) (xs ys : List ℕ) → take n xs ≡ take n ys → prefix_len p xs < n → prefix_len p ys ≡ prefix_len p xs
 stretch_cut p zero xs ys h some = absurd (omega arith)
 stretch_cut p (suc n) [] [] h some = refl
@@ -114,11 +114,11 @@ stretch_cut p (suc n) (x ∷ xs) (y ∷ ys) h some =
 -- ---- of two that have one front
 
 module _ (src to : List ℕ) (m : ℕ) (f : Fronts src to m) where
-  -- how long the front is
+  -- How long the front is.
   long : length (take m src) ≡ m
   long = let inside = f.inside in omega (arith, length-take m src)
 
-  -- it is the other's too
+  -- It is the other's too.
   pub front_back : Fronts to src m
   front_back =
       let inside = f.inside in
@@ -131,7 +131,7 @@ module _ (src to : List ℕ) (m : ℕ) (f : Fronts src to m) where
   split_to : take m src ++ drop m to ≡ to
   split_to = ap (λ (bs : List ℕ). bs ++ drop m to) f.same ∙ take-append-drop m to
 
-  -- a character begins behind a byte that is ASCII
+  -- A character begins after a byte that is ASCII.
   pub behind : (b i : ℕ) → i < m → byte src i ≡ b → b < 128 → IsCharBoundary (take m src) (i + 1)
   behind b i below is ascii =
       let inside = f.inside in
@@ -139,7 +139,7 @@ module _ (src to : List ℕ) (m : ℕ) (f : Fronts src to m) where
       let same = get_or-take m src i 0 below in
       IsCharBoundary-after_ascii (take m src) i f.utf8 (omega arith) (omega arith)
 
-  -- a run of characters, and behind it another begins
+  -- A run of characters, and after it another begins.
   pub run_cuts : (p : ℕ → Bool) (i e : ℕ) → IsCharBoundary (take m src) i → e < m → e ≡ run_end p src i → (e ≡ run_end p to i) × IsCharBoundary (take m src) e
   run_cuts p i e cut below is =
       let n = long in
@@ -149,14 +149,14 @@ module _ (src to : List ℕ) (m : ℕ) (f : Fronts src to m) where
       let at : run_end p (take m src) i ≡ e = sym one ∙ whole in
       (sym at ∙ sym two ∙ ap (λ (bs : List ℕ). run_end p bs i) split_to, subst (IsCharBoundary (take m src)) at (run_boundary p (take m src) i f.utf8 cut))
 
-  -- its first character
+  -- Its first character.
   pub begins_cut : (p : ℕ → Bool) (i : ℕ) → IsCharBoundary (take m src) i → i < m → begins p src i ≡ begins p to i
   begins_cut p i cut below =
       let n = long in
       sym (ap (λ (bs : List ℕ). begins p bs i) split_src) ∙ begins_more p (take m src) (drop m src) i f.utf8 cut (omega arith)
       ∙ sym (begins_more p (take m src) (drop m to) i f.utf8 cut (omega arith)) ∙ ap (λ (bs : List ℕ). begins p bs i) split_to
 
-  -- a stretch of bytes
+  -- A stretch of bytes.
   pub bytes_end_cut : (p : ℕ → Bool) (i e : ℕ) → e ≡ bytes_end p src i → e < m → e ≡ bytes_end p to i
   unfolding bytes_end
   bytes_end_cut p i e is below =

@@ -15,12 +15,12 @@ use Rattle.rox_exchange.proofs.MovedItems.{moved_resolved}
 use Rattle.rox_exchange.proofs.Named.{none_listed}
 use Rattle.rox_exchange.proofs.Ordered.{Ordered, ordered_le}
 
--- rows one behind the other
+-- Rows one after the other.
 resolved_join : (above : List NamespaceDecl) (f g : Forest Item) → resolved above (join f g) ≡ join (resolved above f) (resolved above g)
 resolved_join above Nil g = refl
 resolved_join above (Cons item children rest) g = ap (Cons (node_in (tree.scope_in above item) item) (resolved (tree.scope_in above item) children)) (resolved_join above rest g)
 
--- The node of an id in a row whose parent lists nothing: the element, which stands between two places, and what has to be known of it.
+-- The node of an id in a row whose parent lists nothing: the element, which is between two places, and what has to be known of it.
 pub record Found (i j : ℕ) (f : Forest Item) (id : ℕ) : Type 0 where
   pub start : ℕ
   pub end : ℕ
@@ -33,7 +33,7 @@ pub record Found (i j : ℕ) (f : Forest Item) (id : ℕ) : Type 0 where
   pub named : AreWellNamed [] f → AreWellNamed [] (Cons (Element start end tag) kids Nil)
   pub exchange : (mv : Move) (one : Forest Item) → resolved [] (exchanged_items mv one start f) ≡ exchanged mv (resolved [] one) (resolved [] f) id
 
--- the first of a row
+-- The first of a row.
 found_first : (i j a z : ℕ) (t : Tag) (children rest : Forest Item) → Ordered i j (Cons (Element a z t) children rest) → Found i j (Cons (Element a z t) children rest) 0
 found_first i j a z t children rest (le, lt, low, next) =
     let same = eq-eqb a a refl in
@@ -50,7 +50,7 @@ found_first i j a z t children rest (le, lt, low, next) =
       exchange = λ mv one. rw same (resolved_join [] one (moved_items mv rest) ∙ ap (join (resolved [] one)) (moved_resolved mv [] rest));
     }
 
--- one of those below the first, which lists nothing
+-- One of those below the first, which lists nothing.
 found_below : (i j a z : ℕ) (t : Tag) (children rest : Forest Item) (id : ℕ) → listed [] t.declarations ≡ [] → Ordered i j (Cons (Element a z t) children rest)
     → nat_lt id (size (resolved (listed [] t.declarations) children)) ≡ true → Found (a + 1) z children id → Found i j (Cons (Element a z t) children rest) (suc id)
 found_below i j a z t children rest id bare (le, lt, low, next) inside found =
@@ -79,7 +79,7 @@ found_below i j a z t children rest id bare (le, lt, low, next) inside found =
           ∙ ap (Cons (stretched mv (node_in (listed [] t.declarations) (Element a z t))) (exchanged mv (resolved [] one) (resolved [] children) id)) (moved_resolved mv [] rest)));
     }
 
--- one of those behind the first
+-- One of those after the first.
 found_beside : (i j a z : ℕ) (t : Tag) (children rest : Forest Item) (id : ℕ) → Ordered i j (Cons (Element a z t) children rest)
     → nat_lt id (size (resolved (listed [] t.declarations) children)) ≡ false → Found z j rest (id - size (resolved (listed [] t.declarations) children)) → Found i j (Cons (Element a z t) children rest) (suc id)
 found_beside i j a z t children rest id (le, lt, low, next) outside found =
@@ -103,7 +103,7 @@ found_beside i j a z t children rest id (le, lt, low, next) outside found =
       exchange = λ mv one. rw (other, over, outside) (ap (Cons (node_in (listed [] t.declarations) (Element a z t)) (resolved (listed [] t.declarations) children)) (found.exchange mv one));
     }
 
--- one of those behind what is no element
+-- One of those after what is not an element.
 found_leaf : (i j : ℕ) (item : Item) (rest : Forest Item) (id : ℕ) → ((s : ℕ) → is_contained s (Cons item Nil rest) ≡ is_contained s rest)
     → ((mv : Move) (one : Forest Item) (s : ℕ) → exchanged_items mv one s (Cons item Nil rest) ≡ Cons item Nil (exchanged_items mv one s rest))
     → self_contained (resolved [] (Cons item Nil rest)) (suc id) ≡ true → (self_contained (resolved [] rest) (id - 0) ≡ true → Found i j rest (id - 0)) → Found i j (Cons item Nil rest) (suc id)

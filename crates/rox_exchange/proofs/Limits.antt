@@ -21,7 +21,7 @@ same_none_is None (Some q) is = cc is
 same_none_is (Some p) None is = cc is
 same_none_is (Some p) (Some q) is = ap Some ((bytes_eq-Decides p q).0 is)
 
--- equal by the test is equal
+-- Equal by the test is equal.
 same_is : (d e : NamespaceDecl) → same_pair d e ≡ true → d ≡ e
 same_is d e is =
     let both = and_parts (same_prefix d.prefix e.prefix) (bytes_eq d.uri e.uri) is in
@@ -29,12 +29,12 @@ same_is d e is =
     let u = (bytes_eq-Decides d.uri e.uri).0 both.1 in
     ap (λ (x : Option (List ℕ)). record { prefix = x; uri = d.uri }) p ∙ ap (λ (x : List ℕ). record { prefix = e.prefix; uri = x }) u
 
--- a pair at the end
+-- A pair at the end.
 has_snoc : (ds : List NamespaceDecl) (e x : NamespaceDecl) → has_pair (ds ++ e ∷ []) x ≡ (has_pair ds x || same_pair e x)
 has_snoc [] e x = elim (same_pair e x) as (λ b. (b || false) ≡ b) [ true ↦ refl | false ↦ refl ]
 has_snoc (d ∷ ds) e x = elim (same_pair d x) as (λ b. (b || has_pair (ds ++ e ∷ []) x) ≡ ((b || has_pair ds x) || same_pair e x)) [ true ↦ refl | false ↦ has_snoc ds e x ]
 
--- lists that hold the same pairs, and as many, are joined by as many
+-- Lists that hold the same pairs, and as many, are joined by as many.
 as_many : (ds bs es : List NamespaceDecl) → length ds ≡ length bs → ((x : NamespaceDecl) → has_pair ds x ≡ has_pair bs x) → length (with_new ds es) ≡ length (with_new bs es)
 as_many ds bs [] long same = long
 as_many ds bs (e ∷ es) long same =
@@ -52,7 +52,7 @@ or_swap true false = refl
 or_swap false true = refl
 or_swap false false = refl
 
--- with one pair more there are no fewer
+-- With one pair more there are no fewer.
 one_more : (d : NamespaceDecl) (ds es : List NamespaceDecl) → length (with_new ds es) ≤ length (with_new (d ∷ ds) es)
 one_more d ds [] = omega arith
 one_more d ds (e ∷ es) =
@@ -72,7 +72,7 @@ more_before : (ds es : List NamespaceDecl) → length (with_new [] es) ≤ lengt
 more_before [] es = omega arith
 more_before (d ∷ ds) es = omega (arith, more_before ds es, one_more d ds es)
 
--- of a part of a list there are no more
+-- Of a part of a list there are no more.
 distinct_part : (before part after : List NamespaceDecl) → length (distinct_pairs part) ≤ length (distinct_pairs (before ++ (part ++ after)))
 distinct_part before part after =
     let n = more_before (distinct_pairs before) (part ++ after) in
@@ -115,7 +115,7 @@ module _ (s e : ℕ) (t : Tag) (kids : Forest Item) where
             ∙ sym (append_assoc (own_pairs item ++ pairs children) p.0 (pairs one ++ p.1)),
       )
 
-  -- it is within the limits that they are within
+  -- It is within the limits that they are within.
   pub part_within : (limit : ℕ) (f : Forest Item) → StandsInEach s e t kids f → IsWithinLimits limit f → IsWithinLimits limit one
   part_within limit f is within =
       let nodes = within.nodes in

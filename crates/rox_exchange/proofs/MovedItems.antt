@@ -12,12 +12,12 @@ use Rattle.rox_grammar.specs.Exchange.{Move, moved, moved_attribute, moved_node,
 use Rattle.rox_exchange.specs.Local.{moved_written, moved_tag, moved_item, moved_items}
 
 module _ (m : Move) where
-  -- rows one behind the other
+  -- Rows one after the other.
   pub moved_join : (f g : Forest Item) → moved_items m (join f g) ≡ join (moved_items m f) (moved_items m g)
   moved_join Nil g = refl
   moved_join (Cons item children rest) g = ap (Cons (moved_item m item) (moved_items m children)) (moved_join rest g)
 
-  -- a text in front
+  -- A text in front.
   pub moved_glue : (a e : ℕ) (v : List ℕ) (borrowed : Bool) (below f : Forest Item) → moved_items m (glue (Text a e v borrowed) below f) ≡ glue (Text (moved m a) (moved m e) v borrowed) (moved_items m below) (moved_items m f)
   moved_glue a e v borrowed below Nil = refl
   moved_glue a e v borrowed below (Cons (Text x y w p) children rest) = ap (λ (g : Forest Item). Cons (Text (moved m a) (moved m e) (v ++ w) false) g (moved_items m rest)) (moved_join below children)
@@ -25,7 +25,7 @@ module _ (m : Move) where
   moved_glue a e v borrowed below (Cons (Comment x y t) children rest) = refl
   moved_glue a e v borrowed below (Cons (PI x y t o) children rest) = refl
 
-  -- texts that touch
+  -- Texts that touch.
   pub moved_merge : (f : Forest Item) → moved_items m (merge f) ≡ merge (moved_items m f)
   moved_merge Nil = refl
   moved_merge (Cons (Text a e v borrowed) children rest) =
@@ -34,32 +34,32 @@ module _ (m : Move) where
   moved_merge (Cons (Comment a e t) children rest) = ap (Cons (Comment (moved m a) (moved m e) t) (moved_items m children)) (moved_merge rest)
   moved_merge (Cons (PI a e t o) children rest) = ap (Cons (PI (moved m a) (moved m e) t o) (moved_items m children)) (moved_merge rest)
 
-  -- attributes as readers see them
+  -- Attributes as readers see them.
   attributes_seen : (scope : List NamespaceDecl) (as' : List Attribute) → map (attribute_in scope) (map (moved_written m) as') ≡ map (moved_attribute m) (map (attribute_in scope) as')
   attributes_seen scope [] = refl
   attributes_seen scope (a ∷ as') = ap (λ (bs : List tree.Attribute). moved_attribute m (attribute_in scope a) ∷ bs) (attributes_seen scope as')
 
-  -- an item as its readers see it
+  -- An item as its readers see it.
   node_seen : (scope : List NamespaceDecl) (item : Item) → node_in scope (moved_item m item) ≡ moved_node m (node_in scope item)
   node_seen scope (Element a e t) = ap (tree.Element (moved m a) (moved m e) (tree.element_namespace scope t.name) t.name.local scope) (attributes_seen scope t.attributes)
   node_seen scope (Text a e v borrowed) = refl
   node_seen scope (Comment a e t) = refl
   node_seen scope (PI a e t o) = refl
 
-  -- what it lists
+  -- What it lists.
   pub same_scope : (above : List NamespaceDecl) (item : Item) → scope_in above (moved_item m item) ≡ scope_in above item
   same_scope above (Element a e t) = refl
   same_scope above (Text a e v borrowed) = refl
   same_scope above (Comment a e t) = refl
   same_scope above (PI a e t o) = refl
 
-  -- a row as its readers see it
+  -- A row as its readers see it.
   pub moved_resolved : (above : List NamespaceDecl) (f : Forest Item) → resolved above (moved_items m f) ≡ shifted m (resolved above f)
   moved_resolved above Nil = refl
   moved_resolved above (Cons item children rest) =
       rw (same_scope above item, node_seen (scope_in above item) item, moved_resolved (scope_in above item) children, moved_resolved above rest) refl
 
-  -- how many
+  -- How many.
   pub moved_size : (f : Forest Item) → size (moved_items m f) ≡ size f
   moved_size Nil = refl
   moved_size (Cons item children rest) = omega (arith, moved_size children, moved_size rest)

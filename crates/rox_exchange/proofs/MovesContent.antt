@@ -6,6 +6,7 @@ use Rattle.rox_grammar.specs.Written.{Item, Text, Comment, PI, leaf}
 use Rattle.rox_grammar.specs.Tree.{none_if_empty}
 use Rattle.rox_grammar.specs.Names.{slice, spaces_end}
 use Rattle.rox_grammar.specs.Entities.{no_entities}
+use Rattle.rox_grammar.specs.References.{entity_reference}
 use Rattle.rox_grammar.specs.Content.{DataByte, is_verbatim, literals, line_ends, piece, last_part, then_entity, IsMisc, comment, instruction, IsElement, empty, nest, Content, ends, run, cdata, misc, node}
 use Rattle.rox_grammar.specs.RunParts.{Parts}
 use Rattle.rox_grammar.specs.Exchange.{Move, moved}
@@ -18,20 +19,20 @@ use Rattle.rox_exchange.proofs.Order.{comment_le, cdata_le, pi_le, misc_lt, tag_
 use Rattle.rox_theory.proofs.Productions.{cdata_parts, char_data_parts}
 
 module _ (m : Move) (src to : List ℕ) where
-  -- the text of a part
+  -- The text of a part.
   piece_moves : (start stop : ℕ) (borrowed : Bool) (ss : List DataByte) → moved_items m (piece start stop borrowed ss) ≡ piece (moved m start) (moved m stop) borrowed ss
   piece_moves start stop borrowed [] = refl
   piece_moves start stop borrowed (s ∷ ss) = refl
 
-  -- the parts of a run
+  -- The parts of a run.
   pub parts_move : (main : Bool) (start stop i b c : ℕ) (items : Forest Item) → start ≤ stop → Follows m src start to (moved m start) → Follows m src i to (moved m i)
       → Parts main no_entities src start stop i b c items → Parts main no_entities to (moved m start) (moved m stop) (moved m i) b c (moved_items m items)
   parts_move main start stop i b c items le f g (last_part _ _ ss is) =
       rw (piece_moves start stop (is_verbatim (slice src start stop)) ss, slice_moves m src to start (moved m start) stop le f)
       (last_part (moved m i) b ss (part_moves m src to main stop i (moved m i) ss g is))
-  parts_move main start stop i b c items le f g (then_entity _ p n j _ d _ ss one more is reference name opens rest) = absurd opens
+  parts_move main start stop i b c items le f g (then_entity _ p j _ d _ _ ss one more is (entity_reference n reference name) opens rest) = absurd opens
 
-  -- a comment or a processing instruction
+  -- A comment or a processing instruction.
   pub misc_moves : (i j : ℕ) (item : Item) → Follows m src i to (moved m i) → IsMisc src i j item → IsMisc to (moved m i) (moved m j) (moved_item m item)
   misc_moves i j item f (comment _ e _ is) =
       subst (λ (bs : List ℕ). IsMisc to (moved m i) (moved m j) (Comment (moved m i) (moved m j) bs)) (sym (slice_moves m src to (i + 4) (moved m i + 4) e (comment_le src i e j is) (on m src to i (moved m i) 4 f)))
@@ -45,7 +46,7 @@ module _ (m : Move) (src to : List ℕ) where
       (instruction (moved m i) (moved m n) (moved m e) (moved m j) (pi_moves m src to i (moved m i) n e j f is)))
 
   mutual
-    -- content
+    -- Content.
     pub content_moves : (i j b c : ℕ) (items : Forest Item) → Follows m src i to (moved m i) → Content true no_entities src i j b c items → Content true no_entities to (moved m i) (moved m j) b c (moved_items m items)
     content_moves i j b c items f (ends _ _) = ends (moved m i) b
     content_moves i j b c items f (run _ k _ _ d _ one more is parts rest) =
@@ -70,7 +71,7 @@ module _ (m : Move) (src to : List ℕ) where
         rw (moved_join m one more)
         (node (moved m i) (moved m k) (moved m j) b d c (moved_items m one) (moved_items m more) (element_moves i k b d one f is) (content_moves k j d c more g rest))
 
-    -- an element
+    -- An element.
     pub element_moves : (i j b c : ℕ) (one : Forest Item) → Follows m src i to (moved m i) → IsElement true no_entities src i j b c one → IsElement true no_entities to (moved m i) (moved m j) b c (moved_items m one)
     element_moves i j b c one f (empty _ _ _ _ t is) = empty (moved m i) (moved m j) b c (moved_tag m t) (tag_moves m src to true no_entities i (moved m i) j b c true t f is)
     element_moves i j b c one f (nest _ k n p _ _ d _ t kids is inner end) =

@@ -18,27 +18,27 @@ use Rattle.rox_exchange.proofs.Order.{run_le, ncname_le, qname_le, literal_lt, c
 use Rattle.rox_theory.proofs.Productions.{ncname_parts, ncname_made, number_parts, number_made, reference_parts, reference_made, comment_parts, comment_made, pi_parts, pi_made, cdata_parts, cdata_made, end_parts, end_made, char_data_parts}
 
 module _ (m : Move) (src to : List ℕ) where
-  -- white space
+  -- White space.
   pub space_end : (i k : ℕ) → Follows m src i to k → Follows m src (spaces_end src i) to (spaces_end to k)
   space_end i k f =
       subst (λ (x : ℕ). Follows m src (spaces_end src i) to x) (run_end_moves m src to is_space i k (spaces_end src i) f refl)
       (from m src to i k (spaces_end src i) (run_le is_space src i) f)
 
-  -- a byte that a place has, and one that it has not
+  -- A byte that a place has, and one that it has not.
   pub byte_is : (b i k : ℕ) → Follows m src i to k → byte src i ≡ b → byte to k ≡ b
   byte_is b i k f is = sym (byte_moves m src to i k f) ∙ is
 
   pub byte_not : (b i k : ℕ) → Follows m src i to k → byte src i ≢ b → byte to k ≢ b
   byte_not b i k f differs = λ is. differs (byte_moves m src to i k f ∙ is)
 
-  -- a name
+  -- A name.
   pub name_moves : (i k j : ℕ) → Follows m src i to k → IsName src i j → IsName to k (moved m j)
   name_moves i k j f is = record {
     starts = sym (begins_moves m src to is_name_start i k f) ∙ is.starts;
     longest = run_end_moves m src to is_name_char i k j f is.longest;
   }
 
-  -- a name without colon
+  -- A name without colon.
   pub ncname_moves : (i k j : ℕ) → Follows m src i to k → IsNCName src i j → IsNCName to k (moved m j)
   ncname_moves i k j f is = ncname_made (record {
     starts = sym (begins_moves m src to is_name_start i k f) ∙ (ncname_parts is).starts;
@@ -46,7 +46,7 @@ module _ (m : Move) (src to : List ℕ) where
     longest = run_end_moves m src to is_part_char i k j f (ncname_parts is).longest;
   })
 
-  -- a name in a namespace
+  -- A name in a namespace.
   pub qname_moves : (i k : ℕ) (name : Name) (j : ℕ) → Follows m src i to k → IsQName src i name j → IsQName to k name (moved m j)
   qname_moves i k name j f (unprefixed _ _ n last) =
       let le = ncname_le src i j n in
@@ -67,7 +67,7 @@ module _ (m : Move) (src to : List ℕ) where
       subst (λ (bs : List ℕ). IsQName to k (record { prefix = []; local = bs }) (moved m j)) (sym (slice_moves m src to (i + 1) (k + 1) j le h))
       (colon_first k (moved m j) (byte_is 58 i k f colon) (ncname_moves (i + 1) (k + 1) j h n) (byte_not 58 j (moved m j) (from m src to (i + 1) (k + 1) j le h) last))
 
-  -- Eq
+  -- Eq.
   pub eq_moves : (i k j : ℕ) → Follows m src i to k → IsEq src i j → IsEq to k (moved m j)
   eq_moves i k j f is =
       let s = space_end i k f in (
@@ -75,7 +75,7 @@ module _ (m : Move) (src to : List ℕ) where
         run_end_moves m src to is_space (spaces_end src i + 1) (spaces_end to k + 1) j (on m src to (spaces_end src i) (spaces_end to k) 1 s) is.1,
       )
 
-  -- a number
+  -- A number.
   pub number_moves : (base : ℕ) (p : ℕ → Bool) (d k c j : ℕ) → Follows m src d to k → IsNumber base p src d c j → IsNumber base p to k c (moved m j)
   number_moves base p d k c j f is =
       let e = (number_parts is).e in
@@ -94,7 +94,7 @@ module _ (m : Move) (src to : List ℕ) where
         next = omega arith;
       })
 
-  -- a reference
+  -- A reference.
   pub reference_moves : (i k n j : ℕ) → Follows m src i to k → IsReference src i n j → IsReference to k (moved m n) (moved m j)
   reference_moves i k n j f is =
       let at = f.at in
@@ -107,11 +107,11 @@ module _ (m : Move) (src to : List ℕ) where
         next = omega arith;
       })
 
-  -- its name
+  -- Its name.
   pub reference_name : (i k n j : ℕ) → Follows m src i to k → IsReference src i n j → slice src (i + 1) n ≡ slice to (k + 1) (moved m n)
   reference_name i k n j f is = slice_moves m src to (i + 1) (k + 1) n (omega (arith, reference_lt src i n j is)) (on m src to i k 1 f)
 
-  -- a reference to a character
+  -- A reference to a character.
   pub character_moves : (i k c j : ℕ) → Follows m src i to k → IsCharacter src i c j → IsCharacter to k c (moved m j)
   character_moves i k c j f (decimal opens is) =
       decimal (sym (stands_moves m src to (codes "&#") i k f) ∙ opens)
@@ -122,7 +122,7 @@ module _ (m : Move) (src to : List ℕ) where
   character_moves i k c j f (named n is known) =
       named (moved m n) (reference_moves i k n j f is) (ap predefined (sym (reference_name i k n j f is)) ∙ known)
 
-  -- a comment
+  -- A comment.
   pub comment_moves : (i k e j : ℕ) → Follows m src i to k → IsComment src i e j → IsComment to k (moved m e) (moved m j)
   comment_moves i k e j f is =
       let at = f.at in
@@ -137,7 +137,7 @@ module _ (m : Move) (src to : List ℕ) where
         next = omega arith;
       })
 
-  -- a processing instruction
+  -- A processing instruction.
   pub pi_moves : (i k n e j : ℕ) → Follows m src i to k → IsPI src i n e j → IsPI to k (moved m n) (moved m e) (moved m j)
   pi_moves i k n e j f is =
       let at = f.at in
@@ -158,7 +158,7 @@ module _ (m : Move) (src to : List ℕ) where
         next = omega arith;
       })
 
-  -- a CDATA section
+  -- A CDATA section.
   pub cdata_moves : (i k e j : ℕ) → Follows m src i to k → IsCData src i e j → IsCData to k (moved m e) (moved m j)
   cdata_moves i k e j f is =
       let at = f.at in
@@ -173,7 +173,7 @@ module _ (m : Move) (src to : List ℕ) where
         next = omega arith;
       })
 
-  -- a literal
+  -- A literal.
   pub literal_moves : (i k e j : ℕ) → Follows m src i to k → IsAttValue src i e j → IsAttValue to k (moved m e) (moved m j)
   literal_moves i k e j f is =
       let at = f.at in
@@ -194,7 +194,7 @@ module _ (m : Move) (src to : List ℕ) where
         markup_moves m src to (λ c. c == 60) (i + 1) (k + 1) e le g is.2,
       )
 
-  -- a run
+  -- A run.
   pub run_moves : (i k j : ℕ) → Follows m src i to k → IsCharacterData src i j → IsCharacterData to k (moved m j)
   run_moves i k j f is =
       let at = f.at in
@@ -204,7 +204,7 @@ module _ (m : Move) (src to : List ℕ) where
       let first = mark_moves m src to (word_text word.CDataEnd) i k (mark_from (word_text word.CDataEnd) src i) f refl in
       character_data (omega arith) (byte_from_moves m src to (λ c. c == 60) i k j f (char_data_parts is).end) (chars_move m src to i k j le f (char_data_parts is).chars) (omega arith)
 
-  -- an end tag
+  -- An end tag.
   pub end_moves : (i k : ℕ) (name : Name) (n j : ℕ) → Follows m src i to k → IsEnd src i name n j → IsEnd to k name (moved m n) (moved m j)
   end_moves i k name n j f is =
       let at = f.at in

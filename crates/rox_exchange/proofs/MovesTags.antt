@@ -3,7 +3,7 @@ use Rattle.std.proofs.Common.{◌≡◌, ◌≢◌, ℕ, ◌+◌, ◌<◌, ◌�
 use Rattle.std.proofs.lemmas.Bool.{cases_Bool}
 use Rattle.rox_grammar.specs.Written.{Attribute, NamespaceDecl, Tag, is_namespace_decl, namespace_decl_of, namespace_decls_of, plain_attributes_of}
 use Rattle.rox_grammar.specs.Names.{byte, spaces_end}
-use Rattle.rox_grammar.specs.References.{predefined}
+use Rattle.rox_grammar.specs.References.{predefined, entity_reference}
 use Rattle.rox_grammar.specs.Content.{Inclusion, DataByte, literal, Part, part_ends, as_written, from_reference, Value, value_ends, line_end, white, other, a_character, an_entity, is_verbatim_value, IsAttribute, Attributes, no_more, one_more, TagEnds, opened, closed, IsTag, start_tag}
 use Rattle.rox_grammar.proofs.TagParts.{tag_of}
 use Rattle.rox_grammar.specs.Exchange.{Move, moved}
@@ -14,7 +14,7 @@ use Rattle.rox_exchange.proofs.MovesLexical.{space_end, byte_is, byte_not, qname
 use Rattle.rox_exchange.proofs.Order.{qname_le, eq_lt, literal_lt, character_lt, reference_lt, attribute_lt, attributes_le}
 use Rattle.rox_theory.proofs.Productions.{reference_parts}
 
--- attributes that move declare what they declared
+-- Attributes that move declare what they declared.
 pub declarations_move : (m : Move) (as' : List Attribute) → namespace_decls_of (map (moved_written m) as') ≡ namespace_decls_of as'
 declarations_move m [] = refl
 declarations_move m (a ∷ as') =
@@ -23,7 +23,7 @@ declarations_move m (a ∷ as') =
       | inr not ↦ rw not (declarations_move m as')
     ]
 
--- and the others are the others
+-- And the others are the others.
 pub attributes_move : (m : Move) (as' : List Attribute) → plain_attributes_of (map (moved_written m) as') ≡ map (moved_written m) (plain_attributes_of as')
 attributes_move m [] = refl
 attributes_move m (a ∷ as') =
@@ -33,7 +33,7 @@ attributes_move m (a ∷ as') =
     ]
 
 module _ (m : Move) (src to : List ℕ) where
-  -- a part
+  -- A part.
   pub part_moves : (main : Bool) (j i k : ℕ) (ss : List DataByte) → Follows m src i to k → Part main src j i ss → Part main to (moved m j) k ss
   part_moves main j i k ss f part_ends = subst (λ (x : ℕ). Part main to (moved m i) x []) (lands m src to i k f) part_ends
   part_moves main j i k ss f (as_written _ rest lt no_amp is) =
@@ -45,7 +45,7 @@ module _ (m : Move) (src to : List ℕ) where
       let lt = character_lt src i c n is in
       from_reference k (moved m n) c rest (character_moves m src to i k c n f is) (omega arith) (part_moves main j n (moved m n) rest (from m src to i k n (omega arith) f) more)
 
-  -- a value
+  -- A value.
   pub value_moves : (main : Bool) (Includes : Inclusion) (j i k b c : ℕ) (v : List ℕ) → Follows m src i to k → Value main Includes src j i b c v → Value main Includes to (moved m j) k b c v
   value_moves main Includes j i k b c v f (value_ends _) = subst (λ (x : ℕ). Value main Includes to (moved m i) x b b []) (lands m src to i k f) (value_ends b)
   value_moves main Includes j i k b c v f (line_end _ _ _ _ lt cr lf more) =
@@ -72,16 +72,16 @@ module _ (m : Move) (src to : List ℕ) where
       let at = f.at in
       let lt = character_lt src i x n is in
       a_character k (moved m n) x b c w (character_moves m src to i k x n f is) (omega arith) allowed (value_moves main Includes j n (moved m n) b c w (from m src to i k n (omega arith) f) more)
-  value_moves main Includes j i k b c v f (an_entity _ n p _ d _ u w is name le opens more) =
+  value_moves main Includes j i k b c v f (an_entity _ p _ d _ _ u w (entity_reference n is name) le opens more) =
       let at = f.at in
       let next = (reference_parts is).next in
       let lt = reference_lt src i n p is in
       let same = reference_name m src to i k n p f is in
-      an_entity k (moved m n) (moved m p) b d c u w (reference_moves m src to i k n p f is) (ap predefined (sym same) ∙ name) (omega arith)
+      an_entity k (moved m p) b d c _ u w (entity_reference (moved m n) (reference_moves m src to i k n p f is) (ap predefined (sym same) ∙ name)) (omega arith)
       (subst (λ (bs : List ℕ). Includes.value bs b u d) same opens)
       (value_moves main Includes j p (moved m p) d c w (from m src to i k p (omega arith) f) more)
 
-  -- an attribute
+  -- An attribute.
   pub attribute_moves : (main : Bool) (Includes : Inclusion) (i k j b c : ℕ) (a : Attribute) → Follows m src i to k → IsAttribute main Includes src i j b c a → IsAttribute main Includes to k (moved m j) b c (moved_written m a)
   attribute_moves main Includes i k j b c a f there =
       let at = f.at in
@@ -108,7 +108,7 @@ module _ (m : Move) (src to : List ℕ) where
         borrowed = is.borrowed ∙ ap is_verbatim_value (slice_moves m src to (is.v + 1) (moved m is.v + 1) is.e (omega arith) h');
       })
 
-  -- attributes
+  -- Attributes.
   pub attributes_go : (main : Bool) (Includes : Inclusion) (i k j b c : ℕ) (as' : List Attribute) → Follows m src i to k → Attributes main Includes src i j b c as' → Attributes main Includes to k (moved m j) b c (map (moved_written m) as')
   attributes_go main Includes i k j b c as' f (no_more _ _) = subst (λ (x : ℕ). Attributes main Includes to k x b b []) (sym (lands m src to i k f)) (no_more k b)
   attributes_go main Includes i k j b c as' f (one_more _ n _ _ d _ a rest spaces is more) =
@@ -120,7 +120,7 @@ module _ (m : Move) (src to : List ℕ) where
       (attribute_moves main Includes (spaces_end src i) (spaces_end to k) n b d a s is)
       (attributes_go main Includes n (moved m n) j d c rest (from m src to i k n (omega arith) f) more)
 
-  -- the end of a tag
+  -- The end of a tag.
   pub tag_ends_move : (i k : ℕ) (is_empty : Bool) (j : ℕ) → Follows m src i to k → TagEnds src i is_empty j → TagEnds to k is_empty (moved m j)
   tag_ends_move i k is_empty j f (opened _ close) =
       let s = space_end m src to i k f in
@@ -134,7 +134,7 @@ module _ (m : Move) (src to : List ℕ) where
       subst (λ (x : ℕ). TagEnds to k true x) e
       (closed k (byte_is m src to 47 (spaces_end src i) (spaces_end to k) s slash) (byte_is m src to 62 (spaces_end src i + 1) (spaces_end to k + 1) (on m src to (spaces_end src i) (spaces_end to k) 1 s) close))
 
-  -- a tag
+  -- A tag.
   pub tag_moves : (main : Bool) (Includes : Inclusion) (i k j b c : ℕ) (is_empty : Bool) (t : Tag) → Follows m src i to k → IsTag main Includes src i j b c is_empty t → IsTag main Includes to k (moved m j) b c is_empty (moved_tag m t)
   tag_moves main Includes i k j b c is_empty _ f (start_tag n last name written begin is_name list end) =
       let q = qname_le src (i + 1) name n is_name in

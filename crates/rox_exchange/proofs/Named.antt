@@ -11,7 +11,7 @@ use Rattle.rox_exchange.specs.ElementWith.{exchanged_items}
 use Rattle.rox_exchange.proofs.MovedItems.{moved_named}
 use Rattle.rox_exchange.specs.SelfContained.{is_contained}
 
--- rows one behind the other
+-- Rows one after the other.
 pub named_join : (above : List NamespaceDecl) (f g : Forest Item) → AreWellNamed above f → AreWellNamed above g → AreWellNamed above (join f g)
 named_join above Nil g is more = more
 named_join above (Cons item children rest) g (own, below, beside) more = (own, below, named_join above rest g beside more)

@@ -1,4 +1,4 @@
--- Each construct ends behind its start.
+-- Each construct ends after its start.
 use Rattle.std.proofs.Common.{ℕ, ◌+◌, ◌<◌, ◌≤◌, Bool, true, false, List, take, arith}
 use Rattle.rox_grammar.specs.Content.{attribute}
 use Rattle.rox_grammar.specs.Chars.{is_char, is_space, is_name_char, is_part_char}

@@ -1,7 +1,8 @@
--- Elements stand one behind the other and within one another, and nothing else has items below it.
+-- Elements stand one after the other and within one another, and nothing else has items below it.
 use Rattle.std.proofs.Common.{◌≡◌, ℕ, ◌+◌, ◌<◌, ◌≤◌, Bool, true, false, List, [], ◌∷◌, refl, arith}
 use Rattle.rox_grammar.specs.Forest.{Forest, Nil, Cons, join}
 use Rattle.rox_grammar.specs.Written.{Item, Element, Text, Comment, PI, glue, merge}
+use Rattle.rox_grammar.specs.References.{entity_reference}
 use Rattle.rox_grammar.specs.Content.{DataByte, piece, last_part, then_entity, IsMisc, comment, instruction, IsElement, empty, nest, Content, ends, run, cdata, misc, node}
 use Rattle.rox_grammar.specs.RunParts.{Parts}
 use Rattle.rox_grammar.specs.Entities.{no_entities}
@@ -9,7 +10,7 @@ use Rattle.rox_grammar.specs.Document.{Misc, no_misc, space, an_item}
 use Rattle.rox_exchange.proofs.Order.{tag_lt, end_lt, misc_lt, content_le, cdata_le}
 use Rattle.rox_theory.proofs.Productions.{cdata_parts, char_data_parts}
 
--- between two places
+-- Between two places.
 abbrev pub Ordered : ℕ → ℕ → Forest Item → Type 0
 Ordered i j Nil = i ≤ j
 Ordered i j (Cons (Element a z t) children rest) = (i ≤ a) × (a < z) × Ordered (a + 1) z children × Ordered z j rest
@@ -24,7 +25,7 @@ ordered_le i j (Cons (Text a z v borrowed) children rest) (bare, beside) = order
 ordered_le i j (Cons (Comment a z v) children rest) (bare, beside) = ordered_le i j rest beside
 ordered_le i j (Cons (PI a z v o) children rest) (bare, beside) = ordered_le i j rest beside
 
--- between places further apart
+-- Between places further apart.
 pub wider : (i j k l : ℕ) (f : Forest Item) → k ≤ i → j ≤ l → Ordered i j f → Ordered k l f
 wider i j k l Nil left right is = omega arith
 wider i j k l (Cons (Element a z t) children rest) left right (le, lt, low, beside) = (omega arith, lt, low, wider z j z l rest (omega arith) right beside)
@@ -39,7 +40,7 @@ ordered_join i j k (Cons (Text a z v borrowed) children rest) g (bare, beside) m
 ordered_join i j k (Cons (Comment a z v) children rest) g (bare, beside) more = (bare, ordered_join i j k rest g beside more)
 ordered_join i j k (Cons (PI a z v o) children rest) g (bare, beside) more = (bare, ordered_join i j k rest g beside more)
 
--- a text in front
+-- A text in front.
 ordered_glue : (i j a z : ℕ) (v : List ℕ) (borrowed : Bool) (f : Forest Item) → Ordered i j f → Ordered i j (glue (Text a z v borrowed) Nil f)
 ordered_glue i j a z v borrowed Nil is = (refl, is)
 ordered_glue i j a z v borrowed (Cons (Text x y w p) children rest) is = is
@@ -65,7 +66,7 @@ module _ (src : List ℕ) where
 
   parts_ordered : (start stop i b c k l : ℕ) (items : Forest Item) → k ≤ l → Parts true no_entities src start stop i b c items → Ordered k l items
   parts_ordered start stop i b c k l items le (last_part _ _ ss is) = piece_ordered k l start stop _ ss le
-  parts_ordered start stop i b c k l items le (then_entity _ p n j _ d _ ss one more is reference name opens rest) = absurd opens
+  parts_ordered start stop i b c k l items le (then_entity _ p j _ d _ _ ss one more is (entity_reference n reference name) opens rest) = absurd opens
 
   mutual
     pub content_ordered : (i j b c : ℕ) (items : Forest Item) → Content true no_entities src i j b c items → Ordered i j items
@@ -91,7 +92,7 @@ module _ (src : List ℕ) where
         let lt' = end_lt src n t.name p j end in
         (omega arith, omega arith, wider k n (i + 1) j (merge kids) (omega arith) (omega arith) (ordered_merge k n kids (content_ordered k n d c kids inner)), omega arith)
 
-  -- what stands around the root element
+  -- What is around the root element.
   pub around_ordered : (i j : ℕ) (items : Forest Item) → Misc src i j items → Ordered i j items
   around_ordered i j items (no_misc _) = omega arith
   around_ordered i j items (space _ _ _ white rest) = wider (i + 1) j i j items (omega arith) (omega arith) (around_ordered (i + 1) j items rest)

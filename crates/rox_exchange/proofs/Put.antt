@@ -22,7 +22,7 @@ pub take_seam : (xs ys : List ℕ) → take (length xs) (xs ++ ys) ≡ xs
 take_seam [] ys = refl
 take_seam (x ∷ xs) ys = ap (λ (l : List ℕ). x ∷ l) (take_seam xs ys)
 
--- one more
+-- One more.
 take_suc : (n : ℕ) (xs : List ℕ) → n < length xs → take (suc n) xs ≡ take n xs ++ get_or xs n 0 ∷ []
 take_suc n [] lt = absurd (omega arith)
 take_suc zero (x ∷ xs) lt = refl
@@ -44,7 +44,7 @@ module _ (src other : List ℕ) (s e a z : ℕ) (utf8 : IsUtf8 src) (utf8' : IsU
   abbrev goes : Move
   goes = record { add = s; sub = a }
 
-  -- how long its parts are
+  -- How long its parts are.
   pub sizes : (s < e) × (e ≤ length src) × (a < z) × (z ≤ length other) × (length (take s src) ≡ s) × (length (slice other a z) ≡ z - a) × (length (take s src ++ slice other a z) ≡ s + (z - a))
   sizes =
       let lt = element_lt src true no_entities s e 255 255 hole is in
@@ -57,11 +57,11 @@ module _ (src other : List ℕ) (s e a z : ℕ) (utf8 : IsUtf8 src) (utf8' : IsU
       let n' : length (slice other a z) ≡ z - a = omega (arith, length-take (z - a) (drop a other), length-drop a other) in
       (lt, in_src, lt', in_other, n, n', omega (arith, length-append (take s src) (slice other a z)))
 
-  -- in three parts
+  -- In three parts.
   pub parts : own ≡ (take s src ++ slice other a z) ++ drop e src
   parts = sym (append_assoc (take s src) (slice other a z) (drop e src))
 
-  -- behind it the old source goes on
+  -- After it the old source continues.
   pub behind : Follows grows src e own (moved grows e)
   behind =
       let n = sizes in
@@ -73,7 +73,7 @@ module _ (src other : List ℕ) (s e a z : ℕ) (utf8 : IsUtf8 src) (utf8' : IsU
         at = omega arith;
       }
 
-  -- it stands in its place
+  -- It is in its place.
   pub put : IsElement true no_entities own s (moved grows e) 255 255 (moved_items goes one)
   put =
       let n = sizes in
@@ -107,7 +107,7 @@ module _ (src other : List ℕ) (s e a z : ℕ) (utf8 : IsUtf8 src) (utf8' : IsU
       subst (λ (k : ℕ). IsElement true no_entities own k (moved grows e) 255 255 (moved_items goes one)) starts
       (subst (λ (k : ℕ). IsElement true no_entities own (a + s - a) k 255 255 (moved_items goes one)) stops cut)
 
-  -- up to its `<` the new source is the old one
+  -- Up to its `<` the new source is the old one.
   pub in_front : Fronts src own (s + 1)
   in_front =
       let n = sizes in
@@ -128,10 +128,10 @@ module _ (src other : List ℕ) (s e a z : ℕ) (utf8 : IsUtf8 src) (utf8' : IsU
         utf8 = IsUtf8-take src (s + 1) utf8 (IsCharBoundary-after_ascii src s utf8 (omega arith) (omega arith));
       }
 
-  -- so the whole is an element with it
+  -- So the whole is an element with it.
   pub exchanged_at : (i j : ℕ) (all : Forest Item) → ElementWith src s e hole i j all → ElementWith own s (moved grows e) (moved_items goes one) i (moved grows j) (exchanged_items grows (moved_items goes one) s all)
   exchanged_at i j all holds = exchange_element grows src own s e hole (moved_items goes one) i j all in_front behind is put holds
 
-  -- and so is the whole
+  -- And so is the whole.
   pub exchanged_whole : (i j : ℕ) (all : Forest Item) → ElementWith src s e hole i j all → IsElement true no_entities own i (moved grows j) 255 255 (exchanged_items grows (moved_items goes one) s all)
   exchanged_whole i j all holds = element_whole own s (moved grows e) (moved_items goes one) i (moved grows j) (exchanged_items grows (moved_items goes one) s all) put (exchanged_at i j all holds)

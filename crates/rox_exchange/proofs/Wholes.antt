@@ -29,7 +29,7 @@ use Rattle.rox_exchange.proofs.Ids.{Found, find}
 use Rattle.rox_exchange.proofs.Limits.{part_within}
 use Rattle.rox_exchange.proofs.Documents.{in_root, tops_ordered, long_exchanged, parse_exchanged}
 
--- A self-contained node of a document: the element where it stands.
+-- A self-contained node of a document: the element where it is.
 pub record Whole (text : List ℕ) (tree : Forest Node) (id : ℕ) : Type 0 where
   pub tops : Forest Item
   pub parse : ParseWithout text tops
@@ -80,14 +80,14 @@ module _ (text : List ℕ) (tree : Forest Node) (id : ℕ) (utf8 : IsUtf8 text) 
   abbrev back : Move
   back = record { add = 0; sub = w.found.start }
 
-  -- alone it is a document
+  -- Alone it is a document.
   pub reparse_whole : HasTree (slice text (start_at tree id) (end_at tree id))
       (Cons (Root (end_at tree id - start_at tree id)) (shifted (record { add = 0; sub = start_at tree id }) (subtree tree id)) Nil)
   reparse_whole =
       subst (λ (f : Forest Node). HasTree (slice text (row_start f) (row_end f)) (Cons (Root (row_end f - row_start f)) (shifted (record { add = 0; sub = row_start f }) f) Nil))
       (sym subtree_is) (reparse_at text w.found.start w.found.end 255 own utf8 element_is named_is)
 
-  -- within the limits that the whole is within
+  -- Within the limits that the whole is within.
   own_within : (limit : ℕ) → IsWithinLimits limit w.tops → IsWithinLimits limit (moved_items back own)
   own_within limit within =
       let part = limits_counted limit own (part_within w.found.start w.found.end w.found.tag w.found.kids limit w.tops w.found.stands within) in
@@ -112,7 +112,7 @@ module _ (text : List ℕ) (tree : Forest Node) (id : ℕ) (utf8 : IsUtf8 text) 
         shown = shown_alone text w.found.start w.found.end 255 own utf8 element_is;
       }))
 
-  -- it begins and ends between characters of the text
+  -- It begins and ends between characters of the text.
   pub cut_is : (start_at tree id < end_at tree id) × IsCharBoundary text (start_at tree id) × IsCharBoundary text (end_at tree id)
   cut_is =
       let lt = element_lt text true no_entities w.found.start w.found.end 255 255 own element_is in
@@ -123,13 +123,13 @@ module _ (text : List ℕ) (tree : Forest Node) (id : ℕ) (utf8 : IsUtf8 text) 
       let starts = IsCharBoundary-before_ascii text w.found.start (omega arith) (omega arith) in
       subst (λ (f : Forest Node). (row_start f < row_end f) × IsCharBoundary text (row_start f) × IsCharBoundary text (row_end f)) (sym subtree_is) (lt, starts, ends)
 
--- a text has one tree
+-- A text has one tree.
 pub same_tree : (text : List ℕ) (s t : Forest Node) → IsUtf8 text → HasTree text s → HasTree text t → s ≡ t
 same_tree text s t utf8 a b =
     let same = one_plain_parse text utf8 [] [] a.written b.written a.parse b.parse in
     a.shown ∙ ap (document_tree (length text)) same ∙ sym b.shown
 
--- the tree of a text, the limits aside
+-- The tree of a text, the limits aside.
 pub tree_of_text : (text : List ℕ) (limit : ℕ) (tree : Forest Node) → IsTreeOf text false [] limit tree → HasTree text tree
 tree_of_text text limit tree is = let t = tree_parts is in record { written = t.written; parse = t.parse; shown = t.shown }
 
@@ -162,7 +162,7 @@ module _ (text : List ℕ) (tree : Forest Node) (id : ℕ) (other_text : List �
       ∙ ap (λ (n : ℕ). document_tree n (exchanged_items grows put_in w.found.start w.tops))
       (long_exchanged text other_text w.found.start w.found.end w'.found.start w'.found.end w.found.tag w.found.kids one utf8 utf8' new_is (named_is other_text other at utf8' w') w.tops w.parse w.found.stands w.found.contained)
 
-  -- the text with the other node in its place has the tree with it
+  -- The text with the other node in its place has the tree with it.
   pub exchange_whole : HasTree (text_with tree text id other other_text at) (with_other tree id other at)
   exchange_whole =
       subst (λ (f : Forest Node). HasTree (replaced text (row_start f) (row_end f) (slice other_text (start_at other at) (end_at other at)))
@@ -178,7 +178,7 @@ module _ (text : List ℕ) (tree : Forest Node) (id : ℕ) (other_text : List �
         shown = shown_exchanged;
       }))
 
-  -- and is text
+  -- And is text.
   pub utf8_exchanged : IsUtf8 (text_with tree text id other other_text at)
   utf8_exchanged =
       let cut = cut_is text tree id utf8 w in

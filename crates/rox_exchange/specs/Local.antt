@@ -1,10 +1,10 @@
--- Two sources that agree from a place on, or up to one; and items moved to another place.
+-- Two sources that agree from a place on, or up to a place; and items moved to another place.
 use Rattle.std.specs.Prelude.{◌≡◌, ℕ, ◌+◌, ◌≤◌, List, map, length, take, drop, IsUtf8}
 use Rattle.rox_grammar.specs.Forest.{Forest, Nil, Cons}
 use Rattle.rox_grammar.specs.Written.{Attribute, Tag, Item, Element, Text, Comment, PI}
 use Rattle.rox_grammar.specs.Exchange.{Move, moved}
 
--- From i on src goes on as `to` does from k on, and i moves to k.
+-- From `i` on `src` continues as `to` does from `k` on, and `i` moves to `k`.
 pub record Follows (m : Move) (src : List ℕ) (i : ℕ) (to : List ℕ) (k : ℕ) : Type 0 where
   pub same : drop i src ≡ drop k to
   pub at : k + m.sub ≡ i + m.add

@@ -1,11 +1,11 @@
--- An element above which no namespace is listed.
+-- An element of which no ancestor lists a namespace.
 use Rattle.std.specs.Prelude.{ℕ, ◌==◌, ◌&&◌, Bool, true, [], nat_lt, if◌then◌else◌}
 use Rattle.rox_grammar.specs.Forest.{Forest, Nil, Cons}
 use Rattle.rox_grammar.specs.Written.{Item, Element, Text, Comment, PI}
 use Rattle.rox_grammar.specs.Tree.{listed}
 use Rattle.rox_grammar.specs.Exchange.{none_of}
 
--- no element above the place s lists a namespace, of a row whose parent lists none
+-- No ancestor of the element at `s` lists a namespace, in a row whose parent lists none.
 abbrev pub is_contained : ℕ → Forest Item → Bool
 is_contained s Nil = true
 is_contained s (Cons (Element a z t) children rest) =

@@ -7,14 +7,14 @@ ghost use Rattle.rox_grammar.specs.Tree.{Node};
 ghost use Rattle.rox_grammar.specs.Exchange.{self_contained, HasTree};
 ghost use Rattle.rox_exchange.specs.ExchangeLaws.{AreSeparate, StaysContained, GoesBack, Commutes};
 
-/// The element that was put in is self-contained, and each outside of it that was so is so.
+/// States that the element that was put in is self-contained, and so is each element outside of it that was self-contained.
 pub fn elements_stay_contained()
     ensures { (tree : Forest Node) (id : ℕ) (other : Forest Node) (at : ℕ)
         → self_contained tree id ≡ true → self_contained other at ≡ true
         → StaysContained tree id other at }
 {}
 
-/// The old element put back gives the first text and the first tree.
+/// States that the old element put back gives the first text and the first tree.
 pub fn exchanges_go_back()
     ensures { (text : List ℕ) (tree : Forest Node) (id : ℕ) (other_text : List ℕ)
         (other : Forest Node) (at : ℕ) → IsUtf8 text → IsUtf8 other_text → HasTree text tree
@@ -23,7 +23,7 @@ pub fn exchanges_go_back()
         → GoesBack tree text id other other_text at }
 {}
 
-/// Exchanges at two places, neither within the other, give one text and one tree in either order.
+/// States that exchanges at two places, neither inside the other, give one text and one tree in either order.
 pub fn exchanges_commute()
     ensures { (text : List ℕ) (tree : Forest Node) (i : ℕ) (one_text : List ℕ) (one : Forest Node)
         (a j : ℕ) (two_text : List ℕ) (two : Forest Node) (b : ℕ)

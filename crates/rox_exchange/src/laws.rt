@@ -1,5 +1,5 @@
-//! Laws of locality: content and elements stand wherever the same bytes follow, and in each source with the same bytes up to their
-//! end; so do the constructs that they are made of, as lemmas.
+//! Laws of locality: content and elements are wherever the same bytes follow, and in each source with the same bytes up to
+//! their end. So are the constructs that they are made of, as lemmas.
 
 ghost use Rattle.std.specs.Prelude.{◌≡◌, ℕ, ◌<◌, ◌≤◌, ◌+◌, List, true};
 ghost use Rattle.rox_grammar.specs.Forest.{Forest};
@@ -10,7 +10,7 @@ ghost use Rattle.rox_grammar.specs.Exchange.{Move, moved};
 ghost use Rattle.rox_exchange.specs.Local.{Follows, Fronts, moved_items};
 ghost use Rattle.rox_exchange.specs.ElementWith.{ElementWith, exchanged_items};
 
-/// Content without entities is local.
+/// States that content without entities is local.
 pub fn content_is_local()
     ensures moves { (v : Move) (src to : List ℕ) (i j b c : ℕ) (items : Forest Item)
         → Follows v src i to (moved v i) → Content true no_entities src i j b c items
@@ -20,7 +20,7 @@ pub fn content_is_local()
         → Content true no_entities to i j b c items }
 {}
 
-/// An element without entities is local.
+/// States that an element without entities is local.
 pub fn element_is_local()
     ensures moves { (v : Move) (src to : List ℕ) (i j b c : ℕ) (one : Forest Item)
         → Follows v src i to (moved v i) → IsElement true no_entities src i j b c one
@@ -30,8 +30,8 @@ pub fn element_is_local()
         → IsElement true no_entities to i j b c one }
 {}
 
-/// With an element where the context says that it stands the whole is an element, and another may stand there: what is behind it
-/// moves, and the elements above it grow.
+/// States that what has an element in the place that the context names is an element, and that another element may replace it
+/// there: what is after it moves, and its ancestors grow.
 pub fn element_may_be_exchanged()
     ensures whole { (src : List ℕ) (s e : ℕ) (hole : Forest Item) (i j : ℕ) (all : Forest Item)
         → IsElement true no_entities src s e 255 255 hole → ElementWith src s e hole i j all

@@ -1,5 +1,5 @@
-//! What stands at a place of a text stands wherever the same bytes stand: each construct, content, elements. So an element of a
-//! document is a document, and an element of another document may stand in its place.
+//! Each construct, content and elements are wherever the same bytes are. So an element of a document is a document, and an
+//! element of another document may replace it.
 #![tactic(auto)]
 
 pub mod exchanges;

@@ -15,7 +15,8 @@ ghost use Rattle.rox_exchange.specs.Local.{Follows, Fronts, moved_items};
 ghost use Rattle.rox_exchange.specs.SourceKinds.{StandsInEach};
 ghost use Rattle.rox_exchange.specs.SelfContained.{is_contained};
 
-/// What an element is written in is a document, if its names are declared within it, and its tree is the element alone, moved to the start.
+/// States that what an element is written in is a document, if its names are declared inside it. Its tree is the element only,
+/// moved to the start.
 pub fn element_is_a_document()
     ensures { (src : List ℕ) (s e openings_left : ℕ) (one : Forest Item) → IsUtf8 src
         → IsElement true no_entities src s e 255 openings_left one → AreWellNamed [] one
@@ -23,7 +24,7 @@ pub fn element_is_a_document()
         (Cons (Root (e - s)) (shifted (record { add = 0; sub = s }) (resolved [] one)) Nil) }
 {}
 
-/// Each element among the items of an element stands there, as a derivation of its own.
+/// States that each element among the items of an element is there, with a derivation of its own.
 pub fn element_is_found()
     ensures { (src : List ℕ) (i j b c : ℕ) (all : Forest Item) (s e : ℕ) (t : Tag)
         (kids : Forest Item) → IsElement true no_entities src i j b c all
@@ -32,7 +33,8 @@ pub fn element_is_found()
         × IsElement true no_entities src s e 255 255 (Cons (Element s e t) kids Nil) }
 {}
 
-/// Where an element stands in an element, an element of another source may stand: what is behind it moves, and the elements above it grow.
+/// States that an element inside an element may be replaced by an element of another source: what is after it moves, and its
+/// ancestors grow.
 pub fn element_is_exchanged()
     ensures { (src other : List ℕ) (s e a z i j : ℕ) (hole one all : Forest Item) → IsUtf8 src
         → IsUtf8 other
@@ -44,14 +46,14 @@ pub fn element_is_exchanged()
         (moved_items (record { add = s; sub = a }) one) s all) }
 {}
 
-/// Names stay well named if no element above the one that is exchanged lists a namespace.
+/// States that names stay well named if no ancestor of the element that is exchanged lists a namespace.
 pub fn names_stay()
     ensures { (v : Move) (one all : Forest Item) (s : ℕ) → AreWellNamed [] one
         → is_contained s all ≡ true → AreWellNamed [] all
         → AreWellNamed [] (exchanged_items v one s all) }
 {}
 
-/// Comments, processing instructions and white space around the root element are local.
+/// States that comments, processing instructions and white space around the root element are local.
 pub fn misc_is_local()
     ensures moves { (v : Move) (src to : List ℕ) (i j : ℕ) (items : Forest Item)
         → Follows v src i to (moved v i) → Misc src i j items

@@ -8,8 +8,8 @@ ghost use Rattle.rox_grammar.specs.Names.{slice};
 ghost use Rattle.rox_grammar.specs.Document.{IsTreeOf};
 ghost use Rattle.rox_grammar.specs.Exchange.{shifted, subtree, self_contained, start_at, end_at, HasTree, with_other, text_with};
 
-/// The slice of a self-contained element is a document, within the limits that the whole is within, and its tree is the element
-/// alone, moved to the start. It begins and ends between two characters.
+/// States that the slice of a self-contained element is a document, within the limits of the whole. Its tree is the element
+/// only, moved to the start. The slice starts and ends between two characters.
 pub fn elements_are_documents()
     ensures parse { (text : List ℕ) (tree : Forest Node) (id : ℕ) → IsUtf8 text → HasTree text tree
         → self_contained tree id ≡ true
@@ -27,7 +27,7 @@ pub fn elements_are_documents()
         × IsCharBoundary text (end_at tree id) }
 {}
 
-/// Another document's self-contained element may stand in the place of a self-contained element: the new text is a document, and
+/// States that another document's self-contained element may replace a self-contained element: the new text is a document, and
 /// its tree is the first with the one in the place of the other.
 pub fn elements_may_be_exchanged()
     ensures parse { (text : List ℕ) (tree : Forest Node) (id : ℕ) (other_text : List ℕ)

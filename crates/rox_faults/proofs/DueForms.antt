@@ -1,4 +1,4 @@
--- What is due by its kind, as proofs speak of it: the kinds one by one.
+-- What is required by its kind, as proofs speak of it: the kinds one by one.
 use Rattle.std.proofs.Common.{◌≡◌, ◌≢◌, ℕ, ◌<◌, ◌⊎◌, true, false, List, length, refl, inl, inr}
 use Rattle.std.proofs.lemmas.Bool.{ne_eqb}
 use Rattle.rox_grammar.specs.declared.fault.Due.TheVariants as kinds

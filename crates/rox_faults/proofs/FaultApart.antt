@@ -1,4 +1,4 @@
--- Where a construct stands, nothing that is due in it lacks: so no fault of it stands there.
+-- Where a construct is, nothing that is required in it lacks: so no fault of it is there.
 use Rattle.std.proofs.Common.{◌≡◌, ℕ, ◌+◌, ◌<◌, ◌⊎◌, true, List, [], ◌∷◌, take, refl, sym, ◌∙◌, subst, arith, inl, inr}
 use Rattle.std.specs.Str.{IsUtf8, IsCharBoundary}
 use Rattle.std.proofs.lemmas.Bool.{true≢false}
@@ -30,7 +30,7 @@ use Rattle.rox_theory.proofs.Constructions.{comment_bytes, instruction_bytes}
 use Rattle.rox_theory.proofs.FailedReadings.{chars_refuse}
 use Rattle.rox_faults.proofs.FaultRows.{mark_cut, behind}
 
--- the declaration begins as a processing instruction does
+-- The declaration begins as a processing instruction does.
 pub declaration_bytes : (src : List ℕ) (i : ℕ) → at word.XmlDeclStart src i ≡ true → at word.PIStart src i ≡ true
 declaration_bytes src i h =
     let fits = stands_fits (word_text word.XmlDeclStart) src i (omega arith) h in
@@ -38,39 +38,39 @@ declaration_bytes src i h =
     let one : byte src i ≡ 60 = subst (λ (k : ℕ). byte src k ≡ 60) same (stands_reads (word_text word.XmlDeclStart) src i 0 h (omega arith)) in
     stands_two 60 63 src i (omega arith) one (stands_reads (word_text word.XmlDeclStart) src i 1 h (omega arith))
 
--- no comment stands where an instruction does
+-- No comment is where an instruction does.
 pub not_both : (src : List ℕ) (i : ℕ) → at word.CommentStart src i ≡ true → at word.PIStart src i ≡ true → ⊥
 not_both src i c p = let a = comment_bytes src i c in let b = instruction_bytes src i p in absurd (omega arith)
 
--- a name that is due and stands there
+-- A name that is required and is there.
 pub name_stands : (src : List ℕ) (q n : ℕ) (f : Fault) → IsName src q n → IsMissing src q a_name f → ⊥
 name_stands src q n f is (no_name none) = none n is
 
--- a qualified name
+-- A qualified name.
 pub qname_stands : (src : List ℕ) (q n : ℕ) (name : Name) (f : Fault) → IsQName src q name n → IsMissing src q a_qname f → ⊥
 qname_stands src q n name f is (no_qname none) = none name n is
 
--- a byte
+-- A byte.
 pub byte_stands : (src : List ℕ) (b q : ℕ) (f : Fault) → 0 < b → byte src q ≡ b → IsMissing src q (a_byte b) f → ⊥
 byte_stands src b q f some is (other_byte _ below apart) = apart is
 byte_stands src b q f some is (no_byte _ past) = let l = within src q (λ z. omega arith) in absurd (omega arith)
 
--- a fixed text
+-- A fixed text.
 pub word_stands : (src : List ℕ) (w : Expected) (q : ℕ) (f : Fault) → stands (expected_text w) src q ≡ true → IsMissing src q (a_text w) f → ⊥
 word_stands src w q f is (other_text _ none) = true≢false (sym is ∙ none)
 
 module _ (src : List ℕ) (utf8 : IsUtf8 src) where
-  -- white space
+  -- White space.
   pub space_stands : (p : ℕ) (f : Fault) → IsCharBoundary src p → p < spaces_end src p → IsMissing src p a_space f → ⊥
   space_stands p f cut some (none_of _ inside none) =
       true≢false (sym (begins_byte is_space (λ c h. space_ascii c h) src p utf8 cut (some_run is_space src p some)) ∙ none)
   space_stands p f cut some (none_left _ past) = let e = run_past is_space src p past in absurd (omega arith)
 
-  -- Chars
+  -- Chars.
   pub chars_stand : (i e : ℕ) (f : Fault) → IsCharBoundary src i → IsCharBoundary src e → AreChars src i e → IsMissing src i (chars_to e) f → ⊥
   chars_stand i e f cut end are (no_char _ q c is below standing ill) = chars_refuse src i e q c utf8 cut end (let le = run_end_le is_char (take e src) i in omega arith) below are standing ill
 
-  -- a text up to a fixed one
+  -- A text up to a fixed one.
   pub text_stands : (w : Expected) (s e q : ℕ) (t : DueItem) (f : Fault) → IsCharBoundary src s → IsCharBoundary src (mark_from (expected_text w) src s) → e ≡ mark_from (expected_text w) src s → AreChars src s e → stands (expected_text w) src e ≡ true
       → DueInText w src s q t → IsMissing src q t f → ⊥
   text_stands w s e q t f cut end is chars closes due.DueInText.its_chars lack = chars_stand s (mark_from (expected_text w) src s) f cut end (subst (λ (e : ℕ). AreChars src s e) is chars) lack
@@ -78,14 +78,14 @@ module _ (src : List ℕ) (utf8 : IsUtf8 src) where
 
   -- ---- comments and processing instructions
 
-  -- in a comment
+  -- In a comment.
   comment_apart : (i e j q : ℕ) (t : DueItem) (f : Fault) → IsComment src i e j → DueInText expected.CommentEnd src (i + 4) q t → IsMissing src q t f → ⊥
   comment_apart i e j q t f is due' lack =
       let three : i + 3 + 1 ≡ i + 4 = omega arith in
       let cut = subst (IsCharBoundary src) three (behind word.CommentStart src i 3 45 utf8 (comment_parts is).opens (omega arith) refl (omega arith) (omega arith)) in
       text_stands expected.CommentEnd (i + 4) e q t f cut (mark_cut (word_text word.CommentEnd) 45 (45 ∷ 62 ∷ []) src (i + 4) refl (omega arith) cut.0) (comment_ends src (i + 4) e (comment_parts is).dashes (comment_parts is).closes) (comment_parts is).chars (comment_parts is).closes due' lack
 
-  -- in an instruction: its name ends in one place
+  -- In an instruction: its name ends in one place.
   instruction_apart : (i n e j q : ℕ) (t : DueItem) (f : Fault) → IsPI src i n e j → DueInPI src i q t → IsMissing src q t f → ⊥
   instruction_apart i n e j q t f is due.DueInPI.its_target lack = name_stands src (i + 2) n f (pi_parts is).target lack
   instruction_apart i n e j q t f is (due.DueInPI.its_value m _ _ name value) lack =
@@ -97,14 +97,14 @@ module _ (src : List ℕ) (utf8 : IsUtf8 src) where
       text_stands expected.PIEnd v e q t f at_value (mark_cut (word_text word.PIEnd) 63 (62 ∷ []) src v refl (omega arith) at_value.0) (pi_parts is).end (pi_parts is).chars (pi_parts is).closes
       (subst (λ (m : ℕ). DueInText expected.PIEnd src (spaces_end src m) q t) same value) lack
 
-  -- one of both begins where a fault of them stands
+  -- One of both begins where a fault of them is.
   pub misc_begins : (i : ℕ) (f : Fault) → InMisc src i f → (at word.CommentStart src i ≡ true) ⊎ (at word.PIStart src i ≡ true)
   misc_begins i f (comment_lacks _ opens lacks) = inl opens
   misc_begins i f (double_dashes e opens to before) = inl opens
   misc_begins i f (a_declaration opens) = inr (declaration_bytes src i opens)
   misc_begins i f (instruction_lacks _ opens none lacks) = inr opens
 
-  -- a fault of them stands in none that stands there
+  -- A fault of them is in none that is there.
   pub misc_apart : (i j : ℕ) (item : Item) (f : Fault) → IsMisc src i j item → InMisc src i f → ⊥
   misc_apart i j item f (comment _ e _ is) (comment_lacks _ opens (q, t, due', lack)) = comment_apart i e j q t f is due' lack
   misc_apart i j item f (comment _ e _ is) (double_dashes k opens (end, chars, closes) before) =

@@ -39,7 +39,7 @@ use Rattle.rox_theory.proofs.Standing.{item-named}
 use Rattle.rox_theory.proofs.Leaves.{Adds, fine_before}
 use Rattle.rox_theory.proofs.StepLemmas as steps
 use Rattle.rox_theory.proofs.Steps.{after, fine_leaf, fine_opened}
-use Rattle.rox_faults.proofs.PartFronts.{SpendsOnce, value_front}
+use Rattle.rox_faults.proofs.PartFronts.{to_entity, SpendsOnce, value_front}
 use Rattle.rox_theory.proofs.FailedReadings.{ok_one, chars_refuse}
 use Rattle.rox_faults.proofs.FaultLimits.{IsOver, nodes_over}
 use Rattle.rox_faults.proofs.FaultRows.{mark_cut, behind, run_stops_cut}
@@ -52,11 +52,11 @@ use Rattle.rox_faults.proofs.FaultInTags.{tag_apart, value_there}
 use Rattle.rox_faults.proofs.FaultWay.{state_of, OpensAt, may_deep, may_once, same_text, Trail, stays, follows, Ends, Reached, step_there, there_by, one_step, place_within, takes_there, run_there, opened_there}
 use Rattle.rox_faults.proofs.StateCounts.{too_many_counted}
 
--- where a text may be opened the openings are not spent
+-- Where a text may be opened the openings are not spent.
 spent_apart : (k b r : ℕ) → MayOpen k b r → IsSpent k b → ⊥
 spent_apart k b r may spent = spent r may
 
--- where a start tag begins in content, one is read
+-- Where a start tag begins in content, one is read.
 tag_here : (src : List ℕ) (i : ℕ) (x : Bool) → TagBegins src i x → x ≡ true → kind_at src i ≡ a_tag
 tag_here src i x (of_root opens) inner = cc inner
 tag_here src i x (in_content opens inside' no_mark no_question no_slash) inner =
@@ -66,18 +66,18 @@ tag_less : (src : List ℕ) (i : ℕ) (x : Bool) → TagBegins src i x → byte 
 tag_less src i x (of_root opens) = opens
 tag_less src i x (in_content opens inside' no_mark no_question no_slash) = opens
 
--- the tag of the innermost open element
+-- The tag of the innermost open element.
 tag_of : Tag → Open → Tag
 tag_of tag root = tag
 tag_of tag (inside start t before up) = t
 
--- a name and a place are those of the end tag
+-- A name and a place are those of the end tag.
 end_one : (src : List ℕ) (i j k m n : ℕ) (x y : Name) → IsEnd src i x m j → IsEnd src i y n k → (x ≡ y) × (m ≡ n)
 end_one src i j k m n x y a b =
     let e = ok_one (record { name = x; name_end = m }, j) (record { name = y; name_end = n }, k) (end_tag_at src i) (markup.end_complete src i j m x a) (markup.end_complete src i k n y b) in
     (ap (λ (t : EndTag × ℕ). t.0.name) e, ap (λ (t : EndTag × ℕ). t.0.name_end) e)
 
--- where content ends, no element is open in it
+-- Where content ends, no element is open in it.
 root_depth : (stack : Open) → is_root stack ≡ true → depth_of stack ≡ 0
 root_depth root is = refl
 root_depth (inside start tag before up) is = cc is
@@ -90,7 +90,7 @@ module _ (opens : ℕ → Inclusion) (es : List Entity) (all : OpensAt opens es)
   abbrev There : (k open_around : ℕ) → List ℕ → State → Type 0
   There k open_around src s = Reached opens es all limit W k open_around src s
 
-  -- a declared entity has a text
+  -- A declared entity has a text.
   content_declared : (k : ℕ) (name : List ℕ) (b c : ℕ) (items : Forest Item) → (opens k).content name b items c → (t : Replacement) × (text_of es name ≡ Some t)
   content_declared k name b c items h = let x = all.content k b c name items h in (x.0, x.3)
 
@@ -103,7 +103,7 @@ module _ (opens : ℕ → Inclusion) (es : List Entity) (all : OpensAt opens es)
     abbrev here : State
     here = state_of s b
 
-    -- in a run
+    -- In a run.
     run_apart : (f : Fault) → s.at < length src → byte src s.at ≢ 60 → InRun es k (opens k) src s.at b f → ⊥
     run_apart f below other (faults.InRun.no_char _ lack) =
         let run = run_there opens es all limit W k open_around b src s r below other in
@@ -117,12 +117,13 @@ module _ (opens : ℕ → Inclusion) (es : List Entity) (all : OpensAt opens es)
         let run = run_there opens es all limit W k open_around b src s r below other in
         let below' : q < run.0 = subst (λ (j : ℕ). q < j) ((char_data_parts is).end ∙ sym (char_data_parts run.1).end) inside' in
         run_reference_apart es (is_main k) (opens k) src r.utf8 (content_declared k) s.at run.0 b run.2.openings_left q run.2.items f run.2.parts from below' ill
-    run_apart f below other (faults.InRun.too_many q j c front t (stop, is, to, inside', refers) spent) =
-        let found = (opened_there opens es all limit W k open_around b src s r stop q c j front t is to inside' refers).1 in
-        let x = all.content k c found.openings_left (slice src (q + 1) refers.0) found.opened found.opens in
-        spent_apart k c x.1 x.4 spent
+    run_apart f below other (faults.InRun.too_many run spent) =
+        let refers = to_entity es src run.reference run.after run.replacement run.refers in
+        let found = (opened_there opens es all limit W k open_around b src s r run.run_end run.reference run.openings_left run.after run.front run.replacement run.is_run run.is_front run.within_run refers).1 in
+        let x = all.content k run.openings_left found.openings_left (slice src (run.reference + 1) refers.0) found.opened found.opens in
+        spent_apart k run.openings_left x.1 x.4 spent
 
-    -- in a CDATA section
+    -- In a CDATA section.
     section_apart : (q : ℕ) (t : DueItem) (f : Fault) → at word.CDataStart src s.at ≡ true → DueInText expected.CDataEnd src (s.at + 9) q t → IsMissing src q t f → ⊥
     section_apart q t f opens' due' lack =
         let below : s.at < length src = let two = (cdata_bytes src s.at opens').0 in omega arith in
@@ -131,7 +132,7 @@ module _ (opens : ℕ → Inclusion) (es : List Entity) (all : OpensAt opens es)
         let cut = subst (IsCharBoundary src) eight (behind word.CDataStart src s.at 8 91 r.utf8 opens' (omega arith) refl (omega arith) (omega arith)) in
         text_stands src r.utf8 expected.CDataEnd (s.at + 9) _ q t f cut (mark_cut (word_text word.CDataEnd) 93 (93 ∷ 62 ∷ []) src (s.at + 9) refl (omega arith) cut.0) (cdata_parts is).end (cdata_parts is).chars (cdata_parts is).closes due' lack
 
-    -- in a comment or an instruction
+    -- In a comment or an instruction.
     item_there : (at word.CommentStart src s.at ≡ true) ⊎ (at word.PIStart src s.at ≡ true) → (j : ℕ) × (item : Item) × IsMisc src s.at j item
     item_there (inl c) = there_by opens es all limit W k open_around src here r a_comment (let two = (comment_bytes src s.at c).0 in omega arith) (comment_kind src s.at c)
     item_there (inr p) = there_by opens es all limit W k open_around src here r an_instruction (let two = (instruction_bytes src s.at p).0 in omega arith) (instruction_kind src s.at p)
@@ -139,7 +140,7 @@ module _ (opens : ℕ → Inclusion) (es : List Entity) (all : OpensAt opens es)
     item_apart : (f : Fault) → InMisc src s.at f → ⊥
     item_apart f ill = let item = item_there (misc_begins src r.utf8 s.at f ill) in misc_apart src r.utf8 s.at item.0 item.1 f item.2 ill
 
-    -- the end tag that stands there closes the innermost open tag of its text
+    -- The end tag that is there closes the innermost open tag of its text.
     end_there : at word.EndTagStart src s.at ≡ true
         → (start : ℕ) × (tag : Tag) × (before : Forest Item) × (up : Open) × (n : ℕ) × (j : ℕ) × (s.stack ≡ inside start tag before up) × (open_around < depth_of up + 1) × IsEnd src s.at tag.name n j
     end_there is = there_by opens es all limit W k open_around src here r an_end (let two = (end_bytes src s.at is).0 in omega arith) (end_kind src s.at is)
@@ -163,7 +164,7 @@ module _ (opens : ℕ → Inclusion) (es : List Entity) (all : OpensAt opens es)
         let deep = there.7 in
         absurd (omega arith)
 
-    -- the start tag that stands there
+    -- The start tag that is there.
     tag_there : TagBegins src s.at (is_content k s.stack) → (t : State) × Tagged (is_main k) (opens k) src open_around here t × (W → IsValidState limit t) × AreNamed t.stack t.done
     tag_there begins =
         let less' = tag_less src s.at (is_content k s.stack) begins in
@@ -172,32 +173,32 @@ module _ (opens : ℕ → Inclusion) (es : List Entity) (all : OpensAt opens es)
         let there = step_there opens es all limit W k open_around src here r below in
         (there.to, there_by opens es all limit W k open_around src here r a_tag below kind, there.fine, there.named)
 
-    -- what it adds
+    -- What it adds.
     tag_adds : (j c : ℕ) (x : Tag) (empty : Bool) → IsValidState limit (after here j x empty c) → Adds here (Element s.at j x)
     tag_adds j c x true fine =
         let adds = (fine_leaf limit (state_of s c) j (Element s.at j x) fine).1 in
         record { attributes = adds.attributes; pairs = adds.pairs; named = adds.named }
     tag_adds j c x false fine = (fine_opened limit here j x j c fine).1
 
-    -- and that it is well named
+    -- And that it is well named.
     tag_named : (j c : ℕ) (x : Tag) (empty : Bool) → AreNamed (after here j x empty c).stack (after here j x empty c).done → IsWellNamed (listed (scope_of s.stack) x.declarations) x
     tag_named j c x true named = (item-named s.stack s.done (Element s.at j x) Nil named).1
     tag_named j c x false named = named.1
 
-    -- holds no fault
+    -- Holds no fault.
     read_tag_apart : (t : State) (f : Fault) → Tagged (is_main k) (opens k) src open_around here t → (W → IsValidState limit t) → AreNamed t.stack t.done → faults.InTag (is_main k) (opens k) src s b f → IsOver W f
     read_tag_apart t f (j, c, x, empty, is, leads) fine named ill =
         let adds : W → Adds here (Element s.at j x) = λ w. tag_adds j c x empty (subst (IsValidState limit) leads (fine w)) in
         let well_named = tag_named j c x empty (subst (λ (u : State). AreNamed u.stack u.done) leads named) in
         tag_apart (context_at limit es r.d k open_around).values (opens k) (all.values r.d k r.deep) src r.utf8 s j b c empty x is well_named W (λ w. (adds w).attributes) (λ w. (adds w).pairs) f ill
 
-    -- past the end nothing stands
+    -- Past the end nothing stands.
     trail_past : (t u : State) → Trail (is_main k) (opens k) src open_around t u → length src ≤ t.at → t ≡ u
     trail_past t u (stays _) past = refl
     trail_past t u (follows _ v _ takes rest) past =
         let moves = (steps.step_moves (context_at limit es r.d k open_around) (opens k) (all.values r.d k r.deep) (all.contents limit r.d k r.deep) src r.utf8 t v takes).0 in absurd (omega arith)
 
-    -- so no fault stands at the place but those of the limits
+    -- So no fault is at the place but those of the limits.
     pub stands_apart : (f : Fault) → Stands limit es k open_around (opens k) src s b f → IsOver W f
     stands_apart f (in_run _ inner below other ill) = absurd (run_apart f below other ill)
     stands_apart f (in_section _ inner opens' (q, t, due', lack)) = absurd (section_apart q t f opens' due' lack)
@@ -227,9 +228,14 @@ module _ (opens : ℕ → Inclusion) (es : List Entity) (all : OpensAt opens es)
         (let fine = subst (IsValidState limit) (one_step opens es all limit W k open_around src here r (state_of t c) (takes_there opens es all limit W k open_around b src s r t c takes) below) (there.fine w) in
         let nodes = fine.nodes in
         omega arith))
-    stands_apart f (too_many_pieces q j c front t inner (stop, is, to, below, refers) named many) =
+    stands_apart f (too_many_pieces to inner named many) =
+        let q = to.reference in
+        let c = to.openings_left in
+        let stop = to.run_end in
+        let front = to.front in
+        let refers = to_entity es src q to.after to.replacement to.refers in
         let over = too_many_counted limit s.stack (join s.done front) many in
-        let there = opened_there opens es all limit W k open_around b src s r stop q c j front t is to below refers in
+        let there = opened_there opens es all limit W k open_around b src s r stop q c to.after front to.replacement to.is_run to.is_front to.within_run refers in
         let run = there.0 in let found = there.1 in
         let split : join s.done run.items ≡ join (join s.done front) (join found.opened found.rest) = ap (join s.done) found.all ∙ sym (join_assoc s.done front (join found.opened found.rest)) in
         nodes_over W (λ w.
@@ -239,7 +245,7 @@ module _ (opens : ℕ → Inclusion) (es : List Entity) (all : OpensAt opens es)
 
   -- ---- values
 
-  -- a part of a value is read to its end
+  -- A part of a value is read to its end.
   record PartRead (l : ℕ) (part : List ℕ) (i stop d : ℕ) : Type 0 where
     depth : ℕ
     deep : depth + l ≡ most_deep
@@ -251,7 +257,7 @@ module _ (opens : ℕ → Inclusion) (es : List Entity) (all : OpensAt opens es)
     value : Value (is_main l) (opens l) part stop i d openings_left bytes
     chars : AreChars part i stop
 
-  -- what a reference opens it opens in one way
+  -- What a reference opens it opens in one way.
   spends_once : (d l : ℕ) → d + l ≡ most_deep → SpendsOnce (opens l)
   spends_once d l deep name b c e v w h h' =
       let agrees = all.values d l deep in
@@ -263,7 +269,8 @@ module _ (opens : ℕ → Inclusion) (es : List Entity) (all : OpensAt opens es)
 
   part_read : (k : ℕ) (src : List ℕ) (start end b l : ℕ) (part : List ℕ) (i stop d : ℕ) → PartRead k src start end b → ValuePart opens es k src start end b l part i stop d → PartRead l part i stop d
   part_read k src start end b l part i stop d whole itself = whole
-  part_read k src start end b l part i stop d whole (opened m i' stop' d' c _ p j part' front t within' to below refers may) =
+  part_read k src start end b l part i stop d whole (opened m i' stop' d' c _ p j part' front t within' to below entity may) =
+      let refers = to_entity es part' p j t entity in
       let outer = part_read k src start end b m part' i' stop' d' whole within' in
       let name = slice part' (p + 1) refers.0 in
       let there = value_front (is_main m) (opens m) (spends_once outer.depth m outer.deep) part' stop' i' p refers.0 j d' c outer.openings_left front outer.bytes to outer.value below refers.1 refers.2 in
@@ -286,10 +293,11 @@ module _ (opens : ℕ → Inclusion) (es : List Entity) (all : OpensAt opens es)
         chars = subst (λ (t : Replacement). AreChars t.source t.start (length t.source)) text_is x.5;
       }
 
-  -- no fault stands in it
+  -- No fault is in it.
   part_apart : (l : ℕ) (part : List ℕ) (i stop d : ℕ) (f : Fault) → PartRead l part i stop d → InValue es l (opens l) part i stop d f → ⊥
   part_apart l part i stop d f r (faults.InValue.in_reference q _ from below ill) = value_reference_apart es (is_main l) (opens l) part r.utf8 (value_declared l) i stop d r.openings_left q r.bytes f r.value from below ill
-  part_apart l part i stop d f r (faults.InValue.too_many q j c front t to below refers spent) =
+  part_apart l part i stop d f r (faults.InValue.too_many q j c front t to below entity spent) =
+      let refers = to_entity es part q j t entity in
       let there = value_front (is_main l) (opens l) (spends_once r.depth l r.deep) part stop i q refers.0 j d c r.openings_left front r.bytes to r.value below refers.1 refers.2 in
       let x = all.value l c there.1 (slice part (q + 1) refers.0) there.0 there.2 in
       spent_apart l c x.1 x.4 spent
@@ -297,7 +305,7 @@ module _ (opens : ℕ → Inclusion) (es : List Entity) (all : OpensAt opens es)
   part_apart l part i stop d f r (less q inner from below (inr (j, is))) = value_gives_less es (is_main l) (opens l) part r.utf8 (value_declared l) i stop d r.openings_left q j r.bytes r.value inner from below is
   part_apart l part i stop d f r (faults.InValue.no_char q c inner from below stands ill) = chars_refuse part i stop q c r.utf8 r.cut r.end_cut from below r.chars stands ill
 
-  -- nor in a value of a start tag at a place
+  -- Nor in a value of a start tag at a place.
   pub value_apart : (k open_around b p c n v e j l i stop d : ℕ) (src part : List ℕ) (s : grammar.State) (tag_name : Name) (as' : List Attribute) (name : Name) (f : Fault) → There k open_around src (state_of s b) → TagBegins src s.at (is_content k s.stack)
       → TagTo (is_main k) (opens k) src s p b c tag_name as' → IsQName src (spaces_end src p) name n → IsEq src n v → IsAttValue src v e j → ValuePart opens es k src (v + 1) e c l part i stop d → InValue es l (opens l) part i stop d f → ⊥
   value_apart k open_around b p c n v e j l i stop d src part s tag_name as' name f r begins to named eq literal is ill =

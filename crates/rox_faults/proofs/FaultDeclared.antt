@@ -1,4 +1,4 @@
--- What is due in a document type declaration and does not stand there, construct by construct.
+-- What is required in a document type declaration and is not there, construct by construct.
 use Rattle.std.proofs.Common.{◌≡◌, ℕ, ◌+◌, ◌≤◌, ◌⊎◌, ◌==◌, ◌||◌, Bool, true, false, leb, List, length, sym, ◌∙◌, subst, arith, inl, inr}
 use Rattle.std.specs.Prelude.{Err}
 use Rattle.std.proofs.lemmas.Bool.{eqb-true, eqb-false, leb-false, leb-true, or_cases, or_parts}
@@ -26,7 +26,7 @@ use Rattle.rox_theory.proofs.DoctypeLemmas.{space_sound, quoted_end, quoted_soun
 use Rattle.rox_theory.proofs.FailedReadings.{bind_err, no_fault, byte_fails}
 use Rattle.rox_faults.proofs.FaultTags.{quote_fails}
 
--- white space that is due
+-- White space that is required.
 pub space_fails : (src : List ℕ) (i : ℕ) (f : Fault) → space_at src i ≡ Err f → IsMissing src i a_space f
 unfolding space_at
 space_fails src i f h =
@@ -35,14 +35,14 @@ space_fails src i f h =
     (λ inside h. chosen (is_space (byte src i)) _ _ _ h (λ some h. no_fault _ f h)
     (λ none h. let is : fault.InvalidChar2 due.Space (byte src i) i ≡ f = cc in subst (IsMissing src i a_space) is (no_space (leb-false _ _ inside) none)))
 
--- a name that is due
+-- A name that is required.
 pub name_fails : (src : List ℕ) (i : ℕ) (f : Fault) → name_at src i ≡ Err f → IsMissing src i a_name f
 unfolding name_at
 name_fails src i f h =
     chosen (begins is_name_start src i) _ _ _ h (λ fine h. cc)
     (λ fails h. let is : fault.InvalidName i ≡ f = cc in subst (IsMissing src i a_name) is (no_name (λ j name. let s = name.starts in cc (sym fails ∙ s))))
 
--- a literal: its quote, or the one that ends it
+-- A literal: its quote, or the one that ends it.
 quoted_fails : (src : List ℕ) (i : ℕ) (f : Fault) → quoted_at src i ≡ Err f → (quote_at src i ≡ Err f) ⊎ (IsQuote src i × IsMissing src (quoted_end src i) (a_byte (byte src i)) f)
 unfolding quoted_at
 quoted_fails src i f h =
@@ -55,7 +55,7 @@ quoted_fails src i f h =
     (λ bad. let bad' = rw (q0, q1) at bad in inr (quote.0, byte_fails (byte src i) src (quoted_end src i) f bad'))
     (λ x ok h. no_fault _ f h))
 
--- behind white space
+-- After white space.
 literal_fails : (src : List ℕ) (p s : ℕ) (f : Fault) → IsSpace src p s → quoted_at src s ≡ Err f → Misses src (DueInLiteral src p) f
 literal_fails src p s f is h =
     elim (quoted_fails src s f h) as (λ _. Misses src (DueInLiteral src p) f) [
@@ -63,7 +63,7 @@ literal_fails src p s f is h =
       | inr lack ↦ (quoted_end src s, a_byte (byte src s), dues.DueInLiteral.its_end s is lack.0, lack.1)
     ]
 
--- an external id
+-- An external id.
 system_fails : (src : List ℕ) (i : ℕ) (f : Fault) → at word.System src i ≡ true → system_at src i ≡ Err f → Misses src (DueInExternalID src i) f
 unfolding system_at
 system_fails src i f is h =
@@ -88,7 +88,7 @@ public_fails src i f is h =
     (λ bad. let w = literal_fails src id.1 s.1 f (space_sound src id.1 s spaced') bad in (w.0, w.1, dues.DueInExternalID.second p.1 (quoted_end src p.1) id.1 w.0 w.1 is sp q w.2, w.3))
     (λ x ok h. no_fault _ f h))))
 
--- or that there is none
+-- Or that there is none.
 external_fails : (src : List ℕ) (i : ℕ) (f : Fault) → external_id_at src i ≡ Err f
     → Misses src (DueInExternalID src i) f ⊎ ((at word.System src i ≡ false) × (at word.Public src i ≡ false) × (fault.InvalidExternalID i ≡ f))
 unfolding external_id_at
@@ -98,7 +98,7 @@ external_fails src i f h =
 
 -- ---- the declaration of an entity
 
--- up to its definition
+-- Up to its definition.
 pub head_fails : (src : List ℕ) (i : ℕ) (f : Fault) → entity_head_at src i ≡ Err f → Misses src (DueInEntity src i) f
 unfolding entity_head_at kind_at
 head_fails src i f h =
@@ -116,7 +116,7 @@ head_fails src i f h =
     (λ bad. (name.1, a_space, dues.DueInEntity.space_behind k.1 kind.1 name.1 kind.0 sp is_kind (name_sound src kind.1 name named).0, space_fails src name.1 f bad))
     (λ x ok h. no_fault _ f h))))
 
--- the notation
+-- The notation.
 notation_fails : (src : List ℕ) (i n m d e : ℕ) (request : Request) (parameter : Bool) (f : Fault) → BeginsEntity src i parameter n m d → IsExternalID src d request e → notation_at parameter src e ≡ Err f → Misses src (DueInEntity src i) f
 unfolding notation_at name_or_end_at
 notation_fails src i n m d e request true f begins' external h = no_fault _ f h
@@ -130,7 +130,7 @@ notation_fails src i n m d e request false f begins' external h =
     (λ x ok h. no_fault _ f h)))
     (λ none h. no_fault _ f h)
 
--- its definition
+-- Its definition.
 pub definition_fails : (src : List ℕ) (i n m d : ℕ) (parameter : Bool) (f : Fault) → BeginsEntity src i parameter n m d → definition_at parameter src d ≡ Err f → Misses src (DueInEntity src i) f
 unfolding definition_at
 definition_fails src i n m d parameter f begins' h =
@@ -168,7 +168,7 @@ definition_fails src i n m d parameter f begins' h =
 
 -- ---- the head of the declaration
 
--- no external id begins past the end
+-- No external id begins past the end.
 no_word_past : (src : List ℕ) (i : ℕ) → (at word.System src i || at word.Public src i) ≡ true → length src ≤ i → ⊥
 no_word_past src i some out =
     elim (or_cases (at word.System src i) (at word.Public src i) some) as (λ s. ⊥) [

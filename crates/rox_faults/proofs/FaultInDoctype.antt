@@ -1,4 +1,4 @@
--- Where a document type declaration stands, no fault of it does that is met after the same answers.
+-- Where a document type declaration is, no fault of it is that is met after the same answers.
 use Rattle.std.proofs.Common.{◌≡◌, ℕ, ◌+◌, ◌<◌, ◌≤◌, ◌⊎◌, ◌==◌, Bool, true, false, List, [], ◌∷◌, ◌++◌, Some, length, refl, sym, ap, ◌∙◌, subst, arith, inl, inr}
 use Rattle.std.specs.Prelude.{Option, None}
 use Rattle.std.specs.Str.{IsUtf8, IsCharBoundary}
@@ -37,12 +37,12 @@ use Rattle.rox_faults.proofs.FaultMisc.{one_item}
 use Rattle.rox_faults.proofs.SubsetFronts.{OpensItem, misc_opens, item_less, entity_less, passed_less, space_once, quoted_once, quoted_no_external, kind_once, external_once, begins_once, doctype_once, definition_end, item_there, passed_there, entity_there, nothing_there, Front, subset_front}
 use Rattle.rox_faults.proofs.FaultLimits.{IsOver, nodes_over}
 
--- a quote that is due and stands there
+-- A quote that is required and is there.
 quote_stands : (src : List ℕ) (i : ℕ) (f : Fault) → (byte src i ≡ 39) ⊎ (byte src i ≡ 34) → IsMissing src i a_quote f → ⊥
 quote_stands src i f is (none_of _ below none) = true≢false (sym (quote_is (byte src i) is) ∙ none)
 quote_stands src i f is (none_left _ past) = let some = (quote_ascii (byte src i) is) in let l = within src i (λ z. omega arith) in absurd (omega arith)
 
--- the text of an answer that gives one has no fault in its declaration
+-- The text of an answer that gives one has no fault in its declaration.
 gives_apart : (answer : List ℕ) (given : Option (List ℕ)) (text : Option Replacement) (q : ℕ) (t : DueItem) (f : Fault) → Some answer ≡ given → GivesReplacement given text → at word.XmlDeclStart answer (after_bom answer) ≡ true
     → DueInXmlDecl answer (after_bom answer) q t → IsMissing answer q t f → ⊥
 gives_apart answer given text q t f same nothing opens due' lack = cc same
@@ -57,11 +57,11 @@ gives_apart answer given text q t f same (the_rest other d utf8 may) opens due' 
 module _ (src : List ℕ) (utf8 : IsUtf8 src) where
   -- ---- within a declaration of an entity
 
-  -- white space that is due and stands there
+  -- White space that is required and is there.
   spaced : (p j : ℕ) (f : Fault) → IsCharBoundary src p → IsSpace src p j → IsMissing src p a_space f → ⊥
   spaced p j f cut is lack = space_stands src utf8 p f cut (let some = is.0 in let all = is.1 in omega arith) lack
 
-  -- the quote that ends a literal
+  -- The quote that ends a literal.
   closing_apart : (i e j : ℕ) (f : Fault) → IsQuoted src i e j → IsMissing src (byte_from (λ c. c == byte src i) src (i + 1)) (a_byte (byte src i)) f → ⊥
   closing_apart i e j f is lack =
       let closes : byte src (byte_from (λ c. c == byte src i) src (i + 1)) ≡ byte src i = ap (byte src) (sym is.1) ∙ quoted_closes src i e j is in
@@ -73,7 +73,7 @@ module _ (src : List ℕ) (utf8 : IsUtf8 src) where
   literal_apart p s e j q t f cut sp is (due.DueInLiteral.its_end s' sp' quote) lack =
       closing_apart s e j f is (subst (λ (s : ℕ). IsMissing src (byte_from (λ c. c == byte src s) src (s + 1)) (a_byte (byte src s)) f) (space_once src p s' s sp' sp) lack)
 
-  -- no external id begins with both words
+  -- No external id begins with both words.
   not_both : (i : ℕ) → at word.System src i ≡ true → at word.Public src i ≡ true → ⊥
   not_both i s p =
       let a : byte src (i + 0) ≡ 83 = stands_reads (word_text word.System) src i 0 s (omega arith) in
@@ -91,24 +91,24 @@ module _ (src : List ℕ) (utf8 : IsUtf8 src) where
       let same = (quoted_once src s d' k' d k (subst (λ (s : ℕ). IsQuoted src s d' k') at_first first) q).1 in
       literal_apart k v e j p t f (quoted_cut src s d k utf8 q) sp' q' (subst (λ (k : ℕ). DueInLiteral src k p t) same due') lack
 
-  -- where something is due in an external id, one begins
+  -- Where something is required in an external id, one begins.
   external_due : (i p : ℕ) (t : DueItem) → DueInExternalID src i p t → (at word.System src i ≡ true) ⊎ (at word.Public src i ≡ true)
   external_due i p t (due.DueInExternalID.first _ _ which _) = which
   external_due i p t (due.DueInExternalID.second _ _ _ _ _ is _ _ _) = inr is
 
-  -- with one of two letters
+  -- With one of two letters.
   word_byte : (i : ℕ) → (at word.System src i ≡ true) ⊎ (at word.Public src i ≡ true) → (byte src i ≡ 83) ⊎ (byte src i ≡ 80)
   word_byte i (inl s) = let zero : i + 0 ≡ i = omega arith in let b : byte src (i + 0) ≡ 83 = stands_reads (word_text word.System) src i 0 s (omega arith) in inl (rw zero at b)
   word_byte i (inr p) = let zero : i + 0 ≡ i = omega arith in let b : byte src (i + 0) ≡ 80 = stands_reads (word_text word.Public) src i 0 p (omega arith) in inr (rw zero at b)
 
-  -- which is no quote
+  -- Which is not a quote.
   letter_no_quote : (i : ℕ) → (byte src i ≡ 83) ⊎ (byte src i ≡ 80) → (byte src i ≡ 39) ⊎ (byte src i ≡ 34) → ⊥
   letter_no_quote i (inl s) (inl q) = absurd (omega arith)
   letter_no_quote i (inl s) (inr q) = absurd (omega arith)
   letter_no_quote i (inr p) (inl q) = absurd (omega arith)
   letter_no_quote i (inr p) (inr q) = absurd (omega arith)
 
-  -- a definition that is due and stands there
+  -- A definition that is required and is there.
   definition_stands : (i j : ℕ) (parameter : Bool) (asked : List Asked) (text : Option Replacement) (f : Fault) → IsDefinition src parameter i j asked text → IsMissing src i a_definition f → ⊥
   definition_stands i j parameter asked text f (internal _ e _ q) (none_of _ below none) = true≢false (sym (quote_defines (byte src i) q.0) ∙ none)
   definition_stands i j parameter asked text f (internal _ e _ q) (due.IsMissing.no_external_id which no_system no_public) = letter_no_quote i which q.0
@@ -118,18 +118,18 @@ module _ (src : List ℕ) (utf8 : IsUtf8 src) where
   definition_stands i j parameter asked text f (external _ n _ request answer _ (public _ s d k v e _ is sp q sp' q') may gives) (due.IsMissing.no_external_id which no_system no_public) = true≢false (sym is ∙ no_public)
   definition_stands i j parameter asked text f (external _ n _ request answer _ is may gives) (none_left _ past) = let l = (external_cut src i request n utf8 is).2 in absurd (omega arith)
 
-  -- what is due in its literal
+  -- What is required in its literal.
   in_literal : (i j : ℕ) (parameter : Bool) (asked : List Asked) (text : Option Replacement) (f : Fault) → IsDefinition src parameter i j asked text → (byte src i ≡ 39) ⊎ (byte src i ≡ 34)
       → IsMissing src (byte_from (λ c. c == byte src i) src (i + 1)) (a_byte (byte src i)) f → ⊥
   in_literal i j parameter asked text f (internal _ e _ q) quote lack = closing_apart i e j f q lack
   in_literal i j parameter asked text f (external _ n _ request answer _ is may gives) quote lack = letter_no_quote i (external_byte src i request n is) quote
 
-  -- or in its external id
+  -- Or in its external id.
   in_external : (i j p : ℕ) (parameter : Bool) (asked : List Asked) (text : Option Replacement) (t : DueItem) (f : Fault) → IsDefinition src parameter i j asked text → DueInExternalID src i p t → IsMissing src p t f → ⊥
   in_external i j p parameter asked text t f (internal _ e _ q) due' lack = letter_no_quote i (word_byte i (external_due i p t due')) q.0
   in_external i j p parameter asked text t f (external _ n _ request answer _ is may gives) due' lack = external_apart i n p request t f is due' lack
 
-  -- the notation that stands behind an external id
+  -- The notation that is after an external id.
   notation_there : (d e n : ℕ) (parameter : Bool) (asked : List Asked) (text : Option Replacement) (request : Request) → parameter ≡ false → IsDefinition src parameter d e asked text → IsExternalID src d request n
       → at word.NData src (spaces_end src n) ≡ true → (s : ℕ) × IsSpace src (spaces_end src n + 5) s × IsName src s e
   notation_there d e n parameter asked text request general (internal _ c _ q) external' opens = absurd (quoted_no_external src d c e n request q external')
@@ -142,18 +142,18 @@ module _ (src : List ℕ) (utf8 : IsUtf8 src) where
       found parameter m e general opens same (no_notation _ none) = absurd (true≢false (sym opens ∙ none))
       found parameter m e general opens same (dtd.MayHaveNotation.of_parameter _) = cc general
 
-  -- so in a declaration of an entity nothing that is due lacks
+  -- So in a declaration of an entity nothing that is required lacks.
   module _ (i j : ℕ) (asked : List Asked) (es : List Entity) (b : DeclarationParts src i j asked es) where
     cuts : HeadCuts src i b.parameter b.n b.m b.d b.head
     cuts = head_cuts src i b.parameter b.n b.m b.d utf8 b.head
 
-    -- its definition, where another says that it begins
+    -- Its definition, where another says that it begins.
     defines : (n m d : ℕ) (parameter : Bool) → BeginsEntity src i parameter n m d → IsDefinition src parameter d b.e asked b.text
     defines n m d parameter begins =
         let same = begins_once src utf8 i b.n b.m b.d n m d b.parameter parameter b.begins begins in
         subst (λ (p : Bool). IsDefinition src p d b.e asked b.text) same.0 (subst (λ (d : ℕ). IsDefinition src b.parameter d b.e asked b.text) same.3 b.definition)
 
-    -- white space behind `%`
+    -- White space after `%`.
     kind_spaced : (k n : ℕ) (parameter : Bool) (f : Fault) → dtd.IsKind src k parameter n → byte src k ≡ 37 → IsMissing src (k + 1) a_space f → ⊥
     kind_spaced k n parameter f (dtd.IsKind.of_parameter _ _ is sp) percent lack = spaced (k + 1) n f (cut_behind src k 37 (k + 1) utf8 is (omega arith) (omega arith) refl) sp lack
     kind_spaced k n parameter f (dtd.IsKind.general _ apart) percent lack = apart percent
@@ -190,14 +190,14 @@ module _ (src : List ℕ) (utf8 : IsUtf8 src) where
         let same = space_once src (spaces_end src e + 5) there.0 q there.1 sp in
         name_stands src q b.e f (subst (λ (s : ℕ). IsName src s b.e) same there.2) lack
 
-    -- the `>` behind its definition
+    -- The `>` after its definition.
     pub end_stands : (n m d e : ℕ) (parameter : Bool) (first : List Asked) (text : Option Replacement) (f : Fault) → BeginsEntity src i parameter n m d → IsDefinition src parameter d e first text
         → IsMissing src (spaces_end src e) (a_byte 62) f → ⊥
     end_stands n m d e parameter first text f begins definition lack =
         let same = definition_end src utf8 parameter d e b.e first asked text b.text definition (defines n m d parameter begins) in
         byte_stands src 62 (spaces_end src b.e) f (omega arith) b.closes (subst (λ (e : ℕ). IsMissing src (spaces_end src e) (a_byte 62) f) same lack)
 
-    -- it is not cut off behind what it asks, nor before the name of its notation
+    -- It is not cut off after what it asks, nor before the name of its notation.
     pub not_cut : (n m d e j : ℕ) (parameter : Bool) (request : Request) → BeginsEntity src i parameter n m d → IsExternalID src d request e → MayHaveNotation src parameter e j ⊎ CutsNotation src parameter e j → length src ≤ j → ⊥
     not_cut n m d e j parameter request begins is (inl may) past =
         let asks : IsDefinition src parameter d j (record { request = request; answer = None } ∷ []) None = external d e j request None None is may nothing in
@@ -211,7 +211,7 @@ module _ (src : List ℕ) (utf8 : IsUtf8 src) where
         let l = begins_within is_name_start src there.0 there.2.starts in
         absurd (omega arith)
 
-    -- nor is the declaration of its answer at fault
+    -- Nor is the declaration of its answer at fault.
     pub answer_apart : (n m d e q : ℕ) (parameter : Bool) (request : Request) (answer : List ℕ) (later : List Asked) (t : DueItem) (f : Fault) → BeginsEntity src i parameter n m d → IsExternalID src d request e
         → SameAnswers (record { request = request; answer = Some answer } ∷ []) (asked ++ later) → at word.XmlDeclStart answer (after_bom answer) ≡ true
         → DueInXmlDecl answer (after_bom answer) q t → IsMissing answer q t f → ⊥
@@ -247,12 +247,12 @@ module _ (src : List ℕ) (utf8 : IsUtf8 src) where
       lack_apart f (none_of _ below none) = true≢false (sym (subset_or_end_is (byte src s) ends) ∙ none)
       lack_apart f (none_left _ past) = elim ends as (λ _. ⊥) [ inl c ↦ (let l = within src s (λ z. omega arith) in omega arith) | inr o ↦ (let l = within src s (λ z. omega arith) in omega arith) ]
 
-  -- how one begins
+  -- How one begins.
   head_there : (i j : ℕ) (nodes : Forest Item) (asked : List Asked) (es : List Entity) → IsDoctype src i j nodes asked es → (s : ℕ) × BeginsDoctype src i s × ((byte src s ≡ 62) ⊎ (byte src s ≡ 91))
   head_there i j nodes asked es (no_subset _ s begins closes) = (s, begins, inl closes)
   head_there i j nodes asked es (with_subset _ s k _ _ _ begins opens subset bracket closes) = (s, begins, inr opens)
 
-  -- it is not cut off before its name
+  -- It is not cut off before its name.
   head_not_cut : (i s n : ℕ) → BeginsDoctype src i s → IsSpace src (i + 9) n → length src ≤ n → ⊥
   head_not_cut i s n is sp past =
       let b = doctype_parts is in
@@ -262,7 +262,7 @@ module _ (src : List ℕ) (utf8 : IsUtf8 src) where
 
   -- ---- within the subset
 
-  -- the items up to p, and those that are left up to the `]`
+  -- The items up to p, and those that are left up to the `]`.
   record Closed (p : ℕ) (items nodes : Forest Item) (asked given more : List Asked) : Type 0 where
     k : ℕ
     bracket : byte src k ≡ 93
@@ -282,7 +282,7 @@ module _ (src : List ℕ) (utf8 : IsUtf8 src) where
       let read : Subset src (s + 1) p items asked first = subst (λ (s : ℕ). Subset src (s + 1) p items asked first) at_end read' in
       record { k = k; bracket = bracket; closes = closes; es = first; fs = es; front = subset_front src utf8 k bracket (s + 1) p items nodes asked given more first es read subset same }
 
-  -- a fault in it is that of a limit
+  -- A fault in it is that of a limit.
   pub in_doctype_apart : (W : Type 0) (limit i j : ℕ) (before nodes after : Forest Item) (asked given : List Asked) (es : List Entity) (source : List ℕ) (f : Fault) → IsDoctype src i j nodes given es
       → (W → 1 + size (merge (join before (join nodes after))) ≤ limit) → SameAnswers asked given → InDoctype limit src i before asked source f → IsOver W f
   in_doctype_apart W limit i j before nodes after asked given es source f is few same (head_lacks _ (p, t, due', lack)) = let h = head_there i j nodes given es is in absurd (head_apart i h.0 p t f h.1 h.2 due' lack)
@@ -338,7 +338,7 @@ module _ (src : List ℕ) (utf8 : IsUtf8 src) where
       let at_end = ended p c.k r.rest r.more r.gs c.bracket r.left bracket in
       absurd (lack_apart (spaces_end src (c.k + 1)) f (subst (λ (p : ℕ). IsMissing src (spaces_end src (p + 1)) doctype_end f) at_end lack) c.closes)
     where
-      -- nothing that a subset holds begins with a bracket
+      -- Nothing that a subset holds begins with a bracket.
       ended : (p k : ℕ) (rest : Forest Item) (more : List Asked) (gs : List Entity) → byte src k ≡ 93 → Subset src p k rest more gs → byte src p ≡ 93 → p ≡ k
       ended p k rest more gs end left here =
           let b : is_space (byte src p) ≡ is_space 93 = ap is_space here in
@@ -362,7 +362,7 @@ module _ (src : List ℕ) (utf8 : IsUtf8 src) where
       let r = c.front in
       absurd (past_end c.k r.rest r.more r.gs c.bracket (subst (λ (p : ℕ). Subset src p c.k r.rest r.more r.gs) ends r.left))
     where
-      -- at the end of the text none is left
+      -- At the end of the text none is left.
       past_end : (k : ℕ) (rest : Forest Item) (more : List Asked) (gs : List Entity) → byte src k ≡ 93 → Subset src (length src) k rest more gs → ⊥
       past_end k rest more gs end left =
           let past : (b : ℕ) → 0 < b → byte src (length src) ≡ b → ⊥ = λ b some is. let l = within src (length src) (λ z. omega arith) in omega arith in

@@ -53,14 +53,14 @@ use Rattle.rox_grammar.specs.Content.{attribute}
 
 -- ---- names
 
--- of a row of declarations each may be declared, and none before it has its prefix
+-- Of a row of declarations each may be declared, and none before it has its prefix.
 declarable_at : (before xs ys : List NamespaceDecl) (d : NamespaceDecl) → DeclarableBehind before (xs ++ d ∷ ys) → (may_declare d ≡ true) × (is_declared d.prefix (before ++ xs) ≡ false)
 declarable_at before [] ys d h = (h.0, subst (λ (ds : List NamespaceDecl). is_declared d.prefix ds ≡ false) (sym (append-nil before)) h.1)
 declarable_at before (x ∷ xs) ys d h =
     let r = declarable_at (before ++ x ∷ []) xs ys d h.2 in
     (r.0, subst (λ (ds : List NamespaceDecl). is_declared d.prefix ds ≡ false) (append_assoc before (x ∷ []) xs) r.1)
 
--- of a row of attributes each is known, and none before it has its name
+-- Of a row of attributes each is known, and none before it has its name.
 distinct_at : (scope : List NamespaceDecl) (before xs ys : List Attribute) (a : Attribute) → DistinctBehind scope before (xs ++ a ∷ ys)
     → (is_known scope a.name ≡ true) × (list_any (λ e. same_expanded scope e.name a.name) (before ++ xs) ≡ false)
 distinct_at scope before [] ys a h = (h.0, subst (λ (as' : List Attribute). list_any (λ e. same_expanded scope e.name a.name) as' ≡ false) (sym (append-nil before)) h.1)
@@ -68,12 +68,12 @@ distinct_at scope before (x ∷ xs) ys a h =
     let r = distinct_at scope (before ++ x ∷ []) xs ys a h.2 in
     (r.0, subst (λ (as' : List Attribute). list_any (λ e. same_expanded scope e.name a.name) as' ≡ false) (append_assoc before (x ∷ []) xs) r.1)
 
--- what two rows of attributes declare
+-- What two rows of attributes declare.
 declared_both : (xs ys : List Attribute) → namespace_decls_of (xs ++ ys) ≡ namespace_decls_of xs ++ namespace_decls_of ys
 declared_both xs ys =
     ap (map namespace_decl_of) (filter-append (λ a. is_namespace_decl a.name) xs ys) ∙ map-append namespace_decl_of (filter (λ a. is_namespace_decl a.name) xs) (filter (λ a. is_namespace_decl a.name) ys)
 
--- a declaration that may be: rows 1, 2, 3 and 5
+-- A declaration that may be: rows 1, 2, 3 and 5.
 declared_apart : (src : List ℕ) (before : List NamespaceDecl) (a : Attribute) (f : Fault) → may_declare (namespace_decl_of a) ≡ true → is_declared (namespace_decl_of a).prefix before ≡ false → IllDeclared src before a f → ⊥
 declared_apart src before a f may once (other_uri of_xml other reserved) =
     let both = and_parts (not (bytes_eq a.value xmlns_uri)) (cond (is_xml (namespace_decl_of a).prefix) (bytes_eq a.value xml_uri) (not (bytes_eq a.value xml_uri))) may in
@@ -92,19 +92,19 @@ declared_apart src before a f may once (uri_of_xmlns uri) =
     cc z
 declared_apart src before a f may once (again name may' twice' holds) = true≢false (sym twice' ∙ once)
 
--- no name begins with `>`
+-- No name begins with `>`.
 no_greater : is_name_start 62 ≡ false
 unfolding is_name_start
 no_greater = refl
 
--- where one begins, it does not stand
+-- Where one begins, it does not stand.
 starts_no_greater : (src : List ℕ) (i : ℕ) → begins is_name_start src i ≡ true → byte src i ≢ 62
 starts_no_greater src i starts is =
     let b = begins_here is_name_start src i (within src i (λ z. omega arith)) (omega arith) in
     let f : begins is_name_start src i ≡ false = b ∙ rw is no_greater in
     true≢false (sym starts ∙ f)
 
--- nor at a qualified name
+-- Nor at a qualified name.
 name_no_greater : (src : List ℕ) (i : ℕ) (name : Name) (n : ℕ) → IsQName src i name n → byte src i ≢ 62
 name_no_greater src i name n (unprefixed _ _ nc no_colon) is = starts_no_greater src i (ncname_parts nc).starts is
 name_no_greater src i name n (prefixed _ k _ nc colon local no_colon) is = starts_no_greater src i (ncname_parts nc).starts is
@@ -112,7 +112,7 @@ name_no_greater src i name n (colon_first _ _ colon nc no_colon) is = absurd (om
 
 -- ---- the front of a tag
 
--- what follows in a tag, where so many texts may be opened: its end, or an attribute
+-- What follows in a tag, where so many texts may be opened: its end, or an attribute.
 data Next (main : Bool) (O : Inclusion) (src : List ℕ) (p : ℕ) (empty : Bool) (j b : ℕ) : List Attribute → Type 0 where
   it_ends : TagEnds src p empty j → Next main O src p empty j b []
   it_goes : (q c : ℕ) (a : Attribute) (rest : List Attribute) → p < spaces_end src p → IsAttribute main O src (spaces_end src p) q b c a → Next main O src p empty j b (a ∷ rest)
@@ -121,18 +121,18 @@ next_at : (main : Bool) (O : Inclusion) (src : List ℕ) (p last b c j : ℕ) (e
 next_at main O src p last b c j empty rest (no_more _ _) ends = it_ends ends
 next_at main O src p last b c j empty rest (one_more _ q _ _ d _ a more spaces is others) ends = it_goes q d a more spaces is
 
--- the byte at the end of a tag
+-- The byte at the end of a tag.
 end_byte : (src : List ℕ) (p j : ℕ) (empty : Bool) → TagEnds src p empty j → (byte src (spaces_end src p) ≡ 62) ⊎ (byte src (spaces_end src p) ≡ 47)
 end_byte src p j empty (opened _ close) = inl close
 end_byte src p j empty (closed _ slash close) = inr slash
 
 module _ (context : Values) (O : Inclusion) (agrees : AgreesValue context.entities O context.opener) (src : List ℕ) (utf8 : IsUtf8 src) where
-  -- a turn of a tag that is an attribute
+  -- A turn of a tag that is an attribute.
   turn : (i j b c : ℕ) (a : Attribute) → IsAttribute context.main O src (spaces_end src i) j b c a → (spaces : i < spaces_end src i)
       → (r : Reads context O agrees src utf8 (spaces_end src i) j b c a) × (tag_item_at src i ≡ Ok (markup.more r.0, j))
   turn i j b c a is spaces = turn_is context O agrees src utf8 i j b c a is spaces
 
-  -- two that stand there are one
+  -- Two that are there are one.
   one_turn : (i j k b c d : ℕ) (a e : Attribute) → IsAttribute context.main O src (spaces_end src i) j b c a → IsAttribute context.main O src (spaces_end src i) k b d e → i < spaces_end src i → (a ≡ e) × (c ≡ d) × (j ≡ k)
   one_turn i j k b c d a e is is' spaces =
       let x = turn i j b c a is spaces in
@@ -141,7 +141,7 @@ module _ (context : Values) (O : Inclusion) (agrees : AgreesValue context.entiti
       let one = one_attribute context O agrees src utf8 j k (spaces_end src i) b c d a e x.0 y.0 (same_more x.0.0 y.0.0 (ap (λ (p : TagItem × ℕ). p.0) same)) in
       (one.0, one.1, ap (λ (p : TagItem × ℕ). p.1) same)
 
-  -- attributes that stand there are a front of all of them
+  -- Attributes that are there are a front of all of them.
   front : (i p last b c e j : ℕ) (empty : Bool) (as' bs : List Attribute) → Attributes context.main O src i p b c as' → Attributes context.main O src i last b e bs → TagEnds src last empty j
       → (rest : List Attribute) × (bs ≡ as' ++ rest) × Next context.main O src p empty j c rest
   front i p last b c e j empty as' bs (no_more _ _) all ends = (bs, refl, next_at context.main O src i last b e j empty bs all ends)
@@ -155,17 +155,17 @@ module _ (context : Values) (O : Inclusion) (agrees : AgreesValue context.entiti
       let next = front k p last g c e j empty rest rest' others others'' ends in
       (next.0, ap (λ (x : Attribute). x ∷ rest') (sym one.0) ∙ ap (λ (xs : List Attribute). a ∷ xs) next.1, next.2)
 
-  -- a character begins behind attributes
+  -- A character begins after attributes.
   attributes_cut : (i p b c : ℕ) (as' : List Attribute) → IsCharBoundary src i → Attributes context.main O src i p b c as' → IsCharBoundary src p
   attributes_cut i p b c as' cut' (no_more _ _) = cut'
   attributes_cut i p b c as' cut' (one_more _ k _ _ d _ a rest spaces is others) = attributes_cut k p d c rest (attribute_cut context.main O src utf8 (spaces_end src i) k b d a is) others
 
-  -- what follows begins within the source
+  -- What follows begins within the source.
   next_within : (p j b : ℕ) (empty : Bool) (rest : List Attribute) → Next context.main O src p empty j b rest → spaces_end src p < length src
   next_within p j b empty rest (it_ends ends) = elim (end_byte src p j empty ends) as (λ s. spaces_end src p < length src) [ inl is ↦ within src (spaces_end src p) (λ z. omega arith) | inr is ↦ within src (spaces_end src p) (λ z. omega arith) ]
   next_within p j b empty rest (it_goes q c _ more spaces (attribute n v e name value is read)) = (name_byte src (spaces_end src p) name n is.0).within
 
-  -- a tag that goes on with a name does not end
+  -- A tag that continues with a name does not end.
   name_follows : (p j b n : ℕ) (empty : Bool) (rest : List Attribute) (name : Name) → Next context.main O src p empty j b rest → IsQName src (spaces_end src p) name n
       → (q : ℕ) × (c : ℕ) × (a : Attribute) × (more : List Attribute) × (rest ≡ a ∷ more) × IsAttribute context.main O src (spaces_end src p) q b c a
   name_follows p j b n empty rest name (it_ends ends) is =
@@ -175,7 +175,7 @@ module _ (context : Values) (O : Inclusion) (agrees : AgreesValue context.entiti
       ]
   name_follows p j b n empty rest name (it_goes q c a more spaces is') is = (q, c, a, more, refl, is')
 
-  -- `/` without `>`
+  -- `/` without `>`.
   slash_apart : (p j b : ℕ) (empty : Bool) (rest : List Attribute) (f : Fault) → Next context.main O src p empty j b rest → byte src (spaces_end src p) ≡ 47 → IsMissing src (spaces_end src p + 1) (a_byte 62) f → ⊥
   slash_apart p j b empty rest f (it_ends (opened _ close)) slash lack = absurd (omega arith)
   slash_apart p j b empty rest f (it_ends (closed _ slash' close)) slash lack = byte_stands src 62 (spaces_end src p + 1) f (omega arith) close lack
@@ -186,23 +186,23 @@ module _ (context : Values) (O : Inclusion) (agrees : AgreesValue context.entiti
     abbrev is : TagParts context.main O src s.at j b e empty tag
     is = tag_parts is_tag
 
-    -- what is read of it is a front of it
+    -- What is read of it is a front of it.
     tag_front : (p c : ℕ) (name : Name) (as' : List Attribute) → TagTo context.main O src s p b c name as' → (rest : List Attribute) × (is.written ≡ as' ++ rest) × Next context.main O src p empty j c rest
     tag_front p c name as' (n, is_name, no_xmlns, attributes, declarable, few) =
         let same : n ≡ tag.name_end = (one_qname src (s.at + 1) n tag.name_end name tag.name is_name is.is_name).1 in
         front tag.name_end p is.last b c e j empty as' is.written (subst (λ (n : ℕ). Attributes context.main O src n p b c as') same attributes) is.attributes is.ends
 
-    -- a character begins behind it
+    -- A character begins after it.
     to_cut : (p c : ℕ) (name : Name) (as' : List Attribute) → TagTo context.main O src s p b c name as' → IsCharBoundary src p
     to_cut p c name as' (n, is_name, no_xmlns, attributes, declarable, few) =
         let cut' : IsCharBoundary src (s.at + 1) = cut_behind src s.at 60 utf8 is.begins (omega arith) (omega arith) in
         attributes_cut n p b c as' (qname_text src (s.at + 1) name n utf8 cut' is_name).3 attributes
 
-    -- what it declares in front, and then
+    -- What it declares in front, and then.
     all_declared : (as' rest : List Attribute) → is.written ≡ as' ++ rest → tag.declarations ≡ namespace_decls_of as' ++ namespace_decls_of rest
     all_declared as' rest same = is.declares ∙ ap namespace_decls_of same ∙ declared_both as' rest
 
-    -- a name with no white space in front
+    -- A name with no white space in front.
     space_apart : (p c : ℕ) (rest : List Attribute) (f : Fault) → IsCharBoundary src p → Next context.main O src p empty j c rest → byte src p ≢ 47 → byte src p ≢ 62 → IsMissing src p a_space f → ⊥
     space_apart p c rest f cut' (it_ends ends) no_slash no_close lack =
         let le = run_end_le is_space src p in
@@ -211,12 +211,12 @@ module _ (context : Values) (O : Inclusion) (agrees : AgreesValue context.entiti
         space_stands src utf8 p f cut' (omega arith) lack
     space_apart p c rest f cut' (it_goes q d a more spaces is') no_slash no_close lack = space_stands src utf8 p f cut' spaces lack
 
-    -- nor an attribute that lacks something
+    -- Nor an attribute that lacks something.
     pair_in : (p q c : ℕ) (rest : List Attribute) (t : DueItem) (f : Fault) → Next context.main O src p empty j c rest → byte src (spaces_end src p) ≢ 47 → byte src (spaces_end src p) ≢ 62 → DueInPair src (spaces_end src p) q t → IsMissing src q t f → ⊥
     pair_in p q c rest t f (it_ends ends) no_slash no_close due lack = elim (end_byte src p j empty ends) as (λ s. ⊥) [ inl close ↦ no_close close | inr slash ↦ no_slash slash ]
     pair_in p q c rest t f (it_goes k d _ more spaces (attribute n v e name value is' read)) no_slash no_close due lack = pair_apart src utf8 (spaces_end src p) n v e k q name t f is'.0 is'.1 is'.2 due lack
 
-    -- the value of an attribute that stands behind
+    -- The value of an attribute that is after.
     value_in : (p n v e k c : ℕ) (rest : List Attribute) (name : Name) → Next context.main O src p empty j c rest → IsQName src (spaces_end src p) name n → IsEq src n v → IsAttValue src v e k
         → (d : ℕ) × (w : List ℕ) × Value context.main O src e (v + 1) c d w
     value_in p n v e k c rest name next named eq literal =
@@ -228,7 +228,7 @@ module _ (context : Values) (O : Inclusion) (agrees : AgreesValue context.entiti
         let value : Value context.main O src e (is'.v + 1) c x.1 a.value = subst (λ (e : ℕ). Value context.main O src e (is'.v + 1) c x.1 a.value) end is'.value in
         (x.1, a.value, subst (λ (v : ℕ). Value context.main O src e (v + 1) c x.1 a.value) (sym same) value)
 
-    -- a declaration that stands behind these is one of the tag
+    -- A declaration that is after these is one of the tag.
     declared_there : (p k c d : ℕ) (as' rest : List Attribute) (a : Attribute) → is.written ≡ as' ++ rest → Next context.main O src p empty j c rest → p < spaces_end src p → IsAttribute context.main O src (spaces_end src p) k c d a
         → is_namespace_decl a.name ≡ true → (more : List NamespaceDecl) × (tag.declarations ≡ namespace_decls_of as' ++ namespace_decl_of a ∷ more)
     declared_there p k c d as' rest a same next spaces is' declares' =
@@ -238,7 +238,7 @@ module _ (context : Values) (O : Inclusion) (agrees : AgreesValue context.entiti
         let first : namespace_decls_of (a ∷ x.3) ≡ namespace_decl_of a ∷ namespace_decls_of x.3 = rw declares' refl in
         (namespace_decls_of x.3, all_declared as' (a ∷ x.3) whole ∙ ap (λ (ds : List NamespaceDecl). namespace_decls_of as' ++ ds) first)
 
-    -- nor one that may not be declared
+    -- Nor one that may not be declared.
     declared_in : (p k c d : ℕ) (as' rest : List Attribute) (a : Attribute) (f : Fault) → is.written ≡ as' ++ rest → Next context.main O src p empty j c rest → p < spaces_end src p → IsAttribute context.main O src (spaces_end src p) k c d a
         → is_namespace_decl a.name ≡ true → IllDeclared src (namespace_decls_of as') a f → ⊥
     declared_in p k c d as' rest a f same next spaces is' declares' ill =
@@ -246,7 +246,7 @@ module _ (context : Values) (O : Inclusion) (agrees : AgreesValue context.entiti
         let may = declarable_at [] (namespace_decls_of as') there.0 (namespace_decl_of a) (subst (DeclarableBehind []) there.1 (declarable_behind tag.declarations well_named.1)) in
         declared_apart src (namespace_decls_of as') a f may.0 may.1 ill
 
-    -- nor a name that is unknown, or stands twice
+    -- Nor a name that is unknown, or stands twice.
     named_in : (f : Fault) → IllNamed src s.at (listed (scope_of s.stack) tag.declarations) tag.name tag.attributes f → ⊥
     named_in f (unknown_attribute before after a name split distinct unknown holds) =
         let d = distinct_at (listed (scope_of s.stack) tag.declarations) [] before after a (subst (DistinctBehind (listed (scope_of s.stack) tag.declarations) []) split (distinct_behind (listed (scope_of s.stack) tag.declarations) tag.attributes well_named.2)) in
@@ -256,7 +256,7 @@ module _ (context : Values) (O : Inclusion) (agrees : AgreesValue context.entiti
         true≢false (sym again' ∙ d.1)
     named_in f (unknown_element name distinct unknown holds) = true≢false (sym well_named.3 ∙ unknown)
 
-    -- it is the tag that stands there
+    -- It is the tag that is there.
     same_tag : (p k c : ℕ) (x : Bool) (name : Name) (as' : List Attribute) (to : TagTo context.main O src s p b c name as') → TagEnds src p x k
         → ◌≡◌ {A = Tag} (record { name = name; name_end = to.0; declarations = namespace_decls_of as'; attributes = plain_attributes_of as' }) tag
     same_tag p k c x name as' to ends =
@@ -264,7 +264,7 @@ module _ (context : Values) (O : Inclusion) (agrees : AgreesValue context.entiti
         let is' : IsTag context.main O src s.at k b c x t = start_tag to.0 p name as' is.begins to.1 to.3 ends in
         (one_tag context O agrees src utf8 s.at k j b c e t tag x empty is' is_tag).1
 
-    -- so no fault of a start tag stands in it but those of the limits: rows 1 to 6, 9, 10, 13 to 15, 19 to 24, 31
+    -- So no fault of a start tag is in it but those of the limits: rows 1 to 6, 9, 10, 13 to 15, 19 to 24, 31.
     pub tag_apart : (f : Fault) → InTag context.main O src s b f → IsOver W f
     tag_apart f (no_name _ lack) = absurd (qname_stands src (s.at + 1) tag.name_end tag.name f is.is_name lack)
     tag_apart f (xmlns_prefix name n named prefix) =
@@ -294,7 +294,7 @@ module _ (context : Values) (O : Inclusion) (agrees : AgreesValue context.entiti
     tag_apart f (in_rest p c name as' _ to (ill_named k x _ ends few' ill)) =
         absurd (named_in f (subst (λ (t : Tag). IllNamed src s.at (listed (scope_of s.stack) t.declarations) t.name t.attributes f) (same_tag p k c x name as' to ends) ill))
 
-    -- and a value in it is read
+    -- And a value in it is read.
     pub value_there : (p c n v e' k : ℕ) (tag_name : Name) (as' : List Attribute) (name : Name) → TagTo context.main O src s p b c tag_name as' → IsQName src (spaces_end src p) name n → IsEq src n v → IsAttValue src v e' k
         → (d : ℕ) × (w : List ℕ) × Value context.main O src e' (v + 1) c d w
     value_there p c n v e' k tag_name as' name to named eq literal = let x = tag_front p c tag_name as' to in value_in p n v e' k c x.0 name x.2 named eq literal

@@ -1,4 +1,4 @@
--- A fault that stands in a text refuses it: the text has no parse within the limits, and none at all if the fault is not that of a
+-- A fault that is in a text refuses it: the text has no parse within the limits, and none at all if the fault is not that of a
 -- limit.
 use Rattle.std.proofs.Common.{◌≡◌, ℕ, ◌+◌, ◌<◌, ◌≤◌, Bool, true, false, List, [], length, refl, sym, ap, ◌∙◌, subst, arith, inl, inr}
 use Rattle.std.specs.Str.{IsUtf8}
@@ -16,7 +16,7 @@ use Rattle.rox_grammar.specs.TextStart.{after_bom, MayHaveXmlDecl, declared, not
 use Rattle.rox_grammar.specs.Entities.{Entity, no_entities, most_deep}
 use Rattle.rox_grammar.specs.Doctype.{Asked}
 use Rattle.rox_grammar.proofs.CountForms.{limits_counted}
-use Rattle.rox_grammar.specs.Document.{Behind, Misc, no_misc, an_item, ParseOf, IsWithinLimits, PrologTo}
+use Rattle.rox_grammar.specs.Document.{DocumentTo, Misc, no_misc, an_item, ParseOf, IsWithinLimits, PrologTo}
 use Rattle.rox_theory.specs.ParseParts.{no_doctype}
 use Rattle.rox_grammar.specs.State as grammar
 use Rattle.rox_grammar.specs.State.{root}
@@ -32,7 +32,7 @@ use Rattle.rox_theory.specs.Openers.{AgreesValue}
 use Rattle.rox_theory.specs.ValidState.{AreNamed, IsValidState, state}
 use Rattle.rox_theory.specs.WithoutDoctype.{ParseWithout}
 use Rattle.rox_theory.proofs.Without.{parse_without}
-use Rattle.rox_theory.proofs.ParseParts.{behind_parts}
+use Rattle.rox_theory.proofs.ParseParts.{document_parts}
 use Rattle.rox_theory.proofs.Basics.{within}
 use Rattle.rox_theory.proofs.Constructions.{a_tag, kind_at, tag_kind, name_byte}
 use Rattle.rox_theory.proofs.Leaves.{fine_before, named_before}
@@ -54,13 +54,13 @@ use Rattle.rox_faults.proofs.FaultMisc.{misc_front, misc_at, doctype_at, other_a
 use Rattle.rox_faults.proofs.FaultWay.{state_of, OpensAt, Trail, stays, follows, drives_trail, Reached, place_reached}
 use Rattle.rox_faults.proofs.FaultAtPlaces.{stands_apart, value_apart}
 
--- What a parse is made of, which is within the limits if W is so: what stands before the root element, which is known of each point before it, the root
--- element, and what stands behind it.
-pub record Parsed (opens : ℕ → Inclusion) (limit : ℕ) (W : Type 0) (text : List ℕ) (Front : ℕ → Forest Item → Type 0) : Type 0 where
+-- What a parse is made of, which is within the limits if W is so: what is before the root element, which is known of each point
+-- before it, the root element, and what is after it.
+pub record Parsed (opens : ℕ → Inclusion) (limit : ℕ) (W : Type 0) (text : List ℕ) (PrologAt : ℕ → Forest Item → Type 0) : Type 0 where
   pub start : ℕ
   pub before : Forest Item
-  pub ahead : (p : ℕ) (items : Forest Item) → Front p items → (rest : Forest Item) × Misc text p start rest × (before ≡ join items rest)
-  pub on : (p q : ℕ) (items more : Forest Item) → Front p items → Misc text p q more → Front q (join items more)
+  pub ahead : (p : ℕ) (items : Forest Item) → PrologAt p items → (rest : Forest Item) × Misc text p start rest × (before ≡ join items rest)
+  pub on : (p q : ℕ) (items more : Forest Item) → PrologAt p items → Misc text p q more → PrologAt q (join items more)
   pub end : ℕ
   pub openings_left : ℕ
   pub one : Forest Item
@@ -74,7 +74,7 @@ module _ (opens : ℕ → Inclusion) (es : List Entity) (all : OpensAt opens es)
   abbrev agrees : AgreesValue es (opens 0) (value_opener es most_deep true)
   agrees = all.values most_deep 0 (omega arith)
 
-  -- a construct of the main text moves forward
+  -- A construct of the main text moves forward.
   main_moves : (s t : State) → StepsOver true (opens 0) text 0 s t → (s.at < length text) × (s.at < t.at) × (t.at ≤ length text)
   main_moves s t takes = steps.step_moves (context_at limit es most_deep 0 0) (opens 0) agrees (all.contents limit most_deep 0 (omega arith)) text utf8 s t takes
 
@@ -82,20 +82,20 @@ module _ (opens : ℕ → Inclusion) (es : List Entity) (all : OpensAt opens es)
   trail_le s u (stays _) = omega arith
   trail_le s u (follows _ t _ takes rest) = omega (arith, main_moves s t takes, trail_le t u rest)
 
-  module _ (Front : ℕ → Forest Item → Type 0) (p : Parsed opens limit W text Front) where
-    -- up to the end of the root element all is within the limits if the whole is
+  module _ (PrologAt : ℕ → Forest Item → Type 0) (p : Parsed opens limit W text PrologAt) where
+    -- Up to the end of the root element all is within the limits if the whole is.
     end_fine : W → IsValidState limit (state p.end (join p.before p.one) root p.openings_left)
     end_fine w = fine_before limit p.end (length text) p.openings_left p.openings_left (join p.before p.one) p.after root (p.fine w)
 
-    -- and up to its beginning
+    -- And up to its beginning.
     start_fine : W → IsValidState limit (state p.start p.before root 255)
     start_fine w = fine_before limit p.start p.end 255 p.openings_left p.before p.one root (end_fine w)
 
-    -- where the root element begins
+    -- Where the root element begins.
     root_at : (byte text p.start ≡ 60) × (at word.DoctypeStart text p.start ≡ false) × Stops text p.start
     root_at = element_stops true (opens 0) text p.start p.end 255 p.openings_left p.one p.element
 
-    -- the way begins there
+    -- The way begins there.
     root_reached : Reached opens es all limit W 0 0 text (state p.start p.before root 255)
     root_reached =
         let x = root_drives (opens 0) text p.start p.end 255 p.openings_left p.one p.before p.element in
@@ -119,33 +119,33 @@ module _ (opens : ℕ → Inclusion) (es : List Entity) (all : OpensAt opens es)
           first = λ top. (omega (arith, (main_moves start next takes).1, trail_le next end rest), kind);
         }
 
-    -- what stops before the root element is there
-    start_there : (i : ℕ) (items : Forest Item) → Front i items → Stops text i → (p.start ≡ i) × (p.before ≡ items)
+    -- What stops before the root element is there.
+    start_there : (i : ℕ) (items : Forest Item) → PrologAt i items → Stops text i → (p.start ≡ i) × (p.before ≡ items)
     start_there i items front stops =
         let r = p.ahead i items front in
         let none = stopped text utf8 i p.start r.0 r.1 stops in
         (sym none.0, r.2 ∙ ap (join items) none.1 ∙ join-nil items)
 
-    at_root : (kind : Bool) (i : ℕ) (items : Forest Item) → Front i items × RootBegins kind text i → Reached opens es all limit W 0 0 text (state i items root 255)
+    at_root : (kind : Bool) (i : ℕ) (items : Forest Item) → PrologAt i items × RootBegins kind text i → Reached opens es all limit W 0 0 text (state i items root 255)
     at_root kind i items (front, begins) =
         let stops : Stops text i = record { no_space = no_spaces text i begins.0; no_comment = begins.1; no_instruction = begins.2 } in
         let same = start_there i items front stops in
         subst (λ (i : ℕ). Reached opens es all limit W 0 0 text (state i items root 255)) same.0
         (subst (λ (f : Forest Item). Reached opens es all limit W 0 0 text (state p.start f root 255)) same.1 root_reached)
 
-    -- each place lies on it
-    place_there : (kind : Bool) (k open_around b : ℕ) (src : List ℕ) (s : grammar.State) → ContentPoint opens es text (λ i items. Front i items × RootBegins kind text i) k open_around src b s → Reached opens es all limit W k open_around src (state_of s b)
-    place_there kind k open_around b src s place = place_reached opens es all limit W text (λ i items. Front i items × RootBegins kind text i) (at_root kind) k open_around b src s place
+    -- Each place lies on it.
+    place_there : (kind : Bool) (k open_around b : ℕ) (src : List ℕ) (s : grammar.State) → ContentPoint opens es text (λ i items. PrologAt i items × RootBegins kind text i) k open_around src b s → Reached opens es all limit W k open_around src (state_of s b)
+    place_there kind k open_around b src s place = place_reached opens es all limit W text (λ i items. PrologAt i items × RootBegins kind text i) (at_root kind) k open_around b src s place
 
-    -- what is left up to the end of the text
+    -- What is left up to the end of the text.
     record Rest (q : ℕ) (items : Forest Item) : Type 0 where
       rest : Forest Item
       misc : Misc text q (length text) rest
       whole : join (join p.before p.one) p.after ≡ join items rest
 
-    behind_rest : (q : ℕ) (items : Forest Item) → Behind (opens 0) text Front q items → Rest q items
+    behind_rest : (q : ℕ) (items : Forest Item) → DocumentTo (opens 0) text PrologAt q items → Rest q items
     behind_rest q items is =
-        let behind = behind_parts is in
+        let behind = document_parts is in
         let there = element_stops true (opens 0) text behind.start behind.end 255 behind.openings_left behind.one behind.element in
         let same = start_there behind.start behind.before behind.ahead there.2 in
         let element : IsElement true (opens 0) text p.start behind.end 255 behind.openings_left behind.one = subst (λ (i : ℕ). IsElement true (opens 0) text i behind.end 255 behind.openings_left behind.one) (sym same.0) behind.element in
@@ -160,8 +160,8 @@ module _ (opens : ℕ → Inclusion) (es : List Entity) (all : OpensAt opens es)
           whole = ap (join (join p.before p.one)) r.2 ∙ sym (join_assoc (join p.before p.one) behind.after r.0) ∙ ap (λ (i : Forest Item). join i r.0) (sym front_is);
         }
 
-    -- no fault stands in the text but those of the limits
-    pub never : (kind : Bool) (source : List ℕ) (f : Fault) → FaultFrom opens es limit text kind Front source f → IsOver W f
+    -- No fault is in the text but those of the limits.
+    pub never : (kind : Bool) (source : List ℕ) (f : Fault) → FaultFrom opens es limit text kind PrologAt source f → IsOver W f
     never kind source f (misc_around q items _ (inl front) fits (in_one _ ill)) = let r = p.ahead q items front in absurd (misc_at text utf8 q p.start r.0 f r.1 root_at.2 ill)
     never kind source f (misc_around q items _ (inl front) fits (one_too_many k item is over)) =
         let all' = join items (leaf item) in
@@ -172,8 +172,10 @@ module _ (opens : ℕ → Inclusion) (es : List Entity) (all : OpensAt opens es)
     never kind source f (no_root items front fits) = let r = p.ahead (length text) items front in let l = before_end text utf8 (length text) p.start r.0 r.1 root_at.0 in absurd (omega arith)
     never kind source f (unknown_ahead q items front fits below no_space no_less) = let r = p.ahead q items front in absurd (other_at text utf8 q p.start r.0 r.1 root_at.0 no_space no_less)
     never kind source f (at_point k open_around b _ s _ _ place fits (at_place _ stands)) = stands_apart opens es all limit W k open_around b source s (place_there kind k open_around b source s place) f stands
-    never kind source f (at_point k open_around b src s _ _ place fits (in_value q n v e j c l i stop d tag_name name as' _ _ begins to space pair part ill)) =
-        absurd (value_apart opens es all limit W k open_around b q c n v e j l i stop d src source s tag_name as' name f (place_there kind k open_around b src s place) begins to pair.0 pair.1 pair.2 part ill)
+    never kind source f (at_point k open_around b src s _ _ place fits (in_value next l i stop d _ _ begins part ill)) =
+        let v = next.pair in
+        absurd (value_apart opens es all limit W k open_around b next.read_to next.openings_left v.name_end v.first_quote v.last_quote v.end l i stop d src source s next.tag_name next.written v.name f
+        (place_there kind k open_around b src s place) begins next.is_read v.is_written.0 v.is_written.1 v.is_written.2 part ill)
     never kind source f (misc_around q items _ (inr behind) fits (in_one _ ill)) = let r = behind_rest q items behind in absurd (misc_at text utf8 q (length text) r.rest f r.misc (end_stops text) ill)
     never kind source f (misc_around q items _ (inr behind) fits (one_too_many k item is over)) =
         let r = behind_rest q items behind in
@@ -187,7 +189,7 @@ module _ (opens : ℕ → Inclusion) (es : List Entity) (all : OpensAt opens es)
 
 -- ---- without a document type declaration
 
--- nothing is opened
+-- Nothing is opened.
 plain_opens : OpensAt (λ k. no_entities) []
 plain_opens = record {
   texts = λ name t found. cc found;
@@ -199,11 +201,11 @@ plain_opens = record {
 }
 
 module _ (src : List ℕ) (utf8 : IsUtf8 src) (limit : ℕ) (tree : Forest Item) (p : ParseWithout src tree) where
-  -- the whole as a state has it
+  -- The whole as a state has it.
   same_whole : tree ≡ join (join p.before p.one) p.after
   same_whole = p.is_tree ∙ sym (join_assoc p.before p.one p.after)
 
-  -- which is within the limits where the parse is
+  -- Which is within the limits where the parse is.
   whole_fine : IsWithinLimits limit tree → IsValidState limit (state (length src) (join (join p.before p.one) p.after) root p.openings_left)
   whole_fine few =
       let counts = limits_counted limit tree few in
@@ -213,11 +215,11 @@ module _ (src : List ℕ) (utf8 : IsUtf8 src) (limit : ℕ) (tree : Forest Item)
       let whole : IsValidState limit (state (length src) tree root p.openings_left) = record { nodes = counted; attributes = counts.attributes; pairs = counts.namespaces; named = p.well_named } in
       subst (λ (f : Forest Item). IsValidState limit (state (length src) f root p.openings_left)) same_whole whole
 
-  -- a declaration has one end
+  -- A declaration has one end.
   one_declaration : (d : ℕ) → MayHaveXmlDecl src (after_bom src) d → d ≡ p.prolog.0
   one_declaration d may = ok_one d p.prolog.0 (prolog src (after_bom src)) (prolog_complete src utf8 (after_bom src) d may) (prolog_complete src utf8 (after_bom src) p.prolog.0 p.prolog.1)
 
-  -- what is left up to the root element
+  -- What is left up to the root element.
   ahead_rest : (q : ℕ) (items : Forest Item) → PrologTo src q items → (rest : Forest Item) × Misc src q p.start rest × (p.before ≡ join items rest)
   ahead_rest q items ahead =
       let there = element_stops true no_entities src p.start p.end 255 p.openings_left p.one p.element in
@@ -240,13 +242,13 @@ module _ (src : List ℕ) (utf8 : IsUtf8 src) (limit : ℕ) (tree : Forest Item)
         named = subst (λ (f : Forest Item). AreNamed root f) same_whole p.well_named;
       }
 
-  -- nor does a document type declaration stand before it
+  -- Nor does a document type declaration stand before it.
   doctype_apart : (i : ℕ) (before : Forest Item) → PrologTo src i before → at word.DoctypeStart src i ≡ true → ⊥
   doctype_apart i before ahead here =
       let r = ahead_rest i before ahead in
       doctype_at src utf8 i p.start r.0 r.1 (element_stops true no_entities src p.start p.end 255 p.openings_left p.one p.element).1 here
 
--- a refusal that stands in a text that has a parse is that of a limit, and the parse is not within the limits
+-- A refusal that is in a text that has a parse is that of a limit, and the parse is not within the limits.
 no_doctype_over : (limit : ℕ) (src source : List ℕ) (given asked : List Asked) (f : Fault) (tree : Forest Item) → IsUtf8 src → RefusalOf limit false src given source f → ParseOf src false asked tree → IsOver (IsWithinLimits limit tree) f
 no_doctype_over limit src source given asked f tree utf8 (without _ stands) parse =
     never (λ k. no_entities) [] plain_opens limit (IsWithinLimits limit tree) src utf8 (PrologTo src) (plain_parsed src utf8 limit tree (parse_without src asked tree parse).1) false src f stands
@@ -259,14 +261,14 @@ no_doctype_over limit src source given asked f tree utf8 (in_declaration _ here 
     declared_apart d (declared _ _ is) = declaration_apart src utf8 (after_bom src) d q t f is due lack
     declared_apart d (not_declared _ none) = true≢false (sym here ∙ none)
 
--- and so is a fault
+-- And so is a fault.
 pub fault_over : (limit : ℕ) (src : List ℕ) (f : Fault) (asked : List Asked) (tree : Forest Item) → IsUtf8 src → FaultOf limit src f → ParseOf src false asked tree → IsOver (IsWithinLimits limit tree) f
 fault_over limit src f asked tree utf8 stands parse = no_doctype_over limit src src [] asked f tree utf8 stands parse
 
--- so a fault that stands is a fault: the text has no parse within the limits
+-- So a fault that stands is a fault: the text has no parse within the limits.
 pub no_false_faults : (limit : ℕ) (src : List ℕ) (f : Fault) (asked : List Asked) (tree : Forest Item) → IsUtf8 src → FaultOf limit src f → ParseOf src false asked tree → IsWithinLimits limit tree → ⊥
 no_false_faults limit src f asked tree utf8 stands parse few = (fault_over limit src f asked tree utf8 stands parse).1 few
 
--- nor a document type declaration before which such items stand
+-- Nor a document type declaration before which such items stand.
 pub no_doctype_there : (limit : ℕ) (src : List ℕ) (asked : List Asked) (tree : Forest Item) (i : ℕ) (before : Forest Item) → IsUtf8 src → PrologTo src i before → at word.DoctypeStart src i ≡ true → ParseOf src false asked tree → ⊥
 no_doctype_there limit src asked tree i before utf8 ahead here parse = doctype_apart src utf8 limit tree (parse_without src asked tree parse).1 i before ahead here

@@ -29,24 +29,24 @@ use Rattle.rox_theory.proofs.FailedReadings.{ok_one}
 use Rattle.rox_faults.proofs.FaultTags.{value_cut}
 use Rattle.rox_faults.proofs.FaultApart.{qname_stands, byte_stands, space_stands, word_stands, chars_stand}
 
--- a qualified name is read in one way
+-- A qualified name is read in one way.
 pub one_qname : (src : List ℕ) (i m n : ℕ) (x y : Name) → IsQName src i x m → IsQName src i y n → (x ≡ y) × (m ≡ n)
 one_qname src i m n x y a b =
     let e = ok_one (x, m) (y, n) (qname_at src i) (qname_complete src i x m a) (qname_complete src i y n b) in
     (ap (λ (p : Name × ℕ). p.0) e, ap (λ (p : Name × ℕ). p.1) e)
 
--- a quote that is due and stands there
+-- A quote that is required and is there.
 quote_stands : (src : List ℕ) (q : ℕ) (f : Fault) → (byte src q ≡ 39) ⊎ (byte src q ≡ 34) → IsMissing src q a_quote f → ⊥
 quote_stands src q f is (none_of _ inside none) = true≢false (sym (quote_is (byte src q) is) ∙ none)
 quote_stands src q f (inl is) (none_left _ past) = let l = within src q (λ z. omega arith) in absurd (omega arith)
 quote_stands src q f (inr is) (none_left _ past) = let l = within src q (λ z. omega arith) in absurd (omega arith)
 
--- where the value begins
+-- Where the value begins.
 pub eq_one : (src : List ℕ) (m n v w : ℕ) → m ≡ n → IsEq src m v → IsEq src n w → v ≡ w
 eq_one src m n v w same a b = a.1 ∙ ap (λ (k : ℕ). spaces_end src (spaces_end src k + 1)) same ∙ sym b.1
 
 module _ (src : List ℕ) (utf8 : IsUtf8 src) where
-  -- in a name, Eq and a literal
+  -- In a name, Eq and a literal.
   pub pair_apart : (i n v e j q : ℕ) (name : Name) (t : DueItem) (f : Fault) → IsQName src i name n → IsEq src n v → IsAttValue src v e j → DueInPair src i q t → IsMissing src q t f → ⊥
   pair_apart i n v e j q name t f named eq literal its_name lack = qname_stands src i n name f named lack
   pair_apart i n v e j q name t f named eq literal (equals name' m is) lack =
@@ -70,22 +70,22 @@ module _ (src : List ℕ) (utf8 : IsUtf8 src) where
       byte_stands src (byte src v) (value_end src v) f (omega arith) (ap (byte src) to_end ∙ literal_closes src v e j literal)
       (subst (λ (w : ℕ). IsMissing src (value_end src w) (a_byte (byte src w)) f) same lack)
 
-  -- a pair ends in one place
+  -- A pair ends in one place.
   one_pair : (i n v e j m w d k : ℕ) (name other : Name) → IsPair src i name n v e j → IsPair src i other m w d k → j ≡ k
   one_pair i n v e j m w d k name other a b =
       ap (λ (p : Unit {0} × ℕ). p.1) (ok_one (tt, j) (tt, k) (pair_at src i) (pair_complete src i n v e j name a) (pair_complete src i m w d k other b))
 
-  -- and so does one with a gap
+  -- And so does one with a gap.
   one_may : (w : Word) (i j k : ℕ) → MayBePair (word_text w) src i j → MayBePair (word_text w) src i k → j ≡ k
   one_may w i j k a b = ap (λ (p : Unit {0} × ℕ). p.1) (ok_one (tt, j) (tt, k) (pair_if w src i) (pair_if_complete w src i j utf8 a) (pair_if_complete w src i k utf8 b))
 
-  -- white space that is due behind a pair and stands there
+  -- White space that is required after a pair and is there.
   gap_stands : (i : ℕ) (f : Fault) → IsCharBoundary src i → IsFollowed src i → i < length src → at word.PIEnd src i ≡ false → IsMissing src i a_space f → ⊥
   gap_stands i f cut (inl some) inside no_end lack = space_stands src utf8 i f cut some lack
   gap_stands i f cut (inr (inl here)) inside no_end lack = true≢false (sym here ∙ no_end)
   gap_stands i f cut (inr (inr end)) inside no_end lack = absurd (omega arith)
 
-  -- a pair that may stand does, with its gap, where its word does
+  -- A pair that may be there is there, with its gap, if its word is.
   may_is : (w : Word) (i k : ℕ) → at w src i ≡ true → MayBePair (word_text w) src i k → (name : Name) × (n : ℕ) × (v : ℕ) × (e : ℕ) × (j : ℕ) × IsPair src i name n v e j × IsFollowed src j × (spaces_end src j ≡ k)
   may_is w i k here (is_pair name n v e j here' p gap) = (name, n, v, e, j, p, gap, refl)
   may_is w i k here (no_pair none) = absurd (true≢false (sym here ∙ none))
@@ -94,7 +94,7 @@ module _ (src : List ℕ) (utf8 : IsUtf8 src) where
   may_not w i k fails (is_pair name n v e j here p gap) = absurd (true≢false (sym here ∙ fails))
   may_not w i k fails (no_pair none) = refl
 
-  -- the pair that stands where one begins, and the gap behind it: behind the last one all white space before the end
+  -- The pair that is where one begins, and the gap after it: after the last one all white space before the end.
   pair_there : (i j p : ℕ) (text : List ℕ) → IsXmlDecl src i j → DeclarationTo src i text p → stands text src p ≡ true
       → (name : Name) × (n : ℕ) × (v : ℕ) × (e : ℕ) × (k : ℕ) × IsPair src p name n v e k × IsFollowed src k × (text ≡ word_text word.Standalone → at word.PIEnd src (spaces_end src k) ≡ true)
   pair_there i j p text (xml_decl e s opens (standalone v _ (encoding _ _ (version _) one) two) three closes) (version _) here =
@@ -107,13 +107,13 @@ module _ (src : List ℕ) (utf8 : IsUtf8 src) where
       let same' : e ≡ p = one_may word.Encoding w e p (subst (λ (v : ℕ). MayBePair (word_text word.Encoding) src v e) same two) may' in
       let m = may_is word.Standalone p s here (subst (λ (e : ℕ). MayBePair (word_text word.Standalone) src e s) same' three) in (m.0, m.1, m.2, m.3, m.4, m.5, m.6, λ z. subst (λ (l : ℕ). at word.PIEnd src l ≡ true) (sym m.7) closes)
 
-  -- where the last one begins
+  -- Where the last one begins.
   last_begins : (i p q : ℕ) → DeclarationTo src i (word_text word.Standalone) p → DeclarationTo src i (word_text word.Standalone) q → p ≡ q
   last_begins i p q (standalone v _ (encoding a _ (version _) one) two) (standalone w _ (encoding b _ (version _) may) may') =
       let same : v ≡ w = one_may word.Version a v w one may in
       one_may word.Encoding w p q (subst (λ (v : ℕ). MayBePair (word_text word.Encoding) src v p) same two) may'
 
-  -- in the declaration: rows 21 to 25
+  -- In the declaration: rows 21 to 25.
   pub declaration_apart : (i j q : ℕ) (t : DueItem) (f : Fault) → IsXmlDecl src i j → DueInXmlDecl src i q t → IsMissing src q t f → ⊥
   declaration_apart i j q t f (xml_decl e s opens (standalone v _ (encoding _ _ (version here) one) two) three closes) its_version lack =
       word_stands src expected.Version (spaces_end src (i + 5)) f here lack
@@ -121,13 +121,14 @@ module _ (src : List ℕ) (utf8 : IsUtf8 src) where
       let there = pair_there i j p text is to here in
       let x = there.5 in
       pair_apart p there.1 there.2 there.3 there.4 q there.0 t f x.0 x.1 x.2 due' lack
-  declaration_apart i j q t f is (behind_pair text name p n v e _ to here other pair inside no_end) lack =
+  declaration_apart i j q t f is (behind_pair text p pair to here other inside no_end) lack =
       let there = pair_there i j p text is to here in
-      let same : there.4 ≡ q = one_pair p there.1 there.2 there.3 there.4 n v e q there.0 name there.5 pair in
-      gap_stands q f (pair_cut src p n v e q name utf8 pair) (subst (IsFollowed src) same there.6) inside no_end lack
-  declaration_apart i j q t f is (behind_standalone name p n v e k to here pair) lack =
+      let same : there.4 ≡ pair.end = one_pair p there.1 there.2 there.3 there.4 pair.name_end pair.first_quote pair.last_quote pair.end there.0 pair.name there.5 pair.is_written in
+      let cut = pair_cut src p pair.name_end pair.first_quote pair.last_quote pair.end pair.name utf8 pair.is_written in
+      gap_stands pair.end f cut (subst (IsFollowed src) same there.6) inside no_end lack
+  declaration_apart i j q t f is (behind_standalone p pair to here) lack =
       let there = pair_there i j p (word_text word.Standalone) is to here in
-      let same : there.4 ≡ k = one_pair p there.1 there.2 there.3 there.4 n v e k there.0 name there.5 pair in
+      let same : there.4 ≡ pair.end = one_pair p there.1 there.2 there.3 there.4 pair.name_end pair.first_quote pair.last_quote pair.end there.0 pair.name there.5 pair.is_written in
       word_stands src expected.PIEnd (spaces_end src there.4) f (there.7 refl) (subst (λ (l : ℕ). IsMissing src (spaces_end src l) (a_text expected.PIEnd) f) (sym same) lack)
   declaration_apart i j q t f (xml_decl e s opens to three closes) (due.DueInXmlDecl.its_end _ to' none) lack =
       let first : e ≡ q = last_begins i e q to to' in

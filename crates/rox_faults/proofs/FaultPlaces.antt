@@ -1,4 +1,4 @@
--- Where reading stands, content has come to from the left; so a fault that is read stands at a place.
+-- The place of reading is one that content reaches from the left, so a fault that is read is at a place.
 use Rattle.std.proofs.Common.{◌≡◌, ℕ, zero, suc, ◌+◌, ◌<◌, ◌≤◌, max, ◌==◌, Bool, true, false, not, eqb, ltb, nat_le, List, length, refl, sym, ◌∙◌, subst, arith, inl, inr}
 use Rattle.std.specs.Prelude.{Ok, Err}
 use Rattle.std.specs.List.{list_any}
@@ -52,22 +52,22 @@ use Rattle.rox_faults.proofs.FaultValues.{InPart, in_part}
 use Rattle.rox_faults.proofs.FaultTags.{tag_values, TagFails, itself, ill_value, tag_at_fails}
 use Rattle.rox_faults.proofs.StateCounts.{fits_few}
 
--- The names of the open elements stand behind their `<`, of those that this source opens: around them so many are open.
+-- The names of the open elements are after their `<`, of those that this source opens: around them so many are open.
 abbrev pub AreOpened : List ℕ → ℕ → Open → Type 0
 AreOpened src open_around root = Unit {0}
 AreOpened src open_around (inside start tag before up) = (open_around ≤ depth_of up → (byte src start ≡ 60) × IsQName src (start + 1) tag.name tag.name_end) × AreOpened src open_around up
 
--- where a source begins it has opened none
+-- Where a source begins it has opened none.
 none_opened : (src : List ℕ) (open_around : ℕ) (stack : Open) → depth_of stack ≤ open_around → AreOpened src open_around stack
 none_opened src open_around root le = tt
 none_opened src open_around (inside start tag before up) le = (λ deep. absurd (omega arith), none_opened src open_around up (omega arith))
 
--- content stands where an element is open
+-- Content is where an element is open.
 is_open : (stack : Open) → is_root stack ≡ false → is_content 0 stack ≡ true
 is_open root h = cc h
 is_open (inside start tag before up) h = refl
 
--- no element is closed that the source did not open
+-- No element is closed that the source did not open.
 takes_deep : (main : Bool) (O : Inclusion) (src : List ℕ) (open_around : ℕ) (s t : State) → flat.StepsOver main O src open_around s t → open_around ≤ depth_of s.stack → open_around ≤ depth_of t.stack
 takes_deep main O src open_around s t (flat.StepsOver.takes_run i j b c items done stack is parts) le = le
 takes_deep main O src open_around s t (flat.StepsOver.takes_cdata i e j b done stack is) le = le
@@ -79,20 +79,20 @@ takes_deep main O src open_around s t (flat.StepsOver.takes_end i p j b start ta
 -- ---- constructs of a text
 
 module _ (main : Bool) (O : Inclusion) (src : List ℕ) (open_around : ℕ) where
-  -- a start tag, and what it leads to
+  -- A start tag, and what it leads to.
   abbrev pub Tagged : State → State → Type 0
   Tagged s t = (j : ℕ) × (c : ℕ) × (tag : Tag) × (empty : Bool) × IsTag main O src s.at j s.openings_left c empty tag × (t ≡ after s j tag empty c)
 
-  -- a construct
+  -- A construct.
   abbrev pub OneConstruct : State → State → Type 0
   OneConstruct s t = flat.StepsOver main O src open_around s t
 
-  -- a tag is a construct
+  -- A tag is a construct.
   pub tagged_takes : (s t : State) → Tagged s t → OneConstruct s t
   tagged_takes s t (j, c, tag, true, is, leads) = subst (OneConstruct s) (sym leads) (flat.StepsOver.takes_empty s.at j s.openings_left c tag s.done s.stack is)
   tagged_takes s t (j, c, tag, false, is, leads) = subst (OneConstruct s) (sym leads) (flat.StepsOver.takes_start s.at j s.openings_left c tag s.done s.stack is)
 
-  -- the names of the open elements behind it
+  -- The names of the open elements after it.
   pub takes_opened : (s t : State) → OneConstruct s t → AreOpened src open_around s.stack → AreOpened src open_around t.stack
   takes_opened s t (flat.StepsOver.takes_run i j b c items done stack is parts) opened = opened
   takes_opened s t (flat.StepsOver.takes_cdata i e j b done stack is) opened = opened
@@ -101,7 +101,7 @@ module _ (main : Bool) (O : Inclusion) (src : List ℕ) (open_around : ℕ) wher
   takes_opened s t (flat.StepsOver.takes_start i j b c tag done stack is) opened = let p = tag_parts is in ((λ deep. (p.begins, p.is_name)), opened)
   takes_opened s t (flat.StepsOver.takes_end i p j b start tag done before up deep end) opened = opened.1
 
-  -- and a character begins there
+  -- And a character begins there.
   pub takes_cut : IsUtf8 src → (s t : State) → OneConstruct s t → IsCharBoundary src t.at
   takes_cut utf8 s t (flat.StepsOver.takes_run i j b c items done stack is parts) = subst (IsCharBoundary src) (sym (char_data_parts is).end) (run_stops_cut src i (run_within src i j is).0)
   takes_cut utf8 s t (flat.StepsOver.takes_cdata i e j b done stack is) =
@@ -112,16 +112,16 @@ module _ (main : Bool) (O : Inclusion) (src : List ℕ) (open_around : ℕ) wher
   takes_cut utf8 s t (flat.StepsOver.takes_start i j b c tag done stack is) = let p = tag_parts is in ends_cut src j utf8 (tag_ends src p.last j false p.ends)
   takes_cut utf8 s t (flat.StepsOver.takes_end i p j b start tag done before up deep end) = ends_cut src j utf8 (ends_by src j (spaces_end src p) 62 (end_parts end).next (end_parts end).closes (omega arith) (omega arith))
 
-module _ (opens : ℕ → Inclusion) (es : List Entity) (limit : ℕ) (text : List ℕ) (declared : Bool) (Front : ℕ → Forest Item → Type 0) (most : ℕ) (less : limit ≤ most) (least : most ≤ max limit 1)
+module _ (opens : ℕ → Inclusion) (es : List Entity) (limit : ℕ) (text : List ℕ) (declared : Bool) (PrologAt : ℕ → Forest Item → Type 0) (most : ℕ) (less : limit ≤ most) (least : most ≤ max limit 1)
     (values : (d k : ℕ) → d + k ≡ most_deep → AgreesValue es (opens k) (value_opener es d (is_main k))) (contents : (d k : ℕ) → d + k ≡ most_deep → AgreesContent es limit (opens k) (opener limit es d (is_main k)))
     (texts : AreTexts es) where
-  -- a fault that stands from there on
+  -- A fault that is from there on.
   abbrev P : List ℕ → Fault → Type 0
-  P src f = From opens es limit text declared Front src f
+  P src f = From opens es limit text declared PrologAt src f
 
-  -- a place where the state is
+  -- A place where the state is.
   abbrev pub Here : (k open_around : ℕ) → List ℕ → State → Type 0
-  Here k open_around src s = At opens es limit text declared Front k open_around src s
+  Here k open_around src s = At opens es limit text declared PrologAt k open_around src s
 
   fits_at : (s : State) → IsValidState most s → FitsLimits limit s.stack s.done
   fits_at s fine = fine_fits limit most s least fine
@@ -130,15 +130,15 @@ module _ (opens : ℕ → Inclusion) (es : List Entity) (limit : ℕ) (text : Li
     abbrev context : Context
     context = context_at limit es d k open_around
 
-    -- what is read is one
+    -- What is read is one.
     pub step_takes : (s t : State) → s.at < length src → IsValidState most s → step context src s ≡ Ok t → OneConstruct (is_main k) (opens k) src open_around s t × IsValidState most t
     step_takes s t within fine h = steps.step_sound context (opens k) (values d k deep) (contents d k deep) src utf8 most s t less within fine h
 
-    -- and moves forward
+    -- And moves forward.
     pub takes_moves : (s t : State) → OneConstruct (is_main k) (opens k) src open_around s t → s.at < t.at
     takes_moves s t takes = (steps.step_moves context (opens k) (values d k deep) (contents d k deep) src utf8 s t takes).1
 
-    -- one that is read
+    -- One that is read.
     pub tag_taken : (s t : State) → byte src s.at ≡ 60 → IsValidState most s → tag_step context src s ≡ Ok t → Tagged (is_main k) (opens k) src open_around s t × IsValidState most t
     tag_taken s t opens' fine h = steps.tag_read context (opens k) (values d k deep) (contents d k deep) src utf8 most s t less opens' fine h
 
@@ -155,22 +155,22 @@ module _ (opens : ℕ → Inclusion) (es : List Entity) (limit : ℕ) (text : Li
 
     -- ---- one construct that fails
 
-    -- a fault at a place
+    -- A fault at a place.
     stands_here : (s : State) (f : Fault) → Here k open_around src s → IsValidState most s → Stands limit es k open_around (opens k) src (place_of s) s.openings_left f → P src f
-    stands_here s f place fine is = stand opens es limit text declared Front k open_around src s f place (fits_at s fine) is
+    stands_here s f place fine is = stand opens es limit text declared PrologAt k open_around src s f place (fits_at s fine) is
 
-    -- one node too many
+    -- One node too many.
     over_here : (s t : State) (f : Fault) → Here k open_around src s → IsValidState most s → StepsOver k (opens k) src (place_of s) s.openings_left (place_of t) t.openings_left → AreFew t.stack t.done → counted limit t ≡ Err f → P src f
-    over_here s t f place fine takes few h = over opens es limit text declared Front k open_around src s t f place (fits_at s fine) takes few h
+    over_here s t f place fine takes few h = over opens es limit text declared PrologAt k open_around src s t f place (fits_at s fine) takes few h
 
-    -- a character begins behind `</`
+    -- A character begins after `</`.
     end_cut : (i : ℕ) → at word.EndTagStart src i ≡ true → IsCharBoundary src (i + 2)
     end_cut i opens =
         let bytes = end_bytes src i opens in
         let e : i + 1 + 1 ≡ i + 2 = omega arith in
         subst (IsCharBoundary src) e (cut_behind src (i + 1) 47 utf8 bytes.2 (omega arith) (omega arith))
 
-    -- an end tag of another name: row 7
+    -- An end tag of another name: row 7.
     closed_fails : (i n j openings_left : ℕ) (name : Name) (done : Forest Item) (stack : Open) (f : Fault) → is_content k stack ≡ true → open_around < depth_of stack → AreOpened src open_around stack → Here k open_around src (state i done stack openings_left)
         → IsValidState most (state i done stack openings_left) → IsEnd src i name n j → closed_by i name n j done stack openings_left ≡ Err f → P src f
     unfolding closed_by
@@ -189,7 +189,7 @@ module _ (opens : ℕ → Inclusion) (es : List Entity) (limit : ℕ) (text : Li
         (spells src (start + 1) tag.name_end tag.name utf8 (cut_behind src start 60 utf8 own.0 (omega arith) (omega arith)) own.1)
         (spells src (i + 2) n name utf8 (end_cut i (end_parts end).opens) (end_parts end).is_name)))))
 
-    -- a start tag that is one node too many
+    -- A start tag that is one node too many.
     opened_fails : (s : State) (tag : Tag) (j openings_left : ℕ) (empty : Bool) (f : Fault) → IsValidState most s → Here k open_around src s → IsTag (is_main k) (opens k) src s.at j s.openings_left openings_left empty tag
         → IsWellNamed (listed (scope_of s.stack) tag.declarations) tag → attributes_so_far s.stack s.done + length tag.attributes ≤ most_attributes
         → length (with_new (distinct_pairs (pairs_so_far s.stack s.done)) (listable tag)) ≤ most_pairs → opened_by limit s tag empty openings_left j ≡ Err f → P src f
@@ -198,7 +198,7 @@ module _ (opens : ℕ → Inclusion) (es : List Entity) (limit : ℕ) (text : Li
     opened_fails s tag j openings_left false f fine place is named many pairs h =
         over_here s (after s j tag false openings_left) f place fine (a_start_tag j s.openings_left openings_left tag is named) (opened_few s j openings_left tag many pairs) h
 
-    -- a start tag
+    -- A start tag.
     pub tag_fails : (s : State) (e : Refusal) → TagBegins src s.at (is_content k s.stack) → byte src s.at ≡ 60 → IsValidState most s → Here k open_around src s → tag_step context src s ≡ Err e → Refuses es P src e
     unfolding tag_step
     tag_fails s e begins opens' fine place h =
@@ -223,9 +223,19 @@ module _ (opens : ℕ → Inclusion) (es : List Entity) (limit : ℕ) (text : Li
                 → IsAttValue src v stop j → (part : List ℕ) (f : Fault) → InPart opens es k src (v + 1) stop c part f → P part f
             in_one p c n v stop j tag_name as' name to spaces is_name eq literal part f (in_part l i stop' openings_left part_is ill) =
                 at_point k open_around s.openings_left src (place_of s) part f place (fits_at s fine)
-                (in_value p n v stop j c l i stop' openings_left tag_name name as' part f begins to spaces (is_name, eq, literal) part_is ill)
+                (in_value
+                (record {
+                  read_to = p;
+                  openings_left = c;
+                  tag_name = tag_name;
+                  written = as';
+                  is_read = to;
+                  has_space = spaces;
+                  pair = record { name = name; name_end = n; first_quote = v; last_quote = stop; end = j; is_written = (is_name, eq, literal) };
+                })
+                l i stop' openings_left part f begins part_is ill)
 
-    -- an end tag
+    -- An end tag.
     end_step_fails : (s : State) (f : Fault) → is_content k s.stack ≡ true → open_around ≤ depth_of s.stack → AreOpened src open_around s.stack → IsValidState most s → Here k open_around src s → at word.EndTagStart src s.at ≡ true
         → end_step context src s ≡ Err f → P src f
     unfolding end_step
@@ -241,7 +251,7 @@ module _ (opens : ℕ → Inclusion) (es : List Entity) (limit : ℕ) (text : Li
         subst (P src) same (stands_here s (fault.UnexpectedEntityCloseTag s.at) place fine (in_end (fault.UnexpectedEntityCloseTag s.at) inner (none_open x.0.name_end x.1 x.0.name none end))))
         (λ deep' h. closed_fails s.at x.0.name_end x.1 s.openings_left x.0.name s.done s.stack f inner (leb-false _ _ deep') opened place fine end h))
 
-    -- a comment
+    -- A comment.
     comment_step_fails : (s : State) (f : Fault) → is_content k s.stack ≡ true → IsValidState most s → Here k open_around src s → at word.CommentStart src s.at ≡ true → comment_step limit src s ≡ Err f → P src f
     unfolding comment_step
     comment_step_fails s f inner fine place is h =
@@ -249,7 +259,7 @@ module _ (opens : ℕ → Inclusion) (es : List Entity) (limit : ℕ) (text : Li
         (λ bad. stands_here s f place fine (in_misc f inner (comment_fails src utf8 s.at f is bad)))
         (λ x read h. over_here s (with_leaf s x.1 (Comment s.at x.1 x.0)) f place fine (a_misc x.1 s.openings_left (Comment s.at x.1 x.0) inner (comment_is src utf8 s.at x.1 x.0 is read)) (plain_few limit s (Comment s.at x.1 x.0) refl refl (fits_at s fine)) h)
 
-    -- a processing instruction
+    -- A processing instruction.
     instruction_step_fails : (s : State) (f : Fault) → is_content k s.stack ≡ true → IsValidState most s → Here k open_around src s → at word.PIStart src s.at ≡ true → instruction_step limit src s ≡ Err f → P src f
     unfolding instruction_step
     instruction_step_fails s f inner fine place is h =
@@ -258,7 +268,7 @@ module _ (opens : ℕ → Inclusion) (es : List Entity) (limit : ℕ) (text : Li
         (λ x read h. over_here s (with_leaf s x.1 (PI s.at x.1 x.0.target x.0.value)) f place fine (a_misc x.1 s.openings_left (PI s.at x.1 x.0.target x.0.value) inner (instruction_is src utf8 s.at x.1 x.0 is read))
         (plain_few limit s (PI s.at x.1 x.0.target x.0.value) refl refl (fits_at s fine)) h)
 
-    -- a CDATA section
+    -- A CDATA section.
     cdata_step_fails : (s : State) (f : Fault) → is_content k s.stack ≡ true → IsValidState most s → Here k open_around src s → at word.CDataStart src s.at ≡ true → cdata_step limit src s ≡ Err f → P src f
     unfolding cdata_step
     cdata_step_fails s f inner fine place is h =
@@ -271,13 +281,13 @@ module _ (opens : ℕ → Inclusion) (es : List Entity) (limit : ℕ) (text : Li
         (subst (λ (v : List ℕ). StepsOver k (opens k) src (place_of s) s.openings_left (place_of (with_leaf s x.1 (item v))) s.openings_left) (sym r.2) (a_section r.0 x.1 s.openings_left inner r.1))
         (plain_few limit s (item x.0) refl refl (fits_at s fine)) h)
 
-    -- one construct of content
-    pub step_fails : (opener_fails : OpenerFails opens es limit text declared Front d k open_around most (contents d k deep) less least) (s : State) (e : Refusal) → is_content k s.stack ≡ true → open_around ≤ depth_of s.stack → s.at < length src
+    -- One construct of content.
+    pub step_fails : (opener_fails : OpenerFails opens es limit text declared PrologAt d k open_around most (contents d k deep) less least) (s : State) (e : Refusal) → is_content k s.stack ≡ true → open_around ≤ depth_of s.stack → s.at < length src
         → IsCharBoundary src s.at → AreOpened src open_around s.stack → IsValidState most s → Here k open_around src s → step context src s ≡ Err e → Refuses es P src e
     unfolding step
     step_fails opener_fails s e inner le within cut opened fine place h =
         chosen (not (byte src s.at == 60)) _ _ _ h
-        (λ apart h. run_fails opens es limit text declared Front d k open_around most (contents d k deep) less least opener_fails src utf8 s place fine inner within (eqb-false _ _ (not-true _ apart)) e cut h)
+        (λ apart h. run_fails opens es limit text declared PrologAt d k open_around most (contents d k deep) less least opener_fails src utf8 s place fine inner within (eqb-false _ _ (not-true _ apart)) e cut h)
         (λ same h.
         let opens' : byte src s.at ≡ 60 = eqb-true _ _ (not-false _ same) in
         chosen (nat_le (length src) (s.at + 1)) _ _ _ h
@@ -303,7 +313,7 @@ module _ (opens : ℕ → Inclusion) (es : List Entity) (limit : ℕ) (text : Li
 
   -- ---- replacement texts
 
-  -- a replacement text ends where elements are open that it opened: row 31
+  -- A replacement text ends where elements are open that it opened: row 31.
   ends_fail : (d k open_around : ℕ) (deep : d + suc k ≡ most_deep) (src : List ℕ) (utf8 : IsUtf8 src) (s : State) (e : Refusal) → open_around ≤ depth_of s.stack → IsValidState most s → Here (suc k) open_around src s → length src ≤ s.at
       → text_ends (context_at limit es d (suc k) open_around) s ≡ Err e → Refuses es P src e
   ends_fail d k open_around deep src utf8 s e le fine place past h =
@@ -312,8 +322,8 @@ module _ (opens : ℕ → Inclusion) (es : List Entity) (limit : ℕ) (text : Li
       let more : open_around < depth_of s.stack = (let other = eqb-false _ _ apart in omega arith) in
       refuses_here es P src fault.UnexpectedEndOfStream e (cc h) (stands_here d (suc k) open_around deep src utf8 s fault.UnexpectedEndOfStream place fine (unclosed more past)))
 
-  -- a replacement text whose content fails
-  text_fails : (d k open_around : ℕ) (deep : d + suc k ≡ most_deep) (src : List ℕ) (utf8 : IsUtf8 src) → OpenerFails opens es limit text declared Front d (suc k) open_around most (contents d (suc k) deep) less least → (n : ℕ) (s : State) (e : Refusal)
+  -- A replacement text whose content fails.
+  text_fails : (d k open_around : ℕ) (deep : d + suc k ≡ most_deep) (src : List ℕ) (utf8 : IsUtf8 src) → OpenerFails opens es limit text declared PrologAt d (suc k) open_around most (contents d (suc k) deep) less least → (n : ℕ) (s : State) (e : Refusal)
       → open_around ≤ depth_of s.stack → length src ≤ s.at + n → IsCharBoundary src s.at → AreOpened src open_around s.stack → IsValidState most s → Here (suc k) open_around src s → drive_text (context_at limit es d (suc k) open_around) n src s ≡ Err e → Refuses es P src e
   unfolding drive_text
   text_fails d k open_around deep src utf8 opener_fails zero s e le enough cut opened fine place h = ends_fail d k open_around deep src utf8 s e le fine place (omega arith) h
@@ -331,8 +341,8 @@ module _ (opens : ℕ → Inclusion) (es : List Entity) (limit : ℕ) (text : Li
       (goes (suc k) open_around s.openings_left t.openings_left src (place_of s) (place_of t) place (takes_place d (suc k) open_around deep src utf8 s t refl one.0 one.1) refl le') h))
       (λ past h. ends_fail d k open_around deep src utf8 s e le fine place (ltb-false _ _ past) h)
 
-  -- what is opened fails
-  opener_fails : (d k open_around : ℕ) (deep : d + k ≡ most_deep) → OpenerFails opens es limit text declared Front d k open_around most (contents d k deep) less least
+  -- What is opened fails.
+  opener_fails : (d k open_around : ℕ) (deep : d + k ≡ most_deep) → OpenerFails opens es limit text declared PrologAt d k open_around most (contents d k deep) less least
   unfolding opener
   opener_fails zero k open_around deep src j t name u e found fine spent place h = refuses_here es P src (fault.EntityReferenceLoop j) e (cc h) (spent (deepest k u.openings_left deep))
   opener_fails (suc d) k open_around deep src j t name u e found fine spent place h =
@@ -351,7 +361,7 @@ module _ (opens : ℕ → Inclusion) (es : List Entity) (limit : ℕ) (text : Li
   -- ---- the main text
 
   module _ (utf8 : IsUtf8 text) where
-    -- behind a start tag
+    -- After a start tag.
     pub tag_goes : (s t : State) → Here 0 0 text s → Tagged true (opens 0) text 0 s t → IsValidState most t → is_root t.stack ≡ false → Here 0 0 text t
     tag_goes s t place (j, c, tag, empty, is, leads) fine inner =
         subst (Here 0 0 text) (sym leads) (goes_on empty is (subst (IsValidState most) leads fine) (subst (λ (t : State). is_root t.stack ≡ false) leads inner))
@@ -363,13 +373,13 @@ module _ (opens : ℕ → Inclusion) (es : List Entity) (limit : ℕ) (text : Li
         goes_on false is fine inner =
             goes 0 0 s.openings_left c text (place_of s) (place_of (after s j tag false c)) place (a_start_tag j s.openings_left c tag is (fine_opened most s j tag j c fine).1.named) refl (omega arith)
 
-    -- the main text ends at a place with an open tag: row 15
+    -- The main text ends at a place with an open tag: row 15.
     ends_open : (i openings_left : ℕ) (done : Forest Item) (stack : Open) → is_root stack ≡ false → length text ≤ i → Here 0 0 text (state i done stack openings_left) → IsValidState most (state i done stack openings_left) → P text fault.UnclosedRootNode
     ends_open i openings_left done root inner past place fine = cc inner
     ends_open i openings_left done (inside start tag before up) inner past place fine =
         stands_here most_deep 0 0 refl text utf8 (state i done (inside start tag before up) openings_left) fault.UnclosedRootNode place fine (unclosed (omega arith) past)
 
-    -- up to the end tag of the root element
+    -- Up to the end tag of the root element.
     pub drive_fails : (n : ℕ) (s : State) (e : Refusal) → (is_root s.stack ≡ false → Here 0 0 text s) → IsValidState most s → IsCharBoundary text s.at → AreOpened text 0 s.stack → length text ≤ s.at + n
         → drive (context_at limit es most_deep 0 0) n text s ≡ Err e → Refuses es P text e
     unfolding drive

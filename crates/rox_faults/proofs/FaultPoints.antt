@@ -1,4 +1,4 @@
--- Where reading stands, content has come to from the left: places of reading as the grammar sees them, and one node too many there.
+-- The place of reading is one that content reaches from the left: places of reading as the grammar sees them, and one node too many there.
 use Rattle.std.proofs.Common.{◌≡◌, ℕ, zero, suc, ◌+◌, ◌<◌, ◌≤◌, max, Bool, false, nat_le, List, [], ◌++◌, length, refl, sym, ap, ◌∙◌, subst, arith}
 use Rattle.std.specs.Prelude.{Result, Ok, Err, Some}
 use Rattle.std.proofs.lemmas.List.{append-nil}
@@ -31,27 +31,27 @@ use Rattle.rox_faults.proofs.StateCounts.{nodes_are, attributes_are, distinct_ar
 
 -- ---- refusals
 
--- some entity is declared
+-- Some entity is declared.
 abbrev pub Declares : List Entity → Type 0
 Declares es = (name : List ℕ) × (t : Replacement) × (text_of es name ≡ Some t)
 
--- the refusal is by a fault of which this holds in its source; in another source it stands only where an entity is declared
+-- The refusal is by a fault of which this holds in its source; in another source it stands only where an entity is declared.
 abbrev pub Refuses : List Entity → (List ℕ → Fault → Type 0) → List ℕ → Refusal → Type 0
 Refuses es P src (here f) = P src f
 Refuses es P src (there source f) = P source f × Declares es
 Refuses es P src (refused request p message) = ⊥
 
--- of which another thing holds too
+-- Of which another thing holds too.
 pub refuses_by : {P Q : List ℕ → Fault → Type 0} (es : List Entity) (src : List ℕ) (e : Refusal) → ((source : List ℕ) (f : Fault) → P source f → Q source f) → Refuses es P src e → Refuses es Q src e
 refuses_by es src (here f) go p = go src f p
 refuses_by es src (there source f) go p = (go source f p.0, p.1)
 refuses_by es src (refused request at message) go p = absurd p
 
--- by a fault of this source
+-- By a fault of this source.
 pub refuses_here : (es : List Entity) (P : List ℕ → Fault → Type 0) (src : List ℕ) (f : Fault) (e : Refusal) → here f ≡ e → P src f → Refuses es P src e
 refuses_here es P src f e is p = subst (Refuses es P src) is p
 
--- what fails in another source
+-- What fails in another source.
 pub elsewhere_err : {A B X : Type 0} (es : List Entity) (source : List ℕ) (r : Result A Refusal) (f : A → Result B Refusal) (e : Refusal) → (elsewhere source r >>= f) ≡ Err e
     → ((d : Refusal) → r ≡ Err d → ((P : List ℕ → Fault → Type 0) (src : List ℕ) → Declares es → Refuses es P source d → Refuses es P src e) → X) → ((x : A) → r ≡ Ok x → f x ≡ Err e → X) → X
 elsewhere_err es source (Ok x) f e h now later = later x refl h
@@ -61,20 +61,20 @@ elsewhere_err es source (Err (refused request at message)) f e h now later = now
 
 -- ---- states
 
--- a state of reading, as the grammar sees it
+-- A state of reading, as the grammar sees it.
 abbrev pub place_of : State → grammar.State
 place_of s = record { at = s.at; done = s.done; stack = s.stack }
 
--- how a text is read where k replacement texts are open, and d more may be
+-- How a text is read where k replacement texts are open, and d more may be.
 abbrev pub context_at : ℕ → List Entity → (d k open_around : ℕ) → Context
 context_at limit es d k open_around = record { limit = limit; values = values_of es d (is_main k); open_around = open_around; opener = opener limit es d (is_main k) }
 
--- the names of what is read last
+-- The names of what is read last.
 pub named_last : (stack : Open) (done items : Forest Item) → AreNamed stack (join done items) → AreWellNamed (scope_of stack) items
 named_last root done items named = named-right [] done items named
 named_last (inside start tag before up) done items named = named-right (listed (scope_of up) tag.declarations) done items named.2
 
--- a fine state is within the limits
+-- A fine state is within the limits.
 pub fine_fits : (limit most : ℕ) (s : State) → most ≤ max limit 1 → IsValidState most s → FitsLimits limit s.stack s.done
 fine_fits limit most s least fine =
     record {
@@ -85,7 +85,7 @@ fine_fits limit most s least fine =
 
 -- ---- one node too many
 
--- with one more item
+-- With one more item.
 pub item_few : (s : State) (item : Item) → attributes_so_far s.stack s.done + own_attributes item ≤ most_attributes → length (with_new (distinct_pairs (pairs_so_far s.stack s.done)) (own_pairs item)) ≤ most_pairs
     → AreFew s.stack (join s.done (leaf item))
 item_few s item attributes few =
@@ -93,49 +93,49 @@ item_few s item attributes few =
     pairs-item s.stack s.done item Nil ∙ ap (λ (ds : List NamespaceDecl). pairs_so_far s.stack s.done ++ ds) (append-nil (own_pairs item)) in
     (omega (arith, attributes-item s.stack s.done item Nil), rw (e, distinct-append) few)
 
--- with an open tag
+-- With an open tag.
 pub opened_few : (s : State) (j openings_left : ℕ) (tag : Tag) → attributes_so_far s.stack s.done + length tag.attributes ≤ most_attributes → length (with_new (distinct_pairs (pairs_so_far s.stack s.done)) (listable tag)) ≤ most_pairs
     → AreFew (after s j tag false openings_left).stack (after s j tag false openings_left).done
 opened_few s j openings_left tag attributes few = (omega arith, rw (append-nil (listable tag), distinct-append) few)
 
--- of an item that neither declares anything nor has attributes
+-- Of an item that neither declares anything nor has attributes.
 pub plain_few : (limit : ℕ) (s : State) (item : Item) → own_attributes item ≡ 0 → own_pairs item ≡ [] → FitsLimits limit s.stack s.done → AreFew s.stack (join s.done (leaf item))
 plain_few limit s item no_attributes no_pairs fits = let few = fits_few limit s.stack s.done fits in item_few s item (omega (arith, few.0)) (rw no_pairs few.1)
 
 -- ---- openings
 
--- what is left where none may be opened
+-- What is left where none may be opened.
 pub spent_here : (l after openings_left : ℕ) (f : Fault) → budget (is_main l) after openings_left ≡ Err f → IsSpent l openings_left × (fault.EntityReferenceLoop after ≡ f)
 spent_here zero after openings_left f h = no_fault _ f h
 spent_here (suc l) after zero f h = (λ r may. omega (arith, may.3.0), cc h)
 spent_here (suc l) after (suc r) f h = no_fault _ f h
 
--- and where one may
+-- And where one may.
 pub may_open : (l after openings_left r : ℕ) → l < most_deep → budget (is_main l) after openings_left ≡ Ok r → MayOpen l openings_left r
 may_open zero after openings_left r fewer h = let e : 255 ≡ r = cc in (fewer, 0, openings_left, (sym e, refl))
 may_open (suc l) after zero r fewer h = cc h
 may_open (suc l) after (suc n) r fewer h = let e : n ≡ r = cc in (fewer, 0, 0, (omega arith, refl))
 
--- the deepest
+-- The deepest.
 pub deepest : (l openings_left : ℕ) → zero + l ≡ most_deep → IsSpent l openings_left
 deepest l openings_left h = λ r may. omega (arith, may.0)
 
 -- ---- places
 
-module _ (opens : ℕ → Inclusion) (es : List Entity) (limit : ℕ) (text : List ℕ) (declared : Bool) (Front : ℕ → Forest Item → Type 0) where
-  -- the faults from there on
+module _ (opens : ℕ → Inclusion) (es : List Entity) (limit : ℕ) (text : List ℕ) (declared : Bool) (PrologAt : ℕ → Forest Item → Type 0) where
+  -- The faults from there on.
   abbrev pub From : List ℕ → Fault → Type 0
-  From src f = FaultFrom opens es limit text declared Front src f
+  From src f = FaultFrom opens es limit text declared PrologAt src f
 
-  -- a place where the state is
+  -- A place where the state is.
   abbrev pub At : (k open_around : ℕ) → List ℕ → State → Type 0
-  At k open_around src s = ContentPoint opens es text (λ p items. Front p items × RootBegins declared text p) k open_around src s.openings_left (place_of s)
+  At k open_around src s = ContentPoint opens es text (λ p items. PrologAt p items × RootBegins declared text p) k open_around src s.openings_left (place_of s)
 
-  -- a fault at a place
+  -- A fault at a place.
   pub stand : (k open_around : ℕ) (src : List ℕ) (s : State) (f : Fault) → At k open_around src s → FitsLimits limit s.stack s.done → Stands limit es k open_around (opens k) src (place_of s) s.openings_left f → From src f
   stand k open_around src s f place fits stands = at_point k open_around s.openings_left src (place_of s) _ _ place fits (at_place f stands)
 
-  -- more nodes than the limit
+  -- More nodes than the limit.
   pub over : (k open_around : ℕ) (src : List ℕ) (s t : State) (f : Fault) → At k open_around src s → FitsLimits limit s.stack s.done → StepsOver k (opens k) src (place_of s) s.openings_left (place_of t) t.openings_left → AreFew t.stack t.done → counted limit t ≡ Err f
       → From src f
   over k open_around src s t f place fits takes few h =

@@ -9,7 +9,7 @@ use Rattle.rox_grammar.specs.Chars.{is_name_char, is_name_start}
 use Rattle.rox_grammar.specs.Forest.{Forest}
 use Rattle.rox_grammar.specs.Written.{Item}
 use Rattle.rox_grammar.specs.Names.{byte, slice}
-use Rattle.rox_grammar.specs.References.{is_digit, is_hex_digit, IsNumber, IsReference, IsCharacter, decimal, hexadecimal, named, predefined}
+use Rattle.rox_grammar.specs.References.{is_digit, is_hex_digit, IsNumber, IsReference, IsCharacter, decimal, hexadecimal, named, predefined, entity_reference}
 use Rattle.rox_grammar.specs.Content.{Inclusion, DataByte, Part, part_ends, as_written, from_reference, last_part, then_entity, Value, value_ends, line_end, white, other, a_character, an_entity}
 use Rattle.rox_grammar.specs.RunParts.{Parts}
 use Rattle.rox_grammar.specs.Entities.{Replacement, Entity, text_of}
@@ -21,7 +21,7 @@ use Rattle.rox_theory.proofs.CharLemmas.{run_within}
 use Rattle.rox_theory.proofs.ReferenceLemmas.{bytes_pass, name_no_hash, character_opens}
 use Rattle.rox_theory.proofs.PartOnce.{no_entity_here, character_ends}
 
--- an ASCII byte that stands in no reference behind its `&`
+-- An ASCII byte that is in no reference after its `&`.
 record NoPart (b : ℕ) : Type 0 where
   ascii : b < 128
   no_name : is_name_char b ≡ false
@@ -40,7 +40,7 @@ unfolding is_name_char is_name_start
 less_no_part = record { ascii = omega arith; no_name = refl; no_digit = refl; no_hex = refl; no_hash = λ e. omega arith; no_x = λ e. omega arith; no_semicolon = λ e. omega arith }
 
 module _ (b : ℕ) (none : NoPart b) (src : List ℕ) (utf8 : IsUtf8 src) where
-  -- not in a number
+  -- Not in a number.
   number_apart : (base : ℕ) (is : ℕ → Bool) (d c j q : ℕ) → is b ≡ false → IsNumber base is src d c j → d ≤ q → q < j → byte src q ≡ b → ⊥
   number_apart base is d c j q fails m from below here =
       let e = (number_parts m).e in
@@ -50,7 +50,7 @@ module _ (b : ℕ) (none : NoPart b) (src : List ℕ) (utf8 : IsUtf8 src) where
         | inr g ↦ (let same : q ≡ e = omega arith in none.no_semicolon (sym here ∙ ap (byte src) same ∙ closes))
       ]
 
-  -- nor in a name
+  -- Nor in a name.
   name_apart : (i n j q : ℕ) → IsReference src i n j → i < q → q < j → byte src q ≡ b → ⊥
   name_apart i n j q r from below here =
       let l = (reference_parts r).name.longest in let next = (reference_parts r).next in let closes = (reference_parts r).closes in let opens = (reference_parts r).opens in let ascii = none.ascii in
@@ -61,7 +61,7 @@ module _ (b : ℕ) (none : NoPart b) (src : List ℕ) (utf8 : IsUtf8 src) where
       let same : q ≡ n = omega arith in
       none.no_semicolon (sym here ∙ ap (byte src) same ∙ closes)
 
-  -- so behind its `&` a reference holds none
+  -- So after its `&` a reference holds none.
   character_apart : (i c j q : ℕ) → IsCharacter src i c j → i < q → q < j → byte src q ≡ b → ⊥
   character_apart i c j q (decimal opens m) from below here =
       let hash = (hash_bytes src i opens).1 in
@@ -80,30 +80,30 @@ module _ (b : ℕ) (none : NoPart b) (src : List ℕ) (utf8 : IsUtf8 src) where
       ]
   character_apart i c j q (named n r is) from below here = name_apart i n j q r from below here
 
--- a reference to a character is neither malformed nor undeclared
+-- A reference to a character is neither malformed nor undeclared.
 character_stands : (es : List Entity) (src : List ℕ) (p c j : ℕ) (f : Fault) → IsCharacter src p c j → InReferences es src p f → ⊥
 character_stands es src p c j f is (malformed amp no_character no_reference) = no_character c j is
-character_stands es src p c j f (decimal opens m) (undeclared n k name ref none nothing holds) = name_no_hash src (p + 1) (reference_parts ref).name.starts (hash_bytes src p opens).1
-character_stands es src p c j f (hexadecimal opens m) (undeclared n k name ref none nothing holds) = name_no_hash src (p + 1) (reference_parts ref).name.starts (hex_bytes src p opens).1
-character_stands es src p c j f (named m r is) (undeclared n k name ref none nothing holds) =
+character_stands es src p c j f (decimal opens m) (undeclared k _ name (entity_reference n ref none) nothing holds) = name_no_hash src (p + 1) (reference_parts ref).name.starts (hash_bytes src p opens).1
+character_stands es src p c j f (hexadecimal opens m) (undeclared k _ name (entity_reference n ref none) nothing holds) = name_no_hash src (p + 1) (reference_parts ref).name.starts (hex_bytes src p opens).1
+character_stands es src p c j f (named m r is) (undeclared k _ name (entity_reference n ref none) nothing holds) =
     let same : m ≡ n = (reference_parts r).name.longest ∙ sym (reference_parts ref).name.longest in
     let is' : predefined (slice src (p + 1) n) ≡ Some c = subst (λ (m : ℕ). predefined (slice src (p + 1) m) ≡ Some c) same is in
     cc (sym none ∙ is')
 
--- nor is one to an entity that is declared
+-- Nor is one to an entity that is declared.
 entity_stands : (es : List Entity) (src : List ℕ) (p n j : ℕ) (t : Replacement) (f : Fault) → IsReference src p n j → text_of es (slice src (p + 1) n) ≡ Some t → InReferences es src p f → ⊥
 entity_stands es src p n j t f r found (malformed amp no_character no_reference) = no_reference n j r
-entity_stands es src p n j t f r found (undeclared m k name ref none nothing holds) =
+entity_stands es src p n j t f r found (undeclared k _ name (entity_reference m ref none) nothing holds) =
     let same : n ≡ m = (reference_parts r).name.longest ∙ sym (reference_parts ref).name.longest in
     let found' : text_of es (slice src (p + 1) m) ≡ Some t = subst (λ (n : ℕ). text_of es (slice src (p + 1) n) ≡ Some t) same found in
     cc (sym nothing ∙ found')
 
--- a fault of a reference begins with `&`
+-- A fault of a reference begins with `&`.
 reference_opens : (es : List Entity) (src : List ℕ) (p : ℕ) (f : Fault) → InReferences es src p f → byte src p ≡ 38
 reference_opens es src p f (malformed amp no_character no_reference) = amp
-reference_opens es src p f (undeclared n k name ref none nothing holds) = (reference_parts ref).opens
+reference_opens es src p f (undeclared k _ name (entity_reference n ref none) nothing holds) = (reference_parts ref).opens
 
--- what an `&` begins: a reference to such a character, or to a declared entity
+-- What an `&` begins: a reference to such a character, or to a declared entity.
 data Begins (es : List Entity) (src : List ℕ) (Allowed : ℕ → Type 0) (q : ℕ) : Type 0 where
   to_character : (c n : ℕ) → IsCharacter src q c n → Allowed c → Begins es src Allowed q
   to_entity : (n j : ℕ) (t : Replacement) → IsReference src q n j → predefined (slice src (q + 1) n) ≡ None → text_of es (slice src (q + 1) n) ≡ Some t → Begins es src Allowed q
@@ -113,11 +113,11 @@ begun_apart es src Allowed q f (to_character c n is allowed) ill = character_sta
 begun_apart es src Allowed q f (to_entity n j t is none found) ill = entity_stands es src q n j t f is found ill
 
 module _ (es : List Entity) (main : Bool) (O : Inclusion) (src : List ℕ) (utf8 : IsUtf8 src) where
-  -- in a run any character may be
+  -- In a run any character may be.
   abbrev Any : ℕ → Type 0
   Any c = Unit {0}
 
-  -- each `&` of a part begins a reference to a character
+  -- Each `&` of a part begins a reference to a character.
   part_amp : (j i q : ℕ) (ss : List DataByte) → Part main src j i ss → i ≤ q → q < j → byte src q ≡ 38 → Begins es src Any q
   part_amp j i q ss part_ends from below amp = absurd (omega arith)
   part_amp j i q ss (as_written _ more less no_amp rest) from below amp =
@@ -134,11 +134,11 @@ module _ (es : List Entity) (main : Bool) (O : Inclusion) (src : List ℕ) (utf8
         ]
       ]
 
-  -- and so of a run, or one to an entity
+  -- And so of a run, or one to an entity.
   module _ (declared : (name : List ℕ) (b c : ℕ) (items : Forest Item) → O.content name b items c → (t : Replacement) × (text_of es name ≡ Some t)) where
     parts_amp : (start stop i q b c : ℕ) (items : Forest Item) → Parts main O src start stop i b c items → i ≤ q → q < stop → byte src q ≡ 38 → Begins es src Any q
     parts_amp start stop i q b c items (last_part _ _ ss part) from below amp = part_amp stop i q ss part from below amp
-    parts_amp start stop i q b c items (then_entity _ p n j _ d _ ss one more part ref none opens rest) from below amp =
+    parts_amp start stop i q b c items (then_entity _ p j _ d _ _ ss one more part (entity_reference n ref none) opens rest) from below amp =
         elim (cases_lt q p) as (λ s. Begins es src Any q) [
           | inl l ↦ part_amp p i q ss part from l amp
           | inr g ↦ elim (cases_eq q p) as (λ s. Begins es src Any q) [
@@ -153,15 +153,15 @@ module _ (es : List Entity) (main : Bool) (O : Inclusion) (src : List ℕ) (utf8
           ]
         ]
 
-    -- in the references of a run: rows 9 and 10
+    -- In the references of a run: rows 9 and 10.
     pub run_reference_apart : (start stop b c q : ℕ) (items : Forest Item) (f : Fault) → Parts main O src start stop start b c items → start ≤ q → q < stop → InReferences es src q f → ⊥
     run_reference_apart start stop b c q items f parts from below ill = begun_apart es src Any q f (parts_amp start stop start q b c items parts from below (reference_opens es src q f ill)) ill
 
-  -- in a value outside replacement texts any character, and within them none but `<`
+  -- In a value outside replacement texts any character, and within them none but `<`.
   abbrev Given : ℕ → Type 0
   Given c = (main ≡ true) ⊎ (c ≢ 60)
 
-  -- white space and the end of a line are none of these bytes
+  -- White space and the end of a line are none of these bytes.
   white_byte : (e i : ℕ) → (byte src i ≡ 9) ⊎ ((byte src i ≡ 10) ⊎ ((byte src i ≡ 13) × ((e ≡ i + 1) ⊎ (byte src (i + 1) ≢ 10)))) → byte src i ≤ 13
   white_byte e i (inl is) = omega arith
   white_byte e i (inr (inl is)) = omega arith
@@ -188,7 +188,7 @@ module _ (es : List Entity) (main : Bool) (O : Inclusion) (src : List ℕ) (utf8
             | inr g ↦ value_amp e n q b c w rest g below amp
           ]
         ]
-    value_amp e i q b c v (an_entity _ n k _ d _ u w ref none less opens rest) from below amp =
+    value_amp e i q b c v (an_entity _ k _ d _ _ u w (entity_reference n ref none) less opens rest) from below amp =
         elim (cases_eq q i) as (λ s. Begins es src Given q) [
           | inl same ↦ (
               let found = declared (slice src (i + 1) n) b d u opens in
@@ -200,11 +200,11 @@ module _ (es : List Entity) (main : Bool) (O : Inclusion) (src : List ℕ) (utf8
           ]
         ]
 
-    -- in the references of a value: rows 9 and 10
+    -- In the references of a value: rows 9 and 10.
     pub value_reference_apart : (i e b c q : ℕ) (v : List ℕ) (f : Fault) → Value main O src e i b c v → i ≤ q → q < e → InReferences es src q f → ⊥
     value_reference_apart i e b c q v f value from below ill = begun_apart es src Given q f (value_amp e i q b c v value from below (reference_opens es src q f ill)) ill
 
-    -- nor does one give `<` within a replacement text: row 12
+    -- Nor does one give `<` within a replacement text: row 12.
     pub value_gives_less : (i e b c q j : ℕ) (v : List ℕ) → Value main O src e i b c v → main ≡ false → i ≤ q → q < e → IsCharacter src q 60 j → ⊥
     value_gives_less i e b c q j v value inner from below is = by_begun (value_amp e i q b c v value from below (character_opens src q 60 j is).0)
       where
@@ -213,7 +213,7 @@ module _ (es : List Entity) (main : Bool) (O : Inclusion) (src : List ℕ) (utf8
         by_begun (to_character x n is' (inr apart)) = apart (character_ends src q x 60 n j is' is).0
         by_begun (to_entity n k t ref none found) = no_entity_here src q 60 j n k is ref none
 
-  -- nor does `<` stand in a value: row 12
+  -- Nor does `<` stand in a value: row 12.
   pub value_no_less : (e i q b c : ℕ) (v : List ℕ) → Value main O src e i b c v → i ≤ q → q < e → byte src q ≡ 60 → ⊥
   value_no_less e i q b c v (value_ends _) from below here = absurd (omega arith)
   value_no_less e i q b c v (line_end _ _ _ _ more cr lf rest) from below here =
@@ -233,7 +233,7 @@ module _ (es : List Entity) (main : Bool) (O : Inclusion) (src : List ℕ) (utf8
         | inl l ↦ character_apart 60 less_no_part src utf8 i x n q is (omega arith) l here
         | inr g ↦ value_no_less e n q b c w rest g below here
       ]
-  value_no_less e i q b c v (an_entity _ n k _ d _ u w ref none less opens rest) from below here =
+  value_no_less e i q b c v (an_entity _ k _ d _ _ u w (entity_reference n ref none) less opens rest) from below here =
       let amp = (reference_parts ref).opens in
       let apart : q ≢ i = λ same. let h : byte src i ≡ 60 = ap (byte src) (sym same) ∙ here in absurd (omega arith) in
       elim (cases_lt q k) as (λ s. ⊥) [

@@ -1,4 +1,4 @@
--- A refusal that stands in a text refuses its parses within the limits, where the answers are the same as far as both go; and all of
+-- A refusal that is in a text refuses its parses within the limits, where the answers are the same as far as both go; and all of
 -- its parses if it is not that of a limit.
 use Rattle.std.proofs.Common.{◌≡◌, ℕ, zero, suc, ◌+◌, ◌-◌, ◌<◌, ◌≤◌, Bool, true, false, List, [], length, Some, refl, sym, ap, ◌∙◌, subst, arith, inl, inr}
 use Rattle.std.specs.Str.{IsUtf8}
@@ -16,7 +16,7 @@ use Rattle.rox_grammar.specs.Content.{Inclusion, Value, Content}
 use Rattle.rox_grammar.specs.Entities.{Replacement, Entity, text_of, Spends, no_entities, Includes, most_deep, included_in_main}
 use Rattle.rox_grammar.specs.Doctype.{Asked, IsDoctype}
 use Rattle.rox_grammar.proofs.CountForms.{limits_counted}
-use Rattle.rox_grammar.specs.Document.{Behind, Misc, no_misc, an_item, ParseOf, IsWithinLimits, Permits, PrologTo}
+use Rattle.rox_grammar.specs.Document.{DocumentTo, Misc, no_misc, an_item, ParseOf, IsWithinLimits, Permits, PrologTo}
 use Rattle.rox_theory.specs.ParseParts.{MayHaveDoctype, doctype, no_doctype}
 use Rattle.rox_grammar.specs.State as grammar
 use Rattle.rox_grammar.specs.State.{root}
@@ -44,35 +44,35 @@ use Rattle.rox_faults.proofs.FaultMisc.{misc_front, misc_at, before_end, other_a
 use Rattle.rox_faults.proofs.FaultWay.{OpensAt}
 use Rattle.rox_faults.proofs.FaultNever.{Parsed, never, fault_over, no_doctype_there}
 use Rattle.rox_theory.specs.ParseParts.{ParseParts}
-use Rattle.rox_theory.proofs.ParseParts.{behind_parts, prolog_parts, parts}
+use Rattle.rox_theory.proofs.ParseParts.{document_parts, prolog_parts, parts}
 
--- what stands before a place
+-- What is before a place.
 place_front : (opens : ℕ → Inclusion) (es : List Entity) (text : List ℕ) (Root : ℕ → Forest Item → Type 0) (k open_around b : ℕ) (src : List ℕ) (s : grammar.State) → ContentPoint opens es text Root k open_around src b s → (p : ℕ) × (items : Forest Item) × Root p items
 place_front opens es text Root k open_around b src s (begins p items is) = (p, items, is)
 place_front opens es text Root k open_around b src s (goes _ _ d _ _ r _ place takes content deep) = place_front opens es text Root k open_around d src r place
-place_front opens es text Root k open_around b src s (enters l other d c r q j source t front text' place inner to named may) = place_front opens es text Root l other d source t place
+place_front opens es text Root k open_around b src s (enters l other d r source t run place inner named may) = place_front opens es text Root l other d source t place
 
--- and before a fault
-front_of : (opens : ℕ → Inclusion) (es : List Entity) (limit : ℕ) (text : List ℕ) (behind_dtd : Bool) (Front : ℕ → Forest Item → Type 0) (source : List ℕ) (f : Fault) → FaultFrom opens es limit text behind_dtd Front source f
-    → (p : ℕ) × (items : Forest Item) × Front p items
-front_of opens es limit text behind_dtd Front source f (misc_around p items _ (inl front) fits (in_one _ ill)) = (p, items, front)
-front_of opens es limit text behind_dtd Front source f (misc_around p items _ (inl front) fits (one_too_many j item is over)) = (p, items, front)
-front_of opens es limit text behind_dtd Front source f (no_root items front fits) = (length text, items, front)
-front_of opens es limit text behind_dtd Front source f (unknown_ahead p items front fits below no_space no_less) = (p, items, front)
-front_of opens es limit text behind_dtd Front source f (at_point k open_around b _ s _ _ place fits (at_place _ stands)) =
-    let r = place_front opens es text (λ p items. Front p items × RootBegins behind_dtd text p) k open_around b source s place in (r.0, r.1, r.2.0)
-front_of opens es limit text behind_dtd Front source f (at_point k open_around b src s _ _ place fits (in_value p n v e j c l i stop d _ name _ part _ opens' to space pair is ill)) =
-    let r = place_front opens es text (λ p items. Front p items × RootBegins behind_dtd text p) k open_around b src s place in (r.0, r.1, r.2.0)
-front_of opens es limit text behind_dtd Front source f (misc_around p items _ (inr back) fits (in_one _ ill)) = let b = behind_parts back in (b.start, b.before, b.ahead)
-front_of opens es limit text behind_dtd Front source f (misc_around p items _ (inr back) fits (one_too_many j item is over)) = let b = behind_parts back in (b.start, b.before, b.ahead)
-front_of opens es limit text behind_dtd Front source f (unknown_behind p items back fits below a b c) = let b = behind_parts back in (b.start, b.before, b.ahead)
+-- And before a fault.
+front_of : (opens : ℕ → Inclusion) (es : List Entity) (limit : ℕ) (text : List ℕ) (behind_dtd : Bool) (PrologAt : ℕ → Forest Item → Type 0) (source : List ℕ) (f : Fault) → FaultFrom opens es limit text behind_dtd PrologAt source f
+    → (p : ℕ) × (items : Forest Item) × PrologAt p items
+front_of opens es limit text behind_dtd PrologAt source f (misc_around p items _ (inl front) fits (in_one _ ill)) = (p, items, front)
+front_of opens es limit text behind_dtd PrologAt source f (misc_around p items _ (inl front) fits (one_too_many j item is over)) = (p, items, front)
+front_of opens es limit text behind_dtd PrologAt source f (no_root items front fits) = (length text, items, front)
+front_of opens es limit text behind_dtd PrologAt source f (unknown_ahead p items front fits below no_space no_less) = (p, items, front)
+front_of opens es limit text behind_dtd PrologAt source f (at_point k open_around b _ s _ _ place fits (at_place _ stands)) =
+    let r = place_front opens es text (λ p items. PrologAt p items × RootBegins behind_dtd text p) k open_around b source s place in (r.0, r.1, r.2.0)
+front_of opens es limit text behind_dtd PrologAt source f (at_point k open_around b src s _ _ place fits (in_value next l i stop d _ _ opens' is ill)) =
+    let r = place_front opens es text (λ p items. PrologAt p items × RootBegins behind_dtd text p) k open_around b src s place in (r.0, r.1, r.2.0)
+front_of opens es limit text behind_dtd PrologAt source f (misc_around p items _ (inr back) fits (in_one _ ill)) = let b = document_parts back in (b.start, b.before, b.ahead)
+front_of opens es limit text behind_dtd PrologAt source f (misc_around p items _ (inr back) fits (one_too_many j item is over)) = let b = document_parts back in (b.start, b.before, b.ahead)
+front_of opens es limit text behind_dtd PrologAt source f (unknown_behind p items back fits below a b c) = let b = document_parts back in (b.start, b.before, b.ahead)
 
--- a document type declaration begins where it stands
+-- A document type declaration begins where it is.
 begins_there : (src : List ℕ) (i p : ℕ) (dtd : Bool) (nodes : Forest Item) (asked : List Asked) (es : List Entity) → dtd ≡ true → MayHaveDoctype src i p dtd nodes asked es → at word.DoctypeStart src i ≡ true
 begins_there src i p dtd nodes asked es is (doctype _ j _ items more _ _ one rest) = doctype_opens src i j items asked es one
 begins_there src i p dtd nodes asked es is (no_doctype _) = cc is
 
--- no refusal stands in a text that has a parse without one, but those of the limits
+-- No refusal is in a text that has a parse without one, but those of the limits.
 plain_over : (limit : ℕ) (allow : Bool) (src source : List ℕ) (asked given : List Asked) (f : Fault) (tree : Forest Item) → IsUtf8 src → RefusalOf limit allow src asked source f → ParseOf src false given tree → IsOver (IsWithinLimits limit tree) f
 plain_over limit allow src source asked given f tree utf8 (in_declaration _ is lacks) parse = fault_over limit src f given tree utf8 (in_declaration f is lacks) parse
 plain_over limit allow src source asked given f tree utf8 (without _ ill) parse = fault_over limit src f given tree utf8 (without f ill) parse
@@ -86,20 +86,20 @@ plain_over limit allow src source asked given f tree utf8 (behind _ es _ _ may i
 -- ---- before a document type declaration
 
 module _ (limit : ℕ) (src : List ℕ) (utf8 : IsUtf8 src) (given : List Asked) (tree : Forest Item) (p : ParseParts src true given tree) where
-  -- it begins where it stands
+  -- It begins where it is.
   begins_here : at word.DoctypeStart src p.begun ≡ true
   begins_here = begins_there src p.begun p.start true p.nodes given p.entities refl p.doctype
 
-  -- a declaration has one end
+  -- A declaration has one end.
   one_declaration : (d : ℕ) → MayHaveXmlDecl src (after_bom src) d → d ≡ p.prolog.0
   one_declaration d may = ok_one d p.prolog.0 (prolog src (after_bom src)) (prolog_complete src utf8 (after_bom src) d may) (prolog_complete src utf8 (after_bom src) p.prolog.0 p.prolog.1)
 
-  -- what is left up to there
+  -- What is left up to there.
   ahead_rest : (q : ℕ) (items : Forest Item) → PrologTo src q items → (rest : Forest Item) × Misc src q p.begun rest × (p.before ≡ join items rest)
   ahead_rest q items ahead =
       misc_front src utf8 p.prolog.0 q p.begun items p.before (subst (λ (d : ℕ). Misc src d q items) (one_declaration ahead.0 ahead.1) ahead.2) p.prolog.2 (doctype_stops src p.begun begins_here)
 
-  -- the root element does not begin before it
+  -- The root element does not begin before it.
   no_root_here : (q : ℕ) (items : Forest Item) → PrologTo src q items → Stops src q → at word.DoctypeStart src q ≡ false → ⊥
   no_root_here q items ahead stops none =
       let same = one_misc src utf8 ahead.0 p.prolog.0 q p.begun items p.before (one_declaration ahead.0 ahead.1) ahead.2 stops p.prolog.2 (doctype_stops src p.begun begins_here) in
@@ -109,20 +109,20 @@ module _ (limit : ℕ) (src : List ℕ) (utf8 : IsUtf8 src) (given : List Asked)
   no_root_begins q items ahead root_begins =
       no_root_here q items ahead (record { no_space = no_spaces src q root_begins.0; no_comment = root_begins.1; no_instruction = root_begins.2 }) (root_begins.3 refl)
 
-  no_root_behind : (q : ℕ) (items : Forest Item) → Behind no_entities src (PrologTo src) q items → ⊥
+  no_root_behind : (q : ℕ) (items : Forest Item) → DocumentTo no_entities src (PrologTo src) q items → ⊥
   no_root_behind q items is =
-      let back = behind_parts is in
+      let back = document_parts is in
       let there = element_stops true no_entities src back.start back.end 255 back.openings_left back.one back.element in
       no_root_here back.start back.before back.ahead there.2 there.1
 
-  -- where the parse is within the limits all nodes are
+  -- Where the parse is within the limits all nodes are.
   few_nodes : IsWithinLimits limit tree → 1 + size (merge tree) ≤ limit
   few_nodes few =
       let merged : merge tree ≡ tree =
       ap merge p.is_tree ∙ tops_merged true (included_in_main p.entities) src p.prolog.0 p.begun p.start p.end (length src) 255 p.openings_left true p.before p.nodes p.one p.after given p.entities p.prolog.2 p.doctype p.element p.misc_after ∙ sym p.is_tree in
       rw merged (omega (arith, few.nodes))
 
-  -- no fault stands before it but those of the limits
+  -- No fault is before it but those of the limits.
   ahead_over : (source : List ℕ) (f : Fault) → FaultFrom (λ k. no_entities) [] limit src false (PrologTo src) source f → IsOver (IsWithinLimits limit tree) f
   ahead_over source f (misc_around q items _ (inl ahead) fits (in_one _ ill)) = let r = ahead_rest q items ahead in absurd (misc_at src utf8 q p.begun r.0 f r.1 (doctype_stops src p.begun begins_here) ill)
   ahead_over source f (misc_around q items _ (inl ahead) fits (one_too_many j item is over)) =
@@ -139,13 +139,13 @@ module _ (limit : ℕ) (src : List ℕ) (utf8 : IsUtf8 src) (given : List Asked)
       let r = ahead_rest q items ahead in absurd (other_at src utf8 q p.begun r.0 r.1 (doctype_bytes src p.begun begins_here).1 no_space no_less)
   ahead_over source f (at_point k open_around b _ s _ _ place fits (at_place _ stands)) =
       let r = place_front (λ k. no_entities) [] src (λ p items. PrologTo src p items × RootBegins false src p) k open_around b source s place in absurd (no_root_begins r.0 r.1 r.2.0 r.2.1)
-  ahead_over source f (at_point k open_around b other s _ _ place fits (in_value p n v e j c l i stop d _ name _ part _ opens' to space pair is ill)) =
+  ahead_over source f (at_point k open_around b other s _ _ place fits (in_value next l i stop d _ _ opens' is ill)) =
       let r = place_front (λ k. no_entities) [] src (λ p items. PrologTo src p items × RootBegins false src p) k open_around b other s place in absurd (no_root_begins r.0 r.1 r.2.0 r.2.1)
   ahead_over source f (misc_around q items _ (inr back) fits (in_one _ ill)) = absurd (no_root_behind q items back)
   ahead_over source f (misc_around q items _ (inr back) fits (one_too_many j item is over)) = absurd (no_root_behind q items back)
   ahead_over source f (unknown_behind q items back fits below a b c) = absurd (no_root_behind q items back)
 
-  -- nor in the declaration
+  -- Nor in the declaration.
   declaration_never : (q : ℕ) (t : DueItem) (f : Fault) → at word.XmlDeclStart src (after_bom src) ≡ true → DueInXmlDecl src (after_bom src) q t → IsMissing src q t f → ⊥
   declaration_never q t f here' due lack = declared_apart p.prolog.0 p.prolog.1
     where
@@ -153,7 +153,7 @@ module _ (limit : ℕ) (src : List ℕ) (utf8 : IsUtf8 src) (given : List Asked)
       declared_apart d (declared _ _ is) = declaration_apart src utf8 (after_bom src) d q t f is due lack
       declared_apart d (not_declared _ none) = true≢false (sym here' ∙ none)
 
-  -- nor a fault in it, met after the same answers, but those of the limits
+  -- Nor a fault in it, met after the same answers, but those of the limits.
   inside_over : (i : ℕ) (before : Forest Item) (asked : List Asked) (source : List ℕ) (f : Fault) → PrologTo src i before → at word.DoctypeStart src i ≡ true → SameAnswers asked given → InDoctype limit src i before asked source f → IsOver (IsWithinLimits limit tree) f
   inside_over i before asked source f ahead is same ill =
       let there = one_misc src utf8 ahead.0 p.prolog.0 i p.begun before p.before (one_declaration ahead.0 ahead.1) ahead.2 (doctype_stops src i is) p.prolog.2 (doctype_stops src p.begun begins_here) in
@@ -169,13 +169,13 @@ module _ (limit : ℕ) (src : List ℕ) (utf8 : IsUtf8 src) (given : List Asked)
           in_doctype_apart src utf8 (IsWithinLimits limit tree) limit p.begun j p.before items (join more (join p.one p.after)) asked given es source f one all same ill
       by_doctype k dtd nodes given es has (no_doctype _) nodes_few same ill = cc has
 
--- ---- behind one
+-- ---- after one
 
--- what is spent may be opened
+-- What is spent may be opened.
 may_by : (k b r l c : ℕ) → k < most_deep → Spends (is_main k) b r l c → MayOpen k b r
 may_by k b r l c more spends = (more, l, c, spends)
 
--- what references open, by the entities that are declared
+-- What references open, by the entities that are declared.
 opened_at : (es : List Entity) (n k b c : ℕ) (name : List ℕ) (items : Forest Item) → n ≡ most_deep - k → (Includes es n (is_main k)).content name b items c
     → (t : Replacement) × (r : ℕ) × (l : ℕ) × (text_of es name ≡ Some t) × MayOpen k b r × Content false (opens_at es (suc k)) t.source t.start (length t.source) r l items
 opened_at es zero k b c name items deep h = absurd h
@@ -201,7 +201,7 @@ declared_opens es texts = record {
 }
 
 module _ (src : List ℕ) (utf8 : IsUtf8 src) where
-  -- of two ways to read a document type declaration and what follows it, with the same answers, one is a front of the other
+  -- Of two ways to read a document type declaration and what follows it, with the same answers, one is a front of the other.
   doctype_front : (h i p q : ℕ) (d e : Bool) (xs ys : Forest Item) (a b : List Asked) (es fs : List Entity) → d ≡ true → e ≡ true → h ≡ i → SameAnswers a b → MayHaveDoctype src h p d xs a es → MayHaveDoctype src i q e ys b fs → Stops src q
       → (rest : Forest Item) × Misc src p q rest × (ys ≡ join xs rest) × (es ≡ fs)
   doctype_front h i p q d e xs ys a b es fs has has' begin same (no_doctype _) other stops = cc has
@@ -212,18 +212,18 @@ module _ (src : List ℕ) (utf8 : IsUtf8 src) where
       (r.0, r.1, ap (join items') r.2 ∙ ap (λ (f : Forest Item). join f (join more r.0)) (sym both.1) ∙ sym (join_assoc items more r.0), both.3)
 
 module _ (limit : ℕ) (src : List ℕ) (utf8 : IsUtf8 src) (given : List Asked) (tree : Forest Item) (p : ParseParts src true given tree) where
-  -- what stands before the root element
+  -- What is before the root element.
   abbrev before_root : Forest Item
   before_root = join p.before p.nodes
 
   root_stops : (byte src p.start ≡ 60) × (at word.DoctypeStart src p.start ≡ false) × Stops src p.start
   root_stops = element_stops true (included_in_main p.entities) src p.start p.end 255 p.openings_left p.one p.element
 
-  -- the whole as a state has it
+  -- The whole as a state has it.
   same_whole : tree ≡ join (join before_root p.one) p.after
   same_whole = p.is_tree ∙ sym (join_assoc p.before p.nodes (join p.one p.after)) ∙ sym (join_assoc before_root p.one p.after)
 
-  -- which is within the limits where the parse is
+  -- Which is within the limits where the parse is.
   all_fine : IsWithinLimits limit tree → IsValidState limit (state (length src) (join (join before_root p.one) p.after) root p.openings_left)
   all_fine few =
       let counts = limits_counted limit tree few in
@@ -231,12 +231,12 @@ module _ (limit : ℕ) (src : List ℕ) (utf8 : IsUtf8 src) (given : List Asked)
       record { nodes = few_nodes limit src utf8 given tree p few; attributes = counts.attributes; pairs = counts.namespaces; named = p.well_named } in
       subst (λ (f : Forest Item). IsValidState limit (state (length src) f root p.openings_left)) same_whole whole
 
-  -- the entities are text
+  -- The entities are text.
   entities_texts : AreTexts p.entities
   entities_texts = texts_agree src utf8 p.begun p.start true p.nodes given p.entities p.doctype
 
   module _ (asked : List Asked) (same : SameAnswers asked given) where
-    -- what is left up to the root element, and the entities are those of the parse
+    -- What is left up to the root element, and the entities are those of the parse.
     declared_rest : (es : List Entity) (q : ℕ) (items : Forest Item) → Declared src asked es q items → ((rest : Forest Item) × Misc src q p.start rest × (before_root ≡ join items rest)) × (es ≡ p.entities)
     declared_rest es q items front =
         let a = prolog_parts src q true items asked es front in
@@ -264,7 +264,7 @@ module _ (limit : ℕ) (src : List ℕ) (utf8 : IsUtf8 src) (given : List Asked)
           named = subst (λ (f : Forest Item). AreNamed root f) same_whole p.well_named;
         }
 
-    -- so no fault stands behind it but those of the limits
+    -- So no fault is after it but those of the limits.
     behind_over : (es : List Entity) (source : List ℕ) (f : Fault) → FaultFrom (opens_at es) es limit src true (Declared src asked es) source f → IsOver (IsWithinLimits limit tree) f
     behind_over es source f ill =
         let front = front_of (opens_at es) es limit src true (Declared src asked es) source f ill in
@@ -272,8 +272,8 @@ module _ (limit : ℕ) (src : List ℕ) (utf8 : IsUtf8 src) (given : List Asked)
         never (opens_at p.entities) p.entities (declared_opens p.entities entities_texts) limit (IsWithinLimits limit tree) src utf8 (Declared src asked p.entities) declared_parsed true source f
         (subst (λ (es : List Entity). FaultFrom (opens_at es) es limit src true (Declared src asked es) source f) entities_are ill)
 
--- a refusal that stands in a text that has a parse is that of a limit, and the parse is not within the limits, where what was asked
--- until then had the answers that the parse has
+-- A refusal that is in a text that has a parse is that of a limit, and the parse is not within the limits, where what was asked
+-- until then had the answers that the parse has.
 pub refused_over : (limit : ℕ) (allow dtd : Bool) (src source : List ℕ) (asked given : List Asked) (f : Fault) (tree : Forest Item) → IsUtf8 src → RefusalOf limit allow src asked source f → ParseOf src dtd given tree
     → Permits allow dtd → SameAnswers asked given → IsOver (IsWithinLimits limit tree) f
 refused_over limit allow false src source asked given f tree utf8 ill parse permits same = plain_over limit allow src source asked given f tree utf8 ill parse
@@ -283,7 +283,7 @@ refused_over limit allow true src source asked given f tree utf8 (not_allowed i 
 refused_over limit allow true src source asked given f tree utf8 (in_doctype i before _ _ _ may ahead fits is ill) parse permits same = inside_over limit src utf8 given tree (parts src true given tree parse) i before asked source f ahead is same ill
 refused_over limit allow true src source asked given f tree utf8 (behind _ es _ _ may ill) parse permits same = behind_over limit src utf8 given tree (parts src true given tree parse) asked same es source f ill
 
--- so no refusal stands in a text that has a parse within the limits
+-- So no refusal is in a text that has a parse within the limits.
 pub refused_never : (limit : ℕ) (allow dtd : Bool) (src source : List ℕ) (asked given : List Asked) (f : Fault) (tree : Forest Item) → IsUtf8 src → RefusalOf limit allow src asked source f → ParseOf src dtd given tree
     → IsWithinLimits limit tree → Permits allow dtd → SameAnswers asked given → ⊥
 refused_never limit allow dtd src source asked given f tree utf8 ill parse few permits same = (refused_over limit allow dtd src source asked given f tree utf8 ill parse permits same).1 few

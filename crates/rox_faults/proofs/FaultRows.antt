@@ -1,4 +1,4 @@
--- Each construct that fails: what is due in it, and does not stand there.
+-- Each construct that fails: what is required in it, and is not there.
 use Rattle.std.proofs.Common.{◌≡◌, ◌≢◌, ℕ, zero, suc, ◌+◌, ◌-◌, ◌^◌, ◌<◌, ◌≤◌, ◌⊎◌, ◌==◌, ◌||◌, Bool, true, false, eqb, leb, List, [], ◌∷◌, ◌++◌, length, drop, get_or, refl, sym, ap, ◌∙◌, subst, arith, inl, inr, length-drop, get_or-drop}
 use Rattle.std.specs.Prelude.{Err, Option, Some, None, bytes_eq}
 use Rattle.std.specs.List.{starts_with}
@@ -12,7 +12,7 @@ use Rattle.rox_grammar.specs.declared.fault.Expected.{Expected}
 use Rattle.rox_grammar.specs.declared.fault.Word.TheVariants as word
 use Rattle.rox_grammar.specs.declared.fault.Expected.TheVariants as expected
 use Rattle.rox_grammar.specs.declared.fault.Fault.TheVariants as fault
-use Rattle.rox_grammar.specs.FixedTexts.{word_text, at, first}
+use Rattle.rox_grammar.specs.FixedTexts.{word_text, at}
 use Rattle.rox_grammar.specs.ExpectedTexts.{expected_text}
 use Rattle.rox_grammar.specs.Chars.{is_space, is_char, is_part_char, is_name_start, is_name_char}
 use Rattle.rox_grammar.specs.Runs.{run_end, begins, first_passes}
@@ -22,7 +22,7 @@ use Rattle.rox_grammar.specs.NameParts.{local_span}
 use Rattle.rox_grammar.specs.Names.{byte, slice, spaces_end, IsName, IsQName, unprefixed, prefixed, colon_first}
 use Rattle.rox_grammar.specs.Constructs.{AreChars}
 use Rattle.rox_grammar.specs.FixedTexts.{double_dash}
-use Rattle.rox_grammar.specs.References.{is_digit, is_hex_digit, number, bytes_end, character}
+use Rattle.rox_grammar.specs.References.{is_digit, is_hex_digit, number, bytes_end, character, entity_reference}
 use Rattle.rox_grammar.specs.Entities.{Replacement, Entity, text_of}
 use Rattle.rox_grammar.specs.Due.{DueItem, a_byte, a_text, a_qname, a_name, chars_to, IsMissing, Misses, no_name, DueInText, DueInPI, DueInEnd}
 use Rattle.rox_grammar.specs.Due as due
@@ -43,16 +43,20 @@ use Rattle.rox_theory.proofs.StretchLemmas.{slice_cons, slice_length}
 use Rattle.rox_reading.specs.Machine.{name_span}
 use Rattle.rox_theory.proofs.FailedReadings.{bind_err, no_fault, chars_fails, byte_fails, string_fails, qname_fails}
 
+-- The first place from `i` on where the fixed text is, or the end.
+abbrev first : Word → List ℕ → ℕ → ℕ
+first w src i = mark_from (word_text w) src i
+
 -- ---- where a character begins
 
--- a mark is found in the text or at its end
+-- A mark is found in the text or at its end.
 before_mark_le : (mark bs : List ℕ) → before_mark mark bs ≤ length bs
 before_mark_le mark [] = omega arith
 before_mark_le mark (b ∷ bs) =
     let ih = before_mark_le mark bs in
     cond_both (starts_with ◌==◌ (b ∷ bs) mark) 0 (1 + before_mark mark bs) (λ (k : ℕ). k ≤ suc (length bs)) (λ here. omega arith) (λ later. omega arith)
 
--- and its first byte stands there
+-- And its first byte is there.
 before_mark_is : (b : ℕ) (rest bs : List ℕ) → before_mark (b ∷ rest) bs < length bs → get_or bs (before_mark (b ∷ rest) bs) 0 ≡ b
 unfolding stands
 before_mark_is b rest [] some = absurd (omega arith)
@@ -62,7 +66,7 @@ before_mark_is b rest (c ∷ cs) some =
       | inr later ↦ (let more : 1 + before_mark (b ∷ rest) cs < suc (length cs) = rw later at some in let e : 1 + before_mark (b ∷ rest) cs ≡ suc (before_mark (b ∷ rest) cs) = omega arith in rw (later, e) (before_mark_is b rest cs (omega arith)))
     ]
 
--- a character begins where a mark is found whose first byte is ASCII
+-- A character begins where a mark is found whose first byte is ASCII.
 pub mark_cut : (mark : List ℕ) (b : ℕ) (rest src : List ℕ) (i : ℕ) → mark ≡ b ∷ rest → b < 128 → i ≤ length src → IsCharBoundary src (mark_from mark src i)
 unfolding mark_from
 mark_cut mark b rest src i is ascii inside =
@@ -77,13 +81,13 @@ mark_cut mark b rest src i is ascii inside =
       | inr past ↦ (let e : length src ≡ i + k = omega arith in subst (IsCharBoundary src) e (IsCharBoundary-end src))
     ]
   where
-    -- the byte that is found
+    -- The byte that is found.
     entity_bit : (mark : List ℕ) → mark ≡ b ∷ rest → before_mark mark (drop i src) < length (drop i src) → get_or (drop i src) (before_mark mark (drop i src)) 0 ≡ b
     entity_bit mark is some =
         let some' : before_mark (b ∷ rest) (drop i src) < length (drop i src) = rw is at some in
         rw is (before_mark_is b rest (drop i src) some')
 
--- the text up to a mark, and the mark
+-- The text up to a mark, and the mark.
 text_fails : (w : Expected) (b : ℕ) (rest src : List ℕ) (i : ℕ) (f : Fault) → expected_text w ≡ b ∷ rest → b < 128 → IsUtf8 src → IsCharBoundary src i → text_to w src i ≡ Err f
     → IsMissing src i (chars_to (mark_from (expected_text w) src i)) f ⊎ (AreChars src i (mark_from (expected_text w) src i) × IsMissing src (mark_from (expected_text w) src i) (a_text w) f)
 unfolding text_to
@@ -98,11 +102,11 @@ text_fails w b rest src i f is ascii utf8 cut h =
     (λ bad. inr (c.0, string_fails w src e f (rw c.2 at bad)))
     (λ x read h. no_fault (text.0, x.1) f h))
 
--- a character begins behind a fixed text whose last byte is ASCII
+-- A character begins after a fixed text whose last byte is ASCII.
 pub behind : (w : Word) (src : List ℕ) (i k b : ℕ) → IsUtf8 src → at w src i ≡ true → k < length (word_text w) → get_or (word_text w) k 0 ≡ b → 0 < b → b < 128 → IsCharBoundary src (i + k + 1)
 behind w src i k b utf8 h short is some ascii = cut_behind src (i + k) b utf8 (stands_reads (word_text w) src i k h short ∙ is) some ascii
 
--- a character begins where a run stops
+-- A character begins where a run stops.
 pub run_stops_cut : (src : List ℕ) (i : ℕ) → i < length src → IsCharBoundary src (byte_from (λ c. c == 60) src i)
 run_stops_cut src i within =
     let p : ℕ → Bool = λ c. c == 60 in
@@ -114,7 +118,7 @@ run_stops_cut src i within =
     ]
 
 module _ (src : List ℕ) (utf8 : IsUtf8 src) where
-  -- a comment
+  -- A comment.
   pub comment_fails : (i : ℕ) (f : Fault) → at word.CommentStart src i ≡ true → comment_at src i ≡ Err f → InMisc src i f
   unfolding comment_at
   comment_fails i f opens h =
@@ -135,7 +139,7 @@ module _ (src : List ℕ) (utf8 : IsUtf8 src) where
       subst (InMisc src i) is (double_dashes e opens (refl, s.0, s.1) (dashes_before src (i + 4) e s.1 (rw is_text at ill))))
       (λ fine h. no_fault _ f h))
 
-  -- a processing instruction
+  -- A processing instruction.
   pub instruction_fails : (i : ℕ) (f : Fault) → at word.PIStart src i ≡ true → instruction_at src i ≡ Err f → InMisc src i f
   unfolding instruction_at name_at
   instruction_fails i f opens h =
@@ -153,20 +157,20 @@ module _ (src : List ℕ) (utf8 : IsUtf8 src) where
       ])
       (λ value read h. no_fault _ f h)))
     where
-      -- a name that is due
+      -- A name that is required.
       name_fails : (i : ℕ) (f : Fault) → name_at src i ≡ Err f → IsMissing src i a_name f
       name_fails i f h =
           chosen (begins is_name_start src i) _ _ _ h (λ fine h. cc)
           (λ fails h. let is : fault.InvalidName i ≡ f = cc in subst (IsMissing src i a_name) is (no_name (λ j name. let s = name.starts in cc (sym fails ∙ s))))
 
-      -- a character begins behind the white space after the target
+      -- A character begins after the white space after the target.
       value_cut : (i n : ℕ) → at word.PIStart src i ≡ true → IsName src (i + 2) n → IsCharBoundary src (spaces_end src n)
       value_cut i n opens target =
           let one : i + 1 + 1 ≡ i + 2 = omega arith in
           let cut = subst (IsCharBoundary src) one (behind word.PIStart src i 1 63 utf8 opens (omega arith) refl (omega arith) (omega arith)) in
           run_cut is_space src n utf8 (subst (IsCharBoundary src) (sym target.longest) (run_cut is_name_char src (i + 2) utf8 cut))
 
-  -- a CDATA section
+  -- A CDATA section.
   pub section_fails : (i : ℕ) (f : Fault) → at word.CDataStart src i ≡ true → cdata_at src i ≡ Err f → Misses src (DueInText expected.CDataEnd src (i + 9)) f
   unfolding cdata_at
   section_fails i f opens h =
@@ -177,7 +181,7 @@ module _ (src : List ℕ) (utf8 : IsUtf8 src) where
         | inr none ↦ (first word.CDataEnd src (i + 9), a_text expected.CDataEnd, due.DueInText.its_end none.0, none.1)
       ]
 
-  -- an end tag
+  -- An end tag.
   pub end_fails : (i : ℕ) (f : Fault) → at word.EndTagStart src i ≡ true → end_tag_at src i ≡ Err f → Misses src (DueInEnd src i) f
   unfolding end_tag_at
   end_fails i f opens h =
@@ -189,7 +193,7 @@ module _ (src : List ℕ) (utf8 : IsUtf8 src) where
 
   -- ---- references
 
-  -- the one fault of a reference
+  -- The one fault of a reference.
   reference_fault : (p : ℕ) (f : Fault) → reference_at src p ≡ Err f → fault.MalformedEntityReference p ≡ f
   unfolding reference_at number_at name_reference_at
   reference_fault p f h =
@@ -199,7 +203,7 @@ module _ (src : List ℕ) (utf8 : IsUtf8 src) where
       (λ starts h. chosen (eqb (byte src (run_end is_name_char src (p + 1))) 59) _ _ _ h (λ closes h. cc) (λ open' h. cc))
       (λ fails h. cc))
     where
-      -- of a number
+      -- Of a number.
       of_number : (base : ℕ) (is : ℕ → Bool) (d : ℕ) → number_at base is src p d ≡ Err f → fault.MalformedEntityReference p ≡ f
       of_number base is d h =
           let e = bytes_end is src d in
@@ -208,26 +212,26 @@ module _ (src : List ℕ) (utf8 : IsUtf8 src) where
           (λ x h. chosen (leb (2 ^ 32) n) _ _ _ h (λ y h. cc)
           (λ y h. chosen (is_char (character n)) _ _ _ h (λ z h. chosen (eqb (byte src e) 59) _ _ _ h (λ w h. cc) (λ w h. cc)) (λ z h. cc)))
 
-  -- a reference that is none: row 10
+  -- A reference that is none: row 10.
   pub reference_fails : (es : List Entity) (p : ℕ) (f : Fault) → byte src p ≡ 38 → reference_at src p ≡ Err f → InReferences es src p f
   reference_fails es p f amp h =
       subst (InReferences es src p) (reference_fault p f h)
       (malformed amp (λ c j is. no_fault _ f (sym (character_complete src p c j is) ∙ h)) (λ n j is. no_fault _ f (sym (name_complete src p n j is) ∙ h)))
 
-  -- one to a name that is not declared: row 9
+  -- One to a name that is not declared: row 9.
   pub unknown_fails : (es : List Entity) (p j : ℕ) (r : Reference) (f : Fault) → IsRead src p r j → reference_bit es src p r ≡ Err f → InReferences es src p f
   unknown_fails es p j r f (is_character c _ stands') h = no_fault _ f h
   unknown_fails es p j r f (is_entity n _ stands' none) h =
       let span : Span = record { start = p + 1; end = n } in
       let w = found_fails (text_of es (slice src (p + 1) n)) p span f h in
-      subst (InReferences es src p) w.1 (undeclared n j span stands' none w.0 refl)
+      subst (InReferences es src p) w.1 (undeclared j (slice src (p + 1) n) span (entity_reference n stands' none) w.0 refl)
     where
-      -- nothing is declared by that name
+      -- Nothing is declared by that name.
       found_fails : (t : Option Replacement) (i : ℕ) (span : Span) (f : Fault) → entity_bit t i span ≡ Err f → (t ≡ None) × (fault.UnknownEntityReference span i ≡ f)
       found_fails None i span f h = (refl, cc h)
       found_fails (Some t) i span f h = no_fault _ f h
 
-  -- either of them, in a run
+  -- Either of them, in a run.
   pub expansion_fails : (es : List Entity) (p : ℕ) (f : Fault) → byte src p ≡ 38 → expansion_at es src p ≡ Err f → InReferences es src p f
   unfolding expansion_at
   expansion_fails es p f amp h =
@@ -236,31 +240,31 @@ module _ (src : List ℕ) (utf8 : IsUtf8 src) where
 
 -- ---- names as they are written
 
--- a slice in two parts
+-- A slice in two parts.
 pub slice_split : (src : List ℕ) (d i k j : ℕ) → i + d ≡ k → k ≤ j → j ≤ length src → slice src i j ≡ slice src i k ++ slice src k j
 slice_split src zero i k j to le inside = let e : i ≡ k = omega arith in rw (e, slice_nil src k) refl
 slice_split src (suc d) i k j to le inside =
     slice_cons src i j (omega arith) inside ∙ ap (λ (r : List ℕ). byte src i ∷ r) (slice_split src d (i + 1) k j (omega arith) le inside)
     ∙ ap (λ (r : List ℕ). r ++ slice src k j) (sym (slice_cons src i k (omega arith) (omega arith)))
 
--- the span of a local part holds it
+-- The span of a local part holds it.
 pub local_holds : (src : List ℕ) (name : Name) (k n : ℕ) → name.local ≡ slice src k n → k ≤ n → n ≤ length src → SpanIs src (local_span name n) name.local
 local_holds src name k n is le inside =
     let long : length (slice src k n) ≡ n - k = slice_length src k n le inside in
     let e : n - length name.local ≡ k = rw is (omega arith) in
     ap (λ (i : ℕ). slice src i n) e ∙ sym is
 
--- a name ends in the source
+-- A name ends in the source.
 pub qname_inside : (src : List ℕ) (i n : ℕ) (name : Name) → IsUtf8 src → IsCharBoundary src i → IsQName src i name n → n ≤ length src
 qname_inside src i n name utf8 cut is = (qname_text src i name n utf8 cut is).3.0
 
--- what begins a name and is no colon begins a part of it
+-- What begins a name and is not a colon begins a part of it.
 part_first : (cs : List ℕ) → first_passes is_name_start cs ≡ true → first_passes (λ c. c == 58) cs ≡ false → first_passes is_part_char cs ≡ true
 unfolding is_part_char is_name_char
 part_first [] starts other = cc starts
 part_first (c ∷ cs) starts other = rw (starts, other) refl
 
--- so a part has a byte
+-- So a part has a byte.
 part_some : (src : List ℕ) (i : ℕ) → IsUtf8 src → IsCharBoundary src i → begins is_name_start src i ≡ true → byte src i ≢ 58 → i < run_end is_part_char src i
 unfolding begins
 part_some src i utf8 cut starts no_colon =
@@ -268,7 +272,7 @@ part_some src i utf8 cut starts no_colon =
     false_from_ne_true _ (λ h. no_colon (eqb-true _ _ (begins_byte (λ c. c == 58) (λ c is. omega (arith, eqb-true c 58 is)) src i utf8 cut h))) in
     run_some is_part_char src i (part_first (chars (drop i src)) starts other)
 
--- the span of a name holds it as it is written
+-- The span of a name holds it as it is written.
 pub spells : (src : List ℕ) (i n : ℕ) (name : Name) → IsUtf8 src → IsCharBoundary src i → IsQName src i name n → SpanIs src (name_span name i n) (spelled name)
 spells src i n name utf8 cut (unprefixed _ _ is last) =
     let inside = qname_inside src i n _ utf8 cut (unprefixed i n is last) in

@@ -11,14 +11,14 @@ use Rattle.rox_grammar.specs.Search.{byte_from}
 use Rattle.rox_grammar.specs.Forest.{Forest, Nil, join}
 use Rattle.rox_grammar.specs.Written.{Item, Text, leaf}
 use Rattle.rox_grammar.specs.Names.{byte, slice}
-use Rattle.rox_grammar.specs.References.{IsReference, predefined}
+use Rattle.rox_grammar.specs.References.{IsReference, predefined, entity_reference}
 use Rattle.rox_grammar.specs.Content.{Inclusion, DataByte, is_verbatim, line_ends, piece, Part, last_part, IsCharacterData}
 use Rattle.rox_grammar.specs.RunParts.{Parts}
 use Rattle.rox_grammar.specs.Content as content
 use Rattle.rox_grammar.specs.Entities.{Replacement, Entity, text_of}
 use Rattle.rox_grammar.specs.WellNamed.{AreWellNamed}
 use Rattle.rox_grammar.specs.State.{Open, scope_of, depth_of, nodes_so_far, FitsLimits}
-use Rattle.rox_grammar.specs.ContentPoints.{is_content, is_main, a_run, RefersTo, MayOpen, IsSpent, enters}
+use Rattle.rox_grammar.specs.ContentPoints.{is_content, is_main, a_run, RefersTo, RunTo, MayOpen, IsSpent, enters}
 use Rattle.rox_grammar.specs.RunParts.{PartsTo}
 use Rattle.rox_grammar.specs.Faults.{InReferences, InRun, no_char, end_mark, in_reference, too_many, in_run, too_many_nodes, too_many_pieces}
 use Rattle.rox_reading.specs.Lexical.{has_mark, chars_up_to}
@@ -43,12 +43,12 @@ use Rattle.rox_faults.proofs.FaultPoints.{Refuses, refuses_here, place_of, conte
 use Rattle.rox_faults.proofs.StateCounts.{too_many_there}
 
 module _ (src : List ℕ) (utf8 : IsUtf8 src) (es : List Entity) (main : Bool) where
-  -- what follows a bit fails
+  -- What follows a bit fails.
   bit_fails : {P : Type 0} (more : ℕ → Result (List ℕ × Next) Fault) (bit : Bit) (j : ℕ) (f : Fault) → after_bit more bit j ≡ Err f → (more j ≡ Err f → P) → P
   bit_fails more (bytes_of bs) j f h go = bind_err (more j) _ f h go (λ rest read h. no_fault _ f h)
   bit_fails more (a_text t) j f h go = no_fault _ f h
 
-  -- the references of a run
+  -- The references of a run.
   part_fails : (stop n i p : ℕ) (f : Fault) → stop ≤ length src → (stop < length src → IsStop (byte src stop)) → i ≤ p → data_part main es n src stop p ≡ Err f → (q : ℕ) × (i ≤ q) × (q < stop) × InReferences es src q f
   unfolding data_part data_bit_at
   part_fails stop zero i p f long closes from h = no_fault _ f h
@@ -64,38 +64,38 @@ module _ (src : List ℕ) (utf8 : IsUtf8 src) (es : List Entity) (main : Bool) w
       bit_fails (λ j. data_part main es n src stop j) x.0 x.1 f h (λ bad. part_fails stop n i x.1 f long closes (omega (arith, moves.0)) bad)))
       (λ past h. no_fault _ f h)
 
--- a piece that is one node too many
+-- A piece that is one node too many.
 piece_fails : (limit : ℕ) (s : State) (i j : ℕ) (bs : List ℕ) (f : Fault) → with_piece limit s i j bs ≡ Err f → (0 < length bs) × (with_item limit s j (Text i j bs false) ≡ Err f)
 piece_fails limit s i j [] f h = no_fault _ f h
 piece_fails limit s i j (b ∷ bs) f h = (omega arith, h)
 
--- an item that is one too many
+-- An item that is one too many.
 item_over : (limit : ℕ) (s : State) (j : ℕ) (item : Item) (f : Fault) → with_item limit s j item ≡ Err f → (limit < nodes_so_far s.stack (join s.done (leaf item))) × (fault.NodesLimitReached ≡ f)
 item_over limit s j item f h = chosen (nat_le (nodes_so_far s.stack (join s.done (leaf item))) limit) _ _ _ h (λ fewer h. no_fault _ f h) (λ more h. (leb-false _ _ more, cc))
 
-module _ (opens : ℕ → Inclusion) (es : List Entity) (limit : ℕ) (text : List ℕ) (declared : Bool) (Front : ℕ → Forest Item → Type 0)
+module _ (opens : ℕ → Inclusion) (es : List Entity) (limit : ℕ) (text : List ℕ) (declared : Bool) (PrologAt : ℕ → Forest Item → Type 0)
     (d k open_around most : ℕ) (agrees : AgreesContent es limit (opens k) (opener limit es d (is_main k))) (less : limit ≤ most) (least : most ≤ max limit 1) where
-  -- what is opened behind a reference that ends at j fails: by the number of openings, or within
+  -- What is opened after a reference that ends at j fails: by the number of openings, or within.
   abbrev pub OpenerFails : Type 0
   OpenerFails =
-      (src : List ℕ) (j : ℕ) (t : Replacement) (name : List ℕ) (u : State) (e : Refusal) → text_of es name ≡ Some t → IsValidState most u → (IsSpent k u.openings_left → From opens es limit text declared Front src (fault.EntityReferenceLoop j))
-      → ((r : ℕ) → MayOpen k u.openings_left r → At opens es limit text declared Front (suc k) (depth_of u.stack) t.source (state t.start u.done u.stack r)) → opener limit es d (is_main k) t j u ≡ Err e
-      → Refuses es (From opens es limit text declared Front) src e
+      (src : List ℕ) (j : ℕ) (t : Replacement) (name : List ℕ) (u : State) (e : Refusal) → text_of es name ≡ Some t → IsValidState most u → (IsSpent k u.openings_left → From opens es limit text declared PrologAt src (fault.EntityReferenceLoop j))
+      → ((r : ℕ) → MayOpen k u.openings_left r → At opens es limit text declared PrologAt (suc k) (depth_of u.stack) t.source (state t.start u.done u.stack r)) → opener limit es d (is_main k) t j u ≡ Err e
+      → Refuses es (From opens es limit text declared PrologAt) src e
 
-  module _ (opener_fails : OpenerFails) (src : List ℕ) (utf8 : IsUtf8 src) (s : State) (place : At opens es limit text declared Front k open_around src s) (fine : IsValidState most s) (inner : is_content k s.stack ≡ true)
+  module _ (opener_fails : OpenerFails) (src : List ℕ) (utf8 : IsUtf8 src) (s : State) (place : At opens es limit text declared PrologAt k open_around src s) (fine : IsValidState most s) (inner : is_content k s.stack ≡ true)
       (within' : s.at < length src) (other : byte src s.at ≢ 60) where
     abbrev P : List ℕ → Fault → Type 0
-    P src f = From opens es limit text declared Front src f
+    P src f = From opens es limit text declared PrologAt src f
 
     abbrev fits : FitsLimits limit s.stack s.done
     fits = fine_fits limit most s least fine
 
-    -- a fault of the run
+    -- A fault of the run.
     in_it : (f : Fault) → InRun es k (opens k) src s.at s.openings_left f → P src f
-    in_it f ill = stand opens es limit text declared Front k open_around src s f place fits (in_run f inner within' other ill)
+    in_it f ill = stand opens es limit text declared PrologAt k open_around src s f place fits (in_run f inner within' other ill)
 
     module _ (stop : ℕ) (run : IsCharacterData src s.at stop) (marked : is_verbatim (slice src s.at stop) ≡ false) where
-      -- the parts that are read so far, up to this state
+      -- The parts that are read so far, up to this state.
       record Begun (u : State) : Type 0 where
         pub front : Forest Item
         pub done : u.done ≡ join s.done front
@@ -106,7 +106,7 @@ module _ (opens : ℕ → Inclusion) (es : List Entity) (limit : ℕ) (text : Li
       begun : Begun s
       begun = record { front = Nil; done = sym (join-nil s.done); stack = refl; to = λ q c more p. p; all = λ c more p. p }
 
-      -- behind a part and what a reference opens
+      -- After a part and what a reference opens.
       begun_more : (u v : State) (b : Begun u) (q n j c : ℕ) (ss : List DataByte) (items : Forest Item) → Part (is_main k) src q u.at ss → IsReference src q n j → predefined (slice src (q + 1) n) ≡ None
           → (opens k).content (slice src (q + 1) n) u.openings_left items c → v.at ≡ j → v.openings_left ≡ c → v.stack ≡ u.stack → v.done ≡ join (join u.done (piece s.at stop false ss)) items → Begun v
       begun_more u v b q n j c ss items part ref none opened at openings_left stack done =
@@ -119,19 +119,19 @@ module _ (opens : ℕ → Inclusion) (es : List Entity) (limit : ℕ) (text : Li
             stack = stack ∙ b.stack;
             to = λ p e more p'.
                 subst (λ (f : Forest Item). PartsTo (is_main k) (opens k) src s.at stop s.at p s.openings_left e f) (whole more)
-                (b.to p e (join one (join items more)) (content.Parts.then_entity u.at q n j u.openings_left c e ss items more part ref none opened
+                (b.to p e (join one (join items more)) (content.Parts.then_entity u.at q j u.openings_left c e _ ss items more part (entity_reference n ref none) opened
                 (subst (λ (i : ℕ). PartsTo (is_main k) (opens k) src s.at stop i p c e more) at (subst (λ (l : ℕ). PartsTo (is_main k) (opens k) src s.at stop v.at p l e more) openings_left p'))));
             all = λ e more p'.
                 subst (λ (f : Forest Item). Parts (is_main k) (opens k) src s.at stop s.at s.openings_left e f) (whole more)
-                (b.all e (join one (join items more)) (content.Parts.then_entity u.at q n j u.openings_left c e ss items more part ref none opened
+                (b.all e (join one (join items more)) (content.Parts.then_entity u.at q j u.openings_left c e _ ss items more part (entity_reference n ref none) opened
                 (subst (λ (i : ℕ). Parts (is_main k) (opens k) src s.at stop i c e more) at (subst (λ (l : ℕ). Parts (is_main k) (opens k) src s.at stop v.at l e more) openings_left p'))));
           }
 
-      -- what is read in front is well named
+      -- What is read in front is well named.
       front_named : (u : State) (b : Begun u) → IsValidState most u → AreWellNamed (scope_of s.stack) b.front
       front_named u b fine' = named_last s.stack s.done b.front (subst (λ (o : Open). AreNamed o (join s.done b.front)) b.stack (subst (AreNamed u.stack) b.done fine'.named))
 
-      -- at the end of a part
+      -- At the end of a part.
       by_end : (u : State) (b : Begun u) (q : ℕ) (ss : List DataByte) (next : Next) → Part (is_main k) src q u.at ss → Ends es src stop q next → AreWellNamed (scope_of s.stack) (join b.front (piece s.at stop false ss))
           → AreFew s.stack (join s.done (join b.front (piece s.at stop false ss))) → limit < nodes_so_far s.stack (join s.done (join b.front (piece s.at stop false ss))) → P src fault.NodesLimitReached
       by_end u b q ss next part (ends_run _ same) named few many =
@@ -139,15 +139,27 @@ module _ (opens : ℕ → Inclusion) (es : List Entity) (limit : ℕ) (text : Li
           let last : Parts (is_main k) (opens k) src s.at stop u.at u.openings_left u.openings_left (piece s.at stop false ss) =
           subst (λ (p : Bool). Parts (is_main k) (opens k) src s.at stop u.at u.openings_left u.openings_left (piece s.at stop p ss)) marked
           (last_part u.at u.openings_left ss (subst (λ (q : ℕ). Part (is_main k) src q u.at ss) same part)) in
-          stand opens es limit text declared Front k open_around src s fault.NodesLimitReached place fits
+          stand opens es limit text declared PrologAt k open_around src s fault.NodesLimitReached place fits
           (too_many_nodes u.openings_left (place_of (state stop (join s.done items) s.stack u.openings_left)) (a_run stop s.openings_left u.openings_left items inner run (b.all u.openings_left (piece s.at stop false ss) last) named) (too_many_there limit s.stack (join s.done items) few many))
       by_end u b q ss next part (ends_entity _ n j t ref none to found) named few many =
           let moves = reference_opens src q n j ref in
-          stand opens es limit text declared Front k open_around src s fault.NodesLimitReached place fits
-          (too_many_pieces q j u.openings_left (join b.front (piece s.at stop false ss)) t inner
-          (stop, run, b.to q u.openings_left (piece s.at stop false ss) (last_part u.at u.openings_left ss part), omega (arith, moves.2), (n, ref, none, found)) named (too_many_there limit s.stack (join s.done (join b.front (piece s.at stop false ss))) few many))
+          stand opens es limit text declared PrologAt k open_around src s fault.NodesLimitReached place fits
+          (too_many_pieces
+          (record {
+            run_end = stop;
+            reference = q;
+            after = j;
+            openings_left = u.openings_left;
+            front = join b.front (piece s.at stop false ss);
+            replacement = t;
+            is_run = run;
+            is_front = b.to q u.openings_left (piece s.at stop false ss) (last_part u.at u.openings_left ss part);
+            within_run = omega (arith, moves.2);
+            refers = (slice src (q + 1) n, entity_reference n ref none, found);
+          })
+          inner named (too_many_there limit s.stack (join s.done (join b.front (piece s.at stop false ss))) few many))
 
-      -- a text that is one node too many
+      -- A text that is one node too many.
       piece_over : (u : State) (b : Begun u) (q : ℕ) (ss : List DataByte) (v : List ℕ) (next : Next) (f : Fault) → IsValidState most u → Part (is_main k) src q u.at ss → Ends es src stop q next → line_ends ss ≡ v
           → with_piece limit u s.at stop v ≡ Err f → P src f
       piece_over u b q ss v next f fine' part ends text bad =
@@ -165,7 +177,7 @@ module _ (opens : ℕ → Inclusion) (es : List Entity) (limit : ℕ) (text : Li
           subst (λ (o : Open). limit < nodes_so_far o (join s.done (join b.front (piece s.at stop false ss)))) b.stack (subst (λ (f : Forest Item). limit < nodes_so_far u.stack f) done many.0) in
           subst (P src) many.1 (by_end u b q ss next part ends named few over')
 
-      -- the parts behind an opened text
+      -- The parts after an opened text.
       after_fails : (u t : State) (b : Begun u) (q : ℕ) (ss : List DataByte) (next : Next) (more : State → Result State Refusal) (e : Refusal) → IsValidState most t → IsPiece u t s.at stop ss → Part (is_main k) src q u.at ss
           → u.at ≤ q → Ends es src stop q next → ((v : State) → Begun v → q < v.at → v.at ≤ stop → IsValidState most v → more v ≡ Err e → Refuses es P src e)
           → after_part (context_at limit es d k open_around) more stop t next ≡ Err e → Refuses es P src e
@@ -176,18 +188,31 @@ module _ (opens : ℕ → Inclusion) (es : List Entity) (limit : ℕ) (text : Li
           let one = piece s.at stop false ss in
           let t_done : t.done ≡ join s.done (join b.front one) = is.done ∙ ap (λ (f : Forest Item). join f one) b.done ∙ join_assoc s.done b.front one in
           let t_stack : t.stack ≡ s.stack = is.stack ∙ b.stack in
-          let refers : RefersTo es src q j r = (n, ref, none, found) in
+          let refers : RefersTo es src q j r = (name, entity_reference n ref none, found) in
           let to' : PartsTo (is_main k) (opens k) src s.at stop s.at q s.openings_left t.openings_left (join b.front one) =
           subst (λ (c : ℕ). PartsTo (is_main k) (opens k) src s.at stop s.at q s.openings_left c (join b.front one)) (sym is.openings_left) (b.to q u.openings_left one (last_part u.at u.openings_left ss part)) in
           let named : AreWellNamed (scope_of s.stack) (join b.front one) =
           named_last s.stack s.done (join b.front one) (subst (λ (o : Open). AreNamed o (join s.done (join b.front one))) t_stack (subst (AreNamed t.stack) t_done fine'.named)) in
           let below : q < stop = omega (arith, moves.2) in
+          let run_to : RunTo es (is_main k) (opens k) src s.at s.openings_left =
+          record {
+            run_end = stop;
+            reference = q;
+            after = j;
+            openings_left = t.openings_left;
+            front = join b.front one;
+            replacement = r;
+            is_run = run;
+            is_front = to';
+            within_run = below;
+            refers = refers;
+          } in
           bind_err (opener limit es d (is_main k) r j t) _ e h
-          (λ bad. opener_fails src j r name t e found fine' (λ spent. in_it (fault.EntityReferenceLoop j) (too_many q j t.openings_left (join b.front one) r (stop, run, to', below, refers) spent))
+          (λ bad. opener_fails src j r name t e found fine' (λ spent. in_it (fault.EntityReferenceLoop j) (too_many run_to spent))
           (λ l may.
-          subst (λ (o : Open). At opens es limit text declared Front (suc k) (depth_of o) r.source (state r.start t.done o l)) (sym t_stack)
-          (subst (λ (f : Forest Item). At opens es limit text declared Front (suc k) (depth_of s.stack) r.source (state r.start f s.stack l)) (sym t_done)
-          (enters k open_around s.openings_left t.openings_left l q j src (place_of s) (join b.front one) r place inner (stop, run, to', below, refers) named may))) bad)
+          subst (λ (o : Open). At opens es limit text declared PrologAt (suc k) (depth_of o) r.source (state r.start t.done o l)) (sym t_stack)
+          (subst (λ (f : Forest Item). At opens es limit text declared PrologAt (suc k) (depth_of s.stack) r.source (state r.start f s.stack l)) (sym t_done)
+          (enters k open_around s.openings_left l src (place_of s) run_to place inner named may))) bad)
           (λ v opened h.
           let o = agrees.sound most name r j t v less found fine' opened in
           let v_is = o.3 in
@@ -198,7 +223,7 @@ module _ (opens : ℕ → Inclusion) (es : List Entity) (limit : ℕ) (text : Li
           let content' : (opens k).content name u.openings_left o.0 o.1 = subst (λ (l : ℕ). (opens k).content name l o.0 o.1) is.openings_left o.2 in
           go v (begun_more u v b q n j o.1 ss o.0 part ref none content' v_at v_left v_stack v_done) (omega (arith, moves.2)) (omega arith) o.4 h)
 
-      -- a run with references or CR
+      -- A run with references or CR.
       parts_fail : (n : ℕ) (u : State) (e : Refusal) → Begun u → IsValidState most u → s.at ≤ u.at → u.at ≤ stop → stop ≤ u.at + n → data_parts (context_at limit es d k open_around) n src s.at stop u ≡ Err e → Refuses es P src e
       unfolding data_parts
       parts_fail zero u e b fine' from to enough h = no_fault _ e h
@@ -219,7 +244,7 @@ module _ (opens : ℕ → Inclusion) (es : List Entity) (limit : ℕ) (text : Li
           after_fails u t b part.0 signs x.1 (λ v. data_parts (context_at limit es d k open_around) n src s.at stop v) e added'.1 added'.0 part.1.1 le part.2
           (λ v b' past to' fine'' h. parts_fail n v e b' fine'' (omega arith) to' (omega arith) h) h))
 
-    -- the bytes of the run
+    -- The bytes of the run.
     raw_fails : (f : Fault) → IsCharBoundary src s.at → raw_character_data_at src s.at ≡ Err f → InRun es k (opens k) src s.at s.openings_left f
     unfolding raw_character_data_at
     raw_fails f cut h =
@@ -234,7 +259,7 @@ module _ (opens : ℕ → Inclusion) (es : List Entity) (limit : ℕ) (text : Li
         (λ marked h. let is : fault.InvalidCharacterData stop ≡ f = cc in subst (InRun es k (opens k) src s.at s.openings_left) is (end_mark stop refl c.0 (run_marked src s.at stop (sym (ap (has_mark (word_text word.CDataEnd)) text) ∙ marked))))
         (λ fine h. no_fault _ f h))
 
-    -- a run
+    -- A run.
     pub run_fails : (e : Refusal) → IsCharBoundary src s.at → character_data_step (context_at limit es d k open_around) src s ≡ Err e → Refuses es P src e
     unfolding character_data_step
     run_fails e cut h =
@@ -250,7 +275,7 @@ module _ (opens : ℕ → Inclusion) (es : List Entity) (limit : ℕ) (text : Li
         subst (λ (v : List ℕ). Parts (is_main k) (opens k) src s.at x.1 s.at s.openings_left s.openings_left (leaf (Text s.at x.1 v true))) (sym raw.1)
         (plain_part (context_at limit es d k open_around) (opens k) agrees src utf8 s.at x.1 s.openings_left raw.0 plain') in
         lifted_only (with_item limit s x.1 item) e h
-        (λ f bad is. refuses_here es P src f e is (over opens es limit text declared Front k open_around src s (with_leaf s x.1 item) f place fits (a_run x.1 s.openings_left s.openings_left (leaf item) inner raw.0 parts (tt, tt, tt)) (plain_few limit s item refl refl fits) bad)))
+        (λ f bad is. refuses_here es P src f e is (over opens es limit text declared PrologAt k open_around src s (with_leaf s x.1 item) f place fits (a_run x.1 s.openings_left s.openings_left (leaf item) inner raw.0 parts (tt, tt, tt)) (plain_few limit s item refl refl fits) bad)))
         (λ marked h.
         let marked' : is_verbatim (slice src s.at x.1) ≡ false = rw (raw.1) at marked in
         let inside = run_inside src s.at x.1 raw.0 in

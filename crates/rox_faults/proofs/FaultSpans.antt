@@ -46,22 +46,22 @@ use Rattle.rox_theory.proofs.Around.{bom_cut, prolog_sound, prolog_cut, misc_sou
 use Rattle.rox_faults.proofs.TagSpans.{byte_well, quote_well, qname_well, tag_told}
 use Rattle.rox_faults.proofs.ValueSpans.{Spanned, FaultSpanned, spanned_bind, spanned_cond, spanned_by, chars_spans, IsTold, Told, told_bind, told_cond, told_lifted, told_after, told_elsewhere, told_refusal, NextIsSource, run_part_spans, value_told, budget_spans, value_opener_told}
 
--- the elements that are open above these, and whose names are texts of the source
+-- The elements that are open above these, and whose names are texts of the source.
 pub data Rests (src : List ℕ) (bottom : Open) : Open → Type 0 where
   rests : Rests src bottom bottom
   above : (start : ℕ) (tag : Tag) (before : Forest Item) (up : Open) → IsTextSpan src (name_span tag.name (start + 1) tag.name_end) → Rests src bottom up → Rests src bottom (inside start tag before up)
 
--- there are at least these
+-- There are at least these.
 rests_le : (src : List ℕ) (bottom stack : Open) → Rests src bottom stack → depth_of bottom ≤ depth_of stack
 rests_le src bottom stack rests = omega arith
 rests_le src bottom stack (above start tag before up text more) = let le = rests_le src bottom up more in omega arith
 
--- and no more where as many are open
+-- And no more where as many are open.
 rests_same : (src : List ℕ) (bottom stack : Open) → Rests src bottom stack → depth_of stack ≡ depth_of bottom → stack ≡ bottom
 rests_same src bottom stack rests same = refl
 rests_same src bottom stack (above start tag before up text more) same = let le = rests_le src bottom up more in absurd (omega arith)
 
--- what does not fail holds
+-- What does not fail holds.
 not_fails : (b : Bool) → not b ≡ false → b ≡ true
 not_fails true h = refl
 not_fails false h = sym h
@@ -69,25 +69,25 @@ not_fails false h = sym h
 -- ---- small steps, whose faults have no names
 
 module _ (src : List ℕ) where
-  -- a byte
+  -- A byte.
   byte_spans : (b i : ℕ) → FaultSpanned src (byte_at b src i)
   byte_spans b i = spanned_by src _ (byte_at b src i) (byte_well b src i) (λ x h. tt)
 
-  -- a quote
+  -- A quote.
   quote_spans : (i : ℕ) → FaultSpanned src (quote_at src i)
   quote_spans i = spanned_by src _ (quote_at src i) (quote_well src i) (λ x h. tt)
 
-  -- a name
+  -- A name.
   name_spans : (i : ℕ) → FaultSpanned src (name_at src i)
   unfolding name_at
   name_spans i = spanned_cond src _ (begins is_name_start src i) _ _ (λ h. record { holds = tt }) (λ h. record { holds = tt })
 
-  -- a fixed text
+  -- A fixed text.
   string_spans : (w : Expected) (i : ℕ) → FaultSpanned src (string_at w src i)
   unfolding string_at
   string_spans w i = spanned_cond src _ (stands (expected_text w) src i) _ _ (λ h. record { holds = tt }) (λ h. record { holds = tt })
 
-  -- the text up to a mark
+  -- The text up to a mark.
   text_spans : (w : Expected) (i : ℕ) → FaultSpanned src (text_to w src i)
   unfolding text_to
   text_spans w i =
@@ -95,18 +95,18 @@ module _ (src : List ℕ) where
       spanned_bind src (λ (x : List ℕ × ℕ). Unit {0}) _ (chars_up_to e src i) _ (chars_spans src e i) (λ text read h.
       spanned_bind src (λ (x : Unit {0} × ℕ). Unit {0}) _ (string_at w src text.1) _ (string_spans w text.1) (λ end read h. record { holds = tt }))
 
-  -- a qualified name
+  -- A qualified name.
   qname_faults : (i : ℕ) → FaultSpanned src (qname_at src i)
   qname_faults i = spanned_by src _ (qname_at src i) (qname_well src i) (λ x h. tt)
 
-  -- a comment
+  -- A comment.
   comment_spans : (i : ℕ) → FaultSpanned src (comment_at src i)
   unfolding comment_at
   comment_spans i =
       spanned_bind src (λ (x : List ℕ × ℕ). Unit {0}) _ (text_to expected.CommentEnd src (i + 4)) _ (text_spans expected.CommentEnd (i + 4)) (λ text read h.
       spanned_cond src _ (has_mark double_dash text.0 || slice_index text.0 (length text.0 - 1) == 45) _ _ (λ h. record { holds = tt }) (λ h. record { holds = tt }))
 
-  -- a processing instruction
+  -- A processing instruction.
   instruction_spans : (i : ℕ) → FaultSpanned src (instruction_at src i)
   unfolding instruction_at
   instruction_spans i =
@@ -115,12 +115,12 @@ module _ (src : List ℕ) where
       spanned_bind src (λ (x : List ℕ × ℕ). Unit {0}) _ (text_to expected.PIEnd src (spaces_end src target.1)) _ (text_spans expected.PIEnd (spaces_end src target.1))
       (λ value read h. record { holds = tt })))
 
-  -- a CDATA section
+  -- A CDATA section.
   cdata_spans : (i : ℕ) → FaultSpanned src (cdata_at src i)
   unfolding cdata_at
   cdata_spans i = text_spans expected.CDataEnd (i + 9)
 
-  -- a name and a value of the declaration
+  -- A name and a value of the declaration.
   pair_spans : (i : ℕ) → FaultSpanned src (pair_at src i)
   unfolding pair_at
   pair_spans i =
@@ -131,7 +131,7 @@ module _ (src : List ℕ) where
       spanned_bind src (λ (x : List ℕ × ℕ). Unit {0}) _ (chars_up_to e src quote.1) _ (chars_spans src e quote.1) (λ value read h.
       byte_spans quote.0 value.1))))
 
-  -- a gap behind it
+  -- A gap after it.
   gap_spans : (i : ℕ) → FaultSpanned src (gap_at src i)
   unfolding gap_at
   gap_spans i =
@@ -139,7 +139,7 @@ module _ (src : List ℕ) where
       (λ h. spanned_cond src _ (is_space (byte src i)) _ _ (λ h. record { holds = tt })
       (λ h. spanned_cond src _ (stands (word_text word.PIEnd) src i) _ _ (λ h. record { holds = tt }) (λ h. record { holds = tt })))
 
-  -- both, or none
+  -- Both, or none.
   pair_if_spans : (w : Word) (i : ℕ) → FaultSpanned src (pair_if w src i)
   unfolding pair_if
   pair_if_spans w i =
@@ -147,11 +147,11 @@ module _ (src : List ℕ) where
       (λ h. spanned_bind src (λ (x : Unit {0} × ℕ). Unit {0}) _ (pair_at src i) _ (pair_spans i) (λ x read h. gap_spans x.1))
       (λ h. record { holds = tt })
 
-  -- the last pair, or none
+  -- The last pair, or none.
   last_spans : (i : ℕ) → FaultSpanned src (cond (stands (word_text word.Standalone) src i) (pair_at src i) (Ok (tt, i)))
   last_spans i = spanned_cond src _ (stands (word_text word.Standalone) src i) _ _ (λ h. pair_spans i) (λ h. record { holds = tt })
 
-  -- the declaration
+  -- The declaration.
   declaration_spans : (i : ℕ) → FaultSpanned src (xml_decl_at src i)
   unfolding xml_decl_at
   declaration_spans i =
@@ -163,7 +163,7 @@ module _ (src : List ℕ) where
       string_spans expected.PIEnd (spaces_end src standalone.1)))))
       (λ h. record { holds = tt })
 
-  -- the declaration, if it stands here
+  -- The declaration, if it is here.
   prolog_spans : (i : ℕ) → FaultSpanned src (prolog src i)
   unfolding prolog
   prolog_spans i =
@@ -171,7 +171,7 @@ module _ (src : List ℕ) where
       (λ h. spanned_bind src (λ (x : Unit {0} × ℕ). Unit {0}) _ (xml_decl_at src i) _ (declaration_spans i) (λ x read h. record { holds = tt }))
       (λ h. record { holds = tt })
 
-  -- the end of the text
+  -- The end of the text.
   finished_spans : (x : State × Bool) → FaultSpanned src (finished src x)
   unfolding finished
   finished_spans (s, some) =
@@ -179,13 +179,13 @@ module _ (src : List ℕ) where
 
   -- ---- the document type declaration
 
-  -- white space
+  -- White space.
   space_spans : (i : ℕ) → FaultSpanned src (space_at src i)
   unfolding space_at
   space_spans i =
       spanned_cond src _ (leb (length src) i) _ _ (λ h. record { holds = tt }) (λ h. spanned_cond src _ (is_space (byte src i)) _ _ (λ h. record { holds = tt }) (λ h. record { holds = tt }))
 
-  -- a literal
+  -- A literal.
   quoted_spans : (i : ℕ) → FaultSpanned src (quoted_at src i)
   unfolding quoted_at
   quoted_spans i =
@@ -207,7 +207,7 @@ module _ (src : List ℕ) where
       spanned_bind src (λ (x : Unit {0} × ℕ). Unit {0}) _ (space_at src id.1) _ (space_spans id.1) (λ s read h.
       spanned_bind src (λ (x : List ℕ × ℕ). Unit {0}) _ (quoted_at src s.1) _ (quoted_spans s.1) (λ uri read h. record { holds = tt }))))
 
-  -- an external id
+  -- An external id.
   external_id_spans : (i : ℕ) → FaultSpanned src (external_id_at src i)
   unfolding external_id_at
   external_id_spans i =
@@ -217,7 +217,7 @@ module _ (src : List ℕ) where
   unfolding name_or_end_at
   name_or_end_spans i = spanned_cond src _ (leb (length src) i) _ _ (λ h. record { holds = tt }) (λ h. name_spans i)
 
-  -- a notation
+  -- A notation.
   notation_spans : (parameter : Bool) (i : ℕ) → FaultSpanned src (notation_at parameter src i)
   unfolding notation_at
   notation_spans parameter i =
@@ -227,7 +227,7 @@ module _ (src : List ℕ) where
       spanned_bind src (λ (x : List ℕ × ℕ). Unit {0}) _ (name_or_end_at src s.1) _ (name_or_end_spans s.1) (λ name read h. record { holds = tt })))
       (λ h. record { holds = tt }))
 
-  -- what an entity is declared as
+  -- What an entity is declared as.
   definition_spans : (parameter : Bool) (i : ℕ) → FaultSpanned src (definition_at parameter src i)
   unfolding definition_at
   definition_spans parameter i =
@@ -261,7 +261,7 @@ module _ (src : List ℕ) where
       (λ h. spanned_bind src (λ (x : Request × ℕ). Unit {0}) _ (external_id_at src i) _ (external_id_spans i) (λ x read h. record { holds = tt }))
       (λ h. record { holds = tt })
 
-  -- from `<!DOCTYPE`, up to `[` or `>`
+  -- From `<!DOCTYPE`, up to `[` or `>`.
   doctype_head_spans : (i : ℕ) → FaultSpanned src (doctype_head_at src i)
   unfolding doctype_head_at
   doctype_head_spans i =
@@ -272,39 +272,39 @@ module _ (src : List ℕ) where
 -- ---- states
 
 module _ (src : List ℕ) (bottom : Open) where
-  -- the names of the elements that are open in a state above these are texts of the source
+  -- The names of the elements that are open in a state above these are texts of the source.
   abbrev pub StateNamed : State → Type 0
   StateNamed s = Rests src bottom s.stack
 
-  -- a state within the limit
+  -- A state within the limit.
   counted_spans : (limit : ℕ) (s : State) → StateNamed s → Spanned State src StateNamed (counted limit s)
   counted_spans limit s named = spanned_cond src _ (nat_le (nodes_so_far s.stack s.done) limit) _ _ (λ h. record { holds = named }) (λ h. record { holds = tt })
 
-  -- one more item
+  -- One more item.
   item_spans : (limit : ℕ) (s : State) (j : ℕ) (item : Item) → StateNamed s → Spanned State src StateNamed (with_item limit s j item)
   item_spans limit s j item named = counted_spans limit (state j (join s.done (leaf item)) s.stack s.openings_left) named
 
-  -- a comment
+  -- A comment.
   comment_step_spans : (limit : ℕ) (s : State) → StateNamed s → Spanned State src StateNamed (comment_step limit src s)
   unfolding comment_step
   comment_step_spans limit s named =
       spanned_bind src (λ (x : List ℕ × ℕ). Unit {0}) _ (comment_at src s.at) _ (comment_spans src s.at) (λ x read h. item_spans limit s x.1 (Comment s.at x.1 x.0) named)
 
-  -- a processing instruction
+  -- A processing instruction.
   instruction_step_spans : (limit : ℕ) (s : State) → StateNamed s → Spanned State src StateNamed (instruction_step limit src s)
   unfolding instruction_step
   instruction_step_spans limit s named =
       spanned_bind src (λ (x : Instruction × ℕ). Unit {0}) _ (instruction_at src s.at) _ (instruction_spans src s.at) (λ x read h.
       item_spans limit s x.1 (PI s.at x.1 x.0.target x.0.value) named)
 
-  -- a CDATA section
+  -- A CDATA section.
   cdata_step_spans : (limit : ℕ) (s : State) → StateNamed s → Spanned State src StateNamed (cdata_step limit src s)
   unfolding cdata_step
   cdata_step_spans limit s named =
       spanned_bind src (λ (x : List ℕ × ℕ). Unit {0}) _ (cdata_at src s.at) _ (cdata_spans src s.at) (λ x read h.
       item_spans limit s x.1 (Text s.at x.1 (line_ends (literals x.0)) (not (list_any (λ b. b == 13) x.0))) named)
 
-  -- comments, processing instructions and white space
+  -- Comments, processing instructions and white space.
   misc_spans : (n limit : ℕ) (s : State) → StateNamed s → Spanned State src StateNamed (misc limit n src s)
   unfolding misc
   misc_spans zero limit s named = record { holds = named }
@@ -316,19 +316,19 @@ module _ (src : List ℕ) (bottom : Open) where
       (λ h. spanned_bind src StateNamed _ (instruction_step limit src t) _ (instruction_step_spans limit t named) (λ u read more. misc_spans n limit u more))
       (λ h. record { holds = named }))
 
-  -- a tag that is cut off
+  -- A tag that is cut off.
   cut_off_spans : (main : Bool) (stack : Open) → NamesText src (cut_off_fault main stack)
   cut_off_spans true root = tt
   cut_off_spans true (inside start tag before up) = tt
   cut_off_spans false stack = tt
 
-  -- behind a start tag with a name
+  -- After a start tag with a name.
   opened_spans : (limit : ℕ) (s : State) (tag : Tag) (empty : Bool) (openings_left j : ℕ) → IsTextSpan src (name_span tag.name (s.at + 1) tag.name_end) → StateNamed s
       → Spanned State src StateNamed (opened_by limit s tag empty openings_left j)
   opened_spans limit s tag true openings_left j name named = item_spans limit (state s.at s.done s.stack openings_left) j (Element s.at j tag) named
   opened_spans limit s tag false openings_left j name named = counted_spans limit (state j Nil (inside s.at tag s.done s.stack) openings_left) (above s.at tag s.done s.stack name named)
 
-  -- behind an end tag with a name, where an element is open above these
+  -- After an end tag with a name, where an element is open above these.
   closed_spans : (i : ℕ) (name : Name) (n j : ℕ) (done : Forest Item) (stack : Open) (openings_left : ℕ) → IsTextSpan src (name_span name (i + 2) n) → depth_of bottom < depth_of stack → Rests src bottom stack
       → Spanned State src StateNamed (closed_by i name n j done stack openings_left)
   unfolding closed_by
@@ -336,12 +336,12 @@ module _ (src : List ℕ) (bottom : Open) where
   closed_spans i name n j done stack openings_left actual deep (above start tag before up text more) =
       spanned_cond src _ (same_qname tag.name name) _ _ (λ h. record { holds = more }) (λ h. record { holds = (text, actual) })
 
-  -- the piece of a part
+  -- The piece of a part.
   piece_spans : (limit : ℕ) (s : State) (i j : ℕ) (bs : List ℕ) → StateNamed s → Spanned State src StateNamed (with_piece limit s i j bs)
   piece_spans limit s i j [] named = record { holds = named }
   piece_spans limit s i j (b ∷ bs) named = item_spans limit s j (Text i j (b ∷ bs) false) named
 
-  -- the bytes of a run
+  -- The bytes of a run.
   raw_spans : (i : ℕ) → FaultSpanned src (raw_character_data_at src i)
   unfolding raw_character_data_at
   raw_spans i =
@@ -349,20 +349,20 @@ module _ (src : List ℕ) (bottom : Open) where
       spanned_bind src (λ (x : List ℕ × ℕ). Unit {0}) _ (chars_up_to end src i) _ (chars_spans src end i) (λ raw read h.
       spanned_cond src _ (has_mark (word_text word.CDataEnd) raw.0) _ _ (λ h. record { holds = tt }) (λ h. record { holds = tt }))
 
-  -- the refusals of what a reference opens are told, and it leaves the open elements as they are
+  -- The refusals of what a reference opens are told, and it leaves the open elements as they are.
   abbrev pub ContentTold : (Replacement → ℕ → State → Result State Refusal) → Type 0
   ContentTold opener = (t : Replacement) (after : ℕ) (s : State) → IsUtf8 t.source → Told State src (λ (u : State). u.stack ≡ s.stack) (opener t after s)
 
   module _ (utf8 : IsUtf8 src) (context : Context) (texts : AreTexts context.values.entities) (open_around : context.open_around ≡ depth_of bottom)
       (values : (i stop openings_left : ℕ) → Told (ReadText × ℕ) src (λ x. Unit {0}) (value_at context.values.main context.values.entities context.values.opener src i stop openings_left)) (opens : ContentTold context.opener) where
-    -- behind a part
+    -- After a part.
     after_part_told : (more : State → Result State Refusal) → ((u : State) → StateNamed u → Told State src StateNamed (more u)) → (stop : ℕ) (s : State) (next : Next) → StateNamed s → NextIsSource src utf8 next
         → Told State src StateNamed (after_part context more stop s next)
     after_part_told more rest stop s at_end named is = record { tells = named }
     after_part_told more rest stop s (opening t j) named is =
         told_bind src (λ (u : State). u.stack ≡ s.stack) _ (context.opener t j s) _ (opens t j s is) (λ u read same. rest u (subst (Rests src bottom) (sym same) named))
 
-    -- the parts of a run
+    -- The parts of a run.
     run_parts_told : (n start stop : ℕ) (s : State) → StateNamed s → Told State src StateNamed (data_parts context n src start stop s)
     unfolding data_parts
     run_parts_told zero start stop s named = record { tells = named }
@@ -372,7 +372,7 @@ module _ (src : List ℕ) (bottom : Open) where
         told_after src StateNamed _ (with_piece context.limit s start stop (part_text context.values.main x.0)) _ (piece_spans context.limit s start stop (part_text context.values.main x.0) named) (λ t added named'.
         after_part_told (λ u. data_parts context n src start stop u) (λ u more. run_parts_told n start stop u more) stop t x.1 named' is))
 
-    -- a run
+    -- A run.
     run_step_told : (s : State) → StateNamed s → Told State src StateNamed (character_data_step context src s)
     unfolding character_data_step
     run_step_told s named =
@@ -381,19 +381,19 @@ module _ (src : List ℕ) (bottom : Open) where
         (λ h. told_lifted src StateNamed (with_item context.limit s x.1 (Text s.at x.1 x.0 true)) (item_spans context.limit s x.1 (Text s.at x.1 x.0 true) named))
         (λ h. run_parts_told (length src) s.at x.1 s named))
 
-    -- a qualified name, written with its colon or without
+    -- A qualified name, written with its colon or without.
     written_spans : (i : ℕ) (name : Name) (n : ℕ) → IsCharBoundary src i → qname_at src i ≡ Ok (name, n) → IsTextSpan src (name_span name i n)
     written_spans i name n cut read =
         let spans = qname_spans src i name n utf8 cut read in
         cond_both (bytes_eq name.prefix []) (local_span name n) (record { start = i; end = n }) (IsTextSpan src) (λ h. spans.1) (λ h. spans.2)
 
-    -- a character begins behind `</`
+    -- A character begins after `</`.
     end_cut : (i : ℕ) → byte src (i + 1) ≡ 47 → IsCharBoundary src (i + 2)
     end_cut i slash =
         let e : i + 1 + 1 ≡ i + 2 = omega arith in
         subst (IsCharBoundary src) e (IsCharBoundary-after_ascii src (i + 1) utf8 (within src (i + 1) (λ z. omega arith)) (omega arith))
 
-    -- an end tag has a name of the source
+    -- An end tag has a name of the source.
     end_tag_spans : (i : ℕ) → byte src (i + 1) ≡ 47 → Spanned (EndTag × ℕ) src (λ x. IsTextSpan src (name_span x.0.name (i + 2) x.0.name_end)) (end_tag_at src i)
     unfolding end_tag_at
     end_tag_spans i slash =
@@ -401,7 +401,7 @@ module _ (src : List ℕ) (bottom : Open) where
         spanned_bind src (λ (x : Unit {0} × ℕ). Unit {0}) _ (byte_at 62 src (spaces_end src name.1)) _ (byte_spans src 62 (spaces_end src name.1)) (λ end closes h.
         record { holds = written_spans (i + 2) name.0 name.1 (end_cut i slash) read }))
 
-    -- an end tag
+    -- An end tag.
     end_step_spans : (s : State) → byte src (s.at + 1) ≡ 47 → StateNamed s → Spanned State src StateNamed (end_step context src s)
     unfolding end_step
     end_step_spans s slash named =
@@ -409,7 +409,7 @@ module _ (src : List ℕ) (bottom : Open) where
         spanned_cond src _ (nat_le (depth_of s.stack) context.open_around) _ _ (λ h. record { holds = tt })
         (λ deep. closed_spans s.at x.0.name x.0.name_end x.1 s.done s.stack s.openings_left actual (omega (arith, leb-false _ _ deep)) named))
 
-    -- a start tag
+    -- A start tag.
     tag_step_told : (s : State) → byte src s.at ≡ 60 → StateNamed s → Told State src StateNamed (tag_step context src s)
     unfolding tag_step
     tag_step_told s opens' named =
@@ -420,7 +420,7 @@ module _ (src : List ℕ) (bottom : Open) where
         (tag_told context.values src utf8 values cut (scope_of s.stack) (attributes_so_far s.stack s.done) known s.at s.openings_left opens' (cut_off_spans context.values.main s.stack))
         (λ x read name. told_lifted src StateNamed (opened_by context.limit s x.0.tag x.0.empty x.0.openings_left x.1) (opened_spans context.limit s x.0.tag x.0.empty x.0.openings_left x.1 name named))
 
-    -- one construct of content
+    -- One construct of content.
     step_told : (s : State) → StateNamed s → Told State src StateNamed (step context src s)
     unfolding step
     step_told s named =
@@ -433,7 +433,7 @@ module _ (src : List ℕ) (bottom : Open) where
         (λ h. told_cond src _ (byte src (s.at + 1) == 47) _ _ (λ slash. told_lifted src StateNamed (end_step context src s) (end_step_spans s (eqb-true _ _ slash) named))
         (λ h. tag_step_told s (eqb-true _ _ (not_fails _ opens')) named)))))
 
-    -- content up to the end tag of the root element
+    -- Content up to the end tag of the root element.
     drive_told : (n : ℕ) (s : State) → StateNamed s → Told State src StateNamed (drive context n src s)
     unfolding drive
     drive_told zero s named = told_cond src _ (is_root s.stack) _ _ (λ h. record { tells = named }) (λ h. record { tells = tt })
@@ -443,12 +443,12 @@ module _ (src : List ℕ) (bottom : Open) where
         (λ h. told_bind src StateNamed _ (step context src s) _ (step_told s named) (λ t read more. drive_told n t more))
         (λ h. record { tells = tt }))
 
-    -- a replacement text ends where as many elements are open as before it
+    -- A replacement text ends where as many elements are open as before it.
     ends_told : (s : State) → StateNamed s → Told State src (λ (u : State). u.stack ≡ bottom) (text_ends context s)
     ends_told s named =
         told_cond src _ (eqb (depth_of s.stack) context.open_around) _ _ (λ same. record { tells = rests_same src bottom s.stack named (eqb-true _ _ same ∙ open_around) }) (λ h. record { tells = tt })
 
-    -- content of a replacement text up to its end
+    -- Content of a replacement text up to its end.
     drive_text_told : (n : ℕ) (s : State) → StateNamed s → Told State src (λ (u : State). u.stack ≡ bottom) (drive_text context n src s)
     unfolding drive_text
     drive_text_told zero s named = ends_told s named
@@ -457,7 +457,7 @@ module _ (src : List ℕ) (bottom : Open) where
         (λ h. told_bind src StateNamed _ (step context src s) _ (step_told s named) (λ t read more. drive_text_told n t more))
         (λ h. ends_told s named)
 
--- what a reference opens in content, by how many may still be open
+-- What a reference opens in content, by how many may still be open.
 opener_told : (limit : ℕ) (es : List Entity) → AreTexts es → (d : ℕ) (main : Bool) (src : List ℕ) (t : Replacement) (after : ℕ) (s : State) → IsUtf8 t.source
     → Told State src (λ (u : State). u.stack ≡ s.stack) (opener limit es d main t after s)
 unfolding opener
@@ -476,28 +476,28 @@ opener_told limit es texts (suc d) main src t after s utf8 =
 
 -- ---- whole texts
 
--- of what is asked and what comes of it
+-- Of what is asked and what comes of it.
 told_asks : {A B : Type 0} (src : List ℕ) (P : A → Type 0) (Q : B → Type 0) (r : Asks A) (f : A → Asks B) → Told A src P r.1 → ((x : A) → r.1 ≡ Ok x → P x → Told B src Q (f x).1) → Told B src Q (r >>> f).1
 told_asks src P Q (asked, Ok x) f h go = go x refl h.tells
 told_asks src P Q (asked, Err e) f h go = record { tells = h.tells }
 
--- and of a choice
+-- And of a choice.
 asks_cond : {A : Type 0} (src : List ℕ) (P : A → Type 0) (b : Bool) (x y : Asks A) → (b ≡ true → Told A src P x.1) → (b ≡ false → Told A src P y.1) → Told A src P (cond b x y).1
 asks_cond src P true x y holds fails = holds refl
 asks_cond src P false x y holds fails = fails refl
 
--- what opens nothing
+-- What opens nothing.
 asks_lifted : {A B : Type 0} (src : List ℕ) (P : A → Type 0) (Q : B → Type 0) (r : Result A Fault) (f : A → Asks B) → Spanned A src P r → ((x : A) → r ≡ Ok x → P x → Told B src Q (f x).1)
     → Told B src Q (asks_nothing (lifted r) >>> f).1
 asks_lifted src P Q (Ok x) f h go = go x refl h.holds
 asks_lifted src P Q (Err e) f h go = record { tells = h.holds }
 
 module _ (src : List ℕ) where
-  -- no element is open
+  -- No element is open.
   abbrev AtTop : Dtd → Type 0
   AtTop d = Rests src root d.state.stack
 
-  -- an answer
+  -- An answer.
   answer_told : (answer : Option (List ℕ)) → Told (Option Replacement) src (λ x. Unit {0}) (answer_text answer)
   unfolding answer_text
   answer_told None = record { tells = tt }
@@ -515,7 +515,7 @@ module _ (src : List ℕ) where
   defined_told (outer request) p replies =
       told_asks src (λ (x : Option Replacement). Unit {0}) _ (replied request p (next_reply replies)) _ (replied_told request p (next_reply replies)) (λ t read h. record { tells = tt })
 
-  -- an entity
+  -- An entity.
   entity_told : (d : Dtd) → AtTop d → Told Dtd src AtTop (entity_step src d).1
   unfolding entity_step
   entity_told d top =
@@ -534,7 +534,7 @@ module _ (src : List ℕ) where
       let e = spaces_end src (d.state.at + 1) in
       asks_cond src _ (leb (length src) e) _ _ (λ h. record { tells = tt }) (λ h. asks_cond src _ (byte src e == 62) _ _ (λ h. record { tells = top }) (λ h. record { tells = tt }))
 
-  -- the items
+  -- The items.
   subset_told : (n limit i : ℕ) (d : Dtd) → AtTop d → Told Dtd src AtTop (subset limit i n src d).1
   unfolding subset
   subset_told zero limit i d top = record { tells = top }
@@ -560,7 +560,7 @@ module _ (src : List ℕ) where
       (λ h. asks_cond src _ (byte src head.1 == 62) _ _ (λ h. record { tells = top })
       (λ h. asks_cond src _ (byte src head.1 == 91) _ _ (λ h. subset_told (length src) limit d.state.at (with_state d (at_place (head.1 + 1) d.state)) top) (λ h. record { tells = tt }))))
 
-  -- the document type declaration, and what follows it
+  -- The document type declaration, and what follows it.
   doctype_told : (limit : ℕ) (allow : Bool) (d : Dtd) → AtTop d → Told Dtd src AtTop (doctype limit allow src d).1
   unfolding doctype
   doctype_told limit allow d top =
@@ -572,7 +572,7 @@ module _ (src : List ℕ) where
       (λ h. record { tells = top })
 
   module _ (utf8 : IsUtf8 src) where
-    -- the root element and what follows it
+    -- The root element and what follows it.
     body_told : (limit : ℕ) (es : List Entity) (s : State) → (byte src s.at ≡ 60 → AreTexts es) → Rests src root s.stack → Told (State × Bool) src (λ x. Unit {0}) (body limit es src s)
     unfolding body
     body_told limit es s entities named =
@@ -591,7 +591,7 @@ module _ (src : List ℕ) where
         told_after src Named _ (misc limit (length src) src u) _ (misc_spans src root (length src) limit u more) (λ v read h. record { tells = tt }))))
         (λ h. record { tells = tt })
 
-    -- a whole text, if the entities of a document type declaration that is read are text
+    -- A whole text, if the entities of a document type declaration that is read are text.
     whole_told : (limit : ℕ) (allow : Bool) (replies : List Reply)
         → ((i : ℕ) (s : State) (d : Dtd) → prolog src (after_bom src) ≡ Ok i → misc limit (length src) src (state i Nil root 255) ≡ Ok s
         → (doctype limit allow src (record { state = s; entities = []; replies = replies })).1 ≡ Ok d → byte src d.state.at ≡ 60 → AreTexts d.entities)
@@ -605,12 +605,12 @@ module _ (src : List ℕ) where
         told_asks src (λ (x : State × Bool). Unit {0}) _ (asks_nothing (body limit d.entities src d.state)) _ (body_told limit d.entities d.state (entities i s d declared first passed) top') (λ x read h.
         told_lifted src (λ (t : Forest Item). Unit {0}) (finished src x) (finished_spans src x)))))
 
-    -- its entities are text where the replies are
+    -- Its entities are text where the replies are.
     pub reading_told : (limit : ℕ) (allow : Bool) (replies : List Reply) (asked : List Asked) (e : Refusal) → AreTextReplies replies → reading limit allow replies src ≡ (asked, Err e) → IsTold src e
     reading_told limit allow replies asked e texts h =
         told_refusal src (λ (t : Forest Item). Unit {0}) (reading limit allow replies src).1 e (whole_told limit allow replies entities) (ap (λ (x : Asks (Forest Item)). x.1) h)
       where
-        -- those that are read
+        -- Those that are read.
         entities : (i : ℕ) (s : State) (d : Dtd) → prolog src (after_bom src) ≡ Ok i → misc limit (length src) src (state i Nil root 255) ≡ Ok s
             → (doctype limit allow src (record { state = s; entities = []; replies = replies })).1 ≡ Ok d → byte src d.state.at ≡ 60 → AreTexts d.entities
         entities i s d declared first passed opens =
@@ -628,7 +628,7 @@ module _ (src : List ℕ) where
             let dtd = doctypes.sound limit most s.at m.0 replies asked' d (omega arith) texts fine whole (within src d.state.at (λ z. omega arith)) in
             doctypes.texts s.at d.state.at dtd.0 dtd.1 asked' d.entities dtd.2 dtd.3
 
-    -- where none may stand nothing is declared, whatever the replies
+    -- Where none is allowed nothing is declared, whatever the replies.
     pub plain_told : (limit : ℕ) (replies : List Reply) (asked : List Asked) (e : Refusal) → reading limit false replies src ≡ (asked, Err e) → IsTold src e
     plain_told limit replies asked e h =
         told_refusal src (λ (t : Forest Item). Unit {0}) (reading limit false replies src).1 e
@@ -638,14 +638,14 @@ module _ (src : List ℕ) where
         subst AreTexts same (λ name t found. cc found)))
         (ap (λ (x : Asks (Forest Item)). x.1) h)
 
--- the names in the refusal of a text that may have no document type declaration are texts of it
+-- The names in the refusal of a text that may have no document type declaration are texts of it.
 pub plain_names : (limit : ℕ) (replies : List Reply) (src : List ℕ) (asked : List Asked) (f : Fault) → IsUtf8 src → reading limit false replies src ≡ (asked, Err (here f)) → NamesText src f
 plain_names limit replies src asked f utf8 h = plain_told src utf8 limit replies asked (here f) h
 
--- those of a text whose replies are text: of the text itself
+-- Those of a text whose replies are text: of the text itself.
 pub names_here : (limit : ℕ) (allow : Bool) (replies : List Reply) (src : List ℕ) (asked : List Asked) (f : Fault) → IsUtf8 src → AreTextReplies replies → reading limit allow replies src ≡ (asked, Err (here f)) → NamesText src f
 names_here limit allow replies src asked f utf8 texts h = reading_told src utf8 limit allow replies asked (here f) texts h
 
--- and of a replacement text or an answer
+-- And of a replacement text or an answer.
 pub names_there : (limit : ℕ) (allow : Bool) (replies : List Reply) (src source : List ℕ) (asked : List Asked) (f : Fault) → IsUtf8 src → AreTextReplies replies → reading limit allow replies src ≡ (asked, Err (there source f)) → NamesText source f
 names_there limit allow replies src source asked f utf8 texts h = reading_told src utf8 limit allow replies asked (there source f) texts h

@@ -56,18 +56,18 @@ use Rattle.rox_faults.proofs.FaultDeclared.{head_fails, definition_fails, doctyp
 
 -- ---- one after the other
 
--- what asks nothing
+-- What asks nothing.
 pub nothing_by : {A B : Type 0} (P : Asks B → Type 0) (r : Result A Fault) (g : A → Asks B) → ((x : A) → r ≡ Ok x → P (g x)) → ((f : Fault) → r ≡ Err f → P ([], Err (here f))) → P (asks_nothing (lifted r) >>> g)
 nothing_by P (Ok x) g good bad = good x refl
 nothing_by P (Err f) g good bad = bad f refl
 
--- and what asks
+-- And what asks.
 pub asks_by : {A B : Type 0} (P : Asks B → Type 0) (r : Asks A) (g : A → Asks B) → ((asked : List Asked) (x : A) → r ≡ (asked, Ok x) → P (asked ++ (g x).0, (g x).1))
     → ((asked : List Asked) (e : Refusal) → r ≡ (asked, Err e) → P (asked, Err e)) → P (r >>> g)
 asks_by P (asked, Ok x) g good bad = good asked x refl
 asks_by P (asked, Err e) g good bad = bad asked e refl
 
--- a request, by its reply and the text that it gives
+-- A request, by its reply and the text that it gives.
 outer_by : {B : Type 0} (P : Asks B → Type 0) (request : Request) (j : ℕ) (reply : Reply) (rs : List Reply) (g : Option Replacement × List Reply → Asks B) → ((message : List ℕ) → P ([], Err (refused request j message)))
     → ((answer : Option (List ℕ)) (e : Refusal) → reply ≡ Ok answer → answer_text answer ≡ Err e → P (once request answer, Err e))
     → ((answer : Option (List ℕ)) (text : Option Replacement) → reply ≡ Ok answer → answer_text answer ≡ Ok text → P (once request answer ++ (g (text, rs)).0, (g (text, rs)).1))
@@ -79,7 +79,7 @@ outer_by P request j (Ok answer) rs g own ill good = by_text (answer_text answer
     by_text (Ok text) is = good answer text refl is
     by_text (Err e) is = ill answer e refl is
 
--- what an answer's declaration lacks
+-- What an answer's declaration lacks.
 answer_fails : (answer : Option (List ℕ)) (e : Refusal) → IsTextReply (Ok answer) → answer_text answer ≡ Err e
     → (t : List ℕ) × (f : Fault) × (answer ≡ Some t) × IsUtf8 t × (there t f ≡ e) × (at word.XmlDeclStart t (after_bom t) ≡ true) × Misses t (DueInXmlDecl t (after_bom t)) f
 unfolding answer_text
@@ -92,17 +92,17 @@ answer_fails (Some t) e utf8 h =
       | inr none ↦ cc (rw none at h)
     ]
 
--- a byte that is due past the end
+-- A byte that is required past the end.
 byte_past : (b : ℕ) (src : List ℕ) (i : ℕ) (f : Fault) → length src ≤ i → byte_at b src i ≡ Err f → fault.UnexpectedEndOfStream ≡ f
 unfolding byte_at
 byte_past b src i f past h = chosen (nat_le (length src) i) _ _ _ h (λ out h. cc) (λ inside h. absurd (omega (arith, leb-false _ _ inside)))
 
--- the next reply and the others are text
+-- The next reply and the others are text.
 reply_texts : (rs : List Reply) → AreTextReplies rs → IsTextReply (next_reply rs) × AreTextReplies (other_replies rs)
 reply_texts [] texts = (tt, tt)
 reply_texts (r ∷ rs) texts = texts
 
--- items of two rows, one after the other
+-- Items of two rows, one after the other.
 pub subset_then : (src : List ℕ) (i j k : ℕ) (xs ys : Forest Item) (a b : List Asked) (es fs : List Entity) → Subset src i j xs a es → Subset src j k ys b fs → Subset src i k (join xs ys) (a ++ b) (es ++ fs)
 subset_then src i j k xs ys a b es fs (no_more _) rest = rest
 subset_then src i j k xs ys a b es fs (space _ _ _ _ _ is more) rest = space i k (join xs ys) (a ++ b) (es ++ fs) is (subset_then src (i + 1) j k xs ys a b es fs more rest)
@@ -113,7 +113,7 @@ subset_then src i j k xs ys a b es fs (an_entity _ l _ _ first asked one others 
     (subst (λ (c : List Asked). Subset src i k (join xs ys) c (one ++ (others ++ fs))) (sym (append_assoc first asked b))
     (an_entity i l k (join xs ys) first (asked ++ b) one (others ++ fs) is (subset_then src l j k xs ys asked b others fs more rest)))
 
--- the last byte of a comment or an instruction is `>`
+-- The last byte of a comment or an instruction is `>`.
 misc_last : (src : List ℕ) (i j : ℕ) (item : Item) → IsMisc src i j item → is_space (byte src (j - 1)) ≡ false
 misc_last src i j item (comment _ e _ is) =
     let last : j - 1 ≡ e + 2 = omega (arith, (comment_parts is).next) in
@@ -124,7 +124,7 @@ misc_last src i j item (instruction _ n e _ is) =
     let b : byte src (e + 1) ≡ 62 = stands_reads (word_text word.PIEnd) src e 1 (pi_parts is).closes (omega arith) in
     rw (last, b) refl
 
--- behind a byte that is no white space
+-- After a byte that is no white space.
 solid_behind : (src : List ℕ) (j k b : ℕ) → j ≡ k + 1 → byte src k ≡ b → is_space b ≡ false → is_space (byte src (j - 1)) ≡ false
 solid_behind src j k b next is solid = let last : j - 1 ≡ k = omega arith in rw (last, is) solid
 
@@ -132,13 +132,13 @@ module _ (src : List ℕ) (utf8 : IsUtf8 src) (limit most : ℕ) (less : limit �
   abbrev In : List Asked → List ℕ → Fault → Type 0
   In asked source f = InDoctype limit src i before asked source f
 
-  -- the refusal stands in the declaration
+  -- The refusal is in the declaration.
   abbrev pub Stands : List Asked → Refusal → Type 0
   Stands asked (here f) = In asked src f
   Stands asked (there source f) = In asked source f
   Stands asked (refused request p message) = Unit {0}
 
-  -- behind nothing that is asked
+  -- After nothing that is asked.
   here_now : (asked : List Asked) (f : Fault) → In asked src f → In (asked ++ []) src f
   here_now asked f is = subst (λ (a : List Asked). In a src f) (sym (append-nil asked)) is
 
@@ -150,7 +150,7 @@ module _ (src : List ℕ) (utf8 : IsUtf8 src) (limit most : ℕ) (less : limit �
 
   module _ (asked0 : List Asked) (d : Dtd) (items : Forest Item) (to : SubsetTo src i d.state.at items asked0) (fits : FitsLimits limit root (join before items)) (opens : at word.EntityStart src d.state.at ≡ true)
       (texts : AreTextReplies d.replies) where
-    -- the end of one that asks nothing
+    -- The end of one that asks nothing.
     inner_fails : (head : EntityHead × ℕ) (t : Replacement) (j : ℕ) (f : Fault) → entity_head_at src d.state.at ≡ Ok head → definition_at head.0.parameter src head.1 ≡ Ok (inner t, j) → byte_at 62 src (spaces_end src j) ≡ Err f
         → In (asked0 ++ []) src f
     inner_fails head t j f is_head is ill =
@@ -159,7 +159,7 @@ module _ (src : List ℕ) (utf8 : IsUtf8 src) (limit most : ℕ) (less : limit �
         let definition : IsDefinition src head.0.parameter head.1 j [] (Some t) = subst (λ (t : Replacement). IsDefinition src head.0.parameter head.1 j [] (Some t)) (sym s.2) (internal head.1 s.0 j s.1) in
         in_subset d.state.at items asked0 _ _ _ to fits (entity_open begun.0 begun.1 head.1 j head.0.parameter [] (Some t) f begun.2 definition (byte_fails 62 src (spaces_end src j) f ill))
 
-    -- and of one that asks
+    -- And of one that asks.
     outer_fails : (head : EntityHead × ℕ) (request : Request) (j : ℕ) (answer : Option (List ℕ)) (text : Option Replacement) (f : Fault) → entity_head_at src d.state.at ≡ Ok head
         → definition_at head.0.parameter src head.1 ≡ Ok (outer request, j) → next_reply d.replies ≡ Ok answer → answer_text answer ≡ Ok text → byte_at 62 src (spaces_end src j) ≡ Err f → In (asked0 ++ once request answer) src f
     outer_fails head request j answer text f is_head is replied' read ill =
@@ -175,7 +175,7 @@ module _ (src : List ℕ) (utf8 : IsUtf8 src) (limit most : ℕ) (less : limit �
               (in_subset d.state.at items asked0 _ _ _ to fits (entity_cut j request answer text (asks_at head.0.parameter begun.0 begun.1 head.1 s.0 begun.2 s.1 (inr cuts)) (notation_past cuts) gives)))
         ]
 
-    -- the declaration of an answer
+    -- The declaration of an answer.
     answer_stands : (head : EntityHead × ℕ) (request : Request) (j : ℕ) (answer : Option (List ℕ)) (e : Refusal) → entity_head_at src d.state.at ≡ Ok head → definition_at head.0.parameter src head.1 ≡ Ok (outer request, j)
         → next_reply d.replies ≡ Ok answer → answer_text answer ≡ Err e → Stands (asked0 ++ once request answer) e
     answer_stands head request j answer e is_head is replied' ill =
@@ -212,14 +212,14 @@ module _ (src : List ℕ) (utf8 : IsUtf8 src) (limit most : ℕ) (less : limit �
 
   -- ---- items
 
-  -- what is read of the items so far
+  -- What is read of the items so far.
   pub record So (s : ℕ) (asked0 : List Asked) (d : Dtd) : Type 0 where
     pub items : Forest Item
     pub read : Subset src (s + 1) d.state.at items asked0 d.entities
     pub state_is : d.state ≡ state d.state.at (join before items) root 255
     pub solid : is_space (byte src (d.state.at - 1)) ≡ false
 
-  -- how they end: with the declaration, or with the text
+  -- How they end: with the declaration, or with the text.
   pub data Ended (all : List Asked) (e : Dtd) : Type 0 where
     closed : (items : Forest Item) → IsDoctype src i e.state.at items all e.entities → e.state ≡ state e.state.at (join before items) root 255 → IsCharBoundary src e.state.at → IsValidState most e.state → Ended all e
     cut_off : (items : Forest Item) → SubsetTo src i (length src) items all → e.state ≡ state (length src) (join before items) root 255 → is_space (byte src (length src - 1)) ≡ false → IsValidState most e.state → Ended all e
@@ -228,18 +228,18 @@ module _ (src : List ℕ) (utf8 : IsUtf8 src) (limit most : ℕ) (less : limit �
   Outcome asked0 (asked, Ok e) = Ended (asked0 ++ asked) e
   Outcome asked0 (asked, Err e) = Stands (asked0 ++ asked) e
 
-  -- after more that is asked
+  -- After more that is asked.
   outcome_after : (a b : List Asked) (r : Asks Dtd) → Outcome (a ++ b) r → Outcome a (b ++ r.0, r.1)
   outcome_after a b (asked, Ok e) h = subst (λ (l : List Asked). Ended l e) (append_assoc a b asked) h
   outcome_after a b (asked, Err e) h = subst (λ (l : List Asked). Stands l e) (append_assoc a b asked) h
 
   module _ (s : ℕ) (begins : BeginsDoctype src i s) (bracket : byte src s ≡ 91) where
-    -- one turn: what stands behind white space
+    -- One turn: what is after white space.
     module _ (asked0 : List Asked) (d : Dtd) (so : So s asked0 d) (cut : IsCharBoundary src d.state.at) (fine : IsValidState most d.state) where
       abbrev spaced : Dtd
       spaced = with_state d (at_place (spaces_end src d.state.at) d.state)
 
-      -- the items are read up to there
+      -- The items are read up to there.
       read_to : Subset src (s + 1) (spaces_end src d.state.at) so.items asked0 d.entities
       read_to =
           let k = spaces_end src d.state.at in
@@ -263,11 +263,11 @@ module _ (src : List ℕ) (utf8 : IsUtf8 src) (limit most : ℕ) (less : limit �
       fine_here : IsValidState most (state (spaces_end src d.state.at) (join before so.items) root 255)
       fine_here = fine_there most (state d.state.at (join before so.items) root 255) (state (spaces_end src d.state.at) (join before so.items) root 255) refl refl (subst (IsValidState most) so.state_is fine)
 
-      -- where reading goes on behind white space
+      -- Where reading continues after white space.
       place_is : spaced.state ≡ state (spaces_end src d.state.at) (join before so.items) root 255
       place_is = ap (λ (t : State). state (spaces_end src d.state.at) t.done t.stack t.openings_left) so.state_is
 
-      -- a comment or an instruction
+      -- A comment or an instruction.
       item_goes : (j : ℕ) (item : Item) (t : State) → IsMisc src (spaces_end src d.state.at) j item → with_item limit spaced.state j item ≡ Ok t
           → So s asked0 (with_state spaced t) × IsCharBoundary src t.at × IsValidState most t × (d.state.at < t.at)
       item_goes j item t is added =
@@ -301,7 +301,7 @@ module _ (src : List ℕ) (utf8 : IsUtf8 src) (limit most : ℕ) (less : limit �
           (λ more bad. let same : fault.NodesLimitReached ≡ f = cc in
           here_now asked0 f (subst (In asked0 src) same (in_subset k so.items asked0 _ _ _ to_here fits (in_miscs _ (one_too_many j item is (leb-false _ _ more))))))
 
-      -- a comment
+      -- A comment.
       comment_taken : (t : State) → at word.CommentStart src (spaces_end src d.state.at) ≡ true → comment_step limit src spaced.state ≡ Ok t → So s asked0 (with_state spaced t) × IsCharBoundary src t.at × IsValidState most t × (d.state.at < t.at)
       unfolding comment_step
       comment_taken t is h =
@@ -315,7 +315,7 @@ module _ (src : List ℕ) (utf8 : IsUtf8 src) (limit most : ℕ) (less : limit �
           bind_err (comment_at src k) _ f h (λ bad. here_now asked0 f (in_subset k so.items asked0 _ _ _ to_here fits (in_miscs _ (in_one f (comment_fails src utf8 k f is bad)))))
           (λ x read h. item_over x.1 (Comment k x.1 x.0) f (comment_is src utf8 k x.1 x.0 is read) h)
 
-      -- a processing instruction
+      -- A processing instruction.
       instruction_taken : (t : State) → at word.PIStart src (spaces_end src d.state.at) ≡ true → instruction_step limit src spaced.state ≡ Ok t → So s asked0 (with_state spaced t) × IsCharBoundary src t.at × IsValidState most t × (d.state.at < t.at)
       unfolding instruction_step
       instruction_taken t is h =
@@ -329,7 +329,7 @@ module _ (src : List ℕ) (utf8 : IsUtf8 src) (limit most : ℕ) (less : limit �
           bind_err (instruction_at src k) _ f h (λ bad. here_now asked0 f (in_subset k so.items asked0 _ _ _ to_here fits (in_miscs _ (in_one f (instruction_fails src utf8 k f is bad)))))
           (λ x read h. item_over x.1 (PI k x.1 x.0.target x.0.value) f (instruction_is src utf8 k x.1 x.0 is read) h)
 
-      -- the end behind `]`
+      -- The end after `]`.
       end_outcome : byte src (spaces_end src d.state.at) ≡ 93 → Outcome asked0 (subset_end src spaced)
       unfolding subset_end
       end_outcome closing =
@@ -348,7 +348,7 @@ module _ (src : List ℕ) (utf8 : IsUtf8 src) (limit most : ℕ) (less : limit �
           (λ other. here_now asked0 (fault.InvalidChar2 due.End (byte src e) e)
           (in_subset k so.items asked0 _ _ _ to_here fits (end_lacks (fault.InvalidChar2 due.End (byte src e) e) closing (no_end (leb-false _ _ inside) (eqb-false _ _ other))))))
 
-      -- nothing that a subset holds
+      -- Nothing that a subset holds.
       none_outcome : (d.state.at < length src) → at word.EntityStart src (spaces_end src d.state.at) ≡ false → at word.CommentStart src (spaces_end src d.state.at) ≡ false → at word.PIStart src (spaces_end src d.state.at) ≡ false
           → (at word.ElementStart src (spaces_end src d.state.at) || (at word.AttlistStart src (spaces_end src d.state.at) || at word.NotationStart src (spaces_end src d.state.at))) ≡ false → byte src (spaces_end src d.state.at) ≢ 93
           → In (asked0 ++ []) src (fault.UnknownToken (spaces_end src d.state.at))
@@ -364,7 +364,7 @@ module _ (src : List ℕ) (utf8 : IsUtf8 src) (limit most : ℕ) (less : limit �
           no_declared k no_element no_attlist no_notation (inr (inl is)) = true≢false (sym is ∙ no_attlist)
           no_declared k no_element no_attlist no_notation (inr (inr is)) = true≢false (sym is ∙ no_notation)
 
-          -- behind white space, where the text ends
+          -- After white space, where the text ends.
           where_it_is : (d.state.at < length src) → (spaces_end src d.state.at < length src) ⊎ (is_space (byte src (spaces_end src d.state.at - 1)) ≡ true)
           where_it_is inside =
               let k = spaces_end src d.state.at in
@@ -375,7 +375,7 @@ module _ (src : List ℕ) (utf8 : IsUtf8 src) (limit most : ℕ) (less : limit �
               ])).1 (inl refl) in
               elim from as (λ _. (k < length src) ⊎ (is_space (byte src (k - 1)) ≡ true)) [ inl e ↦ inl (omega arith) | inr stands ↦ inr stands ]
 
-      -- a declaration that is passed over
+      -- A declaration that is passed over.
       passed_outcome : (g : Dtd → Asks Dtd) → IsPassed src (spaces_end src d.state.at) → ((e : Dtd) → So s asked0 e → IsCharBoundary src e.state.at → IsValidState most e.state → e.replies ≡ d.replies → d.state.at < e.state.at → Outcome asked0 (g e))
           → Outcome asked0 (reading.skipped_declaration i src spaced >>> g)
       unfolding reading.skipped_declaration
@@ -400,7 +400,7 @@ module _ (src : List ℕ) (utf8 : IsUtf8 src) (limit most : ℕ) (less : limit �
             | inr ge ↦ rw ge (here_now asked0 (fault.UnknownToken i) (in_subset k so.items asked0 _ _ _ to_here fits (not_passed is (ltb-false _ _ ge))))
           ]
 
-      -- a declaration of an entity
+      -- A declaration of an entity.
       entity_goes : (first : List Asked) (e : Dtd) → EntityRead src spaced first e → So s (asked0 ++ first) e × IsCharBoundary src e.state.at × IsValidState most e.state × (d.state.at < e.state.at)
       entity_goes first e o =
           let k = spaces_end src d.state.at in
@@ -425,14 +425,14 @@ module _ (src : List ℕ) (utf8 : IsUtf8 src) (limit most : ℕ) (less : limit �
             omega (arith, moves.1),
           )
 
-      -- the text ends right behind `[` or an item
+      -- The text ends right after `[` or an item.
       out_outcome : length src ≤ d.state.at → Ended asked0 d
       out_outcome out =
           let same : d.state.at ≡ length src = omega (arith, cut.0) in
           cut_off so.items (subset_to s d.entities begins bracket (subst (λ (j : ℕ). Subset src (s + 1) j so.items asked0 d.entities) same so.read))
           (so.state_is ∙ ap (λ (j : ℕ). state j (join before so.items) root 255) same) (subst (λ (j : ℕ). is_space (byte src (j - 1)) ≡ false) same so.solid) fine
 
-    -- the items, one after the other
+    -- The items, one after the other.
     pub subset_ends : (n : ℕ) (asked0 : List Asked) (d : Dtd) → So s asked0 d → IsCharBoundary src d.state.at → IsValidState most d.state → AreTextReplies d.replies → length src ≤ d.state.at + n → Outcome asked0 (subset limit i n src d)
     unfolding subset
     subset_ends zero asked0 d so cut fine texts enough = subst (λ (a : List Asked). Ended a d) (sym (append-nil asked0)) (out_outcome asked0 d so cut fine (omega (arith, enough)))
@@ -473,7 +473,7 @@ module _ (src : List ℕ) (utf8 : IsUtf8 src) (limit most : ℕ) (less : limit �
 
   -- ---- the declaration
 
-  -- the text ends before its subset
+  -- The text ends before its subset.
   head_out : (head : Unit {0} × ℕ) → at word.DoctypeStart src i ≡ true → doctype_head_at src i ≡ Ok head → length src ≤ head.1 → In [] src fault.UnexpectedEndOfStream
   unfolding doctype_head_at
   head_out head opens h out =

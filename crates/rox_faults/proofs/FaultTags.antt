@@ -58,7 +58,7 @@ use Rattle.rox_faults.proofs.FaultValues.{InPart, value_fails}
 use Rattle.rox_faults.proofs.StateCounts.{attributes_are, pairs_there, pairs_counted, more_pairs_there}
 use Rattle.rox_grammar.specs.Content.{attribute}
 
--- a quote that is due
+-- A quote that is required.
 pub quote_fails : (src : List ℕ) (i : ℕ) (f : Fault) → quote_at src i ≡ Err f → IsMissing src i a_quote f
 unfolding quote_at
 quote_fails src i f h =
@@ -70,7 +70,7 @@ quote_fails src i f h =
     let is : fault.InvalidChar2 due.Quote (byte src i) i ≡ f = cc in
     subst (IsMissing src i a_quote) is (no_quote (leb-false _ _ inside) (eqb-false _ _ both.0) (eqb-false _ _ both.1))))
 
--- the parts of a name in their spans
+-- The parts of a name in their spans.
 name_holds : (src : List ℕ) (i n : ℕ) (name : Name) → IsUtf8 src → IsCharBoundary src i → IsQName src i name n → SpanIs src (prefix_span name i) name.prefix × SpanIs src (local_span name n) name.local
 name_holds src i n name utf8 cut' (unprefixed _ _ is last) =
     let inside = qname_inside src i n _ utf8 cut' (unprefixed i n is last) in
@@ -90,7 +90,7 @@ name_holds src i n name utf8 cut' (prefixed _ k _ front colon is last) =
     let z : i + length (slice src i k) ≡ k = omega arith in
     (ap (slice src i) z, local_holds src (record { prefix = slice src i k; local = slice src (k + 1) n }) (k + 1) n refl (omega arith) inside)
 
--- an attribute whose name stands where a character begins
+-- An attribute whose name is where a character begins.
 pub record NameAt (src : List ℕ) (a : Attribute) : Type 0 where
   pub prefix : SpanIs src (prefix_span a.name a.start) a.name.prefix
   pub local : SpanIs src (local_span a.name a.name_end) a.name.local
@@ -99,27 +99,27 @@ abbrev AllAt : List ℕ → List Attribute → Type 0
 AllAt src [] = Unit {0}
 AllAt src (a ∷ as') = NameAt src a × AllAt src as'
 
--- those that are attributes
+-- Those that are attributes.
 all_filtered : (src : List ℕ) (p : Attribute → Bool) (as' : List Attribute) → AllAt src as' → AllAt src (filter p as')
 all_filtered src p [] all = tt
 all_filtered src p (a ∷ as') all = cond_both (p a) (a ∷ filter p as') (filter p as') (AllAt src) (λ h. (all.0, all_filtered src p as' all.1)) (λ h. all_filtered src p as' all.1)
 
 -- ---- names
 
--- one more name that is known and comes once
+-- One more name that is known and comes once.
 distinct_more : (scope : List NamespaceDecl) (before as' : List Attribute) (a : Attribute) → DistinctBehind scope before as' → is_known scope a.name ≡ true → list_any (λ e. same_expanded scope e.name a.name) (before ++ as') ≡ false
     → DistinctBehind scope before (as' ++ a ∷ [])
 distinct_more scope before [] a all known once = (known, subst (λ (xs : List Attribute). list_any (λ e. same_expanded scope e.name a.name) xs ≡ false) (append-nil before) once, tt)
 distinct_more scope before (x ∷ xs) a all known once =
     (all.0, all.1, distinct_more scope (before ++ x ∷ []) xs a all.2 known (subst (λ (ys : List Attribute). list_any (λ e. same_expanded scope e.name a.name) ys ≡ false) (sym (append_assoc before (x ∷ []) xs)) once))
 
--- one more declaration that may be there
+-- One more declaration that may be there.
 declarable_more : (before ds : List NamespaceDecl) (d : NamespaceDecl) → DeclarableBehind before ds → may_declare d ≡ true → is_declared d.prefix (before ++ ds) ≡ false → DeclarableBehind before (ds ++ d ∷ [])
 declarable_more before [] d all may once = (may, subst (λ (ds : List NamespaceDecl). is_declared d.prefix ds ≡ false) (append-nil before) once, tt)
 declarable_more before (e ∷ es) d all may once =
     (all.0, all.1, declarable_more (before ++ e ∷ []) es d all.2 may (subst (λ (ds : List NamespaceDecl). is_declared d.prefix ds ≡ false) (sym (append_assoc before (e ∷ []) es)) once))
 
--- a name that is not known, or comes again: rows 6 and 13
+-- A name that is not known, or comes again: rows 6 and 13.
 names_fails : (src : List ℕ) (i : ℕ) (scope : List NamespaceDecl) (n : Name) (all before as' : List Attribute) (f : Fault) → all ≡ before ++ as' → DistinctBehind scope [] before → AllAt src as'
     → names_tested scope before as' ≡ Err f → IllNamed src i scope n all f
 unfolding names_tested
@@ -135,7 +135,7 @@ names_fails src i scope n whole before (a ∷ as') f is distinct all h =
     subst (IllNamed src i scope n whole) e (twice before as' a (local_span a.name a.name_end) is (are_distinct scope before distinct) (not-false _ known) again all.0.local))
     (λ once h. names_fails src i scope n whole (before ++ a ∷ []) as' f (is ∙ sym (append_assoc before (a ∷ []) as')) (distinct_more scope [] before a distinct (not-false _ known) once) all.1 h))
 
--- a URI that may not be declared: rows 1 to 3
+-- A URI that may not be declared: rows 1 to 3.
 uri_fails : (src : List ℕ) (before : List NamespaceDecl) (a : Attribute) (f : Fault) → uri_tested a ≡ Err f → IllDeclared src before a f
 uri_fails src before a f h =
     chosen (bytes_eq a.name.prefix (word_text word.Xmlns)) _ _ _ h
@@ -159,7 +159,7 @@ uri_fails src before a f h =
 module _ (src : List ℕ) (utf8 : IsUtf8 src) where
   -- ---- an attribute whose value is not looked at
 
-  -- a character begins where a value ends
+  -- A character begins where a value ends.
   pub value_cut : (v : ℕ) → v < length src → (byte src v ≡ 39) ⊎ (byte src v ≡ 34) → IsCharBoundary src (value_end src v)
   value_cut v inside quote =
       let p : ℕ → Bool = λ c. c == byte src v || c == 60 in
@@ -174,7 +174,7 @@ module _ (src : List ℕ) (utf8 : IsUtf8 src) where
         | inr past ↦ (let z : length src ≡ e = omega arith in subst (IsCharBoundary src) z (IsCharBoundary-end src))
       ]
 
-  -- an attribute: what is due in it
+  -- An attribute: what is required in it.
   attribute_fails : (i : ℕ) (f : Fault) → attribute_at src i ≡ Err f → Misses src (DueInPair src i) f
   unfolding attribute_at raw_value_at
   attribute_fails i f h =
@@ -216,28 +216,28 @@ module _ (src : List ℕ) (utf8 : IsUtf8 src) where
 
 -- ---- attributes, one after the other
 
--- how a tag is read where k replacement texts are open, and d more may be
+-- How a tag is read where k replacement texts are open, and d more may be.
 abbrev pub tag_values : List Entity → (d k : ℕ) → Values
 tag_values es d k = values_of es d (is_main k)
 
--- one fault in two words
+-- One fault in two words.
 cut_same : (main : Bool) (stack : Open) → cut_off main stack ≡ machine.cut_off_fault main stack
 cut_same true root = refl
 cut_same true (grammar.Open.inside start tag before up) = refl
 cut_same false stack = refl
 
--- a tag that is cut off
+-- A tag that is cut off.
 cut_stands : (main : Bool) (O : Inclusion) (src : List ℕ) (s : State) (b p c : ℕ) (name : Name) (as' : List Attribute) → TagTo main O src s p b c name as' → length src ≤ p → InTag main O src s b (machine.cut_off_fault main s.stack)
 cut_stands main O src s b p c name as' to past = subst (InTag main O src s b) (cut_same main s.stack) (in_rest p c name as' _ to (cut past))
 
--- one more at the end
+-- One more at the end.
 attributes_more : (main : Bool) (O : Inclusion) (src : List ℕ) (k d i j b c : ℕ) (as' : List Attribute) (a : Attribute) → Attributes main O src i j b c as' → j < spaces_end src j → IsAttribute main O src (spaces_end src j) k c d a
     → Attributes main O src i k b d (as' ++ a ∷ [])
 attributes_more main O src k d i j b c as' a (no_more _ _) spaces is = one_more i k k b d d a [] spaces is (no_more k d)
 attributes_more main O src k d i j b c as' a (one_more _ m _ _ e _ first rest spaces' is' more') spaces is =
     one_more i m k b e d first (rest ++ a ∷ []) spaces' is' (attributes_more main O src k d m j e c rest a more' spaces is)
 
--- a character begins behind an attribute
+-- A character begins after an attribute.
 pub attribute_cut : (main : Bool) (O : Inclusion) (src : List ℕ) (utf8 : IsUtf8 src) (i j b c : ℕ) (a : Attribute) → IsAttribute main O src i j b c a → IsCharBoundary src j
 attribute_cut main O src utf8 i j b c a (attribute n v e name value (is_name, eq, literal) read) =
     let quote = quote_ascii (byte src v) literal.0.0 in
@@ -246,30 +246,30 @@ attribute_cut main O src utf8 i j b c a (attribute n v e name value (is_name, eq
 
 module _ (opens : ℕ → Inclusion) (es : List Entity) (agrees : (d l : ℕ) → d + l ≡ most_deep → AgreesValue es (opens l) (value_opener es d (is_main l))) (texts : AreTexts es) (deeper level : ℕ) (deep : deeper + level ≡ most_deep)
     (src : List ℕ) (utf8 : IsUtf8 src) where
-  -- how it is read
+  -- How it is read.
   abbrev alone : Values
   alone = tag_values es deeper level
 
-  -- the name of an attribute
+  -- The name of an attribute.
   attribute_named : (i j b c : ℕ) (a : Attribute) → IsCharBoundary src i → IsAttribute (is_main level) (opens level) src i j b c a → NameAt src a
   attribute_named i j b c a cut' (attribute n v e name value is read) =
       let both = name_holds src i n name utf8 cut' is.0 in
       record { prefix = both.0; local = both.1 }
 
-  -- and of all of them
+  -- And of all of them.
   attributes_named : (i j b c : ℕ) (as' : List Attribute) → IsCharBoundary src i → Attributes (is_main level) (opens level) src i j b c as' → AllAt src as'
   attributes_named i j b c as' cut' (no_more _ _) = tt
   attributes_named i j b c as' cut' (one_more _ k _ _ d _ a rest spaces is others) =
       let cut'' = run_cut is_space src i utf8 cut' in
       (attribute_named (spaces_end src i) k b d a cut'' is, attributes_named k j d c rest (attribute_cut (is_main level) (opens level) src utf8 (spaces_end src i) k b d a is) others)
 
-  -- what one more declares
+  -- What one more declares.
   declares_more : (as' : List Attribute) (a : Attribute) → is_namespace_decl a.name ≡ true → namespace_decls_of (as' ++ a ∷ []) ≡ namespace_decls_of as' ++ namespace_decl_of a ∷ []
   declares_more as' a is =
       ap (map namespace_decl_of) (filter-append (λ a. is_namespace_decl a.name) as' (a ∷ [])) ∙ map-append namespace_decl_of (filter (λ a. is_namespace_decl a.name) as') (filter (λ a. is_namespace_decl a.name) (a ∷ []))
       ∙ ap (λ (ds : List NamespaceDecl). namespace_decls_of as' ++ ds) (rw is refl)
 
-  -- one that does not declare
+  -- One that does not declare.
   declares_same : (as' : List Attribute) (a : Attribute) → is_namespace_decl a.name ≡ false → namespace_decls_of (as' ++ a ∷ []) ≡ namespace_decls_of as'
   declares_same as' a is =
       ap (map namespace_decl_of) (filter-append (λ a. is_namespace_decl a.name) as' (a ∷ []) ∙ ap (λ (xs : List Attribute). filter (λ a. is_namespace_decl a.name) as' ++ xs) (rw is refl) ∙ append-nil (filter (λ a. is_namespace_decl a.name) as'))
@@ -278,26 +278,26 @@ module _ (opens : ℕ → Inclusion) (es : List Entity) (agrees : (d l : ℕ) �
     abbrev Fails : Fault → Type 0
     Fails f = InTag (is_main level) (opens level) src s b f
 
-    -- a tag that fails: in it itself, or in a value of it, or in a replacement text that is opened there
+    -- A tag that fails: in it itself, or in a value of it, or in a replacement text that is opened there.
     pub data TagFails (e : Refusal) : Type 0 where
       itself : (f : Fault) → here f ≡ e → Fails f → TagFails e
       ill_value : (p c n v stop j : ℕ) (tag_name : Name) (as' : List Attribute) (name : Name) → TagTo (is_main level) (opens level) src s p b c tag_name as' → p < spaces_end src p → IsQName src (spaces_end src p) name n → IsEq src n v
           → IsAttValue src v stop j → Refuses es (InPart opens es level src (v + 1) stop c) src e → TagFails e
 
-    -- their declarations may be there, within the limit
+    -- Their declarations may be there, within the limit.
     abbrev MayStand : List Attribute → Type 0
     MayStand as' = DeclarableBehind [] (namespace_decls_of as') × (length (with_new (distinct_pairs (pairs_so_far s.stack s.done)) (listable_of (namespace_decls_of as'))) ≤ most_pairs)
 
-    -- the tag is read up to here
+    -- The tag is read up to here.
     abbrev UpTo : ℕ → ℕ → List Attribute → Type 0
     UpTo p c as' = (name : Name) × TagTo (is_main level) (opens level) src s p b c name as'
 
-    -- one more
+    -- One more.
     up_to_more : (p k c d : ℕ) (as' : List Attribute) (a : Attribute) → UpTo p c as' → p < spaces_end src p → IsAttribute (is_main level) (opens level) src (spaces_end src p) k c d a → MayStand (as' ++ a ∷ []) → UpTo k d (as' ++ a ∷ [])
     up_to_more p k c d as' a (name, (n, is_name, no_xmlns, attributes, declarable, few_pairs)) spaces is may =
         (name, (n, is_name, no_xmlns, attributes_more (is_main level) (opens level) src k d n p b c as' a attributes spaces is, are_declarable (namespace_decls_of (as' ++ a ∷ [])) may.0, pairs_there s.stack s.done (namespace_decls_of (as' ++ a ∷ [])) may.1))
 
-    -- what is due behind these attributes: rows 21 to 24 and 31
+    -- What is required after these attributes: rows 21 to 24 and 31.
     turn_fails : (p c : ℕ) (as' : List Attribute) (f : Fault) → UpTo p c as' → p < length src → tag_item_at src p ≡ Err f → Fails f
     unfolding tag_item_at
     turn_fails p c as' f to below h =
@@ -321,7 +321,7 @@ module _ (opens : ℕ → Inclusion) (es : List Entity) (agrees : (d l : ℕ) �
         (λ bad. let w = attribute_fails src utf8 j f bad in in_rest p c to.0 as' _ to.1 (in_pair f (omega arith) (leb-false _ _ inside) (eqb-false _ _ no_slash) (eqb-false _ _ no_greater) w))
         (λ x read h. no_fault _ f h)))))
 
-    -- a declaration that may not stand: rows 1 to 3, 5 and 20
+    -- A declaration that is not allowed: rows 1 to 3, 5 and 20.
     declared_fails : (p k c d : ℕ) (as' : List Attribute) (a : Attribute) (h : TagSoFar) (f : Fault) → UpTo p c as' → p < spaces_end src p → IsAttribute (is_main level) (opens level) src (spaces_end src p) k c d a → NameAt src a
         → is_namespace_decl a.name ≡ true → h.own ≡ namespace_decls_of as' → declared (distinct_pairs (pairs_so_far s.stack s.done)) a h ≡ Err f → Fails f
     unfolding declared
@@ -343,7 +343,7 @@ module _ (opens : ℕ → Inclusion) (es : List Entity) (agrees : (d l : ℕ) �
         subst Fails e (in_rest p c to.0 as' _ to.1 (too_many_pairs d k a spaces is declares' (uri_sound a u tested) once' (more_pairs_there s.stack s.done (namespace_decls_of as' ++ namespace_decl_of a ∷ []) (subst (λ (ds : List NamespaceDecl). most_pairs < length (with_new known (listable_of ds))) all over)))))
         (λ fits bad. no_fault _ f bad)))
 
-    -- what is held behind one more attribute
+    -- What is held after one more attribute.
     held_more : (as' : List Attribute) (a : Attribute) (h held : TagSoFar) → MayStand as' → h.own ≡ namespace_decls_of as' → taken (distinct_pairs (pairs_so_far s.stack s.done)) a h ≡ Ok held
         → (held.own ≡ namespace_decls_of (as' ++ a ∷ [])) × MayStand (as' ++ a ∷ [])
     unfolding declared
@@ -368,7 +368,7 @@ module _ (opens : ℕ → Inclusion) (es : List Entity) (agrees : (d l : ℕ) �
           (subst (DeclarableBehind []) same may.0, subst (λ (ds : List NamespaceDecl). length (with_new known (listable_of ds)) ≤ most_pairs) same may.1),
         ))
 
-    -- one turn, and what follows it
+    -- One turn, and what follows it.
     turn_goes : (n p c : ℕ) (as' : List Attribute) (h : TagSoFar) (e : Refusal) → UpTo p c as' → IsCharBoundary src p → length src ≤ p + suc n → h.own ≡ namespace_decls_of as'
         → ((j d : ℕ) (more' : List Attribute) (held : TagSoFar) → UpTo j d more' → IsCharBoundary src j → length src ≤ j + n → held.own ≡ namespace_decls_of more'
         → attributes_at n alone (machine.cut_off_fault (is_main level) s.stack) (distinct_pairs (pairs_so_far s.stack s.done)) src j d held ≡ Err e → TagFails e)
@@ -397,7 +397,7 @@ module _ (opens : ℕ → Inclusion) (es : List Entity) (agrees : (d l : ℕ) �
         let more' = held_more as' (attribute_with raw v.0) h held (declarable_behind (namespace_decls_of as') to.1.4, pairs_counted s.stack s.done (namespace_decls_of as') to.1.5) own took in
         next j v.1 (as' ++ attribute_with raw v.0 ∷ []) held (up_to_more p j c v.1 as' (attribute_with raw v.0) to spaces is more'.1) (attribute_cut (is_main level) (opens level) src utf8 (spaces_end src p) j c v.1 (attribute_with raw v.0) is) (omega arith) more'.0 bad))
 
-    -- attributes and declarations up to the end of the tag
+    -- Attributes and declarations up to the end of the tag.
     attributes_fail : (n p c : ℕ) (as' : List Attribute) (h : TagSoFar) (e : Refusal) → UpTo p c as' → IsCharBoundary src p → length src ≤ p + n → h.own ≡ namespace_decls_of as'
         → attributes_at n alone (machine.cut_off_fault (is_main level) s.stack) (distinct_pairs (pairs_so_far s.stack s.done)) src p c h ≡ Err e → TagFails e
     unfolding attributes_at
@@ -410,7 +410,7 @@ module _ (opens : ℕ → Inclusion) (es : List Entity) (agrees : (d l : ℕ) �
         (λ f bad is. itself f is (turn_fails p c as' f to (leb-false _ _ inside) bad))
         (λ x turn bad. turn_goes n p c as' h e to here' enough own (λ j d more' held to' here' enough' own' bad. attributes_fail n j d more' held e to' here' enough' own' bad) x.0 x.1 turn bad))
 
-    -- a start tag
+    -- A start tag.
     pub tag_at_fails : (e : Refusal) → byte src s.at ≡ 60
         → tag_at alone (machine.cut_off_fault (is_main level) s.stack) (scope_of s.stack) (attributes_so_far s.stack s.done) (distinct_pairs (pairs_so_far s.stack s.done)) src s.at b ≡ Err e → TagFails e
     unfolding tag_at tag_tested

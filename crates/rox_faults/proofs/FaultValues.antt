@@ -9,7 +9,7 @@ use Rattle.rox_grammar.specs.declared.fault.Fault.TheVariants as fault
 use Rattle.rox_grammar.specs.Chars.{is_char}
 use Rattle.rox_grammar.specs.Runs.{StandsAt}
 use Rattle.rox_grammar.specs.Names.{byte, slice}
-use Rattle.rox_grammar.specs.References.{IsCharacter}
+use Rattle.rox_grammar.specs.References.{IsCharacter, entity_reference}
 use Rattle.rox_grammar.specs.Content.{Inclusion, is_verbatim_value, value_bytes, Value, value_ends, line_end, white, other, a_character, an_entity}
 use Rattle.rox_grammar.specs.Entities.{Replacement, Entity, text_of, most_deep}
 use Rattle.rox_grammar.specs.Due.{IsMissing, no_char, chars_to}
@@ -31,11 +31,11 @@ use Rattle.rox_faults.proofs.FaultRows.{reference_fails, unknown_fails}
 use Rattle.rox_faults.proofs.PartFronts.{value_from}
 use Rattle.rox_faults.proofs.FaultPoints.{Refuses, refuses_here, elsewhere_err, spent_here, may_open, deepest}
 
--- a value stands from i up to j
+-- A value is from i up to j.
 abbrev pub Reads : (main : Bool) → Inclusion → List ℕ → (i j b c : ℕ) → Type 0
 Reads main O src i j b c = (v : List ℕ) × Value main O src j i b c v
 
--- a longer one
+-- A longer one.
 module _ (main : Bool) (O : Inclusion) (src : List ℕ) (stop : ℕ) where
   reads_le : (p q b c : ℕ) → Reads main O src p q b c → p ≤ q
   reads_le p q b c (v, value) = value_from main O src p q b c v value
@@ -66,14 +66,14 @@ module _ (main : Bool) (O : Inclusion) (src : List ℕ) (stop : ℕ) where
       (byte src p ∷ one.0, other p b c one.0 (omega arith) s.0.0 s.0.1 s.0.2 s.0.3 s.1 one.1)
 
 module _ (src : List ℕ) (utf8 : IsUtf8 src) (es : List Entity) (stop : ℕ) (long : stop ≤ length src) (closes : stop < length src → IsStop (byte src stop)) where
-  -- what is wrong with one bit: rows 9, 10, 12 and 22
+  -- What is wrong with one bit: rows 9, 10, 12 and 22.
   pub data IllBit (main : Bool) (p : ℕ) : Fault → Type 0 where
     ill_reference : (f : Fault) → InReferences es src p f → IllBit main p f
     gives_less : (j : ℕ) → main ≡ false → IsCharacter src p 60 j → IllBit main p (fault.InvalidAttributeValue p)
     is_less : (q : ℕ) → main ≡ false → p ≤ q → q < stop → byte src q ≡ 60 → IllBit main p (fault.InvalidAttributeValue q)
     ill_char : (q c : ℕ) → main ≡ false → p ≤ q → q < stop → StandsAt c src q → is_char c ≡ false → IllBit main p (fault.NonXmlChar c q)
 
-  -- a reference
+  -- A reference.
   tested_fails : (main : Bool) (p j : ℕ) (r : Reference) (f : Fault) → IsRead src p r j → tested_bit main p r (reference_bit es src p r) ≡ Err f → IllBit main p f
   tested_fails true p j r f read h = ill_reference f (unknown_fails src utf8 es p j r f read h)
   tested_fails false p j r f (is_character c _ stands) h =
@@ -89,13 +89,13 @@ module _ (src : List ℕ) (utf8 : IsUtf8 src) (es : List Entity) (stop : ℕ) (l
       bind_err (reference_at src p) _ f h (λ bad. ill_reference f (reference_fails src utf8 es p f amp bad))
       (λ r read h. bind_err (tested_bit main p r.0 (reference_bit es src p r.0)) _ f h (λ bad. tested_fails main p r.1 r.0 f (reference_sound src p r amp read) bad) (λ bit ok h. no_fault _ f h))
 
-  -- Chars up to a place
+  -- Chars up to a place.
   chars_ill : (p e : ℕ) (f : Fault) → e ≤ stop → IsMissing src p (chars_to e) f → IllBit false p f
   chars_ill p e f to (no_char _ q c is before stands ill) =
       let le = run_end_le is_char (take e src) p in
       ill_char q c refl (omega arith) (omega arith) stands ill
 
-  -- a stretch
+  -- A stretch.
   stretch_fails : (main : Bool) (p : ℕ) (f : Fault) → p < stop → IsCharBoundary src p → stretch_at main src stop p ≡ Err f → IllBit main p f
   stretch_fails true p f below cut h = no_fault _ f h
   stretch_fails false p f below cut h =
@@ -114,7 +114,7 @@ module _ (src : List ℕ) (utf8 : IsUtf8 src) (es : List Entity) (stop : ℕ) (l
       subst (IllBit false p) is (is_less j refl le below' (sym (get_or-take stop src j 0 below') ∙ at')))
       (λ none h. no_fault _ f h))
 
-  -- a bit
+  -- A bit.
   bit_fails : (main : Bool) (p : ℕ) (f : Fault) → p < stop → IsCharBoundary src p → value_bit_at main es src stop p ≡ Err f → IllBit main p f
   unfolding value_bit_at
   bit_fails main p f below cut h =
@@ -125,11 +125,11 @@ module _ (src : List ℕ) (utf8 : IsUtf8 src) (es : List Entity) (stop : ℕ) (l
       (λ plain h. stretch_fails main p f below cut h))
 
 module _ (opens : ℕ → Inclusion) (es : List Entity) (k : ℕ) (whole : List ℕ) (start end b : ℕ) where
-  -- a fault that stands in a part of the value
+  -- A fault that is in a part of the value.
   pub data InPart (part : List ℕ) (f : Fault) : Type 0 where
     in_part : (l i stop d : ℕ) → ValuePart opens es k whole start end b l part i stop d → InValue es l (opens l) part i stop d f → InPart part f
 
-  -- what is opened behind a reference that ends at j fails
+  -- What is opened after a reference that ends at j fails.
   abbrev pub ValueOpenerFails : (d l : ℕ) → Type 0
   ValueOpenerFails d l =
       (src : List ℕ) (j openings_left : ℕ) (t : Replacement) (name : List ℕ) (e : Refusal) → text_of es name ≡ Some t → (IsSpent l openings_left → InPart src (fault.EntityReferenceLoop j))
@@ -138,18 +138,18 @@ module _ (opens : ℕ → Inclusion) (es : List Entity) (k : ℕ) (whole : List 
   module _ (d l : ℕ) (agrees : AgreesValue es (opens l) (value_opener es d (is_main l))) (opener_fails : ValueOpenerFails d l)
       (src : List ℕ) (utf8 : IsUtf8 src) (i stop c0 : ℕ) (long : stop ≤ length src) (closes : stop < length src → IsStop (byte src stop)) (no_tag : is_main l ≡ true → (q : ℕ) → i ≤ q → q < stop → byte src q ≢ 60)
       (part : ValuePart opens es k whole start end b l src i stop c0) where
-    -- a fault of a bit is one of the part
+    -- A fault of a bit is one of the part.
     bit_stands : (p : ℕ) (f : Fault) → i ≤ p → p < stop → IllBit src utf8 es stop long closes (is_main l) p f → InPart src f
     bit_stands p f from below (ill_reference _ ill) = in_part l i stop c0 part (in_reference p f from below ill)
     bit_stands p f from below (gives_less j within is) = in_part l i stop c0 part (less p within from below (inr (j, is)))
     bit_stands p f from below (is_less q within from' below' is) = in_part l i stop c0 part (less q within (omega arith) below' (inl is))
     bit_stands p f from below (ill_char q c within from' below' stands ill) = in_part l i stop c0 part (faults.InValue.no_char q c within (omega arith) below' stands ill)
 
-    -- the value is read up to here
+    -- The value is read up to here.
     abbrev To : ℕ → ℕ → Type 0
     To p openings_left = (q c : ℕ) → q ≤ stop → Reads (is_main l) (opens l) src p q openings_left c → Reads (is_main l) (opens l) src i q c0 c
 
-    -- behind a bit
+    -- After a bit.
     bit_goes : (p openings_left : ℕ) (bit : Bit) (j : ℕ) (e : Refusal) (next : ℕ → ℕ → Result (List ℕ × ℕ) Refusal) → To p openings_left → ValueBit (is_main l) es src stop p bit j
         → ((c : ℕ) → To j c → next j c ≡ Err e → Refuses es InPart src e) → after_value_bit (value_opener es d (is_main l)) next openings_left bit j ≡ Err e → Refuses es InPart src e
     bit_goes p openings_left bit j e next to (bit_line_end _ more cr lf) go h =
@@ -163,13 +163,13 @@ module _ (opens : ℕ → Inclusion) (es : List Entity) (k : ℕ) (whole : List 
     bit_goes p openings_left bit j e next to (bit_entity _ n _ t r none to' found) go h =
         let name = slice src (p + 1) n in
         let moves = reference_opens src p n j r in
-        let refers : RefersTo es src p j t = (n, r, none, found) in
+        let refers : RefersTo es src p j t = (name, entity_reference n r none, found) in
         let so_far = to p openings_left (omega (arith, moves.2)) ([], value_ends openings_left) in
         bind_err (value_opener es d (is_main l) t j openings_left) _ e h
         (λ bad. opener_fails src j openings_left t name e found (λ spent. in_part l i stop c0 part (too_many p j openings_left so_far.0 t so_far.1 (omega (arith, moves.2)) refers spent))
         (λ r' may. opened l i stop c0 openings_left r' p j src so_far.0 t part so_far.1 (omega (arith, moves.2)) refers may) bad)
         (λ x read h. bind_err (next j x.1) _ e h
-        (go x.1 (λ q c short rest. to q c short (let le = reads_le (is_main l) (opens l) src stop j q x.1 c rest in (x.0 ++ rest.0, an_entity p n j openings_left x.1 c x.0 rest.0 r none le (agrees.sound name t j openings_left x.1 x.0 found read) rest.1)))) (λ y ok h. no_fault _ e h))
+        (go x.1 (λ q c short rest. to q c short (let le = reads_le (is_main l) (opens l) src stop j q x.1 c rest in (x.0 ++ rest.0, an_entity p j openings_left x.1 c _ x.0 rest.0 (entity_reference n r none) le (agrees.sound name t j openings_left x.1 x.0 found read) rest.1)))) (λ y ok h. no_fault _ e h))
 
     pub value_text_fails : (n p openings_left : ℕ) (e : Refusal) → i ≤ p → IsCharBoundary src p → To p openings_left → value_text (is_main l) es (value_opener es d (is_main l)) n src stop p openings_left ≡ Err e → Refuses es InPart src e
     unfolding value_text
@@ -203,7 +203,7 @@ module _ (opens : ℕ → Inclusion) (es : List Entity) (k : ℕ) (whole : List 
         (part r (may_open l j openings_left r (omega arith) may)) (length t.source) t.start r c (omega arith) text.1 (λ q c short rest. rest) bad))
         (λ x ok h. no_fault _ e h))
 
-    -- a value
+    -- A value.
     pub value_fails : (d : ℕ) (e : Refusal) → d + k ≡ most_deep → IsUtf8 whole → end ≤ length whole → (end < length whole → IsStop (byte whole end)) → ((q : ℕ) → start ≤ q → q < end → byte whole q ≢ 60) → IsCharBoundary whole start
         → value_at (is_main k) es (value_opener es d (is_main k)) whole start end b ≡ Err e → Refuses es InPart whole e
     unfolding value_at

@@ -15,7 +15,7 @@ use Rattle.rox_grammar.specs.RunParts.{Parts}
 use Rattle.rox_grammar.specs.Entities.{Replacement, Entity, text_of, most_deep}
 use Rattle.rox_grammar.specs.State as grammar
 use Rattle.rox_grammar.specs.State.{Open, root, inside, is_root, depth_of, scope_of}
-use Rattle.rox_grammar.specs.ContentPoints.{is_main, is_content, StepsOver, a_run as takes_run, a_section, a_misc, an_empty_tag, a_start_tag, an_end_tag, RefersTo, MayOpen, ContentPoint, begins, goes, enters}
+use Rattle.rox_grammar.specs.ContentPoints.{is_main, is_content, StepsOver, a_run as takes_run, a_section, a_misc, an_empty_tag, a_start_tag, an_end_tag, MayOpen, ContentPoint, begins, goes, enters}
 use Rattle.rox_grammar.specs.RunParts.{PartsTo}
 use Rattle.rox_reading.specs.State.{State}
 use Rattle.rox_reading.specs.Machine.{value_opener, opener}
@@ -33,16 +33,16 @@ use Rattle.rox_theory.proofs.Chains.{Drives}
 use Rattle.rox_theory.proofs.Chains as chains
 use Rattle.rox_theory.proofs.Around.{misc_within}
 use Rattle.rox_theory.proofs.PartOnce.{OpensOnce}
-use Rattle.rox_faults.proofs.PartFronts.{OpenedThere, parts_front}
+use Rattle.rox_faults.proofs.PartFronts.{ToEntity, to_entity, OpenedThere, parts_front}
 use Rattle.rox_theory.proofs.Once.{takes_once}
 use Rattle.rox_faults.proofs.FaultPoints.{context_at}
 use Rattle.rox_faults.proofs.FaultPlaces.{Tagged, takes_cut}
 
--- a state of the grammar, where so many texts may be opened
+-- A state of the grammar, where so many texts may be opened.
 abbrev pub state_of : grammar.State → ℕ → State
 state_of s b = state s.at s.done s.stack b
 
--- what references open, by how many texts are open: in one way, and a text that is read in the same way
+-- What references open, by how many texts are open: in one way, and a text that is read in the same way.
 pub record OpensAt (opens : ℕ → Inclusion) (es : List Entity) : Type 0 where
   pub texts : AreTexts es
   pub values : (d k : ℕ) → d + k ≡ most_deep → AgreesValue es (opens k) (value_opener es d (is_main k))
@@ -54,16 +54,16 @@ pub record OpensAt (opens : ℕ → Inclusion) (es : List Entity) : Type 0 where
       → (t : Replacement) × (r : ℕ) × (l : ℕ) × (text_of es name ≡ Some t) × MayOpen k b r × AreChars t.source t.start (length t.source)
       × Value false (opens (suc k)) t.source (length t.source) t.start r l v
 
--- one more text may be open
+-- One more text may be open.
 pub may_deep : (k b r : ℕ) → MayOpen k b r → suc k ≤ most_deep
 may_deep k b r may = may.0
 
--- and then so many are left in it
+-- And then so many are left in it.
 pub may_once : (k b r q : ℕ) → MayOpen k b r → MayOpen k b q → r ≡ q
 may_once zero b r q may may' = may.3.0 ∙ sym may'.3.0
 may_once (suc k) b r q may may' = omega (arith, may.3.0, may'.3.0)
 
--- a replacement text is what its name says
+-- A replacement text is what its name says.
 pub same_text : (es : List Entity) (name : List ℕ) (t u : Replacement) → text_of es name ≡ Some t → text_of es name ≡ Some u → t ≡ u
 same_text es name t u found found' = cc (sym found ∙ found')
 
@@ -74,12 +74,12 @@ module _ (main : Bool) (O : Inclusion) (src : List ℕ) (open_around : ℕ) wher
     stays : (s : State) → Trail s s
     follows : (s t u : State) → flat.StepsOver main O src open_around s t → Trail t u → Trail s u
 
-  -- a replacement text
+  -- A replacement text.
   pub chain_trail : (s u : State) → flat.Chain main O src open_around s u → Trail s u
   chain_trail s u (flat.Chain.arrives _ at deep) = stays s
   chain_trail s u (flat.Chain.goes _ t _ takes rest) = follows s t u takes (chain_trail t u rest)
 
-  -- names that are in order behind a construct were so before it
+  -- Names that are in order after a construct were so before it.
   pub takes_named : (s t : State) → flat.StepsOver main O src open_around s t → AreNamed t.stack t.done → AreNamed s.stack s.done
   takes_named s t (flat.StepsOver.takes_run i j b c items done stack is parts) named = named_before stack done items named
   takes_named s t (flat.StepsOver.takes_cdata i e j b done stack is) named = named_before stack done _ named
@@ -90,12 +90,12 @@ module _ (main : Bool) (O : Inclusion) (src : List ℕ) (open_around : ℕ) wher
       let before_end = item-named up before (Element start j tag) (merge done) named in
       (before_end.0, before_end.1, merge-named (listed (scope_of up) tag.declarations) done before_end.2)
 
-  -- the construct that stands where the way does not end
+  -- The construct that is where the way does not end.
   trail_step : (s u : State) → Trail s u → (s ≡ u → ⊥) → (t : State) × flat.StepsOver main O src open_around s t × Trail t u
   trail_step s u (stays _) apart = absurd (apart refl)
   trail_step s u (follows _ t _ takes rest) apart = (t, takes, rest)
 
-  -- what stands where a construct of a kind is taken
+  -- What is where a construct of a kind is taken.
   abbrev pub By : Kind → State → State → Type 0
   By a_run s t = (j : ℕ) × (items : Forest Item) × IsCharacterData src s.at j × Parts main O src s.at j s.at s.openings_left t.openings_left items × (t ≡ state j (join s.done items) s.stack t.openings_left)
   By a_comment s t = (j : ℕ) × (item : Item) × IsMisc src s.at j item
@@ -105,7 +105,7 @@ module _ (main : Bool) (O : Inclusion) (src : List ℕ) (open_around : ℕ) wher
   By a_tag s t = Tagged main O src open_around s t
   By nothing s t = ⊥
 
-  -- each construct is of the kind that stands there
+  -- Each construct is of the kind that is there.
   pub takes_by : (s t : State) → flat.StepsOver main O src open_around s t → By (kind_at src s.at) s t
   takes_by s t (flat.StepsOver.takes_run i j b c items done stack is parts) =
       subst (λ (k : Kind). By k (state i done stack b) (state j (join done items) stack c)) (sym (run_kind src i (run_within src i j is).1)) (j, items, is, parts, refl)
@@ -124,12 +124,12 @@ module _ (main : Bool) (O : Inclusion) (src : List ℕ) (open_around : ℕ) wher
   takes_by s t (flat.StepsOver.takes_end i p j b start tag done before up deep end) =
       subst (λ (k : Kind). By k (state i done (inside start tag before up) b) t) (sym (end_kind src i (end_parts end).opens)) (start, tag, before, up, p, j, refl, deep, end)
 
--- the main text from its root element on
+-- The main text from its root element on.
 pub drives_trail : (O : Inclusion) (src : List ℕ) (s u : State) → Drives O src s u → Trail true O src 0 s u
 drives_trail O src s u (chains.arrives _ at_root) = stays s
 drives_trail O src s u (chains.goes _ t _ inner takes rest) = follows s t u takes (drives_trail O src t u rest)
 
--- a construct of a place stands within the source
+-- A construct of a place is within the source.
 pub place_within : (k : ℕ) (O : Inclusion) (src : List ℕ) (utf8 : IsUtf8 src) (s t : grammar.State) (b c : ℕ) → StepsOver k O src s b t c → s.at < length src
 place_within k O src utf8 s t b c (takes_run j _ _ items inner is parts named) = (run_within src s.at j is).0
 place_within k O src utf8 s t b c (a_section e j _ inner is) = let two = (cdata_bytes src s.at (cdata_parts is).opens).0 in omega arith
@@ -138,19 +138,19 @@ place_within k O src utf8 s t b c (an_empty_tag j _ _ x is named) = let begins =
 place_within k O src utf8 s t b c (a_start_tag j _ _ x is named) = let begins = (tag_parts is).begins in within src s.at (λ z. omega arith)
 place_within k O src utf8 s t b c (an_end_tag n j _ start x before up stack is) = let two = (end_bytes src s.at (end_parts is).opens).0 in omega arith
 
--- the elements that are open around the innermost one
+-- The elements that are open around the innermost one.
 up_of : Open → Open → Open
 up_of none root = none
 up_of none (inside start tag before up) = up
 
--- at the root no element is open
+-- At the root no element is open.
 inner_apart : (o p : Open) → is_content 0 o ≡ true → is_root p ≡ true → o ≡ p → ⊥
 inner_apart root p inner at_root same = cc inner
 inner_apart (inside start tag before up) p inner at_root same = let z : is_root (inside start tag before up) ≡ true = ap is_root same ∙ at_root in cc z
 
 -- ---- the way
 
--- where it ends
+-- Where it ends.
 abbrev pub Ends : (k open_around : ℕ) → List ℕ → State → Type 0
 Ends zero open_around src e = is_root e.stack ≡ true
 Ends (suc k) open_around src e = (e.at ≡ length src) × (depth_of e.stack ≡ open_around)
@@ -182,18 +182,18 @@ module _ (opens : ℕ → Inclusion) (es : List Entity) (all : OpensAt opens es)
     abbrev One : State → State → Type 0
     One s t = flat.StepsOver (is_main k) (opens k) src open_around s t
 
-    -- a state on the way is within the limits if its end is
+    -- A state on the way is within the limits if its end is.
     trail_fine : (t u : State) → Trail (is_main k) (opens k) src open_around t u → IsValidState limit u → IsValidState limit t
     trail_fine t u (stays _) fine = fine
     trail_fine t u (follows _ v _ takes rest) fine =
         steps.step_back (context_at limit es r.d k open_around) (opens k) (all.values r.d k r.deep) (all.contents limit r.d k r.deep) src r.utf8 t v takes (trail_fine v u rest fine)
 
-    -- and its names are in order
+    -- And its names are in order.
     trail_named : (t u : State) → Trail (is_main k) (opens k) src open_around t u → AreNamed u.stack u.done → AreNamed t.stack t.done
     trail_named t u (stays _) named = named
     trail_named t u (follows _ v _ takes rest) named = takes_named (is_main k) (opens k) src open_around t v takes (trail_named v u rest named)
 
-    -- the construct that stands there
+    -- The construct that is there.
     pub record Step : Type 0 where
       pub to : State
       pub takes : flat.StepsOver (is_main k) (opens k) src open_around s to
@@ -206,13 +206,13 @@ module _ (opens : ℕ → Inclusion) (es : List Entity) (all : OpensAt opens es)
         let x = trail_step (is_main k) (opens k) src open_around s r.end r.trail (not_end k open_around src s r.end r.ends (λ top. (r.first top).0) below) in
         record { to = x.0; takes = x.1; fine = λ w. trail_fine x.0 r.end x.2 (r.fine w); named = trail_named x.0 r.end x.2 r.named; rest = x.2 }
 
-    -- of this kind
+    -- Of this kind.
     pub there_by : (kind : Kind) → (below : s.at < length src) → kind_at src s.at ≡ kind → By (is_main k) (opens k) src open_around kind s (step_there below).to
     there_by kind below is =
         let there = step_there below in
         subst (λ (kind : Kind). By (is_main k) (opens k) src open_around kind s there.to) is (takes_by (is_main k) (opens k) src open_around s there.to there.takes)
 
-    -- any construct that stands there is the one on the way
+    -- Any construct that is there is the one on the way.
     pub one_step : (t : State) → flat.StepsOver (is_main k) (opens k) src open_around s t → (below : s.at < length src) → (step_there below).to ≡ t
     one_step t takes below =
         let there = step_there below in
@@ -221,7 +221,7 @@ module _ (opens : ℕ → Inclusion) (es : List Entity) (all : OpensAt opens es)
   -- ---- places
 
   module _ (k open_around b : ℕ) (src : List ℕ) (s : grammar.State) (r : Reached k open_around src (state_of s b)) where
-    -- what is taken at a place on the way is a construct of its state
+    -- What is taken at a place on the way is a construct of its state.
     pub takes_there : (t : grammar.State) (c : ℕ) → StepsOver k (opens k) src s b t c → flat.StepsOver (is_main k) (opens k) src open_around (state_of s b) (state_of t c)
     unfolding up_of
     takes_there t c (takes_run j _ _ items inner is parts named) = flat.StepsOver.takes_run s.at j b c items s.done s.stack is parts
@@ -236,7 +236,7 @@ module _ (opens : ℕ → Inclusion) (es : List Entity) (all : OpensAt opens es)
         let deep : open_around < depth_of up + 1 = subst (λ (up : Open). open_around < depth_of up + 1) same there.7 in
         subst (λ (o : Open). flat.StepsOver (is_main k) (opens k) src open_around (state s.at s.done o b) (state_of t b)) (sym stack) (flat.StepsOver.takes_end s.at n j b start x s.done before up deep is)
 
-    -- and leads on along the way
+    -- And leads on along the way.
     goes_reached : (t : grammar.State) (c : ℕ) → StepsOver k (opens k) src s b t c → is_content k t.stack ≡ true → Reached k open_around src (state_of t c)
     goes_reached t c takes inner =
         let takes' = takes_there t c takes in
@@ -256,7 +256,7 @@ module _ (opens : ℕ → Inclusion) (es : List Entity) (all : OpensAt opens es)
           first = λ top. absurd (true≢false (sym inner ∙ top));
         }
 
-    -- the run that stands there
+    -- The run that is there.
     pub record RunThere (stop : ℕ) : Type 0 where
       pub openings_left : ℕ
       pub items : Forest Item
@@ -270,8 +270,8 @@ module _ (opens : ℕ → Inclusion) (es : List Entity) (all : OpensAt opens es)
         let run = there_by k open_around src (state_of s b) r a_run below (run_kind src s.at other) in
         (run.0, run.2, record { openings_left = there.to.openings_left; items = run.1; parts = run.3; fine = λ w. subst (IsValidState limit) run.4 (there.fine w); named = subst (λ (u : State). AreNamed u.stack u.done) run.4 there.named })
 
-    -- where it is read up to a reference, that opens a text there
-    pub opened_there : (stop p c j : ℕ) (front : Forest Item) (t : Replacement) → IsCharacterData src s.at stop → PartsTo (is_main k) (opens k) src s.at stop s.at p b c front → p < stop → (refers : RefersTo es src p j t)
+    -- Where it is read up to a reference, that opens a text there.
+    pub opened_there : (stop p c j : ℕ) (front : Forest Item) (t : Replacement) → IsCharacterData src s.at stop → PartsTo (is_main k) (opens k) src s.at stop s.at p b c front → p < stop → (refers : ToEntity es src p j t)
         → (run : RunThere stop) × OpenedThere (is_main k) (opens k) (all.once k) src s.at stop p refers.0 j c run.openings_left front run.items
     opened_there stop p c j front t is to below refers =
         let inside = run_within src s.at stop is in
@@ -279,8 +279,8 @@ module _ (opens : ℕ → Inclusion) (es : List Entity) (all : OpensAt opens es)
         let run : RunThere stop = subst RunThere ((char_data_parts there.1).end ∙ sym (char_data_parts is).end) there.2 in
         (run, parts_front (is_main k) (opens k) (all.once k) src s.at stop p s.at refers.0 j b c run.openings_left front run.items to run.parts below refers.1 refers.2)
 
-    -- so the way leads into that text
-    enters_reached : (stop p c j q : ℕ) (front : Forest Item) (t : Replacement) → IsCharacterData src s.at stop → PartsTo (is_main k) (opens k) src s.at stop s.at p b c front → p < stop → RefersTo es src p j t → MayOpen k c q
+    -- So the way leads into that text.
+    enters_reached : (stop p c j q : ℕ) (front : Forest Item) (t : Replacement) → IsCharacterData src s.at stop → PartsTo (is_main k) (opens k) src s.at stop s.at p b c front → p < stop → ToEntity es src p j t → MayOpen k c q
         → Reached (suc k) (depth_of s.stack) t.source (state t.start (join s.done front) s.stack q)
     enters_reached stop p c j q front t is to below refers may =
         let there = opened_there stop p c j front t is to below refers in
@@ -312,10 +312,11 @@ module _ (opens : ℕ → Inclusion) (es : List Entity) (all : OpensAt opens es)
           first = λ top. cc top;
         }
 
-  -- each place lies on the way
+  -- Each place lies on the way.
   pub place_reached : (text : List ℕ) (Root : ℕ → Forest Item → Type 0) → ((p : ℕ) (items : Forest Item) → Root p items → Reached 0 0 text (state p items root 255))
       → (k open_around b : ℕ) (src : List ℕ) (s : grammar.State) → ContentPoint opens es text Root k open_around src b s → Reached k open_around src (state_of s b)
   place_reached text Root at_root k open_around b src s (begins p items is) = at_root p items is
   place_reached text Root at_root k open_around b src s (goes _ _ c _ _ r _ place takes inner deep) = goes_reached k open_around c src r (place_reached text Root at_root k open_around c src r place) s b takes inner
-  place_reached text Root at_root k open_around b src s (enters l other c e _ p j source r front t place inner (stop, is, to, below, refers) named may) =
-      enters_reached l other c source r (place_reached text Root at_root l other c source r place) stop p e j b front t is to below refers may
+  place_reached text Root at_root k open_around b src s (enters l other c _ source r run place inner named may) =
+      enters_reached l other c source r (place_reached text Root at_root l other c source r place) run.run_end run.reference run.openings_left run.after b run.front run.replacement run.is_run run.is_front run.within_run
+      (to_entity es source run.reference run.after run.replacement run.refers) may

@@ -18,14 +18,14 @@ use Rattle.rox_grammar.specs.Forest.{Forest, Nil, join}
 use Rattle.rox_grammar.specs.Written.{Item, Comment, PI, leaf}
 use Rattle.rox_grammar.specs.Tree.{scope_in}
 use Rattle.rox_grammar.specs.Names.{byte, spaces_end}
-use Rattle.rox_grammar.specs.Constructs.{IsEq, DeclarationTo, version, encoding, standalone}
+use Rattle.rox_grammar.specs.Constructs.{IsEq, PairAt, DeclarationTo, version, encoding, standalone}
 use Rattle.rox_grammar.specs.Content.{IsMisc}
 use Rattle.rox_grammar.specs.WellNamed.{AreWellNamed}
 use Rattle.rox_grammar.specs.Content.{Inclusion, IsElement}
 use Rattle.rox_grammar.specs.TextStart.{after_bom}
 use Rattle.rox_grammar.specs.Entities.{Entity, no_entities, most_deep, included_in_main}
 use Rattle.rox_grammar.specs.Doctype.{Asked}
-use Rattle.rox_grammar.specs.Document.{Behind, Misc, no_misc, space, an_item, PrologTo}
+use Rattle.rox_grammar.specs.Document.{DocumentTo, Misc, no_misc, space, an_item, PrologTo}
 use Rattle.rox_grammar.specs.State.{root, nodes_so_far, FitsLimits}
 use Rattle.rox_reading.specs.Refusals.{Refusal, here, there, refused, lifted}
 use Rattle.rox_reading.specs.State.{State}
@@ -65,13 +65,13 @@ use Rattle.rox_theory.proofs.FailedReadings.{bind_err, lifted_err, lifted_only, 
 use Rattle.rox_faults.proofs.FaultRows.{comment_fails, instruction_fails}
 use Rattle.rox_faults.proofs.FaultTags.{quote_fails, value_cut}
 use Rattle.rox_theory.proofs.NoEntities.{no_values, no_contents}
-use Rattle.rox_theory.proofs.ParseParts.{behind_parts, parts_behind}
+use Rattle.rox_theory.proofs.ParseParts.{document_parts, document_made}
 use Rattle.rox_faults.proofs.FaultPoints.{Refuses, refuses_here, From, fine_fits}
 use Rattle.rox_faults.proofs.FaultPlaces.{Here, tag_fails, tag_taken, tagged_takes, tag_goes, takes_cut, takes_opened, drive_fails}
 use Rattle.rox_grammar.specs.Document as document
 use Rattle.rox_grammar.specs.Content as content
 
--- behind white space stands none
+-- After white space stands none.
 pub no_more_space : (src : List ℕ) (i : ℕ) → IsUtf8 src → IsCharBoundary src i → is_space (byte src (spaces_end src i)) ≡ false
 unfolding run_end
 no_more_space src i utf8 cut =
@@ -92,7 +92,7 @@ no_more_space src i utf8 cut =
 module _ (src : List ℕ) (utf8 : IsUtf8 src) where
   -- ---- the declaration
 
-  -- a pair
+  -- A pair.
   pair_fails : (i : ℕ) (f : Fault) → pair_at src i ≡ Err f → Misses src (DueInPair src i) f
   unfolding pair_at
   pair_fails i f h =
@@ -125,7 +125,7 @@ module _ (src : List ℕ) (utf8 : IsUtf8 src) where
       let bad' = rw (q0, sound.2) at h in
       (e, a_byte (byte src v), closing name.0 name.1 v is_name eq quote.0 (inr sound.0), byte_fails (byte src v) src e f bad')))))
 
-  -- the white space behind it
+  -- The white space after it.
   gap_fails : (i : ℕ) (f : Fault) → gap_at src i ≡ Err f → (i < length src) × (stands (word_text word.PIEnd) src i ≡ false) × IsMissing src i a_space f
   unfolding gap_at
   gap_fails i f h =
@@ -134,11 +134,11 @@ module _ (src : List ℕ) (utf8 : IsUtf8 src) where
       (λ none h. chosen (stands (word_text word.PIEnd) src i) _ _ _ h (λ ends h. cc)
       (λ other h. let is : fault.InvalidChar2 due.Space (byte src i) i ≡ f = cc in (leb-false _ _ inside, other, subst (IsMissing src i a_space) is (no_space (leb-false _ _ inside) none)))))
 
-  -- what is due in the declaration
+  -- What is required in the declaration.
   abbrev pub Declares : ℕ → Fault → Type 0
   Declares i f = Misses src (DueInXmlDecl src i) f
 
-  -- a pair and its gap
+  -- A pair and its gap.
   pair_if_fails : (w : Word) (i p : ℕ) (f : Fault) → DeclarationTo src i (word_text w) p → word_text w ≢ word_text word.Standalone → pair_if w src p ≡ Err f → Declares i f
   unfolding pair_if
   pair_if_fails w i p f to other h =
@@ -148,10 +148,11 @@ module _ (src : List ℕ) (utf8 : IsUtf8 src) where
       (λ x read bad.
       let there = pair_sound src utf8 p x read in
       let lack = gap_fails x.1 f bad in
-      (x.1, a_space, behind_pair (word_text w) there.0 p there.1 there.2 there.3 x.1 to here other there.4 lack.0 lack.1, lack.2)))
+      let pair : PairAt src p = record { name = there.0; name_end = there.1; first_quote = there.2; last_quote = there.3; end = x.1; is_written = there.4 } in
+      (x.1, a_space, behind_pair (word_text w) p pair to here other lack.0 lack.1, lack.2)))
       (λ none h. cc)
 
-  -- the declaration
+  -- The declaration.
   pub declaration_fails : (i : ℕ) (f : Fault) → xml_decl_at src i ≡ Err f → Declares i f
   unfolding xml_decl_at
   declaration_fails i f h =
@@ -174,7 +175,8 @@ module _ (src : List ℕ) (utf8 : IsUtf8 src) where
       chosen (stands (word_text word.Standalone) src e.1) _ _ _ read''
       (λ there read''.
       let last = pair_sound src utf8 e.1 s read'' in
-      (spaces_end src s.1, a_text expected.PIEnd, behind_standalone last.0 e.1 last.1 last.2 last.3 s.1 to_standalone there last.4, bad))
+      let pair : PairAt src e.1 = record { name = last.0; name_end = last.1; first_quote = last.2; last_quote = last.3; end = s.1; is_written = last.4 } in
+      (spaces_end src s.1, a_text expected.PIEnd, behind_standalone e.1 pair to_standalone there, bad))
       (λ none same.
       let behind_first = pair_if_ends word.Version src p v.1 utf8 (λ none. absurd (true≢false (sym here ∙ none))) first_pair in
       let behind_second = pair_if_ends word.Encoding src v.1 e.1 utf8 (λ none. behind_first) second in
@@ -186,21 +188,21 @@ module _ (src : List ℕ) (utf8 : IsUtf8 src) where
 
   -- ---- comments and processing instructions
 
-  -- one row of them after another
+  -- One row of them after another.
   pub misc_append : (i j k : ℕ) (xs ys : Forest Item) → Misc src i j xs → Misc src j k ys → Misc src i k (join xs ys)
   misc_append i j k xs ys (no_misc _) n = n
   misc_append i j k xs ys (space _ _ _ is rest) n = space i k (join xs ys) is (misc_append (i + 1) j k xs ys rest n)
   misc_append i j k xs ys (an_item _ l _ item items is rest) n = an_item i l k item (join items ys) is (misc_append l j k items ys rest n)
 
-  -- white space
+  -- White space.
   pub misc_spaces : (i : ℕ) → IsCharBoundary src i → Misc src i (spaces_end src i) Nil
   misc_spaces i cut' = (over_spaces src (λ (m : ℕ). Misc src m (spaces_end src i) Nil) i utf8 cut' (λ m is rest. space m (spaces_end src i) Nil is rest)).1 (no_misc (spaces_end src i))
 
-  -- nothing of them stands here, and a character begins
+  -- Nothing of them is here, and a character begins.
   abbrev pub StopsAt : ℕ → Type 0
   StopsAt k = (is_space (byte src k) ≡ false) × (at word.CommentStart src k ≡ false) × (at word.PIStart src k ≡ false) × IsCharBoundary src k
 
-  -- so it is where they stop
+  -- So it is where they stop.
   pub misc_stops : (n limit b i : ℕ) (done : Forest Item) (u : State) → IsCharBoundary src i → length src ≤ i + n → misc limit n src (state i done root b) ≡ Ok u → StopsAt u.at
   unfolding misc comment_step instruction_step
   misc_stops zero limit b i done u cut' enough h =
@@ -231,7 +233,7 @@ module _ (src : List ℕ) (utf8 : IsUtf8 src) where
       (Q : Type 0)
       (ill : (p : ℕ) (items : Forest Item) → Point p items → FitsLimits limit root items → InMisc src p f → Q)
       (over : (p j : ℕ) (items : Forest Item) (item : Item) → Point p items → FitsLimits limit root items → IsMisc src p j item → limit < nodes_so_far root (join items (leaf item)) → fault.NodesLimitReached ≡ f → Q) where
-    -- they fail at a point
+    -- They fail at a point.
     pub misc_fails : (n b i : ℕ) (done : Forest Item) → Point i done → IsValidState most (state i done root b) → IsCharBoundary src i → misc limit n src (state i done root b) ≡ Err f → Q
     unfolding misc comment_step instruction_step
     misc_fails zero b i done point fine cut' h = no_fault _ f h
@@ -262,23 +264,23 @@ module _ (src : List ℕ) (utf8 : IsUtf8 src) where
         (λ u one h. bind_ok (instruction_at src k) _ _ one (λ x read one. go x.1 (PI k x.1 x.0.target x.0.value) u (instruction_is src utf8 k x.1 x.0 is read) one h)))
         (λ neither h. no_fault _ f h))
 
-  -- before the root element
+  -- Before the root element.
   pub ahead_on : (p q : ℕ) (done items : Forest Item) → PrologTo src p done → Misc src p q items → PrologTo src q (join done items)
   ahead_on p q done items point more = (point.0, point.1, misc_append point.0 p q done items point.2 more)
 
   -- ---- the root element, and what is around it
 
-  module _ (opens : ℕ → Inclusion) (es : List Entity) (limit most : ℕ) (declared : Bool) (Front : ℕ → Forest Item → Type 0) (less : limit ≤ most) (least : most ≤ max limit 1)
+  module _ (opens : ℕ → Inclusion) (es : List Entity) (limit most : ℕ) (declared : Bool) (PrologAt : ℕ → Forest Item → Type 0) (less : limit ≤ most) (least : most ≤ max limit 1)
       (values : (d k : ℕ) → d + k ≡ most_deep → AgreesValue es (opens k) (value_opener es d (is_main k))) (contents : (d k : ℕ) → d + k ≡ most_deep → AgreesContent es limit (opens k) (opener limit es d (is_main k)))
       (texts : AreTexts es) (elements : (i j openings_left : ℕ) (one : Forest Item) → IsElement true (included_in_main es) src i j 255 openings_left one → (openings_left' : ℕ) × IsElement true (opens 0) src i j 255 openings_left' one) where
-    -- a fault from there on
+    -- A fault from there on.
     abbrev P : List ℕ → Fault → Type 0
-    P source f = From opens es limit src declared Front source f
+    P source f = From opens es limit src declared PrologAt source f
 
     fits_here : (s : State) → IsValidState most s → FitsLimits limit s.stack s.done
     fits_here s fine = fine_fits limit most s least fine
 
-    -- what is read from the tag of the root element on
+    -- What is read from the tag of the root element on.
     root_read : (i : ℕ) (before : Forest Item) (t u : State) → byte src i ≡ 60 → IsValidState most (state i before root 255) → tag_step (main_text limit es) src (state i before root 255) ≡ Ok t
         → drive (main_text limit es) (length src) src t ≡ Ok u → (openings_left : ℕ) × (one : Forest Item) × IsElement true (opens 0) src i u.at 255 openings_left one × (u ≡ state u.at (join before one) root u.openings_left) × IsValidState most u
     root_read i before t u opens' fine read driven =
@@ -291,18 +293,18 @@ module _ (src : List ℕ) (utf8 : IsUtf8 src) where
         let same = elements i u.at u.openings_left e.0 e.1 in
         (same.0, e.0, same.1, e.2, chain.1)
 
-    -- comments and processing instructions have no names in namespaces
+    -- Comments and processing instructions have no names in namespaces.
     misc_named : (i j : ℕ) (items : Forest Item) → Misc src i j items → AreWellNamed [] items
     misc_named i j items (document.Misc.no_misc _) = tt
     misc_named i j items (document.Misc.space _ _ _ white rest) = misc_named (i + 1) j items rest
     misc_named i j items (document.Misc.an_item _ k _ _ more (content.IsMisc.comment _ e _ is) rest) = (tt, tt, misc_named k j more rest)
     misc_named i j items (document.Misc.an_item _ k _ _ more (content.IsMisc.instruction _ n e _ is) rest) = (tt, tt, misc_named k j more rest)
 
-    -- behind the root element
-    pub behind_on : (p q : ℕ) (done items : Forest Item) → Behind (opens 0) src Front p done → Misc src p q items → Behind (opens 0) src Front q (join done items)
+    -- After the root element.
+    pub behind_on : (p q : ℕ) (done items : Forest Item) → DocumentTo (opens 0) src PrologAt p done → Misc src p q items → DocumentTo (opens 0) src PrologAt q (join done items)
     behind_on p q done items is more =
-        let point = behind_parts is in
-        parts_behind (record {
+        let point = document_parts is in
+        document_made (record {
           start = point.start;
           before = point.before;
           ahead = point.ahead;
@@ -316,15 +318,15 @@ module _ (src : List ℕ) (utf8 : IsUtf8 src) where
           all = ap (λ (d : Forest Item). join d items) point.all ∙ join_assoc (join point.before point.one) point.after items;
         })
 
-    -- right behind it
-    behind_root : (i openings_left : ℕ) (before one : Forest Item) (u : State) → Front i before → IsElement true (opens 0) src i u.at 255 openings_left one → u ≡ state u.at (join before one) root u.openings_left → IsValidState most u
-        → Behind (opens 0) src Front u.at (join before one)
+    -- Right after it.
+    behind_root : (i openings_left : ℕ) (before one : Forest Item) (u : State) → PrologAt i before → IsElement true (opens 0) src i u.at 255 openings_left one → u ≡ state u.at (join before one) root u.openings_left → IsValidState most u
+        → DocumentTo (opens 0) src PrologAt u.at (join before one)
     behind_root i openings_left before one u ahead element is fine =
         let named : AreWellNamed [] (join before one) = (subst (IsValidState most) is fine).named in
-        parts_behind (record { start = i; before = before; ahead = ahead; end = u.at; openings_left = openings_left; one = one; element = element; well_named = named; after = Nil; misc = no_misc u.at; all = sym (join-nil (join before one)) })
+        document_made (record { start = i; before = before; ahead = ahead; end = u.at; openings_left = openings_left; one = one; element = element; well_named = named; after = Nil; misc = no_misc u.at; all = sym (join-nil (join before one)) })
 
-    -- the root element and what follows it
-    pub body_fails : (i : ℕ) (before : Forest Item) (e : Refusal) → IsCharBoundary src i → IsValidState most (state i before root 255) → Front i before → at word.CommentStart src i ≡ false → at word.PIStart src i ≡ false
+    -- The root element and what follows it.
+    pub body_fails : (i : ℕ) (before : Forest Item) (e : Refusal) → IsCharBoundary src i → IsValidState most (state i before root 255) → PrologAt i before → at word.CommentStart src i ≡ false → at word.PIStart src i ≡ false
         → (declared ≡ false → at word.DoctypeStart src i ≡ false) → body limit es src (state i before root 255) ≡ Err e → Refuses es P src e
     unfolding body
     body_fails i before e cut' fine ahead no_comment no_instruction no_doctype h =
@@ -332,15 +334,15 @@ module _ (src : List ℕ) (utf8 : IsUtf8 src) where
         chosen (byte src i == 60) _ _ _ h
         (λ is h.
         let opens' : byte src i ≡ 60 = eqb-true _ _ is in
-        let place : Here opens es limit src declared Front most less least values contents texts 0 0 src s = begins i before (ahead, (opens', no_comment, no_instruction, no_doctype)) in
+        let place : Here opens es limit src declared PrologAt most less least values contents texts 0 0 src s = begins i before (ahead, (opens', no_comment, no_instruction, no_doctype)) in
         bind_err (tag_step (main_text limit es) src s) _ e h
-        (λ bad. tag_fails opens es limit src declared Front most less least values contents texts most_deep 0 0 refl src utf8 s e (of_root opens') opens' fine place bad)
+        (λ bad. tag_fails opens es limit src declared PrologAt most less least values contents texts most_deep 0 0 refl src utf8 s e (of_root opens') opens' fine place bad)
         (λ t read h.
-        let tag = tag_taken opens es limit src declared Front most less least values contents texts most_deep 0 0 refl src utf8 s t opens' fine read in
+        let tag = tag_taken opens es limit src declared PrologAt most less least values contents texts most_deep 0 0 refl src utf8 s t opens' fine read in
         let takes = tagged_takes true (opens 0) src 0 s t tag.0 in
         bind_err (drive (main_text limit es) (length src) src t) _ e h
-        (λ bad. drive_fails opens es limit src declared Front most less least values contents texts utf8 (length src) t e
-        (λ inner. tag_goes opens es limit src declared Front most less least values contents texts utf8 s t place tag.0 tag.1 inner) tag.1
+        (λ bad. drive_fails opens es limit src declared PrologAt most less least values contents texts utf8 (length src) t e
+        (λ inner. tag_goes opens es limit src declared PrologAt most less least values contents texts utf8 s t place tag.0 tag.1 inner) tag.1
         (takes_cut true (opens 0) src 0 utf8 s t takes)
         (takes_opened true (opens 0) src 0 s t takes tt) (omega arith) bad)
         (λ u driven h.
@@ -351,15 +353,15 @@ module _ (src : List ℕ) (utf8 : IsUtf8 src) where
         lifted_err (misc limit (length src) src u) _ e h
         (λ f bad same.
         refuses_here es P src f e same
-        (misc_fails limit most less least f (Behind (opens 0) src Front) behind_on (P src f) (λ p items point fits ill. misc_around p items _ (inr point) fits (in_one f ill))
+        (misc_fails limit most less least f (DocumentTo (opens 0) src PrologAt) behind_on (P src f) (λ p items point fits ill. misc_around p items _ (inr point) fits (in_one f ill))
         (λ p j items item point fits item_is many is. subst (P src) is (misc_around p items _ (inr point) fits (one_too_many j item item_is many)))
         (length src) u.openings_left u.at (join before one) behind (subst (IsValidState most) u_is root'.4) (ends_cut src u.at utf8 (element_ends true (opens 0) src i u.at 255 root'.0 one root'.2))
         (subst (λ (u : State). misc limit (length src) src u ≡ Err f) u_is bad)))
         (λ v rest h. no_fault _ e h))))
         (λ none h. no_fault _ e h)
 
-    -- nothing may be left
-    pub finished_fails : (i : ℕ) (before : Forest Item) (f : Fault) (x : State × Bool) → IsCharBoundary src i → IsValidState most (state i before root 255) → Front i before → is_space (byte src i) ≡ false
+    -- Nothing may be left.
+    pub finished_fails : (i : ℕ) (before : Forest Item) (f : Fault) (x : State × Bool) → IsCharBoundary src i → IsValidState most (state i before root 255) → PrologAt i before → is_space (byte src i) ≡ false
         → body limit es src (state i before root 255) ≡ Ok x → finished src x ≡ Err f → P src f
     unfolding body finished
     finished_fails i before f x cut' fine ahead no_space' h bad =
@@ -389,15 +391,15 @@ module _ (src : List ℕ) (utf8 : IsUtf8 src) where
         (λ all bad.
         let is : fault.NoRootNode ≡ f = cc in
         let end : i ≡ length src = omega (arith, ltb-false _ _ all, cut'.0) in
-        subst (P src) is (no_root before (subst (λ (p : ℕ). Front p before) end ahead) (fits_here s fine))))
+        subst (P src) is (no_root before (subst (λ (p : ℕ). PrologAt p before) end ahead) (fits_here s fine))))
 
   -- ---- the whole
 
-  -- no entity is text
+  -- No entity is text.
   pub no_texts : AreTexts []
   no_texts name t found = cc found
 
-  -- what is opened where none is declared
+  -- What is opened where none is declared.
   pub plain_values : (d k : ℕ) → d + k ≡ most_deep → AgreesValue [] no_entities (value_opener [] d (is_main k))
   plain_values d k deep = no_values (value_opener [] d (is_main k))
 
@@ -407,18 +409,18 @@ module _ (src : List ℕ) (utf8 : IsUtf8 src) where
   pub plain_elements : (i j openings_left : ℕ) (one : Forest Item) → IsElement true (included_in_main []) src i j 255 openings_left one → (openings_left' : ℕ) × IsElement true no_entities src i j 255 openings_left' one
   plain_elements i j openings_left one element = element_without src i j 255 openings_left one element
 
-  -- so that a fault stands in the text itself
+  -- So that a fault is in the text itself.
   plain_here : (limit : ℕ) (e : Refusal) → Refuses [] (From (λ k. no_entities) [] limit src false (PrologTo src)) src e → IsHere (FaultOf limit src) e
   plain_here limit (here f) ill = (f, refl, without f ill)
   plain_here limit (there source f) ill = let none = ill.1.2 in cc none
   plain_here limit (refused request p message) ill = absurd ill
 
-  -- where something is asked first, it fails, or gives a value with which the rest fails
+  -- Where something is asked first, it fails, or gives a value with which the rest fails.
   asks_err : {A B P : Type 0} (r : Asks A) (g : A → Asks B) (e : Refusal) → (r >>> g).1 ≡ Err e → (r.1 ≡ Err e → P) → ((x : A) → r.1 ≡ Ok x → (g x).1 ≡ Err e → P) → P
   asks_err (asked, Ok x) g e h now later = later x refl h
   asks_err (asked, Err d) g e h now later = now (cc h)
 
-  -- a document type declaration that may not stand: row 17
+  -- A document type declaration that is not allowed: row 17.
   doctype_fails : (limit : ℕ) (d : Dtd) (e : Refusal) → (whole.doctype limit false src d).1 ≡ Err e → (at word.DoctypeStart src d.state.at ≡ true) × (here fault.DtdDetected ≡ e)
   unfolding whole.doctype
   doctype_fails limit d e h =
@@ -427,7 +429,7 @@ module _ (src : List ℕ) (utf8 : IsUtf8 src) where
         | inr none ↦ (let h' : ◌≡◌ {A = Result Dtd Refusal} (Ok d) (Err e) = rw none at h in no_fault d e h')
       ]
 
-  -- where there is none reading goes on
+  -- Where there is none reading continues.
   pub doctype_none : (limit : ℕ) (d c : Dtd) → (whole.doctype limit false src d).1 ≡ Ok c → (at word.DoctypeStart src d.state.at ≡ false) × (d ≡ c)
   unfolding whole.doctype
   doctype_none limit d c h =
@@ -436,7 +438,7 @@ module _ (src : List ℕ) (utf8 : IsUtf8 src) where
         | inr none ↦ (let h' : ◌≡◌ {A = Result Dtd Refusal} (Ok d) (Ok c) = rw none at h in (none, ok_same _ _ h'))
       ]
 
-  -- a whole text
+  -- A whole text.
   pub reading_fails : (limit : ℕ) (replies : List Reply) (e : Refusal) → (reading limit false replies src).1 ≡ Err e → IsHere (FaultOf limit src) e
   unfolding reading prolog
   reading_fails limit replies e h =
@@ -486,11 +488,11 @@ module _ (src : List ℕ) (utf8 : IsUtf8 src) where
       (λ x main bad. lifted_only (finished src x) e bad (λ f bad same.
       (f, same, without f (finished_fails (λ k. no_entities) [] limit most false (PrologTo src) less least plain_values (plain_contents limit) no_texts plain_elements s.at m.0 f x cut'' fine there stops.0 (subst (λ (s : State). body limit [] src s ≡ Ok x) s_is main) bad)))))))
     where
-      -- what opens nothing
+      -- What opens nothing.
       lifted_ok : {A : Type 0} {r : Result A Fault} {x : A} → lifted r ≡ Ok x → r ≡ Ok x
       lifted_ok {A} {r} {x} h = bind_lifted_only r x h (λ h. h)
 
--- the fault of a text stands where the grammar says
+-- The fault of a text is where the grammar says.
 pub reading_faults : (limit : ℕ) (replies : List Reply) (src : List ℕ) (asked : List Asked) (e : Refusal) → IsUtf8 src → reading limit false replies src ≡ (asked, Err e)
     → (f : Fault) × (here f ≡ e) × FaultOf limit src f
 reading_faults limit replies src asked e utf8 h = reading_fails src utf8 limit replies e (ap (λ (x : Asks (Forest Item)). x.1) h)

@@ -19,7 +19,7 @@ use Rattle.rox_theory.proofs.Productions.{ncname_parts}
 use Rattle.rox_theory.proofs.Basics.{within, run_end_le}
 use Rattle.rox_theory.proofs.NameLemmas.{qname_sound}
 
--- behind the characters that pass another begins
+-- After the characters that pass another begins.
 run_cut_in : (p : ℕ → Bool) (src cs : List ℕ) (i : ℕ) → IsUtf8 src → IsCharBoundary src i → drop i src ≡ encode_utf8_all cs → IsCharBoundary src (i + passing p cs)
 run_cut_in p src [] i utf8 cut is = rw (add-zero i) cut
 run_cut_in p src (c ∷ cs) i utf8 cut is =
@@ -34,7 +34,7 @@ run_cut_in p src (c ∷ cs) i utf8 cut is =
       | inr fails ↦ rw (fails, add-zero i) cut
     ]
 
--- a run that begins where a character does ends so
+-- A run that begins where a character does ends so.
 pub run_cut : (p : ℕ → Bool) (src : List ℕ) (i : ℕ) → IsUtf8 src → IsCharBoundary src i → IsCharBoundary src (run_end p src i)
 unfolding run_end
 run_cut p src i utf8 cut =
@@ -42,43 +42,43 @@ run_cut p src i utf8 cut =
     let all : chars (drop i src) ≡ spelled.0 = ap chars (sym spelled.1.1) ∙ chars-encodes spelled.0 spelled.1.0 in
     rw all (run_cut_in p src spelled.0 i utf8 cut (sym spelled.1.1))
 
--- a character begins behind a byte that is ASCII and not 0
+-- A character begins after a byte that is ASCII and not 0.
 pub cut_behind : (src : List ℕ) (i b : ℕ) → IsUtf8 src → byte src i ≡ b → 0 < b → b < 128 → IsCharBoundary src (i + 1)
 cut_behind src i b utf8 is some ascii = IsCharBoundary-after_ascii src i utf8 (within src i (λ z. omega arith)) (omega arith)
 
--- a span from its two ends
+-- A span from its two ends.
 pub text_span : (src : List ℕ) (i j : ℕ) → i ≤ j → IsCharBoundary src i → IsCharBoundary src j → IsTextSpan src (record { start = i; end = j })
 text_span src i j le start end = (le, start, end)
 
--- how long a slice is
+-- How long a slice is.
 slice_long : (src : List ℕ) (i j : ℕ) → i ≤ j → j ≤ length src → length (slice src i j) ≡ j - i
 slice_long src i j from inside = omega (arith, length-take (j - i) (drop i src), length-drop i src)
 
--- a local part that is a slice
+-- A local part that is a slice.
 local_is : (src : List ℕ) (name : Name) (i j : ℕ) → name.local ≡ slice src i j → i ≤ j → IsCharBoundary src i → IsCharBoundary src j → IsTextSpan src (local_span name j)
 local_is src name i j is le start end =
     let l = slice_long src i j le end.0 in
     let e : i ≡ j - length name.local = rw is (omega arith) in
     text_span src (j - length name.local) j (omega arith) (subst (IsCharBoundary src) e start) end
 
--- a prefix that is a slice
+-- A prefix that is a slice.
 prefix_is : (src : List ℕ) (name : Name) (i j : ℕ) → name.prefix ≡ slice src i j → i ≤ j → IsCharBoundary src i → IsCharBoundary src j → IsTextSpan src (prefix_span name i)
 prefix_is src name i j is le start end =
     let l = slice_long src i j le end.0 in
     let e : j ≡ i + length name.prefix = rw is (omega arith) in
     text_span src i (i + length name.prefix) (omega arith) start (subst (IsCharBoundary src) e end)
 
--- an empty prefix
+-- An empty prefix.
 prefix_none : (src : List ℕ) (name : Name) (i : ℕ) → name.prefix ≡ [] → IsCharBoundary src i → IsTextSpan src (prefix_span name i)
 prefix_none src name i is start =
     let e : i ≡ i + length name.prefix = rw is (omega arith) in
     text_span src i (i + length name.prefix) (omega arith) start (subst (IsCharBoundary src) e start)
 
--- the parts of a name from i up to n, and the whole of it, are texts
+-- The parts of a name from i up to n, and the whole of it, are texts.
 abbrev pub NameText : List ℕ → ℕ → Name → ℕ → Type 0
 NameText src i name n = IsTextSpan src (prefix_span name i) × IsTextSpan src (local_span name n) × IsTextSpan src (record { start = i; end = n }) × IsCharBoundary src n
 
--- those of a name that stands there are
+-- Those of a name that is there are.
 pub qname_text : (src : List ℕ) (i : ℕ) (name : Name) (n : ℕ) → IsUtf8 src → IsCharBoundary src i → IsQName src i name n → NameText src i name n
 qname_text src i name n utf8 cut (unprefixed _ _ is last) =
     let e = (ncname_parts is).longest in
@@ -100,11 +100,11 @@ qname_text src i name n utf8 cut (colon_first _ _ colon is last) =
     let end = subst (IsCharBoundary src) (sym f) (run_cut is_part_char src (i + 1) utf8 next) in
     (prefix_none src name i refl cut, local_is src name (i + 1) n refl (omega arith) next end, text_span src i n (omega arith) cut end, end)
 
--- those of a name that is read are
+-- Those of a name that is read are.
 pub qname_spans : (src : List ℕ) (i : ℕ) (name : Name) (n : ℕ) → IsUtf8 src → IsCharBoundary src i → qname_at src i ≡ Ok (name, n)
     → IsTextSpan src (prefix_span name i) × IsTextSpan src (local_span name n) × IsTextSpan src (record { start = i; end = n }) × IsCharBoundary src n
 qname_spans src i name n utf8 cut h = qname_text src i name n utf8 cut (qname_sound src i (name, n) h)
 
--- where the name is written
+-- Where the name is written.
 pub name_spans : (src : List ℕ) (i : ℕ) (name : Name) (n : ℕ) → NameText src i name n → IsTextSpan src (name_span name i n)
 name_spans src i name n text = elim (bytes_eq name.prefix []) as (λ b. IsTextSpan src (cond b (local_span name n) (record { start = i; end = n }))) [ true ↦ text.1 | false ↦ text.2 ]

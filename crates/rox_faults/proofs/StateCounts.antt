@@ -5,7 +5,7 @@ use Rattle.rox_grammar.specs.Written.{NamespaceDecl, Item, Element, merge}
 use Rattle.rox_grammar.specs.Document.{attributes_in, pairs_in, distinct_count, most_attributes, most_pairs}
 use Rattle.rox_grammar.specs.Counts.{listable, pairs, with_new, distinct_pairs, attribute_count}
 use Rattle.rox_grammar.specs.Tree.{listable_of}
-use Rattle.rox_grammar.proofs.CountForms.{attributes_same, pairs_same, distinct_same}
+use Rattle.rox_grammar.proofs.CountForms.{distinct_same}
 use Rattle.rox_grammar.specs.OpenElements.{Open, root, inside, tree_so_far, FitsLimits, HasTooManyNodes}
 use Rattle.rox_grammar.specs.State.{nodes_so_far, attributes_so_far, pairs_so_far}
 use Rattle.rox_reading.proofs.Forests.{pairs-merge, attribute_count-merge}
@@ -22,7 +22,7 @@ counts_are (inside start tag before up) done =
     omega (arith, counts_are up (join before (Cons (Element start start tag) (merge done) Nil)), attributes-item up before (Element start start tag) (merge done), attribute_count-merge done)
 
 pub attributes_are : (stack : Open) (done : Forest Item) → attributes_in (tree_so_far stack done) ≡ attributes_so_far stack done
-attributes_are stack done = attributes_same (tree_so_far stack done) ∙ counts_are stack done
+attributes_are stack done = counts_are stack done
 
 pub pairs_are : (stack : Open) (done : Forest Item) → pairs (tree_so_far stack done) ≡ pairs_so_far stack done
 pairs_are root done = pairs-merge done
@@ -30,20 +30,20 @@ pairs_are (inside start tag before up) done =
     pairs_are up (join before (Cons (Element start start tag) (merge done) Nil)) ∙ pairs-item up before (Element start start tag) (merge done)
     ∙ ap (λ (ds : List NamespaceDecl). pairs_so_far up before ++ (listable tag ++ ds)) (pairs-merge done)
 
--- the attributes and the pairs are within their limits
+-- The attributes and the pairs are within their limits.
 abbrev pub AreFew : Open → Forest Item → Type 0
 AreFew stack done = (attributes_so_far stack done ≤ most_attributes) × (length (distinct_pairs (pairs_so_far stack done)) ≤ most_pairs)
 
--- the pairs of the tree so far, and those of a tag
+-- The pairs of the tree so far, and those of a tag.
 with_tag : (stack : Open) (done : Forest Item) (own : List NamespaceDecl) → distinct_count (pairs_in (tree_so_far stack done) ++ own) ≡ length (with_new (distinct_pairs (pairs_so_far stack done)) own)
 with_tag stack done own =
     distinct_same (pairs_in (tree_so_far stack done) ++ own)
-    ∙ ap (λ (ds : List NamespaceDecl). length (distinct_pairs (ds ++ own))) (pairs_same (tree_so_far stack done) ∙ pairs_are stack done)
+    ∙ ap (λ (ds : List NamespaceDecl). length (distinct_pairs (ds ++ own))) (pairs_are stack done)
     ∙ ap length (distinct-append (pairs_so_far stack done) own)
 
 pub distinct_are : (stack : Open) (done : Forest Item) → distinct_count (pairs_in (tree_so_far stack done)) ≡ length (distinct_pairs (pairs_so_far stack done))
 distinct_are stack done =
-    distinct_same (pairs_in (tree_so_far stack done)) ∙ ap (λ (ds : List NamespaceDecl). length (distinct_pairs ds)) (pairs_same (tree_so_far stack done) ∙ pairs_are stack done)
+    distinct_same (pairs_in (tree_so_far stack done)) ∙ ap (λ (ds : List NamespaceDecl). length (distinct_pairs ds)) (pairs_are stack done)
 
 pub fits_few : (limit : ℕ) (stack : Open) (done : Forest Item) → FitsLimits limit stack done → AreFew stack done
 fits_few limit stack done fits = (omega (arith, fits.attributes, attributes_are stack done), omega (arith, fits.namespaces, distinct_are stack done))
@@ -55,7 +55,7 @@ too_many_there limit stack done few over =
 pub too_many_counted : (limit : ℕ) (stack : Open) (done : Forest Item) → HasTooManyNodes limit (tree_so_far stack done) → limit < nodes_so_far stack done
 too_many_counted limit stack done over = omega (arith, over.2, nodes_are stack done)
 
--- with the declarations of a tag
+-- With the declarations of a tag.
 pub pairs_there : (stack : Open) (done : Forest Item) (ds : List NamespaceDecl) → length (with_new (distinct_pairs (pairs_so_far stack done)) (listable_of ds)) ≤ most_pairs
     → distinct_count (pairs_in (tree_so_far stack done) ++ listable_of ds) ≤ most_pairs
 pairs_there stack done ds few = omega (arith, few, with_tag stack done (listable_of ds))

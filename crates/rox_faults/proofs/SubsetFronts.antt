@@ -30,16 +30,16 @@ use Rattle.rox_theory.proofs.EntityLemmas.{answer_complete}
 use Rattle.rox_theory.proofs.FailedReadings.{ok_one}
 use Rattle.rox_faults.proofs.FaultMisc.{one_item, less_no_space}
 
--- a comment or a processing instruction begins here
+-- A comment or a processing instruction begins here.
 abbrev pub OpensItem : List ℕ → ℕ → Type 0
 OpensItem src i = (at word.CommentStart src i ≡ true) ⊎ (at word.PIStart src i ≡ true)
 
--- the first byte of a fixed text
+-- The first byte of a fixed text.
 first_byte : (w : Word) (src : List ℕ) (i b : ℕ) → at w src i ≡ true → (byte src (i + 0) ≡ b) → byte src i ≡ b
 first_byte w src i b is here = let zero : i + 0 ≡ i = omega arith in rw zero at here
 
 module _ (src : List ℕ) where
-  -- ---- which item stands at a place
+  -- ---- which item is at a place
 
   pub misc_opens : (i j : ℕ) (x : Item) → IsMisc src i j x → OpensItem src i
   misc_opens i j x (comment _ e _ is) = inl (comment_parts is).opens
@@ -57,7 +57,7 @@ module _ (src : List ℕ) where
   passed_less i (inr (inl is)) = first_byte word.AttlistStart src i 60 is (stands_reads (word_text word.AttlistStart) src i 0 is (omega arith))
   passed_less i (inr (inr is)) = first_byte word.NotationStart src i 60 is (stands_reads (word_text word.NotationStart) src i 0 is (omega arith))
 
-  -- a comment or an instruction is no declaration
+  -- A comment or an instruction is not a declaration.
   pub item_no_entity : (i : ℕ) → OpensItem src i → at word.EntityStart src i ≡ true → ⊥
   item_no_entity i (inl c) is =
       let a : byte src (i + 2) ≡ 45 = stands_reads (word_text word.CommentStart) src i 2 c (omega arith) in
@@ -68,7 +68,7 @@ module _ (src : List ℕ) where
       let b : byte src (i + 1) ≡ 33 = stands_reads (word_text word.EntityStart) src i 1 is (omega arith) in
       absurd (omega arith)
 
-  -- the byte behind `<!`
+  -- The byte after `<!`.
   passed_third : (i : ℕ) → IsPassed src i → (byte src (i + 1) ≡ 33) × (((byte src (i + 2) ≡ 69) × (byte src (i + 3) ≡ 76)) ⊎ ((byte src (i + 2) ≡ 65) ⊎ (byte src (i + 2) ≡ 78)))
   passed_third i (inl is) =
       (stands_reads (word_text word.ElementStart) src i 1 is (omega arith), inl (stands_reads (word_text word.ElementStart) src i 2 is (omega arith), stands_reads (word_text word.ElementStart) src i 3 is (omega arith)))
@@ -90,7 +90,7 @@ module _ (src : List ℕ) where
       let b : byte src (i + 3) ≡ 78 = stands_reads (word_text word.EntityStart) src i 3 opens (omega arith) in
       elim ((passed_third i is).1) as (λ _. ⊥) [ inl e ↦ (let c : byte src (i + 3) ≡ 76 = e.1 in omega arith) | inr more ↦ elim more as (λ _. ⊥) [ inl c ↦ omega arith | inr c ↦ omega arith ] ]
 
-  -- ---- what asks nothing stands in one way
+  -- ---- what asks nothing is in one way
 
   pub space_once : (i j k : ℕ) → IsSpace src i j → IsSpace src i k → j ≡ k
   space_once i j k a b = a.1 ∙ sym b.1
@@ -98,7 +98,7 @@ module _ (src : List ℕ) where
   pub quoted_once : (i e j d k : ℕ) → IsQuoted src i e j → IsQuoted src i d k → (e ≡ d) × (j ≡ k)
   quoted_once i e j d k a b = let same : e ≡ d = a.1 ∙ sym b.1 in (same, a.3 ∙ ap (λ (e : ℕ). e + 1) same ∙ sym b.3)
 
-  -- a literal is no external id
+  -- A literal is not an external id.
   pub quoted_no_external : (i e j k : ℕ) (request : Request) → IsQuoted src i e j → IsExternalID src i request k → ⊥
   quoted_no_external i e j k request a b =
       elim (external_byte src i request k b) as (λ _. ⊥) [
@@ -122,7 +122,7 @@ module _ (src : List ℕ) where
         let same = ok_one (tt, j) (tt, k) (notation_at p src i) (notation_complete p src i j utf8 a) (notation_complete p src i k utf8 b) in
         ap (λ (x : Unit {0} × ℕ). x.1) same
 
-    -- the beginning of a declaration
+    -- The beginning of a declaration.
     pub begins_once : (i n m d x y z : ℕ) (p q : Bool) → BeginsEntity src i p n m d → BeginsEntity src i q x y z → (p ≡ q) × (n ≡ x) × (m ≡ y) × (d ≡ z)
     begins_once i n m d x y z p q one other =
         let a = begins_parts one in
@@ -132,7 +132,7 @@ module _ (src : List ℕ) where
         let name : m ≡ y = a.name.longest ∙ ap (run_end is_name_char src) kind.1 ∙ sym b.name.longest in
         (kind.0, kind.1, name, a.space_behind.1 ∙ ap (spaces_end src) name ∙ sym b.space_behind.1)
 
-    -- and of a document type declaration
+    -- And of a document type declaration.
     pub doctype_once : (i s t : ℕ) → BeginsDoctype src i s → BeginsDoctype src i t → s ≡ t
     doctype_once i s t one other =
         let a = doctype_parts one in
@@ -143,7 +143,7 @@ module _ (src : List ℕ) where
         let same = ok_one (tt, a.x) (tt, b.x) (external_id_if src (spaces_end src b.m)) (if_complete src (spaces_end src b.m) a.x utf8 may) (if_complete src (spaces_end src b.m) b.x utf8 b.external) in
         a.next ∙ ap (λ (x : Unit {0} × ℕ). spaces_end src x.1) same ∙ sym b.next
 
-    -- a definition has one end, whatever is answered
+    -- A definition has one end, whatever is answered.
     pub definition_end : (p : Bool) (i j k : ℕ) (a b : List Asked) (t u : Option Replacement) → IsDefinition src p i j a t → IsDefinition src p i k b u → j ≡ k
     definition_end p i j k a b t u (internal _ e _ q) (internal _ d _ r) = (quoted_once i e j d k q r).1
     definition_end p i j k a b t u (internal _ e _ q) (external _ m _ r _ _ is may gives) = absurd (quoted_no_external i e j m r q is)
@@ -168,7 +168,7 @@ module _ (src : List ℕ) where
           same.1,
         )
 
-    -- a declaration of an entity
+    -- A declaration of an entity.
     pub entity_once : (i j k : ℕ) (a b c d : List Asked) (es fs : List Entity) → IsEntityDeclaration src i j a es → IsEntityDeclaration src i k b fs → SameAnswers (a ++ c) (b ++ d)
         → (a ≡ b) × (j ≡ k) × (es ≡ fs) × SameAnswers c d
     entity_once i j k a b c d es fs one other same =
@@ -185,10 +185,10 @@ module _ (src : List ℕ) where
           first.2,
         )
 
-    -- ---- what stands at a place up to the `]`
+    -- ---- what is at a place up to the `]`
 
     module _ (k : ℕ) (bracket : byte src k ≡ 93) where
-      -- what is left of the items from there on
+      -- What is left of the items from there on.
       abbrev Left : ℕ → Forest Item → List Asked → List Entity → Type 0
       Left p rest more gs = Subset src p k rest more gs
 
@@ -218,7 +218,7 @@ module _ (src : List ℕ) where
       entity_there p rest more gs (skipped_declaration _ _ _ _ _ passes closes left) is = absurd (passed_no_entity p passes is)
       entity_there p rest more gs (an_entity _ j _ _ first later one others is' left) is = (j, first, later, one, others, is', left, refl, refl)
 
-      -- white space there
+      -- White space there.
       space_there : (p : ℕ) (rest : Forest Item) (more : List Asked) (gs : List Entity) → Left p rest more gs → is_space (byte src p) ≡ true → Left (p + 1) rest more gs
       space_there p rest more gs (no_more _) is = absurd (let z : is_space 93 ≡ true = subst (λ (b : ℕ). is_space b ≡ true) bracket is in cc z)
       space_there p rest more gs (space _ _ _ _ _ white left) is = left
@@ -226,7 +226,7 @@ module _ (src : List ℕ) where
       space_there p rest more gs (skipped_declaration _ _ _ _ _ passes closes left) is = absurd (less_no_space src utf8 p (passed_less p passes) is)
       space_there p rest more gs (an_entity _ j _ _ _ _ _ _ one left) is = absurd (less_no_space src utf8 p (entity_less p (declaration_parts one).head.opens) is)
 
-      -- nothing that a subset holds
+      -- Nothing that a subset holds.
       pub nothing_there : (p : ℕ) (rest : Forest Item) (more : List Asked) (gs : List Entity) → Left p rest more gs → is_space (byte src p) ≡ false → (OpensItem src p → ⊥) → (IsPassed src p → ⊥) → at word.EntityStart src p ≡ false → p ≡ k
       nothing_there p rest more gs (no_more _) no_space no_item no_passed no_entity = refl
       nothing_there p rest more gs (space _ _ _ _ _ white left) no_space no_item no_passed no_entity = absurd (true≢false (sym white ∙ no_space))
@@ -234,7 +234,7 @@ module _ (src : List ℕ) where
       nothing_there p rest more gs (skipped_declaration _ _ _ _ _ passes closes left) no_space no_item no_passed no_entity = absurd (no_passed passes)
       nothing_there p rest more gs (an_entity _ j _ _ _ _ _ _ one left) no_space no_item no_passed no_entity = absurd (true≢false (sym (declaration_parts one).head.opens ∙ no_entity))
 
-      -- what is read up to j is a front of the items up to the `]`
+      -- What is read up to j is a front of the items up to the `]`.
       pub record Front (j : ℕ) (xs ys : Forest Item) (a b c : List Asked) (es fs : List Entity) : Type 0 where
         pub rest : Forest Item
         pub more : List Asked
@@ -284,7 +284,7 @@ module _ (src : List ℕ) where
 
     -- ---- to the end
 
-    -- at the `]` nothing is left
+    -- At the `]` nothing is left.
     left_ends : (p k : ℕ) (rest : Forest Item) (more : List Asked) (gs : List Entity) → byte src k ≡ 93 → Subset src p k rest more gs → byte src p ≡ 93 → (p ≡ k) × (rest ≡ Nil) × (more ≡ []) × (gs ≡ [])
     left_ends p k rest more gs end (no_more _) here = (refl, refl, refl, refl)
     left_ends p k rest more gs end (space _ _ _ _ _ white _) here = absurd (let z : is_space 93 ≡ true = subst (λ (b : ℕ). is_space b ≡ true) here white in cc z)
@@ -292,7 +292,7 @@ module _ (src : List ℕ) where
     left_ends p k rest more gs end (skipped_declaration _ _ _ _ _ passes closes left) here = absurd (let less = passed_less p passes in omega arith)
     left_ends p k rest more gs end (an_entity _ j _ _ _ _ _ _ one left) here = absurd (let less = entity_less p (declaration_parts one).head.opens in omega arith)
 
-    -- a document type declaration is read in one way
+    -- A document type declaration is read in one way.
     pub doctypes_once : (i j k : ℕ) (xs ys : Forest Item) (a b : List Asked) (es fs : List Entity) → IsDoctype src i j xs a es → IsDoctype src i k ys b fs → SameAnswers a b → (j ≡ k) × (xs ≡ ys) × (a ≡ b) × (es ≡ fs)
     doctypes_once i j k xs ys a b es fs (no_subset _ s begins closes) (no_subset _ t begins' closes') same = (ap (λ (s : ℕ). s + 1) (doctype_once i s t begins begins'), refl, refl, refl)
     doctypes_once i j k xs ys a b es fs (no_subset _ s begins closes) (with_subset _ t l _ _ _ begins' opens subset bracket closes') same =

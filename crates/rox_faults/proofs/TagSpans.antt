@@ -31,64 +31,64 @@ use Rattle.rox_faults.proofs.NameSpans.{NameText, run_cut, cut_behind, qname_tex
 
 -- ---- faults
 
--- what two equal failures hold is equal
+-- What two equal failures hold is equal.
 pub err_same : {A : Type 0} (f g : Fault) → ◌≡◌ {A = Result A Fault} (Err f) (Err g) → f ≡ g
 err_same f g h = cc
 
--- a failure whose names are texts
+-- A failure whose names are texts.
 pub names_of : {A : Type 0} (src : List ℕ) (f g : Fault) → NamesText src f → ◌≡◌ {A = Result A Fault} (Err f) (Err g) → NamesText src g
 names_of src f g text h = subst (NamesText src) (err_same f g h) text
 
--- a reading whose faults' names are texts
+-- A reading whose faults' names are texts.
 abbrev pub FailsWell : {A : Type 0} → List ℕ → Result A Fault → Type 0
 FailsWell src r = (f : Fault) → r ≡ Err f → NamesText src f
 
--- a value is no fault
+-- A value is not a fault.
 pub well_ok : {A : Type 0} (src : List ℕ) (x : A) → FailsWell {A = A} src (Ok x)
 well_ok src x f h = cc
 
--- this fault
+-- This fault.
 pub well_err : {A : Type 0} (src : List ℕ) (g : Fault) → NamesText src g → FailsWell {A = A} src (Err g)
 well_err src g text f h = names_of src g f text h
 
--- one of two
+-- One of two.
 pub well_if : {A : Type 0} (src : List ℕ) (b : Bool) (x y : Result A Fault) → FailsWell src x → FailsWell src y → FailsWell src (cond b x y)
 well_if src true x y first second = first
 well_if src false x y first second = second
 
--- one after the other
+-- One after the other.
 pub well_bind : {A B : Type 0} (src : List ℕ) (r : Result A Fault) (k : A → Result B Fault) → FailsWell src r → ((x : A) → r ≡ Ok x → FailsWell src (k x)) → FailsWell src (r >>= k)
 well_bind src (Ok x) k first rest = rest x refl
 well_bind src (Err e) k first rest = λ f h. first f (ap (λ (g : Fault). Err g) (err_same e f h))
 
 -- ---- readings whose faults have no names
 
--- a byte
+-- A byte.
 pub byte_well : (b : ℕ) (src : List ℕ) (i : ℕ) → FailsWell src (byte_at b src i)
 unfolding byte_at
 byte_well b src i = well_if src (leb (length src) i) _ _ (well_err src _ tt) (well_if src (eqb (byte src i) b) _ _ (well_ok src _) (well_err src _ tt))
 
--- a quote
+-- A quote.
 pub quote_well : (src : List ℕ) (i : ℕ) → FailsWell src (quote_at src i)
 unfolding quote_at
 quote_well src i = well_if src (leb (length src) i) _ _ (well_err src _ tt) (well_if src _ _ _ (well_ok src _) (well_err src _ tt))
 
--- Chars
+-- Chars.
 pub chars_well : (end : ℕ) (src : List ℕ) (i : ℕ) → FailsWell src (chars_up_to end src i)
 chars_well end src i f h = spanned_fault src _ (chars_up_to end src i) f (chars_spans src end i) h
 
--- a value before it is looked at
+-- A value before it is looked at.
 raw_well : (quote : ℕ) (src : List ℕ) (i : ℕ) → FailsWell src (raw_value_at quote src i)
 unfolding raw_value_at
 raw_well quote src i = well_if src _ _ _ (well_err src _ tt) (chars_well _ src i)
 
--- a name
+-- A name.
 pub qname_well : (src : List ℕ) (i : ℕ) → FailsWell src (qname_at src i)
 unfolding qname_at
 qname_well src i =
     well_if src _ _ _ (well_if src _ _ _ (well_ok src _) (well_err src _ tt)) (well_if src _ _ _ (well_ok src _) (well_err src _ tt))
 
--- an attribute before its value is looked at
+-- An attribute before its value is looked at.
 pub attribute_well : (src : List ℕ) (i : ℕ) → FailsWell src (attribute_at src i)
 unfolding attribute_at
 attribute_well src i =
@@ -96,7 +96,7 @@ attribute_well src i =
     well_bind src _ _ (quote_well src _) (λ quote e. well_bind src _ _ (raw_well _ src _) (λ value e.
     well_bind src _ _ (byte_well _ src _) (λ done e. well_ok src _)))))
 
--- a turn
+-- A turn.
 pub turn_well : (src : List ℕ) (i : ℕ) → FailsWell src (tag_item_at src i)
 unfolding tag_item_at
 turn_well src i =
@@ -107,23 +107,23 @@ turn_well src i =
 
 -- ---- attributes
 
--- the parts of an attribute's name are texts
+-- The parts of an attribute's name are texts.
 pub record Named (src : List ℕ) (a : Attribute) : Type 0 where
   pub prefix : IsTextSpan src (prefix_span a.name a.start)
   pub local : IsTextSpan src (local_span a.name a.name_end)
 
--- a character begins behind an attribute that stands there
+-- A character begins after an attribute that is there.
 pub raw_cut : (src : List ℕ) (i j : ℕ) (raw : RawAttribute) → IsUtf8 src → RawStands src i j raw → IsCharBoundary src j
 raw_cut src i j raw utf8 r =
     let quote = quote_ascii (byte src r.v) r.literal.0.0 in
     let next = r.literal.0.3 in
     rw next (cut_behind src raw.value_end (byte src r.v) utf8 (literal_closes src r.v raw.value_end j r.literal) (omega arith) (omega arith))
 
--- an attribute's name, of a turn
+-- An attribute's name, of a turn.
 abbrev pub RawNamed : List ℕ → RawAttribute → ℕ → Type 0
 RawNamed src raw j = IsTextSpan src (prefix_span raw.name raw.start) × IsTextSpan src (local_span raw.name raw.name_end) × IsCharBoundary src j
 
--- its parts are texts
+-- Its parts are texts.
 pub turn_named : (src : List ℕ) (i : ℕ) (raw : RawAttribute) (j : ℕ) → IsUtf8 src → IsCharBoundary src i → tag_item_at src i ≡ Ok (more raw, j) → RawNamed src raw j
 turn_named src i raw j utf8 cut h =
     let stands = (turn_sound src utf8 i (more raw, j) h).1 in
@@ -131,35 +131,35 @@ turn_named src i raw j utf8 cut h =
     let text = qname_text src (spaces_end src i) raw.name raw.name_end utf8 (run_cut is_space src i utf8 cut) stands.is_name in
     (rw starts text.0, text.1, raw_cut src (spaces_end src i) j raw utf8 stands)
 
--- all of these attributes
+-- All of these attributes.
 abbrev pub AllNamed : List ℕ → List Attribute → Type 0
 AllNamed src [] = Unit {0}
 AllNamed src (a ∷ as') = Named src a × AllNamed src as'
 
--- one more
+-- One more.
 named_more : (src : List ℕ) (as' : List Attribute) (a : Attribute) → AllNamed src as' → Named src a → AllNamed src (as' ++ a ∷ [])
 named_more src [] a all one = (one, tt)
 named_more src (b ∷ as') a all one = (all.0, named_more src as' a all.1 one)
 
 -- ---- declarations
 
--- a declared prefix's fault has no name
+-- A declared prefix's fault has no name.
 prefix_well : (src : List ℕ) (a : Attribute) → FailsWell src (prefix_tested a)
 prefix_well src a =
     well_if src (bytes_eq a.value xmlns_uri) _ _ (well_err src _ tt) (well_if src (bytes_eq a.name.local (word_text word.Xml)) _ _
     (well_if src (bytes_eq a.value xml_uri) _ _ (well_ok src tt) (well_err src _ tt))
     (well_if src (bytes_eq a.value xml_uri) _ _ (well_err src _ tt) (well_ok src tt)))
 
--- nor has that of the default
+-- Nor has that of the default.
 default_well : (src : List ℕ) (a : Attribute) → FailsWell src (default_tested a)
 default_well src a =
     well_if src (bytes_eq a.value xml_uri) _ _ (well_err src _ tt) (well_if src (bytes_eq a.value xmlns_uri) _ _ (well_err src _ tt) (well_ok src tt))
 
--- nor that of either
+-- Nor that of either.
 uri_well : (src : List ℕ) (a : Attribute) → FailsWell src (uri_tested a)
 uri_well src a = well_if src (bytes_eq a.name.prefix (word_text word.Xmlns)) _ _ (prefix_well src a) (default_well src a)
 
--- a declaration's fault
+-- A declaration's fault.
 pub declared_spans : (src : List ℕ) (known : List NamespaceDecl) (a : Attribute) (h : TagSoFar) → Named src a → FailsWell src (declared known a h)
 unfolding declared
 declared_spans src known a h named =
@@ -167,7 +167,7 @@ declared_spans src known a h named =
     well_if src (is_declared (namespace_decl_of a).prefix h.own) _ _ (well_err src (fault.DuplicatedNamespace (local_span a.name a.name_end) a.start) named.local)
     (well_if src (ltb most_pairs (length (with_new known (listable_of (h.own ++ namespace_decl_of a ∷ []))))) _ _ (well_err src _ tt) (well_ok src _)))
 
--- a declaration leaves the attributes as they are
+-- A declaration leaves the attributes as they are.
 declared_keeps : (src : List ℕ) (known : List NamespaceDecl) (a : Attribute) (h held : TagSoFar) → AllNamed src h.attributes → declared known a h ≡ Ok held → AllNamed src held.attributes
 unfolding declared
 declared_keeps src known a h held all is =
@@ -176,11 +176,11 @@ declared_keeps src known a h held all is =
     chosen (ltb most_pairs (length (with_new known (listable_of (h.own ++ namespace_decl_of a ∷ []))))) _ _ _ is (λ many is. cc) (λ few is.
     subst (λ (k : TagSoFar). AllNamed src k.attributes) (ok_same _ _ is) all)))
 
--- an attribute's fault
+-- An attribute's fault.
 pub taken_spans : (src : List ℕ) (known : List NamespaceDecl) (a : Attribute) (h : TagSoFar) → Named src a → FailsWell src (taken known a h)
 taken_spans src known a h named = well_if src (is_namespace_decl a.name) _ _ (declared_spans src known a h named) (well_ok src _)
 
--- those that are held stay named
+-- Those that are held stay named.
 pub taken_keeps : (src : List ℕ) (known : List NamespaceDecl) (a : Attribute) (h held : TagSoFar) → Named src a → AllNamed src h.attributes → taken known a h ≡ Ok held → AllNamed src held.attributes
 taken_keeps src known a h held named all is =
     chosen (is_namespace_decl a.name) _ _ _ is (λ one is. declared_keeps src known a h held all is) (λ other is.
@@ -188,7 +188,7 @@ taken_keeps src known a h held named all is =
 
 -- ---- the tests of the names
 
--- the attributes' names
+-- The attributes' names.
 pub names_spans : (src : List ℕ) (scope : List NamespaceDecl) (before as' : List Attribute) → AllNamed src as' → FailsWell src (names_tested scope before as')
 unfolding names_tested
 names_spans src scope before [] all = well_ok src tt
@@ -197,14 +197,14 @@ names_spans src scope before (a ∷ as') all =
     (well_if src (list_any (λ e. same_expanded scope e.name a.name) before) _ _ (well_err src (fault.DuplicatedAttribute (local_span a.name a.name_end) a.start) all.0.local)
     (names_spans src scope (before ++ a ∷ []) as' all.1))
 
--- a tag's names, where its own stands at this place
+-- A tag's names, where its own is at this place.
 pub tested_spans : (src : List ℕ) (scope : List NamespaceDecl) (count at : ℕ) (name : Name) (as' : List Attribute) → IsTextSpan src (prefix_span name at) → AllNamed src as'
     → FailsWell src (tested_at scope count at name as')
 tested_spans src scope count at name as' text all =
     well_if src (ltb most_attributes (count + length as')) _ _ (well_err src _ tt) (well_bind src (names_tested scope [] as') _ (names_spans src scope [] as' all) (λ u e.
     well_if src (may_name scope name) _ _ (well_ok src tt) (well_err src (fault.UnknownNamespace (prefix_span name at) at) text)))
 
--- those of a tag that begins at i
+-- Those of a tag that begins at i.
 pub tested_tag_spans : (src : List ℕ) (scope : List NamespaceDecl) (count i : ℕ) (name : Name) (as' : List Attribute) → IsTextSpan src (prefix_span name (i + 1)) → AllNamed src as'
     → FailsWell src (tag_tested scope count i name as')
 unfolding tag_tested
@@ -212,16 +212,16 @@ tested_tag_spans src scope count i name as' text all = tested_spans src scope co
 
 -- ---- a tag
 
--- the name of a tag
+-- The name of a tag.
 tag_name : (src : List ℕ) (i : ℕ) (n : Name × ℕ) → IsUtf8 src → slice_index src i ≡ 60 → qname_at src (i + 1) ≡ Ok n → NameText src (i + 1) n.0 n.1
 tag_name src i n utf8 begins h = qname_spans src (i + 1) n.0 n.1 utf8 (cut_behind src i 60 utf8 begins (omega arith) (omega arith)) h
 
 module _ (context : Values) (src : List ℕ) (utf8 : IsUtf8 src) (values : (i stop openings_left : ℕ) → Told (ReadText × ℕ) src (λ x. Unit {0}) (value_at context.main context.entities context.opener src i stop openings_left)) where
-  -- the rest of a tag: the names of its refusal are texts, and so are the names of the attributes that are held then
+  -- The rest of a tag: the names of its refusal are texts, and so are the names of the attributes that are held then.
   abbrev RestTold : Result (TagRest × ℕ) Refusal → Type 0
   RestTold r = Told (TagRest × ℕ) src (λ (x : TagRest × ℕ). AllNamed src x.0.held.attributes) r
 
-  -- behind a turn
+  -- After a turn.
   after_told : (known : List NamespaceDecl) (next : ℕ → ℕ → TagSoFar → Result (TagRest × ℕ) Refusal) → ((j l : ℕ) (held : TagSoFar) → IsCharBoundary src j → AllNamed src held.attributes → RestTold (next j l held))
       → (i openings_left : ℕ) (h : TagSoFar) (t : TagItem) (j : ℕ) → IsCharBoundary src i → AllNamed src h.attributes → tag_item_at src i ≡ Ok (t, j) → RestTold (after_tag_item next context known src openings_left h t j)
   after_told known next rest i openings_left h (more raw) j cut all turn =
@@ -234,7 +234,7 @@ module _ (context : Values) (src : List ℕ) (utf8 : IsUtf8 src) (values : (i st
   after_told known next rest i openings_left h opened j cut all turn = record { tells = all }
   after_told known next rest i openings_left h closed j cut all turn = record { tells = all }
 
-  -- the attributes of a tag
+  -- The attributes of a tag.
   attributes_told : (n : ℕ) (cut : Fault) (known : List NamespaceDecl) → NamesText src cut → (i openings_left : ℕ) (h : TagSoFar) → IsCharBoundary src i → AllNamed src h.attributes → RestTold (attributes_at n context cut known src i openings_left h)
   unfolding attributes_at
   attributes_told zero cut known text i openings_left h at all = record { tells = text }
@@ -243,7 +243,7 @@ module _ (context : Values) (src : List ℕ) (utf8 : IsUtf8 src) (values : (i st
       told_after src (λ (x : TagItem × ℕ). Unit {0}) _ (tag_item_at src i) _ (spanned_by src (λ (x : TagItem × ℕ). Unit {0}) (tag_item_at src i) (turn_well src i) (λ x h. tt)) (λ t turn h'.
       after_told known (λ j l held. attributes_at n context cut known src j l held) (λ j l held at all. attributes_told n cut known text j l held at all) i openings_left h t.0 t.1 at all turn))
 
-  -- the names of a tag's refusal are texts, and so is its own
+  -- The names of a tag's refusal are texts, and so is its own.
   pub tag_told : (cut : Fault) (above : List NamespaceDecl) (count : ℕ) (known : List NamespaceDecl) (i openings_left : ℕ) → slice_index src i ≡ 60 → NamesText src cut
       → Told (TagRead × ℕ) src (λ (x : TagRead × ℕ). IsTextSpan src (name_span x.0.tag.name (i + 1) x.0.tag.name_end)) (tag_at context cut above count known src i openings_left)
   unfolding tag_at

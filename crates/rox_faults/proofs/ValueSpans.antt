@@ -21,7 +21,7 @@ use Rattle.rox_theory.specs.Openers.{AreTexts}
 use Rattle.rox_theory.proofs.Basics.{run_end_le}
 use Rattle.rox_faults.proofs.NameSpans.{run_cut, cut_behind}
 
--- what a result gives has a property, or the names of its fault are texts of the source
+-- What a result gives has a property, or the names of its fault are texts of the source.
 abbrev pub SpanIs : {A : Type 0} → List ℕ → (A → Type 0) → Result A Fault → Type 0
 SpanIs src P (Ok x) = P x
 SpanIs src P (Err f) = NamesText src f
@@ -29,33 +29,33 @@ SpanIs src P (Err f) = NamesText src f
 pub record Spanned (A : Type 0) (src : List ℕ) (P : A → Type 0) (r : Result A Fault) : Type 0 where
   pub holds : SpanIs src P r
 
--- the names of its fault are texts of the source, whatever it gives
+-- The names of its fault are texts of the source, whatever it gives.
 abbrev pub FaultSpanned : {A : Type 0} → List ℕ → Result A Fault → Type 0
 FaultSpanned {A = A} src r = Spanned A src (λ x. Unit {0}) r
 
--- so it is of a sequence, step by step
+-- So it is of a sequence, step by step.
 pub spanned_bind : {A B : Type 0} (src : List ℕ) (P : A → Type 0) (Q : B → Type 0) (r : Result A Fault) (f : A → Result B Fault)
     → Spanned A src P r → ((x : A) → r ≡ Ok x → P x → Spanned B src Q (f x)) → Spanned B src Q (r >>= f)
 spanned_bind src P Q (Ok x) f h go = go x refl h.holds
 spanned_bind src P Q (Err e) f h go = record { holds = h.holds }
 
--- and of a choice, branch by branch
+-- And of a choice, branch by branch.
 pub spanned_cond : {A : Type 0} (src : List ℕ) (P : A → Type 0) (b : Bool) (x y : Result A Fault)
     → (b ≡ true → Spanned A src P x) → (b ≡ false → Spanned A src P y) → Spanned A src P (cond b x y)
 spanned_cond src P true x y holds fails = holds refl
 spanned_cond src P false x y holds fails = fails refl
 
--- what is known of its fault and of what it gives, apart
+-- What is known of its fault and of what it gives, apart.
 pub spanned_by : {A : Type 0} (src : List ℕ) (P : A → Type 0) (r : Result A Fault)
     → ((f : Fault) → r ≡ Err f → NamesText src f) → ((x : A) → r ≡ Ok x → P x) → Spanned A src P r
 spanned_by src P (Ok x) fault gives = record { holds = gives x refl }
 spanned_by src P (Err f) fault gives = record { holds = fault f refl }
 
--- the fault that it is
+-- The fault that it is.
 pub spanned_fault : {A : Type 0} (src : List ℕ) (P : A → Type 0) (r : Result A Fault) (f : Fault) → Spanned A src P r → r ≡ Err f → NamesText src f
 spanned_fault src P r f h e = subst (SpanIs src P) e h.holds
 
--- what it gives
+-- What it gives.
 pub spanned_gives : {A : Type 0} (src : List ℕ) (P : A → Type 0) (r : Result A Fault) (x : A) → Spanned A src P r → r ≡ Ok x → P x
 spanned_gives src P r x h e = subst (SpanIs src P) e h.holds
 
@@ -73,55 +73,55 @@ Tells src P (Err e) = IsTold src e
 pub record Told (A : Type 0) (src : List ℕ) (P : A → Type 0) (r : Result A Refusal) : Type 0 where
   pub tells : Tells src P r
 
--- of a sequence
+-- Of a sequence.
 pub told_bind : {A B : Type 0} (src : List ℕ) (P : A → Type 0) (Q : B → Type 0) (r : Result A Refusal) (f : A → Result B Refusal)
     → Told A src P r → ((x : A) → r ≡ Ok x → P x → Told B src Q (f x)) → Told B src Q (r >>= f)
 told_bind src P Q (Ok x) f h go = go x refl h.tells
 told_bind src P Q (Err e) f h go = record { tells = h.tells }
 
--- of a choice
+-- Of a choice.
 pub told_cond : {A : Type 0} (src : List ℕ) (P : A → Type 0) (b : Bool) (x y : Result A Refusal) → (b ≡ true → Told A src P x) → (b ≡ false → Told A src P y) → Told A src P (cond b x y)
 told_cond src P true x y holds fails = holds refl
 told_cond src P false x y holds fails = fails refl
 
--- of what opens no entity
+-- Of what opens no entity.
 pub told_lifted : {A : Type 0} (src : List ℕ) (P : A → Type 0) (r : Result A Fault) → Spanned A src P r → Told A src P (lifted r)
 told_lifted src P (Ok x) h = record { tells = h.holds }
 told_lifted src P (Err f) h = record { tells = h.holds }
 
--- and of what follows it
+-- And of what follows it.
 pub told_after : {A B : Type 0} (src : List ℕ) (P : A → Type 0) (Q : B → Type 0) (r : Result A Fault) (f : A → Result B Refusal)
     → Spanned A src P r → ((x : A) → r ≡ Ok x → P x → Told B src Q (f x)) → Told B src Q (lifted r >>= f)
 told_after src P Q (Ok x) f h go = go x refl h.holds
 told_after src P Q (Err e) f h go = record { tells = h.holds }
 
--- of another source
+-- Of another source.
 pub told_elsewhere : {A : Type 0} (src source : List ℕ) (P : A → Type 0) (r : Result A Refusal) → Told A source P r → Told A src P (elsewhere source r)
 told_elsewhere src source P (Ok x) h = record { tells = h.tells }
 told_elsewhere src source P (Err (here f)) h = record { tells = h.tells }
 told_elsewhere src source P (Err (there s f)) h = record { tells = h.tells }
 told_elsewhere src source P (Err (refused request at message)) h = record { tells = tt }
 
--- the refusal that it is
+-- The refusal that it is.
 pub told_refusal : {A : Type 0} (src : List ℕ) (P : A → Type 0) (r : Result A Refusal) (e : Refusal) → Told A src P r → r ≡ Err e → IsTold src e
 told_refusal src P r e h is = subst (Tells src P) is h.tells
 
--- what it gives
+-- What it gives.
 pub told_gives : {A : Type 0} (src : List ℕ) (P : A → Type 0) (r : Result A Refusal) (x : A) → Told A src P r → r ≡ Ok x → P x
 told_gives src P r x h is = subst (Tells src P) is h.tells
 
--- Chars up to a place: the fault has no name
+-- Chars up to a place: the fault has no name.
 pub chars_spans : (src : List ℕ) (end i : ℕ) → FaultSpanned src (chars_up_to end src i)
 unfolding chars_up_to
 chars_spans src end i = spanned_cond src _ (ltb (run_end is_char (take end src) i) end) _ _ (λ ill. record { holds = tt }) (λ fine. record { holds = tt })
 
--- the name of an entity is a text of the source
+-- The name of an entity is a text of the source.
 abbrev pub RefersTo : List ℕ → Reference → Type 0
 RefersTo src (character_of c) = Unit {0}
 RefersTo src (entity_at span) = IsTextSpan src span
 
 module _ (src : List ℕ) (utf8 : IsUtf8 src) where
-  -- a number refers to a character
+  -- A number refers to a character.
   number_spans : (base : ℕ) (is : ℕ → Bool) (i d : ℕ) → Spanned (Reference × ℕ) src (λ (r : Reference × ℕ). RefersTo src r.0) (number_at base is src i d)
   unfolding number_at
   number_spans base is i d =
@@ -133,18 +133,18 @@ module _ (src : List ℕ) (utf8 : IsUtf8 src) where
       (λ h. spanned_cond src _ (byte src e == 59) _ _ (λ h. record { holds = tt }) (λ h. record { holds = tt }))
       (λ h. record { holds = tt })))
 
-  -- an entity refers by its name
+  -- An entity refers by its name.
   named_spans : (c : Option ℕ) (span : Span) → IsTextSpan src span → RefersTo src (named_or c span)
   named_spans None span is = is
   named_spans (Some c) span is = tt
 
-  -- the name behind `&`
+  -- The name after `&`.
   name_span_text : (i : ℕ) → byte src i ≡ 38 → IsTextSpan src (record { start = i + 1; end = run_end is_name_char src (i + 1) })
   name_span_text i amp =
       let cut = cut_behind src i 38 utf8 amp (omega arith) (omega arith) in
       (run_end_le is_name_char src (i + 1), cut, run_cut is_name_char src (i + 1) utf8 cut)
 
-  -- a name between `&` and `;`
+  -- A name between `&` and `;`.
   name_reference_spans : (i : ℕ) → byte src i ≡ 38 → Spanned (Reference × ℕ) src (λ (r : Reference × ℕ). RefersTo src r.0) (name_reference_at src i)
   unfolding name_reference_at
   name_reference_spans i amp =
@@ -155,7 +155,7 @@ module _ (src : List ℕ) (utf8 : IsUtf8 src) where
       (λ h. record { holds = tt }))
       (λ h. record { holds = tt })
 
-  -- a reference
+  -- A reference.
   pub reference_spanned : (i : ℕ) → byte src i ≡ 38 → Spanned (Reference × ℕ) src (λ (r : Reference × ℕ). RefersTo src r.0) (reference_at src i)
   unfolding reference_at
   reference_spanned i amp =
@@ -163,39 +163,39 @@ module _ (src : List ℕ) (utf8 : IsUtf8 src) where
       (λ h. spanned_cond src _ (byte src (i + 2) == 120) _ _ (λ h. number_spans 16 is_hex_digit i (i + 3)) (λ h. number_spans 10 is_digit i (i + 2)))
       (λ h. name_reference_spans i amp)
 
-  -- an entity that is referred to has a name in the source
+  -- An entity that is referred to has a name in the source.
   pub reference_spans : (i j : ℕ) (span : Span) → byte src i ≡ 38 → reference_at src i ≡ Ok (entity_at span, j) → IsTextSpan src span
   reference_spans i j span amp h = spanned_gives src (λ (r : Reference × ℕ). RefersTo src r.0) (reference_at src i) (entity_at span, j) (reference_spanned i amp) h
 
-  -- a replacement text is text
+  -- A replacement text is text.
   abbrev pub IsSource : Bit → Type 0
   IsSource (bytes_of bs) = Unit {0}
   IsSource (a_text t) = IsUtf8 t.source
 
-  -- what ends a part, too
+  -- What ends a part, too.
   abbrev pub NextIsSource : Next → Type 0
   NextIsSource at_end = Unit {0}
   NextIsSource (opening t j) = IsUtf8 t.source
 
   module _ (es : List Entity) (texts : AreTexts es) where
-    -- an entity, or its name
+    -- An entity, or its name.
     found_spans : (i : ℕ) (span : Span) (o : Option Replacement) → ((t : Replacement) → o ≡ Some t → IsUtf8 t.source) → IsTextSpan src span → Spanned Bit src IsSource (entity_bit o i span)
     found_spans i span None is text = record { holds = text }
     found_spans i span (Some t) is text = record { holds = is t refl }
 
-    -- what a reference stands for, or its name
+    -- What a reference stands for, or its name.
     expanded_spans : (i : ℕ) (r : Reference) → RefersTo src r → Spanned Bit src IsSource (reference_bit es src i r)
     expanded_spans i (character_of c) h = record { holds = tt }
     expanded_spans i (entity_at span) h = found_spans i span (text_of es (slice src span.start span.end)) (λ t is. (texts (slice src span.start span.end) t is).0) h
 
-    -- a reference that is expanded
+    -- A reference that is expanded.
     expansion_spans : (i : ℕ) → byte src i ≡ 38 → Spanned (Bit × ℕ) src (λ (x : Bit × ℕ). IsSource x.0) (expansion_at es src i)
     unfolding expansion_at
     expansion_spans i amp =
         spanned_bind src (λ (r : Reference × ℕ). RefersTo src r.0) _ (reference_at src i) _ (reference_spanned i amp) (λ r read is.
         spanned_bind src IsSource _ (reference_bit es src i r.0) _ (expanded_spans i r.0 is) (λ bit read h. record { holds = h }))
 
-    -- a bit of a run
+    -- A bit of a run.
     run_bit_spans : (main : Bool) (stop i : ℕ) → Spanned (Bit × ℕ) src (λ (x : Bit × ℕ). IsSource x.0) (data_bit_at main es src stop i)
     unfolding data_bit_at
     run_bit_spans true stop i =
@@ -204,13 +204,13 @@ module _ (src : List ℕ) (utf8 : IsUtf8 src) where
         (λ h. spanned_cond src _ (byte src i == 13) _ _ (λ h. record { holds = tt }) (λ h. record { holds = tt }))
     run_bit_spans false stop i = spanned_cond src _ (byte src i == 38) _ _ (λ amp. expansion_spans i (eqb-true _ _ amp)) (λ h. record { holds = tt })
 
-    -- a bit, and what follows it
+    -- A bit, and what follows it.
     after_bit_spans : (more : ℕ → Result (List ℕ × Next) Fault) (bit : Bit) (j : ℕ) → IsSource bit → Spanned (List ℕ × Next) src (λ (x : List ℕ × Next). NextIsSource x.1) (more j)
         → Spanned (List ℕ × Next) src (λ (x : List ℕ × Next). NextIsSource x.1) (after_bit more bit j)
     after_bit_spans more (bytes_of bs) j is h = spanned_bind src (λ (x : List ℕ × Next). NextIsSource x.1) _ (more j) _ h (λ rest read h. record { holds = h })
     after_bit_spans more (a_text t) j is h = record { holds = is }
 
-    -- a part of a run
+    -- A part of a run.
     pub run_part_spans : (main : Bool) (n stop i : ℕ) → Spanned (List ℕ × Next) src (λ (x : List ℕ × Next). NextIsSource x.1) (data_part main es n src stop i)
     unfolding data_part
     run_part_spans main zero stop i = record { holds = tt }
@@ -220,7 +220,7 @@ module _ (src : List ℕ) (utf8 : IsUtf8 src) where
         after_bit_spans (λ j. data_part main es n src stop j) x.0 x.1 is (run_part_spans main n stop x.1)))
         (λ h. record { holds = tt })
 
-    -- a reference in a value
+    -- A reference in a value.
     tested_spans : (main : Bool) (i : ℕ) (r : Reference) → Spanned Bit src IsSource (reference_bit es src i r) → Spanned Bit src IsSource (tested_bit main i r (reference_bit es src i r))
     tested_spans true i r h = h
     tested_spans false i (character_of c) h = spanned_cond src _ (c == 60) _ _ (λ z. record { holds = tt }) (λ z. record { holds = tt })
@@ -232,7 +232,7 @@ module _ (src : List ℕ) (utf8 : IsUtf8 src) where
         spanned_bind src (λ (r : Reference × ℕ). RefersTo src r.0) _ (reference_at src i) _ (reference_spanned i amp) (λ r read is.
         spanned_bind src IsSource _ (tested_bit main i r.0 (reference_bit es src i r.0)) _ (tested_spans main i r.0 (expanded_spans i r.0 is)) (λ bit read h. record { holds = h }))
 
-    -- a stretch
+    -- A stretch.
     stretch_spans : (main : Bool) (stop i : ℕ) → Spanned (Bit × ℕ) src (λ (x : Bit × ℕ). IsSource x.0) (stretch_at main src stop i)
     stretch_spans true stop i = record { holds = tt }
     stretch_spans false stop i =
@@ -240,7 +240,7 @@ module _ (src : List ℕ) (utf8 : IsUtf8 src) where
         spanned_bind src (λ (x : List ℕ × ℕ). Unit {0}) _ (chars_up_to j src i) _ (chars_spans src j i) (λ x read h.
         spanned_cond src _ (byte (take stop src) j == 60) _ _ (λ z. record { holds = tt }) (λ z. record { holds = tt }))
 
-    -- a bit of a value
+    -- A bit of a value.
     value_bit_spans : (main : Bool) (stop i : ℕ) → Spanned (Bit × ℕ) src (λ (x : Bit × ℕ). IsSource x.0) (value_bit_at main es src stop i)
     unfolding value_bit_at
     value_bit_spans main stop i =
@@ -252,12 +252,12 @@ module _ (src : List ℕ) (utf8 : IsUtf8 src) where
         (λ h. record { holds = tt }))
         (λ h. stretch_spans main stop i))
 
-    -- the refusals of what a replacement text is read to as a part of a value are told
+    -- The refusals of what a replacement text is read to as a part of a value are told.
     abbrev pub OpenerTold : ValueInclusion → Type 0
     OpenerTold opener = (t : Replacement) (after openings_left : ℕ) → IsUtf8 t.source → Told (List ℕ × ℕ) src (λ x. Unit {0}) (opener t after openings_left)
 
     module _ (opener : ValueInclusion) (opens : OpenerTold opener) where
-      -- a bit, and what follows it
+      -- A bit, and what follows it.
       after_value_told : (more : ℕ → ℕ → Result (List ℕ × ℕ) Refusal) → ((j openings_left : ℕ) → Told (List ℕ × ℕ) src (λ x. Unit {0}) (more j openings_left)) → (openings_left : ℕ) (bit : Bit) (j : ℕ) → IsSource bit
           → Told (List ℕ × ℕ) src (λ x. Unit {0}) (after_value_bit opener more openings_left bit j)
       after_value_told more rest openings_left (bytes_of bs) j is = told_bind src (λ (x : List ℕ × ℕ). Unit {0}) _ (more j openings_left) _ (rest j openings_left) (λ x read h. record { tells = tt })
@@ -265,7 +265,7 @@ module _ (src : List ℕ) (utf8 : IsUtf8 src) where
           told_bind src (λ (x : List ℕ × ℕ). Unit {0}) _ (opener t j openings_left) _ (opens t j openings_left is) (λ x read h.
           told_bind src (λ (x : List ℕ × ℕ). Unit {0}) _ (more j x.1) _ (rest j x.1) (λ y read h. record { tells = tt }))
 
-      -- all bits of a value
+      -- All bits of a value.
       pub value_text_told : (main : Bool) (n stop i openings_left : ℕ) → Told (List ℕ × ℕ) src (λ x. Unit {0}) (value_text main es opener n src stop i openings_left)
       unfolding value_text
       value_text_told main zero stop i openings_left = record { tells = tt }
@@ -275,7 +275,7 @@ module _ (src : List ℕ) (utf8 : IsUtf8 src) where
           after_value_told (λ j l. value_text main es opener n src stop j l) (λ j l. value_text_told main n stop j l) openings_left x.0 x.1 is))
           (λ h. record { tells = tt })
 
-      -- a value
+      -- A value.
       pub value_told : (main : Bool) (i stop openings_left : ℕ) → Told (ReadText × ℕ) src (λ x. Unit {0}) (value_at main es opener src i stop openings_left)
       unfolding value_at
       value_told main i stop openings_left =
@@ -283,13 +283,13 @@ module _ (src : List ℕ) (utf8 : IsUtf8 src) where
           (λ h. record { tells = tt })
           (λ h. told_bind src (λ (x : List ℕ × ℕ). Unit {0}) _ (value_text main es opener (stop - i) src stop i openings_left) _ (value_text_told main (stop - i) stop i openings_left) (λ value read h. record { tells = tt }))
 
--- how many may be opened: the fault has no name
+-- How many may be opened: the fault has no name.
 pub budget_spans : (src : List ℕ) (main : Bool) (after openings_left : ℕ) → FaultSpanned src (budget main after openings_left)
 budget_spans src true after openings_left = record { holds = tt }
 budget_spans src false after zero = record { holds = tt }
 budget_spans src false after (suc r) = record { holds = tt }
 
--- a replacement text as a part of a value, by how many may still be open
+-- A replacement text as a part of a value, by how many may still be open.
 pub value_opener_told : (es : List Entity) → AreTexts es → (d : ℕ) (main : Bool) (src : List ℕ) (t : Replacement) (after openings_left : ℕ) → IsUtf8 t.source → Told (List ℕ × ℕ) src (λ x. Unit {0}) (value_opener es d main t after openings_left)
 unfolding value_opener
 value_opener_told es texts zero main src t after openings_left utf8 = record { tells = tt }

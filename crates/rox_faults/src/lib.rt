@@ -1,4 +1,4 @@
-//! The fault that reading meets stands where the grammar says, and each that stands there refuses its text.
+//! The fault that reading meets is in the text, as the grammar says, and each fault in a text refuses it.
 #![tactic(auto)]
 
 pub mod faults;

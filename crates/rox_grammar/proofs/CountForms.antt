@@ -1,47 +1,14 @@
--- The attributes and the namespaces of a forest by its tags and item by item: they are the same, and as many.
-use Rattle.std.proofs.Common.{◌≡◌, ℕ, ◌+◌, ◌||◌, Bool, true, false, cond, List, [], ◌∷◌, ◌++◌, length, Option, None, Some, refl, sym, ap, ◌∙◌, arith, inl, inr, length-append}
-use Rattle.std.specs.Prelude.{bytes_eq, sum_by, flat_map}
+-- The number of different pairs, counted one by one.
+use Rattle.std.proofs.Common.{◌≡◌, ℕ, ◌+◌, ◌≤◌, ◌||◌, Bool, true, false, cond, List, [], ◌∷◌, ◌++◌, length, Option, None, Some, refl, sym, ap, ◌∙◌, arith, inl, inr, length-append}
+use Rattle.std.specs.Prelude.{bytes_eq}
 use Rattle.std.specs.List.{list_any}
 use Rattle.std.proofs.lemmas.Bool.{cases_Bool, and_parts}
 use Rattle.std.proofs.lemmas.Slice.Eq.{bytes_eq-Decides}
-use Rattle.std.proofs.lemmas.List.Sums.{sum_by-append, sum_by-cons}
-use Rattle.std.proofs.lemmas.Grind.{flat_map-append}
-use Rattle.rox_grammar.specs.Forest.{Forest, Nil, Cons}
-use Rattle.rox_grammar.specs.Written.{NamespaceDecl, Tag, Item, Element, Text, Comment, PI}
-use Rattle.rox_grammar.specs.Tree.{same_prefix, listable_of}
-use Rattle.rox_grammar.specs.Document.{tags, attributes_in, pairs_in, same_pair, distinct_count, IsWithinLimits}
-use Rattle.rox_grammar.specs.Counts.{pairs, has_pair, with_new, distinct_pairs, attribute_count, IsWithinCounts}
-
--- ---- what is there
-
-abbrev own_count : Tag → ℕ
-own_count t = length t.attributes
-
-both_attributes : (f g : Forest Item) → attributes_in f ≡ attribute_count f → attributes_in g ≡ attribute_count g → sum_by own_count (tags f ++ tags g) ≡ attribute_count f + attribute_count g
-both_attributes f g one more = omega (arith, sum_by-append own_count (tags f) (tags g))
-
-pub attributes_same : (items : Forest Item) → attributes_in items ≡ attribute_count items
-attributes_same Nil = refl
-attributes_same (Cons (Element start end t) children rest) =
-    omega (arith, sum_by-cons own_count t (tags children ++ tags rest), both_attributes children rest (attributes_same children) (attributes_same rest))
-attributes_same (Cons (Text a b c d) children rest) = omega (arith, both_attributes children rest (attributes_same children) (attributes_same rest))
-attributes_same (Cons (Comment a b c) children rest) = omega (arith, both_attributes children rest (attributes_same children) (attributes_same rest))
-attributes_same (Cons (PI a b c d) children rest) = omega (arith, both_attributes children rest (attributes_same children) (attributes_same rest))
-
-abbrev own_listed : Tag → List NamespaceDecl
-own_listed t = listable_of t.declarations
-
--- those of two rows, one after the other
-both_pairs : (f g : Forest Item) → pairs_in f ≡ pairs f → pairs_in g ≡ pairs g → flat_map own_listed (tags f ++ tags g) ≡ pairs f ++ pairs g
-both_pairs f g one more = flat_map-append own_listed (tags f) (tags g) ∙ ap (λ (ds : List NamespaceDecl). ds ++ pairs_in g) one ∙ ap (λ (ds : List NamespaceDecl). pairs f ++ ds) more
-
-pub pairs_same : (items : Forest Item) → pairs_in items ≡ pairs items
-pairs_same Nil = refl
-pairs_same (Cons (Element start end t) children rest) =
-    ap (λ (ds : List NamespaceDecl). listable_of t.declarations ++ ds) (both_pairs children rest (pairs_same children) (pairs_same rest))
-pairs_same (Cons (Text a b c d) children rest) = both_pairs children rest (pairs_same children) (pairs_same rest)
-pairs_same (Cons (Comment a b c) children rest) = both_pairs children rest (pairs_same children) (pairs_same rest)
-pairs_same (Cons (PI a b c d) children rest) = both_pairs children rest (pairs_same children) (pairs_same rest)
+use Rattle.rox_grammar.specs.Forest.{Forest, size}
+use Rattle.rox_grammar.specs.Written.{NamespaceDecl, Item}
+use Rattle.rox_grammar.specs.Tree.{same_prefix}
+use Rattle.rox_grammar.specs.Document.{attributes_in, pairs_in, same_pair, distinct_count, most_attributes, most_pairs, IsWithinLimits}
+use Rattle.rox_grammar.specs.Counts.{has_pair, with_new, distinct_pairs}
 
 -- ---- how many differ
 
@@ -51,7 +18,7 @@ prefix_is None (Some q) is = cc is
 prefix_is (Some p) None is = cc is
 prefix_is (Some p) (Some q) is = ap Some ((bytes_eq-Decides p q).0 is)
 
--- equal by the test is equal
+-- Equal by the test is equal.
 pair_is : (d e : NamespaceDecl) → same_pair d e ≡ true → d ≡ e
 pair_is d e is =
     let both = and_parts (same_prefix d.prefix e.prefix) (bytes_eq d.uri e.uri) is in
@@ -59,7 +26,7 @@ pair_is d e is =
     let u = (bytes_eq-Decides d.uri e.uri).0 both.1 in
     ap (λ (x : Option (List ℕ)). record { prefix = x; uri = d.uri }) p ∙ ap (λ (x : List ℕ). record { prefix = e.prefix; uri = x }) u
 
--- a pair at the end
+-- A pair at the end.
 has_last : (ds : List NamespaceDecl) (e x : NamespaceDecl) → has_pair (ds ++ e ∷ []) x ≡ (has_pair ds x || same_pair e x)
 has_last [] e x = elim (same_pair e x) as (λ b. (b || false) ≡ b) [ true ↦ refl | false ↦ refl ]
 has_last (d ∷ ds) e x = elim (same_pair d x) as (λ b. (b || has_pair (ds ++ e ∷ []) x) ≡ ((b || has_pair ds x) || same_pair e x)) [ true ↦ refl | false ↦ has_last ds e x ]
@@ -72,12 +39,12 @@ or_true : (b : Bool) → (b || true) ≡ true
 or_true true = refl
 or_true false = refl
 
--- how many of the second differ, and are not among the first
+-- How many of the second differ, and are not among the first.
 counted : List NamespaceDecl → List NamespaceDecl → ℕ
 counted known [] = 0
 counted known (d ∷ ds) = cond (has_pair known d || list_any (same_pair d) ds) (counted known ds) (1 + counted known ds)
 
--- one more is known that is not among them
+-- One more is known that is not among them.
 counted_apart : (known : List NamespaceDecl) (e : NamespaceDecl) (ds : List NamespaceDecl) → list_any (same_pair e) ds ≡ false → counted (known ++ e ∷ []) ds ≡ counted known ds
 unfolding counted
 counted_apart known e [] none = refl
@@ -91,7 +58,7 @@ counted_apart known e (d ∷ ds) none =
     or_none true b h = cc h
     or_none false b h = (refl, h)
 
--- one more is known that is among them
+-- One more is known that is among them.
 counted_again : (known : List NamespaceDecl) (e : NamespaceDecl) (ds : List NamespaceDecl) → has_pair known e ≡ false → list_any (same_pair e) ds ≡ true
     → 1 + counted (known ++ e ∷ []) ds ≡ counted known ds
 unfolding counted
@@ -140,16 +107,22 @@ none_known (d ∷ ds) = let rest = none_known ds in rw rest refl
 pub distinct_same : (ds : List NamespaceDecl) → distinct_count ds ≡ length (distinct_pairs ds)
 distinct_same ds = omega (arith, with_new_counted [] ds, none_known ds)
 
-pub pairs_counted : (items : Forest Item) → distinct_count (pairs_in items) ≡ length (distinct_pairs (pairs items))
-pairs_counted items = distinct_same (pairs_in items) ∙ ap (λ (ds : List NamespaceDecl). length (distinct_pairs ds)) (pairs_same items)
+pub pairs_counted : (items : Forest Item) → distinct_count (pairs_in items) ≡ length (distinct_pairs (pairs_in items))
+pairs_counted items = distinct_same (pairs_in items)
 
 -- ---- the limits
+
+-- The limits of a tree, counted item by item.
+pub record IsWithinCounts (nodes_limit : ℕ) (tree : Forest Item) : Type 0 where
+  pub nodes : size tree + 1 ≤ nodes_limit
+  pub attributes : attributes_in tree ≤ most_attributes
+  pub namespaces : length (distinct_pairs (pairs_in tree)) ≤ most_pairs
 
 pub limits_counted : (nodes_limit : ℕ) (tree : Forest Item) → IsWithinLimits nodes_limit tree → IsWithinCounts nodes_limit tree
 limits_counted nodes_limit tree within =
     record {
       nodes = within.nodes;
-      attributes = omega (arith, within.attributes, attributes_same tree);
+      attributes = within.attributes;
       namespaces = omega (arith, within.namespaces, pairs_counted tree);
     }
 
@@ -157,6 +130,6 @@ pub counts_limited : (nodes_limit : ℕ) (tree : Forest Item) → IsWithinCounts
 counts_limited nodes_limit tree within =
     record {
       nodes = within.nodes;
-      attributes = omega (arith, within.attributes, attributes_same tree);
+      attributes = within.attributes;
       namespaces = omega (arith, within.namespaces, pairs_counted tree);
     }

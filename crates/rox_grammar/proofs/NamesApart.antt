@@ -1,24 +1,24 @@
--- The names of a tag, one behind the others: what loops over declarations and attributes know.
+-- The names of a tag, one after the others: what loops over declarations and attributes know.
 use Rattle.std.proofs.Common.{◌≡◌, true, false, ◌||◌, ◌&&◌, Bool, List, [], ◌∷◌, ◌++◌, refl}
 use Rattle.std.specs.List.{list_any, list_all, IsDistinct, AllByRecursion}
 use Rattle.rox_grammar.specs.Written.{Attribute, NamespaceDecl}
 use Rattle.rox_grammar.specs.Tree.{same_prefix}
 use Rattle.rox_grammar.specs.WellNamed.{may_declare, AreDeclarable, is_known, same_expanded, AreDistinct}
 
--- each passes, and none of these, nor one before it, is like it
+-- Each passes, and none of these, nor one before it, is like it.
 abbrev pub FineBehind : {A : Type 0} → (A → Bool) → (A → A → Bool) → List A → List A → Type 0
 FineBehind p same before [] = Unit {0}
 FineBehind p same before (x ∷ xs) = (p x ≡ true) × (list_any (λ e. same e x) before ≡ false) × FineBehind p same (before ++ x ∷ []) xs
 
--- declarations behind others
+-- Declarations after others.
 abbrev pub DeclarableBehind : List NamespaceDecl → List NamespaceDecl → Type 0
 DeclarableBehind before ds = FineBehind may_declare (λ d e. same_prefix d.prefix e.prefix) before ds
 
--- attributes behind others
+-- Attributes after others.
 abbrev pub DistinctBehind : List NamespaceDecl → List Attribute → List Attribute → Type 0
 DistinctBehind scope before as' = FineBehind (λ a. is_known scope a.name) (λ a b. same_expanded scope a.name b.name) before as'
 
--- one of these is like one of those
+-- One of these is like one of those.
 abbrev AnyLike : {A : Type 0} → (A → A → Bool) → List A → List A → Bool
 AnyLike same before xs = list_any (λ e. list_any (same e) xs) before
 
@@ -30,7 +30,7 @@ like_none : {A : Type 0} (same : A → A → Bool) (before : List A) → AnyLike
 like_none same [] = refl
 like_none same (b ∷ before) = like_none same before
 
--- one in front
+-- One in front.
 like_first : {A : Type 0} (same : A → A → Bool) (before : List A) (x : A) (xs : List A) → list_any (λ e. same e x) before ≡ false → AnyLike same before xs ≡ false
     → AnyLike same before (x ∷ xs) ≡ false
 like_first same [] x xs one more = refl
@@ -48,7 +48,7 @@ first_like same (b ∷ before) x xs h =
     let r = first_like same before x xs o.1 in
     (rw i.0 r.0, rw i.1 r.1)
 
--- one more before
+-- One more before.
 like_more : {A : Type 0} (same : A → A → Bool) (before : List A) (x : A) (xs : List A) → AnyLike same before xs ≡ false → list_any (same x) xs ≡ false
     → AnyLike same (before ++ x ∷ []) xs ≡ false
 like_more same [] x xs h one = rw one refl
@@ -77,7 +77,7 @@ is_none p [] h = refl
 is_none p (x ∷ xs) (one, more) = rw one (is_none p xs more)
 
 module _ {A : Type 0} (p : A → Bool) (same : A → A → Bool) where
-  behind : (before xs : List A) → list_all p xs ≡ true → AnyLike same before xs ≡ false → IsDistinct same xs → FineBehind p same before xs
+  pub behind : (before xs : List A) → list_all p xs ≡ true → AnyLike same before xs ≡ false → IsDistinct same xs → FineBehind p same before xs
   unfolding IsDistinct
   behind before [] all none apart = tt
   behind before (x ∷ xs) all none (one, apart) =
@@ -85,7 +85,7 @@ module _ {A : Type 0} (p : A → Bool) (same : A → A → Bool) where
       let n = first_like same before x xs none in
       (a.0, n.0, behind (before ++ x ∷ []) xs a.1 (like_more same before x xs n.1 (is_none (same x) xs one)) apart)
 
-  fine : (before xs : List A) → FineBehind p same before xs → (list_all p xs ≡ true) × (AnyLike same before xs ≡ false) × IsDistinct same xs
+  pub fine : (before xs : List A) → FineBehind p same before xs → (list_all p xs ≡ true) × (AnyLike same before xs ≡ false) × IsDistinct same xs
   unfolding IsDistinct
   fine before [] h = (refl, like_none same before, tt)
   fine before (x ∷ xs) (passes, new, more) =

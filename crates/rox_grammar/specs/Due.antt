@@ -1,4 +1,4 @@
--- What is due at a place within a construct, and the fault where it does not stand there.
+-- What is required at a place within a construct, and the fault if it is not there.
 use Prim.Native.Char.{code}
 use Rattle.std.specs.Prelude.{◌≡◌, ◌≢◌, ◌⊎◌, ℕ, ◌+◌, ◌<◌, ◌≤◌, ◌==◌, ◌||◌, Bool, true, false, List, length, take, codes}
 use Rattle.rox_grammar.specs.declared.fault.Expected.{Expected}
@@ -14,21 +14,21 @@ use Rattle.rox_grammar.specs.Search.{stands, mark_from, byte_from}
 use Rattle.rox_grammar.specs.Written.{Name}
 use Rattle.rox_grammar.specs.Names.{byte, spaces_end, IsName, IsQName}
 use Rattle.rox_grammar.specs.Doctype.{Request, IsQuoted, IsSpace, IsExternalID, IsKind, BeginsEntity, BeginsDoctype}
-use Rattle.rox_grammar.specs.Constructs.{text_at, AreChars, IsEq, IsQuote, IsPair, DeclarationTo}
+use Rattle.rox_grammar.specs.Constructs.{text_at, AreChars, IsEq, IsQuote, PairAt, DeclarationTo}
 
--- what a construct can go on with
+-- What a construct can continue with.
 pub data DueItem : Type 0 where
   a_name : DueItem
   a_qname : DueItem
   a_byte : ℕ → DueItem
   a_text : Expected → DueItem
-  -- a byte of this kind
+  -- A byte of this kind.
   one_of : Due → DueItem
-  -- Chars up to this place
+  -- Chars up to this place.
   chars_to : ℕ → DueItem
 
--- the bytes that each kind stands for: of a document type declaration, whose subset may follow, and which ends behind it, and of
--- an entity, which a literal or an external id defines
+-- The bytes of each kind. `SubsetOrEnd` and `End` are of a document type declaration, whose subset may follow, and which ends after
+-- it. `EntityDefinition` is a literal or an external id.
 abbrev pub is_of : Due → ℕ → Bool
 is_of due.Space b = is_space b
 is_of due.Quote b = b == code "'" || b == code "\""
@@ -36,77 +36,78 @@ is_of due.SubsetOrEnd b = b == code "[" || b == code ">"
 is_of due.End b = b == code ">"
 is_of due.EntityDefinition b = (b == code "'" || b == code "\"") || (b == code "S" || b == code "P")
 
--- the thing is due at p, does not stand there, and this is the fault
+-- This is required at `p` and is not there, and the fault says so.
 pub data IsMissing (src : List ℕ) (p : ℕ) : DueItem → Fault → Type 0 where
   no_name : ((j : ℕ) → IsName src p j → ⊥) → IsMissing src p a_name (fault.InvalidName p)
   no_qname : ((name : Name) (j : ℕ) → IsQName src p name j → ⊥) → IsMissing src p a_qname (fault.InvalidName p)
   other_byte : (b : ℕ) → p < length src → byte src p ≢ b → IsMissing src p (a_byte b) (fault.InvalidChar b (byte src p) p)
   other_text : (text : Expected) → stands (expected_text text) src p ≡ false → IsMissing src p (a_text text) (fault.InvalidString text p)
   none_of : (kind : Due) → p < length src → is_of kind (byte src p) ≡ false → IsMissing src p (one_of kind) (fault.InvalidChar2 kind (byte src p) p)
-  -- XML 2.2 [2]: the longest stretch of Chars ends at q, before e, with this character
+  -- XML 2.2 [2]: the longest run of Chars ends at `q`, before `e`, with the character `c` after it.
   no_char : (e q c : ℕ) → q ≡ run_end is_char (take e src) p → q < e → StandsAt c src q → is_char c ≡ false → IsMissing src p (chars_to e) (fault.NonXmlChar c q)
-  -- `S` or `P`
+  -- After `S` or `P`.
   no_external_id : (byte src p ≡ code "S") ⊎ (byte src p ≡ code "P") → text_at "SYSTEM" src p ≡ false → text_at "PUBLIC" src p ≡ false → IsMissing src p (one_of due.EntityDefinition) (fault.InvalidExternalID p)
-  -- the text ends where a byte is due
+  -- The source ends where a byte is required.
   no_byte : (b : ℕ) → length src ≤ p → IsMissing src p (a_byte b) fault.UnexpectedEndOfStream
   none_left : (kind : Due) → length src ≤ p → IsMissing src p (one_of kind) fault.UnexpectedEndOfStream
 
--- one of the things that are due within a construct is missing, and this is the fault
+-- One of the things that are required within a construct is missing, and the fault says so.
 abbrev pub Misses : List ℕ → (DueIn : ℕ → DueItem → Type 0) → Fault → Type 0
 Misses src DueIn f = (p : ℕ) × (t : DueItem) × DueIn p t × IsMissing src p t f
 
--- XML 2.5 [15], 2.6 [16], 2.7 [18]: in the text of a comment, processing instruction or CDATA section, from s up to where this stands
-pub data DueInText (end : Expected) (src : List ℕ) (s : ℕ) : ℕ → DueItem → Type 0 where
+-- XML 2.5 [15], 2.6 [16], 2.7 [18]: in the text of a comment, processing instruction or CDATA section, from `s` up to this end.
+pub data DueInText (end : Expected) (src : List ℕ) (s : ℕ) : (p : ℕ) → DueItem → Type 0 where
   its_chars : DueInText end src s s (chars_to (mark_from (expected_text end) src s))
   its_end : AreChars src s (mark_from (expected_text end) src s) → DueInText end src s (mark_from (expected_text end) src s) (a_text end)
 
--- XML 2.6 [16]: in the processing instruction that begins at i
-pub data DueInPI (src : List ℕ) (i : ℕ) : ℕ → DueItem → Type 0 where
+-- XML 2.6 [16]: in the processing instruction that starts at `i`.
+pub data DueInPI (src : List ℕ) (i : ℕ) : (p : ℕ) → DueItem → Type 0 where
   its_target : DueInPI src i (i + 2) a_name
   its_value : (n p : ℕ) (t : DueItem) → IsName src (i + 2) n → DueInText expected.PIEnd src (spaces_end src n) p t → DueInPI src i p t
 
--- XML 3.1 [42]: in the end tag that begins at i
-pub data DueInEnd (src : List ℕ) (i : ℕ) : ℕ → DueItem → Type 0 where
+-- XML 3.1 [42]: in the end tag that starts at `i`.
+pub data DueInEnd (src : List ℕ) (i : ℕ) : (p : ℕ) → DueItem → Type 0 where
   its_name : text_at "</" src i ≡ true → DueInEnd src i (i + 2) a_qname
   its_end : (name : Name) (n : ℕ) → text_at "</" src i ≡ true → IsQName src (i + 2) name n → DueInEnd src i (spaces_end src n) (a_byte (code ">"))
 
--- the place where a value ends that begins behind the quote at v: the same quote or a `<`
+-- The end of a value whose first quote is at `v`: the next such quote or `<`.
 abbrev pub value_end : List ℕ → ℕ → ℕ
 value_end src v = byte_from (λ c. c == byte src v || c == code "<") src (v + 1)
 
--- XML 3.1 [41], 2.8 [24]: in a name, Eq and a literal, from i on
-pub data DueInPair (src : List ℕ) (i : ℕ) : ℕ → DueItem → Type 0 where
+-- XML 3.1 [41], 2.8 [24]: in a name, Eq and a literal, from `i` on.
+pub data DueInPair (src : List ℕ) (i : ℕ) : (p : ℕ) → DueItem → Type 0 where
   its_name : DueInPair src i i a_qname
   equals : (name : Name) (n : ℕ) → IsQName src i name n → DueInPair src i (spaces_end src n) (a_byte (code "="))
   opening : (name : Name) (n v : ℕ) → IsQName src i name n → IsEq src n v → DueInPair src i v (one_of due.Quote)
   its_value : (name : Name) (n v : ℕ) → IsQName src i name n → IsEq src n v → IsQuote src v → DueInPair src i (v + 1) (chars_to (value_end src v))
-  -- of a value that no quote ends, its characters are not asked for
+  -- The characters of a value that no quote ends are not tested.
   closing : (name : Name) (n v : ℕ) → IsQName src i name n → IsEq src n v → IsQuote src v
       → (length src ≤ value_end src v) ⊎ AreChars src (v + 1) (value_end src v) → DueInPair src i (value_end src v) (a_byte (byte src v))
 
--- XML 2.8 [23]: in the declaration that begins at i. White space is due behind a pair, but for `standalone`, before `?>` and at the end.
-pub data DueInXmlDecl (src : List ℕ) (i : ℕ) : ℕ → DueItem → Type 0 where
+-- XML 2.8 [23]: in the declaration that starts at `i`. White space is required after a pair, except that of `standalone`, before
+-- `?>` and at the end.
+pub data DueInXmlDecl (src : List ℕ) (i : ℕ) : (p : ℕ) → DueItem → Type 0 where
   its_version : DueInXmlDecl src i (spaces_end src (i + 5)) (a_text expected.Version)
   in_pair : (text : List ℕ) (j p : ℕ) (t : DueItem) → DeclarationTo src i text j → stands text src j ≡ true → DueInPair src j p t → DueInXmlDecl src i p t
-  behind_pair : (text : List ℕ) (name : Name) (j n v e p : ℕ) → DeclarationTo src i text j → stands text src j ≡ true → text ≢ codes "standalone"
-      → IsPair src j name n v e p → p < length src → text_at "?>" src p ≡ false → DueInXmlDecl src i p (one_of due.Space)
-  behind_standalone : (name : Name) (j n v e p : ℕ) → DeclarationTo src i (codes "standalone") j → text_at "standalone" src j ≡ true → IsPair src j name n v e p
-      → DueInXmlDecl src i (spaces_end src p) (a_text expected.PIEnd)
+  behind_pair : (text : List ℕ) (j : ℕ) (pair : PairAt src j) → DeclarationTo src i text j → stands text src j ≡ true → text ≢ codes "standalone"
+      → pair.end < length src → text_at "?>" src pair.end ≡ false → DueInXmlDecl src i pair.end (one_of due.Space)
+  behind_standalone : (j : ℕ) (pair : PairAt src j) → DeclarationTo src i (codes "standalone") j → text_at "standalone" src j ≡ true
+      → DueInXmlDecl src i (spaces_end src pair.end) (a_text expected.PIEnd)
   its_end : (j : ℕ) → DeclarationTo src i (codes "standalone") j → text_at "standalone" src j ≡ false → DueInXmlDecl src i j (a_text expected.PIEnd)
 
--- XML 2.3 [9], [11], [12]: in white space and a literal of any characters but the quote, from i on
-pub data DueInLiteral (src : List ℕ) (i : ℕ) : ℕ → DueItem → Type 0 where
+-- XML 2.3 [9], [11], [12]: in white space and a literal of any characters but the quote, from `i` on.
+pub data DueInLiteral (src : List ℕ) (i : ℕ) : (p : ℕ) → DueItem → Type 0 where
   space_before : DueInLiteral src i i (one_of due.Space)
   its_quote : (s : ℕ) → IsSpace src i s → DueInLiteral src i s (one_of due.Quote)
   its_end : (s : ℕ) → IsSpace src i s → IsQuote src s → DueInLiteral src i (byte_from (λ c. c == byte src s) src (s + 1)) (a_byte (byte src s))
 
--- XML 4.2.2 [75]: in the external id that begins at i, in its first literal or its second
-pub data DueInExternalID (src : List ℕ) (i : ℕ) : ℕ → DueItem → Type 0 where
+-- XML 4.2.2 [75]: in the external id that starts at `i`, in its first literal or its second.
+pub data DueInExternalID (src : List ℕ) (i : ℕ) : (p : ℕ) → DueItem → Type 0 where
   first : (p : ℕ) (t : DueItem) → (text_at "SYSTEM" src i ≡ true) ⊎ (text_at "PUBLIC" src i ≡ true) → DueInLiteral src (i + 6) p t → DueInExternalID src i p t
   second : (s e j p : ℕ) (t : DueItem) → text_at "PUBLIC" src i ≡ true → IsSpace src (i + 6) s → IsQuoted src s e j → DueInLiteral src j p t → DueInExternalID src i p t
 
--- XML 4.2 [70]: in the entity declaration that begins at i, up to the end of its definition
-pub data DueInEntity (src : List ℕ) (i : ℕ) : ℕ → DueItem → Type 0 where
+-- XML 4.2 [70]: in the entity declaration that starts at `i`, up to the end of its definition.
+pub data DueInEntity (src : List ℕ) (i : ℕ) : (p : ℕ) → DueItem → Type 0 where
   space_before : DueInEntity src i (i + 8) (one_of due.Space)
   space_of_kind : (k : ℕ) → IsSpace src (i + 8) k → byte src k ≡ code "%" → DueInEntity src i (k + 1) (one_of due.Space)
   its_name : (k n : ℕ) (parameter : Bool) → IsSpace src (i + 8) k → IsKind src k parameter n → DueInEntity src i n a_name
@@ -117,14 +118,14 @@ pub data DueInEntity (src : List ℕ) (i : ℕ) : ℕ → DueItem → Type 0 whe
   its_external_id : (parameter : Bool) (n m d p : ℕ) (t : DueItem) → BeginsEntity src i parameter n m d → DueInExternalID src d p t → DueInEntity src i p t
   space_of_notation : (n m d e : ℕ) (request : Request) → BeginsEntity src i false n m d → IsExternalID src d request e → text_at "NDATA" src (spaces_end src e) ≡ true
       → DueInEntity src i (spaces_end src e + 5) (one_of due.Space)
-  -- at the end of the text it is not asked for
+  -- At the end of the source it is not required.
   its_notation : (n m d e s : ℕ) (request : Request) → BeginsEntity src i false n m d → IsExternalID src d request e → text_at "NDATA" src (spaces_end src e) ≡ true
       → IsSpace src (spaces_end src e + 5) s → s < length src → DueInEntity src i s a_name
 
--- XML 2.8 [28]: in the document type declaration that begins at i, up to its subset
-pub data DueInDoctype (src : List ℕ) (i : ℕ) : ℕ → DueItem → Type 0 where
+-- XML 2.8 [28]: in the document type declaration that starts at `i`, up to its subset.
+pub data DueInDoctype (src : List ℕ) (i : ℕ) : (p : ℕ) → DueItem → Type 0 where
   space_before : DueInDoctype src i (i + 9) (one_of due.Space)
-  -- at the end of the text it is not asked for
+  -- At the end of the source it is not required.
   its_name : (n : ℕ) → IsSpace src (i + 9) n → n < length src → DueInDoctype src i n a_name
   its_external_id : (n m p : ℕ) (t : DueItem) → IsSpace src (i + 9) n → IsName src n m → DueInExternalID src (spaces_end src m) p t → DueInDoctype src i p t
   its_end : (s : ℕ) → BeginsDoctype src i s → DueInDoctype src i s (one_of due.SubsetOrEnd)

@@ -1,10 +1,10 @@
--- What the references of a text open, counted, and the longest replacement text.
+-- The number of replacement texts that the references of a text open, and the length of the longest replacement text.
 use Rattle.std.specs.Prelude.{◌≡◌, ℕ, zero, suc, ◌+◌, ◌-◌, false, List, [], ◌∷◌, Some, length, max}
 use Rattle.rox_grammar.specs.Constructs.{AreChars}
 use Rattle.rox_grammar.specs.Content.{Inclusion, Content, Value}
 use Rattle.rox_grammar.specs.Entities.{Replacement, Entity, text_of, no_entities}
 
--- The replacement texts that a reference opens, at most so many within one another, with no limit but this: the numbers count
+-- The replacement texts that a reference opens, at most `depth_left` inside one another, with no other limit. The numbers count
 -- those that were opened before it and after it.
 abbrev pub Counts : List Entity → (depth_left : ℕ) → Inclusion
 Counts es zero = no_entities
@@ -17,7 +17,7 @@ Counts es (suc d) =
           × Value false (Counts es d) t.source (length t.source) t.start (b + 1) c v;
     }
 
--- of the longest replacement text
+-- The length in bytes of the longest replacement text.
 abbrev pub longest : List Entity → ℕ
 longest [] = 0
 longest (e ∷ es) = max (length e.text.source - e.text.start) (longest es)

@@ -1,4 +1,4 @@
--- How what a step that takes memory answers stands to what is read.
+-- How the result of a step that takes memory relates to what is read.
 use Rattle.std.specs.Prelude.{◌≡◌, Result, Ok, Err}
 use Rattle.rox_grammar.specs.declared.failure.Failure.{Failure}
 use Rattle.rox_grammar.specs.declared.failure.Failure.TheVariants as failure
@@ -6,16 +6,16 @@ use Rattle.rox_grammar.specs.declared.fault.Fault.{Fault}
 use Rattle.rox_grammar.specs.declared.name.QName.{QName}
 use Rattle.rox_grammar.specs.Written.{Name}
 
--- a name without where it lies in memory
+-- A name without its place in memory.
 abbrev pub name_view : QName → Name
 name_view q = record { prefix = q.prefix.now; local = q.local.now }
 
--- why a step stopped: nothing is said where memory ran out, and else what is read is this fault
+-- Why a step stopped: what is read is this fault, and nothing is said if memory ran out.
 abbrev pub Fails : {B : Type 0} → Failure → Result B Fault → Type 0
 Fails failure.Memory read = Unit {0}
 Fails (failure.Fault f) read = read ≡ Err f
 
--- the result, seen by `view`, is what is read, unless memory ran out
+-- The result, as `view` shows it, is what is read, unless memory ran out.
 abbrev pub Gives : {A B : Type 0} → (A → B) → Result A Failure → Result B Fault → Type 0
 Gives view (Ok x) read = read ≡ Ok (view x)
 Gives view (Err e) read = Fails e read

@@ -1,8 +1,8 @@
--- The fixed texts that reading looks for.
-use Rattle.std.specs.Prelude.{ℕ, Bool, List, [], ◌∷◌, codes}
+-- The fixed texts that reading searches for.
+use Rattle.std.specs.Prelude.{ℕ, Bool, List, codes}
 use Rattle.rox_grammar.specs.declared.fault.Word.{Word}
 use Rattle.rox_grammar.specs.declared.fault.Word.TheVariants as word
-use Rattle.rox_grammar.specs.Search.{stands, mark_from}
+use Rattle.rox_grammar.specs.Search.{stands}
 
 abbrev pub word_text : Word → List ℕ
 word_text word.CommentStart = codes "<!--"
@@ -28,18 +28,10 @@ word_text word.NData = codes "NDATA"
 word_text word.Xml = codes "xml"
 word_text word.Xmlns = codes "xmlns"
 
--- the fixed text stands at i
+-- Whether the fixed text is at `i`.
 abbrev pub at : Word → List ℕ → ℕ → Bool
 at w src i = stands (word_text w) src i
 
--- the first place from i on where the fixed text stands, or the end
-abbrev pub first : Word → List ℕ → ℕ → ℕ
-first w src i = mark_from (word_text w) src i
-
--- two dashes, which the text of no comment may hold (XML 2.5)
+-- Two dashes, which a comment's text may not contain (XML 2.5).
 abbrev pub double_dash : List ℕ
 double_dash = codes "--"
-
--- the byte order mark
-abbrev pub bom : List ℕ
-bom = 239 ∷ 187 ∷ 191 ∷ []

@@ -1,16 +1,16 @@
--- A row of siblings with what is below each, in order.
+-- A row of siblings with their descendants, in order.
 use Rattle.std.specs.Prelude.{ℕ, ◌+◌}
 
 pub data Forest (I : Type 0) : Type 0 where
   Nil : Forest I
-  -- an item, what is below it, and the siblings after it
+  -- An item, its children, and the siblings after it.
   Cons : I → Forest I → Forest I → Forest I
 
 abbrev pub join : {I : Type 0} → Forest I → Forest I → Forest I
 join Nil g = g
 join (Cons item children rest) g = Cons item children (join rest g)
 
--- how many items there are, at any depth
+-- The number of items, at any depth.
 abbrev pub size : {I : Type 0} → Forest I → ℕ
 size Nil = 0
 size (Cons item children rest) = 1 + size children + size rest

@@ -1,4 +1,4 @@
--- Names as they are written, compared, and where their parts stand.
+-- Names as they are written: how they are compared, and where their parts are.
 use Rattle.std.specs.Prelude.{ℕ, ◌+◌, ◌-◌, Bool, ◌&&◌, bytes_eq, length}
 use Rattle.rox_grammar.specs.declared.fault.Span.{Span}
 use Rattle.rox_grammar.specs.Written.{Name}
@@ -6,10 +6,10 @@ use Rattle.rox_grammar.specs.Written.{Name}
 abbrev pub same_qname : Name → Name → Bool
 same_qname m n = bytes_eq m.prefix n.prefix && bytes_eq m.local n.local
 
--- where the local part of a name stands that ends at this place
+-- The span of the local part of a name that ends at this place.
 abbrev pub local_span : Name → ℕ → Span
 local_span n end = record { start = end - length n.local; end = end }
 
--- and its prefix, from the first byte of the name
+-- The span of the prefix of a name that starts at this place.
 abbrev pub prefix_span : Name → ℕ → Span
 prefix_span n start = record { start = start; end = start + length n.prefix }

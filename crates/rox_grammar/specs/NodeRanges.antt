@@ -1,4 +1,4 @@
--- Whether a node is an element, and where it stands.
+-- Whether a node is an element, and its range.
 use Rattle.std.specs.Prelude.{ℕ, Bool, true, false}
 use Rattle.rox_grammar.specs.Tree.{Node, Root, Element, Text, Comment, PI}
 
@@ -6,7 +6,7 @@ abbrev pub is_element_node : Node → Bool
 is_element_node (Element start end namespace local listed attributes) = true
 is_element_node other = false
 
--- where the range of a node starts and ends, in bytes of its source
+-- The start and the end of a node's range, in bytes of its source.
 abbrev pub start_of : Node → ℕ
 start_of (Root end) = 0
 start_of (Element start end namespace local listed attributes) = start

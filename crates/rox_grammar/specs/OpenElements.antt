@@ -1,41 +1,41 @@
--- Where reading stands: what is read so far, and which elements are open.
+-- The state of reading: what is read so far, and which elements are open.
 use Rattle.std.specs.Prelude.{ℕ, ◌+◌, ◌<◌, ◌≤◌, max, List, []}
 use Rattle.rox_grammar.specs.Forest.{Forest, Nil, Cons, join, size}
 use Rattle.rox_grammar.specs.Written.{NamespaceDecl, Tag, Item, Element, merge}
 use Rattle.rox_grammar.specs.Tree.{listed}
 use Rattle.rox_grammar.specs.Document.{pairs_in, distinct_count, attributes_in, most_attributes, most_pairs, IsWithinLimits}
 
--- the open elements, innermost first: where each begins, its tag, and the siblings before it
+-- The open elements, innermost first: the start of each, its tag, and the siblings before it.
 pub data Open : Type 0 where
   root : Open
   inside : (start : ℕ) → (tag : Tag) → (before : Forest Item) → Open → Open
 
 pub record State : Type 0 where
   pub at : ℕ
-  -- the items of the innermost open element, or at the top
+  -- The items of the innermost open element, or at the top.
   pub done : Forest Item
   pub stack : Open
 
--- how many elements are open
+-- The number of open elements.
 abbrev pub depth_of : Open → ℕ
 depth_of root = 0
 depth_of (inside start tag before up) = depth_of up + 1
 
--- what the innermost open element lists
+-- What the innermost open element lists.
 abbrev pub scope_of : Open → List NamespaceDecl
 scope_of root = []
 scope_of (inside start tag before up) = listed (scope_of up) tag.declarations
 
--- the tree so far, as if each open element ended here
+-- The tree so far, as if each open element ended here.
 abbrev pub tree_so_far : Open → Forest Item → Forest Item
 tree_so_far root done = merge done
 tree_so_far (inside start tag before up) done = tree_so_far up (join before (Cons (Element start start tag) (merge done) Nil))
 
--- It is within the limits. The root node alone always is: with a limit of 0 the first node behind it is the one too many. A tree
--- never shrinks, so all that came before is within them too.
+-- The tree so far is within the limits. The root node by itself always is: with a limit of 0 the first node after it is the one too
+-- many. A tree never shrinks, so all that came before is within the limits too.
 abbrev pub FitsLimits : (nodes_limit : ℕ) → Open → Forest Item → Type 0
 FitsLimits nodes_limit stack done = IsWithinLimits (max nodes_limit 1) (tree_so_far stack done)
 
--- the tree has too many nodes alone, the root node counted: attributes and pairs are counted first
+-- The tree has too many nodes only, with the root node counted: attributes and pairs are counted first.
 abbrev pub HasTooManyNodes : (nodes_limit : ℕ) → Forest Item → Type 0
 HasTooManyNodes nodes_limit tree = (attributes_in tree ≤ most_attributes) × (distinct_count (pairs_in tree) ≤ most_pairs) × (nodes_limit < 1 + size tree)

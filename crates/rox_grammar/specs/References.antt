@@ -12,23 +12,23 @@ is_digit b = is_between (code "0") (code "9") b
 abbrev pub is_hex_digit : ℕ → Bool
 is_hex_digit b = is_digit b || (is_between (code "a") (code "f") b || is_between (code "A") (code "F") b)
 
--- the number that a digit stands for
+-- The value of a digit.
 abbrev pub digit_value : ℕ → ℕ
 digit_value b = if nat_le b (code "9") then b - code "0" else if nat_le b (code "F") then b - (code "A" - 10) else b - (code "a" - 10)
 
--- the number of these digits
+-- The number that these digits give.
 abbrev pub number : ℕ → List ℕ → ℕ
 number base ds = fold (λ n d. n * base + digit_value d) 0 ds
 
--- where the stretch of bytes that pass ends
+-- The end of the bytes from `i` on that pass `p`.
 unfoldable pub bytes_end : (ℕ → Bool) → List ℕ → ℕ → ℕ
 bytes_end p src i = i + prefix_len p (drop i src)
 
--- the character of a number; a number that is no character gives U+FFFD, where XML 4.1 (Legal Character) forbids it
+-- The character of this number. Departure: a number of no character gives U+FFFD, where XML 4.1 (Legal Character) forbids it.
 abbrev pub character : ℕ → ℕ
 character n = if nat_lt n 0xD800 || is_between 0xE000 0x10FFFF n then n else 0xFFFD
 
--- XML 4.6: the five names
+-- XML 4.6: the characters of the five predefined names.
 abbrev pub predefined : List ℕ → Option ℕ
 predefined name =
     if bytes_eq name (codes "lt") then Some (code "<")
@@ -38,16 +38,20 @@ predefined name =
     else if bytes_eq name (codes "apos") then Some (code "'")
     else None
 
--- XML 4.1 [66]: from d on digits, and `;`. Their number is below 2^32, and gives the Char c.
-pub data IsNumber (base : ℕ) (is : ℕ → Bool) (src : List ℕ) (d c : ℕ) : ℕ → Type 0 where
+-- XML 4.1 [66]: digits from `d` on, and `;`. Their number is below 2^32, and gives the Char `c`.
+pub data IsNumber (base : ℕ) (is : ℕ → Bool) (src : List ℕ) (d c : ℕ) : (j : ℕ) → Type 0 where
   digits : (e : ℕ) → e ≡ bytes_end is src d → d < e → byte src e ≡ code ";" → number base (slice src d e) < 2 ^ 32 → c ≡ character (number base (slice src d e))
       → is_char c ≡ true → IsNumber base is src d c (e + 1)
 
--- XML 4.1 [68] `&`, a name up to n, and `;`. The name may have colons, which NS 7 forbids.
-pub data IsReference (src : List ℕ) (i n : ℕ) : ℕ → Type 0 where
+-- XML 4.1 [68]: `&`, a name up to `n`, and `;`. Departure: the name may have colons, which NS 7 forbids.
+pub data IsReference (src : List ℕ) (i n : ℕ) : (j : ℕ) → Type 0 where
   entity_ref : byte src i ≡ code "&" → IsName src (i + 1) n → byte src n ≡ code ";" → IsReference src i n (n + 1)
 
--- XML 4.1 [66], 4.6: from i up to j a reference to the character c
+-- XML 4.1 [68], 4.6: a reference from `i` up to `j` to the entity of this name, which is not a predefined name.
+pub data IsEntityReference (src : List ℕ) (i j : ℕ) : (name : List ℕ) → Type 0 where
+  entity_reference : (n : ℕ) → IsReference src i n j → predefined (slice src (i + 1) n) ≡ None → IsEntityReference src i j (slice src (i + 1) n)
+
+-- XML 4.1 [66], 4.6: a reference from `i` up to `j` to the character `c`.
 pub data IsCharacter (src : List ℕ) (i c j : ℕ) : Type 0 where
   decimal : text_at "&#" src i ≡ true → IsNumber 10 is_digit src (i + 2) c j → IsCharacter src i c j
   hexadecimal : text_at "&#x" src i ≡ true → IsNumber 16 is_hex_digit src (i + 3) c j → IsCharacter src i c j

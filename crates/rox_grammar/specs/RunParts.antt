@@ -1,4 +1,4 @@
--- The parts of a whole run, and those of its front up to a reference to an entity.
+-- The parts of a whole run, and those before a reference to an entity.
 use Rattle.std.specs.Prelude.{ℕ, Bool, false, List}
 use Rattle.rox_grammar.specs.Forest.{Forest}
 use Rattle.rox_grammar.specs.Written.{Item}

@@ -1,14 +1,14 @@
--- Names that a fault has as spans of the source.
+-- The names of a fault, which are spans of the source.
 use Rattle.std.specs.Prelude.{◌≤◌, ℕ, List, IsCharBoundary}
 use Rattle.rox_grammar.specs.declared.fault.Span.{Span}
 use Rattle.rox_grammar.specs.declared.fault.Fault.{Fault}
 use Rattle.rox_grammar.specs.declared.fault.Fault.TheVariants as fault
 
--- it begins and ends between two characters of the source
+-- The span starts and ends between two characters of the source.
 abbrev pub IsTextSpan : List ℕ → Span → Type 0
 IsTextSpan src span = (span.start ≤ span.end) × IsCharBoundary src span.start × IsCharBoundary src span.end
 
--- each name that the fault has is a text of the source
+-- Each name of the fault is a text of the source.
 abbrev pub NamesText : List ℕ → Fault → Type 0
 NamesText src (fault.DuplicatedNamespace name at) = IsTextSpan src name
 NamesText src (fault.UnknownNamespace name at) = IsTextSpan src name

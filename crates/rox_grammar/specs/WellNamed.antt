@@ -5,32 +5,32 @@ use Rattle.rox_grammar.specs.Forest.{Forest, Nil, Cons}
 use Rattle.rox_grammar.specs.Written.{Name, Attribute, NamespaceDecl, Tag, Item, Element}
 use Rattle.rox_grammar.specs.Tree.{xml_uri, xmlns_uri, same_prefix, is_xml, is_declared, scope_in, attribute_namespace}
 
--- NS 3: `xml` and only `xml` may be bound to its URI, and nothing to that of `xmlns`. NS 3 also forbids the prefix `xmlns`,
--- NS 5 (No Prefix Undeclaring) the empty text for a prefix; and by NS 2.2 the value is a URI.
+-- NS 3: `xml`, and nothing else, may be bound to its URI, and nothing to that of `xmlns`. Departures: NS 3 also forbids to declare
+-- the prefix `xmlns`, NS 5 (No Prefix Undeclaring) the empty text for a prefix, and by NS 2.2 the value is a URI.
 abbrev pub may_declare : NamespaceDecl → Bool
 may_declare d = not (bytes_eq d.uri xmlns_uri) && (if is_xml d.prefix then bytes_eq d.uri xml_uri else not (bytes_eq d.uri xml_uri))
 
--- each may be declared, and no two declare one prefix
+-- Each may be declared, and no two declare one prefix.
 abbrev pub AreDeclarable : List NamespaceDecl → Type 0
 AreDeclarable ds = (list_all may_declare ds ≡ true) × IsDistinct (λ d e. same_prefix d.prefix e.prefix) ds
 
--- NS 5: the prefix of an attribute is empty, `xml` or listed
+-- NS 5: the prefix of an attribute is empty, `xml` or listed.
 abbrev pub is_known : List NamespaceDecl → Name → Bool
 is_known scope n = bytes_eq n.prefix [] || (bytes_eq n.prefix (codes "xml") || is_declared (Some n.prefix) scope)
 
--- NS 6.3: equal expanded names. No namespace and the empty URI differ, which NS 6.2 takes for one.
+-- NS 6.3: equal expanded names. Departure: no namespace and the empty URI differ, where NS 6.2 takes them for one.
 abbrev pub same_expanded : List NamespaceDecl → Name → Name → Bool
 same_expanded scope m n = same_prefix (attribute_namespace scope m) (attribute_namespace scope n) && bytes_eq m.local n.local
 
--- each prefix is known, and no two have one expanded name
+-- Each prefix is known, and no two attributes have one expanded name.
 abbrev pub AreDistinct : List NamespaceDecl → List Attribute → Type 0
 AreDistinct scope as' = (list_all (λ a. is_known scope a.name) as' ≡ true) × IsDistinct (λ a b. same_expanded scope a.name b.name) as'
 
--- NS 5: the prefix of an element is empty or listed. So `xml` is refused, which NS 3 declares everywhere.
+-- NS 5: the prefix of an element is empty or listed. Departure: so `xml` is refused, which NS 3 declares everywhere.
 abbrev pub may_name : List NamespaceDecl → Name → Bool
 may_name scope n = bytes_eq n.prefix [] || is_declared (Some n.prefix) scope
 
--- of a tag whose element lists this scope
+-- The names of a tag whose element lists `scope` are valid.
 abbrev pub IsWellNamed : List NamespaceDecl → Tag → Type 0
 IsWellNamed scope t = (bytes_eq t.name.prefix (codes "xmlns") ≡ false) × AreDeclarable t.declarations × AreDistinct scope t.attributes × (may_name scope t.name ≡ true)
 
@@ -38,7 +38,7 @@ abbrev pub ItemWellNamed : List NamespaceDecl → Item → Type 0
 ItemWellNamed scope (Element start end t) = IsWellNamed scope t
 ItemWellNamed scope other = Unit {0}
 
--- of a row of siblings below an element that lists these
+-- The names of a row of siblings whose parent lists `above` are valid.
 abbrev pub AreWellNamed : List NamespaceDecl → Forest Item → Type 0
 AreWellNamed above Nil = Unit {0}
 AreWellNamed above (Cons item children rest) = ItemWellNamed (scope_in above item) item × AreWellNamed (scope_in above item) children × AreWellNamed above rest

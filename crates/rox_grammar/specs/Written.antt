@@ -1,13 +1,13 @@
--- The tree of a text with its names as they are written. Every place is a count of bytes from the start of the source.
+-- The tree of a text with its names as they are written. Each place is an offset in bytes from the start of the source.
 use Rattle.std.specs.Prelude.{ℕ, Bool, false, ◌||◌, not, List, ◌++◌, Option, Some, None, bytes_eq, filter, map, if◌then◌else◌, codes}
 use Rattle.rox_grammar.specs.Forest.{Forest, Nil, Cons, join}
 
--- NS 4: a prefix, which is empty where none is written, and a local part
+-- NS 4: a prefix, which is empty if none is written, and a local part.
 pub record Name : Type 0 where
   pub prefix : List ℕ
   pub local : List ℕ
 
--- an attribute: its name from start to name_end, its value between the quotes from value_start to end less one
+-- An attribute: its name is from `start` up to `name_end`, its value, without the quotes, from `value_start` up to `end` less one.
 pub record Attribute : Type 0 where
   pub start : ℕ
   pub name_end : ℕ
@@ -15,55 +15,56 @@ pub record Attribute : Type 0 where
   pub end : ℕ
   pub name : Name
   pub value : List ℕ
-  -- the value is a slice of the source
+  -- Whether the value is a slice of the source.
   pub borrowed : Bool
 
--- NS 3: a prefix, or none for the default, and the URI that it stands for
+-- NS 3: a prefix, or none for the default, and its URI.
 pub record NamespaceDecl : Type 0 where
   pub prefix : Option (List ℕ)
   pub uri : List ℕ
 
--- what an element's start tag says
+-- The content of an element's start tag.
 pub record Tag : Type 0 where
   pub name : Name
-  -- the place where its name ends
+  -- The place where its name ends.
   pub name_end : ℕ
   pub declarations : List NamespaceDecl
   pub attributes : List Attribute
 
--- each with its range
+-- Each with its range.
 pub data Item : Type 0 where
   Element : (start end : ℕ) → Tag → Item
-  -- whether its value is a slice of the source
+  -- `borrowed` says whether its value is a slice of the source.
   Text : (start end : ℕ) → (value : List ℕ) → (borrowed : Bool) → Item
   Comment : (start end : ℕ) → (text : List ℕ) → Item
   PI : (start end : ℕ) → (target : List ℕ) → (value : Option (List ℕ)) → Item
 
--- NS 3: `xmlns:p` declares p, and any other name with the local part `xmlns` the default, where NS 3 has `xmlns` alone for it
+-- NS 3: `xmlns:p` declares p. Departure: any other name with the local part `xmlns` declares the default, where NS 3 has only
+-- `xmlns` for it.
 abbrev pub is_namespace_decl : Name → Bool
 is_namespace_decl n = bytes_eq n.prefix (codes "xmlns") || bytes_eq n.local (codes "xmlns")
 
 abbrev pub namespace_decl_of : Attribute → NamespaceDecl
 namespace_decl_of a = record { prefix = if bytes_eq a.name.prefix (codes "xmlns") then Some a.name.local else None; uri = a.value }
 
--- of the attributes as written those that declare, and the others
+-- The attributes as written that declare, and the others.
 abbrev pub namespace_decls_of : List Attribute → List NamespaceDecl
 namespace_decls_of as' = map namespace_decl_of (filter (λ a. is_namespace_decl a.name) as')
 
 abbrev pub plain_attributes_of : List Attribute → List Attribute
 plain_attributes_of as' = filter (λ a. not (is_namespace_decl a.name)) as'
 
--- an item in front: a text takes in one that it touches (nothing ever stands below a text)
+-- Puts an item first: a text takes in the text that it touches. (A text has no descendants.)
 abbrev pub glue : Item → Forest Item → Forest Item → Forest Item
 glue (Text a e v borrowed) below (Cons (Text x y w p) children rest) = Cons (Text a e (v ++ w) false) (join below children) rest
 glue item below rest = Cons item below rest
 
--- Each longest row of touching pieces becomes one text, with the range of its first piece. It is a slice of the
--- source only where it is one such piece.
+-- Makes each longest row of touching pieces one text, with the range of its first piece. It is a slice of the source only if it is
+-- one such piece.
 abbrev pub merge : Forest Item → Forest Item
 merge Nil = Nil
 merge (Cons item children rest) = glue item children (merge rest)
 
--- a text or another item with nothing below it
+-- A text or another item without descendants.
 abbrev pub leaf : Item → Forest Item
 leaf item = Cons item Nil Nil

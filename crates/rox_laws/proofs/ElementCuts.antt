@@ -6,6 +6,7 @@ use Rattle.rox_grammar.specs.Written.{NamespaceDecl, Tag, Item, Element, Text, C
 use Rattle.rox_grammar.specs.Tree as tree
 use Rattle.rox_grammar.specs.Tree.{Node, node_in}
 use Rattle.rox_grammar.specs.Names.{byte, spaces_end}
+use Rattle.rox_grammar.specs.References.{entity_reference}
 use Rattle.rox_grammar.specs.Content.{DataByte, piece, last_part, then_entity, TagEnds, opened, closed, IsTag, start_tag, IsMisc, comment, instruction, IsElement, empty, nest, Content, ends, run, cdata, misc, node}
 use Rattle.rox_grammar.specs.RunParts.{Parts}
 use Rattle.rox_grammar.specs.Document.{Misc, no_misc, space, an_item, ParseOf, IsTreeOf}
@@ -60,7 +61,7 @@ piece_marked src start stop borrowed (s ∷ ss) = (tt, tt, tt)
 
 parts_marked : (src : List ℕ) (start stop i b c : ℕ) (items : Forest Item) → Parts true no_entities src start stop i b c items → EachNode (MarkedItem src) items
 parts_marked src start stop i b c items (last_part _ _ ss part) = piece_marked src start stop _ ss
-parts_marked src start stop i b c items (then_entity _ p n j _ d _ ss inner more part reference unknown opens rest) = absurd opens
+parts_marked src start stop i b c items (then_entity _ p j _ d _ _ ss inner more part (entity_reference n reference unknown) opens rest) = absurd opens
 
 mutual
   content_marked : (src : List ℕ) (i j b c : ℕ) (items : Forest Item) → Content true no_entities src i j b c items → EachNode (MarkedItem src) items

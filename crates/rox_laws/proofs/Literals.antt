@@ -29,18 +29,18 @@ use Rattle.rox_laws.proofs.Placed.{declaration_placed, value_placed, stands_plac
 abbrev IsOwn : List ℕ → List ℕ → Fault → Type 0
 IsOwn text source f = (source ≡ text) ⊎ IsPlaced source f
 
-from_placed : (opens : ℕ → Inclusion) (es : List Entity) (limit : ℕ) (text : List ℕ) (declared : Bool) (Front : ℕ → Forest Item → Type 0) (source : List ℕ) (f : Fault) → IsUtf8 source → FaultFrom opens es limit text declared Front source f
+from_placed : (opens : ℕ → Inclusion) (es : List Entity) (limit : ℕ) (text : List ℕ) (declared : Bool) (PrologAt : ℕ → Forest Item → Type 0) (source : List ℕ) (f : Fault) → IsUtf8 source → FaultFrom opens es limit text declared PrologAt source f
     → IsOwn text source f
-from_placed opens es limit text declared Front source f utf8 (faults.FaultFrom.misc_around p items _ (inl front) fits (faults.InMiscs.in_one _ ill)) = inl refl
-from_placed opens es limit text declared Front source f utf8 (faults.FaultFrom.misc_around p items _ (inl front) fits (faults.InMiscs.one_too_many j item is over)) = inl refl
-from_placed opens es limit text declared Front source f utf8 (faults.FaultFrom.no_root items front fits) = inl refl
-from_placed opens es limit text declared Front source f utf8 (faults.FaultFrom.unknown_ahead p items front fits inside no_space no_less) = inl refl
-from_placed opens es limit text declared Front source f utf8 (faults.FaultFrom.at_point k open_around b _ s _ _ place fits (faults.AtPoint.at_place _ ill)) = inr (stands_placed source utf8 limit es k open_around (opens k) s b f ill)
-from_placed opens es limit text declared Front source f utf8 (faults.FaultFrom.at_point k open_around b src s _ _ place fits (faults.AtPoint.in_value p n v e j c l i stop d _ name _ _ _ opens' to space pair part ill)) =
+from_placed opens es limit text declared PrologAt source f utf8 (faults.FaultFrom.misc_around p items _ (inl front) fits (faults.InMiscs.in_one _ ill)) = inl refl
+from_placed opens es limit text declared PrologAt source f utf8 (faults.FaultFrom.misc_around p items _ (inl front) fits (faults.InMiscs.one_too_many j item is over)) = inl refl
+from_placed opens es limit text declared PrologAt source f utf8 (faults.FaultFrom.no_root items front fits) = inl refl
+from_placed opens es limit text declared PrologAt source f utf8 (faults.FaultFrom.unknown_ahead p items front fits inside no_space no_less) = inl refl
+from_placed opens es limit text declared PrologAt source f utf8 (faults.FaultFrom.at_point k open_around b _ s _ _ place fits (faults.AtPoint.at_place _ ill)) = inr (stands_placed source utf8 limit es k open_around (opens k) s b f ill)
+from_placed opens es limit text declared PrologAt source f utf8 (faults.FaultFrom.at_point k open_around b src s _ _ place fits (faults.AtPoint.in_value next l i stop d _ _ opens' part ill)) =
     inr (value_placed source utf8 es l (opens l) i stop d f ill)
-from_placed opens es limit text declared Front source f utf8 (faults.FaultFrom.misc_around p items _ (inr behind) fits (faults.InMiscs.in_one _ ill)) = inl refl
-from_placed opens es limit text declared Front source f utf8 (faults.FaultFrom.misc_around p items _ (inr behind) fits (faults.InMiscs.one_too_many j item is over)) = inl refl
-from_placed opens es limit text declared Front source f utf8 (faults.FaultFrom.unknown_behind p items behind fits inside no_space no_comment no_instruction) = inl refl
+from_placed opens es limit text declared PrologAt source f utf8 (faults.FaultFrom.misc_around p items _ (inr behind) fits (faults.InMiscs.in_one _ ill)) = inl refl
+from_placed opens es limit text declared PrologAt source f utf8 (faults.FaultFrom.misc_around p items _ (inr behind) fits (faults.InMiscs.one_too_many j item is over)) = inl refl
+from_placed opens es limit text declared PrologAt source f utf8 (faults.FaultFrom.unknown_behind p items behind fits inside no_space no_comment no_instruction) = inl refl
 
 doctype_placed : (limit : ℕ) (text : List ℕ) (i : ℕ) (before : Forest Item) (asked : List Asked) (source : List ℕ) (f : Fault) → InDoctype limit text i before asked source f → IsOwn text source f
 doctype_placed limit text i before asked source f (refused.InDoctype.head_lacks _ lacks) = inl refl

@@ -87,32 +87,32 @@ module _ (opens : ℕ → Inclusion) (es : List Entity) (text : List ℕ) where
   place_of : (Root : ℕ → Forest Item → Type 0) (k open_around b : ℕ) (src : List ℕ) (s : State) → ContentPoint opens es text Root k open_around src b s → IsOf text es src
   place_of Root k open_around b src s (places.ContentPoint.begins p items is) = inl refl
   place_of Root k open_around b src s (places.ContentPoint.goes _ _ l c _ t u before takes inner deep) = place_of Root k open_around l src t before
-  place_of Root k open_around b src s (places.ContentPoint.enters i at l c r p j from u front t before inner (stop, run, parts, below, refers) named may) = inr (_, t, refers.3, refl)
+  place_of Root k open_around b src s (places.ContentPoint.enters i at l r from u run before inner named may) = inr (_, run.replacement, run.refers.2, refl)
 
   place_root : (Root : ℕ → Forest Item → Type 0) (k open_around b : ℕ) (src : List ℕ) (s : State) → ContentPoint opens es text Root k open_around src b s → (p : ℕ) × (items : Forest Item) × Root p items
   place_root Root k open_around b src s (places.ContentPoint.begins p items is) = (p, items, is)
   place_root Root k open_around b src s (places.ContentPoint.goes _ _ l c _ t u before takes inner deep) = place_root Root k open_around l src t before
-  place_root Root k open_around b src s (places.ContentPoint.enters i at l c r p j from u front t before inner to named may) = place_root Root i at l from u before
+  place_root Root k open_around b src s (places.ContentPoint.enters i at l r from u run before inner named may) = place_root Root i at l from u before
 
   part_of : (k : ℕ) (src : List ℕ) (start end b l : ℕ) (part : List ℕ) (i stop d : ℕ) → IsOf text es src → ValuePart opens es k src start end b l part i stop d → IsOf text es part
   part_of k src start end b l part i stop d of places.ValuePart.itself = of
-  part_of k src start end b l part i stop d of (places.ValuePart.opened n x y z c r p j from front t before to below refers may) = inr (_, t, refers.3, refl)
+  part_of k src start end b l part i stop d of (places.ValuePart.opened n x y z c r p j from front t before to below refers may) = inr (_, t, refers.2, refl)
 
-  from_of : (limit : ℕ) (declared : Bool) (Front : ℕ → Forest Item → Type 0) (source : List ℕ) (f : Fault) → FaultFrom opens es limit text declared Front source f
-      → (source ≡ text) ⊎ (((p : ℕ) × (items : Forest Item) × Front p items) × IsOf text es source)
-  from_of limit declared Front source f (faults.FaultFrom.misc_around p items _ (inl front) fits (faults.InMiscs.in_one _ ill)) = inl refl
-  from_of limit declared Front source f (faults.FaultFrom.misc_around p items _ (inl front) fits (faults.InMiscs.one_too_many j item is over)) = inl refl
-  from_of limit declared Front source f (faults.FaultFrom.no_root items front fits) = inl refl
-  from_of limit declared Front source f (faults.FaultFrom.unknown_ahead p items front fits inside no_space no_less) = inl refl
-  from_of limit declared Front source f (faults.FaultFrom.at_point k open_around b _ s _ _ place fits (faults.AtPoint.at_place _ ill)) =
+  from_of : (limit : ℕ) (declared : Bool) (PrologAt : ℕ → Forest Item → Type 0) (source : List ℕ) (f : Fault) → FaultFrom opens es limit text declared PrologAt source f
+      → (source ≡ text) ⊎ (((p : ℕ) × (items : Forest Item) × PrologAt p items) × IsOf text es source)
+  from_of limit declared PrologAt source f (faults.FaultFrom.misc_around p items _ (inl front) fits (faults.InMiscs.in_one _ ill)) = inl refl
+  from_of limit declared PrologAt source f (faults.FaultFrom.misc_around p items _ (inl front) fits (faults.InMiscs.one_too_many j item is over)) = inl refl
+  from_of limit declared PrologAt source f (faults.FaultFrom.no_root items front fits) = inl refl
+  from_of limit declared PrologAt source f (faults.FaultFrom.unknown_ahead p items front fits inside no_space no_less) = inl refl
+  from_of limit declared PrologAt source f (faults.FaultFrom.at_point k open_around b _ s _ _ place fits (faults.AtPoint.at_place _ ill)) =
       let root = place_root _ k open_around b source s place in
       inr ((root.0, root.1, root.2.0), place_of _ k open_around b source s place)
-  from_of limit declared Front source f (faults.FaultFrom.at_point k open_around b src s _ _ place fits (faults.AtPoint.in_value p n v e j c l i stop d _ name _ _ _ opens' to space pair part ill)) =
+  from_of limit declared PrologAt source f (faults.FaultFrom.at_point k open_around b src s _ _ place fits (faults.AtPoint.in_value next l i stop d _ _ opens' part ill)) =
       let root = place_root _ k open_around b src s place in
-      inr ((root.0, root.1, root.2.0), part_of k src (v + 1) e c l source i stop d (place_of _ k open_around b src s place) part)
-  from_of limit declared Front source f (faults.FaultFrom.misc_around p items _ (inr behind) fits (faults.InMiscs.in_one _ ill)) = inl refl
-  from_of limit declared Front source f (faults.FaultFrom.misc_around p items _ (inr behind) fits (faults.InMiscs.one_too_many j item is over)) = inl refl
-  from_of limit declared Front source f (faults.FaultFrom.unknown_behind p items behind fits inside no_space no_comment no_instruction) = inl refl
+      inr ((root.0, root.1, root.2.0), part_of k src (next.pair.first_quote + 1) next.pair.last_quote next.openings_left l source i stop d (place_of _ k open_around b src s place) part)
+  from_of limit declared PrologAt source f (faults.FaultFrom.misc_around p items _ (inr behind) fits (faults.InMiscs.in_one _ ill)) = inl refl
+  from_of limit declared PrologAt source f (faults.FaultFrom.misc_around p items _ (inr behind) fits (faults.InMiscs.one_too_many j item is over)) = inl refl
+  from_of limit declared PrologAt source f (faults.FaultFrom.unknown_behind p items behind fits inside no_space no_comment no_instruction) = inl refl
 
 -- in a document type declaration it is the text, or an answer as a whole
 in_doctype : (limit : ℕ) (text : List ℕ) (i : ℕ) (before : Forest Item) (asked : List Asked) (source : List ℕ) (f : Fault) → InDoctype limit text i before asked source f → (source ≡ text) ⊎ IsAnswerIn asked source

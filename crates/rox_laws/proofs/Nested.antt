@@ -3,6 +3,7 @@ use Rattle.std.proofs.Common.{◌≡◌, ℕ, ◌+◌, ◌<◌, ◌≤◌, Bool,
 use Rattle.rox_grammar.specs.Forest.{Forest, Nil, Cons, join}
 use Rattle.rox_grammar.specs.Written.{NamespaceDecl, Item, Element, Text, Comment, PI, glue, merge}
 use Rattle.rox_grammar.specs.Tree.{Node, scope_in, resolved}
+use Rattle.rox_grammar.specs.References.{entity_reference}
 use Rattle.rox_grammar.specs.Content.{DataByte, piece, last_part, then_entity, IsMisc, comment, instruction, IsElement, empty, nest, Content, ends, run, cdata, misc, node}
 use Rattle.rox_grammar.specs.RunParts.{Parts}
 use Rattle.rox_grammar.specs.Document.{Misc, no_misc, space, an_item, ParseOf, IsTreeOf}
@@ -74,7 +75,7 @@ piece_nested start stop borrowed (s ∷ ss) some = (omega arith, some, refl, ome
 parts_nested : (src : List ℕ) (start stop i b c : ℕ) (items : Forest Item) → start < stop → Parts true no_entities src start stop i b c items
     → Nested start stop items
 parts_nested src start stop i b c items some (last_part _ _ ss part) = piece_nested start stop _ ss some
-parts_nested src start stop i b c items some (then_entity _ p n j _ d _ ss inner more part reference unknown opens rest) = absurd opens
+parts_nested src start stop i b c items some (then_entity _ p j _ d _ _ ss inner more part (entity_reference n reference unknown) opens rest) = absurd opens
 
 -- a comment or an instruction in front
 misc_nested : (src : List ℕ) (i j to : ℕ) (item : Item) (more : Forest Item) → IsMisc src i j item → Nested j to more → Nested i to (Cons item Nil more)

@@ -1,6 +1,6 @@
 -- No node of a document lists a prefix twice or has two attributes of one expanded name.
 use Rattle.std.proofs.Common.{◌≡◌, ℕ, ◌||◌, Bool, true, false, not, List, [], ◌∷◌, ◌++◌, Option, Some, filter, map, refl, sym, ap, ◌∙◌, subst, append_assoc}
-use Rattle.std.specs.List.{list_any}
+use Rattle.std.specs.List.{list_any, list_all, IsDistinct}
 use Rattle.std.proofs.lemmas.List.{append-nil, map-append}
 use Rattle.std.proofs.lemmas.List.Folds.{list_any-append}
 use Rattle.rox_grammar.specs.declared.fault.Word.TheVariants.{Xml}
@@ -10,11 +10,48 @@ use Rattle.rox_grammar.specs.Written as written
 use Rattle.rox_grammar.specs.Written.{NamespaceDecl, Item}
 use Rattle.rox_grammar.specs.Tree.{Node, Attribute, same_prefix, is_declared, listed, attribute_in, resolved}
 use Rattle.rox_grammar.specs.WellNamed.{AreWellNamed}
-use Rattle.rox_grammar.proofs.NamesApart.{DeclarableBehind, DistinctBehind, declarable_behind, distinct_behind}
+use Rattle.rox_grammar.proofs.NamesApart.{FineBehind, DeclarableBehind, DistinctBehind, behind, fine, declarable_behind, distinct_behind}
 use Rattle.rox_grammar.specs.Doctype.{Asked}
 use Rattle.rox_grammar.specs.Document.{IsTreeOf}
 use Rattle.rox_theory.proofs.ParseParts.{tree_parts, well_named}
-use Rattle.rox_laws.specs.TreeLaws.{PrefixesOnce, same_attribute_name, NamesOnce, NamesDistinct}
+use Rattle.rox_laws.specs.TreeLaws.{same_attribute_name, NamesDistinct}
+
+-- ---- none of these is like one before it
+
+abbrev pub OnceBehind : {A : Type 0} → (A → A → Bool) → List A → List A → Type 0
+OnceBehind same before [] = Unit {0}
+OnceBehind same before (x ∷ xs) = (list_any (λ e. same e x) before ≡ false) × OnceBehind same (before ++ x ∷ []) xs
+
+abbrev pub PrefixesOnce : List NamespaceDecl → List NamespaceDecl → Type 0
+PrefixesOnce before ds = OnceBehind (λ d e. same_prefix d.prefix e.prefix) before ds
+
+abbrev pub NamesOnce : List Attribute → List Attribute → Type 0
+NamesOnce before as' = OnceBehind same_attribute_name before as'
+
+pub none_twice : {A : Type 0} (same : A → A → Bool) → IsDistinct same []
+unfolding IsDistinct
+none_twice same = tt
+
+module _ {A : Type 0} (same : A → A → Bool) where
+  all_pass : (xs : List A) → list_all (λ x. true) xs ≡ true
+  all_pass [] = refl
+  all_pass (x ∷ xs) = all_pass xs
+
+  once_fine : (before xs : List A) → OnceBehind same before xs → FineBehind (λ x. true) same before xs
+  once_fine before [] h = tt
+  once_fine before (x ∷ xs) (new, more) = (refl, new, once_fine (before ++ x ∷ []) xs more)
+
+  fine_once : (before xs : List A) → FineBehind (λ x. true) same before xs → OnceBehind same before xs
+  fine_once before [] h = tt
+  fine_once before (x ∷ xs) (passes, new, more) = (new, fine_once (before ++ x ∷ []) xs more)
+
+  pub once_distinct : (xs : List A) → OnceBehind same [] xs → IsDistinct same xs
+  once_distinct xs h = (fine (λ x. true) same [] xs (once_fine [] xs h)).2
+
+  pub distinct_once : (xs : List A) → IsDistinct same xs → OnceBehind same [] xs
+  distinct_once xs h = fine_once [] xs (behind (λ x. true) same [] xs (all_pass xs) refl h)
+
+-- ---- prefixes and names
 
 -- neither of two tests
 neither : (x y : Bool) → (x || y) ≡ false → (x ≡ false) × (y ≡ false)
@@ -98,13 +135,17 @@ resolved_distinct above Nil once h = tt
 resolved_distinct above (Cons (written.Element a e t) c r) once h =
     let scope = listed above t.declarations in
     let inner = listed_once above t.declarations once (declarable_behind t.declarations h.0.1) in
-    ((inner, names_once scope [] t.attributes (distinct_behind scope t.attributes h.0.2)), resolved_distinct scope c inner h.1, resolved_distinct above r once h.2)
-resolved_distinct above (Cons (written.Text a e v b) c r) once h = ((tt, tt), resolved_distinct above c once h.1, resolved_distinct above r once h.2)
-resolved_distinct above (Cons (written.Comment a e t) c r) once h = ((tt, tt), resolved_distinct above c once h.1, resolved_distinct above r once h.2)
-resolved_distinct above (Cons (written.PI a e t o) c r) once h = ((tt, tt), resolved_distinct above c once h.1, resolved_distinct above r once h.2)
+    let attributes = names_once scope [] t.attributes (distinct_behind scope t.attributes h.0.2) in (
+      (once_distinct _ scope inner, once_distinct _ (map (attribute_in scope) t.attributes) attributes),
+      resolved_distinct scope c inner h.1,
+      resolved_distinct above r once h.2,
+    )
+resolved_distinct above (Cons (written.Text a e v b) c r) once h = ((none_twice _, none_twice _), resolved_distinct above c once h.1, resolved_distinct above r once h.2)
+resolved_distinct above (Cons (written.Comment a e t) c r) once h = ((none_twice _, none_twice _), resolved_distinct above c once h.1, resolved_distinct above r once h.2)
+resolved_distinct above (Cons (written.PI a e t o) c r) once h = ((none_twice _, none_twice _), resolved_distinct above c once h.1, resolved_distinct above r once h.2)
 
 -- in a document
 pub names_distinct : {dtd : Bool} {asked : List Asked} (src : List ℕ) (limit : ℕ) (tree : Forest Node) → IsTreeOf src dtd asked limit tree → NamesDistinct tree
 names_distinct src limit tree is =
     let h = tree_parts is in
-    subst (λ (f : Forest Node). NamesDistinct f) (sym h.shown) ((tt, tt), resolved_distinct [] h.written tt (well_named h.parse), tt)
+    subst (λ (f : Forest Node). NamesDistinct f) (sym h.shown) ((none_twice _, none_twice _), resolved_distinct [] h.written tt (well_named h.parse), tt)

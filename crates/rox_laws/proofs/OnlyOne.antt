@@ -1,18 +1,18 @@
 -- At most one attribute of an element has a name.
 use Rattle.std.proofs.Common.{◌≡◌, ℕ, zero, suc, ◌+◌, ◌≤◌, Bool, true, false, cond, List, [], ◌∷◌, ◌++◌, Option, Some, None, refl, sym, ap, ◌∙◌, bytes_eq, arith}
-use Rattle.std.specs.List.{list_any, slice_get, count_by}
+use Rattle.std.specs.List.{list_any, slice_get, count_by, IsDistinct}
 use Rattle.std.specs.Option.{option_eq, option_map, is_some, IfSome}
 use Rattle.std.proofs.lemmas.Bool.{and_parts, and_from, or_parts, or_from, false_from_ne_true, both_ways}
 use Rattle.std.proofs.lemmas.List.Folds.{list_any-append}
 use Rattle.std.proofs.lemmas.List.Recursion.{is_count_by}
 use Rattle.std.proofs.lemmas.Slice.Eq.{bytes_eq-Decides}
-use Rattle.rox_grammar.specs.Forest.{Forest, Nil, Cons}
+use Rattle.rox_grammar.specs.Forest.{Forest}
 use Rattle.rox_grammar.specs.Tree.{Node, Attribute, same_prefix}
 use Rattle.roxmltree.specs.NodeParts.{node_at, listed_of, attributes_of}
 use Rattle.roxmltree.specs.ExpandedNames.{same_expanded_name, named, IsNamedAt}
-use Rattle.rox_laws.specs.TreeLaws.{PrefixesOnce, same_attribute_name, NamesOnce, NamesDistinct}
+use Rattle.rox_laws.specs.TreeLaws.{same_attribute_name, NamesDistinct}
+use Rattle.rox_laws.proofs.Once.{NamesOnce, none_twice, distinct_once}
 use Rattle.rox_scopes.proofs.Pairs.{same_prefix-true, same_prefix-refl}
-use Rattle.roxmltree.specs.EachNode.{EachNode}
 use Rattle.roxmltree.proofs.Everywhere.{at_each}
 
 -- two namespaces are the same where they are equal as options
@@ -72,15 +72,11 @@ one_place name before (a ∷ as') (suc i) (suc j) h m n = ap suc (one_place name
 
 -- a node that lists each prefix once, and has each name once
 abbrev Distinct : Node → Type 0
-Distinct node = PrefixesOnce [] (listed_of node) × NamesOnce [] (attributes_of node)
-
-all_distinct : (f : Forest Node) → NamesDistinct f → EachNode Distinct f
-all_distinct Nil h = tt
-all_distinct (Cons node c r) h = (h.0, all_distinct c h.1, all_distinct r h.2)
+Distinct node = IsDistinct (λ d e. same_prefix d.prefix e.prefix) (listed_of node) × IsDistinct same_attribute_name (attributes_of node)
 
 -- each name is there once
 once_at : (tree : Forest Node) → NamesDistinct tree → (id : ℕ) → NamesOnce [] (attributes_of (node_at tree id))
-once_at tree h id = let both : Distinct (node_at tree id) = at_each Distinct tree (all_distinct tree h) (tt, tt) id in both.1
+once_at tree h id = let both : Distinct (node_at tree id) = at_each Distinct tree h (none_twice _, none_twice _) id in distinct_once same_attribute_name (attributes_of (node_at tree id)) both.1
 
 -- two attributes of one element with one name stand at one place
 pub one_named : (tree : Forest Node) → NamesDistinct tree → (id : ℕ) (name : Option (List ℕ) × List ℕ) (i j : ℕ)

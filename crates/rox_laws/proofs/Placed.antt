@@ -19,7 +19,7 @@ use Rattle.rox_grammar.specs.Written.{Name, Attribute, NamespaceDecl, is_namespa
 use Rattle.rox_grammar.specs.Names.{byte, spaces_end, IsName, IsQName, unprefixed, prefixed, colon_first}
 use Rattle.rox_grammar.specs.Constructs.{IsPair, MayBePair, DeclarationTo}
 use Rattle.rox_grammar.specs.Constructs as constructs
-use Rattle.rox_grammar.specs.References.{IsReference, IsCharacter, decimal, hexadecimal, named}
+use Rattle.rox_grammar.specs.References.{IsReference, IsCharacter, entity_reference, decimal, hexadecimal, named}
 use Rattle.rox_grammar.specs.Content.{Inclusion, Attributes}
 use Rattle.rox_grammar.specs.Content as content
 use Rattle.rox_grammar.specs.Entities.{Entity}
@@ -38,6 +38,7 @@ use Rattle.rox_faults.proofs.FaultApart.{declaration_bytes}
 use Rattle.rox_theory.proofs.LiteralLemmas.{from_bound, literal_closes, quote_ascii}
 use Rattle.rox_theory.proofs.AttributeParts.{parts_of}
 use Rattle.rox_faults.proofs.NameSpans.{run_cut, cut_behind}
+use Rattle.rox_faults.proofs.PartFronts.{to_entity}
 use Rattle.rox_theory.proofs.PartLemmas.{encode_some}
 use Rattle.rox_theory.proofs.Places.{begins_within}
 use Rattle.rox_laws.proofs.Counted.{IsPlaced}
@@ -156,8 +157,9 @@ module _ (src : List ℕ) (utf8 : IsUtf8 src) where
   pub declaration_fits : (i p : ℕ) (t : DueItem) → at word.XmlDeclStart src i ≡ true → DueInXmlDecl src i p t → Fits src t p
   declaration_fits i p t opens due.DueInXmlDecl.its_version = (version_cut i opens).0
   declaration_fits i p t opens (due.DueInXmlDecl.in_pair text j _ _ to here is) = pair_fits j p t (begins_inside i text j to here) is
-  declaration_fits i p t opens (due.DueInXmlDecl.behind_pair text name j n v e _ to here other pair below no_end) = tt
-  declaration_fits i p t opens (due.DueInXmlDecl.behind_standalone name j n v e k to here pair) = (run_cut is_space src k utf8 (pair_cut j n v e k name pair)).0
+  declaration_fits i p t opens (due.DueInXmlDecl.behind_pair text j pair to here other below no_end) = tt
+  declaration_fits i p t opens (due.DueInXmlDecl.behind_standalone j pair to here) =
+      (run_cut is_space src pair.end utf8 (pair_cut j pair.name_end pair.first_quote pair.last_quote pair.end pair.name pair.is_written)).0
   declaration_fits i p t opens (due.DueInXmlDecl.its_end _ (constructs.DeclarationTo.standalone v _ (constructs.DeclarationTo.encoding _ _ (constructs.DeclarationTo.version _) first_pair) second) none) =
       (may_cut word.Encoding v p (may_cut word.Version (spaces_end src (i + 5)) v (version_cut i opens) first_pair) second).0
 
@@ -175,7 +177,7 @@ module _ (src : List ℕ) (utf8 : IsUtf8 src) where
 
   references_placed : (es : List Entity) (p : ℕ) (f : Fault) → InReferences es src p f → IsPlaced src f
   references_placed es p f (rows.InReferences.malformed amp no_character no_reference) = let there = within src p (λ z. omega arith) in omega arith
-  references_placed es p f (rows.InReferences.undeclared n j name is no_character none holds) =
+  references_placed es p f (rows.InReferences.undeclared j _ name (entity_reference n is no_character) none holds) =
       let amp = (reference_parts is).opens in
       let there = within src p (λ z. omega arith) in
       omega arith
@@ -184,11 +186,12 @@ module _ (src : List ℕ) (utf8 : IsUtf8 src) where
   run_placed es k O i b f there (rows.InRun.no_char _ lacks) = lacks_placed src i _ f tt lacks
   run_placed es k O i b f there (rows.InRun.end_mark e ends chars has) = let le = from_bound (λ c. c == 60) src i (omega arith) in rw ends le
   run_placed es k O i b f there (rows.InRun.in_reference e p _ run from before ill) = references_placed es p f ill
-  run_placed es k O i b f there (rows.InRun.too_many p j c front t (stop, run, parts, before, refers) spent) = reference_inside src p refers.0 j refers.1
+  run_placed es k O i b f there (rows.InRun.too_many run spent) =
+      let x = to_entity es src run.reference run.after run.replacement run.refers in reference_inside src run.reference x.0 run.after x.1
 
   pub value_placed : (es : List Entity) (k : ℕ) (O : Inclusion) (i stop b : ℕ) (f : Fault) → InValue es k O src i stop b f → IsPlaced src f
   value_placed es k O i stop b f (rows.InValue.in_reference p _ from before ill) = references_placed es p f ill
-  value_placed es k O i stop b f (rows.InValue.too_many p j c front t to before refers spent) = reference_inside src p refers.0 j refers.1
+  value_placed es k O i stop b f (rows.InValue.too_many p j c front t to before refers spent) = let x = to_entity es src p j t refers in reference_inside src p x.0 j x.1
   value_placed es k O i stop b f (rows.InValue.less p inner from before (inl is)) = let there = within src p (λ z. omega arith) in omega arith
   value_placed es k O i stop b f (rows.InValue.less p inner from before (inr (j, is))) = let there = character_within src p 60 j is in omega arith
   value_placed es k O i stop b f (rows.InValue.no_char q c inner from before is bad) = let there = char_within c src q is in omega arith
@@ -268,4 +271,4 @@ module _ (src : List ℕ) (utf8 : IsUtf8 src) where
   stands_placed limit es k open_around O s b f (rows.Stands.unknown inner is other) = let before = within src s.at (λ z. omega arith) in omega arith
   stands_placed limit es k open_around O s b f (rows.Stands.unclosed deep past) = cut_placed (is_main k) s.stack
   stands_placed limit es k open_around O s b f (rows.Stands.too_many_nodes c t takes over) = tt
-  stands_placed limit es k open_around O s b f (rows.Stands.too_many_pieces p j c front t inner to well_named over) = tt
+  stands_placed limit es k open_around O s b f (rows.Stands.too_many_pieces run inner well_named over) = tt

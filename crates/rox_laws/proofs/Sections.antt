@@ -9,6 +9,7 @@ use Rattle.rox_grammar.specs.Written.{Name, NamespaceDecl, Tag, Item, Element, T
 use Rattle.rox_grammar.specs.Tree.{Node, node_in}
 use Rattle.rox_grammar.specs.Names.{byte, slice}
 use Rattle.rox_grammar.specs.Constructs.{IsCData, IsEnd}
+use Rattle.rox_grammar.specs.References.{entity_reference}
 use Rattle.rox_grammar.specs.Content.{DataByte, literal, kept, is_literal, data_bytes_of, literals, line_ends, piece, Part, part_ends, as_written, from_reference, last_part, then_entity, IsTag, start_tag, IsMisc, comment, instruction, IsElement, empty, nest, Content, ends, run, cdata, misc, node}
 use Rattle.rox_grammar.specs.RunParts.{Parts}
 use Rattle.rox_grammar.specs.Document.{Misc, no_misc, space, an_item, ParseOf, IsTreeOf}
@@ -131,7 +132,7 @@ piece_covers src i stop borrowed (s ∷ ss) some = (refl, λ none. absurd (some_
 
 parts_cover : (src : List ℕ) (i stop b c : ℕ) (items : Forest Item) → i < stop → Parts true no_entities src i stop i b c items → Covers src i stop items
 parts_cover src i stop b c items below (last_part _ _ ss part) = piece_covers src i stop _ ss (some_signs src i stop ss below part)
-parts_cover src i stop b c items below (then_entity _ p n j _ d _ ss inner others part reference unknown opens rest) = absurd opens
+parts_cover src i stop b c items below (then_entity _ p j _ d _ _ ss inner others part (entity_reference n reference unknown) opens rest) = absurd opens
 
 -- a section without a byte is empty
 section_empty : (src : List ℕ) (i e j : ℕ) → IsCData src i e j → slice src (i + 9) e ≡ [] → IsEmpty src i j

@@ -9,6 +9,7 @@ use Rattle.rox_grammar.specs.Written.{Name, Attribute, NamespaceDecl, Tag, Item,
 use Rattle.rox_grammar.specs.Tree as tree
 use Rattle.rox_grammar.specs.Tree.{Node, attribute_in, node_in, resolved}
 use Rattle.rox_grammar.specs.Names.{byte, slice, spaces_end, IsQName, unprefixed, prefixed, colon_first}
+use Rattle.rox_grammar.specs.References.{entity_reference}
 use Rattle.rox_grammar.specs.Content.{is_verbatim_value, Value, value_ends, line_end, white, other, a_character, an_entity, IsAttribute, attribute, Attributes, no_more, one_more, IsTag, DataByte, piece, last_part, then_entity, IsMisc, comment, instruction, IsElement, empty, nest, Content, ends, run, cdata, misc, node, start_tag}
 use Rattle.rox_grammar.specs.RunParts.{Parts}
 use Rattle.rox_grammar.specs.Document.{Misc, no_misc, space, an_item, ParseOf, IsTreeOf}
@@ -66,7 +67,7 @@ module _ (src : List ℕ) (stop : ℕ) where
   openings i b c v (white _ _ _ rest lt is p) d = white i d d rest lt is (openings (i + 1) b c rest p d)
   openings i b c v (other _ _ _ rest lt amp tab lf cr tag p) d = other i d d rest lt amp tab lf cr tag (openings (i + 1) b c rest p d)
   openings i b c v (a_character _ n x _ _ rest r inside any p) d = a_character i n x d d rest r inside any (openings n b c rest p d)
-  openings i b c v (an_entity _ n k _ e _ w rest r none inside opens p) d = absurd opens
+  openings i b c v (an_entity _ k _ e _ _ w rest (entity_reference n r none) inside opens p) d = absurd opens
 
   -- a value where each byte stands for itself is a slice
   value_slice : (i b c : ℕ) (v : List ℕ) → stop ≤ length src → ((k : ℕ) → i ≤ k → k < stop → IsOrdinary (byte src k)) → Value true no_entities src stop i b c v
@@ -80,7 +81,7 @@ module _ (src : List ℕ) (stop : ℕ) where
       ap (λ (r : List ℕ). byte src i ∷ r) (value_slice (i + 1) b c rest long (λ k from below. plain k (omega arith) below) p) ∙ sym (slice_cons src i stop lt long)
   value_slice i b c v long plain (a_character _ n x _ _ rest r inside any p) =
       let opens = character_opens src i x n r in absurd ((plain i (omega arith) (omega (arith, opens.1))).0 opens.0)
-  value_slice i b c v long plain (an_entity _ n k _ e _ w rest r none inside opens p) = absurd opens
+  value_slice i b c v long plain (an_entity _ k _ e _ _ w rest (entity_reference n r none) inside opens p) = absurd opens
 
 -- an attribute from its own start to its own end
 own_places : (src : List ℕ) (i j b c : ℕ) (w : Attribute) → IsAttribute true no_entities src i j b c w → IsAttribute true no_entities src w.start w.end 255 255 w
@@ -172,7 +173,7 @@ parts_have src start stop i b c items (last_part _ _ ss part) = a_piece _ ss
     a_piece : (borrowed : Bool) (ss : List DataByte) → EachNode (Has src) (piece start stop borrowed ss)
     a_piece borrowed [] = tt
     a_piece borrowed (s ∷ ss) = (tt, tt, tt)
-parts_have src start stop i b c items (then_entity _ p n j _ d _ ss inner more part reference unknown opens rest) = absurd opens
+parts_have src start stop i b c items (then_entity _ p j _ d _ _ ss inner more part (entity_reference n reference unknown) opens rest) = absurd opens
 
 misc_has : (src : List ℕ) (i j : ℕ) (item : Item) → IsMisc src i j item → Has src item
 misc_has src i j item (comment _ e _ is) = tt

@@ -1,4 +1,5 @@
 -- Texts without a character.
+use Prim.Native.Char.{code}
 use Rattle.std.specs.Prelude.{◌≡◌, ℕ, ◌+◌, false, List, []}
 use Rattle.rox_grammar.specs.Forest.{Forest}
 use Rattle.rox_grammar.specs.Tree.{Node, Text}
@@ -10,7 +11,7 @@ use Rattle.roxmltree.specs.EachNode.{EachNode}
 
 -- XML 2.7: from this place on empty CDATA sections stand, one at least, and then markup that is no such section
 pub data EmptySections (text : List ℕ) : ℕ → Type 0 where
-  last : (i : ℕ) → IsCData text i (i + 9) (i + 12) → byte text (i + 12) ≡ 60 → text_at "<![CDATA[" text (i + 12) ≡ false → EmptySections text i
+  last : (i : ℕ) → IsCData text i (i + 9) (i + 12) → byte text (i + 12) ≡ code "<" → text_at "<![CDATA[" text (i + 12) ≡ false → EmptySections text i
   more : (i : ℕ) → IsCData text i (i + 9) (i + 12) → EmptySections text (i + 12) → EmptySections text i
 
 -- a text node that is empty is made of such sections alone

@@ -1,4 +1,5 @@
 -- Where the nodes of a document and their attributes stand in its text.
+use Prim.Native.Char.{code}
 use Rattle.std.specs.Prelude.{◌≡◌, ◌≢◌, ◌⊎◌, ℕ, ◌-◌, ◌<◌, ◌≤◌, true, List, [], ◌∷◌, ◌++◌, All, length}
 use Rattle.rox_grammar.specs.Forest.{Forest, Nil, Cons}
 use Rattle.rox_grammar.specs.Written as written
@@ -6,7 +7,7 @@ use Rattle.rox_grammar.specs.Written.{NamespaceDecl}
 use Rattle.rox_grammar.specs.Tree.{Node, Attribute, attribute_in}
 use Rattle.rox_grammar.specs.Names.{byte, slice}
 use Rattle.rox_grammar.specs.Content.{IsAttribute}
-use Rattle.rox_grammar.specs.Entities.{no_entities}
+use Rattle.rox_grammar.specs.Entities.{no_entities, most_within}
 use Rattle.roxmltree.specs.NodeParts.{start_of, end_of, listed_of, attributes_of}
 use Rattle.roxmltree.specs.EachNode.{EachNode}
 
@@ -30,24 +31,24 @@ AttributesInOrder tree = EachNode (λ node. AreInOrder (start_of node) (end_of n
 -- XML 3.1: an attribute is written from its start to its end, and its name stands in this scope. It opens no entity, so as
 -- many may be opened after it as before.
 abbrev pub IsWritten : List ℕ → List NamespaceDecl → Attribute → Type 0
-IsWritten text scope a = (w : written.Attribute) × IsAttribute true no_entities text a.start a.end 255 255 w × (a ≡ attribute_in scope w)
+IsWritten text scope a = (w : written.Attribute) × IsAttribute true no_entities text a.start a.end most_within most_within w × (a ≡ attribute_in scope w)
 
 abbrev pub AttributesWritten : List ℕ → Forest Node → Type 0
 AttributesWritten text tree = EachNode (λ node. All (IsWritten text (listed_of node)) (attributes_of node)) tree
 
 -- NS 4: a name as it is written is a local part, or has a prefix, which may be empty, and a colon in front of it
 abbrev pub SpellsName : List ℕ → List ℕ → Type 0
-SpellsName local bytes = (bytes ≡ local) ⊎ ((prefix : List ℕ) × (bytes ≡ prefix ++ 58 ∷ local))
+SpellsName local bytes = (bytes ≡ local) ⊎ ((prefix : List ℕ) × (bytes ≡ prefix ++ code ":" ∷ local))
 
 -- what the ranges of an attribute select: its name as it is written, and the raw value between its quotes
 pub record SelectsAttribute (text : List ℕ) (a : Attribute) : Type 0 where
   pub inside : (a.start ≤ a.name_end) × (a.name_end < a.value_start - 1) × (a.value_start < a.end) × (a.end ≤ length text)
   pub name : SpellsName a.local (slice text a.start a.name_end)
   -- `'` or `"`
-  pub opens : (byte text (a.value_start - 1) ≡ 39) ⊎ (byte text (a.value_start - 1) ≡ 34)
+  pub opens : (byte text (a.value_start - 1) ≡ code "'") ⊎ (byte text (a.value_start - 1) ≡ code "\"")
   pub closes : byte text (a.end - 1) ≡ byte text (a.value_start - 1)
   -- in the raw value no such quote, and no `<`
-  pub between : (k : ℕ) → a.value_start ≤ k → k < a.end - 1 → (byte text k ≢ byte text (a.value_start - 1)) × (byte text k ≢ 60)
+  pub between : (k : ℕ) → a.value_start ≤ k → k < a.end - 1 → (byte text k ≢ byte text (a.value_start - 1)) × (byte text k ≢ code "<")
   -- it is the value, where that is a slice of the text
   pub value : a.borrowed ≡ true → a.value ≡ slice text a.value_start (a.end - 1)
 

@@ -1,11 +1,11 @@
 -- What is true of the tree of every document.
-use Rattle.std.specs.Prelude.{◌≡◌, Bool, false, ◌&&◌, List, [], ◌∷◌, ◌++◌, bytes_eq, All, IfSome}
-use Rattle.std.specs.List.{list_any}
+use Rattle.std.specs.Prelude.{◌≡◌, Bool, false, ◌&&◌, bytes_eq, All, IfSome}
+use Rattle.std.specs.List.{IsDistinct}
 pub use Rattle.rox_grammar.specs.CharText.{IsCharText, NamespaceDeclChars}
 use Rattle.rox_grammar.specs.Forest.{Forest, Nil, Cons}
-use Rattle.rox_grammar.specs.Written.{NamespaceDecl}
-use Rattle.rox_grammar.specs.Tree.{Node, Attribute, Root, Element, Text, Comment, PI, same_prefix, is_declared}
+use Rattle.rox_grammar.specs.Tree.{Node, Attribute, Root, Element, Text, Comment, PI, same_prefix}
 use Rattle.roxmltree.specs.NodeParts.{is_text_node, listed_of, attributes_of}
+use Rattle.roxmltree.specs.EachNode.{EachNode}
 
 abbrev pub begins_with_text : Forest Node → Bool
 begins_with_text Nil = false
@@ -16,25 +16,13 @@ abbrev pub TextsApart : Forest Node → Type 0
 TextsApart Nil = Unit {0}
 TextsApart (Cons node children rest) = ((is_text_node node && begins_with_text rest) ≡ false) × TextsApart children × TextsApart rest
 
--- none of these has the prefix of one before it
-abbrev pub PrefixesOnce : List NamespaceDecl → List NamespaceDecl → Type 0
-PrefixesOnce before [] = Unit {0}
-PrefixesOnce before (d ∷ ds) = (is_declared d.prefix before ≡ false) × PrefixesOnce (before ++ d ∷ []) ds
-
 -- NS 6.3: both have no namespace or one, and one local name
 abbrev pub same_attribute_name : Attribute → Attribute → Bool
 same_attribute_name a b = same_prefix a.namespace b.namespace && bytes_eq a.local b.local
 
--- none of these has the expanded name of one before it
-abbrev pub NamesOnce : List Attribute → List Attribute → Type 0
-NamesOnce before [] = Unit {0}
-NamesOnce before (a ∷ as') = (list_any (λ e. same_attribute_name e a) before ≡ false) × NamesOnce (before ++ a ∷ []) as'
-
--- each node lists a prefix, or the default, once at most, and has an attribute of an expanded name once at most
+-- Each node lists a prefix, or the default, at most once, and has at most one attribute of an expanded name.
 abbrev pub NamesDistinct : Forest Node → Type 0
-NamesDistinct Nil = Unit {0}
-NamesDistinct (Cons node children rest) =
-    (PrefixesOnce [] (listed_of node) × NamesOnce [] (attributes_of node)) × NamesDistinct children × NamesDistinct rest
+NamesDistinct tree = EachNode (λ node. IsDistinct (λ d e. same_prefix d.prefix e.prefix) (listed_of node) × IsDistinct same_attribute_name (attributes_of node)) tree
 
 -- the namespace of an attribute, if it has one, its local name and its value are texts of Chars
 pub record AttributeChars (a : Attribute) : Type 0 where
@@ -53,5 +41,4 @@ NodeChars (PI start end target value) = IsCharText target × IfSome value IsChar
 
 -- and all that these nodes say, at any depth
 abbrev pub AllChars : Forest Node → Type 0
-AllChars Nil = Unit {0}
-AllChars (Cons node children rest) = NodeChars node × AllChars children × AllChars rest
+AllChars tree = EachNode NodeChars tree

@@ -9,7 +9,7 @@ use Rattle.rox_grammar.specs.Search.{byte_from}
 use Rattle.rox_grammar.specs.Names.{byte, slice}
 use Rattle.rox_path.specs.Steps.{Expanded, PathStep, step_of}
 use Rattle.rox_path.specs.declared.steps.Step.{Step}
-use Rattle.rox_path.specs.PathMessages.{ToldAt}
+use Rattle.rox_path.specs.PathReading.{ToldAt}
 use Rattle.rox_path.specs.declared.parse.PathError.{PathError}
 use Rattle.rox_path.specs.declared.parse.PathError.TheVariants.{BadPath, OutOfMemory}
 use Rattle.rox_path.specs.Paths.{local_end, uri_end, IsStepName, local_alone, with_uri, IsStep, one_slash, two_slashes, IsPath, last_step, then_steps, StepsTo, no_step, one_more, NameDue, behind_one, behind_two, IsBadName, no_local, no_brace, no_local_behind, IsBadStep, no_slash, no_name, IsBadAt, bad_step}

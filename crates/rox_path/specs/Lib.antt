@@ -2,4 +2,5 @@ pub mod Steps
 pub mod Match
 pub mod Paths
 pub mod PathMessages
+pub mod PathReading
 pub mod NodeMarks

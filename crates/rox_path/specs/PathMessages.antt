@@ -7,8 +7,3 @@ use Rattle.rox_path.specs.declared.parse.PathError.TheVariants.{BadPath, OutOfMe
 abbrev pub message : PathError → List ℕ
 message (BadPath place) = codes "bad path at byte " ++ decimal place
 message OutOfMemory = codes "out of memory"
-
--- If the error has an offset, `P` holds of it.
-abbrev pub ToldAt : (ℕ → Type 0) → PathError → Type 0
-ToldAt P (BadPath place) = P place
-ToldAt P OutOfMemory = Unit {0}

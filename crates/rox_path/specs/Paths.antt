@@ -1,56 +1,28 @@
 -- The text of paths: offsets in the bytes of a text, from 0.
-use Rattle.std.specs.Prelude.{◌≡◌, ◌≢◌, ◌⊎◌, ℕ, ◌+◌, ◌<◌, ◌≤◌, ◌==◌, ◌||◌, List, [], ◌∷◌, Some, None, length}
-use Rattle.std.specs.Str.{IsCharBoundary}
+use Prim.Native.Char.{code}
+use Rattle.std.specs.Prelude.{◌≡◌, ◌≢◌, ◌⊎◌, ℕ, ◌+◌, ◌<◌, ◌==◌, ◌||◌, List, [], ◌∷◌, Some, None, length}
 use Rattle.rox_grammar.specs.Search.{byte_from}
 use Rattle.rox_grammar.specs.Names.{byte, slice}
 use Rattle.rox_path.specs.Steps.{Expanded, PathStep, child, descendant}
 
 -- The end of a local name that begins at `i`: the next `/`, `{` or `}`, or the end of the text.
 abbrev pub local_end : List ℕ → ℕ → ℕ
-local_end text i = byte_from (λ c. c == 47 || c == 123 || c == 125) text i
+local_end text i = byte_from (λ c. c == code "/" || c == code "{" || c == code "}") text i
 
 -- The end of a URI that begins at `i`: the next `}`, or the end of the text.
 abbrev pub uri_end : List ℕ → ℕ → ℕ
-uri_end text i = byte_from (λ c. c == 125) text i
+uri_end text i = byte_from (λ c. c == code "}") text i
 
 -- A name from `i` up to `j`: a local name, which is not empty, or `{`, a URI, `}` and a local name.
 pub data IsStepName (text : List ℕ) (i : ℕ) : ℕ → Expanded → Type 0 where
   local_alone : i < local_end text i → IsStepName text i (local_end text i) (None, slice text i (local_end text i))
-  with_uri : (u : ℕ) → byte text i ≡ 123 → u ≡ uri_end text (i + 1) → u < length text → u + 1 < local_end text (u + 1)
+  with_uri : (u : ℕ) → byte text i ≡ code "{" → u ≡ uri_end text (i + 1) → u < length text → u + 1 < local_end text (u + 1)
       → IsStepName text i (local_end text (u + 1)) (Some (slice text (i + 1) u), slice text (u + 1) (local_end text (u + 1)))
 
 -- A step from `i` up to `j`: `/` or `//`, and a name.
 pub data IsStep (text : List ℕ) (i j : ℕ) : PathStep → Type 0 where
-  one_slash : (name : Expanded) → byte text i ≡ 47 → IsStepName text (i + 1) j name → IsStep text i j (child name)
-  two_slashes : (name : Expanded) → byte text i ≡ 47 → byte text (i + 1) ≡ 47 → IsStepName text (i + 2) j name → IsStep text i j (descendant name)
-
--- What is read from `i` up to `j` is not empty, and `j` is between two characters.
-pub record EndsBehind (text : List ℕ) (i j : ℕ) : Type 0 where
-  pub onward : i < j
-  pub cut : IsCharBoundary text j
-
--- A local name is read from `i` up to its end `j`.
-pub record ReadsLocal (text : List ℕ) (i j : ℕ) (read : List ℕ) : Type 0 where
-  pub end : j ≡ local_end text i
-  pub local : read ≡ slice text i j
-  pub ends : EndsBehind text i j
-
--- A name is read from `i` up to its end `j`.
-pub record ReadsName (text : List ℕ) (i j : ℕ) (read : Expanded) : Type 0 where
-  pub name : IsStepName text i j read
-  pub ends : EndsBehind text i j
-
--- A step is read from `i` up to its end `j`.
-pub record ReadsStep (text : List ℕ) (i j : ℕ) (read : PathStep) : Type 0 where
-  pub step : IsStep text i j read
-  pub ends : EndsBehind text i j
-
--- A URI that begins at `i` ends at `j`: at a `}`, or at the end of the text.
-pub record ReadsUri (text : List ℕ) (i j : ℕ) : Type 0 where
-  pub value : j ≡ uri_end text i
-  pub onward : i ≤ j
-  pub within : j ≤ length text
-  pub found : j < length text → byte text j ≡ 125
+  one_slash : (name : Expanded) → byte text i ≡ code "/" → IsStepName text (i + 1) j name → IsStep text i j (child name)
+  two_slashes : (name : Expanded) → byte text i ≡ code "/" → byte text (i + 1) ≡ code "/" → IsStepName text (i + 2) j name → IsStep text i j (descendant name)
 
 -- One or more steps are from `i` up to the end of the text.
 pub data IsPath (text : List ℕ) : ℕ → List PathStep → Type 0 where
@@ -64,19 +36,19 @@ pub data StepsTo (text : List ℕ) : ℕ → Type 0 where
 
 -- A name is required at this offset, in a step that begins at `i`.
 pub data NameDue (text : List ℕ) (i : ℕ) : ℕ → Type 0 where
-  behind_one : byte text i ≡ 47 → byte text (i + 1) ≢ 47 → NameDue text i (i + 1)
-  behind_two : byte text i ≡ 47 → byte text (i + 1) ≡ 47 → NameDue text i (i + 2)
+  behind_one : byte text i ≡ code "/" → byte text (i + 1) ≢ code "/" → NameDue text i (i + 1)
+  behind_two : byte text i ≡ code "/" → byte text (i + 1) ≡ code "/" → NameDue text i (i + 2)
 
 -- A name is required at `n`, and none continues from this offset on. A local name is empty there, or there is a `{` without `}`.
 pub data IsBadName (text : List ℕ) (n : ℕ) : ℕ → Type 0 where
-  no_local : byte text n ≢ 123 → local_end text n ≡ n → IsBadName text n n
-  no_brace : byte text n ≡ 123 → uri_end text (n + 1) ≡ length text → IsBadName text n n
-  no_local_behind : (u : ℕ) → byte text n ≡ 123 → u ≡ uri_end text (n + 1) → u < length text → local_end text (u + 1) ≡ u + 1
+  no_local : byte text n ≢ code "{" → local_end text n ≡ n → IsBadName text n n
+  no_brace : byte text n ≡ code "{" → uri_end text (n + 1) ≡ length text → IsBadName text n n
+  no_local_behind : (u : ℕ) → byte text n ≡ code "{" → u ≡ uri_end text (n + 1) → u < length text → local_end text (u + 1) ≡ u + 1
       → IsBadName text n (u + 1)
 
 -- A step is required at `i`, and none continues from this offset on.
 pub data IsBadStep (text : List ℕ) (i : ℕ) : ℕ → Type 0 where
-  no_slash : byte text i ≢ 47 → IsBadStep text i i
+  no_slash : byte text i ≢ code "/" → IsBadStep text i i
   no_name : (n k : ℕ) → NameDue text i n → IsBadName text n k → IsBadStep text i k
 
 -- The text is not a path, and this is the first offset from which no path continues. A step is required at the start, and after

@@ -5,8 +5,8 @@ ghost use Rattle.std.specs.Str.{IsCharBoundary};
 ghost use Rattle.rox_grammar.specs.Names.{byte};
 ghost use Rattle.roxmltree.specs.ExpandedNames.{expanded};
 ghost use Rattle.rox_path.specs.Steps.{PathStep, step_of};
-ghost use Rattle.rox_path.specs.Paths.{local_end, IsPath, IsBadName, IsBadStep, IsBadAt, ReadsLocal, ReadsName, ReadsStep, ReadsUri};
-ghost use Rattle.rox_path.specs.PathMessages.{ToldAt};
+ghost use Rattle.rox_path.specs.Paths.{local_end, IsPath, IsBadName, IsBadStep, IsBadAt};
+ghost use Rattle.rox_path.specs.PathReading.{ReadsLocal, ReadsName, ReadsStep, ReadsUri, ToldAt};
 ghost use Rattle.rox_path.specs.declared.parse.PathError.TheVariants.{OutOfMemory};
 
 use crate::steps::Step;

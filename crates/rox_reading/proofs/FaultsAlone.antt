@@ -1,4 +1,4 @@
--- Behind the document type declaration a text is refused by its own faults alone: nothing is asked there.
+-- After the document type declaration a text is refused by its own faults alone: nothing is asked there.
 use Rattle.std.proofs.Common.{◌≡◌, refl, ap, subst, ℕ, zero, suc, ◌+◌, ◌-◌, ◌==◌, not, Bool, true, false, cond, nat_lt, nat_le, List, [], length, Result, Ok, Err}
 use Rattle.std.specs.Prelude.{bytes_eq}
 use Rattle.rox_grammar.specs.declared.fault.Fault.{Fault}
@@ -12,7 +12,8 @@ use Rattle.rox_grammar.specs.Counts.{distinct_pairs}
 use Rattle.rox_grammar.specs.Entities.{Replacement, Entity, most_deep}
 use Rattle.rox_grammar.specs.State.{is_root, scope_of, attributes_so_far, pairs_so_far}
 use Rattle.rox_reading.specs.Lexical.{◌>>=◌, qname_at}
-use Rattle.rox_reading.specs.Refusals.{Refusal, here, there, refused, IsTextRefusal, lifted, elsewhere}
+use Rattle.rox_reading.specs.Refusals.{Refusal, here, there, refused, lifted, elsewhere}
+use Rattle.rox_reading.specs.Answering.{IsTextRefusal}
 use Rattle.rox_reading.specs.State.{State, depth_of}
 use Rattle.rox_reading.specs.Markup.{TagItem, more, opened, closed, tag_item_at}
 use Rattle.rox_reading.specs.Values.{Bit, bytes_of, opens, Next, at_end, opening, data_part, part_text, raw_character_data_at, value_bit_at, ValueInclusion, after_value_bit, value_text, value_at}
@@ -20,7 +21,7 @@ use Rattle.rox_reading.specs.Tags.{TagSoFar, Values, TagRest, after_tag_item, at
 use Rattle.rox_reading.specs.Machine.{Context, with_piece, after_part, data_parts, character_data_step, cut_off_fault, tag_step, step, drive, text_ends, drive_text, budget, value_opener, values_of, opener, main_text}
 use Rattle.rox_reading.specs.WholeText.{misc, body}
 
--- it is no refusal of the resolver
+-- It is not a refusal of the resolver.
 pub record Alone (A : Type 0) (r : Result A Refusal) : Type 0 where
   pub is : (e : Refusal) → r ≡ Err e → IsTextRefusal e
 
@@ -34,7 +35,7 @@ pub alone_lifted : {A : Type 0} (r : Result A Fault) → Alone A (lifted r)
 alone_lifted (Ok x) = good x
 alone_lifted (Err f) = bad f
 
--- one after the other
+-- One after the other.
 alone_bind : {A B : Type 0} (r : Result A Refusal) (f : A → Result B Refusal) → Alone A r → ((x : A) → Alone B (f x)) → Alone B (r >>= f)
 alone_bind (Ok x) f h go = go x
 alone_bind (Err e) f h go = record { is = λ e' same. h.is e' (let is : e ≡ e' = cc in ap Err is) }
@@ -42,12 +43,12 @@ alone_bind (Err e) f h go = record { is = λ e' same. h.is e' (let is : e ≡ e'
 alone_after : {A B : Type 0} (r : Result A Fault) (f : A → Result B Refusal) → ((x : A) → Alone B (f x)) → Alone B (lifted r >>= f)
 alone_after r f go = alone_bind (lifted r) f (alone_lifted r) go
 
--- a choice
+-- A choice.
 alone_cond : {A : Type 0} (b : Bool) (x y : Result A Refusal) → Alone A x → Alone A y → Alone A (cond b x y)
 alone_cond true x y h k = h
 alone_cond false x y h k = k
 
--- of another source
+-- Of another source.
 alone_elsewhere : {A : Type 0} (source : List ℕ) (r : Result A Refusal) → Alone A r → Alone A (elsewhere source r)
 alone_elsewhere source (Ok x) h = good x
 alone_elsewhere source (Err (here f)) h = record { is = λ e same. (let is : there source f ≡ e = cc in subst IsTextRefusal is tt) }
@@ -154,7 +155,7 @@ opener_alone limit es (suc d) main t j s =
     (alone_elsewhere t.source _ (text_alone (record { limit = limit; values = values_of es d false; open_around = depth_of s.stack; opener = opener limit es d false })
     (λ t j l. value_opener_alone es d false t j l) (λ t j s. opener_alone limit es d false t j s) (length t.source) t.source _)) (λ u. good _))
 
--- the root element and what follows it
+-- The root element and what follows it.
 pub body_alone : (limit : ℕ) (es : List Entity) (src : List ℕ) (s : State) → Alone (State × Bool) (body limit es src s)
 unfolding body
 body_alone limit es src s =

@@ -37,20 +37,20 @@ pub attribute_count-join : (f g : Forest Item) → attribute_count (join f g) �
 attribute_count-join Nil g = omega arith
 attribute_count-join (Cons i c r) g = omega (arith, attribute_count-join r g)
 
--- an item that is no text
+-- An item that is not a text.
 abbrev pub is_text : Item → Bool
 is_text (Element a e t) = false
 is_text (Text a e v b) = true
 is_text (Comment a e t) = false
 is_text (PI a e t v) = false
 
--- its last item is no text
+-- Its last item is not a text.
 abbrev pub Clean : Forest Item → Type 0
 Clean Nil = Unit {0}
 Clean (Cons i c Nil) = is_text i ≡ false
 Clean (Cons i c (Cons j d r)) = Clean (Cons j d r)
 
--- one more piece of text at the end of what is merged
+-- One more piece of text at the end of what is merged.
 abbrev pub add : ℕ → ℕ → List ℕ → Bool → Forest Item → Forest Item
 add a e v b Nil = leaf (Text a e v b)
 add a e v b (Cons (Text x y w p) c Nil) = Cons (Text x y (w ++ v) false) c Nil
@@ -89,7 +89,7 @@ merge-piece (Cons (PI x y t o) c f) a e v b = ap (Cons (PI x y t o) c) (merge-pi
     add-pi x y t o c a e v b Nil = refl
     add-pi x y t o c a e v b (Cons j d r) = refl
 
--- behind a text, the piece goes into it
+-- After a text, the piece goes into it.
 pub add-text : (front : Forest Item) (x y : ℕ) (w : List ℕ) (p : Bool) (a e : ℕ) (v : List ℕ) (b : Bool)
     → add a e v b (join front (leaf (Text x y w p))) ≡ join front (leaf (Text x y (w ++ v) false))
 add-text Nil x y w p a e v b = refl
@@ -114,7 +114,7 @@ glue-item x y w p b (Cons (Element x' y' t) d r) i c h = refl
 glue-item x y w p b (Cons (Comment x' y' t) d r) i c h = refl
 glue-item x y w p b (Cons (PI x' y' t o) d r) i c h = refl
 
--- an item that is no text is merged as it stands
+-- An item that is not a text is merged as it stands.
 pub merge-item : (done : Forest Item) (i : Item) (c : Forest Item) → is_text i ≡ false → merge (join done (Cons i c Nil)) ≡ join (merge done) (Cons i c Nil)
 merge-item Nil (Element a e t) c h = refl
 merge-item Nil (Text a e v b) c h = cc h
@@ -160,7 +160,7 @@ attribute_count-merge (Cons (Element x y t) c r) = omega (arith, attribute_count
 attribute_count-merge (Cons (Comment x y t) c r) = omega (arith, attribute_count-merge r)
 attribute_count-merge (Cons (PI x y t o) c r) = omega (arith, attribute_count-merge r)
 
--- well-named forests
+-- Well-named forests.
 pub named-join : (above : List NamespaceDecl) (f g : Forest Item) → AreWellNamed above f → AreWellNamed above g → AreWellNamed above (join f g)
 named-join above Nil g h k = k
 named-join above (Cons i c r) g (a, b, h) k = (a, b, named-join above r g h k)
@@ -203,7 +203,7 @@ merge-named above (Cons (PI x y t o) c r) (u, h, k) = (u, h, merge-named above r
 
 -- ---- sizes grow
 
--- its first item is no text, as a number
+-- Its first item is not a text, as a number.
 abbrev pub fresh_text : Forest Item → ℕ
 fresh_text Nil = 1
 fresh_text (Cons (Text x y w p) c r) = 0
@@ -238,7 +238,7 @@ fresh-join (Element x y t) c r g = refl
 fresh-join (Comment x y t) c r g = refl
 fresh-join (PI x y t o) c r g = refl
 
--- a row that begins with a text has an item
+-- A row that begins with a text has an item.
 fresh_or_some : (f : Forest Item) → 1 ≤ size (merge f) + fresh_text f
 fresh_or_some Nil = omega arith
 fresh_or_some (Cons (Text x y w p) c r) = omega (arith, size-glue x y w p c (merge r), fresh-merge r, fresh_or_some r)
@@ -246,7 +246,7 @@ fresh_or_some (Cons (Element x y t) c r) = omega arith
 fresh_or_some (Cons (Comment x y t) c r) = omega arith
 fresh_or_some (Cons (PI x y t o) c r) = omega arith
 
--- more items never make fewer
+-- More items never make fewer.
 pub merge-more : (f g : Forest Item) → size (merge f) ≤ size (merge (join f g))
 merge-more Nil g = omega arith
 merge-more (Cons (Text x y w p) c Nil) g =

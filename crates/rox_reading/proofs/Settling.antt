@@ -22,15 +22,16 @@ use Rattle.rox_reading.specs.Lexical.{byte_at}
 use Rattle.rox_reading.specs.Machine.{at_place}
 use Rattle.rox_reading.specs.Doctype.{Reply, Asks, Dtd, replies_of, with_state, EntityHead, entity_head_at, inner, outer, definition_at, answer_text, entity_step, subset, doctype_head_at, doctype_step}
 use Rattle.rox_reading.specs.WholeText.{misc, body, finished, prolog, doctype, reading}
-use Rattle.rox_reading.specs.Answering.{left_with, Answered, Yields, with_refusal, Stops}
+use Rattle.rox_reading.specs.Answering.{left_with, Answered, Yields}
+use Rattle.rox_reading.specs.Stopping.{with_refusal, Stops}
 
 -- ---- a declaration of an entity
 
--- what it is where its text is this
+-- What it is where its text is this.
 abbrev pub declared_there : Dtd → EntityHead → Option Replacement → ℕ → Dtd
 declared_there d head text j = record { state = at_place j d.state; entities = d.entities ++ entry head.name text; replies = d.replies }
 
--- a request and its answer
+-- A request and its answer.
 abbrev pub once : Request → Option (List ℕ) → List Asked
 once request answer = record { request = request; answer = answer } ∷ []
 
@@ -47,7 +48,7 @@ module _ (src : List ℕ) (d : Dtd) where
     unfolding entity_step
     definition_stops f h more = rw (is_head, h) refl
 
-    -- a text that is written there
+    -- A text that is written there.
     module _ (t : Replacement) (j : ℕ) (is : definition_at head.0.parameter src head.1 ≡ Ok (inner t, j)) where
       pub inner_read : (x : Unit {0}) (k : ℕ) → byte_at 62 src (spaces_end src j) ≡ Ok (x, k) → Answered entity_run [] (declared_there d head.0 (Some t) k)
       unfolding entity_step
@@ -57,7 +58,7 @@ module _ (src : List ℕ) (d : Dtd) where
       unfolding entity_step
       inner_stops f h more = rw (is_head, is, h) refl
 
-    -- one that is asked for
+    -- One that is asked for.
     module _ (request : Request) (j : ℕ) (is : definition_at head.0.parameter src head.1 ≡ Ok (outer request, j)) where
       pub resolver_stops : (message : List ℕ) → Stops entity_run [] (refused request j message)
       unfolding entity_step
@@ -93,12 +94,12 @@ module _ (limit : ℕ) (src : List ℕ) (d : Dtd) where
     doctype_cut_stops out more = let k = le-leb _ _ out in rw (is, k) refl
 
     module _ (inside : s < length src) where
-      -- without a subset
+      -- Without a subset.
       pub doctype_plain : slice_index src s ≡ 62 → Answered step_run [] (with_state d (at_place (s + 1) d.state))
       unfolding doctype_step
       doctype_plain h more = let k = lt-leb _ _ inside in let b = eq-eqb _ _ h in rw (is, k, b) refl
 
-      -- the subset begins
+      -- The subset begins.
       abbrev pub subset_run : List Reply → Asks Dtd
       subset_run rs = subset limit d.state.at (length src) src (left_with rs (with_state d (at_place (s + 1) d.state)))
 
@@ -116,7 +117,7 @@ module _ (limit : ℕ) (src : List ℕ) (d : Dtd) where
       unfolding doctype_step
       doctype_other_stops a b more = let k = lt-leb _ _ inside in rw (is, k, a, b) refl
 
--- and what follows it, if it stands here
+-- And what follows it, if it is here.
 module _ (limit : ℕ) (allow : Bool) (src : List ℕ) (d : Dtd) where
   abbrev pub doctype_run : List Reply → Asks Dtd
   doctype_run rs = doctype limit allow src (left_with rs d)
@@ -149,7 +150,7 @@ module _ (limit : ℕ) (allow : Bool) (src : List ℕ) where
   abbrev pub whole_run : List Reply → Asks (Forest Item)
   whole_run rs = reading limit allow rs src
 
-  -- where it begins
+  -- Where it begins.
   abbrev pub start_at : ℕ → State
   start_at i = record { at = i; done = Nil; stack = root; openings_left = 255 }
 
@@ -163,7 +164,7 @@ module _ (limit : ℕ) (allow : Bool) (src : List ℕ) where
     misc_stops f h more = rw (is, h) refl
 
     module _ (s : State) (before : misc limit (length src) src (start_at i) ≡ Ok s) where
-      -- where the document type declaration may begin
+      -- Where the document type declaration may begin.
       abbrev pub before_doctype : Dtd
       before_doctype = record { state = s; entities = []; replies = [] }
 

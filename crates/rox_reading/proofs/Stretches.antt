@@ -4,18 +4,18 @@ use Rattle.std.proofs.Math.Seq.{take-append-add}
 use Rattle.std.proofs.lemmas.List.{length-take, get_or-drop, take_more, take_all}
 use Rattle.std.proofs.lemmas.List.Folds.{drop_split}
 
--- how long a stretch is
+-- How long a stretch is.
 pub range_length : (src : List ℕ) (i j : ℕ) → i ≤ j → j ≤ length src → length (slice_range src i j) ≡ j - i
 range_length src i j le inside = omega (arith, length-take (j - i) (drop i src), length-drop i src)
 
--- a stretch in two parts
+-- A stretch in two parts.
 pub range_parts : (src : List ℕ) (a b c : ℕ) → a ≤ b → b ≤ c → c ≤ length src → slice_range src a c ≡ slice_range src a b ++ slice_range src b c
 range_parts src a b c le le' inside =
     let long = range_length src a b le (omega arith) in
     let e : c - a ≡ length (slice_range src a b) + (c - b) = omega arith in
     ap (take (c - a)) (drop_split src a b le) ∙ ap (λ (n : ℕ). take n (slice_range src a b ++ drop b src)) e ∙ take-append-add (slice_range src a b) (drop b src) (c - b)
 
--- a stretch with one more
+-- A stretch with one more.
 pub slice-more : {A : Type 0} (xs : List A) (i j : ℕ) (d : A) → i ≤ j → j < length xs → slice_range xs i (j + 1) ≡ slice_range xs i j ++ get_or xs j d ∷ []
 slice-more xs i j d le lt =
     let n : j + 1 - i ≡ (j - i) + 1 = omega arith in
@@ -25,6 +25,6 @@ slice-more xs i j d le lt =
     ap (λ m. take m (drop i xs)) n ∙ take_more (drop i xs) (j - i) d long
     ∙ ap (λ x. take (j - i) (drop i xs) ++ x ∷ []) (g ∙ ap (λ m. get_or xs m d) k)
 
--- a stretch up to the end
+-- A stretch up to the end.
 pub slice-rest : {A : Type 0} (xs : List A) (i : ℕ) → slice_range xs i (length xs) ≡ drop i xs
 slice-rest xs i = take_all (length xs - i) (drop i xs) (rw length-drop (omega arith))

@@ -1,4 +1,4 @@
--- Reading of a document type declaration. The replies are those that the resolver gives, in order; past their end it answers nothing.
+-- Reading of a document type declaration. The resolver gives the replies, in order. After the last one it answers nothing.
 use Prim.Native.Char.{code}
 use Rattle.std.specs.Prelude.{ℕ, zero, suc, ◌+◌, ◌==◌, ◌||◌, Bool, true, false, List, [], ◌∷◌, ◌++◌, Option, Some, None, Result, Ok, Err, length, take, drop, slice_index, slice_range, nat_lt, nat_le, if◌then◌else◌, IsUtf8}
 use Rattle.rox_grammar.specs.declared.fault.Fault.TheVariants as fault
@@ -17,23 +17,23 @@ use Rattle.rox_reading.specs.Refusals.{Refusal, here, refused, lifted, elsewhere
 use Rattle.rox_reading.specs.State.{State}
 use Rattle.rox_reading.specs.Machine.{comment_step, instruction_step, at_place}
 
--- the answers, as replies
+-- The answers, as replies.
 abbrev pub replies_of : List Asked → List Reply
 replies_of [] = []
 replies_of (a ∷ as') = Ok a.answer ∷ replies_of as'
 
--- a text that is answered is text
+-- A text that is answered is in UTF-8.
 abbrev pub IsTextReply : Reply → Type 0
 IsTextReply (Ok None) = Unit {0}
 IsTextReply (Ok (Some text)) = IsUtf8 text
 IsTextReply (Err message) = Unit {0}
 
--- each of them is
+-- Each reply has this property.
 abbrev pub AreTextReplies : List Reply → Type 0
 AreTextReplies [] = Unit {0}
 AreTextReplies (r ∷ rs) = IsTextReply r × AreTextReplies rs
 
--- what is asked, and what comes of it
+-- What is asked, and the result.
 abbrev pub Asks : Type 0 → Type 0
 Asks A = List Asked × Result A Refusal
 
@@ -41,14 +41,14 @@ abbrev pub asks_nothing : {A : Type 0} → Result A Refusal → Asks A
 asks_nothing r = ([], r)
 
 infixl 10 ◌>>>◌
--- one after the other
+-- One reading after another.
 abbrev pub ◌>>>◌ : {A B : Type 0} → Asks A → (A → Asks B) → Asks B
 (asked, Ok x) >>> f = (let rest = f x in (asked ++ rest.0, rest.1))
 (asked, Err e) >>> f = (asked, Err e)
 
 -- ---- what asks nothing
 
--- any bytes but the quote, in quotes
+-- Reads any bytes but the quote, in quotes.
 unfoldable pub quoted_at : List ℕ → ℕ → Read (List ℕ)
 quoted_at src i =
     quote_at src i >>= λ quote. (let e = byte_from (λ c. c == quote.0) src quote.1 in byte_at quote.0 src e >>= λ x. Ok (slice_range src quote.1 e, x.1))
@@ -61,18 +61,18 @@ public_at src i =
     space_at src (i + 6) >>= λ p. quoted_at src p.1 >>= λ id. space_at src id.1 >>= λ s. quoted_at src s.1 >>= λ uri.
     Ok (record { public_id = Some id.0; uri = uri.0 }, uri.1)
 
--- from `SYSTEM` or `PUBLIC`
+-- Reads an external id from `SYSTEM` or `PUBLIC` on.
 unfoldable pub external_id_at : List ℕ → ℕ → Read Request
 external_id_at src i =
     if at word.System src i then system_at src i
     else if at word.Public src i then public_at src i
     else Err (fault.InvalidExternalID i)
 
--- nothing is refused at the end of the text
+-- Reads a name. At the end of the source nothing is refused.
 unfoldable pub name_or_end_at : List ℕ → ℕ → Read (List ℕ)
 name_or_end_at src i = if nat_le (length src) i then Ok ([], i) else name_at src i
 
--- up to where a resolver is asked: a general entity's white space is read until then
+-- Reads up to where a resolver is asked: after a general entity's white space.
 unfoldable pub notation_at : (parameter : Bool) → List ℕ → ℕ → Read (Unit {0})
 notation_at parameter src i =
     if parameter then Ok (tt, i)
@@ -83,7 +83,7 @@ pub data Definition : Type 0 where
   inner : Replacement → Definition
   outer : Request → Definition
 
--- where it stands, what it asks for
+-- A definition: a replacement text, or what is asked for it.
 unfoldable pub definition_at : (parameter : Bool) → List ℕ → ℕ → Read Definition
 definition_at parameter src i =
     if nat_le (length src) i then Err fault.UnexpectedEndOfStream
@@ -99,13 +99,13 @@ pub record EntityHead : Type 0 where
 unfoldable pub kind_at : List ℕ → ℕ → Read Bool
 kind_at src i = if slice_index src i == code "%" then (space_at src (i + 1) >>= λ s. Ok (true, s.1)) else Ok (false, i)
 
--- from `<!ENTITY`, up to the definition
+-- Reads from `<!ENTITY` up to the definition.
 unfoldable pub entity_head_at : List ℕ → ℕ → Read EntityHead
 entity_head_at src i =
     space_at src (i + 8) >>= λ k. kind_at src k.1 >>= λ kind. name_at src kind.1 >>= λ name. space_at src name.1 >>= λ d.
     Ok (record { parameter = kind.0; name = name.0 }, d.1)
 
--- the replacement text of an answer, from behind its byte order mark and declaration
+-- The replacement text of an answer: what follows its byte order mark and declaration.
 unfoldable pub answer_text : Option (List ℕ) → Result (Option Replacement) Refusal
 answer_text None = Ok None
 answer_text (Some t) =
@@ -114,7 +114,7 @@ answer_text (Some t) =
 
 -- ---- what asks
 
--- where reading of the declaration stands: the nodes, the entities, and the replies that are left
+-- The state within the declaration: the nodes, the entities, and the replies that are left.
 pub record Dtd : Type 0 where
   pub state : State
   pub entities : List Entity
@@ -128,7 +128,7 @@ abbrev pub other_replies : List Reply → List Reply
 other_replies [] = []
 other_replies (r ∷ rs) = rs
 
--- the reply to a request that is made at p
+-- The result of the reply to a request that is made at `p`.
 abbrev pub replied : Request → ℕ → Reply → Asks (Option Replacement)
 replied request p (Err message) = ([], Err (refused request p message))
 replied request p (Ok answer) = (record { request = request; answer = answer } ∷ [], answer_text answer)
@@ -137,7 +137,7 @@ abbrev pub defined : Definition → ℕ → List Reply → Asks (Option Replacem
 defined (inner t) p replies = ([], Ok (Some t, replies))
 defined (outer request) p replies = replied request p (next_reply replies) >>> λ t. ([], Ok (t, other_replies replies))
 
--- from `<!ENTITY`
+-- Reads an entity declaration from `<!ENTITY` on.
 unfoldable pub entity_step : List ℕ → Dtd → Asks Dtd
 entity_step src d =
     asks_nothing (lifted (entity_head_at src d.state.at)) >>> λ head.
@@ -146,7 +146,7 @@ entity_step src d =
     asks_nothing (lifted (byte_at (code ">") src (spaces_end src definition.1))) >>> λ end.
     asks_nothing (Ok (record { state = at_place end.1 d.state; entities = d.entities ++ entry head.0.name text.0; replies = text.1 }))
 
--- a declaration that is passed over, of the document type declaration that begins at i
+-- Skips a declaration. The document type declaration starts at `i`.
 unfoldable pub skipped_declaration : ℕ → List ℕ → Dtd → Asks Dtd
 skipped_declaration i src d =
     let e = byte_from (λ c. c == code ">") src d.state.at in
@@ -156,7 +156,7 @@ skipped_declaration i src d =
 abbrev pub with_state : Dtd → State → Dtd
 with_state d s = record { state = s; entities = d.entities; replies = d.replies }
 
--- `>` behind the subset
+-- Reads `>` after the subset.
 unfoldable pub subset_end : List ℕ → Dtd → Asks Dtd
 subset_end src d =
     let e = spaces_end src (d.state.at + 1) in
@@ -164,8 +164,8 @@ subset_end src d =
     else if slice_index src e == code ">" then ([], Ok (with_state d (at_place (e + 1) d.state)))
     else ([], Err (here (fault.InvalidChar2 due.End (slice_index src e) e)))
 
--- The items up to `]`, and what ends the declaration, which begins at i. It ends without a fault where the text does, right
--- behind `[` or an item. The number bounds the items.
+-- Reads the items up to `]`, and the end of the declaration, which starts at `i`. If the source ends right after `[` or an item, it
+-- stops there without a fault. At most `n` items are read.
 unfoldable pub subset : ℕ → ℕ → ℕ → List ℕ → Dtd → Asks Dtd
 subset limit i zero src d = ([], Ok d)
 subset limit i (suc n) src d =
@@ -179,12 +179,12 @@ subset limit i (suc n) src d =
     else if slice_index src s.at == code "]" then subset_end src (with_state d s)
     else ([], Err (here (fault.UnknownToken s.at))))
 
--- an external id, if it stands here
+-- Reads an external id, if there is one.
 unfoldable pub external_id_if : List ℕ → ℕ → Read (Unit {0})
 external_id_if src i =
     if at word.System src i || at word.Public src i then (external_id_at src i >>= λ x. Ok (tt, x.1)) else Ok (tt, i)
 
--- from `<!DOCTYPE`, up to `[` or `>`
+-- Reads from `<!DOCTYPE` up to `[` or `>`.
 unfoldable pub doctype_head_at : List ℕ → ℕ → Read (Unit {0})
 doctype_head_at src i =
     space_at src (i + 9) >>= λ n. name_or_end_at src n.1 >>= λ name. external_id_if src (spaces_end src name.1) >>= λ x. Ok (tt, spaces_end src x.1)

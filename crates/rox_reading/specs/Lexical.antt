@@ -13,11 +13,11 @@ use Rattle.rox_grammar.specs.Search.{stands, before_mark, mark_from}
 use Rattle.rox_grammar.specs.Written.{Name}
 use Rattle.rox_grammar.specs.Names.{spaces_end}
 
--- the mark stands somewhere in the text
+-- Whether the mark is somewhere in the text.
 abbrev pub has_mark : List ℕ → List ℕ → Bool
 has_mark mark text = nat_lt (before_mark mark text) (length text)
 
--- a value and the next place
+-- A value and the next place.
 abbrev pub Read : Type 0 → Type 0
 Read A = Result (A × ℕ) Fault
 
@@ -26,62 +26,62 @@ abbrev pub ◌>>=◌ : {A B E : Type 0} → Result A E → (A → Result B E) �
 (Ok x) >>= f = f x
 (Err e) >>= f = Err e
 
--- the byte b
+-- Reads the byte `b`.
 unfoldable pub byte_at : ℕ → List ℕ → ℕ → Read (Unit {0})
 byte_at b src i =
     if nat_le (length src) i then Err UnexpectedEndOfStream
     else if slice_index src i == b then Ok (tt, i + 1)
     else Err (InvalidChar b (slice_index src i) i)
 
--- one or more white space
+-- Reads white space, at least one character.
 unfoldable pub space_at : List ℕ → ℕ → Read (Unit {0})
 space_at src i =
     if nat_le (length src) i then Err UnexpectedEndOfStream
     else if is_space (slice_index src i) then Ok (tt, spaces_end src i)
     else Err (InvalidChar2 Space (slice_index src i) i)
 
--- `'` or `"`
+-- Reads `'` or `"`.
 unfoldable pub quote_at : List ℕ → ℕ → Read ℕ
 quote_at src i =
     if nat_le (length src) i then Err UnexpectedEndOfStream
     else if slice_index src i == code "'" || slice_index src i == code "\"" then Ok (slice_index src i, i + 1)
     else Err (InvalidChar2 Quote (slice_index src i) i)
 
--- the longest Name
+-- Reads the longest Name.
 unfoldable pub name_at : List ℕ → ℕ → Read (List ℕ)
 name_at src i =
     if begins is_name_start src i then Ok (slice_range src i (run_end is_name_char src i), run_end is_name_char src i)
     else Err (InvalidName i)
 
--- the fixed text
+-- Reads the fixed text.
 unfoldable pub string_at : Expected → List ℕ → ℕ → Read (Unit {0})
 string_at w src i =
     if stands (expected_text w) src i then Ok (tt, i + length (expected_text w))
     else Err (InvalidString w i)
 
--- Chars from i up to `end`
+-- Reads Chars from `i` up to `end`.
 unfoldable pub chars_up_to : ℕ → List ℕ → ℕ → Read (List ℕ)
 chars_up_to end src i =
     let ill = run_end is_char (take end src) i in
     if nat_lt ill end then Err (NonXmlChar (slice_index (chars (drop ill src)) 0) ill)
     else Ok (slice_range src i end, end)
 
--- the text up to a mark, and the mark
+-- Reads the text up to a mark, and the mark.
 unfoldable pub text_to : Expected → List ℕ → ℕ → Read (List ℕ)
 text_to w src i = do
   text ← chars_up_to (mark_from (expected_text w) src i) src i
   end ← string_at w src text.1
   Ok (text.0, end.1)
 
--- where the run of name characters but colons ends
+-- The end of the run of name characters other than colons.
 abbrev pub part_end : List ℕ → ℕ → ℕ
 part_end src i = run_end is_part_char src i
 
--- the colon stands at i
+-- Whether a colon is at `i`.
 abbrev pub is_colon : List ℕ → ℕ → Bool
 is_colon src i = slice_index src i == code ":"
 
--- The longest run of NameChars, split at its colon: it has one at most, and no part but the prefix may be empty.
+-- Reads the longest run of NameChars, split at its colon. There is at most one, and only the prefix may be empty.
 unfoldable pub qname_at : List ℕ → ℕ → Read Name
 qname_at src i =
     let k = part_end src i in

@@ -7,4 +7,6 @@ pub mod Tags
 pub mod Machine
 pub mod Doctype
 pub mod WholeText
+pub mod HasDoctype
+pub mod Stopping
 pub mod Answering

@@ -15,7 +15,7 @@ use Rattle.rox_grammar.specs.Names.{spaces_end}
 use Rattle.rox_grammar.specs.FixedTexts.{double_dash}
 use Rattle.rox_reading.specs.Lexical.{has_mark, Read, ◌>>=◌, byte_at, quote_at, name_at, qname_at, string_at, chars_up_to, text_to}
 
--- from `<!--`
+-- Reads a comment from `<!--` on.
 unfoldable pub comment_at : List ℕ → ℕ → Read (List ℕ)
 comment_at src i = do
   text ← text_to expected.CommentEnd src (i + 4)
@@ -25,13 +25,13 @@ pub record Instruction : Type 0 where
   pub target : List ℕ
   pub value : Option (List ℕ)
 
--- from `<?`
+-- Reads a processing instruction from `<?` on.
 unfoldable pub instruction_at : List ℕ → ℕ → Read Instruction
 instruction_at src i =
     if stands (word_text word.XmlDeclStart) src i then Err (UnexpectedDeclaration i)
     else name_at src (i + 2) >>= λ target. text_to expected.PIEnd src (spaces_end src target.1) >>= λ value. Ok (record { target = target.0; value = none_if_empty value.0 }, value.1)
 
--- from `<![CDATA[`
+-- Reads a CDATA section from `<![CDATA[` on.
 unfoldable pub cdata_at : List ℕ → ℕ → Read (List ℕ)
 cdata_at src i = text_to expected.CDataEnd src (i + 9)
 
@@ -39,14 +39,14 @@ pub record EndTag : Type 0 where
   pub name : Name
   pub name_end : ℕ
 
--- from `</`
+-- Reads an end tag from `</` on.
 unfoldable pub end_tag_at : List ℕ → ℕ → Read EndTag
 end_tag_at src i = do
   name ← qname_at src (i + 2)
   end ← byte_at (code ">") src (spaces_end src name.1)
   Ok (record { name = name.0; name_end = name.1 }, end.1)
 
--- a name, Eq, and a value in quotes
+-- Reads a name, Eq, and a value in quotes.
 unfoldable pub pair_at : List ℕ → ℕ → Read (Unit {0})
 pair_at src i = do
   name ← qname_at src i
@@ -55,7 +55,7 @@ pair_at src i = do
   value ← chars_up_to (byte_from (λ c. c == quote.0 || c == code "<") src quote.1) src quote.1
   byte_at quote.0 src value.1
 
--- white space, or nothing where `?>` stands or the end is
+-- Reads white space, or nothing before `?>` and at the end.
 unfoldable pub gap_at : List ℕ → ℕ → Read (Unit {0})
 gap_at src i =
     if nat_le (length src) i then Ok (tt, i)
@@ -63,12 +63,12 @@ gap_at src i =
     else if stands (word_text word.PIEnd) src i then Ok (tt, i)
     else Err (InvalidChar2 Space (slice_index src i) i)
 
--- a pair and a gap if the word stands here
+-- Reads a pair and the white space after it, if the word is here.
 unfoldable pub pair_if : Word → List ℕ → ℕ → Read (Unit {0})
 pair_if w src i =
     if stands (word_text w) src i then (pair_at src i >>= λ x. gap_at src x.1) else Ok (tt, i)
 
--- from `<?xml`
+-- Reads a declaration from `<?xml` on.
 unfoldable pub xml_decl_at : List ℕ → ℕ → Read (Unit {0})
 xml_decl_at src i =
     if stands (word_text word.Version) src (spaces_end src (i + 5)) then
@@ -77,7 +77,7 @@ xml_decl_at src i =
     string_at expected.PIEnd src (spaces_end src standalone.1))
     else Err (InvalidString expected.Version (spaces_end src (i + 5)))
 
--- an attribute before its value is looked at: the quote behind it is at value_end
+-- An attribute whose value is not read yet. Its last quote is at `value_end`.
 pub record RawAttribute : Type 0 where
   pub start : ℕ
   pub name : Name
@@ -85,13 +85,13 @@ pub record RawAttribute : Type 0 where
   pub value_start : ℕ
   pub value_end : ℕ
 
--- Chars up to the quote or a `<`, one of which has to follow
+-- Reads Chars up to the quote or `<`. One of the two must follow.
 unfoldable pub raw_value_at : ℕ → List ℕ → ℕ → Read (List ℕ)
 raw_value_at quote src i =
     let end = byte_from (λ c. c == quote || c == code "<") src i in
     if nat_le (length src) end then Err UnexpectedEndOfStream else chars_up_to end src i
 
--- a name, `=`, and a value in quotes
+-- Reads a name, `=`, and a value in quotes.
 unfoldable pub attribute_at : List ℕ → ℕ → Read RawAttribute
 attribute_at src i = do
   name ← qname_at src i
@@ -101,13 +101,13 @@ attribute_at src i = do
   done ← byte_at quote.0 src value.1
   Ok (record { start = i; name = name.0; name_end = name.1; value_start = quote.1; value_end = value.1 }, done.1)
 
--- what a start tag holds next
+-- The next item of a start tag.
 pub data TagItem : Type 0 where
   more : RawAttribute → TagItem
   opened : TagItem
   closed : TagItem
 
--- white space, then an attribute or the end of the tag
+-- Reads white space, and then an attribute or the end of the tag.
 unfoldable pub tag_item_at : List ℕ → ℕ → Read TagItem
 tag_item_at src i =
     let j = spaces_end src i in

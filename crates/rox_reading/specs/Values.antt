@@ -1,4 +1,4 @@
--- References, and the texts that hold them.
+-- References, and the texts that contain them.
 use Prim.Native.Char.{code}
 use Rattle.std.specs.Prelude.{ℕ, zero, suc, ◌+◌, ◌-◌, ◌^◌, ◌==◌, ◌||◌, Bool, true, false, List, [], ◌∷◌, ◌++◌, Option, Some, None, Result, Ok, Err, take, slice_range, slice_index, nat_lt, nat_le, if◌then◌else◌}
 use Rattle.std.specs.Char.{encode_utf8}
@@ -16,13 +16,13 @@ use Rattle.rox_grammar.specs.Entities.{Replacement, Entity, text_of}
 use Rattle.rox_reading.specs.Refusals.{Refusal, lifted}
 use Rattle.rox_reading.specs.Lexical.{has_mark, Read, ◌>>=◌, chars_up_to}
 
--- a reference: to a character, or to an entity
+-- A reference to a character, or to an entity.
 pub data Reference : Type 0 where
   character_of : ℕ → Reference
-  -- where its name stands
+  -- The span of its name.
   entity_at : Span → Reference
 
--- the digits from d on of the reference at i, and `;`
+-- Reads the digits from `d` on of the reference at `i`, and `;`.
 unfoldable pub number_at : ℕ → (ℕ → Bool) → List ℕ → ℕ → ℕ → Read Reference
 number_at base is src i d =
     let e = bytes_end is src d in
@@ -36,7 +36,7 @@ abbrev pub named_or : Option ℕ → Span → Reference
 named_or None span = entity_at span
 named_or (Some c) span = character_of c
 
--- the name of the reference at i, and `;`
+-- Reads the name of the reference at `i`, and `;`.
 unfoldable pub name_reference_at : List ℕ → ℕ → Read Reference
 name_reference_at src i =
     let n = run_end is_name_char src (i + 1) in
@@ -45,14 +45,14 @@ name_reference_at src i =
     else Err (MalformedEntityReference i))
     else Err (MalformedEntityReference i)
 
--- from `&`
+-- Reads a reference from `&` on.
 unfoldable pub reference_at : List ℕ → ℕ → Read Reference
 reference_at src i =
     if slice_index src (i + 1) == code "#" then
     (if slice_index src (i + 2) == code "x" then number_at 16 is_hex_digit src i (i + 3) else number_at 10 is_digit src i (i + 2))
     else name_reference_at src i
 
--- what stands for itself, or for other bytes; or a replacement text that is opened
+-- Bytes that a text gives, or a replacement text that is opened.
 pub data Bit : Type 0 where
   bytes_of : List ℕ → Bit
   opens : Replacement → Bit
@@ -61,7 +61,7 @@ abbrev pub entity_bit : Option Replacement → ℕ → Span → Result Bit Fault
 entity_bit None i span = Err (UnknownEntityReference span i)
 entity_bit (Some t) i span = Ok (opens t)
 
--- what a reference at i stands for
+-- The meaning of a reference at `i`.
 abbrev pub reference_bit : List Entity → List ℕ → ℕ → Reference → Result Bit Fault
 reference_bit es src i (character_of c) = Ok (bytes_of (encode_utf8 c))
 reference_bit es src i (entity_at span) = entity_bit (text_of es (slice_range src span.start span.end)) i span
@@ -69,7 +69,8 @@ reference_bit es src i (entity_at span) = entity_bit (text_of es (slice_range sr
 unfoldable pub expansion_at : List Entity → List ℕ → ℕ → Read Bit
 expansion_at es src i = reference_at src i >>= λ r. reference_bit es src i r.0 >>= λ bit. Ok (bit, r.1)
 
--- In a run: a reference, a line end, or all bytes up to the next `&` or CR. Within a replacement text line ends are left to the whole part.
+-- Reads in a run: a reference, a line end, or all bytes up to the next `&` or CR. In a replacement text the whole part's line ends
+-- are found later.
 unfoldable pub data_bit_at : (main : Bool) → List Entity → List ℕ → ℕ → ℕ → Read Bit
 data_bit_at main es src stop i =
     if slice_index src i == code "&" then expansion_at es src i
@@ -78,7 +79,7 @@ data_bit_at main es src stop i =
     else (let j = byte_from (λ c. c == code "&" || c == code "\r") (take stop src) i in Ok (bytes_of (slice_range src i j), j)))
     else (let j = byte_from (λ c. c == code "&") (take stop src) i in Ok (bytes_of (slice_range src i j), j))
 
--- what ends a part of a run, or of a value: the end, or a replacement text, behind whose reference this place is
+-- The end of a part of a run, or of a value: the end of all, or a replacement text, with the place after its reference.
 pub data Next : Type 0 where
   at_end : Next
   opening : Replacement → ℕ → Next
@@ -87,18 +88,18 @@ abbrev pub after_bit : (ℕ → Result (List ℕ × Next) Fault) → Bit → ℕ
 after_bit more (bytes_of bs) j = more j >>= λ rest. Ok (bs ++ rest.0, rest.1)
 after_bit more (opens t) j = Ok ([], opening t j)
 
--- the part of a run from i on; the number bounds its bits
+-- Reads the part of a run from `i` on, at most `n` bits.
 unfoldable pub data_part : (main : Bool) → List Entity → ℕ → List ℕ → ℕ → ℕ → Result (List ℕ × Next) Fault
 data_part main es zero src stop i = Ok ([], at_end)
 data_part main es (suc n) src stop i =
     if nat_lt i stop then (data_bit_at main es src stop i >>= λ x. after_bit (λ j. data_part main es n src stop j) x.0 x.1) else Ok ([], at_end)
 
--- its text
+-- The text of a part.
 abbrev pub part_text : (main : Bool) → List ℕ → List ℕ
 part_text true bs = bs
 part_text false bs = line_ends (literals bs)
 
--- a run, up to the next `<` or the end, tested for Chars and `]]>`
+-- Reads a run, up to the next `<` or the end, and tests it for Chars and `]]>`.
 unfoldable pub raw_character_data_at : List ℕ → ℕ → Read (List ℕ)
 raw_character_data_at src i =
     let end = byte_from (λ c. c == code "<") src i in
@@ -107,14 +108,14 @@ raw_character_data_at src i =
 
 pub record ReadText : Type 0 where
   pub value : List ℕ
-  -- it is a slice of the source
+  -- Whether it is a slice of the source.
   pub borrowed : Bool
 
--- `&`, or white space that is no space
+-- Whether the byte is `&`, or white space other than a space.
 abbrev pub is_special : ℕ → Bool
 is_special b = b == code "&" || (b == code "\t" || (b == code "\n" || b == code "\r"))
 
--- within a replacement text a character from a reference gives a space for white space, and is no `<`
+-- Tests a reference: in a replacement text its character is not `<`, and gives a space if it is white space.
 abbrev pub tested_bit : (main : Bool) → ℕ → Reference → Result Bit Fault → Result Bit Fault
 tested_bit true i r read = read
 tested_bit false i (character_of c) read = if c == code "<" then Err (InvalidAttributeValue i) else Ok (bytes_of (value_bytes false c))
@@ -123,14 +124,15 @@ tested_bit false i (entity_at span) read = read
 unfoldable pub value_reference_at : (main : Bool) → List Entity → List ℕ → ℕ → Read Bit
 value_reference_at main es src i = reference_at src i >>= λ r. tested_bit main i r.0 (reference_bit es src i r.0) >>= λ bit. Ok (bit, r.1)
 
--- All bytes up to the next special one. Within a replacement text a `<`, or a character that is no Char, is a fault: the first of them.
+-- Reads all bytes up to the next special one. In a replacement text a `<`, or a character that is not a Char, is a fault: the first
+-- of them.
 abbrev pub stretch_at : (main : Bool) → List ℕ → ℕ → ℕ → Read Bit
 stretch_at true src stop i = (let j = byte_from is_special (take stop src) i in Ok (bytes_of (slice_range src i j), j))
 stretch_at false src stop i =
     (let j = byte_from (λ b. is_special b || b == code "<") (take stop src) i in
     chars_up_to j src i >>= λ x. if slice_index (take stop src) j == code "<" then Err (InvalidAttributeValue j) else Ok (bytes_of x.0, j))
 
--- In a value: a reference, white space, or a stretch. A CR right before a LF gives nothing.
+-- Reads in a value: a reference, white space, or all bytes up to the next special one. A CR right before a LF gives nothing.
 unfoldable pub value_bit_at : (main : Bool) → List Entity → List ℕ → ℕ → ℕ → Read Bit
 value_bit_at main es src stop i =
     if slice_index src i == code "&" then value_reference_at main es src i
@@ -139,7 +141,7 @@ value_bit_at main es src stop i =
     else Ok (bytes_of (code " " ∷ []), i + 1))
     else stretch_at main src stop i
 
--- how a replacement text is read as a part of a value: the text, the place behind its reference, and how many may still be opened
+-- How a replacement text is read as a part of a value: the text, the place after its reference, and the openings that are left.
 abbrev pub ValueInclusion : Type 0
 ValueInclusion = Replacement → ℕ → ℕ → Result (List ℕ × ℕ) Refusal
 
@@ -147,14 +149,14 @@ abbrev pub after_value_bit : ValueInclusion → (ℕ → ℕ → Result (List �
 after_value_bit opener more openings_left (bytes_of bs) j = more j openings_left >>= λ rest. Ok (bs ++ rest.0, rest.1)
 after_value_bit opener more openings_left (opens t) j = opener t j openings_left >>= λ x. more j x.1 >>= λ rest. Ok (x.0 ++ rest.0, rest.1)
 
--- what the value's bytes from i up to stop stand for, and how many may be opened after it; the number bounds the bits
+-- Reads the value's bytes from `i` up to `stop`, at most `n` bits: what they give, and the openings that are left.
 unfoldable pub value_text : (main : Bool) → List Entity → ValueInclusion → ℕ → List ℕ → ℕ → ℕ → ℕ → Result (List ℕ × ℕ) Refusal
 value_text main es opener zero src stop i openings_left = Ok ([], openings_left)
 value_text main es opener (suc n) src stop i openings_left =
     if nat_lt i stop then (lifted (value_bit_at main es src stop i) >>= λ x. after_value_bit opener (λ j l. value_text main es opener n src stop j l) openings_left x.0 x.1)
     else Ok ([], openings_left)
 
--- the value of an attribute that stands from i up to stop
+-- Reads the value of an attribute from `i` up to `stop`.
 unfoldable pub value_at : (main : Bool) → List Entity → ValueInclusion → List ℕ → ℕ → ℕ → ℕ → Result (ReadText × ℕ) Refusal
 value_at main es opener src i stop openings_left =
     if is_verbatim_value (slice_range src i stop) then Ok (record { value = slice_range src i stop; borrowed = true }, openings_left)

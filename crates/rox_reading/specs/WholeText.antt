@@ -18,7 +18,7 @@ use Rattle.rox_reading.specs.State.{State}
 use Rattle.rox_reading.specs.Machine.{comment_step, instruction_step, at_place, main_text, tag_step, drive}
 use Rattle.rox_reading.specs.Doctype.{Reply, Asks, asks_nothing, ◌>>>◌, Dtd, with_state, doctype_step}
 
--- comments, processing instructions and white space; the number bounds them
+-- Reads comments, processing instructions and white space, at most `n`.
 unfoldable pub misc : ℕ → ℕ → List ℕ → State → Result State Fault
 misc limit zero src s = Ok s
 misc limit (suc n) src s =
@@ -27,24 +27,24 @@ misc limit (suc n) src s =
     else if at word.PIStart src t.at then (instruction_step limit src t >>= λ u. misc limit n src u)
     else Ok t
 
--- the root element, if `<` stands here, and what follows it
+-- Reads the root element, if `<` is here, and what follows it.
 unfoldable pub body : ℕ → List Entity → List ℕ → State → Result (State × Bool) Refusal
 body limit es src s =
     if slice_index src s.at == code "<" then
     (tag_step (main_text limit es) src s >>= λ t. drive (main_text limit es) (length src) src t >>= λ u. lifted (misc limit (length src) src u) >>= λ v. Ok (v, true))
     else Ok (s, false)
 
--- nothing is left, and there is an element
+-- Nothing is left, and there is an element.
 unfoldable pub finished : List ℕ → State × Bool → Result (Forest Item) Fault
 finished src (s, some) =
     if nat_lt s.at (length src) then Err (fault.UnknownToken s.at)
     else if some then Ok s.done else Err fault.NoRootNode
 
--- the declaration, if it stands here
+-- Reads the declaration, if it is here.
 unfoldable pub prolog : List ℕ → ℕ → Result ℕ Fault
 prolog src i = if at word.XmlDeclStart src i then (xml_decl_at src i >>= λ x. Ok x.1) else Ok i
 
--- the document type declaration, if it stands here, and what follows it
+-- Reads the document type declaration, if it is here, and what follows it.
 unfoldable pub doctype : ℕ → (allow : Bool) → List ℕ → Dtd → Asks Dtd
 doctype limit allow src d =
     if at word.DoctypeStart src d.state.at then
@@ -52,17 +52,7 @@ doctype limit allow src d =
     else ([], Err (here fault.DtdDetected)))
     else ([], Ok d)
 
--- a document type declaration stands behind what is read
-abbrev pub begins_doctype : List ℕ → Result State Fault → Bool
-begins_doctype src (Ok s) = at word.DoctypeStart src s.at
-begins_doctype src (Err f) = false
-
--- whether the text has a document type declaration
-unfoldable pub has_doctype : ℕ → List ℕ → Bool
-has_doctype limit src =
-    begins_doctype src (prolog src (after_bom src) >>= λ i. misc limit (length src) src (record { at = i; done = Nil; stack = root; openings_left = most_within }))
-
--- a whole text: what is asked, and its top items, or why it is refused
+-- Reads a whole text: what is asked, and its top items, or why it is refused.
 unfoldable pub reading : ℕ → (allow : Bool) → List Reply → List ℕ → Asks (Forest Item)
 reading limit allow replies src =
     asks_nothing (lifted (prolog src (after_bom src))) >>> λ i.

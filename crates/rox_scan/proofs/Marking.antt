@@ -6,7 +6,7 @@ use Rattle.std.specs.Char.{encode_utf8}
 use Rattle.std.proofs.lemmas.Str.{IsCharBoundary-at_seam, IsUtf8-past_char}
 use Rattle.std.proofs.lemmas.Bool.Decides.{Decides-eqb}
 use Rattle.std.proofs.lemmas.Slice.Eq.{starts_is}
-use Rattle.rox_grammar.specs.FixedTexts.{bom}
+use Rattle.rox_grammar.specs.TextStart.{bom}
 
 pub mark_cut : (src : List ℕ) → IsUtf8 src → starts_with ◌==◌ src bom ≡ true → IsCharBoundary src 3
 unfolding encode_utf8

@@ -3,8 +3,7 @@
 
 ghost use Rattle.std.specs.Prelude.{◌≡◌, ◌==◌};
 ghost use Rattle.std.specs.List.{starts_with};
-ghost use Rattle.rox_grammar.specs.TextStart.{after_bom};
-ghost use Rattle.rox_grammar.specs.FixedTexts.{bom};
+ghost use Rattle.rox_grammar.specs.TextStart.{after_bom, bom};
 ghost use Rattle.rox_scan.specs.DoctypeViews.{IsReplacementOf};
 ghost use Rattle.rox_scan.specs.CursorSteps.{IsAt};
 

@@ -11,7 +11,8 @@ use Rattle.rox_grammar.specs.TextStart.{after_bom, MayHaveXmlDecl}
 use Rattle.rox_grammar.specs.Doctype.{Request, Asked, subset_to}
 use Rattle.rox_grammar.specs.Document.{Misc, AsksNext, at_entity, HasAsked, nothing, one_more}
 use Rattle.rox_grammar.specs.State.{root}
-use Rattle.rox_reading.specs.Refusals.{Refusal, here, there, refused, IsTextRefusal, lifted}
+use Rattle.rox_reading.specs.Refusals.{Refusal, here, there, refused, lifted}
+use Rattle.rox_reading.specs.Answering.{IsTextRefusal}
 use Rattle.rox_reading.specs.State.{State}
 use Rattle.rox_reading.specs.Doctype.{Reply, Asks, asks_nothing, ◌>>>◌, Dtd, AreTextReplies, doctype_step}
 use Rattle.rox_reading.specs.WholeText.{misc, body, finished, prolog, reading}
@@ -23,13 +24,13 @@ use Rattle.rox_theory.proofs.Subsets.{Later, HasLater, not_yet, one_later}
 use Rattle.rox_theory.proofs.DoctypeAgreement.{Opened, HasWithin, RefusedWithin, StepOutcome, step_outcome}
 use Rattle.rox_reading.proofs.FaultsAlone.{Alone, alone_lifted, good, body_alone}
 
--- the resolver's refusal is of what is asked next, where a document type declaration may stand
+-- The resolver's refusal is of what is asked next, where a document type declaration is allowed.
 abbrev pub RefusedNext : List ℕ → Bool → List Asked → Refusal → Type 0
 RefusedNext src allow asked (here f) = Unit {0}
 RefusedNext src allow asked (there source f) = Unit {0}
 RefusedNext src allow asked (refused request p message) = (allow ≡ true) × AsksNext src asked request p
 
--- what is asked stands there
+-- What is asked is there.
 abbrev pub AskedOutcome : {A : Type 0} → List ℕ → Bool → Asks A → Type 0
 AskedOutcome src allow (asked, Ok x) = HasAsked src allow asked
 AskedOutcome src allow (asked, Err e) = HasAsked src allow asked × RefusedNext src allow asked e
@@ -41,7 +42,7 @@ fault_next src allow asked (refused request p message) is = absurd is
 
 -- ---- what asks nothing more
 
--- it asks nothing, and its faults are its own
+-- It asks nothing, and its faults are its own.
 abbrev Quiet : {B : Type 0} → Asks B → Type 0
 Quiet {B} r = (r.0 ≡ []) × Alone B r.1
 
@@ -49,18 +50,18 @@ quiet_outcome : {B : Type 0} (src : List ℕ) (allow : Bool) (asked : List Asked
 quiet_outcome src allow asked (first, Ok y) q has = let none = q.0 in rw (none, append-nil) has
 quiet_outcome src allow asked (first, Err e) q has = let none = q.0 in rw (none, append-nil) (has, fault_next src allow asked e (q.1.is e refl))
 
--- and what follows what asked
+-- And what follows what asked.
 quiet_then : {A B : Type 0} (src : List ℕ) (allow : Bool) (a : Asks A) (f : A → Asks B) → AskedOutcome src allow a → ((x : A) → Quiet (f x)) → AskedOutcome src allow (a >>> f)
 quiet_then src allow (asked, Ok x) f h quiet = quiet_outcome src allow asked (f x) (quiet x) h
 quiet_then src allow (asked, Err e) f h quiet = h
 
--- one after the other
+-- One after the other.
 quiet_both : {A B : Type 0} (r : Result A Refusal) (f : A → Asks B) → Alone A r → ((x : A) → Quiet (f x)) → Quiet (asks_nothing r >>> f)
 quiet_both (Ok x) f alone quiet = quiet x
 quiet_both (Err e) f alone quiet = (refl, record { is = λ e' same. alone.is e' (let is : e ≡ e' = cc in ap Err is) })
 
 module _ (src : List ℕ) (utf8 : IsUtf8 src) (allow : Bool) where
-  -- ---- behind what comes before the document type declaration
+  -- ---- after what comes before the document type declaration
   module _ (i begun : ℕ) (before : Forest Item) (declares : MayHaveXmlDecl src (after_bom src) i) (ahead : Misc src i begun before) where
     later_next : (o : Opened src begun) (asked : List Asked) (request : Request) (p : ℕ) → Later src (o.s + 1) asked request p → AsksNext src asked request p
     later_next o asked request p l =
@@ -118,7 +119,7 @@ module _ (src : List ℕ) (utf8 : IsUtf8 src) (allow : Bool) where
       (λ f ill. rw (read, ill) (nothing, tt)))
       (λ f ill. rw ill (nothing, tt))
 
-  -- what was asked stands there, whatever came of it
+  -- What was asked is there, whatever came of it.
   has_asked_by : {A : Type 0} (r : Asks A) (asked : List Asked) (x : Result A Refusal) → r ≡ (asked, x) → AskedOutcome src allow r → HasAsked src allow asked
   has_asked_by (first, Ok y) asked x is h = subst (HasAsked src allow) (ap (λ (r : Asks _). r.0) is) h
   has_asked_by (first, Err e) asked x is h = subst (HasAsked src allow) (ap (λ (r : Asks _). r.0) is) h.0
@@ -126,7 +127,7 @@ module _ (src : List ℕ) (utf8 : IsUtf8 src) (allow : Bool) where
   pub has_asked : (limit : ℕ) (replies : List Reply) (asked : List Asked) (x : Result (Forest Item) Refusal) → AreTextReplies replies → reading limit allow replies src ≡ (asked, x) → HasAsked src allow asked
   has_asked limit replies asked x texts h = has_asked_by (reading limit allow replies src) asked x h (reading_asked limit replies texts)
 
-  -- what the resolver refused is asked next
+  -- What the resolver refused is asked next.
   pub asks_next : (limit : ℕ) (replies : List Reply) (asked : List Asked) (request : Request) (p : ℕ) (message : List ℕ) → AreTextReplies replies
       → reading limit allow replies src ≡ (asked, Err (refused request p message)) → (allow ≡ true) × AsksNext src asked request p
   asks_next limit replies asked request p message texts h =

@@ -2,6 +2,7 @@
 use Rattle.std.proofs.Common.{◌≡◌, ℕ, zero, suc, ◌+◌, Bool, true, false, List, [], ◌∷◌, length, refl, sym, subst}
 use Rattle.rox_grammar.specs.Forest.{Forest, Nil, Cons, join}
 use Rattle.rox_grammar.specs.Written.{Item, Element, Text, Comment, PI, glue, merge}
+use Rattle.rox_grammar.specs.References.{entity_reference}
 use Rattle.rox_grammar.specs.Content.{Inclusion, DataByte, piece, last_part, then_entity, IsMisc, comment, instruction, IsElement, empty, nest, Content, ends, run, cdata, misc, node}
 use Rattle.rox_grammar.specs.RunParts.{Parts}
 use Rattle.rox_grammar.specs.Entities.{Entity, Includes, included_in_main, most_deep}
@@ -12,7 +13,7 @@ use Rattle.rox_reading.proofs.Forests.{join-nil, join_assoc}
 use Rattle.rox_theory.specs.Apart.{Apart, AnyElement}
 use Rattle.rox_theory.proofs.ParseParts.{parts}
 
--- so is what is below each of these, and nothing is below a text
+-- So is what is below each of these, and nothing is below a text.
 abbrev Below : Forest Item → Type 0
 Below Nil = Unit {0}
 Below (Cons (Text a e v b) children rest) = (children ≡ Nil) × Below rest
@@ -20,7 +21,7 @@ Below (Cons (Element a e t) children rest) = Apart children × Below rest
 Below (Cons (Comment a e t) children rest) = Apart children × Below rest
 Below (Cons (PI a e t o) children rest) = Apart children × Below rest
 
--- also of two rows together
+-- Also of two rows together.
 below_join : (f g : Forest Item) → Below f → Below g → Below (join f g)
 below_join Nil g h k = k
 below_join (Cons (Text a e v b) c r) g (n, h) k = (n, below_join r g h k)
@@ -28,11 +29,11 @@ below_join (Cons (Element a e t) c r) g (n, h) k = (n, below_join r g h k)
 below_join (Cons (Comment a e t) c r) g (n, h) k = (n, below_join r g h k)
 below_join (Cons (PI a e t o) c r) g (n, h) k = (n, below_join r g h k)
 
--- nothing is below
+-- Nothing is below.
 nothing_apart : (c : Forest Item) → c ≡ Nil → Apart c
 nothing_apart c n = subst (λ (c : Forest Item). Apart c) (sym n) tt
 
--- a text in front takes in the one that it touches
+-- A text in front takes in the one that it touches.
 glue_apart : (a e : ℕ) (v : List ℕ) (b : Bool) (c f : Forest Item) → c ≡ Nil → Apart f → Apart (glue (Text a e v b) c f)
 glue_apart a e v b c Nil n h = (refl, nothing_apart c n, tt)
 glue_apart a e v b c (Cons (Text x y w p) d r) n h = (h.0, subst (λ (c : Forest Item). Apart (join c d)) (sym n) h.1, h.2)
@@ -40,7 +41,7 @@ glue_apart a e v b c (Cons (Element x y t) d r) n h = (refl, nothing_apart c n, 
 glue_apart a e v b c (Cons (Comment x y t) d r) n h = (refl, nothing_apart c n, h)
 glue_apart a e v b c (Cons (PI x y t o) d r) n h = (refl, nothing_apart c n, h)
 
--- what is merged is apart
+-- What is merged is apart.
 merge_apart : (f : Forest Item) → Below f → Apart (merge f)
 merge_apart Nil h = tt
 merge_apart (Cons (Text a e v b) c r) (n, h) = glue_apart a e v b c (merge r) n (merge_apart r h)
@@ -52,25 +53,25 @@ piece_below : (start stop : ℕ) (borrowed : Bool) (ss : List DataByte) → Belo
 piece_below start stop borrowed [] = tt
 piece_below start stop borrowed (s ∷ ss) = (refl, tt)
 
--- a comment or an instruction in front
+-- A comment or an instruction in front.
 misc_below : (src : List ℕ) (i j : ℕ) (item : Item) (more : Forest Item) → IsMisc src i j item → Below more → Below (Cons item Nil more)
 misc_below src i j item more (comment _ e _ is) h = (tt, h)
 misc_below src i j item more (instruction _ n e _ is) h = (tt, h)
 
--- what a reference opens has apart what is below its items
+-- What a reference opens has apart what is below its items.
 pub record OpensApart (O : Inclusion) : Type 0 where
   pub content : (name : List ℕ) (b : ℕ) (items : Forest Item) (c : ℕ) → O.content name b items c → Below items
 
 module _ (main : Bool) (O : Inclusion) (opens : OpensApart O) (src : List ℕ) where
-  -- a run is texts, and what references open
+  -- A run is texts, and what references open.
   parts_below : (start stop i b c : ℕ) (items : Forest Item) → Parts main O src start stop i b c items → Below items
   parts_below start stop i b c items (last_part _ _ ss part) = piece_below start stop _ ss
-  parts_below start stop i b d items (then_entity _ p n j _ c _ ss inner more part reference unknown opened rest) =
+  parts_below start stop i b d items (then_entity _ p j _ c _ _ ss inner more part (entity_reference n reference unknown) opened rest) =
       below_join (piece start stop false ss) (join inner more) (piece_below start stop false ss)
       (below_join inner more (opens.content _ b inner c opened) (parts_below start stop j c d more rest))
 
   mutual
-    -- below each item of content its texts are apart
+    -- Below each item of content its texts are apart.
     content_below : (i j b c : ℕ) (items : Forest Item) → Content main O src i j b c items → Below items
     content_below i j b c items (ends _ _) = tt
     content_below i j b c items (run _ k _ _ d _ front more is parts inner) =
@@ -80,17 +81,17 @@ module _ (main : Bool) (O : Inclusion) (opens : OpensApart O) (src : List ℕ) w
     content_below i j b c items (node _ k _ _ d _ one more is inner) =
         below_join one more (element_below i k b d one is) (content_below k j d c more inner)
 
-    -- and below an element
+    -- And below an element.
     element_below : (i j b c : ℕ) (one : Forest Item) → IsElement main O src i j b c one → Below one
     element_below i j b c one (empty _ _ _ _ t tag) = (tt, tt)
     element_below i j b c one (nest _ k m p _ _ d _ t kids tag inner end) = (merge_apart kids (content_below k m d c kids inner), tt)
 
-  -- an element among the top nodes
+  -- An element among the top nodes.
   top_element : (i j b c : ℕ) (one back : Forest Item) → IsElement main O src i j b c one → Apart back → Apart (join one back)
   top_element i j b c one back (empty _ _ _ _ t tag) h = (refl, tt, h)
   top_element i j b c one back (nest _ k m p _ _ d _ t kids tag inner end) h = (refl, merge_apart kids (content_below k m d c kids inner), h)
 
-  -- it is an element
+  -- It is an element.
   top_is : (i j b c : ℕ) (one back : Forest Item) → IsElement main O src i j b c one → AnyElement (join one back)
   top_is i j b c one back (empty _ _ _ _ t tag) = tt
   top_is i j b c one back (nest _ k m p _ _ d _ t kids tag inner end) = tt
@@ -105,7 +106,7 @@ opens_apart es (suc d) main =
 
 -- ---- the top nodes
 
--- comments and instructions among them
+-- Comments and instructions among them.
 top_item : (src : List ℕ) (i j : ℕ) (item : Item) (back : Forest Item) → IsMisc src i j item → Apart back → Apart (Cons item Nil back)
 top_item src i j item back (comment _ e _ is) h = (refl, tt, h)
 top_item src i j item back (instruction _ n e _ is) h = (refl, tt, h)
@@ -115,7 +116,7 @@ top_misc src i j items back (no_misc _) h = h
 top_misc src i j items back (space _ _ _ is rest) h = top_misc src (i + 1) j items back rest h
 top_misc src i j items back (an_item _ k _ item others is rest) h = top_item src i k item (join others back) is (top_misc src k j others back rest h)
 
--- those of a document type declaration
+-- Those of a document type declaration.
 top_subset : (src : List ℕ) (i j : ℕ) (items : Forest Item) (asked : List Asked) (es : List Entity) (back : Forest Item) → Subset src i j items asked es → Apart back → Apart (join items back)
 top_subset src i j items asked es back (no_item _) h = h
 top_subset src i j items asked es back (subset_space _ _ _ _ _ here rest) h = top_subset src (i + 1) j items asked es back rest h
@@ -132,7 +133,7 @@ top_doctype src i j dtd items asked es back (no_doctype _) h = h
 top_doctype src i j dtd items asked es back (doctype _ k _ front more _ _ is rest) h =
     subst (λ (f : Forest Item). Apart f) (sym (join_assoc front more back)) (top_itself src i k front asked es (join more back) is (top_misc src k j more back rest h))
 
--- the texts of a parse are apart
+-- The texts of a parse are apart.
 pub parse_apart : (src : List ℕ) (dtd : Bool) (asked : List Asked) (tree : Forest Item) → ParseOf src dtd asked tree → Apart tree
 parse_apart src dtd asked tree whole =
     let p = parts src dtd asked tree whole in
@@ -142,7 +143,7 @@ parse_apart src dtd asked tree whole =
     let all = top_misc src p.prolog.0 p.begun p.before (join p.nodes (join p.one p.after)) p.prolog.2 nodes in
     subst (λ (f : Forest Item). Apart f) (sym p.is_tree) all
 
--- what stands behind stays there
+-- What is after stays there.
 any_behind : (front back : Forest Item) → AnyElement back → AnyElement (join front back)
 any_behind Nil back h = h
 any_behind (Cons (Element start end tag) c r) back h = tt
@@ -150,7 +151,7 @@ any_behind (Cons (Text start end value borrowed) c r) back h = any_behind r back
 any_behind (Cons (Comment start end text) c r) back h = any_behind r back h
 any_behind (Cons (PI start end target value) c r) back h = any_behind r back h
 
--- a parse has an element at its top
+-- A parse has an element at its top.
 pub parse_has : (src : List ℕ) (dtd : Bool) (asked : List Asked) (tree : Forest Item) → ParseOf src dtd asked tree → AnyElement tree
 parse_has src dtd asked tree whole =
     let p = parts src dtd asked tree whole in

@@ -1,4 +1,4 @@
--- What stands around the root element.
+-- What is around the root element.
 use Rattle.std.proofs.Common.{◌≡◌, ℕ, zero, suc, ◌+◌, ◌<◌, ◌≤◌, ◌==◌, Bool, true, false, List, [], ◌++◌, length, drop, Ok, refl, sym, ap, ◌∙◌, subst, arith}
 use Rattle.std.specs.List.{starts_with}
 use Rattle.std.specs.Str.{IsUtf8, IsCharBoundary}
@@ -16,8 +16,7 @@ use Rattle.rox_grammar.specs.Tree.{scope_in}
 use Rattle.rox_grammar.specs.Names.{byte, spaces_end}
 use Rattle.rox_grammar.specs.Constructs.{IsXmlDecl, xml_decl}
 use Rattle.rox_grammar.specs.Content.{Inclusion, IsMisc, comment, instruction, IsElement, empty, nest, TagEnds, opened, closed, start_tag}
-use Rattle.rox_grammar.specs.TextStart.{after_bom, MayHaveXmlDecl, declared, not_declared}
-use Rattle.rox_grammar.specs.FixedTexts.{bom}
+use Rattle.rox_grammar.specs.TextStart.{after_bom, MayHaveXmlDecl, declared, not_declared, bom}
 use Rattle.rox_grammar.specs.Entities.{Entity}
 use Rattle.rox_grammar.specs.Doctype.{Asked, IsDoctype, no_subset, with_subset}
 use Rattle.rox_grammar.specs.Document.{Permits, Misc, no_misc, space, an_item}
@@ -48,41 +47,41 @@ use Rattle.rox_theory.proofs.DoctypeParts.{doctype_parts}
 
 -- ---- where a character begins
 
--- what ends there ends in an ASCII byte
+-- What ends there ends in an ASCII byte.
 abbrev pub Ends : List ℕ → ℕ → Type 0
 Ends src j = (k : ℕ) × (j ≡ k + 1) × (k < length src) × (byte src k < 128)
 
--- a character begins behind it
+-- A character begins after it.
 pub ends_cut : (src : List ℕ) (j : ℕ) → IsUtf8 src → Ends src j → IsCharBoundary src j
 ends_cut src j utf8 (k, is, within, ascii) = subst (IsCharBoundary src) (sym is) (IsCharBoundary-after_ascii src k utf8 within ascii)
 
--- what ends in this byte
+-- What ends in this byte.
 pub ends_by : (src : List ℕ) (j k b : ℕ) → j ≡ k + 1 → byte src k ≡ b → 0 < b → b < 128 → Ends src j
 ends_by src j k b is here some ascii = (k, is, byte_within src k (λ z. omega arith), omega arith)
 
--- comments and instructions do
+-- Comments and instructions do.
 pub misc_ends : (src : List ℕ) (i j : ℕ) (item : Item) → IsMisc src i j item → Ends src j
 misc_ends src i j item (comment _ e _ is) =
     ends_by src j (e + 2) 62 (omega (arith, (comment_parts is).next)) (stands_reads (word_text word.CommentEnd) src e 2 (comment_parts is).closes (omega arith)) (omega arith) (omega arith)
 misc_ends src i j item (instruction _ n e _ is) =
     ends_by src j (e + 1) 62 (omega (arith, (pi_parts is).next)) (stands_reads (word_text word.PIEnd) src e 1 (pi_parts is).closes (omega arith)) (omega arith) (omega arith)
 
--- tags do
+-- Tags do.
 pub tag_ends : (src : List ℕ) (i j : ℕ) (is_empty : Bool) → TagEnds src i is_empty j → Ends src j
 tag_ends src i j is_empty (opened _ close) = ends_by src j (spaces_end src i) 62 refl close (omega arith) (omega arith)
 tag_ends src i j is_empty (closed _ slash close) = ends_by src j (spaces_end src i + 1) 62 (omega arith) close (omega arith) (omega arith)
 
--- elements do
+-- Elements do.
 pub element_ends : (main : Bool) (O : Inclusion) (src : List ℕ) (i j b c : ℕ) (one : Forest Item) → IsElement main O src i j b c one → Ends src j
 element_ends main O src i j b c one (empty _ _ _ _ _ (start_tag n last name written begin is_name list end)) = tag_ends src last j true end
 element_ends main O src i j b c one (nest _ k m p _ _ d _ t kids tag inner end) = ends_by src j (spaces_end src p) 62 (end_parts end).next (end_parts end).closes (omega arith) (omega arith)
 
--- the declaration does
+-- The declaration does.
 pub declaration_ends : (src : List ℕ) (i j : ℕ) → IsXmlDecl src i j → Ends src j
 declaration_ends src i j (xml_decl _ q opens to last closes) =
     ends_by src j (q + 1) 62 (omega arith) (stands_reads (word_text word.PIEnd) src q 1 closes (omega arith)) (omega arith) (omega arith)
 
--- a character begins behind the byte order mark
+-- A character begins after the byte order mark.
 pub bom_cut : (src : List ℕ) → IsUtf8 src → IsCharBoundary src (after_bom src)
 unfolding encode_utf8
 bom_cut src utf8 =
@@ -99,20 +98,20 @@ pub record Stops (src : List ℕ) (i : ℕ) : Type 0 where
   pub no_comment : at word.CommentStart src i ≡ false
   pub no_instruction : at word.PIStart src i ≡ false
 
--- `<` is no white space
+-- `<` is no white space.
 pub no_spaces : (src : List ℕ) (i : ℕ) → byte src i ≡ 60 → spaces_end src i ≡ i
 no_spaces src i here = run_stops is_space src i (byte_within src i (λ z. omega arith)) (omega arith) (rw here refl)
 
--- an element is neither white space nor one of them, nor a document type declaration
+-- An element is neither white space nor one of them, nor a document type declaration.
 pub element_stops : (main : Bool) (O : Inclusion) (src : List ℕ) (i j b c : ℕ) (one : Forest Item) → IsElement main O src i j b c one → (byte src i ≡ 60) × (at word.DoctypeStart src i ≡ false) × Stops src i
 element_stops main O src i j b c one is = from_tag (begins one is)
   where
-    -- its first two bytes
+    -- Its first two bytes.
     begins : (one : Forest Item) → IsElement main O src i j b c one → (byte src i ≡ 60) × IsNameByte src (i + 1)
     begins one (empty _ _ _ _ _ (start_tag n last name written begin is_name list end)) = (begin, name_byte src (i + 1) name n is_name)
     begins one (nest _ k m p _ _ d _ _ kids (start_tag n last name written begin is_name list end) inner close) = (begin, name_byte src (i + 1) name n is_name)
 
-    -- which are those of no other construct
+    -- Which are those of no other construct.
     from_tag : (byte src i ≡ 60) × IsNameByte src (i + 1) → (byte src i ≡ 60) × (at word.DoctypeStart src i ≡ false) × Stops src i
     from_tag (here, name) = (
       here,
@@ -124,7 +123,7 @@ element_stops main O src i j b c one is = from_tag (begins one is)
       },
     )
 
--- nor does anything stand at the end
+-- Nor does anything stand at the end.
 pub end_stops : (src : List ℕ) → Stops src (length src)
 end_stops src =
     record {
@@ -134,13 +133,13 @@ end_stops src =
     }
 
 module _ (src : List ℕ) (utf8 : IsUtf8 src) where
-  -- what is read of a comment stands there
+  -- What is read of a comment is there.
   pub comment_is : (i j : ℕ) (text : List ℕ) → at word.CommentStart src i ≡ true → comment_at src i ≡ Ok (text, j) → IsMisc src i j (Comment i j text)
   comment_is i j text means read =
       let s = comment_sound src utf8 i j text means read in
       rw s.2 (comment i s.0 j s.1)
 
-  -- and of an instruction
+  -- And of an instruction.
   pub instruction_is : (i j : ℕ) (x : Instruction) → at word.PIStart src i ≡ true → instruction_at src i ≡ Ok (x, j) → IsMisc src i j (PI i j x.target x.value)
   instruction_is i j x means read =
       let s = instruction_sound src utf8 i j x means read in
@@ -148,30 +147,30 @@ module _ (src : List ℕ) (utf8 : IsUtf8 src) where
 
   -- ---- what is read is Misc
 
-  -- what is read of them from a place on
+  -- What is read of them from a place on.
   abbrev pub MiscRead : ℕ → ℕ → ℕ → Forest Item → State → Type 0
   MiscRead most b i done u = (items : Forest Item) × Misc src i u.at items × (u ≡ state u.at (join done items) root b) × IsValidState most u × IsCharBoundary src u.at
 
-  -- an item that neither declares anything nor has attributes
+  -- An item that neither declares anything nor has attributes.
   abbrev plain : Item → Type 0
   plain item = (own_attributes item ≡ 0) × (own_pairs item ≡ []) × ((scope : List NamespaceDecl) → ItemWellNamed scope item)
 
-  -- comments and instructions are plain
+  -- Comments and instructions are plain.
   pub misc_plain : (i j : ℕ) (item : Item) → IsMisc src i j item → plain item
   misc_plain i j item (comment _ e _ is) = (refl, refl, λ scope. tt)
   misc_plain i j item (instruction _ n e _ is) = (refl, refl, λ scope. tt)
 
-  -- an item, and then what follows it
+  -- An item, and then what follows it.
   item_then : (most b i j : ℕ) (done : Forest Item) (item : Item) (u : State) → IsMisc src i j item → MiscRead most b j (join done (leaf item)) u → MiscRead most b i done u
   item_then most b i j done item u is (items, more, e, fine, stops) =
       (join (leaf item) items, an_item i j u.at item items is more, e ∙ ap (λ (f : Forest Item). state u.at f root b) (join_assoc done (leaf item) items), fine, stops)
 
-  -- white space in front
+  -- White space in front.
   spaces_then : (most b i : ℕ) (done : Forest Item) (u : State) → IsCharBoundary src i → MiscRead most b (spaces_end src i) done u → MiscRead most b i done u
   spaces_then most b i done u cut (items, more, e, fine, stops) =
       (items, (over_spaces src (λ (k : ℕ). Misc src k u.at items) i utf8 cut (λ k is rest. space k u.at items is rest)).1 more, e, fine, stops)
 
-  -- what is read of them stands there
+  -- What is read of them is there.
   pub misc_sound : (n limit most b i : ℕ) (done : Forest Item) (u : State) → limit ≤ most → IsCharBoundary src i → IsValidState most (state i done root b) → misc limit n src (state i done root b) ≡ Ok u
       → MiscRead most b i done u
   unfolding misc comment_step instruction_step
@@ -201,12 +200,12 @@ module _ (src : List ℕ) (utf8 : IsUtf8 src) where
 
   -- ---- Misc is what is read
 
-  -- each of them moves forward
+  -- Each of them moves forward.
   pub misc_moves : (i j : ℕ) (item : Item) → IsMisc src i j item → i < j
   misc_moves i j item (comment _ e _ is) = (comment_sound src utf8 i j _ (comment_parts is).opens (comment_complete src i e j is)).3
   misc_moves i j item (instruction _ n e _ is) = (instruction_sound src utf8 i j _ (pi_parts is).opens (instruction_complete src i n e j is)).4
 
-  -- one of them, with its white space taken
+  -- One of them, with its white space taken.
   one_misc : (n limit b i j : ℕ) (item : Item) (done : Forest Item) (u : State) → IsMisc src i j item → size (merge (join done (leaf item))) + 1 ≤ limit
       → misc limit n src (state j (join done (leaf item)) root b) ≡ Ok u → misc limit (suc n) src (state i done root b) ≡ Ok u
   unfolding misc comment_step instruction_step
@@ -220,12 +219,12 @@ module _ (src : List ℕ) (utf8 : IsUtf8 src) where
       let counts = fits_counted limit (with_leaf (state i done root b) j item) (omega arith) in
       rw (no_spaces src i bytes.1, none, (pi_parts is).opens, instruction_complete src i t e j is, counts) rest
 
-  -- each begins within the source
+  -- Each begins within the source.
   pub misc_within : (i j : ℕ) (item : Item) → IsMisc src i j item → i < length src
   misc_within i j item (comment _ e _ is) = let bytes = comment_bytes src i (comment_parts is).opens in omega arith
   misc_within i j item (instruction _ n e _ is) = let bytes = instruction_bytes src i (pi_parts is).opens in omega arith
 
-  -- what stands there of them is read
+  -- What is there of them is read.
   pub misc_complete : (n limit b i j : ℕ) (items done : Forest Item) → Misc src i j items → Stops src j → size (merge (join done items)) + 1 ≤ limit → length src ≤ i + n
       → misc limit n src (state i done root b) ≡ Ok (state j (join done items) root b)
   unfolding misc
@@ -245,7 +244,7 @@ module _ (src : List ℕ) (utf8 : IsUtf8 src) where
 
   -- ---- the declaration
 
-  -- what is read of it stands there
+  -- What is read of it is there.
   pub prolog_sound : (i j : ℕ) → prolog src i ≡ Ok j → MayHaveXmlDecl src i j
   unfolding prolog
   prolog_sound i j h =
@@ -253,20 +252,20 @@ module _ (src : List ℕ) (utf8 : IsUtf8 src) where
       (λ here h. bind_ok (xml_decl_at src i) _ _ h (λ x read h. let e : x.1 ≡ j = cc in subst (MayHaveXmlDecl src i) e (declared i x.1 (declaration_sound src utf8 i x.1 x.0 here read))))
       (λ none h. let e : i ≡ j = cc in subst (MayHaveXmlDecl src i) e (not_declared i none))
 
-  -- what stands there is read
+  -- What is there is read.
   pub prolog_complete : (i j : ℕ) → MayHaveXmlDecl src i j → prolog src i ≡ Ok j
   unfolding prolog
   prolog_complete i j (declared _ _ is) = rw (declaration_opens src i j is, declaration_complete src utf8 i j is) refl
   prolog_complete i j (not_declared _ none) = rw none refl
 
-  -- a character begins behind it
+  -- A character begins after it.
   pub prolog_cut : (i j : ℕ) → IsCharBoundary src i → MayHaveXmlDecl src i j → IsCharBoundary src j
   prolog_cut i j cut (declared _ _ is) = ends_cut src j utf8 (declaration_ends src i j is)
   prolog_cut i j cut (not_declared _ none) = cut
 
 -- ---- the document type declaration
 
--- it is neither a comment nor an instruction, nor white space
+-- It is neither a comment nor an instruction, nor white space.
 pub doctype_stops : (src : List ℕ) (i : ℕ) → at word.DoctypeStart src i ≡ true → Stops src i
 doctype_stops src i h =
     let bytes = doctype_bytes src i h in
@@ -277,8 +276,8 @@ doctype_stops src i h =
       no_instruction = false_from_ne_true _ (λ k. let other = instruction_bytes src i k in omega arith);
     }
 
--- How a document type declaration, with what follows it, is read from the items before it on: as it stands there, where one
--- may stand, and its entities are text. One that is cut off by the end of the text has no fault of its own.
+-- How a document type declaration, with what follows it, is read from the items before it on: as it is there, where one is allowed,
+-- and its entities are text. One that is cut off by the end of the text has no fault of its own.
 pub record DoctypesAgree (src : List ℕ) (allow : Bool) : Type 0 where
   pub sound : (limit most i : ℕ) (before : Forest Item) (replies : List Reply) (asked : List Asked) (d : Dtd) → limit ≤ most → AreTextReplies replies → IsValidState most (state i before root 255)
       → whole.doctype limit allow src (record { state = state i before root 255; entities = []; replies = replies }) ≡ (asked, Ok d) → d.state.at < length src
@@ -289,7 +288,7 @@ pub record DoctypesAgree (src : List ℕ) (allow : Bool) : Type 0 where
       ≡ (asked, Ok (record { state = state j (join before nodes) root 255; entities = es; replies = more }))
   pub texts : (i j : ℕ) (dtd : Bool) (nodes : Forest Item) (asked : List Asked) (es : List Entity) → MayHaveDoctype src i j dtd nodes asked es → Permits allow dtd → AreTexts es
 
--- where none may stand, what is read has none
+-- Where none is allowed, what is read has none.
 none_sound : (src : List ℕ) (limit most i : ℕ) (before : Forest Item) (replies : List Reply) (asked : List Asked) (d : Dtd) → limit ≤ most → AreTextReplies replies → IsValidState most (state i before root 255)
     → whole.doctype limit false src (record { state = state i before root 255; entities = []; replies = replies }) ≡ (asked, Ok d) → d.state.at < length src
     → (dtd : Bool) × (nodes : Forest Item) × MayHaveDoctype src i d.state.at dtd nodes asked d.entities × Permits false dtd × (d.state ≡ state d.state.at (join before nodes) root 255) × IsValidState most d.state
@@ -305,7 +304,7 @@ none_sound src limit most i before replies asked d more texts fine h inside =
     subst P e
     (false, Nil, subst (λ (asked : List Asked). MayHaveDoctype src i i false Nil asked []) a (no_doctype i), λ h. h, rw join-nil refl, fine))
 
--- and where it has none nothing is read
+-- And where it has none nothing is read.
 none_complete : (src : List ℕ) (limit i j : ℕ) (dtd : Bool) (before nodes : Forest Item) (asked : List Asked) (es : List Entity) (more : List Reply) → MayHaveDoctype src i j dtd nodes asked es → Stops src j
     → at word.DoctypeStart src j ≡ false → Permits false dtd → IsValidState limit (state j (join before nodes) root 255)
     → whole.doctype limit false src (record { state = state i before root 255; entities = []; replies = replies_of asked ++ more })
@@ -321,17 +320,17 @@ none_texts src i j dtd nodes asked es (no_doctype _) permits = λ name t found. 
 pub none_agree : (src : List ℕ) → DoctypesAgree src false
 none_agree src = record { sound = none_sound src; complete = none_complete src; texts = none_texts src }
 
--- how it begins
+-- How it begins.
 pub doctype_opens : (src : List ℕ) (i j : ℕ) (items : Forest Item) (asked : List Asked) (es : List Entity) → IsDoctype src i j items asked es → at word.DoctypeStart src i ≡ true
 doctype_opens src i j items asked es (no_subset _ s begins closes) = (doctype_parts begins).opens
 doctype_opens src i j items asked es (with_subset _ s k _ _ _ begins more subset ends closes) = (doctype_parts begins).opens
 
--- what comes before it stops
+-- What comes before it stops.
 pub begins_stop : (src : List ℕ) (i j : ℕ) (dtd : Bool) (items : Forest Item) (asked : List Asked) (es : List Entity) → MayHaveDoctype src i j dtd items asked es → Stops src j → Stops src i
 begins_stop src i j dtd items asked es (doctype _ k _ own others _ _ is rest) stops = doctype_stops src i (doctype_opens src i k own asked es is)
 begins_stop src i j dtd items asked es (no_doctype _) stops = stops
 
--- one stands there where it begins
+-- One is there where it begins.
 pub dtd_begins : (src : List ℕ) (i j : ℕ) (dtd : Bool) (items : Forest Item) (asked : List Asked) (es : List Entity) → MayHaveDoctype src i j dtd items asked es → at word.DoctypeStart src j ≡ false
     → at word.DoctypeStart src i ≡ dtd
 dtd_begins src i j dtd items asked es (doctype _ k _ own others _ _ is rest) none = doctype_opens src i k own asked es is

@@ -1,4 +1,4 @@
--- Attributes and the end of a start tag: what is read stands there, and what stands there is read.
+-- Attributes and the end of a start tag: what is read is there, and what is there is read.
 use Rattle.std.proofs.Common.{◌≡◌, ◌≢◌, ℕ, ◌+◌, ◌<◌, Bool, true, false, cond, eqb, leb, List, length, refl, sym, ap, ◌∙◌, subst, arith, inl, inr, ◌⊎◌}
 use Rattle.std.specs.Prelude.{Ok}
 use Rattle.std.specs.Str.{IsUtf8, IsCharBoundary}
@@ -23,7 +23,7 @@ use Rattle.rox_theory.proofs.CharTexts.{cut_behind}
 use Rattle.rox_theory.proofs.ValueLemmas.{value_sound, value_complete}
 use Rattle.rox_theory.proofs.AttributeParts.{from_parts}
 
--- an attribute stands there, its value not looked at
+-- An attribute is there, its value not looked at.
 pub record RawStands (src : List ℕ) (i j : ℕ) (raw : RawAttribute) : Type 0 where
   pub starts : raw.start ≡ i
   pub is_name : IsQName src i raw.name raw.name_end
@@ -32,7 +32,7 @@ pub record RawStands (src : List ℕ) (i j : ℕ) (raw : RawAttribute) : Type 0 
   pub value_start : raw.value_start ≡ v + 1
   pub literal : IsAttValue src v raw.value_end j
 
--- an attribute that is read stands there, its value apart
+-- An attribute that is read is there, its value apart.
 pub raw_sound : (src : List ℕ) → IsUtf8 src → (i : ℕ) (x : RawAttribute × ℕ) → attribute_at src i ≡ Ok x → RawStands src i x.1 x.0
 unfolding attribute_at raw_value_at
 raw_sound src utf8 i x h =
@@ -61,7 +61,7 @@ raw_sound src utf8 i x h =
     subst (λ (y : RawAttribute × ℕ). RawStands src i y.1 y.0) x0
     (record { starts = refl; is_name = qname_sound src i n named; v = v; eq = (eq.0, ap (spaces_end src) eq.1); value_start = q1; literal = l' })))))))
 
--- an attribute that stands there is read, its value apart
+-- An attribute that is there is read, its value apart.
 pub raw_complete : (src : List ℕ) (i j : ℕ) (raw : RawAttribute) → RawStands src i j raw → attribute_at src i ≡ Ok (raw, j)
 unfolding attribute_at raw_value_at
 raw_complete src i j raw r =
@@ -79,7 +79,7 @@ raw_complete src i j raw r =
     let i' = r.starts in
     rw (n, s, ← v, q, e, more, c, b, next, ← start, ← i') refl
 
--- it has a byte
+-- It has a byte.
 raw_le : (src : List ℕ) (i j : ℕ) (raw : RawAttribute) → RawStands src i j raw → i < j
 raw_le src i j raw r =
     let name_le = qname_le src i raw.name raw.name_end r.is_name in
@@ -90,36 +90,36 @@ raw_le src i j raw r =
     let next = r.literal.0.3 in
     omega arith
 
--- no name begins with a slash
+-- No name begins with a slash.
 no_slash : is_name_start 47 ≡ false
 unfolding is_name_start
 no_slash = refl
 
--- no name begins with `>`
+-- No name begins with `>`.
 no_greater : is_name_start 62 ≡ false
 unfolding is_name_start
 no_greater = refl
 
--- where a name begins, no byte stands that begins none
+-- Where a name begins, no byte stands that begins none.
 not_start : (src : List ℕ) (i c : ℕ) → 0 < c → c < 128 → is_name_start c ≡ false → begins is_name_start src i ≡ true → byte src i ≢ c
 not_start src i c some ascii none starts is =
     let b = begins_here is_name_start src i (within src i (λ z. omega arith)) (omega arith) in
     let f : begins is_name_start src i ≡ false = b ∙ rw is none in
     false≢true (sym f ∙ starts)
 
--- no name begins with a slash or `>`
+-- No name begins with a slash or `>`.
 name_first : (src : List ℕ) (i : ℕ) (name : Name) (j : ℕ) → IsQName src i name j → (byte src i ≢ 47) × (byte src i ≢ 62)
 name_first src i name j (unprefixed _ _ n last) = (not_start src i 47 (omega arith) (omega arith) no_slash (ncname_parts n).starts, not_start src i 62 (omega arith) (omega arith) no_greater (ncname_parts n).starts)
 name_first src i name j (prefixed _ k _ n colon m last) = (not_start src i 47 (omega arith) (omega arith) no_slash (ncname_parts n).starts, not_start src i 62 (omega arith) (omega arith) no_greater (ncname_parts n).starts)
 name_first src i name j (colon_first _ _ colon m last) = (λ z. omega arith, λ z. omega arith)
 
--- what a turn says
+-- What a turn says.
 abbrev pub TurnStands : List ℕ → ℕ → TagItem → ℕ → Type 0
 TurnStands src i (more raw) j = (i < spaces_end src i) × RawStands src (spaces_end src i) j raw
 TurnStands src i opened j = TagEnds src i false j
 TurnStands src i closed j = TagEnds src i true j
 
--- what a turn reads stands there
+-- What a turn reads is there.
 pub turn_sound : (src : List ℕ) → IsUtf8 src → (i : ℕ) (x : TagItem × ℕ) → tag_item_at src i ≡ Ok x → TurnStands src i x.0 x.1
 unfolding tag_item_at
 turn_sound src utf8 i x h =
@@ -140,7 +140,7 @@ turn_sound src utf8 i x h =
     let le = run_end_le is_space src i in
     subst (λ (y : TagItem × ℕ). TurnStands src i y.0 y.1) (ok_same _ _ h) (omega arith, raw_sound src utf8 j a read))))))
 
--- the end of a tag is read
+-- The end of a tag is read.
 pub end_complete : (src : List ℕ) (i : ℕ) (empty : Bool) (j : ℕ) → TagEnds src i empty j → tag_item_at src i ≡ Ok (cond empty closed opened, j)
 unfolding tag_item_at
 end_complete src i empty j (content.opened _ greater) =
@@ -152,7 +152,7 @@ end_complete src i empty j (content.closed _ slash greater) =
     let next : spaces_end src i + 1 + 1 ≡ spaces_end src i + 2 = omega arith in
     rw (inside, slash, b, next) refl
 
--- one more attribute is read
+-- One more attribute is read.
 pub more_complete : (src : List ℕ) (i j : ℕ) (raw : RawAttribute) → i < spaces_end src i → RawStands src (spaces_end src i) j raw → tag_item_at src i ≡ Ok (more raw, j)
 unfolding tag_item_at
 more_complete src i j raw some r =
@@ -171,21 +171,21 @@ more_complete src i j raw some r =
     let one = raw_complete src (spaces_end src i) j raw r in
     rw (inside, slash, greater, apart, one) refl
 
--- a quote stops a value
+-- A quote stops a value.
 quote_stop : (b : ℕ) → (b ≡ 39) ⊎ (b ≡ 34) → IsStop b
 quote_stop b (inl h) = inr (inl h)
 quote_stop b (inr h) = inr (inr h)
 
--- a literal ends where a quote stops it
+-- A literal ends where a quote stops it.
 pub literal_stop : (src : List ℕ) (v e j : ℕ) → IsAttValue src v e j → IsStop (byte src e)
 literal_stop src v e j l = rw (literal_closes src v e j l) (quote_stop (byte src v) l.0.0)
 
--- the place behind its quote
+-- The place after its quote.
 value_cut : (src : List ℕ) → IsUtf8 src → (v e j : ℕ) → IsAttValue src v e j → IsCharBoundary src (v + 1)
 value_cut src utf8 v e j l = let q = quote_ascii (byte src v) l.0.0 in cut_behind src v (byte src v) (v + 1) utf8 refl (omega arith) (omega arith) refl
 
 module _ (context : Values) (O : Inclusion) (agrees : AgreesValue context.entities O context.opener) (src : List ℕ) (utf8 : IsUtf8 src) where
-  -- an attribute whose value is read stands there
+  -- An attribute whose value is read is there.
   pub attribute_sound : (i j b c : ℕ) (raw : RawAttribute) (x : ReadText) → RawStands src i j raw → value_at context.main context.entities context.opener src raw.value_start raw.value_end b ≡ Ok (x, c)
       → IsAttribute context.main O src i j b c (attribute_with raw x)
   attribute_sound i j b c raw x r h =
@@ -206,12 +206,12 @@ module _ (context : Values) (O : Inclusion) (agrees : AgreesValue context.entiti
         borrowed = value.1;
       })
 
-  -- the attribute is read from i up to j, and then its value
+  -- The attribute is read from i up to j, and then its value.
   abbrev pub AttributeReads : ℕ → ℕ → ℕ → ℕ → Attribute → Type 0
   AttributeReads i j b c a =
       (raw : RawAttribute) × (x : ReadText) × RawStands src i j raw × (value_at context.main context.entities context.opener src raw.value_start raw.value_end b ≡ Ok (x, c)) × (a ≡ attribute_with raw x)
 
-  -- an attribute that stands there is read
+  -- An attribute that is there is read.
   pub attribute_complete : (i j b c : ℕ) (a : Attribute) → IsAttribute context.main O src i j b c a → AttributeReads i j b c a
   attribute_complete i j b c a (content.attribute n v e name value (is_name, eq, literal) there) =
       let closes = literal.0.2 in
@@ -225,6 +225,6 @@ module _ (context : Values) (O : Inclusion) (agrees : AgreesValue context.entiti
         ap (λ (k : ℕ). record { start = i; name_end = n; value_start = v + 1; end = k; name = name; value = value; borrowed = borrowed }) literal.0.3,
       )
 
-  -- an attribute has a byte
+  -- An attribute has a byte.
   pub attribute_le : (i j b c : ℕ) (a : Attribute) → IsAttribute context.main O src i j b c a → i < j
   attribute_le i j b c a h = let r = attribute_complete i j b c a h in raw_le src i j r.0 r.2

@@ -17,12 +17,12 @@ pub record AttributeParts (main : Bool) (O : Inclusion) (src : List ℕ) (i j b 
   pub value : Value main O src e (v + 1) b c a.value
   pub borrowed : a.borrowed ≡ is_verbatim_value (slice src (v + 1) e)
 
--- an attribute has its parts
+-- An attribute has its parts.
 pub parts_of : (main : Bool) (O : Inclusion) (src : List ℕ) (i j b c : ℕ) (a : Attribute) → IsAttribute main O src i j b c a → AttributeParts main O src i j b c a
 parts_of main O src i j b c a (attribute n v e name value is read) =
     record { starts = refl; is_name = is.0; v = v; eq = is.1; e = e; literal = is.2; value_start = refl; end = refl; value = read; borrowed = refl }
 
--- what has them all is one
+-- What has them all is one.
 pub from_parts : (main : Bool) (O : Inclusion) (src : List ℕ) (i j b c : ℕ) (a : Attribute) → AttributeParts main O src i j b c a → IsAttribute main O src i j b c a
 from_parts main O src i j b c a p =
     let borrowed = p.borrowed in let value_start = p.value_start in let starts = p.starts in let end = p.end in

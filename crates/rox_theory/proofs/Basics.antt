@@ -16,42 +16,42 @@ use Rattle.rox_reading.specs.Lexical.{◌>>=◌, byte_at, string_at, chars_up_to
 use Rattle.rox_reading.specs.Refusals.{Refusal, here, there, refused, lifted, elsewhere}
 use Rattle.rox_theory.proofs.SpanLemmas.{run_end_inside}
 
--- what two equal answers hold is equal
+-- What two equal answers hold is equal.
 pub ok_same : {A E : Type 0} (x y : A) → ◌≡◌ {A = Result A E} (Ok x) (Ok y) → x ≡ y
 ok_same x y h = cc
 
--- where a sequence gives a value, its first step gave one and the rest gave the value
+-- Where a sequence gives a value, its first step gave one and the rest gave the value.
 pub bind_ok : {A B E P : Type 0} (r : Result A E) (f : A → Result B E) (y : B) → (r >>= f) ≡ Ok y → ((x : A) → r ≡ Ok x → f x ≡ Ok y → P) → P
 bind_ok (Ok x) f y h go = go x refl h
 bind_ok (Err e) f y h go = cc h
 
--- the same of a first step that opens no entity
+-- The same of a first step that opens no entity.
 pub bind_lifted : {A B P : Type 0} (r : Result A Fault) (f : A → Result B Refusal) (y : B) → (lifted r >>= f) ≡ Ok y → ((x : A) → r ≡ Ok x → f x ≡ Ok y → P) → P
 bind_lifted (Ok x) f y h go = go x refl h
 bind_lifted (Err e) f y h go = cc h
 
--- and of one that is all
+-- And of one that is all.
 pub bind_lifted_only : {A P : Type 0} (r : Result A Fault) (y : A) → lifted r ≡ Ok y → (r ≡ Ok y → P) → P
 bind_lifted_only (Ok x) y h go = let e : x ≡ y = ok_same _ _ h in go (ap Ok e)
 bind_lifted_only (Err e) y h go = cc h
 
--- what is seen from another source is what is seen from its own, where there is a value
+-- What is seen from another source is what is seen from its own, where there is a value.
 pub elsewhere_ok : {A : Type 0} (source : List ℕ) (r : Result A Refusal) (y : A) → elsewhere source r ≡ Ok y → r ≡ Ok y
 elsewhere_ok source (Ok x) y h = h
 elsewhere_ok source (Err (here f)) y h = cc h
 elsewhere_ok source (Err (there s f)) y h = cc h
 elsewhere_ok source (Err (refused request at message)) y h = cc h
 
--- what a choice gives comes from one of its branches
+-- What a choice gives comes from one of its branches.
 pub chosen : {X P : Type 0} (b : Bool) (x y z : X) → cond b x y ≡ z → (b ≡ true → x ≡ z → P) → (b ≡ false → y ≡ z → P) → P
 chosen true x y z h holds fails = holds refl h
 chosen false x y z h holds fails = fails refl h
 
--- a byte but 0 stands in the source
+-- A byte but 0 is in the source.
 pub within : (src : List ℕ) (i : ℕ) → byte src i ≢ 0 → i < length src
 within src i h = elim (cases_lt i (length src)) as (λ s. i < length src) [ inl l ↦ l | inr l ↦ absurd (h (get_or_past src i 0 l)) ]
 
--- a byte that is read stands there
+-- A byte that is read is there.
 pub byte_sound : (b : ℕ) (src : List ℕ) (i : ℕ) (x : Unit {0} × ℕ) → byte_at b src i ≡ Ok x → (byte src i ≡ b) × (x.1 ≡ i + 1) × (i < length src)
 unfolding byte_at
 byte_sound b src i x h = chosen (leb (length src) i) _ _ _ h (λ out e. cc)
@@ -59,7 +59,7 @@ byte_sound b src i x h = chosen (leb (length src) i) _ _ _ h (λ out e. cc)
     (λ holds e. (eqb-true _ _ holds, sym (ap (λ p. p.1) (ok_same _ _ e)), leb-false _ _ inside))
     (λ fails e. cc))
 
--- a byte that stands there is read
+-- A byte that is there is read.
 pub byte_complete : (b : ℕ) (src : List ℕ) (i : ℕ) → byte src i ≡ b → b ≢ 0 → byte_at b src i ≡ Ok (tt, i + 1)
 unfolding byte_at
 byte_complete b src i h nz =
@@ -67,19 +67,19 @@ byte_complete b src i h nz =
     let e = eq-eqb _ _ h in
     rw (l, e) refl
 
--- a fixed text that is read stands there
+-- A fixed text that is read is there.
 pub string_sound : (w : Expected) (src : List ℕ) (i : ℕ) (x : Unit {0} × ℕ) → string_at w src i ≡ Ok x → (stands (expected_text w) src i ≡ true) × (x.1 ≡ i + length (expected_text w))
 unfolding string_at
 string_sound w src i x h = chosen (stands (expected_text w) src i) _ _ _ h
     (λ holds e. (holds, sym (ap (λ p. p.1) (ok_same _ _ e))))
     (λ fails e. cc)
 
--- a fixed text that stands there is read
+-- A fixed text that is there is read.
 pub string_complete : (w : Expected) (src : List ℕ) (i : ℕ) → stands (expected_text w) src i ≡ true → string_at w src i ≡ Ok (tt, i + length (expected_text w))
 unfolding string_at
 string_complete w src i h = rw h refl
 
--- what is read up to a place are Chars
+-- What is read up to a place are Chars.
 pub chars_sound : (end : ℕ) (src : List ℕ) (i : ℕ) (x : List ℕ × ℕ) → IsUtf8 src → i ≤ end → chars_up_to end src i ≡ Ok x → AreChars src i end × (x.0 ≡ slice src i end) × (x.1 ≡ end)
 unfolding chars_up_to
 chars_sound end src i x utf8 from h = chosen (ltb (run_end is_char (take end src) i) end) _ _ _ h
@@ -89,17 +89,17 @@ chars_sound end src i x utf8 from h = chosen (ltb (run_end is_char (take end src
     let ge = run_end_inside is_char src i end utf8 from in
     (omega arith, sym (ap (λ p. p.0) (ok_same _ _ e)), sym (ap (λ p. p.1) (ok_same _ _ e))))
 
--- Chars up to a place are read
+-- Chars up to a place are read.
 pub chars_complete : (end : ℕ) (src : List ℕ) (i : ℕ) → AreChars src i end → chars_up_to end src i ≡ Ok (slice src i end, end)
 unfolding chars_up_to
 chars_complete end src i h = let e = le-ltb (run_end is_char (take end src) i) end (omega arith) in rw e refl
 
--- a mark is looked for forwards
+-- A mark is looked for forwards.
 pub mark_from_le : (mark src : List ℕ) (i : ℕ) → i ≤ mark_from mark src i
 unfolding mark_from
 mark_from_le mark src i = omega arith
 
--- from the text to a mark
+-- From the text to a mark.
 pub text_sound : (w : Expected) (src : List ℕ) (i : ℕ) (x : List ℕ × ℕ) → IsUtf8 src → text_to w src i ≡ Ok x
     → AreChars src i (mark_from (expected_text w) src i) × (stands (expected_text w) src (mark_from (expected_text w) src i) ≡ true)
     × (x.0 ≡ slice src i (mark_from (expected_text w) src i)) × (x.1 ≡ mark_from (expected_text w) src i + length (expected_text w))
@@ -112,7 +112,7 @@ text_sound w src i x utf8 h =
     let at_end : t.1 ≡ e = c.2 in
     (c.0, rw at_end at s.0, sym (ap (λ p. p.0) (ok_same _ _ h)) ∙ c.1, sym (ap (λ p. p.1) (ok_same _ _ h)) ∙ rw at_end at s.1)))
 
--- Chars up to a mark, and the mark, that stand there are read
+-- Chars up to a mark, and the mark, that stand there are read.
 pub text_complete : (w : Expected) (src : List ℕ) (i e : ℕ) → e ≡ mark_from (expected_text w) src i → AreChars src i e → stands (expected_text w) src e ≡ true
     → text_to w src i ≡ Ok (slice src i e, e + length (expected_text w))
 unfolding text_to
@@ -121,7 +121,7 @@ text_complete w src i e is chars stands =
     let s = string_complete w src e stands in
     rw (← is, c, s) refl
 
--- a run goes forwards
+-- A run goes forwards.
 pub run_end_le : (p : ℕ → Bool) (src : List ℕ) (i : ℕ) → i ≤ run_end p src i
 unfolding run_end
 run_end_le p src i = omega arith

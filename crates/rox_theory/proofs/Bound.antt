@@ -8,6 +8,7 @@ use Rattle.std.specs.List.{list_any}
 use Rattle.rox_grammar.specs.Forest.{Forest, Nil, join}
 use Rattle.rox_grammar.specs.Written.{Item, Text, Attribute, Tag, leaf, merge}
 use Rattle.rox_grammar.specs.Names.{byte, slice, spaces_end}
+use Rattle.rox_grammar.specs.References.{entity_reference}
 use Rattle.rox_grammar.specs.Content.{Inclusion, line_ends, literals, is_verbatim, piece, value_bytes, last_part, then_entity, Value, value_ends, line_end, white, other, a_character, an_entity, Attributes, no_more, one_more, attribute, IsTag, IsElement, empty, nest, Content, ends, run, cdata, misc, node, start_tag}
 use Rattle.rox_grammar.specs.RunParts.{Parts}
 use Rattle.rox_grammar.specs.Entities.{Entity, included_in_main, most_deep}
@@ -36,7 +37,7 @@ amp_count (b ∷ bs) = if b == 38 then 1 + amp_count bs else amp_count bs
 amp_count_is : (bs : List ℕ) → amp_count bs ≡ count_by (λ b. b == 38) bs
 amp_count_is bs = is_count_by amp_count (λ b. b == 38) refl (λ b bs. refl) bs
 
--- how many `&` there are from a place on
+-- How many `&` there are from a place on.
 abbrev amps : List ℕ → ℕ → ℕ
 amps src i = amp_count (drop i src)
 
@@ -77,7 +78,7 @@ module _ (of : Forest Item → ℕ) (is_measure : Measure of) (O : Inclusion) (w
     (at_amp : (p : ℕ) → byte src p ≡ 38 → left (p + 1) + w ≤ left p)
     (content_most : (name : List ℕ) (b : ℕ) (items : Forest Item) (c : ℕ) → O.content name b items c → of items ≤ w)
     (value_most : (name : List ℕ) (b : ℕ) (v : List ℕ) (c : ℕ) → O.value name b v c → length v ≤ w) where
-  -- so much comes of what stands from i up to j
+  -- So much comes of what is from i up to j.
   abbrev Yields : ℕ → ℕ → ℕ → Type 0
   Yields x i j = (i ≤ j) × (x + i + left j ≤ j + left i)
 
@@ -87,7 +88,7 @@ module _ (of : Forest Item → ℕ) (is_measure : Measure of) (O : Inclusion) (w
       let q = piece_most of is_measure start stop (is_verbatim (slice src start stop)) ss in
       let d = down i stop (omega (arith, p)) in
       (omega (arith, p), omega (arith, p, q, d))
-  parts_yield start stop i b d items (then_entity _ p n j _ c _ ss front more part reference name opens rest) =
+  parts_yield start stop i b d items (then_entity _ p j _ c _ _ ss front more part (entity_reference n reference name) opens rest) =
       let h = part_bytes true src p i ss part in
       let q = piece_most of is_measure start stop false ss in
       let k = reference_onward src p n j reference in
@@ -111,7 +112,7 @@ module _ (of : Forest Item → ℕ) (is_measure : Measure of) (O : Inclusion) (w
       let l = length-append (value_bytes true z) w' in
       let d = down i n (omega (arith, k)) in
       (omega (arith, h.0, k), omega (arith, h.1, k, l, d))
-  value_yields j i b d v (an_entity _ n k _ c _ u w' is name within opens rest) =
+  value_yields j i b d v (an_entity _ k _ c _ _ u w' (entity_reference n is name) within opens rest) =
       let h = value_yields j k c d w' rest in
       let x = value_most _ b u c opens in
       let m = reference_onward src i n k is in
@@ -244,7 +245,7 @@ begins_onward src i s (doctype_begins n m x _ before name may) =
 -- ---- a document
 
 module _ (of : Forest Item → ℕ) (is_measure : Measure of) where
-  -- what a reference of the main text opens
+  -- What a reference of the main text opens.
   main_most : (es : List Entity) (name : List ℕ) (b : ℕ) (items : Forest Item) (c : ℕ) → (included_in_main es).content name b items c → of items ≤ 256 * longest es
   main_most es name b items c h =
       let x = few_opened es name b c items h in
@@ -259,7 +260,7 @@ module _ (of : Forest Item → ℕ) (is_measure : Measure of) where
       let z = times_more x.0 256 (longest es) x.2 in
       omega (arith, y, z)
 
-  -- an element of the main text
+  -- An element of the main text.
   element_bounded : (es : List Entity) (src : List ℕ) (i j b c : ℕ) (one : Forest Item) → IsElement true (included_in_main es) src i j b c one
       → of one + i ≤ j + amps src i * (256 * longest es)
   element_bounded es src i j b c one is =
@@ -269,7 +270,7 @@ module _ (of : Forest Item → ℕ) (is_measure : Measure of) where
       (main_most es) (main_value_most es) i j b c one is in
       omega (arith, h.1)
 
-  -- comments, processing instructions and white space
+  -- Comments, processing instructions and white space.
   all_misc : (src : List ℕ) (i j : ℕ) (items : Forest Item) → Misc src i j items → of items + i ≤ j
   all_misc src i j items (no_misc _) = let h = is_measure.none in omega (arith, h)
   all_misc src i j items (space _ _ _ here rest) = let h = all_misc src (i + 1) j items rest in omega (arith, h)
@@ -321,7 +322,7 @@ amps_all src i = let h = drop_fewer i src in let e = amp_count_is src in omega (
 turned : (n r : ℕ) → n * (256 * r) ≡ 256 * n * r
 turned n r = sym (mul_assoc n 256 r) ∙ ap (λ (x : ℕ). x * r) (mul_comm n 256)
 
--- a whole document
+-- A whole document.
 pub parse_bounded : (of : Forest Item → ℕ) → Measure of → (src : List ℕ) (dtd : Bool) (asked : List Asked) (tree : Forest Item) (p : ParseOf src dtd asked tree) → of tree ≤ most_bytes src p.entities
 parse_bounded of is_measure src dtd asked tree whole =
     let p = parts src dtd asked tree whole in

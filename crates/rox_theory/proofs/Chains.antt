@@ -15,13 +15,13 @@ use Rattle.rox_theory.proofs.Contents.{StepsAgree}
 use Rattle.rox_theory.proofs.Steps.{after}
 
 module _ (O : Inclusion) (src : List ℕ) where
-  -- the constructs from a state on, up to the end of the root element
+  -- The constructs from a state on, up to the end of the root element.
   pub data Drives : State → State → Type 0 where
     arrives : (s : State) → is_root s.stack ≡ true → Drives s s
     goes : (s t u : State) → is_root s.stack ≡ false → StepsOver true O src 0 s t → Drives t u → Drives s u
 
   mutual
-    -- content in front
+    -- Content in front.
     content_drives : (i l b c : ℕ) (items : Forest Item) → Content true O src i l b c items → (done : Forest Item) (stack : Open) (u : State)
         → is_root stack ≡ false → Drives (state l (join done items) stack c) u → Drives (state i done stack b) u
     content_drives i l b c items (ends _ _) done stack u inner rest = rw join-nil at rest
@@ -34,7 +34,7 @@ module _ (O : Inclusion) (src : List ℕ) where
     content_drives i l b d items (node _ j _ _ c _ one more is after) done stack u inner rest =
         element_drives i j b c one is done stack u inner (content_drives j l c d more after (join done one) stack u inner (rw (← join_assoc) at rest))
 
-    -- an element in front
+    -- An element in front.
     element_drives : (i j b c : ℕ) (one : Forest Item) → IsElement true O src i j b c one → (done : Forest Item) (stack : Open) (u : State)
         → is_root stack ≡ false → Drives (state j (join done one) stack c) u → Drives (state i done stack b) u
     element_drives i j b c one (empty _ _ _ _ t is) done stack u inner rest = goes _ _ u inner (takes_empty i j b c t done stack is) rest
@@ -42,7 +42,7 @@ module _ (O : Inclusion) (src : List ℕ) where
         goes _ _ u inner (takes_start i k b c t done stack is)
         (content_drives k m c d kids content Nil (inside i t done stack) u refl (goes _ _ u refl (takes_end m p j d i t kids done stack (omega arith) end) rest))
 
-  -- the root element: its tag, and what follows it
+  -- The root element: its tag, and what follows it.
   pub root_drives : (i j b c : ℕ) (one before : Forest Item) → IsElement true O src i j b c one
       → (k : ℕ) × (d : ℕ) × (tag : Tag) × (is_empty : Bool) × IsTag true O src i k b d is_empty tag × Drives (after (state i before root b) k tag is_empty d) (state j (join before one) root c)
   root_drives i j b c one before (empty _ _ _ _ t is) = (j, c, t, true, is, arrives (state j (join before one) root c) refl)
@@ -57,7 +57,7 @@ module _ (O : Inclusion) (src : List ℕ) where
   )
 
 module _ (limit : ℕ) (es : List Entity) (src : List ℕ) (steps : StepsAgree (main_text limit es) (included_in_main es) src) where
-  -- what is read is a chain
+  -- What is read is a chain.
   pub drive_sound : (n most : ℕ) (s u : State) → limit ≤ most → IsValidState most s → drive (main_text limit es) n src s ≡ Ok u → Drives (included_in_main es) src s u × IsValidState most u
   unfolding drive
   drive_sound zero most s u limits fine h =
@@ -73,12 +73,12 @@ module _ (limit : ℕ) (es : List Entity) (src : List ℕ) (steps : StepsAgree (
       (goes s t u inner one.0 rest.0, rest.1)))
       (λ past h. cc))
 
-  -- what the limits allow at the end they allow all along
+  -- What the limits allow at the end they allow all along.
   pub drives_back : (s u : State) → Drives (included_in_main es) src s u → IsValidState limit u → IsValidState limit s
   drives_back s u (arrives _ at_root) fine = fine
   drives_back s u (goes _ t _ inner takes rest) fine = steps.back s t takes (drives_back t u rest fine)
 
-  -- a chain is read
+  -- A chain is read.
   pub drive_complete : (n : ℕ) (s u : State) → Drives (included_in_main es) src s u → IsValidState limit u → length src ≤ s.at + n → drive (main_text limit es) n src s ≡ Ok u
   unfolding drive
   drive_complete zero s u (arrives _ at_root) fine enough = rw at_root refl

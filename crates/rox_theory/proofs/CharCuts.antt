@@ -23,7 +23,7 @@ use Rattle.rox_theory.proofs.StretchLemmas.{slice_length, slice_cons}
 use Rattle.rox_theory.proofs.ReferenceLemmas.{bytes_pass, reference_opens}
 use Rattle.rox_theory.proofs.CharTexts.{IsCharText, no_text, texts_joined, byte_text, chars_between, chars_within, cut_behind, run_of_chars}
 
--- if each passes, as many bytes pass as there are
+-- If each passes, as many bytes pass as there are.
 all_passing : (p : ℕ → Bool) (cs : List ℕ) → list_all p cs ≡ true → passing p cs ≡ length (encodes cs)
 all_passing p [] h = refl
 all_passing p (c ∷ cs) h =
@@ -31,7 +31,7 @@ all_passing p (c ∷ cs) h =
     let here = both.0 in
     rw here (omega (arith, length-append (encode_utf8 c) (encodes cs), length-encode c, all_passing p cs both.1))
 
--- a stretch that is a text of Chars
+-- A stretch that is a text of Chars.
 pub text_chars : (src : List ℕ) (i j : ℕ) → i ≤ j → j ≤ length src → IsCharText (slice src i j) → AreChars src i j
 unfolding run_end
 text_chars src i j le inside text =
@@ -42,14 +42,14 @@ text_chars src i j le inside text =
     let spelled = ap length (encodes-chars (slice src i j) text.utf8) in
     rw front (omega arith)
 
--- a slice in two parts
+-- A slice in two parts.
 pub slice_parts : (src : List ℕ) (a b c : ℕ) → a ≤ b → b ≤ c → c ≤ length src → slice src a c ≡ slice src a b ++ slice src b c
 slice_parts src a b c le le' inside =
     let long = slice_length src a b le (omega arith) in
     let e : c - a ≡ length (slice src a b) + (c - b) = omega arith in
     ap (take (c - a)) (drop_split src a b le) ∙ ap (λ (n : ℕ). take n (slice src a b ++ drop b src)) e ∙ take-append-add (slice src a b) (drop b src) (c - b)
 
--- two stretches in a row are one
+-- Two stretches in a row are one.
 pub stretches_joined : (src : List ℕ) (i j k : ℕ) → i ≤ j → j ≤ k → k ≤ length src → IsCharText (slice src i j) → IsCharText (slice src j k) → IsCharText (slice src i k)
 stretches_joined src i j k le le' inside a b = subst (λ (v : List ℕ). IsCharText v) (sym (slice_parts src i j k le le' inside)) (texts_joined (slice src i j) (slice src j k) a b)
 
@@ -57,18 +57,18 @@ pub chars_joined : (src : List ℕ) (i j k : ℕ) → IsUtf8 src → IsCharBound
 chars_joined src i j k utf8 a b c le le' f g =
     text_chars src i k (omega arith) c.0 (stretches_joined src i j k le le' c.0 (chars_between src i j utf8 a b f) (chars_between src j k utf8 b c g))
 
--- and of one that is longer
+-- And of one that is longer.
 pub chars_part : (src : List ℕ) (from to i j : ℕ) → IsUtf8 src → IsCharBoundary src from → IsCharBoundary src to → AreChars src from to
     → from ≤ i → i ≤ j → j ≤ to → IsCharBoundary src i → IsCharBoundary src j → AreChars src i j
 chars_part src from to i j utf8 first last are le le' le'' a b = text_chars src i j le' b.0 (chars_within src from to i j utf8 first last are le le' le'' a b)
 
--- one byte
+-- One byte.
 pub byte_chars : (src : List ℕ) (i : ℕ) → i < length src → byte src i < 128 → is_char (byte src i) ≡ true → IsCharText (slice src i (i + 1))
 byte_chars src i here low allowed =
     let e : slice src i (i + 1) ≡ byte src i ∷ [] = slice_cons src i (i + 1) (omega arith) (omega arith) ∙ ap (λ (r : List ℕ). byte src i ∷ r) (slice_nil src (i + 1)) in
     subst (λ (v : List ℕ). IsCharText v) (sym e) (byte_text (byte src i) low allowed)
 
--- some bytes, each of them ASCII
+-- Some bytes, each of them ASCII.
 pub bytes_chars : (src : List ℕ) (d i j : ℕ) → i + d ≡ j → j ≤ length src → ((k : ℕ) → i ≤ k → k < j → (byte src k < 128) × (is_char (byte src k) ≡ true)) → IsCharText (slice src i j)
 bytes_chars src zero i j to inside each = let e : j ≡ i = omega arith in rw (e, slice_nil src i) no_text
 bytes_chars src (suc d) i j to inside each =
@@ -77,16 +77,16 @@ bytes_chars src (suc d) i j to inside each =
 
 -- ---- single characters
 
--- from 32 on all but two numbers are Chars
+-- From 32 on all but two numbers are Chars.
 allowed : (c : ℕ) → 32 ≤ c → (c < 0xFFFE) ⊎ (0xFFFF < c) → is_char c ≡ true
 allowed c some (inl low) = or_right ((c == 9 || c == 10) || c == 13) _ (and_from (leb 32 c) _ (le-leb 32 c some) (not_from_false _ (and_left (leb 0xFFFE c) (leb c 0xFFFF) (lt-leb 0xFFFE c low))))
 allowed c some (inr high) = or_right ((c == 9 || c == 10) || c == 13) _ (and_from (leb 32 c) _ (le-leb 32 c some) (not_from_false _ (and_right (leb 0xFFFE c) (leb c 0xFFFF) (lt-leb c 0xFFFF high))))
 
--- a range of such numbers
+-- A range of such numbers.
 fine_range : ℕ × ℕ → Bool
 fine_range r = leb 32 r.0 && (ltb r.1 0xFFFE || ltb 0xFFFF r.0)
 
--- what is in one of them is a Char
+-- What is in one of them is a Char.
 in_ranges : (c : ℕ) (rs : List (ℕ × ℕ)) → list_all fine_range rs ≡ true → list_any (λ r. is_between r.0 r.1 c) rs ≡ true → is_char c ≡ true
 unfolding fine_range
 in_ranges c [] all h = cc h
@@ -106,7 +106,7 @@ in_ranges c (r ∷ rs) all h =
       | inr later ↦ in_ranges c rs both.1 later
     ]
 
--- each character of a name is a Char
+-- Each character of a name is a Char.
 pub name_char : (c : ℕ) → is_name_char c ≡ true → is_char c ≡ true
 unfolding is_name_char is_name_start fine_range
 name_char c h = elim (or_cases (is_name_start c) (list_any (λ r. is_between r.0 r.1 c) name_more_ranges) h) as (λ s. is_char c ≡ true) [
@@ -116,7 +116,7 @@ name_char c h = elim (or_cases (is_name_start c) (list_any (λ r. is_between r.0
 
 -- ---- references
 
--- an ASCII character but the first 32 is a Char
+-- An ASCII character but the first 32 is a Char.
 pub printable : (b : ℕ) → 32 ≤ b → b < 128 → is_char b ≡ true
 printable b some low = allowed b some (inl (omega arith))
 
@@ -126,13 +126,13 @@ hex_range b h = grind (arith, nat_tests)
 digit_range : (b : ℕ) → is_digit b ≡ true → (32 ≤ b) × (b < 128)
 digit_range b h = grind (arith, nat_tests)
 
--- a byte of known value
+-- A byte of known value.
 known : (src : List ℕ) (i b : ℕ) → byte src i ≡ b → 32 ≤ b → b < 128 → IsCharText (slice src i (i + 1)) × (i < length src)
 known src i b is some low =
     let here = within src i (λ z. omega arith) in
     (byte_chars src i here (omega arith) (printable (byte src i) (omega arith) (omega arith)), here)
 
--- digits and `;`
+-- Digits and `;`.
 number_text : (base : ℕ) (is : ℕ → Bool) (src : List ℕ) (d c j : ℕ) → ((b : ℕ) → is b ≡ true → (32 ≤ b) × (b < 128)) → IsNumber base is src d c j → IsCharText (slice src d j) × (d ≤ j) × (j ≤ length src)
 number_text base is src d c j fine m =
     let e = (number_parts m).e in
@@ -141,7 +141,7 @@ number_text base is src d c j fine m =
     let digits = bytes_chars src (e - d) d e (omega arith) (omega (arith, last.1)) (λ k from below. let r = fine (byte src k) (bytes_pass is src d k from (omega arith)) in (r.1, printable (byte src k) r.0 r.1)) in
     (rw next (stretches_joined src d e (e + 1) (omega arith) (omega arith) (omega (arith, last.1)) digits last.0), omega arith, omega (arith, last.1))
 
--- one to a name
+-- One to a name.
 pub reference_text : (src : List ℕ) (i n j : ℕ) → IsUtf8 src → IsReference src i n j → IsCharText (slice src i j) × IsCharBoundary src j
 reference_text src i n j utf8 r =
     let next = (reference_parts r).next in let l = (reference_parts r).name.longest in
@@ -153,7 +153,7 @@ reference_text src i n j utf8 r =
     let front = stretches_joined src i (i + 1) n (omega arith) (omega arith) (omega (arith, last.1)) first.0 name in
     (rw next (stretches_joined src i n (n + 1) (omega arith) (omega arith) (omega (arith, last.1)) front last.0), cut_behind src n 59 j utf8 (reference_parts r).closes (omega arith) (omega arith) next)
 
--- one to a character
+-- One to a character.
 pub character_text : (src : List ℕ) (i c j : ℕ) → IsUtf8 src → IsCharacter src i c j → IsCharText (slice src i j) × IsCharBoundary src j
 character_text src i c j utf8 (decimal opens m) =
     let bytes = hash_bytes src i opens in let amp = bytes.0 in let hash = bytes.1 in

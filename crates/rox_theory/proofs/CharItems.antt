@@ -37,22 +37,22 @@ use Rattle.rox_grammar.specs.Content.{attribute}
 
 -- ---- names
 
--- a part of a name is a text of Chars, and a character begins behind it
+-- A part of a name is a text of Chars, and a character begins after it.
 name_part : (src : List ℕ) (i j : ℕ) → IsUtf8 src → IsCharBoundary src i → IsNCName src i j → IsCharText (slice src i j) × IsCharBoundary src j
 name_part src i j utf8 cut n =
     subst (λ (m : ℕ). IsCharText (slice src i m) × IsCharBoundary src m) (sym (ncname_parts n).longest) (run_of_chars is_part_char src i utf8 cut part_char, run_cut is_part_char src i utf8 cut)
 
--- behind a colon too
+-- After a colon too.
 part_behind : (src : List ℕ) (k j : ℕ) → IsUtf8 src → byte src k ≡ 58 → IsNCName src (k + 1) j → IsCharText (slice src (k + 1) j) × IsCharBoundary src j
 part_behind src k j utf8 colon n = name_part src (k + 1) j utf8 (cut_behind src k 58 (k + 1) utf8 colon (omega arith) (omega arith) refl) n
 
--- so is a local name
+-- So is a local name.
 local_name : (src : List ℕ) (i : ℕ) (name : Name) (j : ℕ) → IsUtf8 src → IsCharBoundary src i → IsQName src i name j → IsCharText name.local × IsCharBoundary src j
 local_name src i name j utf8 cut (unprefixed _ _ n last) = name_part src i j utf8 cut n
 local_name src i name j utf8 cut (prefixed _ k _ n colon m last) = part_behind src k j utf8 colon m
 local_name src i name j utf8 cut (colon_first _ _ colon m last) = part_behind src i j utf8 colon m
 
--- a declaration is an attribute as written
+-- A declaration is an attribute as written.
 declared_text : (a : Attribute) → WrittenChars a → NamespaceDeclChars (namespace_decl_of a)
 declared_text a h =
     record {
@@ -62,7 +62,7 @@ declared_text a h =
 
 -- ---- items
 
--- with a text in front
+-- With a text in front.
 items_glued : (a e : ℕ) (v : List ℕ) (b : Bool) (c f : Forest Item) → IsCharText v → ItemsChars c → ItemsChars f → ItemsChars (glue (Text a e v b) c f)
 items_glued a e v b c Nil one below h = (one, below, tt)
 items_glued a e v b c (Cons (Text x y w p) d r) one below h = (texts_joined v w one h.0, items_joined c d below h.1, h.2)
@@ -70,7 +70,7 @@ items_glued a e v b c (Cons (Element x y t) d r) one below h = (one, below, h)
 items_glued a e v b c (Cons (Comment x y t) d r) one below h = (one, below, h)
 items_glued a e v b c (Cons (PI x y t o) d r) one below h = (one, below, h)
 
--- with its texts merged
+-- With its texts merged.
 items_merged : (f : Forest Item) → ItemsChars f → ItemsChars (merge f)
 items_merged Nil h = tt
 items_merged (Cons (Text a e v b) c r) h = items_glued a e v b c (merge r) h.0 h.1 (items_merged r h.2)
@@ -78,9 +78,9 @@ items_merged (Cons (Element a e t) c r) h = (h.0, h.1, items_merged r h.2)
 items_merged (Cons (Comment a e t) c r) h = (h.0, h.1, items_merged r h.2)
 items_merged (Cons (PI a e t o) c r) h = (h.0, h.1, items_merged r h.2)
 
--- ---- what stands in one place
+-- ---- what is in one place
 
--- where a run stops, a character begins
+-- Where a run stops, a character begins.
 stop_cut : (src : List ℕ) (i : ℕ) → IsCharBoundary src i → IsCharBoundary src (byte_from (λ c. c == 60) src i)
 stop_cut src i cut =
     let stop = byte_from (λ c. c == 60) src i in
@@ -90,7 +90,7 @@ stop_cut src i cut =
       | inr g ↦ (let e : length src ≡ stop = omega arith in subst (λ (m : ℕ). IsCharBoundary src m) e (IsCharBoundary-end src))
     ]
 
--- the text of a comment
+-- The text of a comment.
 comment_text : (src : List ℕ) (i e j : ℕ) → IsUtf8 src → IsComment src i e j → IsCharText (slice src (i + 4) e)
 comment_text src i e j utf8 is =
     let first = cut_behind src (i + 3) 45 (i + 4) utf8 (stands_reads (word_text word.CommentStart) src i 3 (comment_parts is).opens (omega arith)) (omega arith) (omega arith) (omega arith) in
@@ -102,7 +102,7 @@ sign_nil : (ss : List DataByte) → ss ++ [] ≡ ss
 sign_nil [] = refl
 sign_nil (s ∷ ss) = ap (λ (r : List DataByte). s ∷ r) (sign_nil ss)
 
--- that of a CDATA section
+-- That of a CDATA section.
 section_text : (src : List ℕ) (i e j : ℕ) → IsUtf8 src → IsCData src i e j → IsCharText (line_ends (literals (slice src (i + 9) e)))
 section_text src i e j utf8 is =
     let first = cut_behind src (i + 8) 91 (i + 9) utf8 (stands_reads (word_text word.CDataStart) src i 8 (cdata_parts is).opens (omega arith)) (omega arith) (omega arith) (omega arith) in
@@ -111,12 +111,12 @@ section_text src i e j utf8 is =
     subst (λ (ss : List DataByte). IsCharText (line_ends ss)) (sign_nil (literals (slice src (i + 9) e)))
     (text_front false (slice src (i + 9) e) [] (chars_between src (i + 9) e utf8 first last (cdata_parts is).chars) no_signs)
 
--- if it has a character
+-- If it has a character.
 if_some : (v : List ℕ) → IsCharText v → IfSome (none_if_empty v) IsCharText
 if_some [] h = tt
 if_some (b ∷ bs) h = h
 
--- the target and the value of a processing instruction
+-- The target and the value of a processing instruction.
 instruction_text : (src : List ℕ) (i n e j : ℕ) → IsUtf8 src → IsPI src i n e j → IsCharText (slice src (i + 2) n) × IfSome (none_if_empty (slice src (spaces_end src n) e)) IsCharText
 instruction_text src i n e j utf8 is =
     let first = cut_behind src (i + 1) 63 (i + 2) utf8 (stands_reads (word_text word.PIStart) src i 1 (pi_parts is).opens (omega arith)) (omega arith) (omega arith) (omega arith) in
@@ -126,19 +126,19 @@ instruction_text src i n e j utf8 is =
     (run_of_chars is_name_char src (i + 2) utf8 first name_char, run_cut is_name_char src (i + 2) utf8 first) in
     (target, if_some _ (chars_between src (spaces_end src n) e utf8 (run_cut is_space src n utf8 behind) last (pi_parts is).chars))
 
--- comments and processing instructions
+-- Comments and processing instructions.
 misc_item : (src : List ℕ) (i j : ℕ) (item : Item) → IsUtf8 src → IsMisc src i j item → ItemChars item
 misc_item src i j item utf8 (comment _ e _ is) = comment_text src i e j utf8 is
 misc_item src i j item utf8 (instruction _ n e _ is) = instruction_text src i n e j utf8 is
 
--- a character begins behind a comment and an instruction
+-- A character begins after a comment and an instruction.
 misc_cut : (src : List ℕ) (i j : ℕ) (item : Item) → IsUtf8 src → IsMisc src i j item → IsCharBoundary src j
 misc_cut src i j item utf8 (comment _ e _ is) =
     cut_behind src (e + 2) 62 j utf8 (stands_reads (word_text word.CommentEnd) src e 2 (comment_parts is).closes (omega arith)) (omega arith) (omega arith) (omega (arith, (comment_parts is).next))
 misc_cut src i j item utf8 (instruction _ n e _ is) =
     cut_behind src (e + 1) 62 j utf8 (stands_reads (word_text word.PIEnd) src e 1 (pi_parts is).closes (omega arith)) (omega arith) (omega arith) (omega (arith, (pi_parts is).next))
 
--- and behind a tag
+-- And after a tag.
 tag_cut : (src : List ℕ) (i j : ℕ) (is_empty : Bool) → IsUtf8 src → TagEnds src i is_empty j → IsCharBoundary src j
 tag_cut src i j is_empty utf8 (opened _ close) = cut_behind src (spaces_end src i) 62 j utf8 close (omega arith) (omega arith) refl
 tag_cut src i j is_empty utf8 (closed _ slash close) = cut_behind src (spaces_end src i + 1) 62 j utf8 close (omega arith) (omega arith) (omega arith)
@@ -146,7 +146,7 @@ tag_cut src i j is_empty utf8 (closed _ slash close) = cut_behind src (spaces_en
 -- ---- tags, elements and content, over what is opened
 
 module _ (main : Bool) (O : Inclusion) (opens : OpensChars O) (src : List ℕ) (utf8 : IsUtf8 src) where
-  -- an attribute that stands behind a place where a character begins ends at another one
+  -- An attribute that is after a place where a character begins ends at another one.
   attribute_text : (i j b c : ℕ) (a : Attribute) → IsCharBoundary src i → IsAttribute main O src i j b c a → WrittenChars a × IsCharBoundary src j
   attribute_text i j b c a cut (attribute n v stop name value (is_name, eq, literal) read) =
       let low = quote_ascii (byte src v) literal.0.0 in
@@ -157,14 +157,14 @@ module _ (main : Bool) (O : Inclusion) (opens : OpensChars O) (src : List ℕ) (
         cut_behind src stop (byte src v) j utf8 same low.0 (omega arith) literal.0.3,
       )
 
-  -- attributes in a row
+  -- Attributes in a row.
   attributes_text : (i j b c : ℕ) (as' : List Attribute) → IsCharBoundary src i → Attributes main O src i j b c as' → All WrittenChars as'
   attributes_text i j b c as' cut (no_more _ _) = All-nil WrittenChars
   attributes_text i j b c as' cut (one_more _ k _ _ d _ a rest some is more) =
       let one = attribute_text (spaces_end src i) k b d a (run_cut is_space src i utf8 cut) is in
       All-cons WrittenChars a rest one.0 (attributes_text k j d c rest one.1 more)
 
-  -- the tag that stands there
+  -- The tag that is there.
   tag_text : (i j b c : ℕ) (is_empty : Bool) (t : Tag) → IsTag main O src i j b c is_empty t → TagChars t
   tag_text i j b c is_empty _ (start_tag n last name written begin is_name list end) =
       let cut = cut_behind src i 60 (i + 1) utf8 begin (omega arith) (omega arith) refl in
@@ -178,7 +178,7 @@ module _ (main : Bool) (O : Inclusion) (opens : OpensChars O) (src : List ℕ) (
       }
 
   mutual
-    -- content, from where a character begins
+    -- Content, from where a character begins.
     pub content_items : (i j b c : ℕ) (items : Forest Item) → IsCharBoundary src i → Content main O src i j b c items → ItemsChars items
     content_items i j b c items cut (ends _ _) = tt
     content_items i j b c items cut (run _ k _ _ d _ front more is parts inner) =
@@ -192,7 +192,7 @@ module _ (main : Bool) (O : Inclusion) (opens : OpensChars O) (src : List ℕ) (
     content_items i j b c items cut (node _ k _ _ d _ one more is inner) =
         items_joined one more (element_items i k b d one is) (content_items k j d c more (ends_cut src k utf8 (element_ends main O src i k b d one is)) inner)
 
-    -- an element
+    -- An element.
     pub element_items : (i j b c : ℕ) (one : Forest Item) → IsElement main O src i j b c one → ItemsChars one
     element_items i j b c one (empty _ _ _ _ t tag) = (tag_text i j b c true t tag, tt, tt)
     element_items i j b c one (nest _ k m p _ _ d _ t kids tag inner end) =
@@ -213,7 +213,7 @@ opens_chars es texts (suc d) main =
           value_chars t.source text.0 t.start (length t.source) text.1 (IsCharBoundary-end t.source) chars false (Includes es d false) inner r l v is;
     }
 
--- ---- what stands around the root element
+-- ---- what is around the root element
 
 misc_items : (src : List ℕ) (i j : ℕ) (items : Forest Item) → IsUtf8 src → Misc src i j items → ItemsChars items
 misc_items src i j items utf8 (no_misc _) = tt
@@ -236,7 +236,7 @@ doctype_items src i j dtd items asked es utf8 (no_doctype _) = tt
 doctype_items src i j dtd items asked es utf8 (doctype _ k _ front more _ _ is rest) =
     items_joined front more (doctype_itself src i k front asked es utf8 is) (misc_items src k j more utf8 rest)
 
--- a document
+-- A document.
 pub parse_items : (src : List ℕ) (dtd : Bool) (asked : List Asked) (tree : Forest Item) → IsUtf8 src → ParseOf src dtd asked tree → ItemsChars tree
 parse_items src dtd asked tree utf8 whole =
     let p = parts src dtd asked tree whole in

@@ -14,7 +14,7 @@ use Rattle.rox_grammar.specs.Forest.{Forest, Nil, Cons, join}
 use Rattle.rox_grammar.specs.Written.{Item}
 use Rattle.rox_grammar.specs.Names.{byte, slice}
 use Rattle.rox_grammar.specs.Constructs.{AreChars}
-use Rattle.rox_grammar.specs.References.{number, character, predefined, IsNumber, IsCharacter, decimal, hexadecimal, named}
+use Rattle.rox_grammar.specs.References.{number, character, predefined, IsNumber, IsCharacter, decimal, hexadecimal, named, entity_reference}
 use Rattle.rox_grammar.specs.Runs.{first_passes}
 use Rattle.rox_grammar.specs.Content.{is_literal, Inclusion, DataByte, literal, data_bytes_of, literals, line_ends, piece, Part, part_ends, as_written, from_reference, last_part, then_entity, value_bytes, Value, value_ends, line_end, white, other, a_character, an_entity}
 use Rattle.rox_grammar.specs.RunParts.{Parts}
@@ -28,18 +28,18 @@ use Rattle.rox_theory.proofs.CharTexts.{no_text, texts_joined, char_text, byte_t
 use Rattle.rox_theory.proofs.CharCuts.{slice_parts, name_char}
 use Rattle.rox_theory.proofs.Onward.{part_bytes, reference_onward}
 
--- each character of a part of a name is a Char
+-- Each character of a part of a name is a Char.
 pub part_char : (c : ℕ) → is_part_char c ≡ true → is_char c ≡ true
 unfolding is_part_char
 part_char c h = name_char c (and_parts (is_name_char c) _ h).0
 
 -- ---- references
 
--- a character that is a Char
+-- A character that is a Char.
 abbrev IsAllowed : ℕ → Type 0
 IsAllowed c = (scalar c ≡ true) × (is_char c ≡ true)
 
--- no number stands for a surrogate, or for none
+-- No number stands for a surrogate, or for none.
 number_scalar : (n : ℕ) → scalar (character n) ≡ true
 number_scalar n =
     cond_both (ltb n 0xD800 || is_between 0xE000 0x10FFFF n) n 0xFFFD (λ (c : ℕ). scalar c ≡ true)
@@ -54,17 +54,17 @@ number_scalar n =
     ])
     (λ other. refl)
 
--- a character begins behind a reference, and its character is a Char
+-- A character begins after a reference, and its character is a Char.
 abbrev pub Referenced : List ℕ → ℕ → ℕ → Type 0
 Referenced src c j = IsAllowed c × IsCharBoundary src j
 
--- a number
+-- A number.
 of_number : (base : ℕ) (is : ℕ → Bool) (src : List ℕ) (d c j : ℕ) → IsUtf8 src → IsNumber base is src d c j → Referenced src c j
 of_number base is src d c j utf8 m =
     let e = (number_parts m).e in
     ((rw (number_parts m).is_character (number_scalar (number base (slice src d e))), (number_parts m).allowed), cut_behind src e 59 j utf8 (number_parts m).closes (omega arith) (omega arith) (number_parts m).next)
 
--- one of the five names
+-- One of the five names.
 of_name : (name : List ℕ) (c : ℕ) → predefined name ≡ Some c → IsAllowed c
 of_name name c h =
     let one : (b : ℕ) → IsAllowed b → ◌≡◌ {A = Option ℕ} (Some b) (Some c) → IsAllowed c = λ b fine e. (let same : b ≡ c = cc in subst (λ (x : ℕ). IsAllowed x) same fine) in
@@ -75,7 +75,7 @@ of_name name c h =
     (λ no h. chosen (bytes_eq name (97 ∷ 112 ∷ 111 ∷ 115 ∷ [])) _ _ _ h (λ is e. one 39 (refl, refl) e)
     (λ no h. cc)))))
 
--- a reference to a character
+-- A reference to a character.
 pub referenced : (src : List ℕ) (i c j : ℕ) → IsUtf8 src → IsCharacter src i c j → Referenced src c j
 referenced src i c j utf8 (decimal opens m) = of_number 10 _ src (i + 2) c j utf8 m
 referenced src i c j utf8 (hexadecimal opens m) = of_number 16 _ src (i + 3) c j utf8 m
@@ -83,7 +83,7 @@ referenced src i c j utf8 (named n r is) = (of_name (slice src (i + 1) n) c is, 
 
 -- ---- signs
 
--- what is read of them is a text of Chars
+-- What is read of them is a text of Chars.
 abbrev pub SignChars : List DataByte → Type 0
 SignChars ss = IsCharText (line_ends ss)
 
@@ -94,20 +94,20 @@ literals_append : (v w : List ℕ) (ss : List DataByte) → literals (v ++ w) ++
 literals_append [] w ss = refl
 literals_append (b ∷ v) w ss = ap (λ (r : List DataByte). literal b ∷ r) (literals_append v w ss)
 
--- no byte of a character but CR is one
+-- No byte of a character but CR is one.
 no_return : (c k : ℕ) → c ≢ 13 → k < length (encode_utf8 c) → get_or (encode_utf8 c) k 0 ≢ 13
 no_return c k no_cr below =
     let same : get_or (encode_utf8 c) k 0 < 128 → c ≡ get_or (encode_utf8 c) k 0 = inside_one c [] (encode_utf8 c) k (sym (append-nil (encode_utf8 c))) below in
     λ cr. no_cr (same (omega arith) ∙ cr)
 
--- bytes but CR stand for themselves
+-- Bytes but CR need no replacement.
 bytes_stay : (bs : List ℕ) (ss : List DataByte) → ((k : ℕ) → k < length bs → get_or bs k 0 ≢ 13) → line_ends (literals bs ++ ss) ≡ bs ++ line_ends ss
 bytes_stay [] ss none = refl
 bytes_stay (b ∷ bs) ss none =
     let cr = ne_eqb b 13 (none 0 (omega arith)) in
     rw cr (ap (λ (r : List ℕ). b ∷ r) (bytes_stay bs ss (λ k below. none (suc k) (omega arith))))
 
--- characters in front
+-- Characters in front.
 chars_front : (cs : List ℕ) (ss : List DataByte) → scalars cs ≡ true → list_all is_char cs ≡ true → SignChars ss → SignChars (literals (encodes cs) ++ ss)
 chars_front [] ss s h rest = rest
 chars_front (c ∷ cs) ss s h rest =
@@ -126,30 +126,30 @@ chars_front (c ∷ cs) ss s h rest =
           rw stay (texts_joined (encode_utf8 c) (line_ends all) (char_text c s'.0 h'.0) more))
     ])
 
--- what was kept stays
+-- What was kept stays.
 kept_stay : (bs : List ℕ) (ss : List DataByte) → line_ends (data_bytes_of true bs ++ ss) ≡ bs ++ line_ends ss
 kept_stay [] ss = refl
 kept_stay (b ∷ bs) ss = ap (λ (r : List ℕ). b ∷ r) (kept_stay bs ss)
 
--- a text in front, literal or kept
+-- A text in front, literal or kept.
 pub text_front : (main : Bool) (v : List ℕ) (ss : List DataByte) → IsCharText v → SignChars ss → SignChars (data_bytes_of main v ++ ss)
 text_front false v ss h rest =
     subst (λ (w : List ℕ). SignChars (literals w ++ ss)) (encodes-chars v h.utf8) (chars_front (chars v) ss (scalars-chars v h.utf8) h.all rest)
 text_front true v ss h rest = subst (λ (w : List ℕ). IsCharText w) (sym (kept_stay v ss)) (texts_joined v (line_ends ss) h rest)
 
--- the text of a part
+-- The text of a part.
 pub piece_items : (i j : ℕ) (borrowed : Bool) (ss : List DataByte) → SignChars ss → ItemsChars (piece i j borrowed ss)
 piece_items i j borrowed [] h = tt
 piece_items i j borrowed (s ∷ ss) h = (h, tt, tt)
 
 -- ---- items
 
--- of two rows together
+-- Of two rows together.
 pub items_joined : (f g : Forest Item) → ItemsChars f → ItemsChars g → ItemsChars (join f g)
 items_joined Nil g h k = k
 items_joined (Cons item c r) g h k = (h.0, h.1, items_joined r g h.2 k)
 
--- what a reference opens are texts of Chars
+-- What a reference opens are texts of Chars.
 pub record OpensChars (O : Inclusion) : Type 0 where
   pub content : (name : List ℕ) (b : ℕ) (items : Forest Item) (c : ℕ) → O.content name b items c → ItemsChars items
   pub value : (name : List ℕ) (b : ℕ) (v : List ℕ) (c : ℕ) → O.value name b v c → IsCharText v
@@ -157,17 +157,17 @@ pub record OpensChars (O : Inclusion) : Type 0 where
 -- ---- runs and values
 
 module _ (src : List ℕ) (utf8 : IsUtf8 src) (start stop : ℕ) (first : IsCharBoundary src start) (last : IsCharBoundary src stop) (are : AreChars src start stop) where
-  -- what stands between two places
+  -- What is between two places.
   stretch : (k i : ℕ) → start ≤ k → k ≤ i → i ≤ stop → IsCharBoundary src k → IsCharBoundary src i → IsCharText (slice src k i)
   stretch k i = chars_within src start stop k i utf8 first last are
 
-  -- one byte more
+  -- One byte more.
   grown : (k i : ℕ) → k ≤ i → i < stop → slice src k (i + 1) ≡ slice src k i ++ (byte src i ∷ [])
   grown k i on within =
       slice_parts src k i (i + 1) on (omega arith) (omega (arith, last.0))
       ∙ ap (λ (r : List ℕ). slice src k i ++ r) (slice_cons src i (i + 1) (omega arith) (omega (arith, last.0)) ∙ ap (λ (r : List ℕ). byte src i ∷ r) (slice_nil src (i + 1)))
 
-  -- the signs of a part, with what stands in front of it
+  -- The signs of a part, with what is in front of it.
   part_signs : (main : Bool) (p i : ℕ) (ss : List DataByte) → Part main src p i ss → IsCharBoundary src p → p ≤ stop → (k : ℕ) → start ≤ k → k ≤ i → IsCharBoundary src k → SignChars (literals (slice src k i) ++ ss)
   part_signs main p i ss part_ends cut le k from on front = text_front false (slice src k p) [] (stretch k p from on le front cut) no_signs
   part_signs main p i ss (as_written _ more within no_amp rest) cut le k from on front =
@@ -183,12 +183,12 @@ module _ (src : List ℕ) (utf8 : IsUtf8 src) (start stop : ℕ) (first : IsChar
       text_front false (slice src k i) (data_bytes_of main (encode_utf8 c) ++ more) (stretch k i from on (omega (arith, opens.1)) front (cut_at src i 38 amp (omega arith) (omega arith)))
       (text_front main (encode_utf8 c) more (char_text c r.0.0 r.0.1) behind)
 
-  -- from where a character begins
+  -- From where a character begins.
   part_chars : (main : Bool) (p i : ℕ) (ss : List DataByte) → Part main src p i ss → IsCharBoundary src p → p ≤ stop → start ≤ i → IsCharBoundary src i → SignChars ss
   part_chars main p i ss part cut le from front =
       subst (λ (v : List ℕ). SignChars (literals v ++ ss)) (slice_nil src i) (part_signs main p i ss part cut le i from (omega arith) front)
 
-  -- a value, with what stands in front of it
+  -- A value, with what is in front of it.
   value_front : (main : Bool) (O : Inclusion) → OpensChars O → (i b c : ℕ) (v : List ℕ) → Value main O src stop i b c v → (k : ℕ) → start ≤ k → k ≤ i → IsCharBoundary src k → IsCharText (slice src k i ++ v)
   value_front main O oc i b c v (value_ends _) k from on front = subst (λ (w : List ℕ). IsCharText w) (sym (append-nil (slice src k stop))) (stretch k stop from on (omega arith) front last)
   value_front main O oc i b c v (line_end _ _ _ _ more cr lf rest) k from on front =
@@ -198,7 +198,7 @@ module _ (src : List ℕ) (utf8 : IsUtf8 src) (start stop : ℕ) (first : IsChar
       (subst (λ (w : List ℕ). IsCharText (w ++ v)) (slice_nil src (i + 1)) later)
   value_front main O oc i b c v (white _ _ _ w more is rest) k from on front = white_front (λ next. value_front main O oc (i + 1) b c w rest (i + 1) (omega arith) (omega arith) next) is
     where
-      -- white space that is this byte
+      -- White space that is this byte.
       white_at : (IsCharBoundary src (i + 1) → IsCharText (slice src (i + 1) (i + 1) ++ w)) → (z : ℕ) → byte src i ≡ z → 0 < z → z < 128 → IsCharText (slice src k i ++ (32 ∷ w))
       white_at later z here some low =
           let next = cut_behind src i z (i + 1) utf8 here some low refl in
@@ -223,7 +223,7 @@ module _ (src : List ℕ) (utf8 : IsUtf8 src) (start stop : ℕ) (first : IsChar
       given : (main : Bool) → IsCharText (encode_utf8 x) → IsCharText (value_bytes main x)
       given true h = h
       given false h = cond_both (x == 9 || (x == 10 || x == 13)) (32 ∷ []) (encode_utf8 x) (λ (v : List ℕ). IsCharText v) (λ space. byte_text 32 (omega arith) refl) (λ none. h)
-  value_front main O oc i b d v (an_entity _ n m _ c _ u w is name within opened rest) k from on front =
+  value_front main O oc i b d v (an_entity _ m _ c _ _ u w (entity_reference n is name) within opened rest) k from on front =
       let opens = reference_opens src i n m is in
       let amp = (reference_parts is).opens in
       let next = cut_behind src n 59 m utf8 (reference_parts is).closes (omega arith) (omega arith) (reference_parts is).next in
@@ -231,24 +231,24 @@ module _ (src : List ℕ) (utf8 : IsUtf8 src) (start stop : ℕ) (first : IsChar
       texts_joined (slice src k i) (u ++ w) (stretch k i from on (omega (arith, opens.2)) front (cut_at src i 38 amp (omega arith) (omega arith)))
       (texts_joined u w (oc.value _ b u c opened) (subst (λ (v : List ℕ). IsCharText (v ++ w)) (slice_nil src m) later))
 
-  -- from where a character begins
+  -- From where a character begins.
   pub value_chars : (main : Bool) (O : Inclusion) → OpensChars O → (b c : ℕ) (v : List ℕ) → Value main O src stop start b c v → IsCharText v
   value_chars main O oc b c v is =
       subst (λ (w : List ℕ). IsCharText (w ++ v)) (slice_nil src start) (value_front main O oc start b c v is start (omega arith) (omega arith) first)
 
-  -- parts end where the run does, or before
+  -- Parts end where the run does, or before.
   parts_within : (main : Bool) (O : Inclusion) (from i b c : ℕ) (items : Forest Item) → Parts main O src from stop i b c items → i ≤ stop
   parts_within main O from i b c items (last_part _ _ ss part) = let h = part_bytes main src stop i ss part in omega (arith, h)
-  parts_within main O from i b d items (then_entity _ p n j _ c _ ss front more part reference name opened rest) =
+  parts_within main O from i b d items (then_entity _ p j _ c _ _ ss front more part (entity_reference n reference name) opened rest) =
       let h = part_bytes main src p i ss part in
       let k = reference_onward src p n j reference in
       let l = parts_within main O from j c d more rest in
       omega (arith, h, k, l)
 
-  -- the parts of a run
+  -- The parts of a run.
   pub parts_items : (main : Bool) (O : Inclusion) → OpensChars O → (from i b c : ℕ) (items : Forest Item) → Parts main O src from stop i b c items → start ≤ i → IsCharBoundary src i → ItemsChars items
   parts_items main O oc from i b c items (last_part _ _ ss part) on cut = piece_items from stop _ ss (part_chars main stop i ss part last (omega arith) on cut)
-  parts_items main O oc from i b d items (then_entity _ p n j _ c _ ss front more part reference name opened rest) on cut =
+  parts_items main O oc from i b d items (then_entity _ p j _ c _ _ ss front more part (entity_reference n reference name) opened rest) on cut =
       let h = part_bytes main src p i ss part in
       let k = reference_onward src p n j reference in
       let l = parts_within main O from j c d more rest in

@@ -19,48 +19,48 @@ pub use Rattle.rox_grammar.specs.CharText.{IsCharText}
 
 -- ---- joined and cut
 
--- no characters
+-- No characters.
 pub no_text : IsCharText []
 no_text = record { utf8 = IsUtf8-nil; all = rw chars-nil refl }
 
--- the characters of two texts in a row
+-- The characters of two texts in a row.
 all_joined : (v w : List ℕ) → IsUtf8 v → list_all is_char (chars (v ++ w)) ≡ (list_all is_char (chars v) && list_all is_char (chars w))
 all_joined v w utf8 = ap (list_all is_char) (chars-append v w utf8) ∙ list_all-append is_char (chars v) (chars w)
 
--- two in a row are one
+-- Two in a row are one.
 pub texts_joined : (v w : List ℕ) → IsCharText v → IsCharText w → IsCharText (v ++ w)
 texts_joined v w a b = record { utf8 = IsUtf8-append v w a.utf8 b.utf8; all = all_joined v w a.utf8 ∙ and_from _ _ a.all b.all }
 
--- and one that is cut is two
+-- And one that is cut is two.
 text_cut : (v w : List ℕ) → IsUtf8 v → IsUtf8 w → IsCharText (v ++ w) → IsCharText v × IsCharText w
 text_cut v w a b h =
     let both = and_parts (list_all is_char (chars v)) (list_all is_char (chars w)) (sym (all_joined v w a) ∙ h.all) in
     (record { utf8 = a; all = both.0 }, record { utf8 = b; all = both.1 })
 
--- characters in a row
+-- Characters in a row.
 chars_text : (cs : List ℕ) → scalars cs ≡ true → list_all is_char cs ≡ true → IsCharText (encodes cs)
 chars_text cs s h = record { utf8 = (cs, (s, refl)); all = rw (chars-encodes cs s) h }
 
--- one character
+-- One character.
 pub char_text : (c : ℕ) → scalar c ≡ true → is_char c ≡ true → IsCharText (encode_utf8 c)
 char_text c s h = subst (λ (v : List ℕ). IsCharText v) (append-nil (encode_utf8 c)) (chars_text (c ∷ []) (and_from _ _ s refl) (and_from _ _ h refl))
 
--- one that is ASCII
+-- One that is ASCII.
 pub byte_text : (b : ℕ) → b < 128 → is_char b ≡ true → IsCharText (b ∷ [])
 byte_text b low h = subst (λ (v : List ℕ). IsCharText v) (encode_ascii b low) (char_text b (low_scalar b (omega arith)) h)
 
 -- ---- stretches of a source
 
--- a character begins at an ASCII byte
+-- A character begins at an ASCII byte.
 pub cut_at : (src : List ℕ) (k b : ℕ) → byte src k ≡ b → 0 < b → b < 128 → IsCharBoundary src k
 cut_at src k b is some ascii = IsCharBoundary-before_ascii src k (within src k (λ z. omega arith)) (omega arith)
 
--- and behind it
+-- And after it.
 pub cut_behind : (src : List ℕ) (k b j : ℕ) → IsUtf8 src → byte src k ≡ b → 0 < b → b < 128 → j ≡ k + 1 → IsCharBoundary src j
 cut_behind src k b j utf8 is some ascii e =
     subst (λ (m : ℕ). IsCharBoundary src m) (sym e) (IsCharBoundary-after_ascii src k utf8 (within src k (λ z. omega arith)) (omega arith))
 
--- where as many bytes pass as there are, each character passes
+-- Where as many bytes pass as there are, each character passes.
 all_pass : (p : ℕ → Bool) (cs : List ℕ) → length (encodes cs) ≤ passing p cs → list_all p cs ≡ true
 all_pass p [] h = refl
 all_pass p (c ∷ cs) h =
@@ -72,7 +72,7 @@ all_pass p (c ∷ cs) h =
       | inr fails ↦ absurd (let h' = rw fails at h in omega arith)
     ]
 
--- what stands between two places where characters begin, if the run of Chars reaches from one to the other
+-- What is between two places where characters begin, if the run of Chars reaches from one to the other.
 pub chars_between : (src : List ℕ) (i j : ℕ) → IsUtf8 src → IsCharBoundary src i → IsCharBoundary src j → AreChars src i j → IsCharText (slice src i j)
 unfolding run_end
 chars_between src i j utf8 from to h =
@@ -85,14 +85,14 @@ chars_between src i j utf8 from to h =
     let spelled = ap length (encodes-chars (slice src i j) text) in
     record { utf8 = text; all = all_pass is_char (chars (slice src i j)) (omega arith) }
 
--- a stretch in two parts
+-- A stretch in two parts.
 slice_split : (src : List ℕ) (a b c : ℕ) → a ≤ b → b ≤ c → c ≤ length src → slice src a c ≡ slice src a b ++ slice src b c
 slice_split src a b c le le' inside =
     let long = slice_length src a b le (omega arith) in
     let e : c - a ≡ length (slice src a b) + (c - b) = omega arith in
     ap (take (c - a)) (drop_split src a b le) ∙ ap (λ (n : ℕ). take n (slice src a b ++ drop b src)) e ∙ take-append-add (slice src a b) (drop b src) (c - b)
 
--- and what stands between two such places within it
+-- And what is between two such places within it.
 pub chars_within : (src : List ℕ) (from to i j : ℕ) → IsUtf8 src → IsCharBoundary src from → IsCharBoundary src to → AreChars src from to
     → from ≤ i → i ≤ j → j ≤ to → IsCharBoundary src i → IsCharBoundary src j → IsCharText (slice src i j)
 chars_within src from to i j utf8 first last h a b c cut cut' =
@@ -104,7 +104,7 @@ chars_within src from to i j utf8 first last h a b c cut cut' =
 
 -- ---- runs of characters that pass
 
--- the characters up to the first that fails, and the others
+-- The characters up to the first that fails, and the others.
 record Parted (p : ℕ → Bool) (cs : List ℕ) : Type 0 where
   front : List ℕ
   back : List ℕ
@@ -114,7 +114,7 @@ record Parted (p : ℕ → Bool) (cs : List ℕ) : Type 0 where
   fine : scalars front ≡ true
   fine' : scalars back ≡ true
 
--- there are such
+-- There are such.
 parted : (p : ℕ → Bool) (cs : List ℕ) → scalars cs ≡ true → Parted p cs
 parted p [] s = record { front = []; back = []; is = refl; long = refl; pass = refl; fine = refl; fine' = refl }
 parted p (c ∷ cs) s =
@@ -134,16 +134,16 @@ parted p (c ∷ cs) s =
       | inr fails ↦ record { front = []; back = c ∷ cs; is = refl; long = rw fails refl; pass = refl; fine = refl; fine' = s }
     ]
 
--- if what passes are Chars, a run is a text of them
+-- If what passes are Chars, a run is a text of them.
 module _ (p : ℕ → Bool) (src : List ℕ) (i : ℕ) (utf8 : IsUtf8 src) (cut : IsCharBoundary src i) where
-  -- the source from there on
+  -- The source from there on.
   rest : Parted p (chars (drop i src))
   rest = parted p (chars (drop i src)) (scalars-chars (drop i src) (IsUtf8-drop src i utf8 cut))
 
   rest_is : drop i src ≡ encodes rest.front ++ encodes rest.back
   rest_is = sym (encodes-chars (drop i src) (IsUtf8-drop src i utf8 cut)) ∙ rest.is
 
-  -- a character begins where the run ends
+  -- A character begins where the run ends.
   pub run_cut : IsCharBoundary src (run_end p src i)
   unfolding run_end
   run_cut =
@@ -153,7 +153,7 @@ module _ (p : ℕ → Bool) (src : List ℕ) (i : ℕ) (utf8 : IsUtf8 src) (cut 
       let inside : i + passing p (chars (drop i src)) ≤ length src = omega (arith, cut.0, rest.long, ap length rest_is, length-append (encodes rest.front) (encodes rest.back), length-drop i src) in
       IsCharBoundary-from_drop src (i + passing p (chars (drop i src))) inside (rest.back, (rest.fine', sym e))
 
-  -- and the run is a text of Chars
+  -- And the run is a text of Chars.
   pub run_of_chars : ((c : ℕ) → p c ≡ true → is_char c ≡ true) → IsCharText (slice src i (run_end p src i))
   unfolding run_end
   run_of_chars chars_pass =

@@ -19,25 +19,25 @@ use Rattle.rox_theory.proofs.RunLemmas.{AgreesContent}
 use Rattle.rox_theory.proofs.Flat.{StepsOver, Chain, arrives, goes, text_sound, text_complete}
 use Rattle.rox_theory.proofs.Openers.{budget_sound, budget_complete, values_agree}
 
--- a step is one construct of the grammar
+-- A step is one construct of the grammar.
 pub record StepsAgree (context : Context) (O : Inclusion) (src : List ℕ) : Type 0 where
   pub sound : (most : ℕ) (s t : State) → context.limit ≤ most → s.at < length src → IsValidState most s → step context src s ≡ Ok t → StepsOver context.values.main O src context.open_around s t × IsValidState most t
   pub complete : (s t : State) → StepsOver context.values.main O src context.open_around s t → IsValidState context.limit t → step context src s ≡ Ok t
   pub back : (s t : State) → StepsOver context.values.main O src context.open_around s t → IsValidState context.limit t → IsValidState context.limit s
-  -- it begins in the source, moves forward, and ends in the source
+  -- It begins in the source, moves forward, and ends in the source.
   pub moves : (s t : State) → StepsOver context.values.main O src context.open_around s t → (s.at < length src) × (s.at < t.at) × (t.at ≤ length src)
 
 module _ (context : Context) (O : Inclusion) (src : List ℕ) (steps : StepsAgree context O src) where
   abbrev Chained : State → State → Type 0
   Chained s u = Chain context.values.main O src context.open_around s u
 
-  -- a text ends
+  -- A text ends.
   ends_sound : (most : ℕ) (s u : State) → s.at ≡ length src → IsValidState most s → text_ends context s ≡ Ok u → Chained s u × IsValidState most u
   ends_sound most s u at fine h = chosen (eqb (depth_of s.stack) context.open_around) _ _ _ h
       (λ same h. subst (λ (v : State). Chained s v × IsValidState most v) (ok_same _ _ h) (arrives s at (eqb-true _ _ same), fine))
       (λ apart h. cc)
 
-  -- what is read is a chain
+  -- What is read is a chain.
   pub drive_text_sound : (n most : ℕ) (s u : State) → context.limit ≤ most → s.at ≤ length src → length src ≤ s.at + n → IsValidState most s → drive_text context n src s ≡ Ok u → Chained s u × IsValidState most u
   unfolding drive_text
   drive_text_sound zero most s u limits to enough fine h = ends_sound most s u (omega arith) fine h
@@ -49,12 +49,12 @@ module _ (context : Context) (O : Inclusion) (src : List ℕ) (steps : StepsAgre
       (goes s t u one.0 rest.0, rest.1)))
       (λ past h. ends_sound most s u (omega (arith, ltb-false _ _ past)) fine h)
 
-  -- what the limits allow at the end they allow all along
+  -- What the limits allow at the end they allow all along.
   chain_back : (s u : State) → Chained s u → IsValidState context.limit u → IsValidState context.limit s
   chain_back s u (arrives _ at same) fine = fine
   chain_back s u (goes _ t _ takes rest) fine = steps.back s t takes (chain_back t u rest fine)
 
-  -- a chain is read
+  -- A chain is read.
   pub drive_text_complete : (n : ℕ) (s u : State) → Chained s u → IsValidState context.limit u → length src ≤ s.at + n → drive_text context n src s ≡ Ok u
   unfolding drive_text
   drive_text_complete zero s u (arrives _ at same) fine enough = rw (eq-eqb _ _ same) refl
@@ -67,7 +67,7 @@ module _ (context : Context) (O : Inclusion) (src : List ℕ) (steps : StepsAgre
       let one = steps.complete s t takes next in
       rw (below, one) (drive_text_complete n t u rest fine (omega (arith, m.1)))
 
--- how a replacement text is read
+-- How a replacement text is read.
 abbrev pub within : ℕ → List Entity → ℕ → ℕ → Context
 within limit es d open_around = record { limit = limit; values = values_of es d false; open_around = open_around; opener = opener limit es d false }
 
@@ -120,7 +120,7 @@ module _ (limit : ℕ) (es : List Entity) (texts : AreTexts es) (d : ℕ) (steps
   contents_one_more : AgreesContent es limit (Includes es (suc d) main) (opener limit es (suc d) main)
   contents_one_more = record { sound = content_sound; complete = content_complete }
 
--- a reference in content
+-- A reference in content.
 pub contents_agree : (limit : ℕ) (es : List Entity) → AreTexts es
     → ((d open_around : ℕ) (src : List ℕ) → IsUtf8 src → AgreesContent es limit (Includes es d false) (opener limit es d false) → AgreesValue es (Includes es d false) (values_of es d false).opener
     → StepsAgree (within limit es d open_around) (Includes es d false) src)

@@ -20,7 +20,7 @@ use Rattle.rox_theory.proofs.Following.{few_opened, few_opened_in_value}
 
 -- ---- in a value
 
--- a replacement text as a part of a value, with the number of those that were opened before it and after it
+-- A replacement text as a part of a value, with the number of those that were opened before it and after it.
 unfoldable counter : List Entity → (depth_left : ℕ) → ValueInclusion
 counter es zero t after b = Err (here (fault.EntityReferenceLoop after))
 counter es (suc d) t after b = value_text false es (counter es d) (length t.source) t.source (length t.source) t.start (b + 1)
@@ -46,14 +46,14 @@ module _ (es : List Entity) (texts : AreTexts es) (d : ℕ) (inner : AgreesValue
       let src = t.source in
       (t, found, value_text_complete es src text.0 (length src) (omega arith) (no_stop src) false (Counts es d) (counter es d) inner (length src) t.start (b + 1) c w text.1.0 (omega arith) text.1 (λ z. chars) value)
 
--- it is counted as the grammar says
+-- It is counted as the grammar says.
 counts_agree : (es : List Entity) → AreTexts es → (d : ℕ) → AgreesValue es (Counts es d) (counter es d)
 counts_agree es texts zero = counts_none es
 counts_agree es texts (suc d) =
     let inner = counts_agree es texts d in
     record { sound = counted_sound es texts d inner; complete = counted_complete es texts d inner }
 
--- in one way
+-- In one way.
 pub value_counted_once : (es : List Entity) → AreTexts es → (d : ℕ) (name : List ℕ) (b c e : ℕ) (v w : List ℕ) → (Counts es d).value name b v c → (Counts es d).value name b w e → (v ≡ w) × (c ≡ e)
 value_counted_once es texts d name b c e v w h k =
     let x = (counts_agree es texts d).complete name 0 b c v h in

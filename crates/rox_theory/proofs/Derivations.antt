@@ -13,14 +13,14 @@ use Rattle.rox_theory.proofs.Steps.{after}
 use Rattle.rox_theory.proofs.Chains.{Drives, arrives, goes}
 
 module _ (O : Inclusion) (src : List ℕ) where
-  -- how the text has to go on from a state for the root element to end in the last one
+  -- How the text has to continue from a state for the root element to end in the last one.
   abbrev Completes : ℕ → ℕ → Forest Item → Open → State → Type 0
   Completes i b done root u = u ≡ state i done root b
   Completes i b done (inside start tag before up) u =
       (more : Forest Item) × (m : ℕ) × (p : ℕ) × (e : ℕ) × (r : ℕ) × Content true O src i m b r more × IsEnd src m tag.name p e
       × Completes e r (join before (Cons (Element start e tag) (merge (join done more)) Nil)) up u
 
-  -- items in front
+  -- Items in front.
   extends : (i j b c : ℕ) (done items : Forest Item) (stack : Open) (u : State) → is_root stack ≡ false
       → ((l d : ℕ) (more : Forest Item) → Content true O src j l c d more → Content true O src i l b d (join items more))
       → Completes j c (join done items) stack u → Completes i b done stack u
@@ -28,7 +28,7 @@ module _ (O : Inclusion) (src : List ℕ) where
   extends i j b c done items (inside start tag before up) u inner front (more, m, p, e, r, is, end, rest) =
       (join items more, m, p, e, r, front m r more is, end, rw join_assoc at rest)
 
-  -- one construct in front
+  -- One construct in front.
   takes_completes : (s t u : State) → StepsOver true O src 0 s t → is_root s.stack ≡ false → Completes t.at t.openings_left t.done t.stack u → Completes s.at s.openings_left s.done s.stack u
   takes_completes s t u (takes_run i j b c items done stack is parts) inner h =
       extends i j b c done items stack u inner (λ l d more content. run i j l b c d items more is parts content) h
@@ -40,24 +40,24 @@ module _ (O : Inclusion) (src : List ℕ) where
       extends i j b c done _ stack u inner (λ l d more content. node i j l b c d _ more (empty i j b c tag is) content) h
   takes_completes s t u (takes_start i j b c tag done stack is) inner h = nested h
     where
-      -- its content follows, and its end
+      -- Its content follows, and its end.
       nested : Completes j c Nil (inside i tag done stack) u → Completes i b done stack u
       nested (kids, m, p, e, r, content, end, rest) =
           extends i e b r done (Cons (Element i e tag) (merge kids) Nil) stack u inner
           (λ l d more after. node i e l b r d (Cons (Element i e tag) (merge kids) Nil) more (nest i j m p e b c r tag kids is content end) after) rest
   takes_completes s t u (takes_end i p j b start tag done before up within end) inner h = (Nil, i, p, j, b, ends i b, end, rw join-nil h)
 
-  -- at the root nothing has to follow
+  -- At the root nothing has to follow.
   at_root : (i b : ℕ) (done : Forest Item) (stack : Open) → is_root stack ≡ true → Completes i b done stack (state i done stack b)
   at_root i b done root h = refl
   at_root i b done (inside start tag before up) h = cc h
 
-  -- a chain is what completes its first state
+  -- A chain is what completes its first state.
   drives_completes : (s u : State) → Drives O src s u → Completes s.at s.openings_left s.done s.stack u
   drives_completes s u (arrives _ h) = at_root s.at s.openings_left s.done s.stack h
   drives_completes s u (goes _ t _ inner takes rest) = takes_completes s t u takes inner (drives_completes t u rest)
 
-  -- the root element, from its tag and what follows it
+  -- The root element, from its tag and what follows it.
   pub root_element : (i j b c : ℕ) (before : Forest Item) (tag : Tag) (is_empty : Bool) (u : State) → IsTag true O src i j b c is_empty tag → Drives O src (after (state i before root b) j tag is_empty c) u
       → (one : Forest Item) × IsElement true O src i u.at b u.openings_left one × (u ≡ state u.at (join before one) root u.openings_left)
   root_element i j b c before tag true u is drives =
@@ -66,7 +66,7 @@ module _ (O : Inclusion) (src : List ℕ) where
       subst P (sym h) (leaf (Element i j tag), empty i j b c tag is, refl)
   root_element i j b c before tag false u is drives = nested (drives_completes (after (state i before root b) j tag false c) u drives)
     where
-      -- its content follows, and its end
+      -- Its content follows, and its end.
       nested : Completes j c Nil (inside i tag before root) u → (one : Forest Item) × IsElement true O src i u.at b u.openings_left one × (u ≡ state u.at (join before one) root u.openings_left)
       nested (kids, m, p, e, r, content, end, h) =
           let P : State → Type 0 = λ u. (one : Forest Item) × IsElement true O src i u.at b u.openings_left one × (u ≡ state u.at (join before one) root u.openings_left) in

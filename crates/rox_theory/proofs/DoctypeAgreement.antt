@@ -1,4 +1,4 @@
--- A document type declaration is read as the grammar says, its entities are text, and what was asked for them stands there.
+-- A document type declaration is read as the grammar says, its entities are text, and what was asked for them is there.
 use Rattle.std.proofs.Common.{◌≡◌, ℕ, zero, suc, ◌+◌, ◌<◌, ◌≤◌, ◌⊎◌, ◌==◌, Bool, true, false, nat_le, List, [], ◌∷◌, ◌++◌, length, take, Option, Ok, Err, refl, sym, ap, ◌∙◌, subst, arith, inl, inr}
 use Rattle.std.specs.Prelude.{bytes_eq}
 use Rattle.std.specs.Str.{IsUtf8, IsCharBoundary}
@@ -44,7 +44,7 @@ use Rattle.rox_theory.proofs.SubsetsRead.{here_at, subset_complete}
 
 -- ---- entities are text
 
--- each of the texts is
+-- Each of the texts is.
 abbrev pub IsText : Replacement → Type 0
 IsText t = IsUtf8 t.source × IsCharBoundary t.source t.start
 
@@ -56,7 +56,7 @@ each_both : (es more : List Entity) → EachIsText es → EachIsText more → Ea
 each_both [] more h k = k
 each_both (e ∷ es) more h k = (h.0, each_both es more h.1 k)
 
--- so are those that names have
+-- So are those that names have.
 each_named : (es : List Entity) → EachIsText es → AreTexts es
 each_named [] each name t h = cc h
 each_named (e ∷ es) each name t h =
@@ -100,20 +100,20 @@ module _ (src : List ℕ) (utf8 : IsUtf8 src) where
   doctype_texts i j items asked es (no_subset _ s begins closes) = tt
   doctype_texts i j items asked es (with_subset _ s k _ _ _ begins bracket rest ends closes) = subset_texts (s + 1) k items asked es rest
 
-  -- each entity that is declared is text
+  -- Each entity that is declared is text.
   pub texts_agree : (i j : ℕ) (dtd : Bool) (nodes : Forest Item) (asked : List Asked) (es : List Entity) → MayHaveDoctype src i j dtd nodes asked es → AreTexts es
   texts_agree i j dtd nodes asked es (doctype _ k _ items others _ _ is rest) = each_named es (doctype_texts i k items asked es is)
   texts_agree i j dtd nodes asked es (no_doctype _) = each_named [] tt
 
 -- ---- what is asked within one
 
--- where its items begin
+-- Where its items begin.
 pub record Opened (src : List ℕ) (i : ℕ) : Type 0 where
   pub s : ℕ
   pub begins : BeginsDoctype src i s
   pub bracket : byte src s ≡ 91
 
--- nothing is asked, or what stands in it
+-- Nothing is asked, or what is in it.
 abbrev pub HasWithin : List ℕ → ℕ → List Asked → Type 0
 HasWithin src i asked = (asked ≡ []) ⊎ ((o : Opened src i) × HasLater src (o.s + 1) asked)
 
@@ -127,9 +127,9 @@ refused_opened src i o asked (here f) h = tt
 refused_opened src i o asked (there source f) h = tt
 refused_opened src i o asked (refused request p message) h = (o, h)
 
--- ---- what is read stands there
+-- ---- what is read is there
 
--- it is read to its end, or it is cut off by the end of the text
+-- It is read to its end, or it is cut off by the end of the text.
 pub record StepRead (most : ℕ) (src : List ℕ) (d : Dtd) (asked : List Asked) (e : Dtd) : Type 0 where
   pub items : Forest Item
   pub es : List Entity
@@ -143,7 +143,7 @@ StepOutcome most src d (asked, Ok e) = HasWithin src d.state.at asked × StepRea
 StepOutcome most src d (asked, Err e) = HasWithin src d.state.at asked × RefusedWithin src d.state.at asked e
 
 module _ (src : List ℕ) (utf8 : IsUtf8 src) where
-  -- of the items and the end behind them
+  -- Of the items and the end after them.
   closed_doctype : (i s j : ℕ) (items : Forest Item) (asked : List Asked) (es : List Entity) → BeginsDoctype src i s → byte src s ≡ 91 → Closes src (s + 1) j items asked es
       → IsDoctype src i j items asked es × IsCharBoundary src j
   closed_doctype i s j items asked es begins bracket c =
@@ -152,7 +152,7 @@ module _ (src : List ℕ) (utf8 : IsUtf8 src) where
         cut_behind src (spaces_end src (c.k + 1)) 62 j utf8 c.closes (omega arith) (omega arith) next,
       )
 
-  -- the items, from what is read of them
+  -- The items, from what is read of them.
   subset_outcome_is : (most i s : ℕ) (d : Dtd) → BeginsDoctype src i s → byte src s ≡ 91 → d.state.at ≡ i → (r : Asks Dtd) → SubsetOutcome most src (with_state d (at_place (s + 1) d.state)) r → StepOutcome most src d r
   subset_outcome_is most i s d begins bracket here_is (asked, Ok e) h =
       let o : Opened src d.state.at = record { s = s; begins = rw here_is begins; bracket = bracket } in
@@ -198,7 +198,7 @@ module _ (src : List ℕ) (utf8 : IsUtf8 src) where
       (λ none. (inl refl, tt))))))
       (λ f ill. rw ill (inl refl, tt))
 
--- ---- what stands there is read
+-- ---- what is there is read
 
 module _ (src : List ℕ) (utf8 : IsUtf8 src) where
   step_complete : (limit i j : ℕ) (items done : Forest Item) (stack : Open) (openings_left : ℕ) (asked : List Asked) (more es : List Entity) → IsDoctype src i j items asked more → IsValidState limit (state j (join done items) stack openings_left)
@@ -211,7 +211,7 @@ module _ (src : List ℕ) (utf8 : IsUtf8 src) where
       doctype_subset limit src (here_at i done stack openings_left es) tt s (doctype_head_complete src i s utf8 begins) inside asked (here_at (spaces_end src (k + 1) + 1) (join done items) stack openings_left (es ++ more)) bracket
       (subset_complete src utf8 limit i stack openings_left (length src) (s + 1) k items done asked more es rest ends closes fine' (omega arith))
 
-  -- past the end nothing follows it
+  -- Past the end nothing follows it.
   pub misc_past : (n limit : ℕ) (s t : State) → length src ≤ s.at → misc limit n src s ≡ Ok t → length src ≤ t.at
   unfolding misc
   misc_past zero limit s t past h = let e : s ≡ t = ok_same _ _ h in subst (λ (t : State). length src ≤ t.at) e past
@@ -223,12 +223,12 @@ module _ (src : List ℕ) (utf8 : IsUtf8 src) where
       let e : at_place i s ≡ t = ok_same _ _ h in subst (λ (t : State). length src ≤ t.at) e (omega (arith, past, far))))
 
   module _ (allow : Bool) where
-    -- what is read of it from these items on
+    -- What is read of it from these items on.
     abbrev DoctypeRead : ℕ → ℕ → Forest Item → List Asked → Dtd → Type 0
     DoctypeRead most i before asked d =
         (dtd : Bool) × (nodes : Forest Item) × MayHaveDoctype src i d.state.at dtd nodes asked d.entities × Permits allow dtd × (d.state ≡ state d.state.at (join before nodes) root 255) × IsValidState most d.state
 
-    -- it, and what follows it
+    -- It, and what follows it.
     behind_sound : (limit most i : ℕ) (before : Forest Item) (asked : List Asked) (e : Dtd) (s : State) (items : Forest Item) → limit ≤ most → allow ≡ true → IsDoctype src i e.state.at items asked e.entities
         → IsCharBoundary src e.state.at → e.state ≡ state e.state.at (join before items) root 255 → IsValidState most e.state → misc limit (length src) src e.state ≡ Ok s → DoctypeRead most i before asked (with_state e s)
     behind_sound limit most i before asked e s items limits may is cut state_is fine read =
@@ -266,7 +266,7 @@ module _ (src : List ℕ) (utf8 : IsUtf8 src) where
         subst (DoctypeRead most i before asked) e
         (false, Nil, subst (λ (asked : List Asked). MayHaveDoctype src i i false Nil asked []) a (no_doctype i), λ h. absurd (false≢true h), rw join-nil refl, fine))
 
-    -- and what stands there is read
+    -- And what is there is read.
     pub doctype_complete : (limit i j : ℕ) (dtd : Bool) (before nodes : Forest Item) (asked : List Asked) (es : List Entity) (more : List Reply) → MayHaveDoctype src i j dtd nodes asked es → Stops src j
         → at word.DoctypeStart src j ≡ false → Permits allow dtd → IsValidState limit (state j (join before nodes) root 255)
         → whole.doctype limit allow src (record { state = state i before root 255; entities = []; replies = replies_of asked ++ more })
@@ -280,7 +280,7 @@ module _ (src : List ℕ) (utf8 : IsUtf8 src) where
     doctype_complete limit i j dtd before nodes asked es more (no_doctype _) stops none permits fine =
         no_doctype_here limit allow src (here_at i before root 255 []) none more ∙ rw join-nil refl
 
--- how a document type declaration is read is its grammar
+-- How a document type declaration is read is its grammar.
 pub doctypes_agree : (src : List ℕ) → IsUtf8 src → (allow : Bool) → DoctypesAgree src allow
 doctypes_agree src utf8 allow =
     record { sound = doctype_sound src utf8 allow; complete = doctype_complete src utf8 allow; texts = λ i j dtd nodes asked es is permits. texts_agree src utf8 i j dtd nodes asked es is }

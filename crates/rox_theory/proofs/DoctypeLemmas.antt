@@ -1,4 +1,4 @@
--- The parts of a document type declaration that ask nothing: what is read stands there, and what stands there is read.
+-- The parts of a document type declaration that ask nothing: what is read is there, and what is there is read.
 use Rattle.std.proofs.Common.{◌≡◌, ℕ, ◌+◌, ◌-◌, ◌<◌, ◌≤◌, ◌⊎◌, ◌==◌, ◌||◌, Bool, true, false, leb, List, length, take, refl, sym, ap, ◌∙◌, subst, arith, inl, inr}
 use Rattle.std.specs.Prelude.{Ok, Some, None}
 use Rattle.std.specs.Str.{IsUtf8, IsCharBoundary}
@@ -26,7 +26,7 @@ use Rattle.rox_theory.proofs.DoctypeParts.{BeginsParts, begins_parts, CutsNotati
 
 -- ---- white space
 
--- white space that is read stands there
+-- White space that is read is there.
 pub space_sound : (src : List ℕ) (i : ℕ) (x : Unit {0} × ℕ) → space_at src i ≡ Ok x → IsSpace src i x.1
 unfolding space_at
 space_sound src i x h =
@@ -36,7 +36,7 @@ space_sound src i x h =
     subst (IsSpace src i) next (space_some src i (leb-false _ _ inside) is, refl))
     (λ other e. cc))
 
--- and what stands there is read
+-- And what is there is read.
 pub space_complete : (src : List ℕ) (i j : ℕ) → IsUtf8 src → IsCharBoundary src i → IsSpace src i j → space_at src i ≡ Ok (tt, j)
 unfolding space_at
 space_complete src i j utf8 cut s =
@@ -47,17 +47,17 @@ space_complete src i j utf8 cut s =
     let is : is_space (byte src i) ≡ true = begins_byte is_space (λ c h. omega (arith, space_ascii c h)) src i utf8 cut (some_run is_space src i some) in
     rw (k, is, ← all) refl
 
--- a character begins behind it
+-- A character begins after it.
 pub space_cut : (src : List ℕ) (i j : ℕ) → IsUtf8 src → IsCharBoundary src i → IsSpace src i j → IsCharBoundary src j
 space_cut src i j utf8 cut s = let all = s.1 in rw all (run_cut is_space src i utf8 cut)
 
 -- ---- characters in quotes
 
--- where they end
+-- Where they end.
 abbrev pub quoted_end : List ℕ → ℕ → ℕ
 quoted_end src i = byte_from (λ c. c == byte src i) src (i + 1)
 
--- what is read stands there
+-- What is read is there.
 pub quoted_sound : (src : List ℕ) (i : ℕ) (x : List ℕ × ℕ) → quoted_at src i ≡ Ok x → IsQuoted src i (quoted_end src i) x.1 × (x.0 ≡ slice src (i + 1) (quoted_end src i))
 unfolding quoted_at
 quoted_sound src i x h =
@@ -71,7 +71,7 @@ quoted_sound src i x h =
     let next : b.1 ≡ x.1 = ap (λ p. p.1) (ok_same _ _ h) in
     ((quote.0, refl, c.2, sym next ∙ c.1), sym (ap (λ p. p.0) (ok_same _ _ h)))))
 
--- it ends at the quote that it begins with, behind which a character begins
+-- It ends at the quote that it begins with, after which a character begins.
 pub quoted_closes : (src : List ℕ) (i e j : ℕ) → IsQuoted src i e j → byte src e ≡ byte src i
 quoted_closes src i e j q =
     let is = q.1 in let inside = q.2 in
@@ -88,7 +88,7 @@ quoted_cut src i e j utf8 q =
     let low = quote_ascii (byte src i) q.0 in let same = quoted_closes src i e j q in
     cut_behind src e (byte src i) j utf8 same (omega arith) (omega arith) q.3
 
--- what stands there is read
+-- What is there is read.
 pub quoted_complete : (src : List ℕ) (i e j : ℕ) → IsQuoted src i e j → quoted_at src i ≡ Ok (slice src (i + 1) e, j)
 unfolding quoted_at
 quoted_complete src i e j q =
@@ -100,17 +100,17 @@ quoted_complete src i e j q =
 
 -- ---- what is asked for
 
--- a character begins behind a word whose last byte is this
+-- A character begins after a word whose last byte is this.
 pub word_cut : (w : Word) (src : List ℕ) (i n b : ℕ) → IsUtf8 src → at w src i ≡ true → n < length (word_text w) → byte (word_text w) n ≡ b → 0 < b → b < 128 → IsCharBoundary src (i + n + 1)
 word_cut w src i n b utf8 is here last some low =
     let e = stands_reads (word_text w) src i n is here in
     cut_behind src (i + n) b (i + n + 1) utf8 (e ∙ last) some low refl
 
--- six bytes
+-- Six bytes.
 pub six_cut : (w : Word) (src : List ℕ) (i b : ℕ) → IsUtf8 src → at w src i ≡ true → 5 < length (word_text w) → byte (word_text w) 5 ≡ b → 0 < b → b < 128 → IsCharBoundary src (i + 6)
 six_cut w src i b utf8 is here last some low = let e : i + 5 + 1 ≡ i + 6 = omega arith in subst (IsCharBoundary src) e (word_cut w src i 5 b utf8 is here last some low)
 
--- what is read stands there
+-- What is read is there.
 pub external_sound : (src : List ℕ) (i : ℕ) (x : Request × ℕ) → external_id_at src i ≡ Ok x → IsExternalID src i x.0 x.1
 unfolding external_id_at system_at public_at
 external_sound src i x h =
@@ -131,7 +131,7 @@ external_sound src i x h =
     (public i p.1 (quoted_end src p.1) id.1 s.1 (quoted_end src s.1) uri.1 is (space_sound src (i + 6) p spaced) q.0 (space_sound src id.1 s spaced') q'.0))))))
     (λ none h. cc))
 
--- what stands there is read
+-- What is there is read.
 pub external_complete : (src : List ℕ) (i : ℕ) (request : Request) (j : ℕ) → IsUtf8 src → IsExternalID src i request j → external_id_at src i ≡ Ok (request, j)
 unfolding external_id_at system_at public_at
 external_complete src i request j utf8 (system _ s e _ is sp q) =
@@ -149,7 +149,7 @@ external_complete src i request j utf8 (public _ p d k s e _ is sp q sp' q') =
     let f = quoted_complete src s e j q' in
     rw (none, is, a, b, c, f) refl
 
--- a character begins behind it, within the source
+-- A character begins after it, within the source.
 pub external_cut : (src : List ℕ) (i : ℕ) (request : Request) (j : ℕ) → IsUtf8 src → IsExternalID src i request j → IsCharBoundary src j × (i < j) × (i < length src)
 external_cut src i request j utf8 (system _ s e _ is sp q) =
     let some = sp.0 in let le = quoted_le src s e j q in
@@ -158,7 +158,7 @@ external_cut src i request j utf8 (public _ p d k s e _ is sp q sp' q') =
     let some = sp.0 in let le = quoted_le src p d k q in let some' = sp'.0 in let le' = quoted_le src s e j q' in
     (quoted_cut src s e j utf8 q', omega arith, omega arith)
 
--- its first byte
+-- Its first byte.
 pub external_byte : (src : List ℕ) (i : ℕ) (request : Request) (j : ℕ) → IsExternalID src i request j → (byte src i ≡ 83) ⊎ (byte src i ≡ 80)
 external_byte src i request j (system _ s e _ is sp q) =
     let zero : i + 0 ≡ i = omega arith in
@@ -171,7 +171,7 @@ external_byte src i request j (public _ p d k s e _ is sp q sp' q') =
 
 -- ---- the name of a notation
 
--- a name that is read, or the end of the text
+-- A name that is read, or the end of the text.
 pub name_or_end : (src : List ℕ) (i : ℕ) (x : List ℕ × ℕ) → name_or_end_at src i ≡ Ok x → (IsName src i x.1 × (x.0 ≡ slice src i x.1)) ⊎ ((length src ≤ i) × (x.1 ≡ i))
 unfolding name_or_end_at
 name_or_end src i x h =
@@ -179,7 +179,7 @@ name_or_end src i x h =
     (λ out e. inr (leb-true _ _ out, sym (ap (λ p. p.1) (ok_same _ _ e))))
     (λ more h. inl (name_sound src i x h))
 
--- a name that stands there is read
+-- A name that is there is read.
 named_there : (src : List ℕ) (i j : ℕ) → IsName src i j → name_or_end_at src i ≡ Ok (slice src i j, j)
 unfolding name_or_end_at
 named_there src i j name =
@@ -187,7 +187,7 @@ named_there src i j name =
     let n = name_complete src i j name in
     rw (k, n) refl
 
--- what is read of it stands there, or the text is cut off before its name
+-- What is read of it is there, or the text is cut off before its name.
 pub notation_sound : (parameter : Bool) (src : List ℕ) (i : ℕ) (x : Unit {0} × ℕ) → notation_at parameter src i ≡ Ok x → MayHaveNotation src parameter i x.1 ⊎ CutsNotation src parameter i x.1
 unfolding notation_at
 notation_sound true src i x h = let e : i ≡ x.1 = ap (λ p. p.1) (ok_same _ _ h) in inl (subst (MayHaveNotation src true i) e (of_parameter i))
@@ -202,7 +202,7 @@ notation_sound false src i x h =
     ])))
     (λ none h. let e : spaces_end src i ≡ x.1 = ap (λ p. p.1) (ok_same _ _ h) in inl (subst (MayHaveNotation src false i) e (no_notation i none)))
 
--- what stands there is read
+-- What is there is read.
 pub notation_complete : (parameter : Bool) (src : List ℕ) (i j : ℕ) → IsUtf8 src → MayHaveNotation src parameter i j → notation_at parameter src i ≡ Ok (tt, j)
 unfolding notation_at
 notation_complete parameter src i j utf8 (notation _ s _ is sp name) =
@@ -216,7 +216,7 @@ notation_complete parameter src i j utf8 (of_parameter _) = refl
 
 -- ---- what an entity is
 
--- what stands there, by what is read
+-- What is there, by what is read.
 abbrev pub Defines : List ℕ → (parameter : Bool) → ℕ → Definition → ℕ → Type 0
 Defines src parameter i (inner t) j = (e : ℕ) × IsQuoted src i e j × (t ≡ record { source = take e src; start = i + 1 })
 Defines src parameter i (outer request) j = (n : ℕ) × IsExternalID src i request n × (MayHaveNotation src parameter n j ⊎ CutsNotation src parameter n j)
@@ -240,7 +240,7 @@ definition_sound parameter src i x h =
     (n.1, external_sound src i n external, notation_sound parameter src n.1 y noted))))
     (λ none h. cc)))
 
--- the text in quotes that stands there is read
+-- The text in quotes that is there is read.
 pub inner_complete : (parameter : Bool) (src : List ℕ) (i e j : ℕ) → IsQuoted src i e j → definition_at parameter src i ≡ Ok (inner (record { source = take e src; start = i + 1 }), j)
 unfolding definition_at
 inner_complete parameter src i e j q =
@@ -253,7 +253,7 @@ inner_complete parameter src i e j q =
     let to : i + 1 + length (slice src (i + 1) e) ≡ e = omega (arith, le.0) in
     rw (k, test, r, to) refl
 
--- so is what is asked for
+-- So is what is asked for.
 pub outer_complete : (parameter : Bool) (src : List ℕ) (i n j : ℕ) (request : Request) → IsUtf8 src → IsExternalID src i request n → MayHaveNotation src parameter n j
     → definition_at parameter src i ≡ Ok (outer request, j)
 unfolding definition_at
@@ -293,7 +293,7 @@ kind_cut src i parameter j utf8 cut (grammar.of_parameter _ _ is sp) =
     (space_cut src (i + 1) j utf8 (cut_behind src i 37 (i + 1) utf8 is (omega arith) (omega arith) refl) sp, omega arith)
 kind_cut src i parameter j utf8 cut (grammar.general _ apart) = (cut, omega arith)
 
--- what is read stands there
+-- What is read is there.
 pub head_sound : (src : List ℕ) (i : ℕ) (x : EntityHead × ℕ) → at word.EntityStart src i ≡ true → entity_head_at src i ≡ Ok x
     → (n : ℕ) × (m : ℕ) × BeginsEntity src i x.0.parameter n m x.1 × (x.0.name ≡ slice src n m)
 unfolding entity_head_at
@@ -307,7 +307,7 @@ head_sound src i x opens h =
       n.1,
     )))))
 
--- a character begins at each of its places
+-- A character begins at each of its places.
 pub record HeadCuts (src : List ℕ) (i : ℕ) (parameter : Bool) (n m d : ℕ) (b : BeginsParts src i parameter n m d) : Type 0 where
   pub at_word : IsCharBoundary src (i + 8)
   pub at_kind : IsCharBoundary src b.k
@@ -327,7 +327,7 @@ head_cuts src i parameter n m d utf8 b =
     let some = b.space_before.0 in let some' = b.space_behind.0 in
     record { at_word = one; at_kind = two; at_name = three.0; behind_name = four; at_definition = space_cut src m d utf8 four b.space_behind; forward = omega (arith, three.1, run_end_le is_name_char src n) }
 
--- it goes forward
+-- It goes forward.
 pub head_moves : (src : List ℕ) (i : ℕ) (parameter : Bool) (n m d : ℕ) → IsUtf8 src → BeginsEntity src i parameter n m d → (i < d) × (i < length src)
 head_moves src i parameter n m d utf8 is =
     let b = begins_parts is in
@@ -335,7 +335,7 @@ head_moves src i parameter n m d utf8 is =
     let fits = stands_fits (word_text word.EntityStart) src i (omega arith) b.opens in
     (c.forward, omega arith)
 
--- what stands there is read
+-- What is there is read.
 pub head_complete : (src : List ℕ) (i : ℕ) (parameter : Bool) (n m d : ℕ) → IsUtf8 src → BeginsEntity src i parameter n m d
     → entity_head_at src i ≡ Ok (record { parameter = parameter; name = slice src n m }, d)
 unfolding entity_head_at
@@ -362,7 +362,7 @@ if_sound src i x h =
     let e : i ≡ x.1 = ap (λ p. p.1) (ok_same _ _ h) in
     subst (MayHaveExternalID src i) e (no_external_id i both.0 both.1))
 
--- the word of an external id stands where one does
+-- The word of an external id is where one does.
 external_word : (src : List ℕ) (i : ℕ) (request : Request) (j : ℕ) → IsExternalID src i request j → (at word.System src i || at word.Public src i) ≡ true
 external_word src i request j (system _ s e _ is sp q) = or_left _ _ is
 external_word src i request j (public _ p d k s e _ is sp q sp' q') = or_right _ _ is
@@ -379,12 +379,12 @@ if_cut : (src : List ℕ) (i j : ℕ) → IsUtf8 src → IsCharBoundary src i �
 if_cut src i j utf8 cut (external_id _ _ request is) = let c = external_cut src i request j utf8 is in (c.0, omega (arith, c.1))
 if_cut src i j utf8 cut (no_external_id _ a b) = (cut, omega arith)
 
--- past the end there is none
+-- Past the end there is none.
 if_past : (src : List ℕ) (i j : ℕ) → IsUtf8 src → length src ≤ i → MayHaveExternalID src i j → i ≤ j
 if_past src i j utf8 past (external_id _ _ request is) = let c = external_cut src i request j utf8 is in omega (arith, c.1)
 if_past src i j utf8 past (no_external_id _ a b) = omega arith
 
--- what is read stands there, unless the text is cut off before the name
+-- What is read is there, unless the text is cut off before the name.
 pub doctype_head_sound : (src : List ℕ) (i : ℕ) (x : Unit {0} × ℕ) → IsUtf8 src → at word.DoctypeStart src i ≡ true → doctype_head_at src i ≡ Ok x → x.1 < length src → BeginsDoctype src i x.1
 unfolding doctype_head_at
 doctype_head_sound src i x utf8 opens h inside =
@@ -400,7 +400,7 @@ doctype_head_sound src i x utf8 opens h inside =
           omega (arith, if_past src (spaces_end src name.1) y.1 utf8 past m, run_end_le is_space src y.1))
     ])))
 
--- what stands there is read
+-- What is there is read.
 pub doctype_head_complete : (src : List ℕ) (i s : ℕ) → IsUtf8 src → BeginsDoctype src i s → doctype_head_at src i ≡ Ok (tt, s)
 unfolding doctype_head_at
 doctype_head_complete src i s utf8 (doctype_begins n m x opens space name external) =

@@ -9,7 +9,7 @@ use Rattle.rox_grammar.specs.Names.{byte, slice, spaces_end, IsName}
 use Rattle.rox_grammar.specs.Entities.{Replacement, Entity}
 use Rattle.rox_grammar.specs.Doctype.{Request, Asked, IsSpace, IsExternalID, MayHaveNotation, IsDefinition, IsKind, BeginsEntity, entity_begins, AsksAt, external_entity, name_cut_off, entry, IsEntityDeclaration, entity_declaration, IsPassed, Subset, skipped_declaration, MayHaveExternalID, BeginsDoctype, doctype_begins}
 
--- how a declaration of an entity begins
+-- How a declaration of an entity begins.
 pub record BeginsParts (src : List ℕ) (i : ℕ) (parameter : Bool) (n m d : ℕ) : Type 0 where
   pub opens : at word.EntityStart src i ≡ true
   pub k : ℕ
@@ -21,7 +21,7 @@ pub record BeginsParts (src : List ℕ) (i : ℕ) (parameter : Bool) (n m d : �
 pub begins_parts : {src : List ℕ} {i : ℕ} {parameter : Bool} {n m d : ℕ} → BeginsEntity src i parameter n m d → BeginsParts src i parameter n m d
 begins_parts (entity_begins k opens before kind name behind) = record { opens = opens; k = k; space_before = before; is_kind = kind; name = name; space_behind = behind }
 
--- such a declaration
+-- Such a declaration.
 pub record DeclarationParts (src : List ℕ) (i j : ℕ) (asked : List Asked) (declared : List Entity) : Type 0 where
   pub parameter : Bool
   pub n : ℕ
@@ -53,14 +53,14 @@ declaration_parts (entity_declaration parameter n m d e asked text begins defini
       next = refl;
     }
 
--- the text ends where the name of a notation should stand
+-- The text ends where the name of a notation should stand.
 pub data CutsNotation (src : List ℕ) : (parameter : Bool) → ℕ → ℕ → Type 0 where
   cuts_name : (i j : ℕ) → at word.NData src (spaces_end src i) ≡ true → IsSpace src (spaces_end src i + 5) j → length src ≤ j → CutsNotation src false i j
 
 pub notation_past : {src : List ℕ} {parameter : Bool} {i j : ℕ} → CutsNotation src parameter i j → length src ≤ j
 notation_past (cuts_name _ _ opens space past) = past
 
--- what a declaration asks
+-- What a declaration asks.
 pub record AsksParts (src : List ℕ) (i : ℕ) (request : Request) (p : ℕ) : Type 0 where
   pub parameter : Bool
   pub n : ℕ
@@ -80,24 +80,24 @@ pub asks_at : {src : List ℕ} {i : ℕ} {request : Request} {p : ℕ} (paramete
 asks_at parameter n m d e begins id (inl may) = external_entity parameter n m d e begins id may
 asks_at parameter n m d e begins id (inr (cuts_name _ _ opens space past)) = name_cut_off n m d e begins id opens space past
 
--- a declaration that is passed over stands from i up to j
+-- A declaration that is passed over is from i up to j.
 pub record IsPassedOver (src : List ℕ) (i j : ℕ) : Type 0 where
   pub opens : IsPassed src i
   pub closes : byte_from (λ c. c == 62) src i < length src
   pub next : j ≡ byte_from (λ c. c == 62) src i + 1
 
--- where it ends
+-- Where it ends.
 abbrev pub passed_end : List ℕ → ℕ → ℕ
 passed_end src i = byte_from (λ c. c == 62) src i + 1
 
 pub passed_there : {src : List ℕ} {i : ℕ} → IsPassed src i → byte_from (λ c. c == 62) src i < length src → IsPassedOver src i (passed_end src i)
 passed_there opens closes = record { opens = opens; closes = closes; next = refl }
 
--- it stands in front of other items
+-- It is in front of other items.
 pub passed_first : (src : List ℕ) (i j k : ℕ) (items : Forest Item) (asked : List Asked) (es : List Entity) → IsPassedOver src i j → Subset src j k items asked es → Subset src i k items asked es
 passed_first src i j k items asked es p rest = skipped_declaration i k items asked es p.opens p.closes (subst (λ (j : ℕ). Subset src j k items asked es) p.next rest)
 
--- how a document type declaration begins
+-- How a document type declaration begins.
 pub record DoctypeParts (src : List ℕ) (i s : ℕ) : Type 0 where
   pub opens : at word.DoctypeStart src i ≡ true
   pub n : ℕ

@@ -1,5 +1,4 @@
--- Declarations of entities: what is read stands there, with what is asked for it, and what stands there is read, whatever
--- replies follow.
+-- Declarations of entities: what is read is there, with what is asked for it, and what is there is read, whatever replies follow.
 use Rattle.std.proofs.Common.{◌≡◌, ℕ, ◌+◌, ◌<◌, ◌≤◌, ◌⊎◌, Bool, true, cond, List, [], ◌∷◌, ◌++◌, length, take, drop, Option, Result, refl, sym, ap, subst, arith, inl, inr}
 use Rattle.std.specs.Prelude.{Ok, Err, Some, None, IfSome}
 use Rattle.std.specs.Str.{IsUtf8, IsCharBoundary}
@@ -13,10 +12,10 @@ use Rattle.rox_grammar.specs.Entities.{Replacement, Entity}
 use Rattle.rox_grammar.specs.Doctype.{Request, Asked, IsExternalID, MayHaveNotation, notation, no_notation, of_parameter, GivesReplacement, nothing, the_rest, IsDefinition, internal, external, BeginsEntity, AsksAt, external_entity, entry, IsEntityDeclaration, entity_declaration}
 use Rattle.rox_reading.specs.Lexical.{byte_at}
 use Rattle.rox_reading.specs.Markup.{xml_decl_at}
-use Rattle.rox_reading.specs.Refusals.{Refusal, here, there, refused, IsTextRefusal}
+use Rattle.rox_reading.specs.Refusals.{Refusal, here, there, refused}
+use Rattle.rox_reading.specs.Answering.{IsTextRefusal, Answered}
 use Rattle.rox_reading.specs.Machine.{at_place}
 use Rattle.rox_reading.specs.Doctype.{Reply, Asks, Dtd, IsTextReply, AreTextReplies, next_reply, other_replies, EntityHead, entity_head_at, Definition, inner, outer, definition_at, answer_text, entity_step}
-use Rattle.rox_reading.specs.Answering.{Answered}
 use Rattle.rox_reading.proofs.Settling.{once, declared_there, entity_run, inner_read, outer_read}
 use Rattle.rox_theory.proofs.Basics.{ok_same, chosen, within, byte_sound, byte_complete, run_end_le}
 use Rattle.rox_theory.proofs.DeclarationLemmas.{declaration_opens, declaration_sound, declaration_complete}
@@ -24,18 +23,18 @@ use Rattle.rox_theory.proofs.CharTexts.{cut_behind}
 use Rattle.rox_theory.proofs.DoctypeParts.{declaration_parts, CutsNotation, notation_past, asks_at}
 use Rattle.rox_theory.proofs.DoctypeLemmas.{quoted_le, external_cut, head_sound, head_complete, head_moves, definition_sound, inner_complete, outer_complete}
 
--- what a result is
+-- What a result is.
 pub either : {A E P : Type 0} (r : Result A E) → ((x : A) → r ≡ Ok x → P) → ((e : E) → r ≡ Err e → P) → P
 either (Ok x) good bad = good x refl
 either (Err e) good bad = bad e refl
 
 -- ---- the text of an answer
 
--- what is read of a text behind its declaration
+-- What is read of a text after its declaration.
 abbrev behind_declaration : List ℕ → Result (Unit {0} × ℕ) Fault
 behind_declaration t = cond (at word.XmlDeclStart t (after_bom t)) (xml_decl_at t (after_bom t)) (Ok (tt, after_bom t))
 
--- what is read of an answer that is text is what it gives
+-- What is read of an answer that is text is what it gives.
 pub answer_sound : (answer : Option (List ℕ)) (text : Option Replacement) → IsTextReply (Ok answer) → answer_text answer ≡ Ok text → GivesReplacement answer text
 unfolding answer_text
 answer_sound None text utf8 h = subst (GivesReplacement None) (ok_same _ _ h) nothing
@@ -56,7 +55,7 @@ answer_complete answer text nothing = refl
 answer_complete answer text (the_rest t d utf8 (declared _ _ is)) = let a = declaration_opens t (after_bom t) d is in let r = declaration_complete t utf8 (after_bom t) d is in rw (a, r) refl
 answer_complete answer text (the_rest t d utf8 (not_declared _ none)) = rw none refl
 
--- its fault is one of the text
+-- Its fault is one of the text.
 pub answer_fault : (answer : Option (List ℕ)) (e : Refusal) → answer_text answer ≡ Err e → IsTextRefusal e
 unfolding answer_text
 answer_fault None e h = cc h
@@ -67,7 +66,7 @@ answer_fault (Some t) e h =
 
 -- ---- what is asked
 
--- what is answered is a text in UTF-8, or none
+-- What is answered is a text in UTF-8, or none.
 pub replied_text : (answer : Option (List ℕ)) → IsTextReply (Ok answer) → IfSome answer IsUtf8
 replied_text None h = tt
 replied_text (Some text) h = h
@@ -76,11 +75,11 @@ given_text : (answer : Option (List ℕ)) (text : Option Replacement) → GivesR
 given_text answer text nothing = tt
 given_text answer text (the_rest t d utf8 may) = utf8
 
--- nothing is asked, or this once
+-- Nothing is asked, or this once.
 abbrev pub OnceAsked : List ℕ → ℕ → List Asked → Type 0
 OnceAsked src i asked = (asked ≡ []) ⊎ ((request : Request) × (answer : Option (List ℕ)) × (p : ℕ) × (asked ≡ once request answer) × AsksAt src i request p × IfSome answer IsUtf8)
 
--- ---- what is read stands there
+-- ---- what is read is there
 
 pub record EntityRead (src : List ℕ) (d : Dtd) (asked : List Asked) (e : Dtd) : Type 0 where
   pub es : List Entity
@@ -95,7 +94,7 @@ EntityOutcome src d (asked, Err (here f)) = OnceAsked src d.state.at asked
 EntityOutcome src d (asked, Err (there source f)) = OnceAsked src d.state.at asked
 EntityOutcome src d (asked, Err (refused request p message)) = (asked ≡ []) × AsksAt src d.state.at request p
 
--- a fault of the text
+-- A fault of the text.
 fault_outcome : (src : List ℕ) (d : Dtd) (asked : List Asked) (e : Refusal) → IsTextRefusal e → OnceAsked src d.state.at asked → EntityOutcome src d (asked, Err e)
 fault_outcome src d asked (here f) is h = h
 fault_outcome src d asked (there source f) is h = h
@@ -105,7 +104,7 @@ next_text : (rs : List Reply) → AreTextReplies rs → IsTextReply (next_reply 
 next_text [] h = (tt, tt)
 next_text (r ∷ rs) h = h
 
--- where the text is not cut off there is the name of a notation, if it is called for
+-- Where the text is not cut off there is the name of a notation, if it is called for.
 not_cut : (src : List ℕ) (parameter : Bool) (i p : ℕ) → byte src (spaces_end src p) ≡ 62 → MayHaveNotation src parameter i p ⊎ CutsNotation src parameter i p → MayHaveNotation src parameter i p
 not_cut src parameter i p closes (inl may) = may
 not_cut src parameter i p closes (inr cuts) =
@@ -114,12 +113,12 @@ not_cut src parameter i p closes (inr cuts) =
 
 module _ (src : List ℕ) (utf8 : IsUtf8 src) where
   module _ (d : Dtd) (opens : at word.EntityStart src d.state.at ≡ true) (texts : AreTextReplies d.replies) where
-    -- the end of one whose definition is read
+    -- The end of one whose definition is read.
     module _ (head : EntityHead × ℕ) (is_head : entity_head_at src d.state.at ≡ Ok head) where
       begun : (n : ℕ) × (m : ℕ) × BeginsEntity src d.state.at head.0.parameter n m head.1 × (head.0.name ≡ slice src n m)
       begun = head_sound src d.state.at head opens is_head
 
-      -- a declaration, from its parts
+      -- A declaration, from its parts.
       entity_is : (asked : List Asked) (text : Option Replacement) (p j : ℕ) (rs : List Reply) → AreTextReplies rs → IsDefinition src head.0.parameter head.1 p asked text
           → byte src (spaces_end src p) ≡ 62 → j ≡ spaces_end src p + 1
           → EntityRead src d asked (record { state = at_place j d.state; entities = d.entities ++ entry head.0.name text; replies = rs })
@@ -187,9 +186,9 @@ module _ (src : List ℕ) (utf8 : IsUtf8 src) where
         defined head is_head (inner t) j is = inner_outcome head is_head t j is
         defined head is_head (outer request) j is = outer_outcome head is_head request j is
 
-  -- ---- what stands there is read
+  -- ---- what is there is read
 
-  -- a declaration asks nothing, or once
+  -- A declaration asks nothing, or once.
   pub declared_asks : (i j : ℕ) (asked : List Asked) (es : List Entity) → IsEntityDeclaration src i j asked es → OnceAsked src i asked
   declared_asks i j asked es (entity_declaration parameter n m d e first text begins definition closes) = by_definition text first definition
     where
@@ -197,7 +196,7 @@ module _ (src : List ℕ) (utf8 : IsUtf8 src) where
       by_definition text asked (internal _ c _ q) = inl refl
       by_definition text asked (external _ x _ request answer _ is may gives) = inr (request, answer, e, refl, external_entity parameter n m d x begins is may, given_text answer text gives)
 
-  -- what it is goes forward
+  -- What it is goes forward.
   notation_moves : (parameter : Bool) (i j : ℕ) → MayHaveNotation src parameter i j → i ≤ j
   notation_moves parameter i j (notation _ s _ is sp name) =
       let l = name.longest in let some = sp.0 in
@@ -209,7 +208,7 @@ module _ (src : List ℕ) (utf8 : IsUtf8 src) where
   definition_moves parameter i j asked text (internal _ e _ q) = let le = quoted_le src i e j q in omega arith
   definition_moves parameter i j asked text (external _ n _ request answer _ is may gives) = omega (arith, (external_cut src i request n utf8 is).1, notation_moves parameter n j may)
 
-  -- it goes forward, and a character begins behind it
+  -- It goes forward, and a character begins after it.
   pub entity_moves : (i j : ℕ) (asked : List Asked) (es : List Entity) → IsEntityDeclaration src i j asked es → (i < length src) × (i < j) × (j ≤ length src) × IsCharBoundary src j
   entity_moves i j asked es is =
       let b = declaration_parts is in

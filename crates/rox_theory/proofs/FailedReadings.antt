@@ -23,35 +23,35 @@ use Rattle.rox_reading.specs.Lexical.{◌>>=◌, byte_at, string_at, chars_up_to
 use Rattle.rox_theory.proofs.Basics.{chosen}
 use Rattle.rox_theory.proofs.NameLemmas.{qname_complete}
 
--- where a sequence fails, its first step fails, or gives a value with which the rest fails
+-- Where a sequence fails, its first step fails, or gives a value with which the rest fails.
 pub bind_err : {A B E P : Type 0} (r : Result A E) (f : A → Result B E) (e : E) → (r >>= f) ≡ Err e → (r ≡ Err e → P) → ((x : A) → r ≡ Ok x → f x ≡ Err e → P) → P
 bind_err (Ok x) f e h now later = later x refl h
 bind_err (Err d) f e h now later = now (cc h)
 
--- the same of a first step that opens no entity: its fault is in the source that is read
+-- The same of a first step that opens no entity: its fault is in the source that is read.
 pub lifted_err : {A B P : Type 0} (r : Result A Fault) (f : A → Result B Refusal) (e : Refusal) → (lifted r >>= f) ≡ Err e → ((d : Fault) → r ≡ Err d → here d ≡ e → P)
     → ((x : A) → r ≡ Ok x → f x ≡ Err e → P) → P
 lifted_err (Ok x) f e h now later = later x refl h
 lifted_err (Err d) f e h now later = now d refl (cc h)
 
--- and of one that is all
+-- And of one that is all.
 pub lifted_only : {A P : Type 0} (r : Result A Fault) (e : Refusal) → lifted r ≡ Err e → ((d : Fault) → r ≡ Err d → here d ≡ e → P) → P
 lifted_only (Ok x) e h go = cc h
 lifted_only (Err d) e h go = go d refl (cc h)
 
--- what is read to one value is not read to another
+-- What is read to one value is not read to another.
 pub ok_one : {A E : Type 0} (x y : A) (r : Result A E) → r ≡ Ok x → r ≡ Ok y → x ≡ y
 ok_one x y r h k = let e = sym h ∙ k in cc
 
--- a refusal by a fault of the source that is read, of which this holds
+-- A refusal by a fault of the source that is read, of which this holds.
 abbrev pub IsHere : (Fault → Type 0) → Refusal → Type 0
 IsHere P e = (f : Fault) × (here f ≡ e) × P f
 
--- a result is no fault
+-- A result is not a fault.
 pub no_fault : {A E P : Type 0} (x : A) (f : E) → ◌≡◌ {A = Result A E} (Ok x) (Err f) → P
 no_fault x f h = cc h
 
--- behind the characters that pass, if any byte is left, stands one that fails
+-- After the characters that pass, if any byte is left, stands one that fails.
 pub fails_in : (p : ℕ → Bool) (src cs : List ℕ) (i : ℕ) → drop i src ≡ encode_utf8_all cs → all_scalars cs ≡ true → i + passing p cs < length src
     → (c : ℕ) × (more : List ℕ) × (drop (i + passing p cs) src ≡ encode_utf8_all (c ∷ more)) × (p c ≡ false) × (all_scalars (c ∷ more) ≡ true)
 fails_in p src [] i is scalars some =
@@ -72,11 +72,11 @@ fails_in p src (c ∷ cs) i is scalars some =
           (c, cs, subst (λ (k : ℕ). drop k src ≡ encode_utf8_all (c ∷ cs)) e is, fails, scalars))
     ]
 
--- the first character of a row
+-- The first character of a row.
 head_is : (cs ds : List ℕ) (c : ℕ) (more : List ℕ) → cs ≡ c ∷ more → slice_index (cs ++ ds) 0 ≡ c
 head_is cs ds c more is = rw is refl
 
--- a character, and what follows it
+-- A character, and what follows it.
 stands_there : (src : List ℕ) (q c : ℕ) (a b : List ℕ) → drop q src ≡ (encode_utf8 c ++ a) ++ b → StandsAt c src q
 stands_there src q c a b is =
     let is' : drop q src ≡ encode_utf8 c ++ (a ++ b) = is ∙ append_assoc (encode_utf8 c) a b in
@@ -84,7 +84,7 @@ stands_there src q c a b is =
     let rest : drop (q + len_utf8 c) src ≡ a ++ b = sym (drop-drop (len_utf8 c) q src) ∙ ap (drop (len_utf8 c)) is' ∙ past in
     is' ∙ ap (λ (r : List ℕ). encode_utf8 c ++ r) (sym rest)
 
--- a run of Chars that ends before a place ends at a character that is none
+-- A run of Chars that ends before a place ends at a character that is none.
 pub ill_char : (src : List ℕ) (i e q : ℕ) → IsUtf8 src → IsCharBoundary src i → IsCharBoundary src e → i ≤ e → q ≡ run_end is_char (take e src) i → q < e
     → StandsAt (slice_index (chars (drop q src)) 0) src q × (is_char (slice_index (chars (drop q src)) 0) ≡ false)
 unfolding run_end
@@ -111,7 +111,7 @@ ill_char src i e q utf8 cut end le is before =
     let standing : StandsAt c src q = stands_there src q c (encode_utf8_all found.1) (drop e src) (whole ∙ ap (λ (bs : List ℕ). bs ++ drop e src) there) in
     (subst (λ (d : ℕ). StandsAt d src q) (sym first) standing, ap is_char first ∙ found.3)
 
--- Chars up to a place: the fault is a character that is none
+-- Chars up to a place: the fault is a character that is none.
 pub chars_fails : (src : List ℕ) (i e : ℕ) (f : Fault) → IsUtf8 src → IsCharBoundary src i → IsCharBoundary src e → i ≤ e → chars_up_to e src i ≡ Err f → IsMissing src i (chars_to e) f
 unfolding chars_up_to
 chars_fails src i e f utf8 cut end le h =
@@ -124,7 +124,7 @@ chars_fails src i e f utf8 cut end le h =
     subst (IsMissing src i (chars_to e)) is (no_char e q (slice_index (chars (drop q src)) 0) refl before found.0 found.1))
     (λ fine h. cc)
 
--- a byte that is due
+-- A byte that is required.
 pub byte_fails : (b : ℕ) (src : List ℕ) (i : ℕ) (f : Fault) → byte_at b src i ≡ Err f → IsMissing src i (a_byte b) f
 unfolding byte_at
 byte_fails b src i f h =
@@ -133,14 +133,14 @@ byte_fails b src i f h =
     (λ inside h. chosen (eqb (byte src i) b) _ _ _ h (λ same h. cc)
     (λ apart h. let is : fault.InvalidChar b (byte src i) i ≡ f = cc in subst (IsMissing src i (a_byte b)) is (other_byte b (leb-false _ _ inside) (eqb-false _ _ apart))))
 
--- a fixed text that is due
+-- A fixed text that is required.
 pub string_fails : (w : Expected) (src : List ℕ) (i : ℕ) (f : Fault) → string_at w src i ≡ Err f → IsMissing src i (a_text w) f
 unfolding string_at
 string_fails w src i f h =
     chosen (stands (expected_text w) src i) _ _ _ h (λ same h. cc)
     (λ apart h. let is : fault.InvalidString w i ≡ f = cc in subst (IsMissing src i (a_text w)) is (other_text w apart))
 
--- the fault of a name that is none
+-- The fault of a name that is none.
 qname_fault : (src : List ℕ) (i : ℕ) (f : Fault) → qname_at src i ≡ Err f → f ≡ fault.InvalidName i
 unfolding qname_at
 qname_fault src i f h =
@@ -150,14 +150,14 @@ qname_fault src i f h =
     (λ is h. chosen (((eqb k i || begins is_name_start src i) && begins is_name_start src (k + 1)) && not (eqb (byte src (k + 1)) 58 || eqb (byte src j) 58)) _ _ _ h (λ fine h. cc) (λ fails h. cc))
     (λ none h. chosen (begins is_name_start src i) _ _ _ h (λ fine h. cc) (λ fails h. cc))
 
--- a qualified name that is due
+-- A qualified name that is required.
 pub qname_fails : (src : List ℕ) (i : ℕ) (f : Fault) → qname_at src i ≡ Err f → IsMissing src i a_qname f
 qname_fails src i f h =
     subst (IsMissing src i a_qname) (sym (qname_fault src i f h)) (no_qname (λ name j is. let k = qname_complete src i name j is in no_fault (name, j) f (sym k ∙ h)))
 
 -- ---- Chars hold no other character
 
--- if all of them pass, each does
+-- If all of them pass, each does.
 each_passes : (p : ℕ → Bool) (cs ds : List ℕ) (d : ℕ) → passing p (cs ++ d ∷ ds) ≡ length (encode_utf8_all (cs ++ d ∷ ds)) → p d ≡ true
 each_passes p [] ds d all =
     elim (cases_Bool (p d)) as (λ s. p d ≡ true) [
@@ -178,11 +178,11 @@ each_passes p (c ∷ cs) ds d all =
       | inr fails ↦ (let z : 0 ≡ length (encode_utf8 c ++ encode_utf8_all (cs ++ d ∷ ds)) = rw fails at all in absurd (omega arith))
     ]
 
--- what is no Char is a scalar value all the same
+-- What is no Char is a scalar value all the same.
 ill_scalar : (c : ℕ) → is_char c ≡ false → scalar c ≡ true
 ill_scalar c h = grind (arith, nat_tests)
 
--- a character begins with no byte that goes on with one
+-- A character begins with no byte that continues with one.
 lead_byte : (c : ℕ) (rest : List ℕ) → 128 ≤ get_or (encode_utf8 c ++ rest) 0 0 → 192 ≤ get_or (encode_utf8 c ++ rest) 0 0
 unfolding encode_utf8
 lead_byte c rest =
@@ -197,7 +197,7 @@ lead_byte c rest =
       ]
     ]
 
--- so no other character stands among Chars
+-- So no other character stands among Chars.
 pub chars_refuse : (src : List ℕ) (i e q c : ℕ) → IsUtf8 src → IsCharBoundary src i → IsCharBoundary src e → i ≤ q → q < e → run_end is_char (take e src) i ≡ e → StandsAt c src q → is_char c ≡ false → ⊥
 unfolding run_end
 chars_refuse src i e q c utf8 cut end from below all stands' ill =
@@ -225,7 +225,7 @@ chars_refuse src i e q c utf8 cut end from below all stands' ill =
     let some : 0 < length b = omega (arith, length-take (e - q) (drop q src), length-drop q src, end.0) in
     first_one (chars b) refl two (encodes-chars b two) some pass scalar'
   where
-    -- the first character there is the one that stands there
+    -- The first character there is the one that is there.
     first_one : (cs : List ℕ) → cs ≡ chars (take (e - q) (drop q src)) → IsUtf8 (take (e - q) (drop q src)) → encode_utf8_all (chars (take (e - q) (drop q src))) ≡ take (e - q) (drop q src) → 0 < length (take (e - q) (drop q src))
         → passing is_char (chars (take (q - i) (drop i src)) ++ chars (take (e - q) (drop q src))) ≡ length (encode_utf8_all (chars (take (q - i) (drop i src)) ++ chars (take (e - q) (drop q src))))
         → scalar c ≡ true → ⊥

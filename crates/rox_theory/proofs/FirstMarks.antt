@@ -1,4 +1,4 @@
--- Where a fixed text stands first, and whether a stretch of the source holds one.
+-- Where a fixed text is first, and whether a stretch of the source holds one.
 use Rattle.std.proofs.Common.{◌≡◌, ℕ, zero, suc, ◌+◌, ◌-◌, ◌<◌, ◌≤◌, ◌||◌, ◌==◌, true, false, List, [], ◌∷◌, ◌++◌, length, take, drop, refl, sym, ap, ◌∙◌, subst, arith, inl, inr, get_or-drop, length-drop, length-take}
 use Rattle.std.specs.List.{starts_with}
 use Rattle.std.proofs.lemmas.Bool.{cases_Bool, cases_lt, false_from_ne_true, false≢true, lt-ltb, le-ltb, eqb-true, eq-eqb, ne_eqb, or_from, or_left, or_right}
@@ -19,7 +19,7 @@ use Rattle.rox_theory.proofs.StretchLemmas.{slice_length}
 
 -- ---- in a list
 
--- a mark that begins a front begins the whole
+-- A mark that begins a front begins the whole.
 no_front : (mark : List ℕ) (n : ℕ) (hay : List ℕ) → starts_with ◌==◌ hay mark ≡ false → starts_with ◌==◌ (take n hay) mark ≡ false
 no_front mark n hay none =
     false_from_ne_true (starts_with ◌==◌ (take n hay) mark) (λ h.
@@ -30,7 +30,7 @@ no_front mark n hay none =
 starts_take : (mark : List ℕ) (n : ℕ) (xs : List ℕ) → length mark ≤ n → starts_with ◌==◌ (take n xs) mark ≡ starts_with ◌==◌ xs mark
 starts_take mark n xs fits = rw (take-take (length mark) n xs fits) refl
 
--- the first one stands there
+-- The first one is there.
 first_stands : (mark hay : List ℕ) → before_mark mark hay < length hay → starts_with ◌==◌ (drop (before_mark mark hay) hay) mark ≡ true
 first_stands mark [] some = absurd (omega arith)
 first_stands mark (b ∷ bs) some =
@@ -42,7 +42,7 @@ first_stands mark (b ∷ bs) some =
           rw later (subst (λ (k : ℕ). starts_with ◌==◌ (drop k (b ∷ bs)) mark ≡ true) on (first_stands mark bs (omega arith))))
     ]
 
--- none stands before it
+-- None is before it.
 first_le : (mark hay : List ℕ) (k : ℕ) → starts_with ◌==◌ (drop k hay) mark ≡ true → before_mark mark hay ≤ k
 first_le mark [] k h = omega arith
 first_le mark (b ∷ bs) zero h = rw h (omega arith)
@@ -52,7 +52,7 @@ first_le mark (b ∷ bs) (suc k) h =
       | inr later ↦ (let ih = first_le mark bs k h in rw later (omega arith))
     ]
 
--- a front before the first one holds none
+-- A front before the first one holds none.
 front_without : (mark : List ℕ) (n : ℕ) (hay : List ℕ) → n ≤ before_mark mark hay → before_mark mark (take n hay) ≡ length (take n hay)
 front_without mark zero [] le = refl
 front_without mark zero (b ∷ bs) le = refl
@@ -69,7 +69,7 @@ front_without mark (suc n) (b ∷ bs) le =
 
 -- ---- in a source
 
--- the first place of a mark, where it is not the end, has it
+-- The first place of a mark, where it is not the end, has it.
 pub mark_stands : (mark src : List ℕ) (i : ℕ) → mark_from mark src i < length src → stands mark src (mark_from mark src i) ≡ true
 unfolding stands mark_from
 mark_stands mark src i some =
@@ -77,7 +77,7 @@ mark_stands mark src i some =
     let h = first_stands mark (drop i src) (omega arith) in
     subst (λ (l : List ℕ). starts_with ◌==◌ l mark ≡ true) (drop-drop (before_mark mark (drop i src)) i src) h
 
--- no place before it has
+-- No place before it has.
 pub mark_first : (mark src : List ℕ) (i k : ℕ) → i ≤ k → stands mark src k ≡ true → mark_from mark src i ≤ k
 unfolding stands mark_from
 mark_first mark src i k from h =
@@ -86,14 +86,14 @@ mark_first mark src i k from h =
     let le = first_le mark (drop i src) (k - i) h' in
     omega arith
 
--- what stands before it holds none
+-- What is before it holds none.
 pub mark_behind : (mark src : List ℕ) (i e : ℕ) → e ≤ mark_from mark src i → has_mark mark (slice src i e) ≡ false
 unfolding mark_from
 mark_behind mark src i e le =
     let none = front_without mark (e - i) (drop i src) (omega arith) in
     rw none (le-ltb (length (slice src i e)) (length (slice src i e)) (omega arith))
 
--- what goes on behind it holds one
+-- What continues after it holds one.
 pub mark_inside : (mark src : List ℕ) (i e : ℕ) → 0 < length mark → e ≤ length src → mark_from mark src i + length mark ≤ e → has_mark mark (slice src i e) ≡ true
 unfolding mark_from
 mark_inside mark src i e some within inside =
@@ -110,11 +110,11 @@ mark_inside mark src i e some within inside =
 
 -- ---- comments: two dashes in a text, or one at its end
 
--- a byte of a stretch
+-- A byte of a stretch.
 slice_byte : (src : List ℕ) (i e k : ℕ) → i + k < e → byte (slice src i e) k ≡ byte src (i + k)
 slice_byte src i e k below = get_or-take (e - i) (drop i src) k 0 (omega arith) ∙ get_or-drop i src k 0
 
--- a text that ends before or where they are has no two, nor one at its end
+-- A text that ends before or where they are has no two, nor one at its end.
 pub no_dashes : (src : List ℕ) (i e : ℕ) → e ≤ mark_from double_dash src i → stands (word_text word.CommentEnd) src e ≡ true
     → (has_mark double_dash (slice src i e) || byte (slice src i e) (length (slice src i e) - 1) == 45) ≡ false
 no_dashes src i e before closes =
@@ -137,7 +137,7 @@ no_dashes src i e before closes =
           omega arith)
     ]))
 
--- one before whose end they begin has
+-- One before whose end they begin has.
 pub two_dashes : (src : List ℕ) (i e : ℕ) → i ≤ e → e ≤ length src → mark_from double_dash src i < e
     → (has_mark double_dash (slice src i e) || byte (slice src i e) (length (slice src i e) - 1) == 45) ≡ true
 two_dashes src i e le within before =
@@ -153,7 +153,7 @@ two_dashes src i e le within before =
           (eq-eqb _ _ (slice_byte src i e (length (slice src i e) - 1) (omega arith) ∙ ap (byte src) at ∙ here)))
     ]
 
--- the first `-->` is where the first two dashes are, if it stands there
+-- The first `-->` is where the first two dashes are, if it is there.
 pub comment_ends : (src : List ℕ) (i e : ℕ) → e ≡ mark_from double_dash src i → stands (word_text word.CommentEnd) src e ≡ true → e ≡ mark_from (word_text word.CommentEnd) src i
 comment_ends src i e is closes =
     let k = mark_from (word_text word.CommentEnd) src i in
@@ -165,7 +165,7 @@ comment_ends src i e is closes =
     let ge = mark_first double_dash src i k (mark_from_le (word_text word.CommentEnd) src i) two in
     omega arith
 
--- and they are where a `-->` is, if the text before it has no two dashes, nor one at its end
+-- And they are where a `-->` is, if the text before it has no two dashes, nor one at its end.
 pub dashes_end : (src : List ℕ) (i e : ℕ) → i ≤ e → (has_mark double_dash (slice src i e) || byte (slice src i e) (length (slice src i e) - 1) == 45) ≡ false
     → stands (word_text word.CommentEnd) src e ≡ true → e ≡ mark_from double_dash src i
 dashes_end src i e from free closes =
@@ -177,7 +177,7 @@ dashes_end src i e from free closes =
       | inr none ↦ omega arith
     ]
 
--- where the text has them, they are before
+-- Where the text has them, they are before.
 pub dashes_before : (src : List ℕ) (i e : ℕ) → stands (word_text word.CommentEnd) src e ≡ true
     → (has_mark double_dash (slice src i e) || byte (slice src i e) (length (slice src i e) - 1) == 45) ≡ true → mark_from double_dash src i < e
 dashes_before src i e closes ill =
@@ -186,7 +186,7 @@ dashes_before src i e closes ill =
       | inr after ↦ absurd (false≢true (sym (no_dashes src i e after closes) ∙ ill))
     ]
 
--- ---- runs: where a `]]>` begins in one, all of it stands there
+-- ---- runs: where a `]]>` begins in one, all of it is there
 marked_run : (src : List ℕ) (i e : ℕ) → e ≡ byte_from (λ c. c == 60) src i → e ≤ length src → mark_from (word_text word.CDataEnd) src i < e
     → has_mark (word_text word.CDataEnd) (slice src i e) ≡ true
 marked_run src i e is within before =
@@ -206,7 +206,7 @@ marked_run src i e is within before =
       | inr all ↦ all
     ])
 
--- so none begins in one that has none
+-- So none begins in one that has none.
 pub unmarked_run : (src : List ℕ) (i e : ℕ) → e ≡ byte_from (λ c. c == 60) src i → e ≤ length src → has_mark (word_text word.CDataEnd) (slice src i e) ≡ false
     → e ≤ mark_from (word_text word.CDataEnd) src i
 unmarked_run src i e is within none =
@@ -215,7 +215,7 @@ unmarked_run src i e is within none =
       | inr le ↦ le
     ]
 
--- and where one has a `]]>`, it begins before its end
+-- And where one has a `]]>`, it begins before its end.
 pub run_marked : (src : List ℕ) (i e : ℕ) → has_mark (word_text word.CDataEnd) (slice src i e) ≡ true → mark_from (word_text word.CDataEnd) src i < e
 run_marked src i e marked =
     elim (cases_lt (mark_from (word_text word.CDataEnd) src i) e) as (λ s. mark_from (word_text word.CDataEnd) src i < e) [

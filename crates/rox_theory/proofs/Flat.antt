@@ -15,7 +15,7 @@ use Rattle.rox_reading.proofs.Forests.{join-nil, join_assoc}
 use Rattle.rox_theory.proofs.Leaves.{state}
 
 module _ (main : Bool) (O : Inclusion) (src : List ℕ) (open_around : ℕ) where
-  -- one construct, by the grammar alone
+  -- One construct, by the grammar alone.
   pub data StepsOver : State → State → Type 0 where
     takes_run : (i j b c : ℕ) (items done : Forest Item) (stack : Open) → IsCharacterData src i j → Parts main O src i j i b c items
         → StepsOver (state i done stack b) (state j (join done items) stack c)
@@ -28,13 +28,13 @@ module _ (main : Bool) (O : Inclusion) (src : List ℕ) (open_around : ℕ) wher
     takes_end : (i p j b start : ℕ) (t : Tag) (done before : Forest Item) (up : Open) → open_around < depth_of up + 1 → IsEnd src i t.name p j
         → StepsOver (state i done (inside start t before up) b) (state j (join before (Cons (Element start j t) (merge done) Nil)) up b)
 
-  -- the constructs from a state on, up to the end of the text
+  -- The constructs from a state on, up to the end of the text.
   pub data Chain : State → State → Type 0 where
     arrives : (s : State) → s.at ≡ length src → depth_of s.stack ≡ open_around → Chain s s
     goes : (s t u : State) → StepsOver s t → Chain t u → Chain s u
 
   mutual
-    -- content in front
+    -- Content in front.
     pub content_chain : (i l b c : ℕ) (items : Forest Item) → Content main O src i l b c items → (done : Forest Item) (stack : Open) (u : State)
         → open_around < depth_of stack + 1 → Chain (state l (join done items) stack c) u → Chain (state i done stack b) u
     content_chain i l b c items (ends _ _) done stack u own rest = rw join-nil at rest
@@ -54,7 +54,7 @@ module _ (main : Bool) (O : Inclusion) (src : List ℕ) (open_around : ℕ) wher
         goes _ _ u (takes_start i k b c t done stack is)
         (content_chain k m c d kids inner Nil (inside i t done stack) u (omega (arith, own)) (goes _ _ u (takes_end m p j d i t kids done stack own end) rest))
 
-  -- how the text has to go on from a state with so many own elements open
+  -- How the text has to continue from a state with so many own elements open.
   abbrev pub Completes : (own : ℕ) → ℕ → ℕ → Forest Item → Open → State → Type 0
   Completes zero i b done stack u = (more : Forest Item) × Content main O src i (length src) b u.openings_left more × (u ≡ state (length src) (join done more) stack u.openings_left)
   Completes (suc n) i b done root u = ⊥
@@ -62,7 +62,7 @@ module _ (main : Bool) (O : Inclusion) (src : List ℕ) (open_around : ℕ) wher
       (more : Forest Item) × (m : ℕ) × (p : ℕ) × (e : ℕ) × (r : ℕ) × Content main O src i m b r more × IsEnd src m t.name p e
       × Completes n e r (join before (Cons (Element start e t) (merge (join done more)) Nil)) up u
 
-  -- items in front
+  -- Items in front.
   extends : (own i j b c : ℕ) (done items : Forest Item) (stack : Open) (u : State)
       → ((l d : ℕ) (more : Forest Item) → Content main O src j l c d more → Content main O src i l b d (join items more))
       → Completes own j c (join done items) stack u → Completes own i b done stack u
@@ -71,7 +71,7 @@ module _ (main : Bool) (O : Inclusion) (src : List ℕ) (open_around : ℕ) wher
   extends (suc n) i j b c done items (inside start t before up) u front (more, m, p, e, r, is, end, rest) =
       (join items more, m, p, e, r, front m r more is, end, rw join_assoc at rest)
 
-  -- one construct in front
+  -- One construct in front.
   pub takes_completes : (own : ℕ) (s t u : State) → StepsOver s t → depth_of s.stack ≡ open_around + own
       → ((next : ℕ) → depth_of t.stack ≡ open_around + next → Completes next t.at t.openings_left t.done t.stack u) → Completes own s.at s.openings_left s.done s.stack u
   takes_completes own s t u (takes_run i j b c items done stack is parts) deep h =
@@ -92,14 +92,14 @@ module _ (main : Bool) (O : Inclusion) (src : List ℕ) (open_around : ℕ) wher
   takes_completes (suc n) s t u (takes_end i p j b start tag done before up within end) deep h =
       (Nil, i, p, j, b, ends i b, end, rw join-nil (h n (omega (arith, deep))))
 
-  -- a chain is what completes its first state
+  -- A chain is what completes its first state.
   pub chain_completes : (own : ℕ) (s u : State) → Chain s u → depth_of s.stack ≡ open_around + own → Completes own s.at s.openings_left s.done s.stack u
   chain_completes zero s u (arrives _ here same) deep =
       (Nil, subst (λ (l : ℕ). Content main O src s.at l s.openings_left s.openings_left Nil) here (ends s.at s.openings_left), rw (join-nil, sym here) refl)
   chain_completes (suc n) s u (arrives _ here same) deep = absurd (omega (arith, deep, same))
   chain_completes own s u (goes _ t _ takes rest) deep = takes_completes own s t u takes deep (λ next deep'. chain_completes next t u rest deep')
 
--- a replacement text that is read from a state on, in which so many elements are open, is content, and the other way round
+-- A replacement text that is read from a state on, in which so many elements are open, is content, and the other way round.
 pub text_sound : (O : Inclusion) (src : List ℕ) (i b : ℕ) (done : Forest Item) (stack : Open) (u : State) → Chain false O src (depth_of stack) (state i done stack b) u
     → (items : Forest Item) × Content false O src i (length src) b u.openings_left items × (u ≡ state (length src) (join done items) stack u.openings_left)
 text_sound O src i b done stack u chain = chain_completes false O src (depth_of stack) zero (state i done stack b) u chain (omega arith)

@@ -4,13 +4,14 @@ use Rattle.std.proofs.Common.{arith, ◌∙◌}
 use Rattle.std.specs.Prelude.{◌≡◌, ℕ, zero, suc, ◌+◌, ◌≤◌, Bool, true, false, List, [], length, refl}
 use Rattle.rox_grammar.specs.Forest.{Forest}
 use Rattle.rox_grammar.specs.Written.{Item, Attribute, Tag}
+use Rattle.rox_grammar.specs.References.{entity_reference}
 use Rattle.rox_grammar.specs.Content.{Inclusion, last_part, then_entity, Value, value_ends, line_end, white, other, a_character, an_entity, Attributes, no_more, one_more, attribute, IsTag, IsElement, empty, nest, Content, ends, run, cdata, misc, node, start_tag}
 use Rattle.rox_grammar.specs.RunParts.{Parts}
 use Rattle.rox_grammar.specs.Entities.{Entity, Includes, most_deep, no_entities, included_in_main}
 use Rattle.rox_grammar.specs.Expansion.{Counts}
 use Rattle.rox_grammar.specs.Content.{attribute}
 
--- what the one opens the other does, and the openings that the one takes the other counts
+-- What the one opens the other does, and the openings that the one takes the other counts.
 pub record Follows (O P : Inclusion) : Type 0 where
   pub content : (name : List ℕ) (b : ℕ) (items : Forest Item) (c : ℕ) → O.content name b items c → (m : ℕ) → (n : ℕ) × P.content name m items n × (m + b ≡ n + c)
   pub value : (name : List ℕ) (b : ℕ) (v : List ℕ) (c : ℕ) → O.value name b v c → (m : ℕ) → (n : ℕ) × P.value name m v n × (m + b ≡ n + c)
@@ -18,10 +19,10 @@ pub record Follows (O P : Inclusion) : Type 0 where
 module _ (main : Bool) (O P : Inclusion) (follows : Follows O P) (src : List ℕ) where
   parts_count : (start stop i b c : ℕ) (items : Forest Item) → Parts main O src start stop i b c items → (m : ℕ) → (n : ℕ) × Parts main P src start stop i m n items × (m + b ≡ n + c)
   parts_count start stop i b c items (last_part _ _ ss part) m = (m, last_part i m ss part, refl)
-  parts_count start stop i b d items (then_entity _ p n j _ c _ ss front more part reference name opened rest) m =
+  parts_count start stop i b d items (then_entity _ p j _ c _ _ ss front more part (entity_reference n reference name) opened rest) m =
       let x = follows.content _ b front c opened m in
       let y = parts_count start stop j c d more rest x.0 in
-      (y.0, then_entity i p n j m x.0 y.0 ss front more part reference name x.1 y.1, x.2 ∙ y.2)
+      (y.0, then_entity i p j m x.0 y.0 _ ss front more part (entity_reference n reference name) x.1 y.1, x.2 ∙ y.2)
 
   value_count : (j i b c : ℕ) (v : List ℕ) → Value main O src j i b c v → (m : ℕ) → (n : ℕ) × Value main P src j i m n v × (m + b ≡ n + c)
   value_count j i b c v (value_ends _) m = (m, value_ends m, refl)
@@ -29,10 +30,10 @@ module _ (main : Bool) (O P : Inclusion) (follows : Follows O P) (src : List ℕ
   value_count j i b c v (white _ _ _ w more is rest) m = let x = value_count j (i + 1) b c w rest m in (x.0, white i m x.0 w more is x.1, x.2)
   value_count j i b c v (other _ _ _ w more x₁ x₂ x₃ x₄ x₅ rest) m = let x = value_count j (i + 1) b c w rest m in (x.0, other i m x.0 w more x₁ x₂ x₃ x₄ x₅ x.1, x.2)
   value_count j i b c v (a_character _ n z _ _ w is within allowed rest) m = let x = value_count j n b c w rest m in (x.0, a_character i n z m x.0 w is within allowed x.1, x.2)
-  value_count j i b d v (an_entity _ n k _ c _ u w is name within opened rest) m =
+  value_count j i b d v (an_entity _ k _ c _ _ u w (entity_reference n is name) within opened rest) m =
       let x = follows.value _ b u c opened m in
       let y = value_count j k c d w rest x.0 in
-      (y.0, an_entity i n k m x.0 y.0 u w is name within x.1 y.1, x.2 ∙ y.2)
+      (y.0, an_entity i k m x.0 y.0 _ u w (entity_reference n is name) within x.1 y.1, x.2 ∙ y.2)
 
   attributes_count : (i k b c : ℕ) (as' : List Attribute) → Attributes main O src i k b c as' → (m : ℕ) → (n : ℕ) × Attributes main P src i k m n as' × (m + b ≡ n + c)
   attributes_count i k b c as' (no_more _ _) m = (m, no_more i m, refl)
@@ -69,7 +70,7 @@ module _ (main : Bool) (O P : Inclusion) (follows : Follows O P) (src : List ℕ
         let y = content_count j l c d more rest x.0 in
         (y.0, node i j l m x.0 y.0 one more x.1 y.1, x.2 ∙ y.2)
 
--- within replacement texts, at most so many within one another
+-- Within replacement texts, at most so many within one another.
 pub follows_within : (es : List Entity) (d : ℕ) → Follows (Includes es d false) (Counts es d)
 follows_within es zero = record { content = λ name b items c h. absurd h; value = λ name b v c h. absurd h }
 follows_within es (suc d) =
@@ -83,14 +84,14 @@ follows_within es (suc d) =
           (x.0, (t, found, chars, x.1), omega (arith, x.2, before, after));
     }
 
--- a reference outside replacement texts opens at most 256 of them, at most ten within one another
+-- A reference outside replacement texts opens at most 256 of them, at most ten within one another.
 pub few_opened : (es : List Entity) (name : List ℕ) (b c : ℕ) (items : Forest Item) → (Includes es most_deep true).content name b items c
     → (n : ℕ) × (Counts es most_deep).content name 0 items n × (n ≤ 256)
 few_opened es name b c items (t, r, l, found, (all, same), is) =
     let x = content_count false (Includes es 9 false) (Counts es 9) (follows_within es 9) t.source t.start (length t.source) r l items is 1 in
     (x.0, (t, found, x.1), omega (arith, x.2, all))
 
--- so does one in a value
+-- So does one in a value.
 pub few_opened_in_value : (es : List Entity) (name : List ℕ) (b c : ℕ) (v : List ℕ) → (Includes es most_deep true).value name b v c
     → (n : ℕ) × (Counts es most_deep).value name 0 v n × (n ≤ 256)
 few_opened_in_value es name b c v (t, r, l, found, (all, same), chars, is) =
@@ -99,7 +100,7 @@ few_opened_in_value es name b c v (t, r, l, found, (all, same), chars, is) =
 
 -- ---- where nothing is declared
 
--- where nothing is declared nothing is opened
+-- Where nothing is declared nothing is opened.
 pub follows_nothing : (d : ℕ) (main : Bool) → Follows (Includes [] d main) no_entities
 follows_nothing zero main = record { content = λ name b items c h. absurd h; value = λ name b v c h. absurd h }
 follows_nothing (suc d) main =
@@ -111,11 +112,11 @@ follows_nothing (suc d) main =
 pub element_without : (src : List ℕ) (i j b c : ℕ) (one : Forest Item) → IsElement true (included_in_main []) src i j b c one → (n : ℕ) × IsElement true no_entities src i j b n one
 element_without src i j b c one is = let x = element_count true (included_in_main []) no_entities (follows_nothing most_deep true) src i j b c one is b in (x.0, x.1)
 
--- and the other way round
+-- And the other way round.
 pub follows_any : (O : Inclusion) → Follows no_entities O
 follows_any O = record { content = λ name b items c h. absurd h; value = λ name b v c h. absurd h }
 
--- where nothing is opened the openings that are left are any
+-- Where nothing is opened the openings that are left are any.
 
 pub value_free : (main : Bool) (src : List ℕ) (j i b c : ℕ) (v : List ℕ) → Value main no_entities src j i b c v → (d : ℕ) → Value main no_entities src j i d d v
 value_free main src j i b c v (value_ends _) d = value_ends d
@@ -123,7 +124,7 @@ value_free main src j i b c v (line_end _ _ _ _ more cr lf rest) d = line_end i 
 value_free main src j i b c v (white _ _ _ w more is rest) d = white i d d w more is (value_free main src j (i + 1) b c w rest d)
 value_free main src j i b c v (other _ _ _ w more x₁ x₂ x₃ x₄ x₅ rest) d = other i d d w more x₁ x₂ x₃ x₄ x₅ (value_free main src j (i + 1) b c w rest d)
 value_free main src j i b c v (a_character _ n x _ _ w is within allowed rest) d = a_character i n x d d w is within allowed (value_free main src j n b c w rest d)
-value_free main src j i b c v (an_entity _ n k _ e _ u w is name within opens rest) d = absurd opens
+value_free main src j i b c v (an_entity _ k _ e _ _ u w (entity_reference n is name) within opens rest) d = absurd opens
 
 attributes_free : (main : Bool) (src : List ℕ) (i k b c : ℕ) (as' : List Attribute) → Attributes main no_entities src i k b c as' → (d : ℕ) → Attributes main no_entities src i k d d as'
 attributes_free main src i k b c as' (no_more _ _) d = no_more i d

@@ -25,7 +25,7 @@ longest_both n (e ∷ one) others h k =
     omega (arith, h, x)
 
 module _ (src : List ℕ) (most : ℕ) where
-  -- no longer than the text, or than an answer
+  -- No longer than the text, or than an answer.
   abbrev IsShort : Option Replacement → Type 0
   IsShort None = Unit {0}
   IsShort (Some t) = length t.source - t.start ≤ max (length src) most

@@ -8,7 +8,7 @@ use Rattle.rox_grammar.specs.Written.{Item, Element, Text, Comment, PI, Attribut
 use Rattle.rox_grammar.specs.Counts.{attribute_count}
 use Rattle.rox_theory.specs.ItemSize.{bytes_in, value_bytes_of}
 
--- an attribute is no more than its value and one byte
+-- An attribute is no more than its value and one byte.
 abbrev pub most_of : List Attribute → ℕ
 most_of [] = 0
 most_of (a ∷ as') = 1 + length a.value + most_of as'
@@ -22,7 +22,7 @@ pub record Measure (of : Forest Item → ℕ) : Type 0 where
   pub instruction : (i j : ℕ) (target : List ℕ) (v : Option (List ℕ)) → of (leaf (PI i j target v)) ≤ 1
   pub merged : (f : Forest Item) → of (merge f) ≤ of f
 
--- of these attributes as many as declare nothing
+-- Of these attributes as many as declare nothing.
 pub fewer : (as' : List Attribute) → most_of (plain_attributes_of as') ≤ most_of as'
 fewer [] = omega arith
 fewer (a ∷ as') = let h = fewer as' in at_test (is_namespace_decl a.name) h

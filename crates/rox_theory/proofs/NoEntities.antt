@@ -9,20 +9,20 @@ use Rattle.rox_reading.specs.Tags.{Values}
 use Rattle.rox_reading.specs.Machine.{values_of}
 use Rattle.rox_theory.specs.Openers.{AgreesValue, AgreesContent}
 
--- in a value
+-- In a value.
 pub no_values : (opener : ValueInclusion) → AgreesValue [] no_entities opener
 no_values opener = record {
   sound = λ name t after b c w found h. cc found;
   complete = λ name after b c w h. absurd h;
 }
 
--- and in content
+-- And in content.
 pub no_contents : (limit : ℕ) (opener : Replacement → ℕ → State → Result State Refusal) → AgreesContent [] limit no_entities opener
 no_contents limit opener = record {
   sound = λ most name t after s u less found fine h. cc found;
   complete = λ name after c items s h fine. absurd h;
 }
 
--- how a tag of the main text is read there
+-- How a tag of the main text is read there.
 abbrev pub alone : Values
 alone = values_of [] most_deep true

@@ -1,4 +1,4 @@
--- At most one element stands at a place, whatever the limits are.
+-- At most one element is at a place, whatever the limits are.
 use Rattle.std.proofs.Common.{◌≡◌, ℕ, zero, suc, ◌+◌, ◌<◌, ◌==◌, Bool, true, false, not, List, length, Ok, refl, sym, ap, ◌∙◌, subst, arith, true≢false}
 use Rattle.std.specs.Prelude.{Some, Option}
 use Rattle.std.specs.Str.{IsUtf8}
@@ -33,12 +33,12 @@ use Rattle.rox_theory.proofs.Chains as chains
 use Rattle.rox_theory.proofs.Chains.{Drives, root_drives}
 
 module _ (context : Values) (O : Inclusion) (agrees : AgreesValue context.entities O context.opener) (once : OpensOnce O) (src : List ℕ) (utf8 : IsUtf8 src) where
-  -- an end tag closes the innermost open element
+  -- An end tag closes the innermost open element.
   abbrev Closes : ℕ → ℕ → Forest Item → Open → State → Type 0
   Closes openings_left j done root t = ⊥
   Closes openings_left j done (inside start tag before up) t = t ≡ closed j done start tag before up openings_left
 
-  -- one construct, by its kind
+  -- One construct, by its kind.
   abbrev OneBy : Kind → State → State → Type 0
   OneBy a_run s t = (j : ℕ) × (c : ℕ) × (items : Forest Item) × IsCharacterData src s.at j × Parts context.main O src s.at j s.at s.openings_left c items × (t ≡ state j (join s.done items) s.stack c)
   OneBy a_comment s t = (j : ℕ) × (text : List ℕ) × (comment_at src s.at ≡ Ok (text, j)) × (t ≡ with_leaf s j (Comment s.at j text))
@@ -48,7 +48,7 @@ module _ (context : Values) (O : Inclusion) (agrees : AgreesValue context.entiti
   OneBy a_tag s t = (j : ℕ) × (c : ℕ) × (tag : Tag) × (empty : Bool) × IsTag context.main O src s.at j s.openings_left c empty tag × (t ≡ after s j tag empty c)
   OneBy nothing s t = ⊥
 
-  -- of the kind that stands there
+  -- Of the kind that is there.
   by_kind : (k : Kind) (s t : State) → kind_at src s.at ≡ k → OneBy k s t → OneBy (kind_at src s.at) s t
   by_kind k s t is h = subst (λ (k : Kind). OneBy k s t) (sym is) h
 
@@ -96,14 +96,14 @@ module _ (context : Values) (O : Inclusion) (agrees : AgreesValue context.entiti
   by_once a_tag s t u h k = tags_once s t u h k
   by_once nothing s t u h k = absurd h
 
-  -- one construct stands at a place
+  -- One construct is at a place.
   pub takes_once : (open_around : ℕ) (s t u : State) → StepsOver context.main O src open_around s t → StepsOver context.main O src open_around s u → t ≡ u
   takes_once open_around s t u h k = by_once (kind_at src s.at) s t u (takes_by open_around s t h) (takes_by open_around s u k)
 
 -- ---- replacement texts
 
 module _ (context : Values) (O : Inclusion) (src : List ℕ) where
-  -- one construct begins in the text
+  -- One construct begins in the text.
   takes_within : (open_around : ℕ) (s t : State) → StepsOver context.main O src open_around s t → s.at < length src
   takes_within open_around s t (takes_run i j b c items done stack is parts) = (run_within src i j is).0
   takes_within open_around s t (takes_cdata i e j b done stack is) = omega (arith, (cdata_bytes src i (cdata_parts is).opens).0)
@@ -117,7 +117,7 @@ module _ (es : List Entity) (opener : ValueInclusion) (O : Inclusion) (agrees : 
   abbrev within : Values
   within = record { main = false; entities = es; opener = opener }
 
-  -- there is one chain up to the end
+  -- There is one chain up to the end.
   chain_once : (open_around : ℕ) (s t u : State) → Chain false O src open_around s t → Chain false O src open_around s u → t ≡ u
   chain_once open_around s t u (arrives _ at deep) (arrives _ at' deep') = refl
   chain_once open_around s t u (arrives _ at deep) (goes _ v _ takes rest) = absurd (omega (arith, at, takes_within within O src open_around s v takes))
@@ -126,7 +126,7 @@ module _ (es : List Entity) (opener : ValueInclusion) (O : Inclusion) (agrees : 
       let e : w ≡ v = takes_once within O agrees once src utf8 open_around s w v takes' takes in
       chain_once open_around v t u rest (subst (λ (w : State). Chain false O src open_around w u) e rest')
 
-  -- a text is content in one way, and as many may be opened behind it
+  -- A text is content in one way, and as many may be opened after it.
   pub text_once : (i b c d : ℕ) (items more : Forest Item) → Content false O src i (length src) b c items → Content false O src i (length src) b d more → (items ≡ more) × (c ≡ d)
   text_once i b c d items more x y =
       let first = text_complete O src i b c Nil items root x in
@@ -134,7 +134,7 @@ module _ (es : List Entity) (opener : ValueInclusion) (O : Inclusion) (agrees : 
       let one = chain_once 0 (state i Nil root b) (state (length src) items root c) (state (length src) more root d) first second in
       (ap (λ (s : State). s.done) one, ap (λ (s : State). s.openings_left) one)
 
--- what is spent leaves one budget within the text, and one behind it
+-- What is spent leaves one budget within the text, and one after it.
 spends_once : (main : Bool) (b r l c q m d : ℕ) → Spends main b r l c → Spends main b q m d → r ≡ q
 spends_once true b r l c q m d (all, same) (all', same') = all ∙ sym all'
 spends_once false b r l c q m d (before, same) (before', same') = omega (arith, before, before')
@@ -146,7 +146,7 @@ spent_once false b r l c q m d (before, same) (before', same') e = same ∙ e �
 pub same_text : (x y : Replacement) → ◌≡◌ {A = Option Replacement} (Some x) (Some y) → x ≡ y
 same_text x y h = cc h
 
--- a reference opens one row of items
+-- A reference opens one row of items.
 pub opens_once : (es : List Entity) → AreTexts es → (d : ℕ) (main : Bool) → OpensOnce (Includes es d main)
 opens_once es texts zero main name b c e items more h k = absurd h
 opens_once es texts (suc d) main name b c e items more (t, r, l, found, spends, content) (u, q, m, found', spends', content') =
@@ -161,7 +161,7 @@ opens_once es texts (suc d) main name b c e items more (t, r, l, found, spends, 
 -- ---- the root element
 
 module _ (es : List Entity) (d : ℕ) (O : Inclusion) (agrees : AgreesValue es O (value_opener es d true)) (once : OpensOnce O) (src : List ℕ) (utf8 : IsUtf8 src) where
-  -- there is one chain up to its end
+  -- There is one chain up to its end.
   drives_once : (s t u : State) → Drives O src s t → Drives O src s u → t ≡ u
   drives_once s t u (chains.arrives _ h) (chains.arrives _ k) = refl
   drives_once s t u (chains.arrives _ h) (chains.goes _ v _ inner takes rest) = absurd (true≢false (sym h ∙ inner))
@@ -170,7 +170,7 @@ module _ (es : List Entity) (d : ℕ) (O : Inclusion) (agrees : AgreesValue es O
       let e : w ≡ v = takes_once (values_of es d true) O agrees once src utf8 0 s w v takes' takes in
       drives_once v t u rest (subst (λ (w : State). Drives O src w u) e rest')
 
-  -- there is one element
+  -- There is one element.
   pub one_element : (i j k b c e : ℕ) (one other : Forest Item) → IsElement true O src i j b c one → IsElement true O src i k b e other → (j ≡ k) × (one ≡ other)
   one_element i j k b c e one other x y =
       let p = root_drives O src i j b c one Nil x in
@@ -182,7 +182,7 @@ module _ (es : List Entity) (d : ℕ) (O : Inclusion) (agrees : AgreesValue es O
       let u = drives_once (after s p.0 p.2 p.3 p.1) (state j one root c) (state k other root e) p.5 (subst (λ (t : State). Drives O src t (state k other root e)) t q.5) in
       (ap (λ (s : State). s.at) u, ap (λ (s : State). s.done) u)
 
--- whatever the entities are
+-- Whatever the entities are.
 pub element_once : (es : List Entity) → AreTexts es → (src : List ℕ) → IsUtf8 src → (i j k b c d : ℕ) (one other : Forest Item) → IsElement true (included_in_main es) src i j b c one → IsElement true (included_in_main es) src i k b d other
     → (j ≡ k) × (one ≡ other)
 element_once es texts src utf8 = one_element es most_deep (included_in_main es) (values_agree es texts most_deep true) (opens_once es texts most_deep true) src utf8

@@ -32,7 +32,7 @@ use Rattle.rox_theory.proofs.Around.{Stops, DoctypesAgree, none_agree, element_s
 use Rattle.rox_theory.specs.ParseParts.{ParseParts}
 use Rattle.rox_theory.proofs.ParseParts.{tree_parts, parts}
 
--- the same answers are the same replies
+-- The same answers are the same replies.
 pub same_replies : (a b : List Asked) → map (λ x. x.answer) a ≡ map (λ x. x.answer) b → replies_of a ≡ replies_of b
 same_replies [] [] h = refl
 same_replies [] (y ∷ b) h = cc h
@@ -42,7 +42,7 @@ same_replies (x ∷ a) (y ∷ b) h =
     let rest : map (λ x. x.answer) a ≡ map (λ x. x.answer) b = cc in
     ap (λ (o : Option (List ℕ)). Ok o ∷ replies_of a) first ∙ ap (λ (rs : List Reply). Ok y.answer ∷ rs) (same_replies a b rest)
 
--- ---- what stands around the root element has no attributes
+-- ---- what is around the root element has no attributes
 
 abbrev IsBare : Forest Item → Type 0
 IsBare f = (attribute_count f ≡ 0) × (pairs f ≡ [])
@@ -75,7 +75,7 @@ bare_doctype src i j is items asked es (doctype _ k _ own more _ _ one after) = 
 bare_doctype src i j is items asked es (no_doctype _) = (refl, refl)
 
 module _ (src : List ℕ) (utf8 : IsUtf8 src) where
-  -- comments and instructions up to a stop are read in one way
+  -- Comments and instructions up to a stop are read in one way.
   one_misc : (h i j k : ℕ) (xs ys : Forest Item) → h ≡ i → Misc src h j xs → Stops src j → Misc src i k ys → Stops src k → (j ≡ k) × (xs ≡ ys)
   one_misc h i j k xs ys same m stops n stops' =
       let limit = (size (merge xs) + 1) + (size (merge ys) + 1) in
@@ -86,19 +86,19 @@ module _ (src : List ℕ) (utf8 : IsUtf8 src) where
       (ap (λ (s : State). s.at) e, ap (λ (s : State). s.done) e)
 
   module _ (allow : Bool) (doctypes : DoctypesAgree src allow) where
-    -- what comes before the root element is within limits that are wide enough
+    -- What comes before the root element is within limits that are wide enough.
     bare_fine : (limit j : ℕ) (items : Forest Item) → IsBare items → AreWellNamed [] items → 1 + size (merge items) ≤ limit → IsValidState limit (state j items root 255)
     bare_fine limit j items bare named fits =
         let none = bare.1 in
         record { nodes = fits; attributes = omega (arith, bare.0); pairs = rw none (omega arith); named = named }
 
-    -- the items of a document type declaration are well named
+    -- The items of a document type declaration are well named.
     named_there : (is : Bool) (asked : List Asked) (t : Forest Item) (p : ParseParts src is asked t) → AreWellNamed [] p.nodes
     named_there is asked t p =
         let named : AreWellNamed [] (join p.before (join p.nodes (join p.one p.after))) = subst (AreWellNamed []) p.is_tree p.well_named in
         named-left [] p.nodes (join p.one p.after) (named-right [] p.before (join p.nodes (join p.one p.after)) named)
 
-    -- a document type declaration is read in one way
+    -- A document type declaration is read in one way.
     one_doctype : (h i j k : ℕ) (d e : Bool) (xs ys : Forest Item) (a b : List Asked) (es fs : List Entity) → h ≡ i → replies_of a ≡ replies_of b → AreWellNamed [] xs → AreWellNamed [] ys
         → MayHaveDoctype src h j d xs a es → Stops src j → at word.DoctypeStart src j ≡ false → Permits allow d → MayHaveDoctype src i k e ys b fs → Stops src k → at word.DoctypeStart src k ≡ false → Permits allow e
         → (a ≡ b) × (j ≡ k) × (xs ≡ ys) × (es ≡ fs)
@@ -115,7 +115,7 @@ module _ (src : List ℕ) (utf8 : IsUtf8 src) where
     same_joined : {a b c d e f g h : Forest Item} → a ≡ b → c ≡ d → e ≡ f → g ≡ h → join a (join c (join e g)) ≡ join b (join d (join f h))
     same_joined p q r s = rw (p, q, r, s) refl
 
-    -- for the same answers there is one parse
+    -- For the same answers there is one parse.
     pub one_parse : (d e : Bool) (a b : List Asked) (t u : Forest Item) → ParseOf src d a t → ParseOf src e b u → Permits allow d → Permits allow e → replies_of a ≡ replies_of b
         → (d ≡ e) × (a ≡ b) × (t ≡ u)
     one_parse d e a b t u first second permits permits' answers =
@@ -136,7 +136,7 @@ module _ (src : List ℕ) (utf8 : IsUtf8 src) where
         let after = one_misc p.end q.end (length src) (length src) p.after q.after element.0 p.misc_after (end_stops src) q.misc_after (end_stops src) in
         (kind, declares.0, p.is_tree ∙ same_joined before.1 declares.2 element.1 after.1 ∙ sym q.is_tree)
 
-    -- and its readers see one tree
+    -- And its readers see one tree.
     pub one_tree : (limit most : ℕ) (d e : Bool) (a b : List Asked) (t u : Forest Node) → IsTreeOf src d a limit t → IsTreeOf src e b most u → Permits allow d → Permits allow e → replies_of a ≡ replies_of b
         → t ≡ u
     one_tree limit most d e a b t u one other permits permits' answers =
@@ -144,7 +144,7 @@ module _ (src : List ℕ) (utf8 : IsUtf8 src) where
         let q = tree_parts other in
         p.shown ∙ ap (document_tree (length src)) (one_parse d e a b p.written q.written p.parse q.parse permits permits' answers).2 ∙ sym q.shown
 
-  -- without a document type declaration there is one parse
+  -- Without a document type declaration there is one parse.
   pub one_plain_parse : (a b : List Asked) (t u : Forest Item) → ParseOf src false a t → ParseOf src false b u → t ≡ u
   one_plain_parse a b t u p q =
       let none = asks_nothing_there src utf8 a t p in

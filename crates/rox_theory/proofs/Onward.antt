@@ -81,7 +81,7 @@ pub pick_short : (b : Bool) (xs ys : List ℕ) (i n : ℕ) → length xs + i ≤
 pick_short true xs ys i n here there = here
 pick_short false xs ys i n here there = there
 
--- of a character in a value
+-- Of a character in a value.
 pub value_char : (main : Bool) (src : List ℕ) (i c n : ℕ) → IsCharacter src i c n → length (value_bytes main c) + i ≤ n
 value_char true src i c n is = char_bytes src i c n is
 value_char false src i c n is =

@@ -25,7 +25,7 @@ budget_complete false after (suc n) r l c (before, same) = let e : n ≡ r = ome
 
 -- ---- values
 
--- nothing stands behind the end
+-- Nothing is after the end.
 pub no_stop : (src : List ℕ) → length src < length src → IsStop (byte src (length src))
 no_stop src past = absurd (omega arith)
 
@@ -65,7 +65,7 @@ module _ (es : List Entity) (texts : AreTexts es) (d : ℕ) (inner : AgreesValue
   values_one_more : AgreesValue es (Includes es (suc d) main) (value_opener es (suc d) main)
   values_one_more = record { sound = opened_sound; complete = opened_complete }
 
--- a reference in a value
+-- A reference in a value.
 pub values_agree : (es : List Entity) → AreTexts es → (d : ℕ) (main : Bool) → AgreesValue es (Includes es d main) (value_opener es d main)
 values_agree es texts zero main = values_none es main
 values_agree es texts (suc d) main = values_one_more es texts d (values_agree es texts d false) main

@@ -7,7 +7,7 @@ use Rattle.rox_grammar.specs.WellNamed.{AreWellNamed}
 use Rattle.rox_grammar.specs.Tree.{Node, document_tree}
 use Rattle.rox_grammar.specs.Entities.{Entity}
 use Rattle.rox_grammar.specs.Doctype.{Asked}
-use Rattle.rox_grammar.specs.Document.{Misc, Prolog, with_doctype, without_doctype, PrologTo, Behind, element_and_misc, ParseOf, IsWithinLimits, IsTreeOf, document}
+use Rattle.rox_grammar.specs.Document.{Misc, Prolog, with_doctype, without_doctype, PrologTo, DocumentTo, element_and_misc, ParseOf, IsWithinLimits, IsTreeOf, document}
 use Rattle.rox_theory.specs.ParseParts.{MayHaveDoctype, doctype, no_doctype, PrologParts, ParseParts}
 use Rattle.rox_reading.proofs.Forests.{join_assoc, join-nil}
 
@@ -23,11 +23,11 @@ parts_prolog src p dtd items asked es a = subst (λ (f : Forest Item). Prolog sr
     joined i p dtd before nodes asked es ahead (doctype _ j _ own after _ _ is behind) = with_doctype i j before own after asked es ahead is behind
     joined i p dtd before nodes asked es ahead (no_doctype _) = subst (λ (f : Forest Item). Prolog src i false f [] []) (sym (join-nil before)) (without_doctype before ahead)
 
--- what stands up to a place behind the root element
-pub record BehindParts (Includes : Inclusion) (src : List ℕ) (Front : ℕ → Forest Item → Type 0) (p : ℕ) (items : Forest Item) : Type 0 where
+-- What is up to a place after the root element.
+pub record DocumentParts (Includes : Inclusion) (src : List ℕ) (PrologAt : ℕ → Forest Item → Type 0) (p : ℕ) (items : Forest Item) : Type 0 where
   pub start : ℕ
   pub before : Forest Item
-  pub ahead : Front start before
+  pub ahead : PrologAt start before
   pub end : ℕ
   pub openings_left : ℕ
   pub one : Forest Item
@@ -37,8 +37,8 @@ pub record BehindParts (Includes : Inclusion) (src : List ℕ) (Front : ℕ → 
   pub all : items ≡ join (join before one) after
   pub well_named : AreWellNamed [] items
 
-pub behind_parts : {Includes : Inclusion} {src : List ℕ} {Front : ℕ → Forest Item → Type 0} {p : ℕ} {items : Forest Item} → Behind Includes src Front p items → BehindParts Includes src Front p items
-behind_parts (element_and_misc i j c before one after ahead element misc named) =
+pub document_parts : {Includes : Inclusion} {src : List ℕ} {PrologAt : ℕ → Forest Item → Type 0} {p : ℕ} {items : Forest Item} → DocumentTo Includes src PrologAt p items → DocumentParts Includes src PrologAt p items
+document_parts (element_and_misc i j c before one after ahead element misc named) =
     record {
       start = i;
       before = before;
@@ -53,18 +53,18 @@ behind_parts (element_and_misc i j c before one after ahead element misc named) 
       well_named = named;
     }
 
-pub parts_behind : {Includes : Inclusion} {src : List ℕ} {Front : ℕ → Forest Item → Type 0} {p : ℕ} {items : Forest Item} → BehindParts Includes src Front p items → Behind Includes src Front p items
-parts_behind {Includes = Includes} {src = src} {Front = Front} {p = p} b =
-    subst (λ (f : Forest Item). Behind Includes src Front p f) (sym b.all)
+pub document_made : {Includes : Inclusion} {src : List ℕ} {PrologAt : ℕ → Forest Item → Type 0} {p : ℕ} {items : Forest Item} → DocumentParts Includes src PrologAt p items → DocumentTo Includes src PrologAt p items
+document_made {Includes = Includes} {src = src} {PrologAt = PrologAt} {p = p} b =
+    subst (λ (f : Forest Item). DocumentTo Includes src PrologAt p f) (sym b.all)
     (element_and_misc b.start b.end b.openings_left b.before b.one b.after b.ahead b.element b.misc (subst (AreWellNamed []) b.all b.well_named))
 
--- the names in a parse
+-- The names in a parse.
 pub well_named : {src : List ℕ} {dtd : Bool} {asked : List Asked} {tree : Forest Item} → ParseOf src dtd asked tree → AreWellNamed [] tree
-well_named p = (behind_parts p.whole).well_named
+well_named p = (document_parts p.whole).well_named
 
 abbrev pub parts : (src : List ℕ) (dtd : Bool) (asked : List Asked) (tree : Forest Item) → ParseOf src dtd asked tree → ParseParts src dtd asked tree
 parts src dtd asked tree p =
-    let b = behind_parts p.whole in
+    let b = document_parts p.whole in
     let a = prolog_parts src b.start dtd b.before asked p.entities b.ahead in
     record {
       begun = a.begun;
@@ -88,7 +88,7 @@ pub parsed : (src : List ℕ) (dtd : Bool) (asked : List Asked) (tree : Forest I
 parsed src dtd asked tree p =
     record {
       entities = p.entities;
-      whole = parts_behind (record {
+      whole = document_made (record {
         start = p.start;
         before = join p.before p.nodes;
         ahead = parts_prolog src p.start dtd (join p.before p.nodes) asked p.entities
@@ -104,7 +104,7 @@ parsed src dtd asked tree p =
       });
     }
 
--- the tree of a text, and the parse that it is of
+-- The tree of a text, and the parse that it is of.
 pub record TreeParts (src : List ℕ) (dtd : Bool) (asked : List Asked) (limit : ℕ) (tree : Forest Node) : Type 0 where
   pub written : Forest Item
   pub parse : ParseOf src dtd asked written

@@ -1,4 +1,4 @@
--- The parts of a run, up to its end or a reference to an entity: what is read stands there, and what stands there is read.
+-- The parts of a run, up to its end or a reference to an entity: what is read is there, and what is there is read.
 use Rattle.std.proofs.Common.{◌≡◌, ◌≢◌, ℕ, zero, suc, ◌+◌, ◌-◌, ◌<◌, ◌≤◌, ◌==◌, Bool, true, false, cond, ◌||◌, eqb, ltb, List, [], ◌∷◌, ◌++◌, length, take, refl, sym, ap, ◌∙◌, subst, arith, inl, inr}
 use Rattle.std.specs.Prelude.{Some, None, Result, Ok}
 use Rattle.std.specs.Char.{encode_utf8}
@@ -20,63 +20,63 @@ use Rattle.rox_theory.proofs.StretchLemmas.{slice_cons, next_at, next_bound, nex
 use Rattle.rox_theory.proofs.ReferenceLemmas.{IsRead, is_character, is_entity, reference_sound, character_complete, entity_complete, character_opens, character_inside, reference_opens, reference_inside}
 use Rattle.rox_theory.proofs.ValueLemmas.{found_ok}
 
--- a character has a byte
+-- A character has a byte.
 pub encode_some : (c : ℕ) → 0 < length (encode_utf8 c)
 encode_some c = omega (arith, length-encode c, len_utf8_bounds c)
 
--- what comes from a reference is kept
+-- What comes from a reference is kept.
 kept_ends : (bs : List ℕ) (ss : List DataByte) → line_ends (data_bytes_of true bs ++ ss) ≡ bs ++ line_ends ss
 kept_ends [] ss = refl
 kept_ends (b ∷ bs) ss = ap (λ (r : List ℕ). b ∷ r) (kept_ends bs ss)
 
--- and is no literal LF
+-- And is not a literal LF.
 kept_after : (bs : List ℕ) (ss : List DataByte) → 0 < length bs → first_passes (is_literal 10) (data_bytes_of true bs ++ ss) ≡ false
 kept_after [] ss some = absurd (omega arith)
 kept_after (b ∷ bs) ss some = refl
 
--- a byte but CR stands for itself
+-- A byte but CR needs no replacement.
 pub literal_ends : (b : ℕ) (ss : List DataByte) → b ≢ 13 → line_ends (literal b ∷ ss) ≡ b ∷ line_ends ss
 literal_ends b ss no_cr = let n = ne_eqb b 13 no_cr in rw n refl
 
--- CR LF gives LF
+-- CR LF gives LF.
 crlf_ends : (a b : ℕ) (ss : List DataByte) → a ≡ 13 → b ≡ 10 → line_ends (literal a ∷ literal b ∷ ss) ≡ 10 ∷ line_ends ss
 crlf_ends a b ss cr lf = rw (cr, lf) refl
 
--- another CR gives LF
+-- Another CR gives LF.
 cr_ends : (a : ℕ) (ss : List DataByte) → a ≡ 13 → first_passes (is_literal 10) ss ≡ false → line_ends (literal a ∷ ss) ≡ 10 ∷ line_ends ss
 cr_ends a ss cr after = rw (cr, after) refl
 
--- the signs of two texts in a row
+-- The signs of two texts in a row.
 literals-append : (bs cs : List ℕ) → literals (bs ++ cs) ≡ data_bytes_of false bs ++ literals cs
 literals-append [] cs = refl
 literals-append (b ∷ bs) cs = ap (λ (r : List DataByte). literal b ∷ r) (literals-append bs cs)
 
--- a byte that is neither `&` nor CR
+-- A byte that is neither `&` nor CR.
 abbrev pub ordinary : ℕ → Bool
 ordinary b = b == 38 || b == 13
 
--- what is read of signs: outside replacement texts their text, and within them the bytes, whose line ends are left as they are
+-- What is read of signs: outside replacement texts their text, and within them the bytes, whose line ends are left as they are.
 abbrev pub Texts : (main : Bool) → List ℕ → List DataByte → Type 0
 Texts true bs ss = bs ≡ line_ends ss
 Texts false bs ss = ss ≡ literals bs
 
--- the text of the part
+-- The text of the part.
 pub texts_line_ends : (main : Bool) (bs : List ℕ) (ss : List DataByte) → Texts main bs ss → part_text main bs ≡ line_ends ss
 texts_line_ends true bs ss h = h
 texts_line_ends false bs ss h = ap line_ends (sym h)
 
--- a part goes forward
+-- A part goes forward.
 pub part_le : (main : Bool) (src : List ℕ) (p i : ℕ) (ss : List DataByte) → Part main src p i ss → i ≤ p
 part_le main src p i ss part_ends = omega arith
 part_le main src p i ss (as_written _ rest lt no_amp q) = omega arith
 part_le main src p i ss (from_reference _ n c rest r inside q) = omega (arith, character_opens src i c n r)
 
--- where a part ends: at the end of the run, or where a reference to an entity stands
+-- Where a part ends: at the end of the run, or where a reference to an entity is.
 pub data Ends (es : List Entity) (src : List ℕ) (stop : ℕ) : ℕ → Next → Type 0 where
   ends_run : (p : ℕ) → p ≡ stop → Ends es src stop p at_end
   ends_entity : (p n j : ℕ) (t : Replacement) → IsReference src p n j → predefined (slice src (p + 1) n) ≡ None → j ≤ stop → text_of es (slice src (p + 1) n) ≡ Some t → Ends es src stop p (opening t j)
 
--- what stands in a run at a place, in so far as it is one bit of its reading
+-- What is in a run at a place, in so far as it is one bit of its reading.
 pub data RunBit (main : Bool) (es : List Entity) (src : List ℕ) (stop : ℕ) : ℕ → Bit → ℕ → Type 0 where
   bit_cr_lf : (i : ℕ) → main ≡ true → i + 1 < stop → byte src i ≡ 13 → byte src (i + 1) ≡ 10 → RunBit main es src stop i (bytes_of (10 ∷ [])) (i + 2)
   bit_cr : (i : ℕ) → main ≡ true → i < stop → byte src i ≡ 13 → (i + 1 < stop → byte src (i + 1) ≢ 10) → RunBit main es src stop i (bytes_of (10 ∷ [])) (i + 1)
@@ -85,12 +85,12 @@ pub data RunBit (main : Bool) (es : List Entity) (src : List ℕ) (stop : ℕ) :
   bit_entity : (i n j : ℕ) (t : Replacement) → IsReference src i n j → predefined (slice src (i + 1) n) ≡ None → j ≤ stop → text_of es (slice src (i + 1) n) ≡ Some t → RunBit main es src stop i (opens t) j
 
 module _ (es : List Entity) (src : List ℕ) (utf8 : IsUtf8 src) (stop : ℕ) (long : stop ≤ length src) (closes : stop < length src → IsStop (byte src stop)) where
-  -- a part ends before the stop, where `&` stands, or at it
+  -- A part ends before the stop, where `&` is, or at it.
   pub ends_at : (p : ℕ) (next : Next) → Ends es src stop p next → (p ≤ stop) × (p < stop → byte src p ≡ 38)
   ends_at p next (ends_run _ is) = (omega arith, λ l. absurd (omega arith))
   ends_at p next (ends_entity _ n j t r none to is) = let o = reference_opens src p n j r in (omega arith, λ l. o.0)
 
-  -- each bit moves forward, but not past the stop
+  -- Each bit moves forward, but not past the stop.
   pub bit_moves : (main : Bool) (i : ℕ) (bit : Bit) (j : ℕ) → RunBit main es src stop i bit j → (i < j) × (j ≤ stop)
   bit_moves main i bit j (bit_cr_lf _ is more cr lf) = (omega arith, omega arith)
   bit_moves main i bit j (bit_cr _ is here cr apart) = (omega arith, omega arith)
@@ -98,7 +98,7 @@ module _ (es : List Entity) (src : List ℕ) (utf8 : IsUtf8 src) (stop : ℕ) (l
   bit_moves main i bit j (bit_character _ x _ r to) = ((character_opens src i x j r).1, to)
   bit_moves main i bit j (bit_entity _ n _ t r none to is) = ((reference_opens src i n j r).2, to)
 
-  -- ---- a bit that is read stands there
+  -- ---- a bit that is read is there
 
   expanded_sound : (main : Bool) (i : ℕ) (r : Reference) (j : ℕ) (bit : Bit) → i < stop → IsRead src i r j → reference_bit es src i r ≡ Ok bit → RunBit main es src stop i bit j
   expanded_sound main i r j bit below (is_character c _ stands) h =
@@ -139,28 +139,28 @@ module _ (es : List Entity) (src : List ℕ) (utf8 : IsUtf8 src) (stop : ℕ) (l
 
   -- ---- parts
 
-  -- a part goes on with a byte that is no `&`
+  -- A part continues with a byte that is not `&`.
   next_part : (main : Bool) (p i : ℕ) (ss : List DataByte) → i < p → byte src i ≢ 38 → Part main src p i ss → (rest : List DataByte) × (ss ≡ literal (byte src i) ∷ rest) × Part main src p (i + 1) rest
   next_part main p i ss below other part_ends = absurd (omega arith)
   next_part main p i ss below other (as_written _ rest lt no_amp q) = (rest, refl, q)
   next_part main p i ss below other (from_reference _ n c rest r inside q) = absurd (other (character_opens src i c n r).0)
 
-  -- where no LF stands
+  -- Where no LF is.
   no_line_feed : (p i : ℕ) (ss : List DataByte) → (i < p → byte src i ≢ 10) → Part true src p i ss → first_passes (is_literal 10) ss ≡ false
   no_line_feed p i ss none part_ends = refl
   no_line_feed p i ss none (as_written _ rest lt no_amp q) = ne_eqb (byte src i) 10 (none lt)
   no_line_feed p i ss none (from_reference _ n c rest r inside q) = kept_after (encode_utf8 c) rest (encode_some c)
 
-  -- one byte in front
+  -- One byte in front.
   byte_on : (main : Bool) (p i : ℕ) (bs : List ℕ) (ss : List DataByte) → (main ≡ true → byte src i ≢ 13) → Texts main bs ss → Texts main (byte src i ∷ bs) (literal (byte src i) ∷ ss)
   byte_on true p i bs ss no_cr h = ap (λ (r : List ℕ). byte src i ∷ r) h ∙ sym (literal_ends (byte src i) ss (no_cr refl))
   byte_on false p i bs ss no_cr h = ap (λ (r : List DataByte). literal (byte src i) ∷ r) h
 
-  -- the part from i on that has this text
+  -- The part from i on that has this text.
   abbrev PartFrom : (main : Bool) → ℕ → ℕ → List ℕ → Type 0
   PartFrom main p i bs = (ss : List DataByte) × Part main src p i ss × Texts main bs ss
 
-  -- a stretch in front
+  -- A stretch in front.
   pub stretch_on : (main : Bool) (p d i j : ℕ) (bs : List ℕ) → i + d ≡ j → j ≤ p → p ≤ length src → ((k : ℕ) → i ≤ k → k < j → (byte src k ≢ 38) × (main ≡ true → byte src k ≢ 13)) → PartFrom main p j bs → PartFrom main p i (slice src i j ++ bs)
   stretch_on main p zero i j bs to inside most plain h =
       let e : j ≡ i = omega arith in
@@ -170,16 +170,16 @@ module _ (es : List Entity) (src : List ℕ) (utf8 : IsUtf8 src) (stop : ℕ) (l
       let ih = stretch_on main p d (i + 1) j bs (omega arith) inside most (λ k from below. plain k (omega arith) below) h in
       rw (slice_cons src i j (omega arith) (omega arith)) (literal (byte src i) ∷ ih.0, as_written i ih.0 (omega arith) here.0 ih.1, byte_on main p i (slice src (i + 1) j ++ bs) ih.0 here.1 ih.2)
 
-  -- a character in front
+  -- A character in front.
   character_on : (main : Bool) (c : ℕ) (bs : List ℕ) (ss : List DataByte) → Texts main bs ss → Texts main (encode_utf8 c ++ bs) (data_bytes_of main (encode_utf8 c) ++ ss)
   character_on true c bs ss h = ap (λ (r : List ℕ). encode_utf8 c ++ r) h ∙ sym (kept_ends (encode_utf8 c) ss)
   character_on false c bs ss h = ap (λ (r : List DataByte). data_bytes_of false (encode_utf8 c) ++ r) h ∙ sym (literals-append (encode_utf8 c) bs)
 
-  -- what a part that is read is
+  -- What a part that is read is.
   abbrev pub PartStands : (main : Bool) → ℕ → List ℕ × Next → Type 0
   PartStands main i x = (p : ℕ) × PartFrom main p i x.0 × Ends es src stop p x.1
 
-  -- CR LF in front, of the main text
+  -- CR LF in front, of the main text.
   cr_lf_on : (main : Bool) (p i : ℕ) (bs : List ℕ) → main ≡ true → byte src i ≡ 13 → byte src (i + 1) ≡ 10 → PartFrom main p (i + 2) bs → PartFrom main p i (10 ∷ bs)
   cr_lf_on true p i bs is cr lf (ss, part, text) =
       let le = part_le true src p (i + 2) ss part in
@@ -191,7 +191,7 @@ module _ (es : List Entity) (src : List ℕ) (utf8 : IsUtf8 src) (stop : ℕ) (l
       )
   cr_lf_on false p i bs is cr lf h = absurd (false≢true is)
 
-  -- CR in front
+  -- CR in front.
   cr_on : (main : Bool) (p i : ℕ) (bs : List ℕ) → main ≡ true → byte src i ≡ 13 → (i + 1 < p → byte src (i + 1) ≢ 10) → PartFrom main p (i + 1) bs → PartFrom main p i (10 ∷ bs)
   cr_on true p i bs is cr apart (ss, part, text) =
       let le = part_le true src p (i + 1) ss part in (
@@ -201,12 +201,12 @@ module _ (es : List Entity) (src : List ℕ) (utf8 : IsUtf8 src) (stop : ℕ) (l
       )
   cr_on false p i bs is cr apart h = absurd (false≢true is)
 
-  -- nothing
+  -- Nothing.
   pub nothing_from : (main : Bool) (i : ℕ) → PartFrom main i i []
   nothing_from true i = ([], part_ends, refl)
   nothing_from false i = ([], part_ends, refl)
 
-  -- a bit in front
+  -- A bit in front.
   bit_on : (main : Bool) (i : ℕ) (bit : Bit) (j : ℕ) (x : List ℕ × Next) (more : ℕ → Result (List ℕ × Next) Fault) → RunBit main es src stop i bit j
       → ((rest : List ℕ × Next) → more j ≡ Ok rest → PartStands main j rest) → after_bit more bit j ≡ Ok x → PartStands main i x
   bit_on main i bit j x more (bit_cr_lf _ is lt cr lf) ih h = bind_ok (more j) _ _ h (λ rest read h.
@@ -228,7 +228,7 @@ module _ (es : List Entity) (src : List ℕ) (utf8 : IsUtf8 src) (stop : ℕ) (l
   bit_on main i bit j x more (bit_entity _ n _ t r none to is) ih h =
       subst (PartStands main i) (ok_same _ _ h) (i, nothing_from main i, ends_entity i n j t r none to is)
 
-  -- a part that is read stands there
+  -- A part that is read is there.
   pub run_part_sound : (main : Bool) (n i : ℕ) (x : List ℕ × Next) → i ≤ stop → stop ≤ i + n → data_part main es n src stop i ≡ Ok x → PartStands main i x
   unfolding data_part
   run_part_sound main zero i x to enough h =
@@ -240,21 +240,21 @@ module _ (es : List Entity) (src : List ℕ) (utf8 : IsUtf8 src) (stop : ℕ) (l
       bit_on main i y.0 y.1 x (λ j. data_part main es n src stop j) bit (λ rest more. run_part_sound main n y.1 rest moves.1 (omega arith) more) h))
       (λ past h. subst (PartStands main i) (ok_same _ _ h) (i, nothing_from main i, ends_run i (omega (arith, ltb-false _ _ past))))
 
-  -- ---- a bit that stands there is read
+  -- ---- a bit that is there is read
 
-  -- CR LF is read
+  -- CR LF is read.
   cr_lf_read : (i : ℕ) → i + 1 < stop → byte src i ≡ 13 → byte src (i + 1) ≡ 10 → data_bit_at true es src stop i ≡ Ok (bytes_of (10 ∷ []), i + 2)
   unfolding data_bit_at
   cr_lf_read i below cr lf =
       let t : byte (take stop src) (i + 1) ≡ byte src (i + 1) = get_or-take stop src (i + 1) 0 below in
       rw (t, cr, lf) refl
 
-  -- CR alone is read
+  -- CR alone is read.
   cr_read : (i : ℕ) → byte src i ≡ 13 → eqb (byte (take stop src) (i + 1)) 10 ≡ false → data_bit_at true es src stop i ≡ Ok (bytes_of (10 ∷ []), i + 1)
   unfolding data_bit_at
   cr_read i cr apart = rw (cr, apart) refl
 
-  -- a reference to a character is read
+  -- A reference to a character is read.
   character_read : (main : Bool) (i c m : ℕ) → IsCharacter src i c m → data_bit_at main es src stop i ≡ Ok (bytes_of (encode_utf8 c), m)
   unfolding data_bit_at expansion_at
   character_read main i c m r =
@@ -262,7 +262,7 @@ module _ (es : List Entity) (src : List ℕ) (utf8 : IsUtf8 src) (stop : ℕ) (l
       let one = character_complete src i c m r in
       rw (amp, one) refl
 
-  -- and so is one to an entity
+  -- And so is one to an entity.
   entity_read : (main : Bool) (i n j : ℕ) (t : Replacement) → IsReference src i n j → predefined (slice src (i + 1) n) ≡ None → text_of es (slice src (i + 1) n) ≡ Some t → data_bit_at main es src stop i ≡ Ok (opens t, j)
   unfolding data_bit_at expansion_at
   entity_read main i n j t r none is =
@@ -270,12 +270,12 @@ module _ (es : List Entity) (src : List ℕ) (utf8 : IsUtf8 src) (stop : ℕ) (l
       let one = entity_complete src i n j r none in
       rw (amp, one, is) refl
 
-  -- where a stretch ends
+  -- Where a stretch ends.
   abbrev stretch_end : (main : Bool) → ℕ → ℕ
   stretch_end true i = next_at src stop ordinary i
   stretch_end false i = next_at src stop (λ c. c == 38) i
 
-  -- what is known of it
+  -- What is known of it.
   stretch_bounds : (main : Bool) (i : ℕ) → i < stop → byte src i ≢ 38 → (main ≡ true → byte src i ≢ 13)
       → (i < stretch_end main i) × (stretch_end main i ≤ stop) × ((k : ℕ) → i ≤ k → k < stretch_end main i → (byte src k ≢ 38) × (main ≡ true → byte src k ≢ 13))
   stretch_bounds true i below amp cr = (
@@ -289,25 +289,25 @@ module _ (es : List Entity) (src : List ℕ) (utf8 : IsUtf8 src) (stop : ℕ) (l
     λ k from lt. (eqb-false _ _ (next_before src stop long (λ c. c == 38) i k (omega arith) from lt), λ z. absurd (false≢true z)),
   )
 
-  -- a stretch is read
+  -- A stretch is read.
   stretch_read : (main : Bool) (i : ℕ) → byte src i ≢ 38 → (main ≡ true → byte src i ≢ 13) → data_bit_at main es src stop i ≡ Ok (bytes_of (slice src i (stretch_end main i)), stretch_end main i)
   unfolding data_bit_at
   stretch_read true i amp cr = let a = ne_eqb (byte src i) 38 amp in let c = ne_eqb (byte src i) 13 (cr refl) in rw (a, c) refl
   stretch_read false i amp cr = let a = ne_eqb (byte src i) 38 amp in rw a refl
 
-  -- ---- a part that stands there is read
+  -- ---- a part that is there is read
 
-  -- a bit of bytes is read, and then the rest
+  -- A bit of bytes is read, and then the rest.
   bytes_on : (main : Bool) (n i j : ℕ) (bytes rest : List ℕ) (next : Next) → i < stop → data_bit_at main es src stop i ≡ Ok (bytes_of bytes, j) → data_part main es n src stop j ≡ Ok (rest, next)
       → data_part main es (suc n) src stop i ≡ Ok (bytes ++ rest, next)
   unfolding data_part
   bytes_on main n i j bytes rest next below bit more = let here = lt-ltb i stop below in rw (here, bit, more) refl
 
-  -- a part is read to this text
+  -- A part is read to this text.
   abbrev pub PartReads : (main : Bool) → ℕ → ℕ → List DataByte → Next → Type 0
   PartReads main n i ss next = (bs : List ℕ) × (data_part main es n src stop i ≡ Ok (bs, next)) × Texts main bs ss
 
-  -- nothing is read where the part ends
+  -- Nothing is read where the part ends.
   ends_read : (main : Bool) (n p : ℕ) (next : Next) → stop ≤ p + n → Ends es src stop p next → data_part main es n src stop p ≡ Ok ([], next)
   unfolding data_part
   ends_read main zero p next enough (ends_run _ is) = refl
@@ -322,7 +322,7 @@ module _ (es : List Entity) (src : List ℕ) (utf8 : IsUtf8 src) (stop : ℕ) (l
   no_texts true = refl
   no_texts false = refl
 
-  -- the signs behind a stretch
+  -- The signs after a stretch.
   pub stretch_off : (main : Bool) (p d i j : ℕ) (ss : List DataByte) → i + d ≡ j → j ≤ p → p ≤ length src → ((k : ℕ) → i ≤ k → k < j → (byte src k ≢ 38) × (main ≡ true → byte src k ≢ 13)) → Part main src p i ss
       → (rest : List DataByte) × Part main src p j rest × ((bs : List ℕ) → Texts main bs rest → Texts main (slice src i j ++ bs) ss)
   stretch_off main p zero i j ss to inside most plain q =
@@ -334,11 +334,11 @@ module _ (es : List Entity) (src : List ℕ) (utf8 : IsUtf8 src) (stop : ℕ) (l
       let ih = stretch_off main p d (i + 1) j one.0 (omega arith) inside most (λ k from below. plain k (omega arith) below) one.2 in
       (ih.0, ih.1, λ bs h. rw (one.1, slice_cons src i j (omega arith) (omega arith)) (byte_on main p i (slice src (i + 1) j ++ bs) one.0 here.1 (ih.2 bs h)))
 
-  -- CR LF of the main text
+  -- CR LF of the main text.
   texts_cr_lf : (i : ℕ) (bs : List ℕ) (ss : List DataByte) → byte src i ≡ 13 → byte src (i + 1) ≡ 10 → bs ≡ line_ends ss → 10 ∷ bs ≡ line_ends (literal (byte src i) ∷ literal (byte src (i + 1)) ∷ ss)
   texts_cr_lf i bs ss cr lf h = ap (λ (r : List ℕ). 10 ∷ r) h ∙ sym (crlf_ends (byte src i) (byte src (i + 1)) ss cr lf)
 
-  -- a stretch begins with a byte that is neither `&` nor, in the main text, CR
+  -- A stretch begins with a byte that is neither `&` nor, in the main text, CR.
   stretch_first : (main : Bool) (n i p : ℕ) (ss : List DataByte) (next : Next) → i < p → byte src i ≢ 38 → (main ≡ true → byte src i ≢ 13) → Part main src p i ss → Ends es src stop p next
       → ((j : ℕ) (rest : List DataByte) → i < j → j ≤ stop → Part main src p j rest → PartReads main n j rest next) → PartReads main (suc n) i ss next
   stretch_first main n i p ss next below amp cr q end ih =
@@ -353,7 +353,7 @@ module _ (es : List Entity) (src : List ℕ) (utf8 : IsUtf8 src) (stop : ℕ) (l
       let rest = ih j o.0 known.0 known.1 o.1 in
       (slice src i j ++ rest.0, bytes_on main n i j (slice src i j) rest.0 next (omega (arith, to.0)) (stretch_read main i amp cr) rest.1, o.2 rest.0 rest.2)
 
-  -- a CR of the main text
+  -- A CR of the main text.
   cr_first : (n i p : ℕ) (ss : List DataByte) (next : Next) → i < p → byte src i ≡ 13 → Part true src p (i + 1) ss → Ends es src stop p next
       → ((j : ℕ) (rest : List DataByte) → i < j → j ≤ stop → Part true src p j rest → PartReads true n j rest next) → PartReads true (suc n) i (literal (byte src i) ∷ ss) next
   cr_first n i p ss next below cr q end ih =
@@ -380,7 +380,7 @@ module _ (es : List Entity) (src : List ℕ) (utf8 : IsUtf8 src) (stop : ℕ) (l
             ))
       ]
 
-  -- a byte as it is written
+  -- A byte as it is written.
   written_first : (main : Bool) (n i p : ℕ) (ss : List DataByte) (next : Next) → i < p → byte src i ≢ 38 → Part main src p (i + 1) ss → Ends es src stop p next
       → ((j : ℕ) (rest : List DataByte) → i < j → j ≤ stop → Part main src p j rest → PartReads main n j rest next) → PartReads main (suc n) i (literal (byte src i) ∷ ss) next
   written_first false n i p ss next below amp q end ih =
@@ -391,7 +391,7 @@ module _ (es : List Entity) (src : List ℕ) (utf8 : IsUtf8 src) (stop : ℕ) (l
         | inr no_cr ↦ stretch_first true n i p (literal (byte src i) ∷ ss) next below amp (λ z. no_cr) (as_written i ss below amp q) end ih
       ]
 
-  -- a part that stands there is read
+  -- A part that is there is read.
   pub run_part_complete : (main : Bool) (n i p : ℕ) (ss : List DataByte) (next : Next) → i ≤ stop → stop ≤ i + n → Part main src p i ss → Ends es src stop p next → PartReads main n i ss next
   run_part_complete main n i p ss next to enough part_ends end = ([], ends_read main n p next enough end, no_texts main)
   run_part_complete main zero i p ss next to enough (as_written _ rest lt no_amp q) end = absurd (omega (arith, ends_at p next end))

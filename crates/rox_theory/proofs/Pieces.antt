@@ -8,11 +8,12 @@ use Rattle.rox_grammar.specs.Forest.{Forest, Nil, Cons, join}
 use Rattle.rox_grammar.specs.Written.{Item, Element, Text, leaf, merge}
 use Rattle.rox_grammar.specs.Names.{slice}
 use Rattle.rox_grammar.specs.Constructs.{IsCData}
+use Rattle.rox_grammar.specs.References.{entity_reference}
 use Rattle.rox_grammar.specs.Content.{Inclusion, DataByte, literal, kept, is_literal, line_ends, literals, is_verbatim, piece, last_part, then_entity, IsMisc, comment, instruction, IsElement, empty, nest, Content, ends, run, cdata, misc, node}
 use Rattle.rox_grammar.specs.RunParts.{Parts}
 use Rattle.rox_grammar.specs.Entities.{Entity, Includes, most_deep, included_in_main}
 use Rattle.rox_grammar.specs.Doctype.{Asked, Subset, no_more as no_item, space as subset_space, an_item as subset_item, skipped_declaration, an_entity as an_entity_declared, IsDoctype, no_subset, with_subset}
-use Rattle.rox_grammar.specs.Document.{Misc, no_misc, space, an_item, Prolog, Behind, element_and_misc, ParseOf}
+use Rattle.rox_grammar.specs.Document.{Misc, no_misc, space, an_item, Prolog, DocumentTo, element_and_misc, ParseOf}
 use Rattle.rox_theory.specs.ParseParts.{MayHaveDoctype, doctype, no_doctype}
 use Rattle.rox_theory.proofs.Productions.{cdata_parts}
 use Rattle.rox_theory.proofs.Basics.{mark_from_le}
@@ -24,7 +25,7 @@ use Rattle.rox_reading.proofs.Forests.{join_assoc}
 
 -- ---- what has no byte
 
--- signs have one
+-- Signs have one.
 pub some_bytes : (s : DataByte) (ss : List DataByte) → line_ends (s ∷ ss) ≡ [] → ⊥
 some_bytes (kept x) ss h = cc h
 some_bytes (literal x) [] h = elim (cases_Bool (x == 13)) [ inl cr ↦ (let e = rw cr at h in cc e) | inr no_cr ↦ (let e = rw no_cr at h in cc e) ]
@@ -34,12 +35,12 @@ some_bytes (literal x) (s ∷ ss) h =
       | inr no_cr ↦ (let e = rw no_cr at h in cc e)
     ]
 
--- what has no line ends has no bytes
+-- What has no line ends has no bytes.
 pub no_bytes : (bs : List ℕ) → line_ends (literals bs) ≡ [] → bs ≡ []
 no_bytes [] none = refl
 no_bytes (b ∷ bs) none = absurd (some_bytes (literal b) (literals bs) none)
 
--- a section without a byte is empty
+-- A section without a byte is empty.
 pub empty_section : (src : List ℕ) (i e j : ℕ) → IsCData src i e j → slice src (i + 9) e ≡ [] → IsEmptySection src i j
 empty_section src i e j is none =
     let fits = stands_fits (word_text word.CDataEnd) src e (omega arith) (cdata_parts is).closes in
@@ -60,7 +61,7 @@ sections_join text es Nil g h k = k
 sections_join text es (Cons p c r) g h k = (h.0, h.1, h.2, sections_join text es r g h.3 k)
 
 module _ (text : List ℕ) (es : List Entity) where
-  -- these items are made of these pieces, whose empty texts are sections
+  -- These items are made of these pieces, whose empty texts are sections.
   abbrev Made : Forest Item → Forest Piece → Type 0
   Made items pieces = (items ≡ merged pieces) × EmptyAreSections text es pieces
 
@@ -68,7 +69,7 @@ module _ (text : List ℕ) (es : List Entity) where
   made_join items more f g h k =
       (ap (λ (x : Forest Item). join x more) h.0 ∙ ap (λ (x : Forest Item). join (merged f) x) k.0 ∙ sym (merged-join f g), sections_join text es f g h.1 k.1)
 
-  -- so are those that a reference opens
+  -- So are those that a reference opens.
   record OpensMade (O : Inclusion) (opened : Writes O) : Type 0 where
     content : (name : List ℕ) (b : ℕ) (items : Forest Item) (c : ℕ) (is : O.content name b items c) → Made items (opened.content name b items c is)
 
@@ -88,7 +89,7 @@ module _ (text : List ℕ) (es : List Entity) where
     module _ (main : Bool) (O : Inclusion) (opened : Writes O) (opens : OpensMade O opened) where
       parts_made : (start stop i b c : ℕ) (items : Forest Item) (is : Parts main O src start stop i b c items) → Made items (parts_pieces main O opened src start stop i b c items is)
       parts_made start stop i b c items (last_part _ _ ss part) = piece_made start stop (is_verbatim (slice src start stop)) ss
-      parts_made start stop i b d items (then_entity _ p n j _ c _ ss inner more part reference name it rest) =
+      parts_made start stop i b d items (then_entity _ p j _ c _ _ ss inner more part (entity_reference n reference name) it rest) =
           let x = opens.content (slice src (p + 1) n) b inner c it in
           let y = parts_made start stop j c d more rest in
           let both = made_join inner more _ _ x y in
@@ -159,8 +160,8 @@ opens_made text es (suc d) main =
           content_made text es t.source (inr (name, t, found, refl)) false (Includes es d false) (writes es d false) inner t.start (length t.source) r l items is;
     }
 
--- a parse
-whole_made : (src : List ℕ) (dtd : Bool) (asked : List Asked) (es : List Entity) (tree : Forest Item) (w : Behind (included_in_main es) src (λ p items. Prolog src p dtd items asked es) (length src) tree)
+-- A parse.
+whole_made : (src : List ℕ) (dtd : Bool) (asked : List Asked) (es : List Entity) (tree : Forest Item) (w : DocumentTo (included_in_main es) src (λ p items. Prolog src p dtd items asked es) (length src) tree)
     → OnlySectionsAreEmpty src es tree (document_pieces src es (λ p items. Prolog src p dtd items asked es) (length src) tree w)
 whole_made src dtd asked es tree (element_and_misc i j c front one after prolog element others named) =
     let known : IsSourceIn src es src = inl refl in

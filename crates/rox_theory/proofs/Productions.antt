@@ -57,7 +57,7 @@ reference_made {src} {i} {n} p = subst (IsReference src i n) (sym p.next) (entit
 
 -- ---- a comment
 
--- where a `-->` stands, two dashes do
+-- Where a `-->` is, two dashes are.
 pub two_dashes_begin : (src : List ℕ) (e : ℕ) → text_at "-->" src e ≡ true → text_at "--" src e ≡ true
 unfolding stands
 two_dashes_begin src e h =

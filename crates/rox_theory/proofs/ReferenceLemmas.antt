@@ -1,4 +1,4 @@
--- References to characters: what is read stands there, and what stands there is read.
+-- References to characters: what is read is there, and what is there is read.
 use Rattle.std.proofs.Common.{◌≡◌, ◌≢◌, ℕ, ◌+◌, ◌-◌, ◌^◌, ◌<◌, ◌≤◌, Bool, true, false, eqb, leb, List, length, get_or, drop, refl, sym, ap, ◌∙◌, subst, arith, inl, inr, get_or-drop}
 use Rattle.std.specs.Prelude.{Ok, Option, Some, None}
 use Rattle.std.specs.Str.{IsUtf8}
@@ -17,12 +17,12 @@ use Rattle.rox_theory.proofs.Basics.{ok_same, chosen, within, run_end_le}
 use Rattle.rox_theory.proofs.NameLemmas.{begins_here}
 use Rattle.rox_theory.proofs.CharLemmas.{run_within}
 
--- a stretch of bytes goes forwards
+-- A stretch of bytes goes forwards.
 bytes_end_le : (p : ℕ → Bool) (src : List ℕ) (i : ℕ) → i ≤ bytes_end p src i
 unfolding bytes_end
 bytes_end_le p src i = omega arith
 
--- each byte of a stretch passes
+-- Each byte of a stretch passes.
 pub bytes_pass : (p : ℕ → Bool) (src : List ℕ) (i k : ℕ) → i ≤ k → k < bytes_end p src i → p (byte src k) ≡ true
 unfolding bytes_end
 bytes_pass p src i k from below =
@@ -30,7 +30,7 @@ bytes_pass p src i k from below =
     let q = prefix_len_passes p (drop i src) (k - i) 0 (omega arith) in
     subst (λ (m : ℕ). p (get_or src m 0) ≡ true) e (rw get_or-drop at q)
 
--- a number that is read stands there
+-- A number that is read is there.
 number_sound : (base : ℕ) (is : ℕ → Bool) (src : List ℕ) (i d : ℕ) (x : Reference × ℕ) → number_at base is src i d ≡ Ok x
     → (c : ℕ) × IsNumber base is src d c x.1 × (x.0 ≡ character_of c)
 unfolding number_at
@@ -49,7 +49,7 @@ number_sound base is src i d x h =
     ))
     (λ fails h. cc)) (λ ill h. cc)))
 
--- a number that stands there is read
+-- A number that is there is read.
 number_complete : (base : ℕ) (is : ℕ → Bool) (src : List ℕ) (i d c j : ℕ) → IsNumber base is src d c j → number_at base is src i d ≡ Ok (character_of c, j)
 unfolding number_at
 number_complete base is src i d c j (digits e end some closes small is_character allowed) =
@@ -58,21 +58,21 @@ number_complete base is src i d c j (digits e end some closes small is_character
     let closes' = eq-eqb _ _ closes in
     rw (← end, apart, less, ← is_character, allowed, closes') refl
 
--- what a reference is that ends at j: one to a character, or one to an entity
+-- What a reference is that ends at j: one to a character, or one to an entity.
 pub data IsRead (src : List ℕ) (i : ℕ) : Reference → ℕ → Type 0 where
   is_character : (c j : ℕ) → IsCharacter src i c j → IsRead src i (character_of c) j
   is_entity : (n j : ℕ) → IsReference src i n j → predefined (slice src (i + 1) n) ≡ None → IsRead src i (entity_at (record { start = i + 1; end = n })) j
 
--- a name, by whether it is predefined
+-- A name, by whether it is predefined.
 named_read : (src : List ℕ) (i n j : ℕ) (o : Option ℕ) → IsReference src i n j → predefined (slice src (i + 1) n) ≡ o → IsRead src i (named_or o (record { start = i + 1; end = n })) j
 named_read src i n j None r is = is_entity n j r is
 named_read src i n j (Some c) r is = is_character c j (named n r is)
 
--- a number
+-- A number.
 number_read : (src : List ℕ) (i c j : ℕ) (r : Reference) → r ≡ character_of c → IsCharacter src i c j → IsRead src i r j
 number_read src i c j r is stands = subst (λ (q : Reference). IsRead src i q j) (sym is) (is_character c j stands)
 
--- a reference that is read stands there
+-- A reference that is read is there.
 pub reference_sound : (src : List ℕ) (i : ℕ) (x : Reference × ℕ) → byte src i ≡ 38 → reference_at src i ≡ Ok x → IsRead src i x.0 x.1
 unfolding reference_at name_reference_at
 reference_sound src i x amp h =
@@ -93,23 +93,23 @@ reference_sound src i x amp h =
     (λ fails h. cc))
     (λ fails h. cc))
 
--- no name begins with `#`
+-- No name begins with `#`.
 no_hash : is_name_start 35 ≡ false
 unfolding is_name_start
 no_hash = refl
 
--- where a name begins, no `#` stands
+-- Where a name begins, no `#` stands.
 pub name_no_hash : (src : List ℕ) (i : ℕ) → begins is_name_start src i ≡ true → byte src i ≢ 35
 name_no_hash src i starts hash =
     let b = begins_here is_name_start src i (within src i (λ z. omega arith)) (omega arith) in
     let f : begins is_name_start src i ≡ false = b ∙ rw hash no_hash in
     false≢true (sym f ∙ starts)
 
--- the decimal digits
+-- The decimal digits.
 digit_range : (b : ℕ) → is_digit b ≡ true → (48 ≤ b) × (b ≤ 57)
 digit_range b h = let both = and_parts (leb 48 b) (leb b 57) h in (leb-true _ _ both.0, leb-true _ _ both.1)
 
--- a name that stands there is read
+-- A name that is there is read.
 pub name_complete : (src : List ℕ) (i n j : ℕ) → IsReference src i n j → reference_at src i ≡ Ok (named_or (predefined (slice src (i + 1) n)) (record { start = i + 1; end = n }), j)
 unfolding reference_at name_reference_at
 name_complete src i n j r =
@@ -119,7 +119,7 @@ name_complete src i n j r =
     let next = (reference_parts r).next in
     rw (t, starts, ← l, closes, next) refl
 
--- a reference to a character is read
+-- A reference to a character is read.
 pub character_complete : (src : List ℕ) (i c j : ℕ) → IsCharacter src i c j → reference_at src i ≡ Ok (character_of c, j)
 unfolding reference_at
 character_complete src i c j (decimal opens m) =
@@ -138,46 +138,46 @@ character_complete src i c j (hexadecimal opens m) =
 character_complete src i c j (named n r is) =
     name_complete src i n j r ∙ ap (λ (o : Option ℕ). Ok (named_or o (record { start = i + 1; end = n }), j)) is
 
--- and so is one to an entity
+-- And so is one to an entity.
 pub entity_complete : (src : List ℕ) (i n j : ℕ) → IsReference src i n j → predefined (slice src (i + 1) n) ≡ None → reference_at src i ≡ Ok (entity_at (record { start = i + 1; end = n }), j)
 entity_complete src i n j r is = name_complete src i n j r ∙ ap (λ (o : Option ℕ). Ok (named_or o (record { start = i + 1; end = n }), j)) is
 
--- a reference to a name begins with `&`, and has a byte
+-- A reference to a name begins with `&`, and has a byte.
 pub reference_opens : (src : List ℕ) (i n j : ℕ) → IsReference src i n j → (byte src i ≡ 38) × (i < n) × (i < j)
 reference_opens src i n j r = let l = (reference_parts r).name.longest in let next = (reference_parts r).next in ((reference_parts r).opens, omega (arith, run_end_le is_name_char src (i + 1)), omega (arith, run_end_le is_name_char src (i + 1)))
 
--- a reference begins with `&`, and has a byte
+-- A reference begins with `&`, and has a byte.
 pub character_opens : (src : List ℕ) (i c j : ℕ) → IsCharacter src i c j → (byte src i ≡ 38) × (i < j)
 character_opens src i c j (decimal opens m) = let some = (number_parts m).some in let next = (number_parts m).next in ((hash_bytes src i opens).0, omega arith)
 character_opens src i c j (hexadecimal opens m) = let some = (number_parts m).some in let next = (number_parts m).next in ((hex_bytes src i opens).0, omega arith)
 character_opens src i c j (named n r is) = let l = (reference_parts r).name.longest in let next = (reference_parts r).next in ((reference_parts r).opens, omega (arith, run_end_le is_name_char src (i + 1)))
 
--- a stop is in no name
+-- A stop is in no name.
 stop_no_name : (b : ℕ) → IsStop b → is_name_char b ≡ false
 unfolding is_name_char is_name_start
 stop_no_name b (inl h) = rw h refl
 stop_no_name b (inr (inl h)) = rw h refl
 stop_no_name b (inr (inr h)) = rw h refl
 
--- a stop is no hexadecimal digit
+-- A stop is not a hexadecimal digit.
 stop_no_hex : (b : ℕ) → IsStop b → is_hex_digit b ≡ false
 stop_no_hex b (inl h) = rw h refl
 stop_no_hex b (inr (inl h)) = rw h refl
 stop_no_hex b (inr (inr h)) = rw h refl
 
--- a stop is no digit
+-- A stop is not a digit.
 stop_no_digit : (b : ℕ) → IsStop b → is_digit b ≡ false
 stop_no_digit b (inl h) = rw h refl
 stop_no_digit b (inr (inl h)) = rw h refl
 stop_no_digit b (inr (inr h)) = rw h refl
 
--- a stop is ASCII, and none of `;`, `#`, `x` and `&`
+-- A stop is ASCII, and none of `;`, `#`, `x` and `&`.
 stop_apart : (b : ℕ) → IsStop b → (b < 128) × (b ≢ 59) × (b ≢ 35) × (b ≢ 120) × (b ≢ 38)
 stop_apart b (inl h) = (omega arith, λ z. omega arith, λ z. omega arith, λ z. omega arith, λ z. omega arith)
 stop_apart b (inr (inl h)) = (omega arith, λ z. omega arith, λ z. omega arith, λ z. omega arith, λ z. omega arith)
 stop_apart b (inr (inr h)) = (omega arith, λ z. omega arith, λ z. omega arith, λ z. omega arith, λ z. omega arith)
 
--- digits and the `;` behind them come before a stop
+-- Digits and the `;` after them come before a stop.
 number_inside : (base : ℕ) (is : ℕ → Bool) (src : List ℕ) (d stop c j : ℕ) → d ≤ stop → stop ≤ length src → (stop < length src → IsStop (byte src stop))
     → ((b : ℕ) → IsStop b → is b ≡ false) → IsNumber base is src d c j → j ≤ stop
 number_inside base is src d stop c j from long closes none m =
@@ -194,7 +194,7 @@ number_inside base is src d stop c j from long closes none m =
           ])
     ]
 
--- a reference to a name that begins before a stop ends before it
+-- A reference to a name that begins before a stop ends before it.
 pub reference_inside : (src : List ℕ) (i stop n j : ℕ) → IsUtf8 src → i < stop → stop ≤ length src → (stop < length src → IsStop (byte src stop)) → IsReference src i n j → j ≤ stop
 reference_inside src i stop n j utf8 from long closes r =
     let l = (reference_parts r).name.longest in let next = (reference_parts r).next in let closes' = (reference_parts r).closes in let amp = (reference_parts r).opens in
@@ -209,7 +209,7 @@ reference_inside src i stop n j utf8 from long closes r =
           let k : byte src stop ≡ 59 = rw same closes' in (stop_apart _ s).1 k)
     ]
 
--- a reference that begins before a stop ends before it
+-- A reference that begins before a stop ends before it.
 pub character_inside : (src : List ℕ) (i stop c j : ℕ) → IsUtf8 src → i < stop → stop ≤ length src → (stop < length src → IsStop (byte src stop)) → IsCharacter src i c j → j ≤ stop
 character_inside src i stop c j utf8 from long closes (decimal opens m) =
     let hash = (hash_bytes src i opens).1 in

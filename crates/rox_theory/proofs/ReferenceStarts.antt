@@ -10,7 +10,7 @@ use Rattle.rox_theory.proofs.Basics.{within}
 use Rattle.rox_theory.proofs.Places.{here_is, stands_two}
 use Rattle.rox_theory.proofs.DeclarationLemmas.{stands_reads}
 
--- `&#`
+-- `&#`.
 pub hash_bytes : (src : List ℕ) (i : ℕ) → text_at "&#" src i ≡ true → (byte src i ≡ 38) × (byte src (i + 1) ≡ 35)
 hash_bytes src i h =
     let z : i + 0 ≡ i = omega arith in
@@ -19,7 +19,7 @@ hash_bytes src i h =
 pub hash_stands : (src : List ℕ) (i : ℕ) → byte src i ≡ 38 → byte src (i + 1) ≡ 35 → text_at "&#" src i ≡ true
 hash_stands src i amp hash = stands_two 38 35 src i (within src (i + 1) (λ z. omega arith)) amp hash
 
--- `&#x`
+-- `&#x`.
 pub hex_bytes : (src : List ℕ) (i : ℕ) → text_at "&#x" src i ≡ true → (byte src i ≡ 38) × (byte src (i + 1) ≡ 35) × (byte src (i + 2) ≡ 120)
 hex_bytes src i h =
     let z : i + 0 ≡ i = omega arith in (

@@ -1,4 +1,4 @@
--- Runs, for any opener that agrees: what is read stands there, and what stands there is read.
+-- Runs, for any opener that agrees: what is read is there, and what is there is read.
 use Rattle.std.proofs.Common.{◌≡◌, ◌≢◌, ℕ, zero, suc, ◌+◌, ◌-◌, ◌<◌, ◌≤◌, ◌==◌, Bool, true, false, ◌||◌, eqb, List, [], ◌∷◌, ◌++◌, length, refl, sym, ap, ◌∙◌, subst, arith, inl, inr, add-zero}
 use Rattle.std.specs.Prelude.{None, Result, Ok}
 use Rattle.std.specs.List.{list_any}
@@ -11,7 +11,7 @@ use Rattle.rox_grammar.specs.Search.{byte_from}
 use Rattle.rox_grammar.specs.Forest.{Forest, join}
 use Rattle.rox_grammar.specs.Written.{Item, Text, leaf}
 use Rattle.rox_grammar.specs.Names.{byte, slice}
-use Rattle.rox_grammar.specs.References.{IsReference, predefined}
+use Rattle.rox_grammar.specs.References.{IsReference, predefined, entity_reference}
 use Rattle.rox_grammar.specs.Content.{Inclusion, DataByte, is_literal, data_byte, line_ends, literals, is_verbatim, piece, Part, part_ends, as_written, from_reference, last_part, then_entity, IsCharacterData, character_data}
 use Rattle.rox_grammar.specs.RunParts.{Parts}
 use Rattle.rox_grammar.specs.Entities.{Replacement}
@@ -36,7 +36,7 @@ pub use Rattle.rox_theory.specs.Openers.{AgreesContent}
 
 -- ---- pieces
 
--- a text of one sign or more has a byte
+-- A text of one sign or more has a byte.
 some_line_ends : (s : DataByte) (ss : List DataByte) → (b : ℕ) × (bs : List ℕ) × (line_ends (s ∷ ss) ≡ b ∷ bs)
 some_line_ends s [] =
     elim (cases_Bool (is_literal 13 s)) as (λ z. (b : ℕ) × (bs : List ℕ) × (line_ends (s ∷ []) ≡ b ∷ bs)) [
@@ -52,11 +52,11 @@ some_line_ends s (t ∷ ss) =
       | inr no_cr ↦ (data_byte s, line_ends (t ∷ ss), rw no_cr refl)
     ]
 
--- a text that has a byte is an item
+-- A text that has a byte is an item.
 with_some : (limit : ℕ) (s : State) (i j b : ℕ) (v bs : List ℕ) → v ≡ b ∷ bs → with_piece limit s i j v ≡ with_item limit s j (Text i j v false)
 with_some limit s i j b v bs is = rw is refl
 
--- the state behind a piece, but for its place
+-- The state after a piece, except its place.
 pub record IsPiece (s t : State) (i j : ℕ) (ss : List DataByte) : Type 0 where
   pub done : t.done ≡ join s.done (piece i j false ss)
   pub stack : t.stack ≡ s.stack
@@ -85,34 +85,34 @@ read_piece limit s i j (x ∷ ss) fine =
 
 module _ (context : Context) (O : Inclusion) (agrees : AgreesContent context.values.entities context.limit O context.opener) (src : List ℕ) (utf8 : IsUtf8 src) (start stop : ℕ) (long : stop ≤ length src)
     (closes : stop < length src → IsStop (byte src stop)) (marked : is_verbatim (slice src start stop) ≡ false) where
-  -- the parts from i on
+  -- The parts from i on.
   abbrev PartsFrom : ℕ → ℕ → ℕ → Forest Item → Type 0
   PartsFrom i b c items = Parts context.values.main O src start stop i b c items
 
-  -- what they are that are read from a state to another
+  -- What they are that are read from a state to another.
   abbrev pub PartsStand : ℕ → State → State → Type 0
   PartsStand most s u = (items : Forest Item) × (c : ℕ) × PartsFrom s.at s.openings_left c items × (u ≡ state stop (join s.done items) s.stack c) × IsValidState most u
 
-  -- parts begin at the stop or before
+  -- Parts begin at the stop or before.
   parts_le : (i b c : ℕ) (items : Forest Item) → PartsFrom i b c items → i ≤ stop
   parts_le i b c items (last_part _ _ ss part) = part_le context.values.main src stop i ss part
-  parts_le i b d items (then_entity _ p n j _ c _ ss front more part r none opened rest) =
+  parts_le i b d items (then_entity _ p j _ c _ _ ss front more part (entity_reference n r none) opened rest) =
       omega (arith, part_le context.values.main src p i ss part, reference_opens src p n j r, parts_le j c d more rest)
 
-  -- past the stop there are no signs
+  -- Past the stop there are no signs.
   part_none : (i : ℕ) (ss : List DataByte) → stop ≤ i → Part context.values.main src stop i ss → ss ≡ []
   part_none i ss past part_ends = refl
   part_none i ss past (as_written _ rest lt no_amp q) = absurd (omega arith)
   part_none i ss past (from_reference _ n c rest r inside q) = absurd (omega (arith, character_opens src i c n r))
 
-  -- the last part
+  -- The last part.
   last_stands : (most : ℕ) (s t u : State) (ss : List DataByte) → Part context.values.main src stop s.at ss → IsPiece s t start stop ss → IsValidState most t → u ≡ at_place stop t → PartsStand most s u
   last_stands most s t u ss part is fine same =
       let p : PartsFrom s.at s.openings_left s.openings_left (piece start stop false ss) = subst (λ (f : Bool). PartsFrom s.at s.openings_left s.openings_left (piece start stop f ss)) marked (last_part s.at s.openings_left ss part) in
       let done = is.done in let stack = is.stack in let openings_left = is.openings_left in
       (piece start stop false ss, s.openings_left, p, same ∙ rw (done, stack, openings_left) refl, subst (IsValidState most) (sym same) (fine_there most t (at_place stop t) refl refl fine))
 
-  -- a part and a replacement text in front
+  -- A part and a replacement text in front.
   entity_stands : (most : ℕ) (s t v u : State) (p n j : ℕ) (ss : List DataByte) (items : Forest Item) (c : ℕ) → Part context.values.main src p s.at ss → IsPiece s t start stop ss
       → IsReference src p n j → predefined (slice src (p + 1) n) ≡ None → O.content (slice src (p + 1) n) t.openings_left items c → v ≡ state j (join t.done items) t.stack c → PartsStand most v u → PartsStand most s u
   entity_stands most s t v u p n j ss items c part is r none opened same (more, d, rest, last, fine) =
@@ -125,9 +125,9 @@ module _ (context : Context) (O : Inclusion) (agrees : AgreesContent context.val
       let opened' = subst (λ (b : ℕ). O.content (slice src (p + 1) n) b items c) openings_left opened in
       let all : join v.done more ≡ join s.done (join (piece start stop false ss) (join items more)) =
       ap (λ (f : Forest Item). join f more) v_done ∙ join_assoc (join s.done (piece start stop false ss)) items more ∙ join_assoc s.done (piece start stop false ss) (join items more) in
-      (join (piece start stop false ss) (join items more), d, then_entity s.at p n j s.openings_left c d ss items more part r none opened' rest', last ∙ rw (all, v_stack) refl, fine)
+      (join (piece start stop false ss) (join items more), d, then_entity s.at p j s.openings_left c d _ ss items more part (entity_reference n r none) opened' rest', last ∙ rw (all, v_stack) refl, fine)
 
-  -- what is read behind a part
+  -- What is read after a part.
   after_stands : (most : ℕ) (s t u : State) (p : ℕ) (ss : List DataByte) (next : Next) (more : State → Result State Refusal) → context.limit ≤ most → Ends context.values.entities src stop p next → Part context.values.main src p s.at ss
       → IsPiece s t start stop ss → IsValidState most t → s.at ≤ p → ((v : State) → p < v.at → v.at ≤ stop → IsValidState most v → more v ≡ Ok u → PartsStand most v u)
       → after_part context more stop t next ≡ Ok u → PartsStand most s u
@@ -140,7 +140,7 @@ module _ (context : Context) (O : Inclusion) (agrees : AgreesContent context.val
       let moves = reference_opens src p n j r in
       entity_stands most s t v u p n j ss o.0 o.1 part is r none o.2 o.3 (ih v (omega (arith, moves.2)) (omega arith) o.4 h))
 
-  -- parts that are read stand there
+  -- Parts that are read are there.
   pub run_parts_sound : (n most : ℕ) (s u : State) → context.limit ≤ most → s.at ≤ stop → stop ≤ s.at + n → IsValidState most s → data_parts context n src start stop s ≡ Ok u → PartsStand most s u
   unfolding data_parts
   run_parts_sound zero most s u limits to enough fine h =
@@ -156,7 +156,7 @@ module _ (context : Context) (O : Inclusion) (agrees : AgreesContent context.val
       after_stands most s t u part.0 part.1.0 x.1 (λ v. data_parts context n src start stop v) limits part.2 part.1.1 piece.0 piece.1 le
       (λ v from to' fine' h. run_parts_sound n most v u limits to' (omega arith) fine' h) h))
 
-  -- a part is read, and what is behind it
+  -- A part is read, and what is after it.
   part_on : (n i : ℕ) (s t u : State) (bs : List ℕ) (next : Next) → s.at ≡ i → data_part context.values.main context.values.entities (stop - i) src stop i ≡ Ok (bs, next)
       → with_piece context.limit s start stop (part_text context.values.main bs) ≡ Ok t → after_part context (λ v. data_parts context n src start stop v) stop t next ≡ Ok u → data_parts context (suc n) src start stop s ≡ Ok u
   unfolding data_parts
@@ -164,12 +164,12 @@ module _ (context : Context) (O : Inclusion) (agrees : AgreesContent context.val
       let read' = subst (λ (m : ℕ). data_part context.values.main context.values.entities (stop - m) src stop m ≡ Ok (bs, next)) (sym at) read in
       rw (read', added) after
 
-  -- nothing is left to be read
+  -- Nothing is left to be read.
   none_on : (s : State) → data_parts context zero src start stop s ≡ Ok (at_place stop s)
   unfolding data_parts
   none_on s = refl
 
-  -- the items behind a piece, a replacement text and the rest
+  -- The items after a piece, a replacement text and the rest.
   behind_all : (s t : State) (one front more : Forest Item) (d : ℕ) → t.done ≡ join s.done one → t.stack ≡ s.stack
       → state stop (join (join t.done front) more) t.stack d ≡ state stop (join s.done (join one (join front more))) s.stack d
   behind_all s t one front more d done stack =
@@ -177,17 +177,17 @@ module _ (context : Context) (O : Inclusion) (agrees : AgreesContent context.val
       ap (λ (f : Forest Item). join (join f front) more) done ∙ join_assoc (join s.done one) front more ∙ join_assoc s.done one (join front more) in
       ap (λ (f : Forest Item). state stop f t.stack d) all ∙ ap (λ (o : Open). state stop (join s.done (join one (join front more))) o d) stack
 
-  -- a replacement text is read, and what is behind it
+  -- A replacement text is read, and what is after it.
   opened_on : (text : Replacement) (j : ℕ) (t v u : State) (more : State → Result State Refusal) → context.opener text j t ≡ Ok v → more v ≡ Ok u → after_part context more stop t (opening text j) ≡ Ok u
   opened_on text j t v u more opened rest = rw opened rest
 
-  -- parts that stand there are read, if the limits allow what they lead to
+  -- Parts that are there are read, if the limits allow what they lead to.
   pub run_parts_complete : (n i b c : ℕ) (items : Forest Item) (s : State) → s.at ≡ i → s.openings_left ≡ b → stop ≤ i + n → PartsFrom i b c items → IsValidState context.limit (state stop (join s.done items) s.stack c)
       → data_parts context n src start stop s ≡ Ok (state stop (join s.done items) s.stack c)
   run_parts_complete zero i b c items s at openings_left enough (last_part _ _ ss part) fine =
       let none = part_none i ss (omega arith) part in
       none_on s ∙ rw (none, openings_left) (rw join-nil refl)
-  run_parts_complete zero i b d items s at openings_left enough (then_entity _ p n j _ c _ ss front more part r none opened rest) fine =
+  run_parts_complete zero i b d items s at openings_left enough (then_entity _ p j _ c _ _ ss front more part (entity_reference n r none) opened rest) fine =
       absurd (omega (arith, part_le context.values.main src p i ss part, reference_opens src p n j r, parts_le j c d more rest))
   run_parts_complete (suc n) i b c items s at openings_left enough (last_part _ _ ss part) fine =
       let to = part_le context.values.main src stop i ss part in
@@ -197,7 +197,7 @@ module _ (context : Context) (O : Inclusion) (agrees : AgreesContent context.val
       let t = read_piece context.limit s start stop ss fine' in
       let done = t.2.done in let stack = t.2.stack in let openings_left' = t.2.openings_left in
       part_on n i s t.0 _ q.0 at_end at q.1 (ap (with_piece context.limit s start stop) text ∙ t.1) (rw (marked, done, stack, openings_left', openings_left) refl)
-  run_parts_complete (suc n) i b d items s at openings_left enough (then_entity _ p m j _ c _ ss front more part r none opened rest) fine =
+  run_parts_complete (suc n) i b d items s at openings_left enough (then_entity _ p j _ c _ _ ss front more part (entity_reference m r none) opened rest) fine =
       let to = part_le context.values.main src p i ss part in
       let moves = reference_opens src p m j r in
       let inside = parts_le j c d more rest in
@@ -221,11 +221,11 @@ module _ (context : Context) (O : Inclusion) (agrees : AgreesContent context.val
 
 -- ---- whole runs
 
--- a run is stopped by `<`
+-- A run is stopped by `<`.
 stop_here : (src : List ℕ) (i : ℕ) → byte_from (λ c. c == 60) src i < length src → IsStop (byte src (byte_from (λ c. c == 60) src i))
 stop_here src i below = inl (eqb-true _ _ (from_here (λ c. c == 60) src i below))
 
--- a run that does not begin with `<` has a byte
+-- A run that does not begin with `<` has a byte.
 some_before : (src : List ℕ) (i : ℕ) → i < length src → byte src i ≢ 60 → i < byte_from (λ c. c == 60) src i
 some_before src i here other =
     let p : ℕ → Bool = λ c. c == 60 in
@@ -239,12 +239,12 @@ some_before src i here other =
           other (eqb-true _ _ h'))
     ]
 
--- nothing is found past the end
+-- Nothing is found past the end.
 past_end : (src : List ℕ) (i : ℕ) → length src ≤ i → byte_from (λ c. c == 60) src i ≡ i
 unfolding byte_from
 past_end src i past = rw (drop_all i src past) (add-zero i)
 
--- the bytes of a run that are read
+-- The bytes of a run that are read.
 pub raw_sound : (src : List ℕ) → IsUtf8 src → (i : ℕ) (x : List ℕ × ℕ) → i < length src → byte src i ≢ 60 → raw_character_data_at src i ≡ Ok x → IsCharacterData src i x.1 × (x.0 ≡ slice src i x.1)
 unfolding raw_character_data_at
 raw_sound src utf8 i x here other h =
@@ -256,7 +256,7 @@ raw_sound src utf8 i x here other h =
     let run : IsCharacterData src i end = character_data some refl c.0 (unmarked_run src i end refl (from_bound (λ c. c == 60) src i (omega arith)) (rw c.1 at fine)) in
     subst (λ (y : List ℕ × ℕ). IsCharacterData src i y.1 × (y.0 ≡ slice src i y.1)) (ok_same _ _ h) (run, c.1)))
 
--- and that stand there
+-- And that are there.
 raw_complete : (src : List ℕ) (i j : ℕ) → IsCharacterData src i j → raw_character_data_at src i ≡ Ok (slice src i j, j)
 unfolding raw_character_data_at
 raw_complete src i j run =
@@ -265,7 +265,7 @@ raw_complete src i j run =
     let mark = mark_behind (word_text word.CDataEnd) src i j (char_data_parts run).unmarked in
     rw (← end, c, mark) refl
 
--- a run ends in the text
+-- A run ends in the text.
 pub run_inside : (src : List ℕ) (i j : ℕ) → IsCharacterData src i j → (j ≤ length src) × (j < length src → IsStop (byte src j))
 run_inside src i j run =
     let end = (char_data_parts run).end in let some = (char_data_parts run).some in
@@ -275,7 +275,7 @@ run_inside src i j run =
     ] in
     (inside, rw (← end) at (stop_here src i))
 
--- plain bytes stand for themselves
+-- Plain bytes need no replacement.
 plain_ends : (bs : List ℕ) → is_verbatim bs ≡ true → line_ends (literals bs) ≡ bs
 plain_ends [] h = refl
 plain_ends (b ∷ bs) h =
@@ -287,23 +287,23 @@ plain_text : (main : Bool) (bs : List ℕ) → is_verbatim bs ≡ true → part_
 plain_text true bs h = refl
 plain_text false bs h = plain_ends bs h
 
--- a part that is not empty gives a text
+-- A part that is not empty gives a text.
 pub piece_whole : (i j : ℕ) (borrowed : Bool) (ss : List DataByte) (v : List ℕ) → line_ends ss ≡ v → 0 < length v → piece i j borrowed ss ≡ leaf (Text i j v borrowed)
 piece_whole i j borrowed [] v is some = absurd (omega (arith, ap length is))
 piece_whole i j borrowed (x ∷ ss) v is some = ap (λ (w : List ℕ). leaf (Text i j w borrowed)) is
 
 module _ (context : Context) (O : Inclusion) (agrees : AgreesContent context.values.entities context.limit O context.opener) (src : List ℕ) (utf8 : IsUtf8 src) where
-  -- a run with what it leads to
+  -- A run with what it leads to.
   abbrev pub RunStands : ℕ → State → State → Type 0
   RunStands most s u = (j : ℕ) × (items : Forest Item) × (c : ℕ) × IsCharacterData src s.at j × Parts context.values.main O src s.at j s.at s.openings_left c items × (u ≡ state j (join s.done items) s.stack c) × IsValidState most u
 
-  -- no byte of a plain run is `&` or CR
+  -- No byte of a plain run is `&` or CR.
   plain_bytes : (i j k : ℕ) → j ≤ length src → is_verbatim (slice src i j) ≡ true → i ≤ k → k < j → (byte src k ≢ 38) × (context.values.main ≡ true → byte src k ≢ 13)
   plain_bytes i j k inside plain from below =
       let both = or_parts (eqb (byte src k) 38) (eqb (byte src k) 13) (slice_none ordinary src i j k inside (not-true _ plain) from below) in
       (eqb-false _ _ both.0, λ z. eqb-false _ _ both.1)
 
-  -- the part of a plain run
+  -- The part of a plain run.
   pub plain_part : (i j b : ℕ) → IsCharacterData src i j → is_verbatim (slice src i j) ≡ true → Parts context.values.main O src i j i b b (leaf (Text i j (slice src i j) true))
   plain_part i j b run plain =
       let some = (char_data_parts run).some in
@@ -315,7 +315,7 @@ module _ (context : Context) (O : Inclusion) (agrees : AgreesContent context.val
       let e : piece i j (is_verbatim (slice src i j)) s.0 ≡ leaf (Text i j (slice src i j) true) = ap (λ (f : Bool). piece i j f s.0) plain ∙ piece_whole i j true s.0 (slice src i j) text (omega arith) in
       subst (λ (f : Forest Item). Parts context.values.main O src i j i b b f) e (last_part i b s.0 s.1)
 
-  -- a plain run has no other parts
+  -- A plain run has no other parts.
   part_plain : (i j b c : ℕ) (items : Forest Item) → IsCharacterData src i j → is_verbatim (slice src i j) ≡ true → Parts context.values.main O src i j i b c items → (items ≡ leaf (Text i j (slice src i j) true)) × (b ≡ c)
   part_plain i j b c items run plain (last_part _ _ ss part) =
       let some = (char_data_parts run).some in
@@ -331,16 +331,16 @@ module _ (context : Context) (O : Inclusion) (agrees : AgreesContent context.val
       empty_part main p k ss past part_ends = refl
       empty_part main p k ss past (as_written _ rest lt no_amp q) = absurd (omega arith)
       empty_part main p k ss past (from_reference _ n c rest r to q) = absurd (omega (arith, character_opens src k c n r))
-  part_plain i j b d items run plain (then_entity _ p n m _ c _ ss front more part r none opened rest) =
+  part_plain i j b d items run plain (then_entity _ p m _ c _ _ ss front more part (entity_reference n r none) opened rest) =
       let inside = run_inside src i j run in
       let o = reference_opens src p n m r in
       absurd ((plain_bytes i j p inside.0 plain (part_le context.values.main src p i ss part) (omega (arith, o.2, rest_le m c d more rest))).0 o.0)
     where
       rest_le : (k b c : ℕ) (items : Forest Item) → Parts context.values.main O src i j k b c items → k ≤ j
       rest_le k b c items (last_part _ _ ss part) = part_le context.values.main src j k ss part
-      rest_le k b d items (then_entity _ p n m _ c _ ss front more part r none opened rest) = omega (arith, part_le context.values.main src p k ss part, reference_opens src p n m r, rest_le m c d more rest)
+      rest_le k b d items (then_entity _ p m _ c _ _ ss front more part (entity_reference n r none) opened rest) = omega (arith, part_le context.values.main src p k ss part, reference_opens src p n m r, rest_le m c d more rest)
 
-  -- a run that is read stands there
+  -- A run that is read is there.
   pub run_sound : (most : ℕ) (s u : State) → context.limit ≤ most → s.at < length src → byte src s.at ≢ 60 → IsValidState most s → character_data_step context src s ≡ Ok u → RunStands most s u
   unfolding character_data_step
   run_sound most s u limits here other fine h =
@@ -366,7 +366,7 @@ module _ (context : Context) (O : Inclusion) (agrees : AgreesContent context.val
       let p = run_parts_sound context O agrees src utf8 s.at x.1 inside.0 inside.1 marked' (length src) most s u limits (omega arith) (omega (arith, inside.0)) fine h in
       (x.1, p.0, p.1, raw.0, p.2, p.3, p.4)))
 
-  -- a run that stands there is read, if the limits allow what it leads to
+  -- A run that is there is read, if the limits allow what it leads to.
   pub run_complete : (j c : ℕ) (items : Forest Item) (s : State) → IsCharacterData src s.at j → Parts context.values.main O src s.at j s.at s.openings_left c items → IsValidState context.limit (state j (join s.done items) s.stack c)
       → character_data_step context src s ≡ Ok (state j (join s.done items) s.stack c)
   unfolding character_data_step

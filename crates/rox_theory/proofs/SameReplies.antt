@@ -20,15 +20,16 @@ use Rattle.rox_reading.specs.State.{State}
 use Rattle.rox_reading.specs.Machine.{comment_step, instruction_step, at_place}
 use Rattle.rox_reading.specs.Doctype.{Reply, replies_of, Asks, asks_nothing, ◌>>>◌, Dtd, with_state, entity_head_at, Definition, inner, outer, definition_at, answer_text, defined, entity_step, skipped_declaration, subset_end, subset, doctype_head_at, doctype_step}
 use Rattle.rox_reading.specs.WholeText.{misc, body, finished, prolog, doctype, reading}
-use Rattle.rox_reading.specs.Answering.{left_with, having_asked, Answered, Yields, with_refusal, Stops, Settled, SettledWhole}
+use Rattle.rox_reading.specs.Answering.{left_with, having_asked, Answered, Yields, Settled, SettledWhole}
+use Rattle.rox_reading.specs.Stopping.{with_refusal, Stops}
 use Rattle.rox_reading.proofs.Answering.{replies_then}
 use Rattle.rox_theory.proofs.Asking.{asks_none}
 
--- a run gives the same for the same answers
+-- A run gives the same for the same answers.
 abbrev Same : (List Reply → Asks Dtd) → Type 0
 Same run = (rs : List Reply) → Settled run (run rs)
 
--- the same of a run to something else
+-- The same of a run to something else.
 abbrev SameWhole : {A : Type 0} → (List Reply → Asks A) → Type 0
 SameWhole run = (rs : List Reply) → SettledWhole run (run rs)
 
@@ -54,7 +55,7 @@ same_behind_whole (Err e) f h = λ rs more. refl
 
 -- ---- one after the other
 
--- what follows a run that came to an end
+-- What follows a run that came to an end.
 then_settled : (x : List Reply → Asks Dtd) (f : Dtd → Asks Dtd) (first : List Asked) (d : Dtd) → Answered x first d → (r : Asks Dtd) → Settled (λ rs. f (left_with rs d)) r
     → Settled (λ rs. x rs >>> f) (having_asked first r)
 then_settled x f first d on (later, Ok e) h = λ more.
@@ -66,7 +67,7 @@ then_settled x f first d on (later, Err e) h = λ more.
     let two = h more in
     ap (λ (rs : List Reply). x rs >>> f) (replies_then first later (with_refusal e more)) ∙ rw (one, two) refl
 
--- what follows any run
+-- What follows any run.
 settled_then : (x : List Reply → Asks Dtd) (f : Dtd → Asks Dtd) → ((d : Dtd) → Same (λ rs. f (left_with rs d))) → (r : Asks Dtd) → Settled x r → Settled (λ rs. x rs >>> f) (r >>> f)
 settled_then x f h (first, Ok d) on = then_settled x f first d on (f d) (h d d.replies)
 settled_then x f h (first, Err e) on = λ more. (let one = on more in rw one refl)
@@ -74,7 +75,7 @@ settled_then x f h (first, Err e) on = λ more. (let one = on more in rw one ref
 same_then : (x : List Reply → Asks Dtd) (f : Dtd → Asks Dtd) → Same x → ((d : Dtd) → Same (λ rs. f (left_with rs d))) → Same (λ rs. x rs >>> f)
 same_then x f on h rs = settled_then x f h (x rs) (on rs)
 
--- the same where what follows takes no replies
+-- The same where what follows takes no replies.
 whole_settled : {A : Type 0} (x : List Reply → Asks Dtd) (f : Dtd → Asks A) (first : List Asked) (d : Dtd) → Answered x first d → (r : Asks A) → ((rs : List Reply) → f (left_with rs d) ≡ r) → r.0 ≡ []
     → SettledWhole (λ rs. x rs >>> f) (having_asked first r)
 whole_settled x f first d on (later, Ok y) is none = λ more.
@@ -93,16 +94,16 @@ settled_whole x f plain none (first, Err e) on = λ more. (let one = on more in 
 
 -- ---- a declaration of an entity
 
--- behind its text
+-- After its text.
 abbrev behind_text : Result (Unit {0} × ℕ) Fault → List ℕ → Dtd → Option Replacement × List Reply → Asks Dtd
 behind_text end name d text = asks_nothing (lifted end) >>> λ end. asks_nothing (Ok (record { state = at_place end.1 d.state; entities = d.entities ++ entry name text.0; replies = text.1 }))
 
 module _ (src : List ℕ) (p : ℕ) (name : List ℕ) (d : Dtd) where
-  -- a definition, and what is behind it
+  -- A definition, and what is after it.
   abbrev defines : Definition → List Reply → Asks Dtd
   defines definition rs = defined definition p rs >>> behind_text (byte_at 62 src (spaces_end src p)) name d
 
-  -- a text that is written there
+  -- A text that is written there.
   inner_same : (t : Replacement) → Same (λ rs. defines (inner t) rs)
   inner_same t rs = ended (byte_at 62 src (spaces_end src p)) refl
     where
@@ -110,7 +111,7 @@ module _ (src : List ℕ) (p : ℕ) (name : List ℕ) (d : Dtd) where
       ended (Ok x) is = λ more. rw is refl
       ended (Err f) is = λ more. rw is refl
 
-  -- one that is asked for and answered
+  -- One that is asked for and answered.
   answered : (request : Request) (answer : Option (List ℕ)) (left : List Reply) (text : Result (Option Replacement) Refusal) (end : Result (Unit {0} × ℕ) Fault)
       → answer_text answer ≡ text → byte_at 62 src (spaces_end src p) ≡ end
       → Settled (λ rs. defines (outer request) rs) (((record { request = request; answer = answer } ∷ [], text) >>> λ t. ([], Ok (t, left))) >>> behind_text end name d)
@@ -182,7 +183,7 @@ doctype_same limit allow src d =
     (same_refused (here fault.DtdDetected)))
     (same_done d)
 
--- a whole text, whatever replies follow those that it takes
+-- A whole text, whatever replies follow those that it takes.
 pub reading_same : (limit : ℕ) (allow : Bool) (src : List ℕ) → SameWhole (λ rs. reading limit allow rs src)
 unfolding reading
 reading_same limit allow src =
@@ -195,14 +196,14 @@ reading_same limit allow src =
         settled_whole (λ rs. doctype limit allow src (record { state = s; entities = []; replies = rs })) _ (λ d rs. refl) (λ d. asks_none (body limit d.entities src d.state) _ (λ x. refl))
         (doctype limit allow src (record { state = s; entities = []; replies = rs })) (doctype_same limit allow src (record { state = s; entities = []; replies = [] }) rs)
 
--- what is read
+-- What is read.
 pub read_same : (limit : ℕ) (allow : Bool) (replies more : List Reply) (src : List ℕ) (asked : List Asked) (t : Forest Item) → reading limit allow replies src ≡ (asked, Ok t)
     → reading limit allow (replies_of asked ++ more) src ≡ (asked, Ok t)
 read_same limit allow replies more src asked t h =
     let settled : Yields (λ rs. reading limit allow rs src) asked t = subst (SettledWhole (λ rs. reading limit allow rs src)) h (reading_same limit allow src replies) in
     settled more
 
--- why it is refused
+-- Why it is refused.
 pub refused_same : (limit : ℕ) (allow : Bool) (replies more : List Reply) (src : List ℕ) (asked : List Asked) (e : Refusal) → reading limit allow replies src ≡ (asked, Err e)
     → reading limit allow (replies_of asked ++ with_refusal e more) src ≡ (asked, Err e)
 refused_same limit allow replies more src asked e h =

@@ -13,22 +13,22 @@ pub use Rattle.rox_theory.specs.ValidState.{AreNamed, IsValidState}
 
 -- ---- pairs
 
--- a function may be applied in both cases
+-- A function may be applied in both cases.
 in_both : {X Y : Type 0} (f : X → Y) (b : Bool) (x y : X) (v w : Y) → v ≡ f x → w ≡ f y → cond b v w ≡ f (cond b x y)
 in_both f true x y v w h k = h
 in_both f false x y v w h k = k
 
--- those of two lists, one after the other
+-- Those of two lists, one after the other.
 with_new-append : (ds es fs : List NamespaceDecl) → with_new ds (es ++ fs) ≡ with_new (with_new ds es) fs
 with_new-append ds [] fs = refl
 with_new-append ds (e ∷ es) fs =
     in_both (λ (xs : List NamespaceDecl). with_new xs fs) (has_pair ds e) (with_new ds es) (with_new (ds ++ e ∷ []) es) _ _ (with_new-append ds es fs) (with_new-append (ds ++ e ∷ []) es fs)
 
--- more of them, one after the other
+-- More of them, one after the other.
 pub distinct-append : (ds es : List NamespaceDecl) → distinct_pairs (ds ++ es) ≡ with_new (distinct_pairs ds) es
 distinct-append ds es = with_new-append [] ds es
 
--- there are never fewer
+-- There are never fewer.
 with_new-grows : (ds es : List NamespaceDecl) → length ds ≤ length (with_new ds es)
 with_new-grows ds [] = omega arith
 with_new-grows ds (e ∷ es) =
@@ -36,32 +36,32 @@ with_new-grows ds (e ∷ es) =
     cond_both (has_pair ds e) (with_new ds es) (with_new (ds ++ e ∷ []) es) (λ (xs : List NamespaceDecl). length ds ≤ length xs)
     (λ there. with_new-grows ds es) (λ new. omega (arith, length-append ds (e ∷ [])))
 
--- more pairs never make fewer
+-- More pairs never make fewer.
 pub distinct-grows : (ds es : List NamespaceDecl) → length (distinct_pairs ds) ≤ length (distinct_pairs (ds ++ es))
 distinct-grows ds es = rw distinct-append (with_new-grows (distinct_pairs ds) es)
 
 -- ---- one more item, with what is below it
 
--- its attributes are counted
+-- Its attributes are counted.
 pub attributes-item : (stack : Open) (done : Forest Item) (item : Item) (kids : Forest Item)
     → attributes_so_far stack (join done (Cons item kids Nil)) ≡ attributes_so_far stack done + (own_attributes item + attribute_count kids)
 attributes-item root done item kids = omega (arith, attribute_count-join done (Cons item kids Nil))
 attributes-item (inside start tag before up) done item kids = omega (arith, attribute_count-join done (Cons item kids Nil))
 
--- its pairs come last
+-- Its pairs come last.
 pub pairs-item : (stack : Open) (done : Forest Item) (item : Item) (kids : Forest Item)
     → pairs_so_far stack (join done (Cons item kids Nil)) ≡ pairs_so_far stack done ++ (own_pairs item ++ pairs kids)
 pairs-item root done item kids = rw (pairs-join done (Cons item kids Nil)) (simp append-nil)
 pairs-item (inside start tag before up) done item kids = rw (pairs-join done (Cons item kids Nil)) (simp (append-nil, append_assoc))
 
--- it keeps the names in order
+-- It keeps the names in order.
 pub named-item : (stack : Open) (done : Forest Item) (item : Item) (kids : Forest Item)
     → AreNamed stack done → ItemWellNamed (scope_in (scope_of stack) item) item → AreWellNamed (scope_in (scope_of stack) item) kids → AreNamed stack (join done (Cons item kids Nil))
 named-item root done item kids named own below = named-join [] done (Cons item kids Nil) named (own, below, tt)
 named-item (inside start tag before up) done item kids named own below =
     (named.0, named.1, named-join (listed (scope_of up) tag.declarations) done (Cons item kids Nil) named.2 (own, below, tt))
 
--- and they were in order before it
+-- And they were in order before it.
 pub item-named : (stack : Open) (done : Forest Item) (item : Item) (kids : Forest Item)
     → AreNamed stack (join done (Cons item kids Nil)) → AreNamed stack done × ItemWellNamed (scope_in (scope_of stack) item) item × AreWellNamed (scope_in (scope_of stack) item) kids
 item-named root done item kids named =
@@ -71,7 +71,7 @@ item-named (inside start tag before up) done item kids named =
     let last = named-right (listed (scope_of up) tag.declarations) done (Cons item kids Nil) named.2 in
     ((named.0, named.1, named-left (listed (scope_of up) tag.declarations) done (Cons item kids Nil) named.2), last.0, last.1)
 
--- an element is one node more, and what is below it
+-- An element is one node more, and what is below it.
 pub nodes-element : (stack : Open) (done : Forest Item) (start end : ℕ) (tag : Tag) (kids : Forest Item)
     → nodes_so_far stack (join done (Cons (Element start end tag) kids Nil)) ≡ nodes_so_far stack done + (1 + size kids)
 nodes-element root done start end tag kids =
@@ -83,7 +83,7 @@ nodes-element (inside a b before up) done start end tag kids =
     ap size (merge-item done (Element start end tag) kids refl) ∙ size-join (merge done) (Cons (Element start end tag) kids Nil) in
     omega arith
 
--- more items never make fewer nodes
+-- More items never make fewer nodes.
 pub nodes-grow : (stack : Open) (done more : Forest Item) → nodes_so_far stack done ≤ nodes_so_far stack (join done more)
 nodes-grow root done more = omega (arith, merge-more done more)
 nodes-grow (inside start tag before up) done more = omega (arith, merge-more done more)

@@ -39,17 +39,17 @@ module _ (context : Context) (O : Inclusion) (values : AgreesValue context.value
   abbrev OneConstruct : State → State → Type 0
   OneConstruct s t = StepsOver context.values.main O src context.open_around s t
 
-  -- what it leads to, and that it is fine
+  -- What it leads to, and that it is fine.
   abbrev Leads : ℕ → State → State → Type 0
   Leads most s t = OneConstruct s t × IsValidState most t
 
   -- ---- what is read is a construct
 
-  -- a tag from a state on, and what it leads to
+  -- A tag from a state on, and what it leads to.
   abbrev pub Tags : State → State → Type 0
   Tags s t = (j : ℕ) × (c : ℕ) × (tag : Tag) × (empty : Bool) × IsTag context.values.main O src s.at j s.openings_left c empty tag × (t ≡ after s j tag empty c)
 
-  -- it is a construct
+  -- It is a construct.
   tags_take : (s t : State) → Tags s t → OneConstruct s t
   tags_take s t (j, c, tag, true, is, leads) = subst (OneConstruct s) (sym leads) (takes_empty s.at j s.openings_left c tag s.done s.stack is)
   tags_take s t (j, c, tag, false, is, leads) = subst (OneConstruct s) (sym leads) (takes_start s.at j s.openings_left c tag s.done s.stack is)
@@ -153,7 +153,7 @@ module _ (context : Context) (O : Inclusion) (values : AgreesValue context.value
 
   -- ---- a construct is read, if the limits allow what it leads to
 
-  -- by its kind
+  -- By its kind.
   by_kind : (k : Kind) (s t : State) → kind_at src s.at ≡ k → step_by k context src s ≡ Ok t → step context src s ≡ Ok t
   by_kind k s t is h = step_is context src s ∙ ap (λ (m : Kind). step_by m context src s) is ∙ h
 
@@ -176,7 +176,7 @@ module _ (context : Context) (O : Inclusion) (values : AgreesValue context.value
   read_misc s j item (comment _ e _ is) fine = by_kind a_comment s _ (comment_kind src s.at (comment_parts is).opens) (read_comment s e j (comment s.at e j is) (markup.comment_complete src s.at e j is) fine)
   read_misc s j item (instruction _ n e _ is) fine = by_kind an_instruction s _ (instruction_kind src s.at (pi_parts is).opens) (read_instruction s _ j (markup.instruction_complete src s.at n e j is) fine)
 
-  -- a start tag
+  -- A start tag.
   opened_found : (s : State) (j c : ℕ) (tag : Tag) (empty : Bool) → IsValidState context.limit (after s j tag empty c) → Adds s (Element s.at j tag) × (opened_by context.limit s tag empty c j ≡ Ok (after s j tag empty c))
   opened_found s j c tag true fine =
       let s' = state s.at s.done s.stack c in
@@ -197,7 +197,7 @@ module _ (context : Context) (O : Inclusion) (values : AgreesValue context.value
   tag_found : (s : State) (j c : ℕ) (tag : Tag) (empty : Bool) → IsTag context.values.main O src s.at j s.openings_left c empty tag → IsValidState context.limit (after s j tag empty c) → step context src s ≡ Ok (after s j tag empty c)
   tag_found s j c tag empty is fine = let p = tag_parts is in by_kind a_tag s _ (tag_kind src s.at p.begins (name_byte src (s.at + 1) tag.name tag.name_end p.is_name)) (read_tag s j c tag empty is fine)
 
-  -- an end tag
+  -- An end tag.
   end_found : (i p j b start : ℕ) (tag : Tag) (done before : Forest Item) (up : Open) → context.open_around < depth_of up + 1 → IsEnd src i tag.name p j
       → end_step context src (state i done (inside start tag before up) b) ≡ Ok (closed j done start tag before up b)
   unfolding end_step closed_by

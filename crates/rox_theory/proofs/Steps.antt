@@ -15,16 +15,16 @@ use Rattle.rox_reading.proofs.Forests.{attribute_count-merge, pairs-merge, named
 use Rattle.rox_theory.proofs.Standing.{IsValidState, distinct-append, distinct-grows, attributes-item, pairs-item, named-item, item-named, nodes-element, nodes-grow}
 use Rattle.rox_theory.proofs.Leaves.{state, with_leaf, Adds}
 
--- after a start tag up to j, by whether the element is empty
+-- After a start tag up to j, by whether the element is empty.
 abbrev pub after : State → ℕ → Tag → Bool → ℕ → State
 after s j t true openings_left = state j (join s.done (leaf (Element s.at j t))) s.stack openings_left
 after s j t false openings_left = state j Nil (inside s.at t s.done s.stack) openings_left
 
--- after an end tag up to j
+-- After an end tag up to j.
 abbrev pub closed : ℕ → Forest Item → ℕ → Tag → Forest Item → Open → ℕ → State
 closed j done start tag before up openings_left = state j (join before (Cons (Element start j tag) (merge done) Nil)) up openings_left
 
--- and what is fine with it was fine before
+-- And what is fine with it was fine before.
 pub fine_leaf : (limit : ℕ) (s : State) (j : ℕ) (item : Item) → IsValidState limit (with_leaf s j item) → IsValidState limit s × Adds s item
 fine_leaf limit s j item fine =
     let e : pairs_so_far s.stack (join s.done (leaf item)) ≡ pairs_so_far s.stack s.done ++ own_pairs item = pairs-item s.stack s.done item Nil ∙ ap (λ (ds : List NamespaceDecl). pairs_so_far s.stack s.done ++ ds) (append-nil (own_pairs item)) in
@@ -40,7 +40,7 @@ fine_leaf limit s j item fine =
       record { attributes = omega (arith, fine.attributes); pairs = rw distinct-append at all; named = named.1 },
     )
 
--- so does a start tag
+-- So does a start tag.
 pub opened_fine : (limit : ℕ) (s : State) (j : ℕ) (tag : Tag) (end openings_left : ℕ) → IsValidState limit s → Adds s (Element s.at end tag) → nodes_so_far s.stack s.done + 1 ≤ limit → IsValidState limit (after s j tag false openings_left)
 opened_fine limit s j tag end openings_left fine adds nodes =
     record {
@@ -50,7 +50,7 @@ opened_fine limit s j tag end openings_left fine adds nodes =
       named = (fine.named, adds.named, tt);
     }
 
--- and what is fine behind it was fine before
+-- And what is fine after it was fine before.
 pub fine_opened : (limit : ℕ) (s : State) (j : ℕ) (tag : Tag) (end openings_left : ℕ) → IsValidState limit (after s j tag false openings_left) → IsValidState limit s × Adds s (Element s.at end tag)
 fine_opened limit s j tag end openings_left fine =
     let all : length (distinct_pairs (pairs_so_far s.stack s.done ++ listable tag)) ≤ most_pairs = rw (append-nil (listable tag)) at fine.pairs in (
@@ -63,12 +63,12 @@ fine_opened limit s j tag end openings_left fine =
       record { attributes = omega (arith, fine.attributes); pairs = rw distinct-append at all; named = fine.named.1 },
     )
 
--- an end tag leaves the pairs as they are
+-- An end tag leaves the pairs as they are.
 closed_pairs : (j : ℕ) (done : Forest Item) (start : ℕ) (tag : Tag) (before : Forest Item) (up : Open)
     → pairs_so_far up (join before (Cons (Element start j tag) (merge done) Nil)) ≡ pairs_so_far (inside start tag before up) done
 closed_pairs j done start tag before up = pairs-item up before (Element start j tag) (merge done) ∙ rw (pairs-merge done) refl
 
--- an end tag keeps a state fine
+-- An end tag keeps a state fine.
 pub closed_fine : (limit i j openings_left : ℕ) (done : Forest Item) (start : ℕ) (tag : Tag) (before : Forest Item) (up : Open)
     → IsValidState limit (state i done (inside start tag before up) openings_left) → IsValidState limit (closed j done start tag before up openings_left)
 closed_fine limit i j openings_left done start tag before up fine =
@@ -79,7 +79,7 @@ closed_fine limit i j openings_left done start tag before up fine =
       named = named-item up before (Element start j tag) (merge done) fine.named.0 fine.named.1 (named-merge (listed (scope_of up) tag.declarations) done fine.named.2);
     }
 
--- and what is fine behind it was fine before
+-- And what is fine after it was fine before.
 pub fine_closed : (limit i j openings_left : ℕ) (done : Forest Item) (start : ℕ) (tag : Tag) (before : Forest Item) (up : Open)
     → IsValidState limit (closed j done start tag before up openings_left) → IsValidState limit (state i done (inside start tag before up) openings_left)
 fine_closed limit i j openings_left done start tag before up fine =
@@ -91,7 +91,7 @@ fine_closed limit i j openings_left done start tag before up fine =
       named = (named.0, named.1, merge-named (listed (scope_of up) tag.declarations) done named.2);
     }
 
--- names that agree byte by byte are one
+-- Names that agree byte by byte are one.
 pub same_names : (m n : Name) → same_qname m n ≡ true → m ≡ n
 same_names m n h =
     let both = and_parts _ _ h in
@@ -99,6 +99,6 @@ same_names m n h =
     let l : m.local ≡ n.local = (bytes_eq-Decides m.local n.local).0 both.1 in
     rw (p, l) refl
 
--- and one name agrees with itself
+-- And one name agrees with itself.
 pub names_same : (m n : Name) → m ≡ n → same_qname m n ≡ true
 names_same m n h = and_from _ _ ((bytes_eq-Decides m.prefix n.prefix).1 (ap (λ (x : Name). x.prefix) h)) ((bytes_eq-Decides m.local n.local).1 (ap (λ (x : Name). x.local) h))

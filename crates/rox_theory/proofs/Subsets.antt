@@ -1,5 +1,5 @@
--- The items of a document type declaration: what is read stands there, with what is asked, and what stands there is read,
--- whatever replies follow.
+-- The items of a document type declaration: what is read is there, with what is asked, and what is there is read, whatever replies
+-- follow.
 use Rattle.std.proofs.Common.{◌≡◌, ℕ, zero, suc, ◌+◌, ◌<◌, ◌≤◌, ◌⊎◌, ◌==◌, ◌||◌, true, nat_le, nat_lt, List, [], ◌++◌, length, Option, Ok, Err, refl, sym, ap, ◌∙◌, subst, arith, inl, inr, append_assoc}
 use Rattle.std.specs.Prelude.{IfSome}
 use Rattle.std.specs.Str.{IsUtf8, IsCharBoundary}
@@ -42,7 +42,7 @@ use Rattle.rox_theory.proofs.EntityLemmas.{either, OnceAsked, EntityRead, Entity
 
 -- ---- one turn
 
--- how reading goes on from d on, by what stands there
+-- How reading continues from d on, by what is there.
 data Turns (limit start n : ℕ) (src : List ℕ) (d : Dtd) : Asks Dtd → Type 0 where
   turn_out : length src ≤ d.state.at → Turns limit start n src d ([], Ok d)
   turn_entity : (first : List Asked) (e : Dtd) → at word.EntityStart src (spaces_end src d.state.at) ≡ true → entity_step src (spaced src d) ≡ (first, Ok e)
@@ -54,14 +54,14 @@ data Turns (limit start n : ℕ) (src : List ℕ) (d : Dtd) : Asks Dtd → Type 
       → Turns limit start n src d ([], Ok (with_state d (at_place (spaces_end src (spaces_end src d.state.at + 1) + 1) d.state)))
   turn_faulty : (f : Fault) → Turns limit start n src d ([], Err (here f))
 
--- what an entity gives, and what follows it
+-- What an entity gives, and what follows it.
 after_entity : (limit start n : ℕ) (src : List ℕ) (d : Dtd) (r : Asks Dtd) → at word.EntityStart src (spaces_end src d.state.at) ≡ true → entity_step src (spaced src d) ≡ r
     → Turns limit start n src d (r >>> λ e. subset limit start n src e)
 after_entity limit start n src d (first, Ok e) is h = turn_entity first e is h
 after_entity limit start n src d (first, Err e) is h = turn_refused first e is h
 
 module _ (src : List ℕ) (utf8 : IsUtf8 src) where
-  -- a declaration that is passed over, and what follows it
+  -- A declaration that is passed over, and what follows it.
   after_passed : (limit start n : ℕ) (d : Dtd) → (at word.ElementStart src (spaces_end src d.state.at) || (at word.AttlistStart src (spaces_end src d.state.at) || at word.NotationStart src (spaces_end src d.state.at))) ≡ true
       → Turns limit start n src d (reading.skipped_declaration start src (spaced src d) >>> λ e. subset limit start n src e)
   unfolding reading.skipped_declaration
@@ -98,9 +98,9 @@ module _ (src : List ℕ) (utf8 : IsUtf8 src) where
       cond_both (byte src (spaces_end src (i + 1)) == 62) _ _ T (λ closes. turn_closed (eqb-true _ _ is) (eqb-true _ _ closes)) (λ other. turn_faulty (fault.InvalidChar2 due.End (byte src (spaces_end src (i + 1))) (spaces_end src (i + 1))))))
       (λ unknown. turn_faulty (fault.UnknownToken i)))))))
 
--- ---- what is asked behind a place of the items
+-- ---- what is asked after a place of the items
 
--- this is asked next, after these
+-- This is asked next, after these.
 pub record Later (src : List ℕ) (i : ℕ) (asked : List Asked) (request : Request) (p : ℕ) : Type 0 where
   pub j : ℕ
   pub nodes : Forest Item
@@ -108,18 +108,18 @@ pub record Later (src : List ℕ) (i : ℕ) (asked : List Asked) (request : Requ
   pub items : Subset src i j nodes asked es
   pub asks : AsksAt src j request p
 
--- what was asked: each stands next, after those before it
+-- What was asked: each stands next, after those before it.
 pub data HasLater (src : List ℕ) (i : ℕ) : List Asked → Type 0 where
   not_yet : HasLater src i []
   one_later : (asked : List Asked) (request : Request) (p : ℕ) (answer : Option (List ℕ)) → Later src i asked request p → IfSome answer IsUtf8 → HasLater src i (asked ++ once request answer)
 
--- the resolver's refusal is of what is asked next
+-- The resolver's refusal is of what is asked next.
 abbrev pub RefusalStands : List ℕ → ℕ → List Asked → Refusal → Type 0
 RefusalStands src i asked (here f) = Unit {0}
 RefusalStands src i asked (there source f) = Unit {0}
 RefusalStands src i asked (refused request p message) = Later src i asked request p
 
--- from i up to j stands what gives these, in front of any items
+-- From i up to j stands what gives these, in front of any items.
 abbrev pub Fronts : List ℕ → ℕ → ℕ → Forest Item → List Asked → List Entity → Type 0
 Fronts src i j one first es = (k : ℕ) (items : Forest Item) (asked : List Asked) (more : List Entity) → Subset src j k items asked more → Subset src i k (join one items) (first ++ asked) (es ++ more)
 
@@ -133,9 +133,9 @@ has_front src i j one first es front h asked not_yet = subst (HasLater src i) (s
 has_front src i j one first es front h asked (one_later before request p answer l text) =
     subst (HasLater src i) (append_assoc first before (once request answer)) (one_later (first ++ before) request p answer (later_front src i j one first es front before request p l) text)
 
--- ---- what is read stands there
+-- ---- what is read is there
 
--- the items from i on and the end of the declaration behind them
+-- The items from i on and the end of the declaration after them.
 pub record Closes (src : List ℕ) (i j : ℕ) (items : Forest Item) (asked : List Asked) (es : List Entity) : Type 0 where
   pub k : ℕ
   pub subset : Subset src i k items asked es
@@ -143,7 +143,7 @@ pub record Closes (src : List ℕ) (i j : ℕ) (items : Forest Item) (asked : Li
   pub closes : byte src (spaces_end src (k + 1)) ≡ 62
   pub next : j ≡ spaces_end src (k + 1) + 1
 
--- it is read to its end, or it is cut off by the end of the text
+-- It is read to its end, or it is cut off by the end of the text.
 pub record SubsetRead (most : ℕ) (src : List ℕ) (d : Dtd) (asked : List Asked) (e : Dtd) : Type 0 where
   pub items : Forest Item
   pub es : List Entity
@@ -168,7 +168,7 @@ found_front src i j l one first es front items asked more (inl c) =
     inl (record { k = c.k; subset = front c.k items asked more c.subset; bracket = c.bracket; closes = c.closes; next = c.next })
 found_front src i j l one first es front items asked more (inr cut) = inr cut
 
--- what comes of it with something in front
+-- What comes of it with something in front.
 outcome_front : (most : ℕ) (src : List ℕ) (d e : Dtd) (one : Forest Item) (first : List Asked) (es : List Entity) → Fronts src d.state.at e.state.at one first es
     → e.state ≡ state e.state.at (join d.state.done one) d.state.stack d.state.openings_left → e.entities ≡ d.entities ++ es → HasLater src d.state.at first → (r : Asks Dtd) → SubsetOutcome most src e r
     → SubsetOutcome most src d (having_asked first r)
@@ -191,13 +191,13 @@ outcome_front most src d e one first es front state_is entities_are has (asked, 
     )
 
 module _ (src : List ℕ) (utf8 : IsUtf8 src) where
-  -- white space in front
+  -- White space in front.
   spaces_front : (i j : ℕ) (one : Forest Item) (first : List Asked) (es : List Entity) → IsCharBoundary src i → Fronts src (spaces_end src i) j one first es → Fronts src i j one first es
   spaces_front i j one first es cut front k items asked more rest =
       (over_spaces src (λ (m : ℕ). Subset src m k (join one items) (first ++ asked) (es ++ more)) i utf8 cut (λ m is rest. space m k (join one items) (first ++ asked) (es ++ more) is rest)).1
       (front k items asked more rest)
 
-  -- what is asked once behind white space
+  -- What is asked once after white space.
   once_later : (i : ℕ) (asked : List Asked) → IsCharBoundary src i → OnceAsked src (spaces_end src i) asked → HasLater src i asked
   once_later i asked cut (inl none) = subst (HasLater src i) (sym none) not_yet
   once_later i asked cut (inr (request, answer, p, is, asks, text)) = subst (HasLater src i) (sym is) (one_later [] request p answer (asks_later i request p cut asks) text)
@@ -206,7 +206,7 @@ module _ (src : List ℕ) (utf8 : IsUtf8 src) where
       asks_later i request p cut asks =
           record { j = spaces_end src i; nodes = Nil; es = []; items = spaces_front i (spaces_end src i) Nil [] [] cut (λ k items asked more rest. rest) (spaces_end src i) Nil [] [] (no_more (spaces_end src i)); asks = asks }
 
-  -- a declaration that is passed over goes forward
+  -- A declaration that is passed over goes forward.
   pub passed_moves : (i j : ℕ) → IsPassedOver src i j → (i < j) × (j ≤ length src) × IsCharBoundary src j
   passed_moves i j p =
       let e = byte_from (λ c. c == 62) src i in
@@ -214,19 +214,19 @@ module _ (src : List ℕ) (utf8 : IsUtf8 src) where
       let is : byte src e ≡ 62 = eqb-true _ _ (from_here (λ c. c == 62) src i closes) in
       (omega (arith, from_le (λ c. c == 62) src i), omega arith, cut_behind src e 62 j utf8 is (omega arith) (omega arith) next)
 
-  -- a turn that is a declaration of an entity
+  -- A turn that is a declaration of an entity.
   entity_front : (i j : ℕ) (first : List Asked) (es : List Entity) → IsCharBoundary src i → IsEntityDeclaration src (spaces_end src i) j first es → Fronts src i j Nil first es
   entity_front i j first es cut is =
       spaces_front i j Nil first es cut (λ k items asked more rest. an_entity (spaces_end src i) j k items first asked es more is rest)
 
-  -- a comment or an instruction
+  -- A comment or an instruction.
   item_front : (i j : ℕ) (item : Item) → IsCharBoundary src i → IsMisc src (spaces_end src i) j item → Fronts src i j (leaf item) [] []
   item_front i j item cut is = spaces_front i j (leaf item) [] [] cut (λ k items asked more rest. an_item (spaces_end src i) j k item items asked more is rest)
 
   passed_front : (i j : ℕ) → IsCharBoundary src i → IsPassedOver src (spaces_end src i) j → Fronts src i j Nil [] []
   passed_front i j cut is = spaces_front i j Nil [] [] cut (λ k items asked more rest. passed_first src (spaces_end src i) j k items asked more is rest)
 
-  -- one turn, where what follows it stands there
+  -- One turn, where what follows it is there.
   module _ (limit most start n : ℕ) (d : Dtd) (limits : limit ≤ most) (cut : IsCharBoundary src d.state.at) (fine : IsValidState most d.state) (texts : AreTextReplies d.replies) (enough : length src ≤ d.state.at + suc n) (go : (e : Dtd) → IsCharBoundary src e.state.at → IsValidState most e.state → AreTextReplies e.replies → length src ≤ e.state.at + n → SubsetOutcome most src e (subset limit start n src e)) where
     abbrev i : ℕ
     i = spaces_end src d.state.at
@@ -288,7 +288,7 @@ module _ (src : List ℕ) (utf8 : IsUtf8 src) where
         )
     by_turn r (turn_faulty f) = (not_yet, tt)
 
-  -- what is read, with so many items at most, stands there
+  -- What is read, with so many items at most, is there.
   pub subset_outcome : (n limit most start : ℕ) (d : Dtd) → limit ≤ most → IsCharBoundary src d.state.at → IsValidState most d.state → AreTextReplies d.replies → length src ≤ d.state.at + n
       → SubsetOutcome most src d (subset limit start n src d)
   unfolding subset

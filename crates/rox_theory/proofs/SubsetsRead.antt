@@ -1,4 +1,4 @@
--- The items of a document type declaration that stand there are read, whatever replies follow those that they take.
+-- The items of a document type declaration that are there are read, whatever replies follow those that they take.
 use Rattle.std.proofs.Common.{◌≡◌, ◌≢◌, ℕ, zero, suc, ◌+◌, ◌<◌, ◌≤◌, ◌==◌, ◌||◌, true, false, List, [], ◌++◌, length, Ok, refl, sym, ◌∙◌, subst, arith, inl, inr, append_assoc}
 use Rattle.std.specs.Str.{IsUtf8}
 use Rattle.std.proofs.lemmas.List.{append-nil}
@@ -35,24 +35,24 @@ use Rattle.rox_theory.proofs.DoctypeParts.{declaration_parts, IsPassedOver, pass
 use Rattle.rox_theory.proofs.EntityLemmas.{entity_moves, entity_complete}
 use Rattle.rox_theory.proofs.Subsets.{passed_moves}
 
--- reading stands here
+-- Reading is here.
 abbrev pub here_at : ℕ → Forest Item → Open → ℕ → List Entity → Dtd
 here_at i done stack openings_left es = record { state = state i done stack openings_left; entities = es; replies = [] }
 
--- ---- which word stands there
+-- ---- which word is there
 
--- not one that differs in a byte from one that does
+-- Not one that differs in a byte from one that does.
 words_apart : (v w : Word) (src : List ℕ) (i n : ℕ) → n < length (word_text v) → n < length (word_text w) → byte (word_text v) n ≢ byte (word_text w) n → at w src i ≡ true → at v src i ≡ false
 words_apart v w src i n short long apart is =
     false_from_ne_true _ (λ h. apart (sym (stands_reads (word_text v) src i n h short) ∙ stands_reads (word_text w) src i n is long))
 
--- nor one whose first byte is another
+-- Nor one whose first byte is another.
 byte_apart : (v : Word) (src : List ℕ) (i : ℕ) → 0 < length (word_text v) → byte (word_text v) 0 ≢ byte src i → at v src i ≡ false
 byte_apart v src i some apart =
     let zero : i + 0 ≡ i = omega arith in
     false_from_ne_true _ (λ h. let b : byte src (i + 0) ≡ byte (word_text v) 0 = stands_reads (word_text v) src i 0 h some in apart (sym (rw zero at b)))
 
--- the first byte of a word
+-- The first byte of a word.
 word_byte : (w : Word) (src : List ℕ) (i b : ℕ) → 0 < length (word_text w) → byte (word_text w) 0 ≡ b → at w src i ≡ true → byte src i ≡ b
 word_byte w src i b some first is =
     let zero : i + 0 ≡ i = omega arith in
@@ -60,7 +60,7 @@ word_byte w src i b some first is =
     rw zero at e ∙ first
 
 module _ (src : List ℕ) (utf8 : IsUtf8 src) where
-  -- a row of items goes forward
+  -- A row of items goes forward.
   pub subset_le : (i k : ℕ) (items : Forest Item) (asked : List Asked) (es : List Entity) → Subset src i k items asked es → i ≤ k
   subset_le i k items asked es (no_more _) = omega arith
   subset_le i k items asked es (space _ _ _ _ _ is rest) = omega (arith, subset_le (i + 1) k items asked es rest)
@@ -72,7 +72,7 @@ module _ (src : List ℕ) (utf8 : IsUtf8 src) where
     abbrev here_run : ℕ → ℕ → Forest Item → List Entity → List Reply → Asks Dtd
     here_run n i done es rs = subset limit start n src (left_with rs (here_at i done stack openings_left es))
 
-    -- white space in front is passed
+    -- White space in front is passed.
     space_step : (n i : ℕ) (done : Forest Item) (es : List Entity) (rs : List Reply) → is_space (byte src i) ≡ true → i + 1 < length src → here_run (suc n) i done es rs ≡ here_run (suc n) (i + 1) done es rs
     unfolding subset
     space_step n i done es rs is inside =
@@ -81,7 +81,7 @@ module _ (src : List ℕ) (utf8 : IsUtf8 src) where
         let e = spaces_on src i is in
         rw (a, b, e) refl
 
-    -- the end of the declaration
+    -- The end of the declaration.
     end_read : (n i : ℕ) (done : Forest Item) (es : List Entity) → byte src i ≡ 93 → byte src (spaces_end src (i + 1)) ≡ 62
         → Answered (here_run (suc n) i done es) [] (here_at (spaces_end src (i + 1) + 1) done stack openings_left es)
     end_read n i done es bracket closes =
@@ -97,7 +97,7 @@ module _ (src : List ℕ) (utf8 : IsUtf8 src) where
         (or_from _ _ (none word.ElementStart (omega arith) refl) (or_from _ _ (none word.AttlistStart (omega arith) refl) (none word.NotationStart (omega arith) refl))) is more ends in
         subst (λ (k : ℕ). Answered (here_run (suc n) i done es) [] (here_at (spaces_end src (k + 1) + 1) done stack openings_left es)) e r
 
-    -- a comment or an instruction
+    -- A comment or an instruction.
     item_read : (n i j : ℕ) (item : Item) (done : Forest Item) (es : List Entity) → IsMisc src i j item → IsValidState limit (state j (join done (leaf item)) stack openings_left)
         → Continues (here_run (suc n) i done es) [] limit start n src (here_at j (join done (leaf item)) stack openings_left es)
     unfolding comment_step instruction_step
@@ -127,7 +127,7 @@ module _ (src : List ℕ) (utf8 : IsUtf8 src) where
         turn.turn_instruction (here_run (suc n) i done es) [] limit start (suc n) n src (here_at i done stack openings_left es) (none_yet limit start (suc n) src (here_at i done stack openings_left es)) refl inside no_entity no_comment
         (with_leaf s j item) opens step'
 
-    -- a declaration that is passed over: its word, which is none of those before it
+    -- A declaration that is passed over: its word, which is none of those before it.
     passed_by : (w : Word) (n i j : ℕ) (done : Forest Item) (es : List Entity) (p : IsPassedOver src i j) → at w src i ≡ true → at word.EntityStart src i ≡ false → at word.CommentStart src i ≡ false
         → at word.PIStart src i ≡ false → 0 < length (word_text w) → byte (word_text w) 0 ≡ 60
         → (at word.ElementStart src i || (at word.AttlistStart src i || at word.NotationStart src i)) ≡ true → Continues (here_run (suc n) i done es) [] limit start n src (here_at j done stack openings_left es)
@@ -160,7 +160,7 @@ module _ (src : List ℕ) (utf8 : IsUtf8 src) where
       ]
     ]
 
-    -- a declaration of an entity
+    -- A declaration of an entity.
     entity_read : (n i j : ℕ) (first : List Asked) (one es : List Entity) (done : Forest Item) → IsEntityDeclaration src i j first one
         → Continues (here_run (suc n) i done es) first limit start n src (here_at j done stack openings_left (es ++ one))
     entity_read n i j first one es done is =
@@ -174,7 +174,7 @@ module _ (src : List ℕ) (utf8 : IsUtf8 src) where
         turn.turn_entity (here_run (suc n) i done es) [] limit start (suc n) n src d (none_yet limit start (suc n) src d) refl inside first (here_at j done stack openings_left (es ++ one)) opens'
         (entity_complete src utf8 (spaced src d) j first one is')
 
-    -- the items and the end of the declaration
+    -- The items and the end of the declaration.
     pub subset_complete : (n i k : ℕ) (items done : Forest Item) (asked : List Asked) (more es : List Entity) → Subset src i k items asked more → byte src k ≡ 93 → byte src (spaces_end src (k + 1)) ≡ 62
         → IsValidState limit (state k (join done items) stack openings_left) → length src ≤ i + n
         → Answered (here_run n i done es) asked (here_at (spaces_end src (k + 1) + 1) (join done items) stack openings_left (es ++ more))

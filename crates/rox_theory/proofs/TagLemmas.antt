@@ -1,4 +1,4 @@
--- Start tags: what is read stands there, and what stands there is read.
+-- Start tags: what is read is there, and what is there is read.
 use Rattle.std.proofs.Common.{◌≡◌, ℕ, zero, suc, ◌+◌, ◌<◌, ◌≤◌, Bool, true, false, leb, ltb, List, [], ◌∷◌, length, refl, ap, subst, arith}
 use Rattle.std.specs.Prelude.{Result, Ok, bytes_eq}
 use Rattle.std.specs.Str.{IsUtf8}
@@ -28,7 +28,7 @@ use Rattle.rox_theory.proofs.NameLemmas.{qname_sound, qname_complete, qname_le}
 use Rattle.rox_theory.proofs.AttributeLemmas.{TurnStands, turn_sound, end_complete, more_complete, attribute_sound, attribute_complete, attribute_le}
 use Rattle.rox_theory.proofs.DeclaredLemmas.{all_taken, taken_sound, taken_complete, names_sound, names_complete}
 
--- a tag ends in the source
+-- A tag ends in the source.
 pub ends_inside : (src : List ℕ) (i : ℕ) (empty : Bool) (j : ℕ) → TagEnds src i empty j → (i < length src) × (i < j)
 ends_inside src i empty j (content.opened _ greater) =
     let l = within src (spaces_end src i) (λ z. omega arith) in
@@ -39,7 +39,7 @@ ends_inside src i empty j (content.closed _ slash greater) =
     let le = run_end_le is_space src i in
     (omega arith, omega arith)
 
--- a tag that passes the tests has distinct names, within the limit
+-- A tag that passes the tests has distinct names, within the limit.
 tested_sound : (scope : List NamespaceDecl) (count i : ℕ) (name : Name) (as' : List Attribute) (x : Unit {0}) → tag_tested scope count i name as' ≡ Ok x
     → (count + length as' ≤ most_attributes) × DistinctBehind scope [] as' × (may_name scope name ≡ true)
 unfolding tag_tested
@@ -48,7 +48,7 @@ tested_sound scope count i name as' x h =
     bind_ok (names_tested scope [] as') _ _ h (λ u names h.
     chosen (may_name scope name) _ _ _ h (λ may h. (ltb-false _ _ few, names_sound scope [] as' u names, may)) (λ unknown h. cc)))
 
--- a tag with distinct names within the limit passes the tests
+-- A tag with distinct names within the limit passes the tests.
 tested_complete : (scope : List NamespaceDecl) (count i : ℕ) (name : Name) (as' : List Attribute) → count + length as' ≤ most_attributes → DistinctBehind scope [] as' → may_name scope name ≡ true
     → tag_tested scope count i name as' ≡ Ok tt
 unfolding tag_tested
@@ -57,24 +57,24 @@ tested_complete scope count i name as' few distinct may =
     let n = names_complete scope [] as' distinct in
     rw (l, n, may) refl
 
--- nothing yet
+-- Nothing yet.
 abbrev pub none_yet : TagSoFar
 none_yet = record { own = []; attributes = [] }
 
 module _ (context : Values) (O : Inclusion) (agrees : AgreesValue context.entities O context.opener) (src : List ℕ) (utf8 : IsUtf8 src) where
-  -- a tag stands there, is well named, and is within the limits after so many attributes and these pairs
+  -- A tag is there, is well named, and is within the limits after so many attributes and these pairs.
   pub record TagStands (above : List NamespaceDecl) (count : ℕ) (known : List NamespaceDecl) (i j b : ℕ) (x : TagRead) : Type 0 where
     pub is_tag : IsTag context.main O src i j b x.openings_left x.empty x.tag
     pub well_named : IsWellNamed (listed above x.tag.declarations) x.tag
     pub attributes : count + length x.tag.attributes ≤ most_attributes
     pub pairs : length (with_new known (listable x.tag)) ≤ most_pairs
 
-  -- the rest of a tag, from i on, where it holds these
+  -- The rest of a tag, from i on, where it holds these.
   abbrev pub RestStands : List NamespaceDecl → ℕ → ℕ → TagSoFar → TagRest × ℕ → Type 0
   RestStands known i b h x =
       (written : List Attribute) × (last : ℕ) × Attributes context.main O src i last b x.0.openings_left written × TagEnds src last x.0.empty x.1 × (all_taken known written h ≡ Ok x.0.held)
 
-  -- a turn and the rest that are read stand there
+  -- A turn and the rest that are read are there.
   after_sound : (known : List NamespaceDecl) (next : ℕ → ℕ → TagSoFar → Result (TagRest × ℕ) Refusal) → ((j l : ℕ) (held : TagSoFar) (x : TagRest × ℕ) → next j l held ≡ Ok x → RestStands known j l held x)
       → (i b : ℕ) (h : TagSoFar) (t : TagItem) (j : ℕ) (x : TagRest × ℕ) → TurnStands src i t j → after_tag_item next context known src b h t j ≡ Ok x → RestStands known i b h x
   after_sound known next rest i b h (more raw) j x stands is =
@@ -92,7 +92,7 @@ module _ (context : Values) (O : Inclusion) (agrees : AgreesValue context.entiti
   after_sound known next rest i b h closed j x stands is =
       subst (λ (y : TagRest × ℕ). RestStands known i b h y) (ok_same _ _ is) ([], i, no_more i b, stands, refl)
 
-  -- the rest of a tag that is read stands there
+  -- The rest of a tag that is read is there.
   pub rest_sound : (n : ℕ) (cut : Fault) (known : List NamespaceDecl) (i b : ℕ) (h : TagSoFar) (x : TagRest × ℕ) → attributes_at n context cut known src i b h ≡ Ok x → RestStands known i b h x
   unfolding attributes_at
   rest_sound zero cut known i b h x is = cc is
@@ -100,7 +100,7 @@ module _ (context : Values) (O : Inclusion) (agrees : AgreesValue context.entiti
       chosen (leb (length src) i) _ _ _ is (λ out is. cc) (λ inside is. bind_lifted (tag_item_at src i) _ _ is (λ t turn is.
       after_sound known (λ j l held. attributes_at n context cut known src j l held) (λ j l held y. rest_sound n cut known j l held y) i b h t.0 t.1 x (turn_sound src utf8 i t turn) is))
 
-  -- attributes go forwards
+  -- Attributes go forwards.
   pub attributes_le : (i j b c : ℕ) (as' : List Attribute) → Attributes context.main O src i j b c as' → i ≤ j
   attributes_le i j b c as' (no_more _ _) = omega arith
   attributes_le i j b c as' (one_more _ k _ _ d _ a rest some first p) =
@@ -108,7 +108,7 @@ module _ (context : Values) (O : Inclusion) (agrees : AgreesValue context.entiti
       let ih = attributes_le k j d c rest p in
       omega arith
 
-  -- the rest of a tag that stands there is read
+  -- The rest of a tag that is there is read.
   rest_complete : (n : ℕ) (cut : Fault) (known : List NamespaceDecl) (i last b c : ℕ) (written : List Attribute) (empty : Bool) (j : ℕ) (h held : TagSoFar)
       → length src ≤ i + n → Attributes context.main O src i last b c written → TagEnds src last empty j → all_taken known written h ≡ Ok held
       → attributes_at n context cut known src i b h ≡ Ok (record { held = held; empty = empty; openings_left = c }, j)
@@ -140,7 +140,7 @@ module _ (context : Values) (O : Inclusion) (agrees : AgreesValue context.entiti
       let taken' : taken known (attribute_with raw read.1) h ≡ Ok g = rw a_is at one_taken in
       rw (inside, t, value, taken') ih)
 
-  -- a tag that is read stands there, well named and within the limits
+  -- A tag that is read is there, well named and within the limits.
   pub tag_sound : (cut : Fault) (above : List NamespaceDecl) (count : ℕ) (known : List NamespaceDecl) (i j b : ℕ) (x : TagRead) → byte src i ≡ 60
       → length known ≤ most_pairs → tag_at context cut above count known src i b ≡ Ok (x, j) → TagStands above count known i j b x × (i < j)
   unfolding tag_at
@@ -168,7 +168,7 @@ module _ (context : Values) (O : Inclusion) (agrees : AgreesValue context.entiti
         omega arith,
       )))))
 
-  -- a tag that stands there, well named and within the limits, is read
+  -- A tag that is there, well named and within the limits, is read.
   pub tag_complete : (cut : Fault) (above : List NamespaceDecl) (count : ℕ) (known : List NamespaceDecl) (i j b c : ℕ) (t : Tag) (empty : Bool)
       → IsTag context.main O src i j b c empty t → IsWellNamed (listed above t.declarations) t → count + length t.attributes ≤ most_attributes
       → length (with_new known (listable t)) ≤ most_pairs → tag_at context cut above count known src i b ≡ Ok (record { tag = t; empty = empty; openings_left = c }, j)

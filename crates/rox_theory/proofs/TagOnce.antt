@@ -1,4 +1,4 @@
--- At most one start tag stands at a place, whatever the limits are, where as many texts may be opened.
+-- At most one start tag is at a place, whatever the limits are, where as many texts may be opened.
 use Rattle.std.proofs.Common.{◌≡◌, ℕ, ◌+◌, ◌<◌, Bool, true, false, cond, List, Ok, refl, sym, ap, ◌∙◌, subst}
 use Rattle.std.specs.Str.{IsUtf8}
 use Rattle.rox_grammar.specs.Written.{Name, Attribute, Tag}
@@ -13,25 +13,25 @@ use Rattle.rox_theory.proofs.FailedReadings.{ok_one}
 use Rattle.rox_theory.proofs.NameLemmas.{qname_complete}
 use Rattle.rox_theory.proofs.AttributeLemmas.{AttributeReads, attribute_complete, more_complete, end_complete}
 
--- the end of a tag is no attribute
+-- The end of a tag is not an attribute.
 pub apart : (raw : RawAttribute) (x : Bool) → more raw ≡ cond x closed opened → ⊥
 apart raw true e = cc
 apart raw false e = cc
 
--- the end of a tag says whether it is empty
+-- The end of a tag says whether it is empty.
 same_end : (x y : Bool) → ◌≡◌ {A = TagItem} (cond x closed opened) (cond y closed opened) → x ≡ y
 same_end true true e = refl
 same_end true false e = cc
 same_end false true e = cc
 same_end false false e = refl
 
--- the attribute of a turn, or another
+-- The attribute of a turn, or another.
 raw_of : RawAttribute → TagItem → RawAttribute
 raw_of raw (more r) = r
 raw_of raw opened = raw
 raw_of raw closed = raw
 
--- a turn holds one attribute
+-- A turn holds one attribute.
 pub same_more : (r s : RawAttribute) → more r ≡ more s → r ≡ s
 unfolding raw_of
 same_more r s e = ap (raw_of r) e
@@ -40,14 +40,14 @@ module _ (context : Values) (O : Inclusion) (agrees : AgreesValue context.entiti
   abbrev pub Reads : ℕ → ℕ → ℕ → ℕ → Attribute → Type 0
   Reads i j b c a = AttributeReads context O agrees src utf8 i j b c a
 
-  -- a turn of a tag that is an attribute
+  -- A turn of a tag that is an attribute.
   pub turn_is : (i j b c : ℕ) (a : Attribute) → IsAttribute context.main O src (spaces_end src i) j b c a → (spaces : i < spaces_end src i)
       → (r : Reads (spaces_end src i) j b c a) × (tag_item_at src i ≡ Ok (more r.0, j))
   turn_is i j b c a is spaces =
       let r = attribute_complete context O agrees src utf8 (spaces_end src i) j b c a is in
       (r, more_complete src i j r.0 spaces r.2)
 
-  -- an attribute is read in one way
+  -- An attribute is read in one way.
   pub one_attribute : (j k i b c d : ℕ) (a e : Attribute) → (r : Reads i j b c a) → (s : Reads i k b d e) → r.0 ≡ s.0 → (a ≡ e) × (c ≡ d)
   one_attribute j k i b c d a e r s same =
       let read : value_at context.main context.entities context.opener src r.0.value_start r.0.value_end b ≡ Ok (s.1, d) =
@@ -57,7 +57,7 @@ module _ (context : Values) (O : Inclusion) (agrees : AgreesValue context.entiti
         ap (λ (x : ReadText × ℕ). x.1) value,
       )
 
-  -- the attributes, and the end of their tag
+  -- The attributes, and the end of their tag.
   one_list : (i l m j k b c d : ℕ) (as' bs : List Attribute) (x y : Bool) → Attributes context.main O src i l b c as' → Attributes context.main O src i m b d bs → TagEnds src l x j → TagEnds src m y k
       → (as' ≡ bs) × (j ≡ k) × (x ≡ y) × (c ≡ d)
   one_list i l m j k b c d as' bs x y (no_more _ _) (no_more _ _) end end' =
@@ -81,7 +81,7 @@ module _ (context : Values) (O : Inclusion) (agrees : AgreesValue context.entiti
       let next = one_list n l m j k f c d rest rest' x y others others'' end end' in
       (rw (one.0, next.0) refl, next.1, next.2, next.3)
 
-  -- a tag is read in one way, and as many texts may be opened behind it
+  -- A tag is read in one way, and as many texts may be opened after it.
   pub tag_once : (i j k b c d : ℕ) (s t : Tag) (x y : Bool) → IsTag context.main O src i j b c x s → IsTag context.main O src i k b d y t → (j ≡ k) × (c ≡ d) × (x ≡ y) × (s ≡ t)
   tag_once i j k b c d _ _ x y (start_tag n last name written begin is_name list end) (start_tag n' last' name' written' begin' is_name' list' end') =
       let named = ok_one (name, n) (name', n') (qname_at src (i + 1)) (qname_complete src (i + 1) name n is_name) (qname_complete src (i + 1) name' n' is_name') in

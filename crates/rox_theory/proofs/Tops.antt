@@ -11,7 +11,7 @@ use Rattle.rox_theory.specs.ParseParts.{MayHaveDoctype, doctype, no_doctype}
 use Rattle.rox_reading.proofs.Forests.{is_text}
 use Rattle.rox_theory.proofs.ParseParts.{parts}
 
--- no item of the row is a text
+-- No item of the row is a text.
 abbrev pub HasNoText : Forest Item → Type 0
 HasNoText Nil = Unit {0}
 HasNoText (Cons i c r) = (is_text i ≡ false) × HasNoText r
@@ -56,7 +56,7 @@ no_text_merge (Cons (Element x y t) c r) (a, h) = ap (Cons (Element x y t) c) (n
 no_text_merge (Cons (Comment x y t) c r) (a, h) = ap (Cons (Comment x y t) c) (no_text_merge r h)
 no_text_merge (Cons (PI x y t o) c r) (a, h) = ap (Cons (PI x y t o) c) (no_text_merge r h)
 
--- nor of what stands at the top
+-- Nor of what is at the top.
 pub tops_merged : (main : Bool) (O : Inclusion) (src : List ℕ) (h i j k l b c : ℕ) (is : Bool) (before nodes one after : Forest Item) (asked : List Asked) (es : List Entity) → Misc src h i before
     → MayHaveDoctype src i j is nodes asked es → IsElement main O src j k b c one → Misc src k l after → merge (join before (join nodes (join one after))) ≡ join before (join nodes (join one after))
 tops_merged main O src h i j k l b c is before nodes one after asked es first declares element last =
@@ -65,7 +65,7 @@ tops_merged main O src h i j k l b c is before nodes one after asked es first de
     (no_text-join nodes (join one after) (doctype_no_text src i j is nodes asked es declares)
     (no_text-join one after (element_no_text main O src j k b c one element) (all_misc_no_text src k l after last))))
 
--- merging changes nothing of a parse
+-- Merging changes nothing of a parse.
 pub parse_merged : (src : List ℕ) (is : Bool) (asked : List Asked) (t : Forest Item) → ParseOf src is asked t → merge t ≡ t
 parse_merged src is asked t whole =
     let p = parts src is asked t whole in

@@ -1,4 +1,4 @@
--- Values, for any opener that agrees: what is read stands there, and what stands there is read.
+-- Values, for any opener that agrees: what is read is there, and what is there is read.
 use Rattle.std.proofs.Common.{◌≡◌, ◌≢◌, ℕ, zero, suc, ◌+◌, ◌-◌, ◌<◌, ◌≤◌, ◌==◌, Bool, true, false, ◌||◌, eqb, ltb, List, [], ◌∷◌, ◌++◌, length, take, refl, sym, ap, ◌∙◌, subst, arith, inl, inr, ◌⊎◌}
 use Rattle.std.specs.Prelude.{Option, Some, None, Result, Ok}
 use Rattle.std.specs.Str.{IsUtf8, IsCharBoundary}
@@ -10,7 +10,7 @@ use Rattle.rox_grammar.specs.declared.fault.Span.{Span}
 use Rattle.rox_grammar.specs.Chars.{is_char}
 use Rattle.rox_grammar.specs.Names.{byte, slice}
 use Rattle.rox_grammar.specs.Constructs.{AreChars}
-use Rattle.rox_grammar.specs.References.{IsReference, IsCharacter, predefined}
+use Rattle.rox_grammar.specs.References.{IsReference, IsCharacter, predefined, entity_reference}
 use Rattle.rox_grammar.specs.Content.{Inclusion, is_verbatim_value, value_bytes, Value, value_ends, line_end, white, other, a_character, an_entity}
 use Rattle.rox_grammar.specs.Entities.{Replacement, Entity, text_of}
 use Rattle.rox_reading.specs.Lexical.{chars_up_to}
@@ -25,11 +25,11 @@ use Rattle.rox_theory.proofs.ReferenceLemmas.{IsRead, is_character, is_entity, r
 use Rattle.rox_theory.proofs.CharTexts.{cut_behind, no_text}
 use Rattle.rox_theory.proofs.CharCuts.{text_chars, chars_joined, chars_part, byte_chars, character_text, reference_text}
 
--- a byte that stands for itself
+-- A byte that needs no replacement.
 abbrev Stays : ℕ → Type 0
 Stays b = (b ≢ 38) × (b ≢ 9) × (b ≢ 10) × (b ≢ 13)
 
--- a byte that is not special stands for itself
+-- A byte that is not special needs no replacement.
 stays : (b : ℕ) → is_special b ≡ false → Stays b
 stays b h =
     let (amp, blank) = or_parts (eqb b 38) (eqb b 9 || (eqb b 10 || eqb b 13)) h in
@@ -37,15 +37,15 @@ stays b h =
     let (lf, cr) = or_parts (eqb b 10) (eqb b 13) more in
     (eqb-false _ _ amp, eqb-false _ _ tab, eqb-false _ _ lf, eqb-false _ _ cr)
 
--- a byte that stands for itself is not special
+-- A byte that needs no replacement is not special.
 pub not_special : (b : ℕ) → Stays b → is_special b ≡ false
 not_special b s = or_from (eqb b 38) (eqb b 9 || (eqb b 10 || eqb b 13)) (ne_eqb _ _ s.0) (or_from (eqb b 9) (eqb b 10 || eqb b 13) (ne_eqb _ _ s.1) (or_from (eqb b 10) (eqb b 13) (ne_eqb _ _ s.2) (ne_eqb _ _ s.3)))
 
--- white space but for a CR before a LF, where the value stops
+-- White space except a CR before a LF, where the value stops.
 abbrev IsWhite : List ℕ → ℕ → ℕ → Type 0
 IsWhite src stop i = (byte src i ≡ 9) ⊎ ((byte src i ≡ 10) ⊎ ((byte src i ≡ 13) × ((stop ≡ i + 1) ⊎ (byte src (i + 1) ≢ 10))))
 
--- white space but CR
+-- White space but CR.
 no_return : (b : ℕ) → is_special b ≡ true → eqb b 38 ≡ false → eqb b 13 ≡ false → (b ≡ 9) ⊎ (b ≡ 10)
 no_return b h amp cr =
     let w : (eqb b 9 || (eqb b 10 || false)) ≡ true = rw (amp, cr) at h in
@@ -54,29 +54,29 @@ no_return b h amp cr =
       | inr m ↦ elim (or_cases (eqb b 10) false m) as (λ s. (b ≡ 9) ⊎ (b ≡ 10)) [ inl l ↦ inr (eqb-true _ _ l) | inr f ↦ absurd (false≢true f) ]
     ]
 
--- what stops a stretch within a replacement text
+-- What stops a stretch within a replacement text.
 abbrev pub stops : ℕ → Bool
 stops b = is_special b || b == 60
 
--- it is ASCII
+-- It is ASCII.
 special_ascii : (b : ℕ) → is_special b ≡ true → b < 128
 special_ascii b h = grind (arith, nat_tests)
 
 pub stops_ascii : (b : ℕ) → stops b ≡ true → b < 128
 stops_ascii b h = grind (arith, nat_tests)
 
--- white space is ASCII, and Chars
+-- White space is ASCII, and Chars.
 white_ascii : (src : List ℕ) (stop i : ℕ) → IsWhite src stop i → (byte src i < 128) × (is_char (byte src i) ≡ true)
 white_ascii src stop i (inl tab) = (omega arith, rw tab refl)
 white_ascii src stop i (inr (inl lf)) = (omega arith, rw lf refl)
 white_ascii src stop i (inr (inr (cr, more))) = (omega arith, rw cr refl)
 
--- a text that is found
+-- A text that is found.
 pub found_ok : (o : Option Replacement) (i : ℕ) (span : Span) (bit : Bit) → entity_bit o i span ≡ Ok bit → (t : Replacement) × (o ≡ Some t) × (opens t ≡ bit)
 found_ok None i span bit h = cc h
 found_ok (Some t) i span bit h = (t, refl, ok_same _ _ h)
 
--- what stands in a value at a place, up to a place, in so far as it is one bit of its reading
+-- What is in a value at a place, up to a place, in so far as it is one bit of its reading.
 pub data ValueBit (main : Bool) (es : List Entity) (src : List ℕ) (stop : ℕ) : ℕ → Bit → ℕ → Type 0 where
   bit_line_end : (i : ℕ) → i + 1 < stop → byte src i ≡ 13 → byte src (i + 1) ≡ 10 → ValueBit main es src stop i (bytes_of []) (i + 1)
   bit_white : (i : ℕ) → i < stop → IsWhite src stop i → ValueBit main es src stop i (bytes_of (32 ∷ [])) (i + 1)
@@ -86,7 +86,7 @@ pub data ValueBit (main : Bool) (es : List Entity) (src : List ℕ) (stop : ℕ)
   bit_entity : (i n j : ℕ) (t : Replacement) → IsReference src i n j → predefined (slice src (i + 1) n) ≡ None → j ≤ stop → text_of es (slice src (i + 1) n) ≡ Some t → ValueBit main es src stop i (opens t) j
 
 module _ (es : List Entity) (src : List ℕ) (utf8 : IsUtf8 src) (stop : ℕ) (long : stop ≤ length src) (closes : stop < length src → IsStop (byte src stop)) where
-  -- a character begins at the stop, or the text ends there
+  -- A character begins at the stop, or the text ends there.
   pub stop_cut : IsCharBoundary src stop
   stop_cut = elim (cases_lt stop (length src)) as (λ s. IsCharBoundary src stop) [
     | inl l ↦ IsCharBoundary-before_ascii src stop l (stop_ascii (byte src stop) (closes l))
@@ -98,7 +98,7 @@ module _ (es : List Entity) (src : List ℕ) (utf8 : IsUtf8 src) (stop : ℕ) (l
       stop_ascii b (inr (inl h)) = omega arith
       stop_ascii b (inr (inr h)) = omega arith
 
-  -- and where a stretch ends
+  -- And where a stretch ends.
   pub next_cut : (p : ℕ → Bool) → ((b : ℕ) → p b ≡ true → b < 128) → (i : ℕ) → i ≤ stop → IsCharBoundary src (next_at src stop p i)
   next_cut p ascii i to =
       let bound = next_bound src stop long p i to in
@@ -111,7 +111,7 @@ module _ (es : List Entity) (src : List ℕ) (utf8 : IsUtf8 src) (stop : ℕ) (l
         | inr g ↦ (let e : stop ≡ next_at src stop p i = omega arith in subst (λ (k : ℕ). IsCharBoundary src k) e stop_cut)
       ]
 
-  -- each bit moves forward, but not past the stop
+  -- Each bit moves forward, but not past the stop.
   pub bit_moves : (main : Bool) (i : ℕ) (bit : Bit) (j : ℕ) → ValueBit main es src stop i bit j → (i < j) × (j ≤ stop)
   bit_moves main i bit j (bit_line_end _ more cr lf) = (omega arith, omega arith)
   bit_moves main i bit j (bit_white _ here is) = (omega arith, omega arith)
@@ -119,7 +119,7 @@ module _ (es : List Entity) (src : List ℕ) (utf8 : IsUtf8 src) (stop : ℕ) (l
   bit_moves main i bit j (bit_character _ x _ r to any) = ((character_opens src i x j r).1, to)
   bit_moves main i bit j (bit_entity _ n _ t r none to is) = ((reference_opens src i n j r).2, to)
 
-  -- a character begins behind it
+  -- A character begins after it.
   pub bit_cut : (main : Bool) (i : ℕ) (bit : Bit) (j : ℕ) → ValueBit main es src stop i bit j → IsCharBoundary src j
   bit_cut main i bit j (bit_line_end _ more cr lf) = cut_behind src i 13 (i + 1) utf8 cr (omega arith) (omega arith) refl
   bit_cut main i bit j (bit_white _ here (inl tab)) = cut_behind src i 9 (i + 1) utf8 tab (omega arith) (omega arith) refl
@@ -129,7 +129,7 @@ module _ (es : List Entity) (src : List ℕ) (utf8 : IsUtf8 src) (stop : ℕ) (l
   bit_cut main i bit j (bit_character _ x _ r to any) = (character_text src i x j utf8 r).1
   bit_cut main i bit j (bit_entity _ n _ t r none to is) = (reference_text src i n j utf8 r).1
 
-  -- and within a replacement text it is Chars
+  -- And within a replacement text it is Chars.
   pub bit_chars : (i : ℕ) (bit : Bit) (j : ℕ) → ValueBit false es src stop i bit j → AreChars src i j
   bit_chars i bit j (bit_line_end _ more cr lf) = text_chars src i (i + 1) (omega arith) (omega arith) (byte_chars src i (omega arith) (omega arith) (rw cr refl))
   bit_chars i bit j (bit_white _ here is) = let w = white_ascii src stop i is in text_chars src i (i + 1) (omega arith) (omega arith) (byte_chars src i (omega arith) w.0 w.1)
@@ -137,9 +137,9 @@ module _ (es : List Entity) (src : List ℕ) (utf8 : IsUtf8 src) (stop : ℕ) (l
   bit_chars i bit j (bit_character _ x _ r to any) = text_chars src i j (omega (arith, character_opens src i x j r)) (omega arith) (character_text src i x j utf8 r).0
   bit_chars i bit j (bit_entity _ n _ t r none to is) = text_chars src i j (omega (arith, reference_opens src i n j r)) (omega arith) (reference_text src i n j utf8 r).0
 
-  -- ---- a bit that is read stands there
+  -- ---- a bit that is read is there
 
-  -- a reference
+  -- A reference.
   tested_sound : (main : Bool) (i : ℕ) (r : Reference) (j : ℕ) (bit : Bit) → i < stop → IsRead src i r j → tested_bit main i r (reference_bit es src i r) ≡ Ok bit → ValueBit main es src stop i bit j
   tested_sound true i r j bit below (is_character c _ stands) h =
       subst (λ (x : Bit). ValueBit true es src stop i x j) (ok_same _ _ h) (bit_character i c j stands (character_inside src i stop c j utf8 below long closes stands) (inl refl))
@@ -159,7 +159,7 @@ module _ (es : List Entity) (src : List ℕ) (utf8 : IsUtf8 src) (stop : ℕ) (l
       bind_ok (reference_at src i) _ _ h (λ r read h. bind_ok (tested_bit main i r.0 (reference_bit es src i r.0)) _ _ h (λ bit tested h.
       subst (λ (y : Bit × ℕ). ValueBit main es src stop i y.0 y.1) (ok_same _ _ h) (tested_sound main i r.0 r.1 bit below (reference_sound src i r amp read) tested)))
 
-  -- a stretch
+  -- A stretch.
   stretch_sound : (main : Bool) (i : ℕ) (x : Bit × ℕ) → i < stop → is_special (byte src i) ≡ false → (main ≡ true → (k : ℕ) → i ≤ k → k < stop → byte src k ≢ 60) → stretch_at main src stop i ≡ Ok x
       → ValueBit main es src stop i x.0 x.1
   stretch_sound true i x below plain no_tag h =
@@ -192,7 +192,7 @@ module _ (es : List Entity) (src : List ℕ) (utf8 : IsUtf8 src) (stop : ℕ) (l
                 false≢true (sym (or_from (is_special (byte src i)) (eqb (byte src i) 60) plain f') ∙ h'))
           ]
 
-  -- any bit
+  -- Any bit.
   pub value_bit_sound : (main : Bool) (i : ℕ) (x : Bit × ℕ) → i < stop → (main ≡ true → (k : ℕ) → i ≤ k → k < stop → byte src k ≢ 60) → value_bit_at main es src stop i ≡ Ok x → ValueBit main es src stop i x.0 x.1
   unfolding value_bit_at
   value_bit_sound main i x below no_tag h = chosen (eqb (byte src i) 38) _ _ _ h
@@ -212,16 +212,16 @@ module _ (es : List Entity) (src : List ℕ) (utf8 : IsUtf8 src) (stop : ℕ) (l
       subst (λ (y : Bit × ℕ). ValueBit main es src stop i y.0 y.1) (ok_same _ _ h) (bit_white i below is)))
       (λ plain h. stretch_sound main i x below plain no_tag h))
 
-  -- ---- a bit that stands there is read
+  -- ---- a bit that is there is read
 
-  -- a CR before a LF is read to nothing
+  -- A CR before a LF is read to nothing.
   line_end_read : (main : Bool) (i : ℕ) → i + 1 < stop → byte src i ≡ 13 → byte src (i + 1) ≡ 10 → value_bit_at main es src stop i ≡ Ok (bytes_of [], i + 1)
   unfolding value_bit_at
   line_end_read main i below cr lf =
       let t : byte (take stop src) (i + 1) ≡ byte src (i + 1) = get_or-take stop src (i + 1) 0 below in
       rw (t, cr, lf) refl
 
-  -- white space is read to a space
+  -- White space is read to a space.
   white_read : (main : Bool) (i : ℕ) → i < stop → IsWhite src stop i → value_bit_at main es src stop i ≡ Ok (bytes_of (32 ∷ []), i + 1)
   unfolding value_bit_at
   white_read main i below (inl tab) = rw tab refl
@@ -234,13 +234,13 @@ module _ (es : List Entity) (src : List ℕ) (utf8 : IsUtf8 src) (stop : ℕ) (l
       [ inl lf ↦ absurd (apart (follows src stop long (i + 1) lf).1) | inr f ↦ f ] in
       rw (t, cr) refl
 
-  -- a character is let through
+  -- A character is let through.
   tested_character : (main : Bool) (i x : ℕ) → (main ≡ true) ⊎ (x ≢ 60) → tested_bit main i (character_of x) (reference_bit es src i (character_of x)) ≡ Ok (bytes_of (value_bytes main x))
   tested_character true i x any = refl
   tested_character false i x (inl is) = absurd (false≢true is)
   tested_character false i x (inr apart) = rw (ne_eqb x 60 apart) refl
 
-  -- a reference to a character is read
+  -- A reference to a character is read.
   character_read : (main : Bool) (i x m : ℕ) → IsCharacter src i x m → (main ≡ true) ⊎ (x ≢ 60) → value_bit_at main es src stop i ≡ Ok (bytes_of (value_bytes main x), m)
   unfolding value_bit_at value_reference_at
   character_read main i x m r any =
@@ -249,13 +249,13 @@ module _ (es : List Entity) (src : List ℕ) (utf8 : IsUtf8 src) (stop : ℕ) (l
       let tested = tested_character main i x any in
       rw (amp, one, tested) refl
 
-  -- an entity is let through
+  -- An entity is let through.
   tested_entity : (main : Bool) (i n : ℕ) (t : Replacement) → text_of es (slice src (i + 1) n) ≡ Some t
       → tested_bit main i (entity_at (record { start = i + 1; end = n })) (reference_bit es src i (entity_at (record { start = i + 1; end = n }))) ≡ Ok (opens t)
   tested_entity true i n t is = rw is refl
   tested_entity false i n t is = rw is refl
 
-  -- a reference to an entity is read
+  -- A reference to an entity is read.
   entity_read : (main : Bool) (i n k : ℕ) (t : Replacement) → IsReference src i n k → predefined (slice src (i + 1) n) ≡ None → text_of es (slice src (i + 1) n) ≡ Some t → value_bit_at main es src stop i ≡ Ok (opens t, k)
   unfolding value_bit_at value_reference_at
   entity_read main i n k t r none is =
@@ -264,12 +264,12 @@ module _ (es : List Entity) (src : List ℕ) (utf8 : IsUtf8 src) (stop : ℕ) (l
       let tested = tested_entity main i n t is in
       rw (amp, one, tested) refl
 
-  -- where a stretch ends: within a replacement text at a `<` too
+  -- Where a stretch ends: within a replacement text at a `<` too.
   abbrev stretch_end : (main : Bool) → ℕ → ℕ
   stretch_end true i = next_at src stop is_special i
   stretch_end false i = next_at src stop stops i
 
-  -- what is known of it
+  -- What is known of it.
   stretch_bounds : (main : Bool) (i : ℕ) → i < stop → Stays (byte src i) → byte src i ≢ 60
       → (i < stretch_end main i) × (stretch_end main i ≤ stop) × IsCharBoundary src (stretch_end main i) × ((k : ℕ) → i ≤ k → k < stretch_end main i → Stays (byte src k))
   stretch_bounds true i below s tag =
@@ -281,7 +281,7 @@ module _ (es : List Entity) (src : List ℕ) (utf8 : IsUtf8 src) (stop : ℕ) (l
     λ k from lt. stays (byte src k) (or_parts (is_special (byte src k)) (eqb (byte src k) 60) (next_before src stop long stops i k (omega arith) from lt)).0,
   )
 
-  -- a stretch is read
+  -- A stretch is read.
   stretch_read : (main : Bool) (i : ℕ) → i < stop → Stays (byte src i) → byte src i ≢ 60 → (main ≡ false → AreChars src i (stretch_end main i)) → (stretch_end main i < stop → byte src (stretch_end main i) ≢ 60)
       → value_bit_at main es src stop i ≡ Ok (bytes_of (slice src i (stretch_end main i)), stretch_end main i)
   unfolding value_bit_at
@@ -302,11 +302,11 @@ module _ (es : List Entity) (src : List ℕ) (utf8 : IsUtf8 src) (stop : ℕ) (l
   -- ---- values
 
   module _ (main : Bool) (O : Inclusion) (opener : ValueInclusion) (agrees : AgreesValue es O opener) where
-    -- the value from i up to the stop
+    -- The value from i up to the stop.
     abbrev ValueFrom : ℕ → ℕ → ℕ → List ℕ → Type 0
     ValueFrom i b c v = Value main O src stop i b c v
 
-    -- the value with a stretch of bytes in front that stand for themselves
+    -- The value with a stretch of bytes in front that need no replacement.
     stretch_on : (d i j b c : ℕ) (v : List ℕ) → i + d ≡ j → j ≤ stop → ((k : ℕ) → i ≤ k → k < j → Stays (byte src k) × (byte src k ≢ 60)) → ValueFrom j b c v → ValueFrom i b c (slice src i j ++ v)
     stretch_on zero i j b c v to inside plain p =
         let e : j ≡ i = omega arith in
@@ -316,7 +316,7 @@ module _ (es : List Entity) (src : List ℕ) (utf8 : IsUtf8 src) (stop : ℕ) (l
         let ih = stretch_on d (i + 1) j b c v (omega arith) inside (λ k from below. plain k (omega arith) below) p in
         rw (slice_cons src i j (omega arith) (omega arith)) (other i b c (slice src (i + 1) j ++ v) (omega arith) s.0.0 s.0.1 s.0.2 s.0.3 s.1 ih)
 
-    -- the value behind a byte that stands for itself
+    -- The value after a byte that needs no replacement.
     next_byte : (i b c : ℕ) (v : List ℕ) → i < stop → Stays (byte src i) → ValueFrom i b c v → (rest : List ℕ) × (v ≡ byte src i ∷ rest) × ValueFrom (i + 1) b c rest
     next_byte i b c v below s (value_ends _) = absurd (omega arith)
     next_byte i b c v below s (line_end _ _ _ _ lt cr lf p) = absurd (s.3 cr)
@@ -325,9 +325,9 @@ module _ (es : List Entity) (src : List ℕ) (utf8 : IsUtf8 src) (stop : ℕ) (l
     next_byte i b c v below s (white _ _ _ rest lt (inr (inr cr)) p) = absurd (s.3 cr.0)
     next_byte i b c v below s (other _ _ _ rest lt a t l r m p) = (rest, refl, p)
     next_byte i b c v below s (a_character _ n x _ _ rest r inside any p) = absurd (s.0 (character_opens src i x n r).0)
-    next_byte i b c v below s (an_entity _ n k _ e _ w rest r none inside opened p) = absurd (s.0 (reference_opens src i n k r).0)
+    next_byte i b c v below s (an_entity _ k _ e _ _ w rest (entity_reference n r none) inside opened p) = absurd (s.0 (reference_opens src i n k r).0)
 
-    -- the value behind a stretch of bytes that stand for themselves
+    -- The value after a stretch of bytes that need no replacement.
     stretch_off : (d i j b c : ℕ) (v : List ℕ) → i + d ≡ j → j ≤ stop → ((k : ℕ) → i ≤ k → k < j → Stays (byte src k)) → ValueFrom i b c v
         → (rest : List ℕ) × ValueFrom j b c rest × (v ≡ slice src i j ++ rest)
     stretch_off zero i j b c v to inside plain p =
@@ -339,7 +339,7 @@ module _ (es : List Entity) (src : List ℕ) (utf8 : IsUtf8 src) (stop : ℕ) (l
         let ih = stretch_off d (i + 1) j b c one.0 (omega arith) inside (λ k from below. plain k (omega arith) below) one.2 in
         (ih.0, ih.1, one.1 ∙ ap (λ (r : List ℕ). byte src i ∷ r) ih.2 ∙ ap (λ (r : List ℕ). r ++ ih.0) (sym (slice_cons src i j (omega arith) (omega arith))))
 
-    -- no `<` stands in a value
+    -- No `<` is in a value.
     no_markup : (i b c : ℕ) (v : List ℕ) → i < stop → ValueFrom i b c v → byte src i ≢ 60
     no_markup i b c v below (value_ends _) = absurd (omega arith)
     no_markup i b c v below (line_end _ _ _ _ lt cr lf p) = λ z. omega arith
@@ -348,9 +348,9 @@ module _ (es : List Entity) (src : List ℕ) (utf8 : IsUtf8 src) (stop : ℕ) (l
     no_markup i b c v below (white _ _ _ rest lt (inr (inr cr)) p) = λ z. omega (arith, cr.0)
     no_markup i b c v below (other _ _ _ rest lt a t l r m p) = m
     no_markup i b c v below (a_character _ n x _ _ rest r inside any p) = λ z. omega (arith, character_opens src i x n r)
-    no_markup i b c v below (an_entity _ n k _ e _ w rest r none inside opened p) = λ z. omega (arith, reference_opens src i n k r)
+    no_markup i b c v below (an_entity _ k _ e _ _ w rest (entity_reference n r none) inside opened p) = λ z. omega (arith, reference_opens src i n k r)
 
-    -- a bit in front, and what is read behind it
+    -- A bit in front, and what is read after it.
     bit_on : (i j b c : ℕ) (bit : Bit) (v : List ℕ) (more : ℕ → ℕ → Result (List ℕ × ℕ) Refusal) → i < stop → ValueBit main es src stop i bit j
         → ((l : ℕ) (rest : List ℕ) → more j l ≡ Ok (rest, c) → ValueFrom j l c rest) → after_value_bit opener more b bit j ≡ Ok (v, c) → ValueFrom i b c v
     bit_on i j b c bit v more below (bit_line_end _ lt cr lf) ih h =
@@ -378,9 +378,9 @@ module _ (es : List Entity) (src : List ℕ) (utf8 : IsUtf8 src) (stop : ℕ) (l
         let e : x.0 ++ rest.0 ≡ v = ap (λ (p : List ℕ × ℕ). p.0) (ok_same _ _ h) in
         let f : rest.1 ≡ c = ap (λ (p : List ℕ × ℕ). p.1) (ok_same _ _ h) in
         subst (λ (w : List ℕ). ValueFrom i b c w) e
-        (an_entity i n j b x.1 c x.0 rest.0 r none to (agrees.sound (slice src (i + 1) n) t j b x.1 x.0 is opened) (ih x.1 rest.0 (read ∙ ap (λ (n : ℕ). Ok (rest.0, n)) f)))))
+        (an_entity i j b x.1 c _ x.0 rest.0 (entity_reference n r none) to (agrees.sound (slice src (i + 1) n) t j b x.1 x.0 is opened) (ih x.1 rest.0 (read ∙ ap (λ (n : ℕ). Ok (rest.0, n)) f)))))
 
-    -- a value that is read stands there
+    -- A value that is read is there.
     pub value_text_sound : (n i b c : ℕ) (v : List ℕ) → i ≤ stop → stop ≤ i + n → (main ≡ true → (k : ℕ) → i ≤ k → k < stop → byte src k ≢ 60) → value_text main es opener n src stop i b ≡ Ok (v, c) → ValueFrom i b c v
     unfolding value_text
     value_text_sound zero i b c v to enough no_tag h =
@@ -396,17 +396,17 @@ module _ (es : List Entity) (src : List ℕ) (utf8 : IsUtf8 src) (stop : ℕ) (l
         let e : stop ≡ i = omega (arith, ltb-false _ _ past) in
         subst (λ (m : ℕ). ValueFrom m b c v) e (subst (λ (p : List ℕ × ℕ). ValueFrom stop b p.1 p.0) (ok_same _ _ h) (value_ends b)))
 
-    -- nothing is Chars
+    -- Nothing is Chars.
     no_chars : (k : ℕ) → IsCharBoundary src k → AreChars src k k
     no_chars k at = text_chars src k k (omega arith) at.0 (rw slice_nil no_text)
 
-    -- what is read behind a bit
+    -- What is read after a bit.
     behind : (b c j : ℕ) (bit : Bit) (v : List ℕ) (more : ℕ → ℕ → Result (List ℕ × ℕ) Refusal) → ((l : ℕ) (rest : List ℕ) → more j l ≡ Ok (rest, c) → AreChars src j stop)
         → after_value_bit opener more b bit j ≡ Ok (v, c) → AreChars src j stop
     behind b c j (bytes_of bs) v more ih h = bind_ok (more j b) _ _ h (λ rest read h. ih b rest.0 (read ∙ ap (λ (n : ℕ). Ok (rest.0, n)) (ap (λ (p : List ℕ × ℕ). p.1) (ok_same _ _ h))))
     behind b c j (opens t) v more ih h = bind_ok (opener t j b) _ _ h (λ x opened h. bind_ok (more j x.1) _ _ h (λ rest read h. ih x.1 rest.0 (read ∙ ap (λ (n : ℕ). Ok (rest.0, n)) (ap (λ (p : List ℕ × ℕ). p.1) (ok_same _ _ h)))))
 
-    -- within a replacement text it is Chars
+    -- Within a replacement text it is Chars.
     pub value_text_chars : (n i b c : ℕ) (v : List ℕ) → main ≡ false → IsCharBoundary src i → i ≤ stop → stop ≤ i + n → value_text main es opener n src stop i b ≡ Ok (v, c) → AreChars src i stop
     unfolding value_text
     value_text_chars zero i b c v within cut to enough h =
@@ -424,23 +424,23 @@ module _ (es : List Entity) (src : List ℕ) (utf8 : IsUtf8 src) (stop : ℕ) (l
         let e : stop ≡ i = omega (arith, ltb-false _ _ past) in
         subst (λ (m : ℕ). AreChars src m stop) e (no_chars stop stop_cut))
 
-    -- a bit of bytes is read, and then the rest
+    -- A bit of bytes is read, and then the rest.
     bytes_on : (n i j b c : ℕ) (bytes rest : List ℕ) → i < stop → value_bit_at main es src stop i ≡ Ok (bytes_of bytes, j) → value_text main es opener n src stop j b ≡ Ok (rest, c)
         → value_text main es opener (suc n) src stop i b ≡ Ok (bytes ++ rest, c)
     unfolding value_text
     bytes_on n i j b c bytes rest below bit more = let here = lt-ltb i stop below in rw (here, bit, more) refl
 
-    -- a replacement text is opened, and then the rest is read
+    -- A replacement text is opened, and then the rest is read.
     opened_on : (n i j b l c : ℕ) (t : Replacement) (w rest : List ℕ) → i < stop → value_bit_at main es src stop i ≡ Ok (opens t, j) → opener t j b ≡ Ok (w, l) → value_text main es opener n src stop j l ≡ Ok (rest, c)
         → value_text main es opener (suc n) src stop i b ≡ Ok (w ++ rest, c)
     unfolding value_text
     opened_on n i j b l c t w rest below bit opened more = let here = lt-ltb i stop below in rw (here, bit, opened, more) refl
 
-    -- what are Chars are Chars behind a bit
+    -- What are Chars are Chars after a bit.
     later : (i j : ℕ) → i ≤ stop → IsCharBoundary src i → IsCharBoundary src j → (main ≡ false → AreChars src i stop) → i ≤ j → j ≤ stop → main ≡ false → AreChars src j stop
     later i j to cut next are le le' is = chars_part src i stop j stop utf8 cut stop_cut (are is) le le' (omega arith) next stop_cut
 
-    -- the value there is read
+    -- The value there is read.
     pub value_text_complete : (n i b c : ℕ) (v : List ℕ) → i ≤ stop → stop ≤ i + n → IsCharBoundary src i → (main ≡ false → AreChars src i stop) → ValueFrom i b c v → value_text main es opener n src stop i b ≡ Ok (v, c)
     unfolding value_text
     value_text_complete zero i b c v to enough cut are (value_ends _) = refl
@@ -448,7 +448,7 @@ module _ (es : List Entity) (src : List ℕ) (utf8 : IsUtf8 src) (stop : ℕ) (l
     value_text_complete zero i b c v to enough cut are (white _ _ _ rest lt is p) = absurd (omega arith)
     value_text_complete zero i b c v to enough cut are (other _ _ _ rest lt a t l r m p) = absurd (omega arith)
     value_text_complete zero i b c v to enough cut are (a_character _ n x _ _ rest r inside any p) = absurd (omega (arith, (character_opens src i x n r).1))
-    value_text_complete zero i b c v to enough cut are (an_entity _ n k _ e _ w rest r none inside opened p) = absurd (omega (arith, (reference_opens src i n k r).2))
+    value_text_complete zero i b c v to enough cut are (an_entity _ k _ e _ _ w rest (entity_reference n r none) inside opened p) = absurd (omega (arith, (reference_opens src i n k r).2))
     value_text_complete (suc n) i b c v to enough cut are (value_ends _) = let past = le-ltb stop stop (omega arith) in rw past refl
     value_text_complete (suc n) i b c v to enough cut are (line_end _ _ _ _ lt cr lf p) =
         let next = bit_cut main i (bytes_of []) (i + 1) (bit_line_end i lt cr lf) in
@@ -471,23 +471,23 @@ module _ (es : List Entity) (src : List ℕ) (utf8 : IsUtf8 src) (stop : ℕ) (l
         let next = (character_text src i x m utf8 r).1 in
         let ih = value_text_complete n m b c rest inside (omega (arith, moves.1)) next (later i m to cut next are (omega (arith, moves.1)) inside) p in
         bytes_on n i m b c (value_bytes main x) rest (omega (arith, moves.1)) (character_read main i x m r any) ih
-    value_text_complete (suc n) i b c v to enough cut are (an_entity _ m k _ l _ w rest r none inside opened p) =
+    value_text_complete (suc n) i b c v to enough cut are (an_entity _ k _ l _ _ w rest (entity_reference m r none) inside opened p) =
         let moves = reference_opens src i m k r in
         let next = (reference_text src i m k utf8 r).1 in
         let t = agrees.complete (slice src (i + 1) m) k b l w opened in
         let ih = value_text_complete n k l c rest inside (omega (arith, moves.2)) next (later i k to cut next are (omega (arith, moves.2)) inside) p in
         opened_on n i k b l c t.0 w rest (omega (arith, moves.2)) (entity_read main i m k t.0 r none t.1) t.2 ih
 
-    -- at the stop the value is empty
+    -- At the stop the value is empty.
     nothing_left : (i b c : ℕ) (v : List ℕ) → stop ≤ i → ValueFrom i b c v → (v ≡ []) × (b ≡ c)
     nothing_left i b c v past (value_ends _) = (refl, refl)
     nothing_left i b c v past (line_end _ _ _ _ lt cr lf p) = absurd (omega arith)
     nothing_left i b c v past (white _ _ _ rest lt is p) = absurd (omega arith)
     nothing_left i b c v past (other _ _ _ rest lt a t l r m p) = absurd (omega arith)
     nothing_left i b c v past (a_character _ n x _ _ rest r inside any p) = absurd (omega (arith, character_opens src i x n r))
-    nothing_left i b c v past (an_entity _ n k _ e _ w rest r none inside opened p) = absurd (omega (arith, reference_opens src i n k r))
+    nothing_left i b c v past (an_entity _ k _ e _ _ w rest (entity_reference n r none) inside opened p) = absurd (omega (arith, reference_opens src i n k r))
 
-    -- the value of an attribute that is read stands there
+    -- The value of an attribute that is read is there.
     pub value_sound : (i b c : ℕ) (x : ReadText) → i ≤ stop → ((k : ℕ) → i ≤ k → k < stop → byte src k ≢ 60) → value_at main es opener src i stop b ≡ Ok (x, c)
         → ValueFrom i b c x.value × (x.borrowed ≡ is_verbatim_value (slice src i stop))
     unfolding value_at
@@ -500,7 +500,7 @@ module _ (es : List Entity) (src : List ℕ) (utf8 : IsUtf8 src) (stop : ℕ) (l
         let s = value_text_sound (stop - i) i b v.1 v.0 to (omega arith) (λ is. no_tag) read in
         subst (λ (y : ReadText × ℕ). ValueFrom i b y.1 y.0.value × (y.0.borrowed ≡ is_verbatim_value (slice src i stop))) (ok_same _ _ h) (s, sym marked)))
 
-    -- the value of an attribute that stands there is read
+    -- The value of an attribute that is there is read.
     pub value_complete : (i b c : ℕ) (v : List ℕ) → i ≤ stop → IsCharBoundary src i → (main ≡ false → AreChars src i stop) → ValueFrom i b c v
         → value_at main es opener src i stop b ≡ Ok (record { value = v; borrowed = is_verbatim_value (slice src i stop) }, c)
     unfolding value_at

@@ -7,6 +7,7 @@ use Rattle.rox_grammar.specs.Forest.{Forest, Nil, join}
 use Rattle.rox_grammar.specs.Written.{Item, Text, Attribute, Tag, leaf, merge}
 use Rattle.rox_grammar.specs.Tree.{none_if_empty}
 use Rattle.rox_grammar.specs.Names.{slice, spaces_end}
+use Rattle.rox_grammar.specs.References.{entity_reference}
 use Rattle.rox_grammar.specs.Content.{Inclusion, DataByte, line_ends, literals, is_verbatim, piece, value_bytes, last_part, then_entity, Value, value_ends, line_end, white, other, a_character, an_entity, Attributes, no_more, one_more, attribute, IsTag, IsMisc, comment, instruction, IsElement, empty, nest, Content, ends, run, cdata, misc, node, start_tag}
 use Rattle.rox_grammar.specs.RunParts.{Parts}
 use Rattle.rox_grammar.specs.Entities.{Replacement, Entity, text_of}
@@ -17,12 +18,12 @@ use Rattle.rox_theory.proofs.Measures.{Measure, most_of, fewer}
 use Rattle.rox_grammar.specs.Content.{attribute}
 
 module _ (of : Forest Item → ℕ) (is_measure : Measure of) where
-  -- the text of a part
+  -- The text of a part.
   pub piece_most : (i j : ℕ) (borrowed : Bool) (ss : List DataByte) → of (piece i j borrowed ss) ≤ length ss
   piece_most i j borrowed [] = let h = is_measure.none in omega (arith, h)
   piece_most i j borrowed (s ∷ ss) = is_measure.text i j (line_ends (s ∷ ss)) borrowed (length (s ∷ ss)) (omega arith) (ends_shorten (s ∷ ss))
 
-  -- a section's, of so many bytes
+  -- A section's, of so many bytes.
   pub section_most : (src : List ℕ) (i e j : ℕ) (borrowed : Bool) → i + 9 ≤ e → of (leaf (Text i j (line_ends (literals (slice src (i + 9) e))) borrowed)) + i ≤ e
   section_most src i e j borrowed h =
       let a = ends_shorten (literals (slice src (i + 9) e)) in
@@ -41,7 +42,7 @@ module _ (of : Forest Item → ℕ) (is_measure : Measure of) where
       let t = is_measure.instruction i j (slice src (i + 2) n) (none_if_empty (slice src (spaces_end src n) e)) in
       omega (arith, h, t)
 
--- no text opens more than this for each opening, where r is the length of the longest
+-- No text opens more than this for each opening, where r is the length of the longest.
 pub record Weighs (of : Forest Item → ℕ) (O : Inclusion) (r : ℕ) : Type 0 where
   pub content : (name : List ℕ) (b : ℕ) (items : Forest Item) (c : ℕ) → O.content name b items c → of items + b * r ≤ c * r
   pub value : (name : List ℕ) (b : ℕ) (v : List ℕ) (c : ℕ) → O.value name b v c → length v + b * r ≤ c * r
@@ -52,7 +53,7 @@ module _ (of : Forest Item → ℕ) (is_measure : Measure of) (main : Bool) (O :
       let p = part_bytes main src stop i ss part in
       let q = piece_most of is_measure start stop (is_verbatim (slice src start stop)) ss in
       omega (arith, p, q)
-  parts_weigh start stop i b d items (then_entity _ p n j _ c _ ss front more part reference name opens rest) =
+  parts_weigh start stop i b d items (then_entity _ p j _ c _ _ ss front more part (entity_reference n reference name) opens rest) =
       let h = part_bytes main src p i ss part in
       let q = piece_most of is_measure start stop false ss in
       let k = reference_onward src p n j reference in
@@ -72,7 +73,7 @@ module _ (of : Forest Item → ℕ) (is_measure : Measure of) (main : Bool) (O :
       let k = value_char main src i z n is in
       let l = length-append (value_bytes main z) w in
       omega (arith, h, k, l)
-  value_weighs j i b d v (an_entity _ n k _ c _ u w is name within opens rest) =
+  value_weighs j i b d v (an_entity _ k _ c _ _ u w (entity_reference n is name) within opens rest) =
       let h = value_weighs j k c d w rest in
       let x = weighs.value _ b u c opens in
       let m = reference_onward src i n k is in
@@ -149,7 +150,7 @@ longest_is (e ∷ es) name t h = at_test (bytes_eq e.name name) (longest_is es n
 pub more_times : (b r : ℕ) → (b + 1) * r ≡ b * r + r
 more_times b r = omega arith
 
--- within replacement texts: as much as the longest text has bytes, for each that is opened
+-- Within replacement texts: as much as the longest text has bytes, for each that is opened.
 pub counts_weigh : (of : Forest Item → ℕ) → Measure of → (es : List Entity) (d : ℕ) → Weighs of (Counts es d) (longest es)
 counts_weigh of is_measure es zero = record { content = λ name b items c h. absurd h; value = λ name b v c h. absurd h }
 counts_weigh of is_measure es (suc d) =

@@ -17,12 +17,14 @@ use Rattle.rox_grammar.proofs.CountForms.{limits_counted, counts_limited}
 use Rattle.rox_grammar.specs.Document.{Misc, ParseOf, IsWithinLimits, Permits}
 use Rattle.rox_theory.specs.ParseParts.{MayHaveDoctype}
 use Rattle.rox_grammar.specs.State.{root}
-use Rattle.rox_reading.specs.Refusals.{Refusal, here, there, refused, IsTextRefusal}
+use Rattle.rox_reading.specs.Refusals.{Refusal, here, there, refused}
+use Rattle.rox_reading.specs.Answering.{IsTextRefusal, SettledWhole}
 use Rattle.rox_reading.specs.State.{State}
 use Rattle.rox_reading.specs.Machine.{tag_step, drive, main_text}
 use Rattle.rox_reading.specs.Doctype.{Reply, replies_of, AreTextReplies, Asks, Dtd}
-use Rattle.rox_reading.specs.WholeText.{misc, body, finished, prolog, doctype, has_doctype, reading}
-use Rattle.rox_reading.specs.Answering.{with_refusal, Stops as StopsWith, SettledWhole}
+use Rattle.rox_reading.specs.WholeText.{misc, body, finished, prolog, doctype, reading}
+use Rattle.rox_reading.specs.HasDoctype.{has_doctype}
+use Rattle.rox_reading.specs.Stopping.{with_refusal, Stops as StopsWith}
 use Rattle.rox_reading.proofs.Answering.{replies_then}
 use Rattle.rox_reading.proofs.Forests.{join_assoc, size-join}
 use Rattle.rox_theory.specs.Openers.{AreTexts}
@@ -44,21 +46,21 @@ use Rattle.rox_theory.specs.ParseParts.{ParseParts}
 use Rattle.rox_theory.specs.ParseParts as parts_of
 use Rattle.rox_theory.proofs.ParseParts.{parts, parsed}
 
--- an element is a node at least
+-- An element is a node at least.
 element_size : (src : List ℕ) (i j b c : ℕ) (es : List Entity) (one : Forest Item) → IsElement true (included_in_main es) src i j b c one → 1 ≤ size one
 element_size src i j b c es one (empty _ _ _ _ t tag) = omega arith
 element_size src i j b c es one (nest _ k m p _ _ d _ t kids tag inner end) = omega arith
 
--- the size of a row of four
+-- The size of a row of four.
 size_four : (t a b c d : Forest Item) → t ≡ join a (join b (join c d)) → size t ≡ size a + (size b + (size c + size d))
 size_four t a b c d is = rw is (omega (arith, size-join a (join b (join c d)), size-join b (join c d), size-join c d))
 
--- a refusal is no value
+-- A refusal is not a value.
 err_not_ok : {A : Type 0} (e : Refusal) (x : A) → ◌≡◌ {A = Result A Refusal} (Err e) (Ok x) → ⊥
 err_not_ok e x h = cc h
 
 module _ (src : List ℕ) (utf8 : IsUtf8 src) where
-  -- what is read up to the end
+  -- What is read up to the end.
   record Found (most : ℕ) (es : List Entity) (i : ℕ) (before : Forest Item) (t : Forest Item) : Type 0 where
     pub end : ℕ
     pub openings_left : ℕ
@@ -69,17 +71,17 @@ module _ (src : List ℕ) (utf8 : IsUtf8 src) where
     pub is_tree : t ≡ join (join before one) after
     pub fine : IsValidState most (state (length src) t root openings_left)
 
-  -- a text that is read has come to its end
+  -- A text that is read has come to its end.
   finished_is : (v : State) (t : Forest Item) → finished src (v, true) ≡ Ok t → (length src ≤ v.at) × (v.done ≡ t)
   unfolding finished
   finished_is v t h = chosen (nat_lt v.at (length src)) _ _ _ h (λ more h. cc) (λ all h. (ltb-false _ _ all, cc))
 
-  -- with no element none is read
+  -- With no element none is read.
   unfinished : (v : State) (t : Forest Item) → finished src (v, false) ≡ Ok t → ⊥
   unfolding finished
   unfinished v t h = chosen (nat_lt v.at (length src)) _ _ _ h (λ more h. cc) (λ all h. cc)
 
-  -- so an element begins there
+  -- So an element begins there.
   body_begins : (limit : ℕ) (es : List Entity) (s : State) (x : State × Bool) (t : Forest Item) → body limit es src s ≡ Ok x → finished src x ≡ Ok t → byte src s.at ≡ 60
   unfolding body
   body_begins limit es s x t h last =
@@ -87,11 +89,11 @@ module _ (src : List ℕ) (utf8 : IsUtf8 src) where
       (λ here h. eqb-true _ _ here)
       (λ none h. let e : (s, false) ≡ x = ok_same _ _ h in absurd (unfinished s t (rw (← e) at last)))
 
-  -- a step of the main text is a construct
+  -- A step of the main text is a construct.
   steps : (limit : ℕ) (es : List Entity) → AreTexts es → StepsAgree (main_text limit es) (included_in_main es) src
   steps limit es texts = steps_agree (main_text limit es) (included_in_main es) (values_agree es texts most_deep true) (openers_agree limit es texts most_deep true) src utf8
 
-  -- what is read from the root element on stands there
+  -- What is read from the root element on is there.
   body_sound : (limit most : ℕ) (es : List Entity) (i : ℕ) (before t : Forest Item) (x : State × Bool) → limit ≤ most → AreTexts es → IsValidState most (state i before root 255)
       → body limit es src (state i before root 255) ≡ Ok x → finished src x ≡ Ok t → Found most es i before t
   unfolding body
@@ -127,7 +129,7 @@ module _ (src : List ℕ) (utf8 : IsUtf8 src) where
       (λ none h. let e : (s, false) ≡ x = ok_same _ _ h in absurd (unfinished s t (rw (← e) at last)))
 
   module _ (allow : Bool) (doctypes : DoctypesAgree src allow) where
-    -- what is read is a parse within the limits, with a document type declaration only where one may stand
+    -- What is read is a parse within the limits, with a document type declaration only where one is allowed.
     pub read_is_parse : (limit : ℕ) (replies : List Reply) (asked : List Asked) (t : Forest Item) → AreTextReplies replies → reading limit allow replies src ≡ (asked, Ok t)
         → (dtd : Bool) × ParseOf src dtd asked t × IsWithinLimits limit t × Permits allow dtd
     unfolding reading
@@ -178,12 +180,12 @@ module _ (src : List ℕ) (utf8 : IsUtf8 src) where
           dtd.3,
         )))))
 
-  -- at the end the text is read
+  -- At the end the text is read.
   finishes : (done : Forest Item) (openings_left : ℕ) → finished src (state (length src) done root openings_left, true) ≡ Ok done
   unfolding finished
   finishes done openings_left = rw (le-ltb (length src) (length src) (omega arith)) refl
 
-  -- what stands there from the root element on is read
+  -- What is there from the root element on is read.
   body_complete : (limit : ℕ) (es : List Entity) (i j c : ℕ) (before one behind : Forest Item) → AreTexts es → IsElement true (included_in_main es) src i j 255 c one → Misc src j (length src) behind
       → IsValidState limit (state (length src) (join (join before one) behind) root c)
       → body limit es src (state i before root 255) ≡ Ok (state (length src) (join (join before one) behind) root c, true)
@@ -201,7 +203,7 @@ module _ (src : List ℕ) (utf8 : IsUtf8 src) where
       let rest = misc_complete src utf8 (length src) limit c j (length src) behind (join before one) last (end_stops src) (omega (arith, fine.nodes)) (omega arith) in
       rw (eq-eqb _ _ (element_stops true (included_in_main es) src i j 255 c one element).0, read, driven, rest) refl
 
-  -- what the limits allow of a parse they allow where its text has been read
+  -- What the limits allow of a parse they allow where its text has been read.
   parse_fine : (limit : ℕ) (dtd : Bool) (asked : List Asked) (t : Forest Item) (p : ParseParts src dtd asked t) → IsWithinLimits limit t
       → IsValidState limit (state (length src) (join (join (join p.before p.nodes) p.one) p.after) root p.openings_left) × (t ≡ join (join (join p.before p.nodes) p.one) p.after)
   parse_fine limit dtd asked t p within =
@@ -213,7 +215,7 @@ module _ (src : List ℕ) (utf8 : IsUtf8 src) where
       let whole : IsValidState limit (state (length src) t root p.openings_left) = record { nodes = counted; attributes = counts.attributes; pairs = counts.namespaces; named = p.well_named } in
       (subst (λ (f : Forest Item). IsValidState limit (state (length src) f root p.openings_left)) tree whole, tree)
 
-  -- what comes before a document type declaration is read, and one begins behind it, if there is one
+  -- What comes before a document type declaration is read, and one begins after it, if there is one.
   before_read : (limit : ℕ) (dtd : Bool) (asked : List Asked) (t : Forest Item) (p : ParseParts src dtd asked t) → IsWithinLimits limit t
       → (prolog src (after_bom src) ≡ Ok p.prolog.0) × (misc limit (length src) src (state p.prolog.0 Nil root 255) ≡ Ok (state p.begun p.before root 255)) × (at word.DoctypeStart src p.begun ≡ dtd)
   before_read limit dtd asked t p within =
@@ -228,7 +230,7 @@ module _ (src : List ℕ) (utf8 : IsUtf8 src) where
         dtd_begins src p.begun p.start dtd p.nodes asked p.entities p.doctype stops.1,
       )
 
-  -- whether there is a document type declaration is seen
+  -- Whether there is a document type declaration is seen.
   pub doctype_seen : (limit : ℕ) (dtd : Bool) (asked : List Asked) (t : Forest Item) → ParseOf src dtd asked t → IsWithinLimits limit t → has_doctype limit src ≡ dtd
   unfolding has_doctype
   doctype_seen limit dtd asked t p within =
@@ -236,13 +238,13 @@ module _ (src : List ℕ) (utf8 : IsUtf8 src) where
       rw (b.0, b.1) b.2
 
   module _ (allow : Bool) (doctypes : DoctypesAgree src allow) where
-    -- the entities of a parse are text
+    -- The entities of a parse are text.
     pub parse_texts : (dtd : Bool) (asked : List Asked) (t : Forest Item) (p : ParseOf src dtd asked t) → Permits allow dtd → AreTexts p.entities
     parse_texts dtd asked t whole permits =
         let p = parts src dtd asked t whole in
         doctypes.texts p.begun p.start dtd p.nodes asked p.entities p.doctype permits
 
-    -- a parse within the limits is read, with any replies behind the answers
+    -- A parse within the limits is read, with any replies after the answers.
     pub parse_is_read : (limit : ℕ) (dtd : Bool) (asked : List Asked) (more : List Reply) (t : Forest Item) → ParseOf src dtd asked t → IsWithinLimits limit t → Permits allow dtd
         → reading limit allow (replies_of asked ++ more) src ≡ (asked, Ok t)
     unfolding reading
@@ -260,7 +262,7 @@ module _ (src : List ℕ) (utf8 : IsUtf8 src) where
         let e : asked ++ [] ≡ asked = append-nil asked in
         rw (b.0, b.1, declared, main, done, e) (ap (λ (f : Forest Item). (asked, Ok f)) (sym f.1))
 
-    -- what is read is a parse with the document type declaration that is seen
+    -- What is read is a parse with the document type declaration that is seen.
     pub seen_parse : (limit : ℕ) (replies : List Reply) (asked : List Asked) (t : Forest Item) → AreTextReplies replies → reading limit allow replies src ≡ (asked, Ok t)
         → ParseOf src (has_doctype limit src) asked t × IsWithinLimits limit t × Permits allow (has_doctype limit src)
     seen_parse limit replies asked t texts h =
@@ -268,7 +270,7 @@ module _ (src : List ℕ) (utf8 : IsUtf8 src) where
         let seen = sym (doctype_seen limit r.0 asked t r.1 r.2) in
         (subst (λ (dtd : Bool). ParseOf src dtd asked t) seen r.1, r.2, subst (Permits allow) seen r.3)
 
-    -- within the limits there is one parse at most for the same answers
+    -- Within the limits there is one parse at most for the same answers.
     pub one_within : (limit most : ℕ) (d e : Bool) (asked : List Asked) (t u : Forest Item) → ParseOf src d asked t → ParseOf src e asked u → IsWithinLimits limit t → IsWithinLimits most u
         → Permits allow d → Permits allow e → (d ≡ e) × (t ≡ u)
     one_within limit most d e asked t u p q within within' permits permits' =
@@ -278,7 +280,7 @@ module _ (src : List ℕ) (utf8 : IsUtf8 src) where
         let same = sym (parse_is_read all d asked [] t p x permits) ∙ parse_is_read all e asked [] u q y permits' in
         (sym (doctype_seen all d asked t p x) ∙ doctype_seen all e asked u q y, ok_same t u (ap (λ (x : Asks (Forest Item)). x.1) same))
 
-    -- a text that is refused has no parse within the limits whose answers begin with those that were given
+    -- A text that is refused has no parse within the limits whose answers begin with those that were given.
     pub refused_has_none : (limit : ℕ) (replies : List Reply) (asked later : List Asked) (e : Refusal) (dtd : Bool) (t : Forest Item) → reading limit allow replies src ≡ (asked, Err e) → IsTextRefusal e
         → ParseOf src dtd (asked ++ later) t → IsWithinLimits limit t → Permits allow dtd → ⊥
     refused_has_none limit replies asked later e dtd t h of_text p within permits =
@@ -293,7 +295,7 @@ module _ (src : List ℕ) (utf8 : IsUtf8 src) where
         clash (there source f) of_text h k = err_not_ok (there source f) t (ap (λ (x : Asks (Forest Item)). x.1) (sym h ∙ k))
         clash (refused request at message) of_text h k = absurd of_text
 
-    -- the answers of a parse are all that its reading takes
+    -- The answers of a parse are all that its reading takes.
     pub all_is_read : (limit : ℕ) (dtd : Bool) (asked : List Asked) (t : Forest Item) → ParseOf src dtd asked t → IsWithinLimits limit t → Permits allow dtd
         → reading limit allow (replies_of asked) src ≡ (asked, Ok t)
     all_is_read limit dtd asked t p within permits =
@@ -301,7 +303,7 @@ module _ (src : List ℕ) (utf8 : IsUtf8 src) where
 
   -- ---- without a document type declaration
 
-  -- nothing is asked
+  -- Nothing is asked.
   pub asks_nothing_there : (asked : List Asked) (t : Forest Item) → ParseOf src false asked t → asked ≡ []
   asks_nothing_there asked t whole = let p = parts src false asked t whole in none p.begun p.start p.nodes asked p.entities false refl p.doctype
     where
@@ -309,7 +311,7 @@ module _ (src : List ℕ) (utf8 : IsUtf8 src) where
       none i j nodes asked es dtd is (parts_of.MayHaveDoctype.doctype _ k _ own more _ _ one rest) = absurd (false≢true (sym is))
       none i j nodes asked es dtd is (parts_of.MayHaveDoctype.no_doctype _) = refl
 
-  -- what is read where none may stand is a parse
+  -- What is read where none is allowed is a parse.
   pub plain_parse : (limit : ℕ) (asked : List Asked) (t : Forest Item) → reading limit false [] src ≡ (asked, Ok t) → (asked ≡ []) × ParseOf src false [] t × IsWithinLimits limit t
   plain_parse limit asked t h = from_parse (read_is_parse false (none_agree src) limit [] asked t tt h)
     where
@@ -317,13 +319,13 @@ module _ (src : List ℕ) (utf8 : IsUtf8 src) where
       from_parse (true, p, within, permits) = absurd (false≢true (permits refl))
       from_parse (false, p, within, permits) = let none = asks_nothing_there asked t p in (none, subst (λ (a : List Asked). ParseOf src false a t) none p, within)
 
-  -- and such a parse within the limits is read
+  -- And such a parse within the limits is read.
   pub plain_read : (limit : ℕ) (asked : List Asked) (t : Forest Item) → ParseOf src false asked t → IsWithinLimits limit t → reading limit false [] src ≡ ([], Ok t)
   plain_read limit asked t p within =
       let p' : ParseOf src false [] t = subst (λ (a : List Asked). ParseOf src false a t) (asks_nothing_there asked t p) p in
       parse_is_read false (none_agree src) limit false [] [] t p' within (λ no. absurd (false≢true no))
 
-  -- a text that is refused has none
+  -- A text that is refused has none.
   pub plain_refused : (limit : ℕ) (asked asked' : List Asked) (e : Refusal) (t : Forest Item) → reading limit false [] src ≡ (asked, Err e) → ParseOf src false asked' t → IsWithinLimits limit t → ⊥
   plain_refused limit asked asked' e t h p within =
       let read = plain_read limit asked' t p within in

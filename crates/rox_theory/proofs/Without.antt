@@ -11,7 +11,7 @@ use Rattle.rox_theory.specs.WithoutDoctype.{ParseWithout}
 use Rattle.rox_theory.proofs.Following.{element_without, element_count, follows_any}
 use Rattle.rox_theory.proofs.ParseParts.{parts, parsed}
 
--- nothing stands there, is asked or declared
+-- Nothing is there, is asked or declared.
 pub no_doctype_there : (src : List ℕ) (i j : ℕ) (items : Forest Item) (asked : List Asked) (es : List Entity) → MayHaveDoctype src i j false items asked es
     → (i ≡ j) × (items ≡ Nil) × (asked ≡ []) × (es ≡ [])
 no_doctype_there src i j items asked es (no_doctype _) = (refl, refl, refl, refl)
@@ -38,7 +38,7 @@ parse_without src asked tree whole =
       },
     )
 
--- an element in which nothing is opened stands where entities are declared, too
+-- An element in which nothing is opened is where entities are declared, too.
 pub element_with : (es : List Entity) (src : List ℕ) (i j b c : ℕ) (one : Forest Item) → IsElement true no_entities src i j b c one → (n : ℕ) × IsElement true (included_in_main es) src i j b n one
 element_with es src i j b c one is = let x = element_count true no_entities (included_in_main es) (follows_any (included_in_main es)) src i j b c one is b in (x.0, x.1)
 

@@ -1,14 +1,14 @@
--- What is answered for the external entities of a text.
+-- The answers for the external entities of a text.
 use Rattle.std.specs.Prelude.{◌≡◌, ◌≤◌, ℕ, List, [], ◌∷◌, IfSome, length}
 use Rattle.rox_grammar.specs.Doctype.{Asked}
 
--- the same answers, one after the other, as far as both go
+-- The answers are equal one by one, as far as both lists go.
 abbrev pub SameAnswers : List Asked → List Asked → Type 0
 SameAnswers [] b = Unit {0}
 SameAnswers (x ∷ a) [] = Unit {0}
 SameAnswers (x ∷ a) (y ∷ b) = (x.answer ≡ y.answer) × SameAnswers a b
 
--- each text that was answered has at most so many bytes
+-- Each text that was answered has at most `most` bytes.
 abbrev pub AreShort : (most : ℕ) → List Asked → Type 0
 AreShort most [] = Unit {0}
 AreShort most (a ∷ as') = IfSome a.answer (λ text. length text ≤ most) × AreShort most as'

@@ -1,20 +1,20 @@
--- What is so of the rows of items of every document.
+-- Properties of the rows of items of every document.
 use Rattle.std.specs.Prelude.{◌≡◌, ◌&&◌, Bool, false}
 use Rattle.rox_grammar.specs.Forest.{Forest, Nil, Cons}
 use Rattle.rox_grammar.specs.Written.{Item, Element, Text, Comment, PI}
 use Rattle.rox_reading.proofs.Forests.{is_text}
 
--- the first is a text
+-- Whether the first item is a text.
 abbrev pub items_begin_with_text : Forest Item → Bool
 items_begin_with_text Nil = false
 items_begin_with_text (Cons item children rest) = is_text item
 
--- no text is followed by a text, at any depth
+-- No text is followed by a text, at any depth.
 abbrev pub Apart : Forest Item → Type 0
 Apart Nil = Unit {0}
 Apart (Cons item children rest) = ((is_text item && items_begin_with_text rest) ≡ false) × Apart children × Apart rest
 
--- one of the row is an element
+-- One item of the row is an element.
 abbrev pub AnyElement : Forest Item → Type 0
 AnyElement Nil = ⊥
 AnyElement (Cons (Element start end tag) children rest) = Unit {0}

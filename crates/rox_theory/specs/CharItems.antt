@@ -1,15 +1,15 @@
--- Items that are texts of Chars, in all that they say.
+-- Items whose parts are texts of Chars.
 use Rattle.std.specs.Prelude.{All, IfSome}
 use Rattle.rox_grammar.specs.Forest.{Forest, Nil, Cons}
 use Rattle.rox_grammar.specs.Written.{Attribute, Tag, Item, Element, Text, Comment, PI}
 use Rattle.rox_grammar.specs.CharText.{IsCharText, NamespaceDeclChars}
 
--- of an attribute as written its local name and its value
+-- The local name and the value of an attribute as it is written.
 pub record WrittenChars (a : Attribute) : Type 0 where
   pub local : IsCharText a.name.local
   pub value : IsCharText a.value
 
--- of a tag what is kept of it
+-- The parts of a tag that a tree has.
 pub record TagChars (t : Tag) : Type 0 where
   pub local : IsCharText t.name.local
   pub declarations : All NamespaceDeclChars t.declarations
@@ -21,7 +21,7 @@ ItemChars (Text a e v b) = IsCharText v
 ItemChars (Comment a e t) = IsCharText t
 ItemChars (PI a e t o) = IsCharText t × IfSome o IsCharText
 
--- at any depth
+-- All items, at any depth.
 abbrev pub ItemsChars : Forest Item → Type 0
 ItemsChars Nil = Unit {0}
 ItemsChars (Cons item children rest) = ItemChars item × ItemsChars children × ItemsChars rest

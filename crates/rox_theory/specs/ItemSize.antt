@@ -1,4 +1,4 @@
--- How much the items of a text say, and how many they are, against the text.
+-- The size and the number of a text's items, compared with the text.
 use Prim.Native.Char.{code}
 use Rattle.std.specs.Prelude.{ℕ, ◌+◌, ◌*◌, ◌≤◌, ◌==◌, List, [], ◌∷◌, length, count_by}
 use Rattle.rox_grammar.specs.Forest.{Forest, Nil, Cons, size}
@@ -16,16 +16,17 @@ own_bytes (Element start end t) = value_bytes_of t.attributes
 own_bytes (Text start end value borrowed) = length value
 own_bytes other = 0
 
--- the bytes of the values of all texts and attributes together
+-- The bytes of the values of all texts and attributes together.
 abbrev pub bytes_in : Forest Item → ℕ
 bytes_in Nil = 0
 bytes_in (Cons item children rest) = own_bytes item + (bytes_in children + bytes_in rest)
 
--- the bytes of the text, and for each `&` in it as often those of the longest replacement text as one reference may open some
+-- The bytes of the text, and for each `&` in it the bytes of the longest replacement text, as many times as one reference may open
+-- a text.
 abbrev pub most_bytes : List ℕ → List Entity → ℕ
 most_bytes src es = length src + (most_within + 1) * count_by (λ b. b == code "&") src * longest es
 
--- the tree is no larger than that
+-- The tree is at most as large.
 pub record IsBounded (src : List ℕ) (es : List Entity) (tree : Forest Item) : Type 0 where
   pub bytes : bytes_in tree ≤ most_bytes src es
   pub nodes : size tree + attribute_count tree ≤ most_bytes src es

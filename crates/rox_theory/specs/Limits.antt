@@ -1,8 +1,8 @@
--- The faults that say that a text has more than the limits allow.
+-- The faults of a text that has more than the limits allow.
 use Rattle.std.specs.Prelude.{◌≡◌, ◌⊎◌}
 use Rattle.rox_grammar.specs.declared.fault.Fault.{Fault}
 use Rattle.rox_grammar.specs.declared.fault.Fault.TheVariants as fault
 
--- too many nodes, attributes, or pairs of a prefix and a URI
+-- Too many nodes, attributes, or pairs of a prefix and a URI.
 abbrev pub IsLimit : Fault → Type 0
 IsLimit f = (f ≡ fault.NodesLimitReached) ⊎ ((f ≡ fault.AttributesLimitReached) ⊎ (f ≡ fault.NamespacesLimitReached))

@@ -1,4 +1,5 @@
--- How a replacement text is read is what a reference to it opens by the grammar.
+-- A replacement text is read as the grammar opens it at a reference.
+use Prim.Native.Char.{code}
 use Rattle.std.specs.Prelude.{◌≡◌, ◌⊎◌, ◌≤◌, ℕ, List, Some, Result, Ok}
 use Rattle.std.specs.Str.{IsUtf8, IsCharBoundary}
 use Rattle.rox_grammar.specs.Forest.{Forest, join}
@@ -10,21 +11,21 @@ use Rattle.rox_reading.specs.State.{State}
 use Rattle.rox_reading.specs.Values.{ValueInclusion}
 use Rattle.rox_theory.specs.ValidState.{IsValidState, state}
 
--- `<` or a quote, which ends a run or a value
+-- `<` or a quote, which ends a run or a value.
 abbrev pub IsStop : ℕ → Type 0
-IsStop b = (b ≡ 60) ⊎ ((b ≡ 39) ⊎ (b ≡ 34))
+IsStop b = (b ≡ code "<") ⊎ ((b ≡ code "'") ⊎ (b ≡ code "\""))
 
--- each replacement text is text: UTF-8 that is cut off behind a character, and it begins with one
+-- Each replacement text is in UTF-8, and starts and ends between two characters of its source.
 abbrev pub AreTexts : List Entity → Type 0
 AreTexts es = (name : List ℕ) (t : Replacement) → text_of es name ≡ Some t → IsUtf8 t.source × IsCharBoundary t.source t.start
 
--- the part of a value that a replacement text is; the place behind the reference matters for a fault alone
+-- A replacement text as a part of a value. The place after the reference matters only for a fault.
 pub record AgreesValue (es : List Entity) (O : Inclusion) (opener : ValueInclusion) : Type 0 where
   pub sound : (name : List ℕ) (t : Replacement) (after b c : ℕ) (w : List ℕ) → text_of es name ≡ Some t → opener t after b ≡ Ok (w, c) → O.value name b w c
   pub complete : (name : List ℕ) (after b c : ℕ) (w : List ℕ) → O.value name b w c → (t : Replacement) × (text_of es name ≡ Some t) × (opener t after b ≡ Ok (w, c))
 
--- What a reference opens in content, over the state of the text around it. The place behind it matters for a fault and for where
--- reading goes on; the place of the state does not matter.
+-- What a reference opens in content, over the state of the text around it. The place after the reference matters only for a fault
+-- and for where reading continues. The place of the state does not matter.
 pub record AgreesContent (es : List Entity) (limit : ℕ) (O : Inclusion) (opener : Replacement → ℕ → State → Result State Refusal) : Type 0 where
   pub sound : (most : ℕ) (name : List ℕ) (t : Replacement) (after : ℕ) (s u : State) → limit ≤ most → text_of es name ≡ Some t → IsValidState most s → opener t after s ≡ Ok u
       → (items : Forest Item) × (c : ℕ) × O.content name s.openings_left items c × (u ≡ state after (join s.done items) s.stack c) × IsValidState most u

@@ -4,10 +4,10 @@ use Rattle.rox_grammar.specs.Forest.{Forest, join}
 use Rattle.rox_grammar.specs.Written.{Item}
 use Rattle.rox_grammar.specs.Content.{IsElement}
 use Rattle.rox_grammar.specs.WellNamed.{AreWellNamed}
-use Rattle.rox_grammar.specs.Entities.{no_entities}
+use Rattle.rox_grammar.specs.Entities.{most_within, no_entities}
 use Rattle.rox_grammar.specs.Document.{Misc, PrologTo}
 
--- a declaration, the root element, in which nothing is opened, and what stands around it
+-- A declaration, the root element, in which nothing is opened, and what is around it.
 pub record ParseWithout (src : List ℕ) (tree : Forest Item) : Type 0 where
   pub start : ℕ
   pub before : Forest Item
@@ -15,7 +15,7 @@ pub record ParseWithout (src : List ℕ) (tree : Forest Item) : Type 0 where
   pub end : ℕ
   pub openings_left : ℕ
   pub one : Forest Item
-  pub element : IsElement true no_entities src start end 255 openings_left one
+  pub element : IsElement true no_entities src start end most_within openings_left one
   pub after : Forest Item
   pub misc_after : Misc src end (length src) after
   pub is_tree : tree ≡ join before (join one after)

@@ -8,7 +8,7 @@ ghost use Rattle.rox_grammar.specs.Doctype.{Asked};
 ghost use Rattle.rox_theory.specs.ParseParts.{MayHaveDoctype};
 ghost use Rattle.rox_theory.specs.Openers.{AreTexts};
 
-/// Each entity that a document type declaration declares is text.
+/// States that each entity that a document type declaration declares is a text.
 pub fn entities_are_texts()
     ensures { (src : List ℕ) (i j : ℕ) (dtd : Bool) (nodes : Forest Item) (asked : List Asked)
         (es : List Entity) → IsUtf8 src → MayHaveDoctype src i j dtd nodes asked es → AreTexts es }

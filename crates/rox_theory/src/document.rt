@@ -1,4 +1,4 @@
-//! Whole documents. A source is text, so its bytes are UTF-8, and so are those of each text that is answered.
+//! Whole documents. A source is in UTF-8, and so is each text that is answered.
 
 ghost use Rattle.std.specs.Prelude.{◌≡◌, ℕ, Bool, true, List, ◌++◌, Result, Ok, Err, map};
 ghost use Rattle.std.specs.Str.{IsUtf8};
@@ -7,15 +7,17 @@ ghost use Rattle.rox_grammar.specs.Written.{Item};
 ghost use Rattle.rox_grammar.specs.Tree.{Node};
 ghost use Rattle.rox_grammar.specs.Doctype.{Request, Asked};
 ghost use Rattle.rox_grammar.specs.Document.{ParseOf, IsWithinLimits, IsTreeOf, Permits, HasAsked, AsksNext};
-ghost use Rattle.rox_reading.specs.Refusals.{Refusal, refused, IsTextRefusal};
+ghost use Rattle.rox_reading.specs.Refusals.{Refusal, refused};
+ghost use Rattle.rox_reading.specs.Answering.{IsTextRefusal};
 ghost use Rattle.rox_reading.specs.Doctype.{Reply, replies_of, AreTextReplies};
-ghost use Rattle.rox_reading.specs.Answering.{with_refusal};
-ghost use Rattle.rox_reading.specs.WholeText.{has_doctype, reading};
+ghost use Rattle.rox_reading.specs.Stopping.{with_refusal};
+ghost use Rattle.rox_reading.specs.WholeText.{reading};
+ghost use Rattle.rox_reading.specs.HasDoctype.{has_doctype};
 
-/// What is read of a text is its parse with what was asked, and within the limits, and a document type declaration stands only
-/// where it may. A parse within the limits is read where the answers are those of the parse. A text that is refused has no
-/// parse whose answers begin with those that were given, unless it is the resolver that refused. Whether there is a document
-/// type declaration is seen.
+/// States that what is read of a text is its parse with what was asked, within the limits, and with a document type declaration
+/// only if one is allowed. A parse within the limits is read if the answers are those of the parse. A text that is refused has
+/// no parse whose answers begin with those that were given, unless the resolver refused. `has_doctype` says whether there is a
+/// document type declaration.
 pub fn documents_read()
     ensures sound { (limit : ℕ) (allow : Bool) (replies : List Reply) (src : List ℕ)
         (asked : List Asked) (t : Forest Item) → IsUtf8 src → AreTextReplies replies
@@ -35,8 +37,9 @@ pub fn documents_read()
         → has_doctype limit src ≡ dtd }
 {}
 
-/// What is asked while a text is read, whatever comes of it, its declarations ask, in order, and what the resolver refuses they
-/// ask next. Replies beyond those that a reading takes change nothing of what is asked and read, or of why it is refused.
+/// States that what is asked while a text is read, whatever the result, is what its declarations ask, in order, and that what
+/// the resolver refuses is what they ask next. Replies after those that a reading takes change nothing of what is asked and
+/// read, or of why it is refused.
 pub fn texts_read()
     ensures asked { (limit : ℕ) (allow : Bool) (replies : List Reply) (src : List ℕ)
         (asked : List Asked) (x : Result (Forest Item) Refusal) → IsUtf8 src
@@ -55,7 +58,7 @@ pub fn texts_read()
         → reading limit allow (replies_of asked ++ with_refusal e more) src ≡ (asked, Err e) }
 {}
 
-/// For what was asked a text has at most one parse, and its readers see one tree, whatever the limits are.
+/// States that for what was asked a text has at most one parse, and that its readers see one tree, whatever the limits are.
 pub fn one_parse()
     ensures parse { (src : List ℕ) (dtd other : Bool) (asked : List Asked) (t u : Forest Item)
         → IsUtf8 src → ParseOf src dtd asked t → ParseOf src other asked u → t ≡ u }
@@ -64,7 +67,7 @@ pub fn one_parse()
         → IsTreeOf src other asked most u → t ≡ u }
 {}
 
-/// It is the answers alone that it hangs on: where they are the same, the same was asked, and the parses are one.
+/// States that only the answers matter: if they are equal, what was asked is equal, and so are the parses.
 pub fn one_parse_answered()
     ensures { (src : List ℕ) (dtd other : Bool) (a b : List Asked) (t u : Forest Item) → IsUtf8 src
         → ParseOf src dtd a t → ParseOf src other b u

@@ -12,7 +12,7 @@ ghost use Rattle.rox_theory.specs.ItemSize.{IsBounded};
 ghost use Rattle.rox_theory.specs.Openers.{AreTexts};
 ghost use Rattle.rox_theory.specs.WithoutDoctype.{ParseWithout};
 
-/// For a text without a document type declaration nothing is asked, and in its root element nothing is opened.
+/// States that a text without a document type declaration asks nothing, and that nothing is opened in its root element.
 pub fn plain_texts_open_nothing()
     ensures opens_nothing { (src : List ℕ) (asked : List Asked) (tree : Forest Item)
         → ParseOf src false asked tree → (asked ≡ []) × ParseWithout src tree }
@@ -20,8 +20,8 @@ pub fn plain_texts_open_nothing()
         → ParseOf src false [] tree }
 {}
 
-/// Under one reference of the main text at most 256 replacement texts are opened, at most ten within one another: there is a
-/// count of them, and every count of what it opens is as small, where each entity is text.
+/// States that at most 256 replacement texts are opened under one reference of the main text, at most ten inside one another:
+/// there is a count of them, and every count of what the reference opens is at most 256, if each entity is a text.
 pub fn few_opened()
     ensures in_content { (es : List Entity) (name : List ℕ) (b c : ℕ) (items : Forest Item)
         → (included_in_main es).content name b items c
@@ -37,15 +37,15 @@ pub fn few_opened()
         → (Counts es most_deep).value name 0 v n → n ≤ 256 }
 {}
 
-/// The values of all texts and attributes together have at most the bytes of the text, and for each `&` in it 256 times those of the
-/// longest replacement text. There are no more nodes and attributes together than that.
+/// States that the values of all texts and attributes together have at most the bytes of the text, and for each `&` in it 256
+/// times the bytes of the longest replacement text. There are at most as many nodes and attributes together.
 pub fn trees_are_bounded()
     ensures { (src : List ℕ) (dtd : Bool) (asked : List Asked) (tree : Forest Item)
         (p : ParseOf src dtd asked tree) → IsBounded src p.entities tree }
 {}
 
-/// A replacement text lies in the text itself or in an answer. So where no answer has more than so many bytes, no replacement text
-/// has more than these or those of the text.
+/// States that a replacement text is in the text itself or in an answer. So if no answer has more than `most` bytes, no
+/// replacement text has more than these or the bytes of the text.
 pub fn replacement_texts_are_short()
     ensures { (src : List ℕ) (dtd : Bool) (asked : List Asked) (tree : Forest Item)
         (p : ParseOf src dtd asked tree) (most : ℕ) → AreShort most asked

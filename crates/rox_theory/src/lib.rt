@@ -1,4 +1,4 @@
-//! What reading from left to right has to do with the written grammar.
+//! How reading from left to right relates to the written grammar.
 #![tactic(auto)]
 
 pub mod doctype;

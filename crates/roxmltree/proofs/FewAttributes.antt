@@ -6,7 +6,6 @@ use Rattle.rox_grammar.specs.Written as written
 use Rattle.rox_grammar.specs.Written.{NamespaceDecl, Item}
 use Rattle.rox_grammar.specs.Tree.{Node, attribute_in, listed, resolved}
 use Rattle.rox_grammar.specs.Doctype.{Asked}
-use Rattle.rox_grammar.proofs.CountForms.{attributes_same}
 use Rattle.rox_grammar.specs.Document.{most_attributes, IsTreeOf}
 use Rattle.rox_grammar.specs.Counts.{attribute_count}
 use Rattle.rox_theory.proofs.ParseParts.{tree_parts}
@@ -32,6 +31,6 @@ pub few_attributes : {dtd : Bool} {asked : List Asked} (src : List ℕ) (limit :
 few_attributes src limit tree id is =
     let h = tree_parts is in
     let all : EachNode (HasFew most_attributes) tree =
-    subst (λ (f : Forest Node). EachNode (HasFew most_attributes) f) (sym h.shown) (omega arith, few_resolved most_attributes [] h.written (omega (arith, h.within.attributes, attributes_same h.written)), tt) in
+    subst (λ (f : Forest Node). EachNode (HasFew most_attributes) f) (sym h.shown) (omega arith, few_resolved most_attributes [] h.written h.within.attributes, tt) in
     let here : HasFew most_attributes (node_at tree id) = at_each (HasFew most_attributes) tree all (omega arith) id in
     omega (arith, here)

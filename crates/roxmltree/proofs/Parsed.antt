@@ -10,7 +10,8 @@ use Rattle.rox_grammar.specs.Doctype.{Request, Asked}
 use Rattle.rox_grammar.specs.Document.{ParseOf, IsTreeOf, IsWithinLimits, Permits}
 use Rattle.rox_reading.specs.Refusals.{Refusal, here}
 use Rattle.rox_reading.specs.Doctype.{Reply, replies_of, AreTextReplies}
-use Rattle.rox_reading.specs.WholeText.{has_doctype, reading}
+use Rattle.rox_reading.specs.WholeText.{reading}
+use Rattle.rox_reading.specs.HasDoctype.{has_doctype}
 use Rattle.rox_reading.proofs.Forests.{size-resolved}
 use Rattle.rox_theory.proofs.DoctypeAgreement.{doctypes_agree}
 use Rattle.rox_theory.proofs.OneParse as once

@@ -13,7 +13,7 @@ use Rattle.rox_grammar.specs.Doctype.{Request, Asked}
 use Rattle.rox_grammar.specs.Document.{IsTreeOf, Permits, HasAsked, nothing, one_more, AsksNext}
 use Rattle.rox_reading.specs.Refusals.{Refusal, here, there, refused}
 use Rattle.rox_reading.specs.Doctype.{Reply, replies_of, AreTextReplies}
-use Rattle.rox_reading.specs.Answering.{with_refusal, Stops}
+use Rattle.rox_reading.specs.Stopping.{with_refusal, Stops}
 use Rattle.rox_reading.specs.WholeText.{reading}
 use Rattle.rox_theory.proofs.Answering.{has_asked, asks_next}
 use Rattle.rox_theory.proofs.DoctypeAgreement.{doctypes_agree}

@@ -8,8 +8,9 @@ use Rattle.rox_grammar.specs.Forest.{Forest}
 use Rattle.rox_grammar.specs.Tree.{document_tree}
 use Rattle.rox_reading.specs.Refusals.{Refusal, here, there, refused}
 use Rattle.rox_reading.specs.Doctype.{Reply, replies_of, AreTextReplies}
-use Rattle.rox_reading.specs.Answering.{Stops}
-use Rattle.rox_reading.specs.WholeText.{has_doctype, reading}
+use Rattle.rox_reading.specs.Stopping.{Stops}
+use Rattle.rox_reading.specs.WholeText.{reading}
+use Rattle.rox_reading.specs.HasDoctype.{has_doctype}
 use Rattle.rox_build.specs.Requests.{AreAllowed}
 use Rattle.rox_error.specs.FaultErrors.{position_at, IsErrorOf}
 use Rattle.rox_error.specs.declared.error.Error.{Error}

@@ -39,7 +39,7 @@ pub use Rattle.rox_grammar.specs.declared.fault.Fault
 pub use Rattle.rox_reading.specs.WholeText as Reading
 pub use Rattle.rox_reading.specs.Refusals
 pub use Rattle.rox_reading.specs.Doctype as Replies
-pub use Rattle.rox_reading.specs.Answering
+pub use Rattle.rox_reading.specs.Stopping
 pub use Rattle.rox_build.specs.Requests
 pub use Rattle.rox_error.specs.FaultErrors
 pub use Rattle.rox_error.specs.Messages

@@ -12,7 +12,7 @@ use Rattle.rox_theory.proofs.Whole.{plain_parse}
 use Rattle.rox_faults.proofs.FaultWhole.{reading_faults}
 use Rattle.rox_faults.proofs.faults.parse_or_fault.Goals as goal
 
--- by what is read
+-- By what is read.
 either : (limit : ℕ) (src : List ℕ) → IsUtf8 src → (r : Asks (Forest Item)) → reading limit false [] src ≡ r
     → ((t : Forest Item) × ParseOf src false [] t × IsWithinLimits limit t) ⊎ ((f : Fault) × FaultOf limit src f)
 either limit src utf8 (asked, Ok t) read = inl (let p = plain_parse src utf8 limit asked t read in (t, p.1, p.2))
