@@ -1,3 +1,4 @@
 pub mod CountLemmas
 pub mod PositionLemmas
 pub mod WordLemmas
+pub mod StartLemmas

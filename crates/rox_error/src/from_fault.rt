@@ -1,7 +1,8 @@
 //! From a fault of a text to the error that reports it.
 
-ghost use Rattle.std.specs.Prelude.{◌≡◌, IfOk, MatchResult};
+ghost use Rattle.std.specs.Prelude.{◌≡◌, IfOk};
 ghost use Rattle.rox_grammar.specs.ExpectedTexts.{expected_text};
+ghost use Rattle.rox_grammar.specs.declared.fault.Fault.TheVariants as fault;
 ghost use Rattle.rox_error.specs.declared.error.Error.TheVariants as error;
 ghost use Rattle.rox_error.specs.FaultErrors.{due_text, position_at, Names, IsErrorOf};
 
@@ -17,9 +18,57 @@ use std::str;
 pub fn error_of_fault<'w>(alloc: Global, text: &str, fault: Fault) -> Error<'w>
     ensures { IsErrorOf text.now fault result }
 {
-    match with_names(alloc, text, fault) {
-        Ok(error) => error,
-        Err(_) => Error::OutOfMemory,
+    match fault {
+        Fault::InvalidXmlPrefixUri(at) => Error::InvalidXmlPrefixUri(pos(text, at)),
+        Fault::UnexpectedXmlUri(at) => Error::UnexpectedXmlUri(pos(text, at)),
+        Fault::UnexpectedXmlnsUri(at) => Error::UnexpectedXmlnsUri(pos(text, at)),
+        Fault::InvalidElementNamePrefix(at) => Error::InvalidElementNamePrefix(pos(text, at)),
+        Fault::DuplicatedNamespace(prefix, at) => match named(alloc, text, prefix) {
+            Ok(prefix) => Error::DuplicatedNamespace(prefix, pos(text, at)),
+            Err(_) => Error::OutOfMemory,
+        },
+        Fault::UnknownNamespace(prefix, at) => match named(alloc, text, prefix) {
+            Ok(prefix) => Error::UnknownNamespace(prefix, pos(text, at)),
+            Err(_) => Error::OutOfMemory,
+        },
+        Fault::UnexpectedCloseTag(expected, actual, at) => {
+            close_tag_error(alloc, text, expected, actual, at)
+        }
+        Fault::UnexpectedEntityCloseTag(at) => Error::UnexpectedEntityCloseTag(pos(text, at)),
+        Fault::UnknownEntityReference(entity, at) => match named(alloc, text, entity) {
+            Ok(entity) => Error::UnknownEntityReference(entity, pos(text, at)),
+            Err(_) => Error::OutOfMemory,
+        },
+        Fault::MalformedEntityReference(at) => Error::MalformedEntityReference(pos(text, at)),
+        Fault::EntityReferenceLoop(at) => Error::EntityReferenceLoop(pos(text, at)),
+        Fault::InvalidAttributeValue(at) => Error::InvalidAttributeValue(pos(text, at)),
+        Fault::DuplicatedAttribute(local, at) => match named(alloc, text, local) {
+            Ok(local) => Error::DuplicatedAttribute(local, pos(text, at)),
+            Err(_) => Error::OutOfMemory,
+        },
+        Fault::NoRootNode => Error::NoRootNode,
+        Fault::UnclosedRootNode => Error::UnclosedRootNode,
+        Fault::UnexpectedDeclaration(at) => Error::UnexpectedDeclaration(pos(text, at)),
+        Fault::DtdDetected => Error::DtdDetected,
+        Fault::NodesLimitReached => Error::NodesLimitReached,
+        Fault::AttributesLimitReached => Error::AttributesLimitReached,
+        Fault::NamespacesLimitReached => Error::NamespacesLimitReached,
+        Fault::InvalidName(at) => Error::InvalidName(pos(text, at)),
+        Fault::NonXmlChar(c, at) => Error::NonXmlChar(c, pos(text, at)),
+        Fault::InvalidChar(expected, actual, at) => {
+            Error::InvalidChar(expected, actual, pos(text, at))
+        }
+        Fault::InvalidChar2(expected, actual, at) => {
+            Error::InvalidChar2(due_words(expected), actual, pos(text, at))
+        }
+        Fault::InvalidString(expected, at) => {
+            Error::InvalidString(fixed_text(expected), pos(text, at))
+        }
+        Fault::InvalidExternalID(at) => Error::InvalidExternalID(pos(text, at)),
+        Fault::InvalidComment(at) => Error::InvalidComment(pos(text, at)),
+        Fault::InvalidCharacterData(at) => Error::InvalidCharacterData(pos(text, at)),
+        Fault::UnknownToken(at) => Error::UnknownToken(pos(text, at)),
+        Fault::UnexpectedEndOfStream => Error::UnexpectedEndOfStream,
     }
 }
 
@@ -31,72 +80,23 @@ pub fn error_of_resolver<'w>(text: &str, at: usize, reason: String) -> Error<'w>
     Error::EntityResolver(pos(text, at), reason)
 }
 
-/// Returns the error of a fault.
-fn with_names<'w>(alloc: Global, text: &str, fault: Fault) -> Result<Error<'w>, AllocError>
-    ensures { MatchResult result (IsErrorOf text.now fault)
-        (λ _. IsErrorOf text.now fault error.OutOfMemory) }
+/// Returns the error of an end tag at the offset `at` whose name is another than the expected one.
+fn close_tag_error<'w>(
+    alloc: Global,
+    text: &str,
+    expected: Span,
+    actual: Span,
+    at: usize,
+) -> Error<'w>
+    ensures { IsErrorOf text.now (fault.UnexpectedCloseTag expected actual at) result }
 {
-    match fault {
-        Fault::InvalidXmlPrefixUri(at) => Ok(Error::InvalidXmlPrefixUri(pos(text, at))),
-        Fault::UnexpectedXmlUri(at) => Ok(Error::UnexpectedXmlUri(pos(text, at))),
-        Fault::UnexpectedXmlnsUri(at) => Ok(Error::UnexpectedXmlnsUri(pos(text, at))),
-        Fault::InvalidElementNamePrefix(at) => Ok(Error::InvalidElementNamePrefix(pos(text, at))),
-        Fault::DuplicatedNamespace(prefix, at) => Ok(Error::DuplicatedNamespace(
-            named(alloc, text, prefix)?,
-            pos(text, at),
-        )),
-        Fault::UnknownNamespace(prefix, at) => Ok(Error::UnknownNamespace(
-            named(alloc, text, prefix)?,
-            pos(text, at),
-        )),
-        Fault::UnexpectedCloseTag(expected, actual, at) => {
-            Ok(Error::UnexpectedCloseTag(
-                named(alloc, text, expected)?,
-                named(alloc, text, actual)?,
-                pos(text, at),
-            ))
-        }
-        Fault::UnexpectedEntityCloseTag(at) => Ok(Error::UnexpectedEntityCloseTag(pos(text, at))),
-        Fault::UnknownEntityReference(entity, at) => Ok(Error::UnknownEntityReference(
-            named(alloc, text, entity)?,
-            pos(text, at),
-        )),
-        Fault::MalformedEntityReference(at) => Ok(Error::MalformedEntityReference(pos(text, at))),
-        Fault::EntityReferenceLoop(at) => Ok(Error::EntityReferenceLoop(pos(text, at))),
-        Fault::InvalidAttributeValue(at) => Ok(Error::InvalidAttributeValue(pos(text, at))),
-        Fault::DuplicatedAttribute(local, at) => Ok(Error::DuplicatedAttribute(
-            named(alloc, text, local)?,
-            pos(text, at),
-        )),
-        Fault::NoRootNode => Ok(Error::NoRootNode),
-        Fault::UnclosedRootNode => Ok(Error::UnclosedRootNode),
-        Fault::UnexpectedDeclaration(at) => Ok(Error::UnexpectedDeclaration(pos(text, at))),
-        Fault::DtdDetected => Ok(Error::DtdDetected),
-        Fault::NodesLimitReached => Ok(Error::NodesLimitReached),
-        Fault::AttributesLimitReached => Ok(Error::AttributesLimitReached),
-        Fault::NamespacesLimitReached => Ok(Error::NamespacesLimitReached),
-        Fault::InvalidName(at) => Ok(Error::InvalidName(pos(text, at))),
-        Fault::NonXmlChar(c, at) => Ok(Error::NonXmlChar(c, pos(text, at))),
-        Fault::InvalidChar(expected, actual, at) => Ok(Error::InvalidChar(
-            expected,
-            actual,
-            pos(text, at),
-        )),
-        Fault::InvalidChar2(expected, actual, at) => Ok(Error::InvalidChar2(
-            due_words(expected),
-            actual,
-            pos(text, at),
-        )),
-        Fault::InvalidString(expected, at) => Ok(Error::InvalidString(
-            fixed_text(expected),
-            pos(text, at),
-        )),
-        Fault::InvalidExternalID(at) => Ok(Error::InvalidExternalID(pos(text, at))),
-        Fault::InvalidComment(at) => Ok(Error::InvalidComment(pos(text, at))),
-        Fault::InvalidCharacterData(at) => Ok(Error::InvalidCharacterData(pos(text, at))),
-        Fault::UnknownToken(at) => Ok(Error::UnknownToken(pos(text, at))),
-        Fault::UnexpectedEndOfStream => Ok(Error::UnexpectedEndOfStream),
-    }
+    let Ok(expected) = named(alloc, text, expected) else {
+        return Error::OutOfMemory;
+    };
+    let Ok(actual) = named(alloc, text, actual) else {
+        return Error::OutOfMemory;
+    };
+    Error::UnexpectedCloseTag(expected, actual, pos(text, at))
 }
 
 /// Returns the position of the character at the offset `at`, in bytes.

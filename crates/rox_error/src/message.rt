@@ -2,7 +2,7 @@
 
 ghost use Rattle.std.specs.Prelude.{◌≡◌, ◌++◌, Some, codes, encode_utf8};
 ghost use Rattle.std.specs.Fmt.{◌++?◌, DisplaysOnOk, WritesOnOk};
-ghost use Rattle.rox_error.specs.Messages.{message_start, message_end, place_text, quoted};
+ghost use Rattle.rox_error.specs.Messages.{message_start, message_end, place_text, quoted, IsFixedStart};
 
 use crate::error::Error;
 use crate::position::TextPos;
@@ -67,46 +67,57 @@ fn write_start<W: fmt::Write>(f: &mut fmt::Formatter<W>, error: &Error<'_>) -> f
     ensures { DisplaysOnOk W.write_str_gives f.old result (message_start error.now) f.new }
 {
     match error {
-        Error::InvalidXmlPrefixUri(_) => {
-            f.write_str("'xml' namespace prefix mapped to wrong URI")
-        }
-        Error::UnexpectedXmlUri(_) => {
-            f.write_str("the 'xml' namespace URI is used for not 'xml' prefix")
-        }
-        Error::UnexpectedXmlnsUri(_) => f.write_str("the 'xmlns' URI is used"),
-        Error::InvalidElementNamePrefix(_) => f.write_str("the 'xmlns' prefix is used"),
         Error::DuplicatedNamespace(name, _) => write_name(f, "namespace '", name),
         Error::UnknownNamespace(name, _) => write_name(f, "an unknown namespace prefix '", name),
         Error::UnexpectedCloseTag(expected, actual, _) => write_names(f, expected, actual),
-        Error::UnexpectedEntityCloseTag(_) => f.write_str("unexpected close tag"),
         Error::UnknownEntityReference(name, _) => write_name(f, "unknown entity reference '", name),
-        Error::MalformedEntityReference(_) => f.write_str("malformed entity reference"),
-        Error::EntityReferenceLoop(_) => {
-            f.write_str("a possible entity reference loop is detected")
-        }
-        Error::InvalidAttributeValue(_) => f.write_str("unescaped '<' found"),
         Error::DuplicatedAttribute(name, _) => write_name(f, "attribute '", name),
-        Error::NoRootNode => f.write_str("the document does not have a root node"),
-        Error::UnclosedRootNode => f.write_str("the root node was opened but never closed"),
-        Error::UnexpectedDeclaration(_) => f.write_str("unexpected XML declaration"),
-        Error::DtdDetected => f.write_str("XML with DTD detected"),
-        Error::NodesLimitReached => f.write_str("nodes limit reached"),
-        Error::AttributesLimitReached => f.write_str("more than 2^32 attributes were parsed"),
-        Error::NamespacesLimitReached => {
-            f.write_str("more than 2^16 unique namespaces were parsed")
-        }
-        Error::InvalidName(_) => f.write_str("invalid name token"),
         Error::NonXmlChar(character, _) => write_char(f, *character),
         Error::InvalidChar(expected, actual, _) => write_bytes(f, *expected, *actual),
         Error::InvalidChar2(expected, actual, _) => write_byte(f, expected, *actual),
         Error::InvalidString(expected, _) => write_name(f, "expected '", expected),
-        Error::InvalidExternalID(_) => f.write_str("invalid ExternalID"),
-        Error::EntityResolver(_, _) => f.write_str("entity resolver failed"),
-        Error::InvalidComment(_) => f.write_str("comment"),
-        Error::InvalidCharacterData(_) => f.write_str("']]>'"),
-        Error::UnknownToken(_) => f.write_str("unknown token"),
-        Error::UnexpectedEndOfStream => f.write_str("unexpected end of stream"),
-        Error::OutOfMemory => f.write_str("out of memory"),
+        _ => f.write_str(fixed_start(error)),
+    }
+}
+
+/// Returns the message up to where the position comes if all errors of this kind have it, and otherwise an empty text.
+#[tactic(auto, unfolding(crate::specs::Messages::message_start))]
+fn fixed_start(error: &Error<'_>) -> &'static str
+    ensures { IsFixedStart error.now result.now }
+{
+    match error {
+        Error::InvalidXmlPrefixUri(_) => "'xml' namespace prefix mapped to wrong URI",
+        Error::UnexpectedXmlUri(_) => "the 'xml' namespace URI is used for not 'xml' prefix",
+        Error::UnexpectedXmlnsUri(_) => "the 'xmlns' URI is used",
+        Error::InvalidElementNamePrefix(_) => "the 'xmlns' prefix is used",
+        Error::UnexpectedEntityCloseTag(_) => "unexpected close tag",
+        Error::MalformedEntityReference(_) => "malformed entity reference",
+        Error::EntityReferenceLoop(_) => "a possible entity reference loop is detected",
+        Error::InvalidAttributeValue(_) => "unescaped '<' found",
+        Error::NoRootNode => "the document does not have a root node",
+        Error::UnclosedRootNode => "the root node was opened but never closed",
+        Error::UnexpectedDeclaration(_) => "unexpected XML declaration",
+        Error::DtdDetected => "XML with DTD detected",
+        Error::NodesLimitReached => "nodes limit reached",
+        Error::AttributesLimitReached => "more than 2^32 attributes were parsed",
+        Error::NamespacesLimitReached => "more than 2^16 unique namespaces were parsed",
+        Error::InvalidName(_) => "invalid name token",
+        Error::InvalidExternalID(_) => "invalid ExternalID",
+        Error::EntityResolver(_, _) => "entity resolver failed",
+        Error::InvalidComment(_) => "comment",
+        Error::InvalidCharacterData(_) => "']]>'",
+        Error::UnknownToken(_) => "unknown token",
+        Error::UnexpectedEndOfStream => "unexpected end of stream",
+        Error::OutOfMemory => "out of memory",
+        Error::DuplicatedNamespace(_, _)
+        | Error::UnknownNamespace(_, _)
+        | Error::UnexpectedCloseTag(_, _, _)
+        | Error::UnknownEntityReference(_, _)
+        | Error::DuplicatedAttribute(_, _)
+        | Error::NonXmlChar(_, _)
+        | Error::InvalidChar(_, _, _)
+        | Error::InvalidChar2(_, _, _)
+        | Error::InvalidString(_, _) => "",
     }
 }
 
