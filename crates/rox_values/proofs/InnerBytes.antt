@@ -1,6 +1,5 @@
 -- A stretch of a value within a replacement text ends at the first byte that is none of its own.
 use Rattle.std.proofs.Common.{◌≡◌, ℕ, ◌<◌, ◌≤◌, true, false, List, length, get_or, arith}
-use Rattle.std.specs.Str.{IsCharBoundary}
 use Rattle.std.proofs.lemmas.Bool.Decides.{nat_tests}
 use Rattle.rox_grammar.specs.Search.{byte_from}
 use Rattle.rox_bytes.specs.ByteSets.{AllPass}
@@ -21,7 +20,3 @@ end_ascii b h = grind (arith, nat_tests)
 
 pub inner_stops : (src : List ℕ) (i e : ℕ) → i ≤ e → e ≤ length src → AllPass is_inner_byte src i e → (e < length src → is_inner_byte (get_or src e 0) ≡ false) → byte_from ends_stretch src i ≡ e
 inner_stops src i e le within all stops = near_found is_inner_byte ends_stretch src i e le within all inner_plain (λ more. inner_ends _ (stops more))
-
--- which begins a character
-pub inner_cut : (src : List ℕ) (e : ℕ) → e ≤ length src → (e < length src → is_inner_byte (get_or src e 0) ≡ false) → IsCharBoundary src e
-inner_cut src e within stops = (within, λ more wide. let ascii : get_or src e 0 < 128 = end_ascii (get_or src e 0) (stops more) in absurd (omega (arith, ascii, wide)))

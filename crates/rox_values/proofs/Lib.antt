@@ -8,3 +8,4 @@ pub mod PartLemmas
 pub mod ValueOpening
 pub mod SectionLemmas
 pub mod Lifting
+pub mod BitLemmas

@@ -3,3 +3,4 @@ pub mod HeldEntities
 pub mod DeclaredEntities
 pub mod Contexts
 pub mod Values
+pub mod PlainBits

@@ -48,9 +48,10 @@ abbrev pub HasItsName : List ℕ → Reference → Type 0
 HasItsName src (reference.Character c) = Unit {0}
 HasItsName src (reference.Entity span name) = name.now ≡ slice_range src span.start span.end
 
--- A reference is read.
+-- A reference is read. The cursor is after its first byte then.
 pub record ReadsReference (old new : Cursor) (result : Result Reference Fault) (wanted : List ℕ → ℕ → Read reading.Reference) : Type 0 where
   pub read : Steps reference_view old new result wanted
+  pub onward : IfOk result (λ _. old.pos < new.pos)
   pub name : IfOk result (HasItsName old.text.now)
 
 -- A text, with what the buffer holds if it had to be changed.
@@ -85,11 +86,6 @@ AppendsBit old new after (Err e) read = Fails e read
 pub record StopsAt (text : List ℕ) (at stop : ℕ) : Type 0 where
   pub before : at < stop
   pub cut : IsCharBoundary text stop
-
--- Bytes of a value that do not change it start at `at`, before `stop`.
-pub record BeginsStretch (text : List ℕ) (at stop : ℕ) : Type 0 where
-  pub stop_is : StopsAt text at stop
-  pub plain : reading.is_special (slice_index text at) ≡ false
 
 -- White space of a value other than a space is at `at`.
 pub record BeginsWhiteSpace (text : List ℕ) (at stop : ℕ) : Type 0 where
@@ -131,11 +127,6 @@ pub record AppendsFrom (old new : List ℕ) (before after : Cursor) (result : Re
 pub record AppendsBitFrom (entities : Entities) (old new : List ℕ) (before after : Cursor) (result : Result (Option Cursor) Failure) (read : List Entity → List ℕ → ℕ → Read reading.Bit) : Type 0 where
   pub value : (es : List Entity) → AreDeclared es entities → AppendsBit old new after result (read es before.text.now before.pos)
   pub source : after.text ≡ before.text
-
--- A character was appended, or gave the fault.
-abbrev pub AppendsCharacter : List ℕ → List ℕ → Result (Unit {0}) Failure → Result reading.Bit Fault → Type 0
-AppendsCharacter old new (Ok x) read = (bs : List ℕ) × (read ≡ Ok (reading.bytes_of bs)) × (new ≡ old ++ bs)
-AppendsCharacter old new (Err e) read = Fails e read
 
 -- The byte `b` ends a slice of a value in a replacement text.
 abbrev pub ends_stretch : ℕ → Bool

@@ -1,244 +1,122 @@
-//! The values of attributes, with references and white space replaced (XML 1.0 sections 3.3.3 and 4.1).
+//! The values of attributes, with references and white space replaced (XML 1.0 sections 3.3.3 and 4.1). `plain_bits` appends their
+//! items, and where it stops, this module opens an entity or tells the fault.
 
-ghost use Rattle.std.specs.Prelude.{◌≡◌, Bool, List, Result, Ok, false, ◌≤◌, ◌<◌, length, slice_index, true};
-ghost use Rattle.std.specs.List.{position_or_len};
+ghost use Rattle.std.specs.Prelude.{◌≡◌, ◌-◌, ◌≤◌, ℕ, List};
 ghost use Rattle.std.specs.String.{string_bytes};
-ghost use Rattle.std.specs.Char.{encode_utf8};
 ghost use Rattle.std.specs.Str.{IsCharBoundary};
-ghost use Rattle.rox_grammar.specs.Search.{byte_from};
 ghost use Rattle.rox_reading.specs.Values as spec;
 ghost use Rattle.rox_scan.specs.Views.{HasValue};
-ghost use Rattle.rox_bytes.specs.ScanResults.{Finds};
 ghost use Rattle.rox_grammar.specs.Entities.{Entity};
-ghost use Rattle.rox_grammar.specs.declared.fault.Fault.{Fault};
 ghost use Rattle.rox_reading.specs.Machine.{value_opener};
 ghost use Rattle.rox_scan.specs.DoctypeViews.{replacement_view};
 ghost use Rattle.rox_values.specs.DeclaredEntities.{AreDeclared};
-ghost use Rattle.rox_values.specs.Values.{AppendsFrom, AppendsBitFrom, BeginsStretch, BeginsWhiteSpace, StopsAt, AppendsCharacter, AppendsValue, GivesValue, ends_stretch, is_inner_byte, piece_view};
+ghost use Rattle.rox_values.specs.PlainBits.{BeginsPlain, BeginsReference, NamesText, kind_for};
+ghost use Rattle.rox_values.specs.Values.{AppendsValue, GivesValue, piece_view};
 
 use crate::context::Context;
 use crate::parse_error::ParseError;
+use crate::plain_bits::{TextKind, inner_stretch_end, put_plain_bits};
 use crate::reference::{Reference, found, read_reference};
 use crate::text_value::TextValue;
-use rox_bytes::byte_set::{ByteSet, skip_set};
-use rox_bytes::nibbles::by_low;
-use rox_bytes::runs::is_at;
 use rox_grammar::failure::Failure;
 use rox_grammar::fault::Fault;
 use rox_scan::cursor::Cursor;
-use rox_scan::lookahead::{StretchByte, is_special};
+use rox_scan::lookahead::is_special;
 use rox_scan::tag::RawAttribute;
-use std::simd::prelude::*;
 
-/// Returns the offset of the first special byte of a value from the cursor on, or the end.
-#[inline(always)]
-fn special_from(from: Cursor<'_>) -> usize
-    ensures { Finds from.entry.text.now from.entry.pos result
-        (byte_from spec.is_special from.entry.text.now from.entry.pos) }
-{
-    skip_set::<StretchByte>(from.text, from.pos)
-}
-
-/// Appends a space for the white space byte at the cursor, and nothing for a CR right before a LF.
-#[tactic(auto, unfolding(rox_reading::specs::Values::value_bit_at))]
-fn white_space(cursor: &mut Cursor<'_>, stop: usize, out: &mut String) -> Result<(), Failure>
-    requires { BeginsWhiteSpace cursor.old.text.now cursor.old.pos stop }
-    ensures { (main : Bool)
-        → AppendsFrom (string_bytes out.old) (string_bytes out.new) cursor.old cursor.new result
-        (λ es src at. spec.value_bit_at main es src stop at) }
-{
-    let here = cursor.text.as_bytes()[cursor.pos];
-    cursor.advance();
-    if here == b'\r' && is_at(&cursor.text[..stop], cursor.pos, b'\n') {
-        return Ok(());
-    }
-    out.push(' ')?;
-    Ok(())
-}
-
-/// Appends the character that the reference at `start` names, in a value. In a replacement text TAB, LF and CR give a space, and
-/// a `<` is a fault (XML 1.0 sections 3.1 and 3.3.3).
-#[inline(always)]
-fn character_in_value(
-    character: char,
-    start: usize,
-    main: bool,
-    out: &mut String,
-) -> Result<(), Failure>
-    ensures { (read : Result spec.Bit Fault) → read ≡ Ok (spec.bytes_of (encode_utf8 character))
-        → AppendsCharacter (string_bytes out.old) (string_bytes out.new) result
-        (spec.tested_bit main start (spec.character_of character) read) }
-{
-    if main {
-        out.push(character)?;
-        return Ok(());
-    }
-    if character == '<' {
-        return Err(Failure::Fault(Fault::InvalidAttributeValue(start)));
-    }
-    if matches!(character, '\t' | '\n' | '\r') {
-        out.push(' ')?;
-    } else {
-        out.push(character)?;
-    }
-    Ok(())
-}
-
-/// Appends the character of the reference at the cursor, in a value, or returns the replacement text that it names.
+/// Returns the replacement text that the reference at `at` names, and the offset after the reference. Fails if it names none. It is
+/// out of memory then, unless the reference is a fault in a value.
 #[inline(always)]
 #[tactic(auto, unfolding(rox_reading::specs::Values::value_reference_at))]
-fn expand_in_value<'input>(
-    cursor: &mut Cursor<'input>,
+fn named_text<'input>(
+    text: &'input str,
+    at: usize,
     context: Context<'_, 'input>,
-    out: &mut String,
-) -> Result<Option<Cursor<'input>>, Failure>
-    requires { slice_index cursor.old.text.now cursor.old.pos ≡ 38 }
-    ensures { AppendsBitFrom context.entry.entities.now (string_bytes out.old)
-        (string_bytes out.new) cursor.old cursor.new result
-        (λ es src at. spec.value_reference_at context.entry.main es src at) }
+) -> Result<(Cursor<'input>, usize), Failure>
+    requires { BeginsReference text.now at }
+    ensures { NamesText context.entry.entities.now text.entry.now at result
+        (λ es. spec.value_reference_at context.entry.main es text.entry.now at) }
 {
-    let start = cursor.pos;
-    match read_reference(cursor)? {
+    let mut cursor = Cursor::at(text, at);
+    match read_reference(&mut cursor)? {
         Reference::Character(character) => {
-            character_in_value(character, start, context.main, out)?;
-            Ok(None)
+            if !context.main && character == '<' {
+                return Err(Failure::Fault(Fault::InvalidAttributeValue(at)));
+            }
+            Err(Failure::Memory)
         }
         Reference::Entity(span, name) => {
-            let text = found(context, name, span, start)?;
-            Ok(Some(text))
+            let named = found(context, name, span, at)?;
+            Ok((named, cursor.pos))
         }
     }
 }
 
-/// The bytes of a value in a replacement text that do not change it: all except `<`, `&` and white space other than the space.
-struct InnerByte;
-
-// The bytes that are not in the set, each at its low half.
-const INNER_ENDS: [u8; 16] = [
-    1, 0, 0, 0, 0, 0, b'&', 0, 0, b'\t', b'\n', 0, b'<', b'\r', 0, 0,
-];
-
-impl ByteSet for InnerByte {
-    ghost test = { is_inner_byte };
-
-    #[inline(always)]
-    #[tactic(auto, unfolding(crate::specs::Values::is_inner_byte))]
-    fn has(byte: u8) -> bool {
-        !(is_special(byte) | (byte == b'<'))
-    }
-
-    #[inline(always)]
-    fn others(block: u8x16) -> u64 {
-        by_low(INNER_ENDS, block).simd_eq(block).to_bitmask()
-    }
-}
-
-/// Returns the offset of the first special byte of a value or `<` from the cursor on, or the end.
-#[inline(always)]
-fn stretch_end(from: Cursor<'_>) -> usize
-    ensures { Finds from.entry.text.now from.entry.pos result
-        (byte_from ends_stretch from.entry.text.now from.entry.pos) }
-{
-    skip_set::<InnerByte>(from.text, from.pos)
-}
-
-/// Appends the bytes of a value in a replacement text up to the next special byte. A character that is not a Char is a fault, and
-/// so is a `<`.
+/// Like `named_text`, but for the item of a value at `at`, which `put_plain_bits` did not append. It may be no reference.
 #[cold]
 #[inline(never)]
-#[tactic(auto, unfolding(rox_reading::specs::Values::value_bit_at, rox_reading::specs::Values::stretch_at))]
-fn inner_stretch(cursor: &mut Cursor<'_>, stop: usize, out: &mut String) -> Result<(), Failure>
-    requires { BeginsStretch cursor.old.text.now cursor.old.pos stop }
-    ensures { AppendsFrom (string_bytes out.old) (string_bytes out.new) cursor.old cursor.new result
-        (λ es src at. spec.value_bit_at false es src stop at) }
-{
-    let text = cursor.text;
-    let end = stretch_end(Cursor {
-        text: &text[..stop],
-        pos: cursor.pos,
-    });
-    let raw = cursor.chars_up_to(end)?;
-    if is_at(&text[..stop], end, b'<') {
-        return Err(Failure::Fault(Fault::InvalidAttributeValue(end)));
-    }
-    out.push_str(raw)?;
-    Ok(())
-}
-
-/// Appends the bytes of a value in the main text up to the next special byte.
-#[tactic(auto, unfolding(rox_reading::specs::Values::value_bit_at, rox_reading::specs::Values::stretch_at))]
-fn main_stretch(cursor: &mut Cursor<'_>, stop: usize, out: &mut String) -> Result<(), Failure>
-    requires { BeginsStretch cursor.old.text.now cursor.old.pos stop }
-    ensures { AppendsFrom (string_bytes out.old) (string_bytes out.new) cursor.old cursor.new result
-        (λ es src at. spec.value_bit_at true es src stop at) }
-{
-    let start = cursor.pos;
-    let text = cursor.text;
-    let end = special_from(Cursor {
-        text: &text[..stop],
-        pos: start,
-    });
-    out.push_str(&text[start..end])?;
-    cursor.pos = end;
-    Ok(())
-}
-
-/// Appends the next item of a value: a reference, white space, or all up to the next of these. If a reference names a replacement
-/// text, this is returned.
-#[inline(always)]
 #[tactic(auto, unfolding(rox_reading::specs::Values::value_bit_at))]
-fn value_bit<'input>(
-    cursor: &mut Cursor<'input>,
+fn other_bit<'input>(
+    text: &'input str,
+    at: usize,
     stop: usize,
     context: Context<'_, 'input>,
-    out: &mut String,
-) -> Result<Option<Cursor<'input>>, Failure>
-    requires { StopsAt cursor.old.text.now cursor.old.pos stop }
-    ensures { AppendsBitFrom context.entry.entities.now (string_bytes out.old)
-        (string_bytes out.new) cursor.old cursor.new result
-        (λ es src at. spec.value_bit_at context.entry.main es src stop at) }
+) -> Result<(Cursor<'input>, usize), Failure>
+    requires { BeginsPlain text.now at stop }
+    ensures { NamesText context.entry.entities.now text.entry.now at result
+        (λ es. spec.value_bit_at context.entry.main es text.entry.now stop at) }
 {
-    let here = cursor.text.as_bytes()[cursor.pos];
+    let here = text.as_bytes()[at];
     if here == b'&' {
-        return expand_in_value(cursor, context, out);
+        return named_text(text, at, context);
     }
-    if is_special(here) {
-        white_space(cursor, stop, out)?;
-        return Ok(None);
+    if !context.main && !is_special(here) {
+        inner_stretch_end(text, at, stop)?;
     }
-    if context.main {
-        main_stretch(cursor, stop, out)?;
-        return Ok(None);
-    }
-    inner_stretch(cursor, stop, out)?;
-    Ok(None)
+    Err(Failure::Memory)
 }
 
-/// Appends the value of the text from the cursor up to `stop`, which has at most `bits` items. `openings_left` replacement texts
-/// may be opened in it. Returns how many may be opened after it.
+/// Returns the kind of the text of a context.
+#[inline(always)]
+fn text_kind(context: Context<'_, '_>) -> TextKind
+    ensures { result ≡ kind_for context.entry.main }
+{
+    if context.main {
+        TextKind::Main
+    } else {
+        TextKind::Replacement
+    }
+}
+
+/// Appends the value of the text from the cursor up to `stop`. `openings_left` replacement texts may be opened in it. Returns how
+/// many may be opened after it.
 #[cycle(values)]
 fn value_text<'input>(
-    cursor: &mut Cursor<'input>,
+    from: Cursor<'input>,
     stop: usize,
-    bits: usize,
     context: Context<'_, 'input>,
     mut openings_left: u32,
     out: &mut String,
 ) -> Result<u32, ParseError<'input>>
-    requires { IsCharBoundary cursor.old.text.now stop }
-    ensures { (es : List Entity) → AreDeclared es context.entry.entities.now
+    requires { IsCharBoundary from.text.now stop }
+    ensures { (es : List Entity) (bits : ℕ) → AreDeclared es context.entry.entities.now
+        → stop - from.entry.pos ≤ bits
         → AppendsValue (string_bytes out.old) (string_bytes out.new) result
         (spec.value_text context.entry.main es
-        (value_opener es context.entry.depth_left context.entry.main) bits cursor.old.text.now stop
-        cursor.old.pos openings_left) }
+        (value_opener es context.entry.depth_left context.entry.main) bits
+        from.entry.text.now stop from.entry.pos openings_left) }
 {
-    'bits: for _turn in 0..bits {
-        if cursor.pos >= stop {
+    let text = from.text;
+    let kind = text_kind(context);
+    let mut at = from.pos;
+    'bits: while at < stop {
+        at = put_plain_bits(text, at, stop, kind, out);
+        if at >= stop {
             return Ok(openings_left);
         }
-        if let Some(text) = value_bit(cursor, stop, context, out)? {
-            openings_left = open_value(text, cursor.pos, context, openings_left, out)?;
-        }
+        let (named, after) = other_bit(text, at, stop, context)?;
+        openings_left = open_value(named, after, context, openings_left, out)?;
+        at = after;
     }
     Ok(openings_left)
 }
@@ -261,9 +139,7 @@ fn open_value<'input>(
         (replacement_view text.entry) after openings_left) }
 {
     let (within, inner) = context.opened(after, openings_left, 0)?;
-    let mut cursor = text;
-    let end = text.text.len();
-    match value_text(&mut cursor, end, end, within, inner, out) {
+    match value_text(text, text.text.len(), within, inner, out) {
         Ok(inner) => Ok(context.left_behind(openings_left, inner)),
         Err(refused) => Err(refused.within(text.text)),
     }
@@ -292,15 +168,7 @@ pub fn value<'input>(
         return Ok((TextValue::Plain(raw.value), openings_left));
     }
     scratch.clear();
-    let mut cursor = Cursor::at(text, raw.value_start);
-    let bits = raw.value_end.saturating_sub(raw.value_start);
-    let openings_left = value_text(
-        &mut cursor,
-        raw.value_end,
-        bits,
-        context,
-        openings_left,
-        scratch,
-    )?;
+    let from = Cursor::at(text, raw.value_start);
+    let openings_left = value_text(from, raw.value_end, context, openings_left, scratch)?;
     Ok((TextValue::Changed, openings_left))
 }

@@ -7,5 +7,6 @@ pub mod context;
 pub mod entities;
 pub mod line_ends;
 pub mod parse_error;
+pub mod plain_bits;
 pub mod reference;
 pub mod text_value;

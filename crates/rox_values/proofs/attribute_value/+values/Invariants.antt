@@ -1,4 +1,5 @@
-use Rattle.std.proofs.Common.{◌≡◌, ◌-◌, ◌+◌, ◌*◌, List}
+use Rattle.std.proofs.Common.{◌≡◌, ◌-◌, ◌+◌, ◌*◌, ◌≤◌, List, ℕ}
+use Rattle.std.specs.Str.{IsCharBoundary}
 use Rattle.std.specs.String.{string_bytes}
 use Rattle.rox_grammar.specs.Entities.{Entity}
 use Rattle.rox_reading.specs.Machine.{value_opener}
@@ -13,10 +14,14 @@ decreases-value_text l = 2 * l.context.depth_left + 1
 abbrev pub decreases-open_value : goal.decreases-open_value
 decreases-open_value l = 2 * l.context.depth_left
 
+abbrev pub decreases-value_text-bits : goal.decreases-value_text-bits
+decreases-value_text-bits l = l.stop - l.at
+
 abbrev pub invariant-value_text-bits : goal.invariant-value_text-bits
 invariant-value_text-bits l = record {
-  source : l.cursor.text ≡ l.fn.cursor.text;
-  reads : (es : List Entity) → AreDeclared es l.context.entities.now
-      → text_behind (string_bytes l.out) (value_text l.context.main es (value_opener es l.context.depth_left l.context.main) (l.bits - l._turn) l.cursor.text.now l.stop l.cursor.pos l.openings_left)
-      ≡ text_behind (string_bytes l.fn.out) (value_text l.context.main es (value_opener es l.context.depth_left l.context.main) l.bits l.fn.cursor.text.now l.stop l.fn.cursor.pos l.fn.openings_left);
+  cut : IsCharBoundary l.from.text.now l.at;
+  reads : (es : List Entity) (bits : ℕ) → AreDeclared es l.context.entities.now → l.stop - l.from.pos ≤ bits
+      → (left : ℕ) × ((l.stop - l.at ≤ left)
+      × (text_behind (string_bytes l.out) (value_text l.context.main es (value_opener es l.context.depth_left l.context.main) left l.from.text.now l.stop l.at l.openings_left)
+      ≡ text_behind (string_bytes l.fn.out) (value_text l.context.main es (value_opener es l.context.depth_left l.context.main) bits l.from.text.now l.stop l.from.pos l.fn.openings_left)));
 }

@@ -3,10 +3,10 @@ use Rattle.std.proofs.Common.{not, refl, arith}
 use Rattle.std.proofs.lemmas.Simd.{zip2_of_maps}
 use Rattle.rox_bytes.specs.Nibbles.{at_low}
 use Rattle.rox_values.specs.Values.{is_inner_byte}
-use Rattle.rox_values.specs.declared.attribute_value.TheConstants.{INNER_ENDS}
+use Rattle.rox_values.specs.declared.plain_bits.TheConstants.{INNER_ENDS}
 use Rattle.rox_bytes.proofs.TableLemmas.{agree_below}
 use Rattle.rox_bytes.proofs.LaneLemmas.{masked, map_same, equals}
-use Rattle.rox_values.proofs.attribute_value.InnerByteByteSet.others.Goals as goal
+use Rattle.rox_values.proofs.plain_bits.InnerByteByteSet.others.Goals as goal
 
 pub returns : goal.returns
 unfolding agree_below is_inner_byte

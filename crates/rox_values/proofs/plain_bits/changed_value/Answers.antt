@@ -1,0 +1,39 @@
+use Rattle.std.proofs.Common.{◌≡◌, ◌<◌, length, slice_range, arith}
+use Rattle.std.specs.String.{string_bytes}
+use Rattle.rox_values.specs.declared.plain_bits.TextKind.TheVariants as kind_of
+use Rattle.rox_values.proofs.BitLemmas.{front_put, special_cut, tested_on, whole_value}
+use Rattle.rox_values.proofs.plain_bits.changed_value.Goals as goal
+use Rattle.rox_values.proofs.plain_bits.changed_value.Goals.{then-len-count, else-len-count}
+
+pub range-requires-clause-end_boundary : goal.range-requires-clause-end_boundary
+range-requires-clause-end_boundary c =
+    let within = c.requires.stop.0 in
+    let less = c.requires.before in
+    let more : c.args.first < length c.args.text.now = omega arith in
+    special_cut c.args.text.now c.args.first more (c.requires.front.stops more)
+
+pub put_plain_bits-requires : goal.put_plain_bits-requires
+put_plain_bits-requires c =
+    let within = c.requires.stop.0 in
+    let less = c.requires.before in
+    let more : c.args.first < length c.args.text.now = omega arith in
+    let mid = special_cut c.args.text.now c.args.first more (c.requires.front.stops more) in
+    record {
+      start = mid;
+      stop = c.requires.stop;
+      tested = tested_on kind_of.Either c.args.text.now c.args.start c.args.first c.args.stop c.utf8.text c.requires.start mid c.requires.stop c.requires.front.onward (λ some. c.requires.chars);
+    }
+
+pub returns : goal.returns
+returns c = λ main es opener openings_left.
+    let src = c.args.text.now in
+    let i = c.args.start in
+    let j = c.args.first in
+    let put = rw (c.is_err.ensures.negation, c.if-is_err.false) at c.push_str.ensures.bytes in
+    let front : string_bytes c.push_str.new.self ≡ slice_range src i j = rw (c.in-Ok.ensures.bytes, c.range.ensures.value) at put in
+    let f = front_put src (string_bytes c.push_str.new.self) c.args.stop i j c.utf8.text (record { start = c.requires.start; stop = c.requires.stop; tested = λ some. c.requires.chars }) c.requires.before c.requires.front front in
+    let read = whole_value main es opener openings_left src (string_bytes c.push_str.new.self) _ c.args.stop i j c.put_plain_bits.result f c.put_plain_bits.ensures (omega (arith, c.if-put_plain_bits-stop.false)) in
+    elim c.if-len-count.branch [
+      | then-len-count w ↦ rw (w.out-is, w.shrink_to_fit.ensures.bytes) read
+      | else-len-count w ↦ rw (w.out-is) read
+    ]

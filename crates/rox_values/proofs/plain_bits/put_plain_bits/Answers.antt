@@ -1,0 +1,23 @@
+use Rattle.std.proofs.Common.{◌<◌, arith}
+use Rattle.std.specs.String.{string_bytes}
+use Rattle.rox_values.proofs.BitLemmas.{none_put, one_more, tested_on}
+use Rattle.rox_values.proofs.plain_bits.put_plain_bits.Goals as goal
+
+pub bits-init : goal.bits-init
+bits-init c = record {
+  done = none_put c.args.kind c.args.text.now (string_bytes c.args.out.now) c.args.stop c.args.start c.requires.start;
+  tested = c.requires.tested;
+}
+
+pub bits-preserved : goal.bits-preserved
+bits-preserved c =
+    let l = c.bits in
+    let n = c.put_bit-after.result in
+    let zero = c.if-after-eq0.false in
+    let some : 0 < n = omega arith in
+    let b = c.put_bit-after.ensures.put some in
+    let on = b.onward in
+    record {
+      done = one_more c.args.kind c.args.text.now _ (string_bytes l.out) _ c.args.stop c.args.start l.at n c.bits-test.true l.invariant.done b;
+      tested = tested_on c.args.kind c.args.text.now l.at n c.args.stop c.utf8.text l.invariant.done.cut b.cut c.requires.stop (omega (arith, on)) l.invariant.tested;
+    }

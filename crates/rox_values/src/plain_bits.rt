@@ -1,0 +1,248 @@
+//! The items of attribute values that need no entity: characters, references to characters, and white space (XML 1.0 sections 3.3.3
+//! and 4.1). They are appended one after another, up to a reference to an entity, a fault, or the end of memory.
+
+ghost use Rattle.std.specs.Prelude.{◌≡◌, ◌-◌, ℕ, Bool, List, Ok, IfSome};
+ghost use Rattle.std.specs.String.{string_bytes};
+ghost use Rattle.rox_grammar.specs.Entities.{Entity};
+ghost use Rattle.rox_reading.specs.Values as spec;
+ghost use Rattle.rox_values.specs.Values.{BeginsWhiteSpace, is_inner_byte};
+ghost use Rattle.rox_values.specs.PlainBits.{BeginsBit, BeginsReference, BeginsStretch, EndsInnerStretch, GivesCharacter, HasChange, IsRest, IsStretch, PutsBits, PutsOne};
+ghost use Rattle.rox_values.specs.declared.plain_bits.TextKind.TheVariants as kind_of;
+
+use crate::reference::{Reference, read_reference};
+use rox_bytes::byte_set::{ByteSet, skip_set};
+use rox_bytes::nibbles::by_low;
+use rox_bytes::runs::is_at;
+use rox_grammar::fault::Fault;
+use rox_scan::cursor::Cursor;
+use rox_scan::lookahead::{StretchByte, is_special};
+use std::alloc::Global;
+use std::simd::prelude::*;
+
+/// The kind of the text that has a value: the main text or a replacement text. `Either` means that it may be both, and that the
+/// value is of Chars other than `<`.
+#[derive(Clone, Copy)]
+pub enum TextKind {
+    Main,
+    Replacement,
+    Either,
+}
+
+/// Appends a space for the white space byte at `at`, or nothing for a CR right before a LF. Returns the offset after the byte, or 0
+/// if memory is refused.
+#[inline(always)]
+fn put_space(text: &str, at: usize, stop: usize, out: &mut String) -> usize
+    requires { BeginsWhiteSpace text.now at stop }
+    ensures { PutsOne kind_of.Either text.now at stop (string_bytes out.old)
+        (string_bytes out.new) result }
+{
+    let after = at + 1;
+    if text.as_bytes()[at] == b'\r' && is_at(&text[..stop], after, b'\n') {
+        return after;
+    }
+    if out.push(' ').is_err() {
+        return 0;
+    }
+    after
+}
+
+/// Returns the character that a reference to `character` gives in a value of a replacement text. TAB, LF and CR give a space.
+/// Returns `None` for a `<`, which is a fault (XML 1.0 sections 3.1 and 3.3.3).
+#[inline(always)]
+fn inner_given(character: char) -> Option<char>
+    ensures { IfSome result (λ c. GivesCharacter kind_of.Replacement character c) }
+{
+    if character == '<' {
+        return None;
+    }
+    if matches!(character, '\t' | '\n' | '\r') {
+        return Some(' ');
+    }
+    Some(character)
+}
+
+/// Returns the character that a reference to `character` gives in a value, or `None` if that is a fault. Also returns `None` if it
+/// depends on the kind of the text, which is not known: it does for `<`, TAB, LF and CR.
+#[inline(always)]
+fn given(character: char, kind: TextKind) -> Option<char>
+    ensures { IfSome result (λ c. GivesCharacter kind character c) }
+{
+    if character > '\r' && character != '<' {
+        return Some(character);
+    }
+    match kind {
+        TextKind::Main => Some(character),
+        TextKind::Replacement => inner_given(character),
+        TextKind::Either => None,
+    }
+}
+
+/// Appends the character that the reference at `at` gives in a value. Returns the offset after the reference, or 0 if it names an
+/// entity, if it is a fault, if what it gives depends on the kind of the text, or if memory is refused.
+#[inline(always)]
+fn put_reference(text: &str, at: usize, kind: TextKind, out: &mut String) -> usize
+    requires { BeginsReference text.now at }
+    ensures { (stop : ℕ) → PutsOne kind text.now at stop (string_bytes out.old)
+        (string_bytes out.new) result }
+{
+    let mut cursor = Cursor::at(text, at);
+    let Ok(Reference::Character(character)) = read_reference(&mut cursor) else {
+        return 0;
+    };
+    let Some(given) = given(character, kind) else {
+        return 0;
+    };
+    if out.push(given).is_err() {
+        return 0;
+    }
+    cursor.pos
+}
+
+/// The bytes of a value in a replacement text that do not change it: all except `<`, `&` and white space other than the space.
+struct InnerByte;
+
+// The bytes that are not in the set, each at its low half.
+const INNER_ENDS: [u8; 16] = [
+    1, 0, 0, 0, 0, 0, b'&', 0, 0, b'\t', b'\n', 0, b'<', b'\r', 0, 0,
+];
+
+impl ByteSet for InnerByte {
+    ghost test = { is_inner_byte };
+
+    #[inline(always)]
+    #[tactic(auto, unfolding(crate::specs::Values::is_inner_byte))]
+    fn has(byte: u8) -> bool {
+        !(is_special(byte) | (byte == b'<'))
+    }
+
+    #[inline(always)]
+    fn others(block: u8x16) -> u64 {
+        by_low(INNER_ENDS, block).simd_eq(block).to_bitmask()
+    }
+}
+
+/// Returns the end of the bytes of a value in a replacement text from `at` on that do not change it. A character that is not a Char
+/// is a fault, and so is a `<`.
+#[cold]
+#[inline(never)]
+pub(crate) fn inner_stretch_end(text: &str, at: usize, stop: usize) -> Result<usize, Fault>
+    requires { BeginsStretch kind_of.Replacement text.now at stop }
+    ensures { EndsInnerStretch text.now at stop result }
+{
+    let front = &text[..stop];
+    let end = skip_set::<InnerByte>(front, at);
+    let mut cursor = Cursor::at(text, at);
+    cursor.chars_up_to(end)?;
+    if is_at(front, end, b'<') {
+        return Err(Fault::InvalidAttributeValue(end));
+    }
+    Ok(end)
+}
+
+/// Returns the end of the bytes of a value from `at` on that do not change it, or `None` if there is a fault among them.
+#[inline(always)]
+fn stretch_end(text: &str, at: usize, stop: usize, kind: TextKind) -> Option<usize>
+    requires { BeginsStretch kind text.now at stop }
+    ensures { IfSome result (λ end. IsStretch kind text.now at stop end) }
+{
+    if let TextKind::Replacement = kind {
+        return inner_stretch_end(text, at, stop).ok();
+    }
+    Some(skip_set::<StretchByte>(text, at).min(stop))
+}
+
+/// Appends the bytes of a value from `at` on that do not change it. Returns the offset after them, or 0 if there is a fault among
+/// them or memory is refused.
+#[inline(always)]
+fn put_stretch(text: &str, at: usize, stop: usize, kind: TextKind, out: &mut String) -> usize
+    requires { BeginsStretch kind text.now at stop }
+    ensures { PutsOne kind text.now at stop (string_bytes out.old) (string_bytes out.new)
+        result }
+{
+    let Some(end) = stretch_end(text, at, stop, kind) else {
+        return 0;
+    };
+    if out.push_str(&text[at..end]).is_err() {
+        return 0;
+    }
+    end
+}
+
+/// Appends what the item of a value at `at` gives. Returns the offset after the item, or 0 if it is a reference to an entity or a
+/// fault, if it depends on the kind of the text, or if memory is refused.
+#[inline(always)]
+fn put_bit(text: &str, at: usize, stop: usize, kind: TextKind, out: &mut String) -> usize
+    requires { BeginsBit kind text.now at stop }
+    ensures { PutsOne kind text.now at stop (string_bytes out.old) (string_bytes out.new)
+        result }
+{
+    let here = text.as_bytes()[at];
+    if here == b'&' {
+        return put_reference(text, at, kind, out);
+    }
+    if matches!(here, b'\t' | b'\n' | b'\r') {
+        return put_space(text, at, stop, out);
+    }
+    put_stretch(text, at, stop, kind, out)
+}
+
+/// Appends what the value's text from `start` up to `stop` gives. Stops at a reference to an entity, at a fault, at an item that
+/// depends on the kind of the text, and where memory is refused. Returns the offset at which it stops, or the end.
+#[inline(always)]
+pub fn put_plain_bits(
+    text: &str,
+    start: usize,
+    stop: usize,
+    kind: TextKind,
+    out: &mut String,
+) -> usize
+    requires { IsRest kind text.now start stop }
+    ensures { PutsBits kind text.now start stop (string_bytes out.old) (string_bytes out.new)
+        result }
+{
+    let mut at = start;
+    'bits: while at < stop {
+        let after = put_bit(text, at, stop, kind, out);
+        if after == 0 {
+            return at;
+        }
+        at = after;
+    }
+    at
+}
+
+/// Returns the value of the text from `start` up to `stop`, or `None` if it depends on the kind of the text or on entities, or if
+/// memory is refused, which sets `lacking`. The first byte that changes it is at `first`. The function is out of line so that its
+/// variables stay in registers.
+#[inline(never)]
+pub fn changed_value(
+    alloc: Global,
+    text: &str,
+    start: usize,
+    first: usize,
+    stop: usize,
+    lacking: &mut bool,
+) -> Option<String>
+    requires { HasChange text.now start first stop }
+    ensures { IfSome result (λ s. (main : Bool) (es : List Entity) (opener : spec.ValueInclusion)
+        (openings_left : ℕ)
+        → spec.value_text main es opener (stop - start) text.now stop start openings_left
+        ≡ Ok (string_bytes s, openings_left)) }
+{
+    let count = stop - start;
+    let Ok(mut out) = String::with_capacity(alloc, count) else {
+        *lacking = true;
+        return None;
+    };
+    if out.push_str(&text[start..first]).is_err() {
+        return None;
+    }
+    if put_plain_bits(text, first, stop, TextKind::Either, &mut out) < stop {
+        return None;
+    }
+    // References can be far longer than the characters that they give.
+    if out.len() < count / 4 * 3 {
+        out.shrink_to_fit();
+    }
+    Some(out)
+}
