@@ -18,7 +18,7 @@ use Rattle.rox_rows.specs.declared.row.AttributeNamespace.{AttributeNamespace}
 use Rattle.rox_rows.specs.declared.attributes.AttributeTable.{AttributeTable}
 use Rattle.rox_rows.specs.declared.stored_attribute.StoredAttribute.{StoredAttribute}
 use Rattle.rox_names.specs.declared.seen_names.SeenNames.{SeenNames}
-use Rattle.rox_names.specs.SeenNames.{name_code, HasCode, HasNameOf, HaveCodes, AreSeen, SeesName}
+use Rattle.rox_names.specs.SeenNames.{name_code, HasCode, HasNameOf, HaveCodes, AreSeen, KeepsCodes, SeesName}
 use Rattle.rox_rows.proofs.Stable.{all_append, all_weaker}
 
 -- a code whose bit is clear is not there
@@ -99,6 +99,16 @@ seen_first seen rows from =
 -- none yet
 pub few_seen : (seen : SeenNames) (rows : List AttributeRow) → seen.from ≡ length rows → AreSeen seen rows
 few_seen seen rows from = record { from = omega arith; codes = λ more. absurd (omega (arith, from, more)) }
+
+-- where the codes and the tag stay
+pub seen_kept : (seen after : SeenNames) (rows : List AttributeRow) → KeepsCodes seen after → AreSeen seen rows → AreSeen after rows
+seen_kept seen after rows k h = record {
+  from = omega (arith, k.from, h.from);
+  codes = λ more.
+      let held = h.codes (omega (arith, k.from, more)) in
+      let coded = subst (λ (codes : List ℕ). AllByRecursion (λ (a : AttributeRow). HasNameOf codes a.0) (drop seen.from rows)) (sym k.codes) held in
+      subst (λ (n : ℕ). AllByRecursion (λ (a : AttributeRow). HasNameOf after.codes a.0) (drop n rows)) (sym k.from) coded;
+}
 
 -- the last three of these
 last_three : {X : Type 0} → (xs : List X) (i : ℕ) (x y z : X) → length xs ≡ i + 3 → x ≡ get_or xs i x → y ≡ get_or xs (i + 1) y → z ≡ get_or xs (i + 1 + 1) z

@@ -1,5 +1,5 @@
 -- Open elements, and the names and scopes that tables hold.
-use Rattle.std.specs.Prelude.{◌≡◌, ℕ, ◌+◌, ◌-◌, take, drop, slice_index, ◌<◌, ◌≤◌, List, Option, Ok, length, map}
+use Rattle.std.specs.Prelude.{◌≡◌, ℕ, ◌+◌, take, drop, slice_index, ◌<◌, ◌≤◌, List, Option, Ok, length, map}
 use Rattle.std.specs.Str.{IsUtf8}
 use Rattle.std.specs.Option.{option_map}
 use Rattle.rox_grammar.specs.Written.{Name}

@@ -12,10 +12,10 @@ use Rattle.rox_grammar.specs.WellNamed.{is_known, may_name}
 use Rattle.rox_grammar.specs.Written.{Attribute, Name, NamespaceDecl}
 use Rattle.rox_scopes.specs.Bindings.{FindsBinding, LooksWithin}
 use Rattle.rox_names.specs.ExpandedNames.{HasExpandedNames, Key, TestedOr}
-use Rattle.rox_names.specs.ResolvedNames.{has_expanded, AddsNew, AddsResolved, IsNamespaceOf, StandsInOrder, Tested}
+use Rattle.rox_names.specs.ResolvedNames.{has_expanded, AddsNew, IsNamespaceOf, Tested}
 use Rattle.rox_rows.specs.Rows.{AttributeRow, NamespaceWithin, OptionWithin, attribute, namespace_at}
 use Rattle.rox_scopes.specs.Tables.{namespace_view}
-use Rattle.rox_names.specs.SeenNames.{HasNameOf, HoldsSeen, KeepsCodes, PutsSeen, SeesName}
+use Rattle.rox_names.specs.SeenNames.{HasNameOf, KeepsCodes, PutsSeen, SeesName}
 use Rattle.rox_rows.specs.StoredAttributes.{data_of}
 use Rattle.rox_names.specs.TagDeclarations.{unresolved_view}
 use Rattle.rox_scopes.specs.declared.bindings.PrefixBindings.{PrefixBindings}
@@ -61,17 +61,6 @@ pub record TestsKey (table : List Namespace) (few : Option (List ℕ)) (present 
   pub more : IfOk result (λ s. (done : List AttributeData) (a : AttributeData)
       → HasExpandedNames (map namespace_view table) old done → a.namespace ≡ s → a.local ≡ taken.name.local
       → HasExpandedNames (map namespace_view table) new (done ++ a ∷ []))
-
--- An attribute can be appended to those of its tag, which are recorded.
-pub record MayPut (namespaces : ℕ) (few : Option (List ℕ)) (present : PrefixBindings) (seen : SeenNames) (rows : List AttributeRow) (one : UnresolvedAttribute) : Type 0 where
-  pub within : LooksWithin namespaces few present
-  pub places : StandsInOrder one
-  pub tag : HoldsSeen namespaces seen rows
-
--- The attribute is appended with its namespace and recorded, or it is refused.
-pub record PutsResolved (namespaces : List NamespaceDecl) (few : Option (List ℕ)) (present : PrefixBindings) (seen after : SeenNames) (rows new : List AttributeRow) (one : UnresolvedAttribute) (put : Bool) : Type 0 where
-  pub puts : PutsSeen seen after rows new put
-  pub added : put ≡ true → AddsResolved namespaces few present seen.from rows new one
 
 -- The row is appended and recorded, or it is refused.
 pub record PutsNew (namespaces : List NamespaceDecl) (seen after : SeenNames) (rows new : List AttributeRow) (row : AttributeRow) (put : Bool) : Type 0 where

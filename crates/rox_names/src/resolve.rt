@@ -12,7 +12,7 @@ ghost use Rattle.rox_scopes.specs.Scopes.{prefix_view};
 ghost use Rattle.rox_scopes.specs.Bindings.{FindsBinding, LooksWithin, places_view};
 ghost use Rattle.rox_names.specs.ResolvedNames.{row_of_unresolved, row_of_usual, has_expanded, Resolves};
 ghost use Rattle.rox_names.specs.SeenNames.{TakesOneMore};
-ghost use Rattle.rox_names.specs.TagNames.{AreAmong, FindsElement, FindsNamespace, MayLookUp, MayPut, MayRefuse, MayTest, PutsNew, PutsResolved, TellsRefused, TestsKey, TestsName};
+ghost use Rattle.rox_names.specs.TagNames.{AreAmong, FindsElement, FindsNamespace, MayLookUp, MayRefuse, MayTest, PutsNew, TellsRefused, TestsKey, TestsName};
 
 use crate::expanded_names::is_repeated_name;
 use crate::namespace_decl::{local_span, prefix_span};
@@ -25,7 +25,7 @@ use rox_rows::attributes::AttributeTable;
 use rox_rows::compare::same_text;
 use rox_rows::row::{AttributeData, AttributeNamespace, AttributePlaces};
 use rox_rows::storage::StringStorage;
-use rox_rows::stored_attribute::{StoredAttribute, UNUSUAL};
+use rox_rows::stored_attribute::StoredAttribute;
 use rox_scopes::bindings::PrefixBindings;
 use rox_scopes::namespace_table::NamespaceTable;
 use rox_scopes::scope::{XML_URI, find_default, find_prefix, same_prefix};
@@ -190,59 +190,6 @@ fn move_row<'input>(
     (data, places)
 }
 
-/// Appends an attribute of a tag to the table, with its namespace in this scope. The attributes before it in its tag are recorded
-/// in `seen`. Returns false, with the table unchanged, if its prefix is not known or its expanded name repeats. Also returns
-/// false if many codes repeat, or there is no room.
-#[inline(always)]
-pub fn put_resolved<'input>(
-    namespaces: &[Namespace<'input>],
-    few: Option<&[u16]>,
-    present: &PrefixBindings<'_>,
-    attributes: &mut AttributeTable<'input>,
-    seen: &mut SeenNames,
-    one: UnresolvedAttribute<'input>,
-) -> bool
-    requires { MayPut (length namespaces.now) (places_view few) present.now seen.old
-        (attribute_rows attributes.old) one }
-    ensures { PutsResolved (map namespace_view namespaces.now) (places_view few.entry) present.now
-        seen.old seen.new (attribute_rows attributes.old) (attribute_rows attributes.new)
-        one.entry result }
-{
-    if seen.are_many_again() {
-        return false;
-    }
-    seen.put_few(attributes);
-    let done = &attributes.items[seen.from..];
-    let Ok(namespace) = tested_namespace(namespaces, few, present, done, seen, &one) else {
-        return false;
-    };
-    let places = AttributePlaces {
-        start: one.start,
-        name_end: one.name_end,
-        value_start: one.value_start,
-        end: one.end,
-    };
-    // Each branch has a value of its own, so that the usual branch keeps its one in registers.
-    let before = one.name_end - one.start - one.name.local.len();
-    if before >= UNUSUAL as usize || one.value_start != one.name_end + 2 {
-        let unusual = AttributeData {
-            local: one.name.local,
-            value: one.value,
-            namespace,
-        };
-        return attributes.put_unusual(unusual, places);
-    }
-    if !attributes.has_room(one.end) {
-        return false;
-    }
-    let item = AttributeData {
-        local: one.name.local,
-        value: one.value,
-        namespace,
-    };
-    attributes.put_usual(item, places, before as u8)
-}
-
 /// Returns whether an attribute is refused whose code repeats: an attribute of its tag has its expanded name, or many codes
 /// repeat.
 #[cold]
@@ -301,7 +248,7 @@ pub fn put_usual_attribute<'input>(
 
 /// Like `put_usual_attribute`, but for an attribute with any offsets and a value that may be owned.
 #[inline(always)]
-pub fn put_changed<'input>(
+pub fn put_attribute_of<'input>(
     namespaces: &NamespaceTable<'input>,
     attributes: &mut AttributeTable<'input>,
     seen: &mut SeenNames,

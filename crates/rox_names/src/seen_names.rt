@@ -25,6 +25,8 @@ pub struct SeenNames {
     pub near: usize,
     /// The owned values stored for sharing, of all tags; `None` before there is one.
     pub values: Option<Box<Recent>>,
+    /// Whether memory was refused for what the quick reader wanted to put.
+    pub lacking: bool,
 }
 
 /// If more codes repeat, a tag is left to the general step: its names were chosen for that.
@@ -95,6 +97,7 @@ impl SeenNames {
             again: 0,
             near: 0,
             values: None,
+            lacking: false,
         }
     }
 

@@ -15,8 +15,6 @@ pub struct StartTag<'input> {
     pub element: ElementData<'input>,
     /// Whether it ends with `/>`.
     pub empty: bool,
-    /// How many replacement texts may be opened after it.
-    pub openings_left: u32,
 }
 
 /// Buffers that are reused for each start tag.

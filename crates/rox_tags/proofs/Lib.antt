@@ -1,6 +1,8 @@
 pub mod Taking
 pub mod Starting
 pub mod Moving
-pub mod SpacedValues
 pub mod SpacedEnds
 pub mod PlainTags
+pub mod TagAttributes
+pub mod OwnNames
+pub mod WholeTags

@@ -88,7 +88,7 @@ pub plain_moves : (old new : ElementTables) (above : List NamespaceDecl) (src : 
     → IsPlainTag old new above src i j t → i < j
 plain_moves old new above src i j t utf8 x =
     let context : Values = record { main = true; entities = []; opener = λ text after l. Ok ([], l) } in
-    tag_moves src utf8 context fault.NoRootNode above _ _ i t.openings_left _ (x.read context fault.NoRootNode)
+    tag_moves src utf8 context fault.NoRootNode above _ _ i 0 _ (x.read context fault.NoRootNode 0)
 
 -- ---- constructs
 

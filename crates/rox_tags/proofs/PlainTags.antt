@@ -1,54 +1,32 @@
 -- Start tags that are read at one look.
-use Rattle.std.proofs.Common.{◌≡◌, ◌≢◌, inl, inr, ℕ, suc, ◌+◌, ◌-◌, ◌<◌, ◌≤◌, ◌||◌, ◌==◌, Bool, true, false, List, [], ◌∷◌, ◌++◌, Option, length, map, drop, slice_index, slice_range, refl, sym, ap, subst, ◌∙◌, arith, Ok, append_assoc, bytes_eq}
-use Rattle.std.specs.List.{AllByRecursion}
+use Rattle.std.proofs.Common.{◌≡◌, ◌≢◌, inl, inr, ℕ, suc, ◌+◌, ◌-◌, ◌<◌, ◌≤◌, ◌||◌, ◌==◌, Bool, true, false, List, [], ◌∷◌, Option, length, map, slice_index, slice_range, refl, sym, ap, subst, ◌∙◌, arith, Ok, bytes_eq}
 use Rattle.std.proofs.lemmas.Bool.{lt-leb, eqb-true, ne_eqb, cases_lt}
-use Rattle.std.proofs.lemmas.List.{append-nil, map-append, length-map}
 use Rattle.std.proofs.Common.{Some, None}
-use Rattle.std.specs.Option.{IfSome}
 use Rattle.rox_scopes.specs.declared.tables.Namespace.{Namespace}
-use Rattle.rox_tags.specs.declared.quick_tag.TagEnd.{TagEnd}
-use Rattle.std.proofs.Common.{length-append}
 use Rattle.std.specs.Option.{option_map, is_some}
 use Rattle.rox_grammar.specs.WellNamed.{may_name}
 use Rattle.rox_scopes.proofs.Pairs.{declared_some}
 use Rattle.rox_grammar.specs.Tree.{listed, element_namespace}
-use Rattle.rox_grammar.specs.Document.{most_attributes}
-use Rattle.rox_rows.specs.Rows.{numbered_place, scope_at, namespace_at, OptionWithin, attribute_rows}
+use Rattle.rox_rows.specs.Rows.{numbered_place, scope_at, namespace_at}
 use Rattle.rox_scopes.specs.Scopes.{ArePlaces, PrefixesOnce, entries, places_in}
 use Rattle.rox_scopes.specs.TagScopes.{lists_in}
 use Rattle.rox_rows.specs.UsualPlaces.{usual_places}
-use Rattle.rox_rows.specs.declared.row.ElementData.{ElementData}
 use Rattle.rox_scopes.specs.declared.tables.ElementTables.{ElementTables}
 use Rattle.rox_scopes.specs.declared.tables.Scope.{Scope}
-use Rattle.rox_scopes.proofs.Listing.{listed-none}
 use Rattle.rox_scopes.proofs.Presenting.{finds_few}
 use Rattle.rox_scopes.proofs.Ropes.{scope_places, all_places}
-use Rattle.rox_tags.specs.ElementRow.{IsElement}
-use Rattle.std.proofs.Math.Seq.{drop-append_seam}
 use Rattle.rox_rows.specs.declared.row.AttributeNamespace.{AttributeNamespace}
-use Rattle.rox_grammar.specs.Tree as tree
-use Rattle.rox_grammar.specs.Tree.{attribute_in}
-use Rattle.rox_grammar.specs.Failures.{name_view}
 use Rattle.rox_grammar.specs.Content.{is_verbatim_value}
-use Rattle.rox_grammar.specs.declared.fault.Fault.{Fault}
 use Rattle.rox_grammar.specs.Entities.{Entity}
 use Rattle.rox_grammar.specs.Names.{spaces_end}
-use Rattle.rox_grammar.specs.Written.{Name, Attribute, NamespaceDecl, is_namespace_decl}
+use Rattle.rox_grammar.specs.Written.{Name, NamespaceDecl}
 use Rattle.rox_reading.specs.Lexical.{qname_at, quote_at}
-use Rattle.rox_reading.specs.Markup.{RawAttribute, TagItem, more, opened, closed, attribute_at, raw_value_at, tag_item_at, end_tag_at}
+use Rattle.rox_reading.specs.Markup.{RawAttribute, more, opened, closed, attribute_at, raw_value_at, tag_item_at, end_tag_at}
 use Rattle.rox_reading.specs.Values.{ValueInclusion, is_special, value_at}
-use Rattle.rox_reading.specs.Tags.{Values, attributes_at, names_tested, attribute_with}
 use Rattle.rox_scopes.specs.Bindings.{FindsBinding}
-use Rattle.rox_rows.specs.Rows.{AttributeRow, NamespaceWithin, attribute}
 use Rattle.rox_scopes.specs.Tables.{namespace_view}
-use Rattle.rox_rows.specs.Storage.{storage_bytes, is_borrowed}
-use Rattle.rox_names.specs.TagDeclarations.{unresolved_view}
-use Rattle.rox_names.specs.ResolvedNames.{AddsResolved, row_of_unresolved}
-use Rattle.rox_scopes.specs.declared.bindings.PrefixBindings.{PrefixBindings}
-use Rattle.rox_names.specs.declared.unresolved_attribute.UnresolvedAttribute.{UnresolvedAttribute}
-use Rattle.rox_rows.proofs.Stable.{all_append}
 use Rattle.rox_tags.specs.PlainParts.{IsAttributeNamespace, IsLocalPart}
-use Rattle.rox_tags.specs.PlainTag.{EndsVerbatim, HasPlainValue, HasScope, IsQuoteBehindEquals, few_in, IsValueStart, IsPlainAttribute, AddsPlain, PlainSoFar, ArePlainAttributes, EndsNear, holding}
+use Rattle.rox_tags.specs.PlainTag.{EndsVerbatim, HasPlainValue, HasScope, IsQuoteBehindEquals, few_in, IsValueStart, EndsNear}
 use Rattle.std.specs.Str.{IsUtf8, IsCharBoundary}
 use Rattle.std.proofs.lemmas.Bool.Decides.{nat_tests}
 use Rattle.std.proofs.lemmas.Str.{IsCharBoundary-after_ascii}
@@ -63,7 +41,6 @@ use Rattle.rox_bytes.proofs.TableLemmas.{agree_below, agree_at}
 use Rattle.std.proofs.Common.{not, ◌&&◌, nat_lt}
 use Rattle.rox_grammar.specs.Runs.{begins, run_end}
 use Rattle.rox_bytes.proofs.RunLemmas.{begins_ascii, run_stops_ascii, space_on, space_stops, space_cut, stands_within}
-use Rattle.rox_names.proofs.Resolving.{nothing_left, row_shown}
 use Rattle.rox_scan.proofs.PairLemmas.{byte_is}
 
 quote_is : (src : List ℕ) (i q : ℕ) → slice_index src i ≡ q → i < length src → (q == 39 || q == 34) ≡ true → quote_at src i ≡ Ok (q, i + 1)
@@ -196,127 +173,11 @@ item_more src i j e raw spaces some slash close within is =
     let n = ne_eqb j i some in
     rw (← spaces, k, slash, close, n, is) refl
 
--- whether a tag that ends so is empty
-abbrev IsEnd : TagItem → Bool → Type 0
-IsEnd (more raw) empty = ⊥
-IsEnd opened empty = empty ≡ false
-IsEnd closed empty = empty ≡ true
-
--- ---- one attribute after another
-
-pub plain_starts : (namespaces : List NamespaceDecl) (few : Option (List ℕ)) (present : PrefixBindings) (src : List ℕ) (start : ℕ) (old : List AttributeRow) → PlainSoFar namespaces few present src start old start old
-plain_starts namespaces few present src start old = record {
-  written = [];
-  more = [];
-  rows = sym (append-nil old);
-  within = tt;
-  shown = λ scope h. refl;
-  tested = λ scope rest h. refl;
-  turns = length src;
-  enough = omega arith;
-  read = λ context cut known openings_left. refl;
-}
-
 -- a value is read as it stands
 pub value_is : (main : Bool) (es : List Entity) (opener : ValueInclusion) (src : List ℕ) (i j openings_left : ℕ) → is_verbatim_value (slice_range src i j) ≡ true
     → value_at main es opener src i j openings_left ≡ Ok (record { value = slice_range src i j; borrowed = true }, openings_left)
 unfolding value_at
 value_is main es opener src i j openings_left plain = rw plain refl
-
--- one turn
-turn_is : (src : List ℕ) (i j n : ℕ) (a : UnresolvedAttribute) (written : List Attribute) (context : Values) (cut : Fault) (known : List NamespaceDecl) (openings_left : ℕ) (h : IsPlainAttribute src j a)
-    → i < length src → tag_item_at src i ≡ Ok (more (record { start = j; name = name_view a.name; name_end = a.name_end; value_start = a.value_start; value_end = h.value_end }), a.end)
-    → is_namespace_decl (name_view a.name) ≡ false
-    → attributes_at (suc n) context cut known src i openings_left (holding written) ≡ attributes_at n context cut known src a.end openings_left (holding (written ++ unresolved_view a ∷ []))
-unfolding attributes_at
-turn_is src i j n a written context cut known openings_left h within item other =
-    let k = lt-leb (length src) i within in
-    let v = h.value context.main context.entities context.opener openings_left in
-    let view : attribute_with (record { start = j; name = name_view a.name; name_end = a.name_end; value_start = a.value_start; value_end = h.value_end }) (record { value = storage_bytes a.value; borrowed = is_borrowed a.value }) ≡ unresolved_view a =
-    rw (h.start, h.end) refl in
-    rw (k, item, v, other) (ap (λ (x : Attribute). attributes_at n context cut known src a.end openings_left (holding (written ++ x ∷ []))) view)
-
-pub plain_more : (namespaces : List NamespaceDecl) (few : Option (List ℕ)) (present : PrefixBindings) (src : List ℕ) (start : ℕ) (old : List AttributeRow) (i j : ℕ) (now next : List AttributeRow) (a : UnresolvedAttribute)
-    → PlainSoFar namespaces few present src start old i now → i ≤ j → j ≡ spaces_end src i → (j ≡ i → ⊥) → (slice_index src j == 47) ≡ false → (slice_index src j == 62) ≡ false
-    → IsPlainAttribute src j a → is_namespace_decl (name_view a.name) ≡ false → AddsResolved namespaces few present (length old) now next a
-    → PlainSoFar namespaces few present src start old a.end next
-plain_more namespaces few present src start old i j now next a g onward spaces some slash close plain other r =
-    let row = row_of_unresolved a r.namespace in
-    let view = unresolved_view a in
-    let on = plain.onward in
-    let fits = plain.cut.0 in
-    let within : j < length src = omega arith in
-    let here : i < length src = omega arith in
-    let enough = g.enough in
-    let n = g.turns - 1 in
-    let one : g.turns ≡ suc n = omega arith in
-    let behind : drop (length old) now ≡ g.more = ap (drop (length old)) g.rows ∙ drop-append_seam old g.more in
-    let item = item_more src i j a.end _ spaces some slash close within plain.read in
-    record {
-      written = g.written ++ view ∷ [];
-      more = g.more ++ row ∷ [];
-      rows = r.rows ∙ ap (λ xs. xs ++ row ∷ []) g.rows ∙ append_assoc old g.more (row ∷ []);
-      within = all_append (λ a. NamespaceWithin (length namespaces) a.0.namespace) g.more (row ∷ []) g.within (r.within, tt);
-      shown = λ scope h. map-append (attribute namespaces) g.more (row ∷ []) ∙ ap (λ xs. xs ++ attribute namespaces row ∷ []) (g.shown scope h)
-          ∙ ap (λ (x : tree.Attribute). map (attribute_in scope) g.written ++ x ∷ []) (row_shown namespaces scope a r.namespace (r.there scope h))
-          ∙ sym (map-append (attribute_in scope) g.written (view ∷ []));
-      tested = λ scope rest h. ap (names_tested scope []) (append_assoc g.written (view ∷ []) rest) ∙ g.tested scope (view ∷ rest) h
-          ∙ r.tested scope g.written rest h (ap (map (attribute namespaces)) behind ∙ g.shown scope h);
-      turns = n;
-      enough = omega arith;
-      read = λ context cut known openings_left. g.read context cut known openings_left ∙ ap (λ (m : ℕ). attributes_at m context cut known src i openings_left (holding g.written)) one
-          ∙ turn_is src i j n a g.written context cut known openings_left plain here item other;
-    }
-
-end_is : (src : List ℕ) (i n j : ℕ) (item : TagItem) (empty : Bool) (written : List Attribute) (context : Values) (cut : Fault) (known : List NamespaceDecl) (openings_left : ℕ) → i < length src → tag_item_at src i ≡ Ok (item, j)
-    → IsEnd item empty → attributes_at (suc n) context cut known src i openings_left (holding written) ≡ Ok (record { held = holding written; empty = empty; openings_left = openings_left }, j)
-unfolding attributes_at
-end_is src i n j (more raw) empty written context cut known openings_left within is h = absurd h
-end_is src i n j opened empty written context cut known openings_left within is h = let k = lt-leb (length src) i within in rw (k, is, h) refl
-end_is src i n j closed empty written context cut known openings_left within is h = let k = lt-leb (length src) i within in rw (k, is, h) refl
-
-pub plain_ends : (namespaces : List NamespaceDecl) (few : Option (List ℕ)) (present : PrefixBindings) (src : List ℕ) (start : ℕ) (old : List AttributeRow) (i j : ℕ) (now : List AttributeRow) (item : TagItem) (empty : Bool)
-    → PlainSoFar namespaces few present src start old i now → i < length src → tag_item_at src i ≡ Ok (item, j) → IsEnd item empty → ArePlainAttributes namespaces few present src start old j empty now
-plain_ends namespaces few present src start old i j now item empty g within is h =
-    let enough = g.enough in
-    let n = g.turns - 1 in
-    let one : g.turns ≡ suc n = omega arith in
-    record {
-      written = g.written;
-      more = g.more;
-      rows = g.rows;
-      within = g.within;
-      shown = g.shown;
-      tested = λ scope k. ap (names_tested scope []) (sym (append-nil g.written)) ∙ g.tested scope [] k ∙ nothing_left scope g.written;
-      read = λ context cut known openings_left. g.read context cut known openings_left ∙ ap (λ (m : ℕ). attributes_at m context cut known src i openings_left (holding g.written)) one
-          ∙ end_is src i n j item empty g.written context cut known openings_left within is h;
-    }
-
--- of an empty tag, and of one that opens
-pub opens_there : (namespaces : List NamespaceDecl) (few : Option (List ℕ)) (present : PrefixBindings) (src : List ℕ) (start : ℕ) (old : List AttributeRow) (i j : ℕ) (now : List AttributeRow)
-    → PlainSoFar namespaces few present src start old i now → i ≤ j → j ≡ spaces_end src i → slice_index src j ≡ 62 → ArePlainAttributes namespaces few present src start old (j + 1) false now
-opens_there namespaces few present src start old i j now g onward spaces here =
-    let within = stands_within src j 62 here (omega arith) in
-    plain_ends namespaces few present src start old i (j + 1) now opened false g (omega arith) (item_opened src i j spaces here) refl
-
-pub closes_there : (namespaces : List NamespaceDecl) (few : Option (List ℕ)) (present : PrefixBindings) (src : List ℕ) (start : ℕ) (old : List AttributeRow) (i j : ℕ) (now : List AttributeRow)
-    → PlainSoFar namespaces few present src start old i now → i ≤ j → j ≡ spaces_end src i → slice_index src j ≡ 47 → slice_index src (j + 1) ≡ 62
-    → ArePlainAttributes namespaces few present src start old (j + 2) true now
-closes_there namespaces few present src start old i j now g onward spaces here behind =
-    let within = stands_within src j 47 here (omega arith) in
-    plain_ends namespaces few present src start old i (j + 2) now closed true g (omega arith) (item_closed src i j spaces here behind) refl
-
-pub ends_or_not : (namespaces : List NamespaceDecl) (few : Option (List ℕ)) (present : PrefixBindings) (src : List ℕ) (start : ℕ) (old : List AttributeRow) (i j : ℕ) (now : List AttributeRow) (r : Option TagEnd)
-    → PlainSoFar namespaces few present src start old i now → i ≤ j → j ≡ spaces_end src i
-    → IfSome r (λ e. e.empty ≡ false → (slice_index src j ≡ 62) × (e.at ≡ j + 1))
-    → IfSome r (λ e. e.empty ≡ true → (slice_index src j ≡ 47) × ((slice_index src (j + 1) ≡ 62) × (e.at ≡ j + 2)))
-    → IfSome r (λ e. ArePlainAttributes namespaces few present src start old e.at e.empty now)
-ends_or_not namespaces few present src start old i j now None g onward spaces opens closes = tt
-ends_or_not namespaces few present src start old i j now (Some e) g onward spaces opens closes = which e.empty refl
-  where
-    which : (b : Bool) → e.empty ≡ b → ArePlainAttributes namespaces few present src start old e.at e.empty now
-    which false is = let o = opens is in rw (o.1, is) (opens_there namespaces few present src start old i j now g onward spaces o.0)
-    which true is = let c = closes is in rw (c.1.1, is) (closes_there namespaces few present src start old i j now g onward spaces c.0 c.1.0)
 
 -- a name begins with no other byte
 begins_apart : (src : List ℕ) (j b : ℕ) → IsUtf8 src → begins is_name_start src j ≡ true → 0 < b → b < 128 → is_name_start b ≡ false → (slice_index src j == b) ≡ false
@@ -386,13 +247,6 @@ quote_first src i j q name behind =
       stops = λ more. ap is_value_byte behind.here ∙ no_quote_is_plain q behind.quote;
     }
 
--- the attributes of the tag so far are in their namespaces
-pub done_within : (ns : List Namespace) (few : Option (List ℕ)) (present : PrefixBindings) (src : List ℕ) (start from : ℕ) (old : List AttributeRow) (i : ℕ) (now : List AttributeRow)
-    → PlainSoFar (map namespace_view ns) few present src start old i now → from ≡ length old → AllByRecursion (λ (a : AttributeRow). NamespaceWithin (length ns) a.0.namespace) (drop from now)
-done_within ns few present src start from old i now g at =
-    let behind : drop from now ≡ g.more = ap (λ (n : ℕ). drop n now) at ∙ ap (drop (length old)) g.rows ∙ drop-append_seam old g.more in
-    rw behind (subst (λ (n : ℕ). AllByRecursion (λ (a : AttributeRow). NamespaceWithin n a.0.namespace) g.more) (length-map ns namespace_view) g.within)
-
 -- ---- the scope of the tag is that of its parent, which lists few
 
 pub few_within : (t : ElementTables) (ns : List Namespace) (scopes : List Scope) (listed ps : List ℕ) (scope : ℕ) → ns ≡ t.namespaces.items.items → scopes ≡ t.scopes.items → listed ≡ t.listed.items
@@ -419,15 +273,9 @@ few_is t scopes listed ps scope s l few = rw (s, l) at few
 pub scope_found : (t : ElementTables) (scope : ℕ) → FindsBinding (map namespace_view t.namespaces.items.items) (few_in t scope) t.present (scope_at (lists_in t) scope)
 scope_found t scope = few_found t t.namespaces.items.items t.scopes.items t.listed.items (places_in t.listed.items t.scopes.items scope) scope refl refl refl refl
 
--- where the attributes alone have changed, the scope is there, and attributes are added in it
+-- where the attributes alone have changed, the scope is there
 pub scope_stays : (old now : ElementTables) (scope : ℕ) → now ≡ record old { attributes = now.attributes } → HasScope old scope → HasScope now scope
 scope_stays old now scope is h = subst (λ (t : ElementTables). HasScope t scope) (sym is) (record { places = h.places; scopes = h.scopes; within = h.within; once = h.once })
-
-pub adds_there : (old now : ElementTables) (scope from : ℕ) (src : List ℕ) (i j : ℕ) (before after : List AttributeRow) → now ≡ record old { attributes = now.attributes }
-    → AddsPlain (map namespace_view now.namespaces.items.items) (few_in now scope) now.present from src i j before after
-    → AddsPlain (map namespace_view old.namespaces.items.items) (few_in old scope) old.present from src i j before after
-adds_there old now scope from src i j before after is x =
-    subst (λ (t : ElementTables). AddsPlain (map namespace_view t.namespaces.items.items) (few_in t scope) t.present from src i j before after) is x
 
 pub others_stay : (old now new : ElementTables) → now ≡ record old { attributes = now.attributes } → new ≡ record now { attributes = new.attributes } → new ≡ record old { attributes = new.attributes }
 others_stay old now new one other = other ∙ ap (λ (t : ElementTables). record t { attributes = new.attributes }) one
@@ -459,36 +307,6 @@ bare_namespace t n name bare = record {
   there = λ ds h. rw bare refl;
   known = λ ds h. rw bare refl;
 }
-
--- what the tables hold of a plain tag
-pub plain_element : (old new : ElementTables) (e : ElementData) (above : List NamespaceDecl) (few : Option (List ℕ)) (src : List ℕ) (start j : ℕ) (empty : Bool) (name : Name)
-    → (x : ArePlainAttributes (map namespace_view old.namespaces.items.items) few old.present src start (attribute_rows old.attributes) j empty (attribute_rows new.attributes))
-    → FindsBinding (map namespace_view old.namespaces.items.items) few old.present above → new ≡ record old { attributes = new.attributes }
-    → e.attributes_from ≡ length (attribute_rows old.attributes) → e.attributes_until ≡ length (attribute_rows new.attributes) → length (attribute_rows new.attributes) ≤ most_attributes → e.local.now ≡ name.local
-    → option_map (λ i. (namespace_at (map namespace_view old.namespaces.items.items) i).uri) (numbered_place e.namespace) ≡ element_namespace above name → OptionWithin (length old.namespaces.items.items) (numbered_place e.namespace)
-    → e.scope < length old.scopes.items → scope_at (lists_in old) e.scope ≡ above → IsElement old new e (listed above []) name x.written
-plain_element old new e above few src start j empty name x finds others from until most local namespace within scope lists =
-    let none = listed-none above in
-    let namespaces : map namespace_view new.namespaces.items.items ≡ map namespace_view old.namespaces.items.items = ap (λ (t : ElementTables). map namespace_view t.namespaces.items.items) others in
-    record {
-      attributes = record { more = x.more; grown = x.rows; same = rw (none, namespaces) (x.shown above finds); within = rw namespaces x.within };
-      attributes_from = from;
-      attributes_until = until;
-      few = most;
-      local = local;
-      namespace = rw (none, namespaces) namespace;
-      namespace_within = rw (ap (λ (t : ElementTables). length t.namespaces.items.items) others) within;
-      scope_within = rw (ap (λ (t : ElementTables). length t.scopes.items) others) scope;
-      lists = rw (ap lists_in others, none) lists;
-    }
-
--- how many attributes the tag has
-pub plain_count : (namespaces scope : List NamespaceDecl) (few : Option (List ℕ)) (present : PrefixBindings) (src : List ℕ) (start : ℕ) (old : List AttributeRow) (j : ℕ) (empty : Bool) (new : List AttributeRow)
-    → (x : ArePlainAttributes namespaces few present src start old j empty new) → FindsBinding namespaces few present scope → length old + length x.written ≡ length new
-plain_count namespaces scope few present src start old j empty new x finds =
-    let n = ap length x.rows ∙ length-append old x.more in
-    let m : length x.more ≡ length x.written = sym (length-map x.more (attribute namespaces)) ∙ ap length (x.shown scope finds) ∙ length-map x.written (attribute_in scope) in
-    omega arith
 
 -- an end tag, piece by piece
 pub end_tag_is : (src : List ℕ) (i : ℕ) (name : Name) (n e : ℕ) → qname_at src (i + 2) ≡ Ok (name, n) → e ≡ spaces_end src n → slice_index src e ≡ 62

@@ -1,16 +1,20 @@
 -- Where a value ends that has a reference, or white space which is no space.
-use Rattle.std.proofs.Common.{◌≡◌, ℕ, ◌+◌, ◌-◌, ◌<◌, ◌≤◌, ◌==◌, ◌||◌, true, false, not, List, length, get_or, slice_range, drop, refl, sym, ap, ◌∙◌, arith, get_or-drop, length-drop}
+use Rattle.std.proofs.Common.{◌≡◌, ℕ, ◌+◌, ◌-◌, ◌<◌, ◌≤◌, ◌==◌, ◌||◌, Bool, true, false, not, List, Ok, length, get_or, slice_range, drop, inl, inr, refl, sym, ap, ◌∙◌, arith, get_or-drop, length-drop}
 use Rattle.std.specs.List.{list_any}
 use Rattle.std.specs.Str.{IsUtf8, IsCharBoundary}
+use Rattle.std.proofs.lemmas.Bool.{cases_lt}
 use Rattle.std.proofs.lemmas.Bool.Decides.{nat_tests}
 use Rattle.std.proofs.lemmas.List.{get_or-take, length-take-le}
 use Rattle.std.proofs.lemmas.List.Folds.{list_any_at}
-use Rattle.rox_reading.specs.Values.{is_special}
+use Rattle.rox_reading.specs.Values.{ValueInclusion, is_special, value_at, value_text}
+use Rattle.rox_grammar.specs.Content.{is_verbatim_value}
+use Rattle.rox_grammar.specs.Entities.{Entity}
 use Rattle.rox_grammar.specs.Constructs.{AreChars}
-use Rattle.rox_bytes.specs.ByteSets.{AllPass, is_char_byte, is_value_byte, is_wide_value_byte}
+use Rattle.rox_bytes.specs.ByteSets.{AllPass, EndsSet, is_char_byte, is_stretch_byte, is_value_byte, is_wide_value_byte}
 use Rattle.rox_scan.specs.Lookahead.{IsLookahead, ends_value}
 use Rattle.rox_scan.proofs.LongerLemmas.{near_looked, char_looked, looked_on, wide_open}
-use Rattle.rox_bytes.proofs.NearLemmas.{value_is_plain, value_cut, value_apart}
+use Rattle.rox_bytes.proofs.NearLemmas.{value_is_plain, value_cut, value_apart, none_among, stretch_plain}
+use Rattle.rox_tags.specs.PlainTag.{EndsVerbatim}
 use Rattle.rox_tags.specs.SpacedBytes.{is_spaced_byte, none_changes}
 
 spaced_is_plain : (b : ℕ) → is_spaced_byte b ≡ true → is_char_byte b ≡ true
@@ -68,3 +72,50 @@ spaced_looked src quote i j k e utf8 q start le within front rest low high here 
       apart = look.apart;
       verbatim_is = sym (ap not (changed_among src i k e (omega arith) high look.cut.0 here));
     }
+
+pub value_goes_on : (b : ℕ) → is_value_byte b ≡ true → is_stretch_byte b ≡ true
+unfolding is_stretch_byte is_value_byte
+value_goes_on b h = grind (arith, nat_tests)
+
+-- bytes that stand for themselves up to the quote
+pub near_verbatim : (src : List ℕ) (quote i j : ℕ) → IsUtf8 src → (quote == 39 || quote == 34) ≡ true → IsCharBoundary src i → EndsSet is_value_byte src i j → (get_or src j 0 == quote) ≡ true → EndsVerbatim src i quote j
+near_verbatim src quote i j utf8 q start e here = record {
+  looked = near_looked is_value_byte is_special (ends_value quote src) src i j utf8 start e.onward (value_cut src i j utf8 start e.onward e.within e.passes) e.passes value_is_plain (λ b h. stretch_plain b (value_goes_on b h)) (λ n h. value_apart quote _ q h);
+  here = here;
+}
+
+-- and where none of them changes it
+pub plain_looked : (src : List ℕ) (quote i j k e : ℕ) → IsUtf8 src → (quote == 39 || quote == 34) ≡ true → IsCharBoundary src i → i ≤ j → j ≤ length src → AllPass is_value_byte src i j
+    → IsLookahead (ends_value quote src) none_changes src j e true → AllPass is_stretch_byte src j k → e ≤ k → IsLookahead (ends_value quote src) is_special src i e true
+plain_looked src quote i j k e utf8 q start le within front rest stretch high =
+    let ends = ends_value quote src in
+    let first = near_looked is_value_byte none_changes ends src i j utf8 start le (value_cut src i j utf8 start le within front) front value_is_plain (λ b h. refl) (λ n h. value_apart quote _ q h) in
+    let look = looked_on none_changes ends src i j e true true utf8 start first rest in
+    let on = look.onward in
+    let all : AllPass is_stretch_byte src i e = λ m above below. elim (cases_lt m j) [
+      | inl less ↦ value_goes_on _ (front m above less)
+      | inr past ↦ stretch m past (omega arith)
+    ] in
+    record {
+      onward = look.onward;
+      cut = look.cut;
+      chars = look.chars;
+      apart = look.apart;
+      verbatim_is = sym (ap not (none_among is_stretch_byte is_special src i e (e - i) (omega arith) look.cut.0 all stretch_plain));
+    }
+
+-- what ends no value is no `<`
+pub no_tag : (quote b : ℕ) → (b == quote || b == 60) ≡ false → (b == 60) ≡ false
+no_tag quote b h = grind (arith, nat_tests)
+
+-- a byte that changes a value ends a stretch
+pub special_stops : (b : ℕ) → is_special b ≡ true → is_stretch_byte b ≡ false
+unfolding is_stretch_byte
+special_stops b h = grind (arith, nat_tests)
+
+-- a value that is not as it stands
+pub value_spaced : (main : Bool) (es : List Entity) (opener : ValueInclusion) (src v : List ℕ) (i j openings_left : ℕ) → is_verbatim_value (slice_range src i j) ≡ false
+    → value_text main es opener (j - i) src j i openings_left ≡ Ok (v, openings_left)
+    → value_at main es opener src i j openings_left ≡ Ok (record { value = v; borrowed = false }, openings_left)
+unfolding value_at
+value_spaced main es opener src v i j openings_left changed h = rw (changed, h) refl

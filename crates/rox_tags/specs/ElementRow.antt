@@ -1,5 +1,6 @@
 -- What the code holds of a start tag that was read, against the tag.
 use Rattle.std.specs.Prelude.{◌≡◌, ℕ, ◌<◌, ◌≤◌, ◌+◌, List, ◌++◌, length, map, OnOk, IfOk, IfErr, Result, Ok, Err}
+use Rattle.std.specs.Borrow.{Bor}
 use Rattle.std.specs.List.{AllByRecursion}
 use Rattle.std.specs.Option.{option_map}
 use Rattle.rox_grammar.specs.Entities.{Entity}
@@ -32,6 +33,20 @@ pub record HasAttributes (old new : List AttributeRow) (namespaces : List Namesp
   pub same : map (attribute namespaces) more ≡ map (attribute_in scope) written
   pub within : AllByRecursion (λ a. NamespaceWithin (length namespaces) a.0.namespace) more
 
+-- The attributes from the row `from` on can be those of an element.
+pub record MayMakeElement (t : ElementTables) (from : ℕ) : Type 0 where
+  pub within : from ≤ length (attribute_rows t.attributes)
+  pub few : length (attribute_rows t.attributes) ≤ most_attributes
+
+-- `e` is an element with the local name `name` in the scope `n`, and `number` is that of its namespace. Its attributes are those
+-- from the row `from` on.
+pub record IsElementFrom (t : ElementTables) (name : Bor (List ℕ)) (from n number : ℕ) (e : ElementData) : Type 0 where
+  pub local : e.local ≡ name
+  pub attributes_from : e.attributes_from ≡ from
+  pub attributes_until : e.attributes_until ≡ length (attribute_rows t.attributes)
+  pub scope : e.scope ≡ n
+  pub namespace : e.namespace ≡ number
+
 -- The row `e` is an element with the name `name` and the attributes `written`, and lists the scope `scope`.
 pub record IsElement (old new : ElementTables) (e : ElementData) (scope : List NamespaceDecl) (name : Name) (written : List Attribute) : Type 0 where
   pub attributes : HasAttributes (attribute_rows old.attributes) (attribute_rows new.attributes) (map namespace_view new.namespaces.items.items) scope written
@@ -58,16 +73,17 @@ pub record Tagged (old new : ElementTables) (t : StartTag) (above : List Namespa
   pub once : PrefixesOnce (scope_at (lists_in new) t.element.scope)
   pub element : IsElement old new t.element (listed above tag.declarations) tag.name tag.attributes
 
--- A start tag was read, or refused, as `read` says, unless memory ran out.
-abbrev pub GivesTag : ElementTables → ElementTables → Cursor → Result StartTag ParseError → List NamespaceDecl → Result (TagRead × ℕ) Refusal → Type 0
-GivesTag old new after (Ok t) above read = (tag : Tag) × (read ≡ Ok (record { tag = tag; empty = t.empty; openings_left = t.openings_left }, after.pos)) × Tagged old new t above tag
+-- A start tag was read, or refused, as `read` says, unless memory ran out. The number is how many replacement texts may be opened
+-- after it.
+abbrev pub GivesTag : ElementTables → ElementTables → Cursor → Result (StartTag × ℕ) ParseError → List NamespaceDecl → Result (TagRead × ℕ) Refusal → Type 0
+GivesTag old new after (Ok x) above read = (tag : Tag) × (read ≡ Ok (record { tag = tag; empty = x.0.empty; openings_left = x.1 }, after.pos)) × Tagged old new x.0 above tag
 GivesTag old new after (Err e) above read = IsRefusal e read
 
 -- The start tag at the cursor was read in the context `around`, or refused, whatever entities are declared. Its name is right
 -- after its `<`. The cursor stays in its text.
-pub record ReadsStartTag (context : Context) (around : TagContext) (old new : Cursor) (t after : ElementTables) (result : Result StartTag ParseError) : Type 0 where
+pub record ReadsStartTag (context : Context) (around : TagContext) (old new : Cursor) (t after : ElementTables) (result : Result (StartTag × ℕ) ParseError) : Type 0 where
   pub source : new.text ≡ old.text
-  pub starts : IfOk result (λ tag. tag.name_start ≡ old.pos + 1)
+  pub starts : IfOk result (λ x. x.0.name_start ≡ old.pos + 1)
   pub value : (es : List Entity) → AreDeclared es context.entities.now
       → GivesTag t after new result (scope_in_tables t around.above)
       (tag_at (values_in es context) around.cut (scope_in_tables t around.above) (length (attribute_rows t.attributes)) (map namespace_view t.namespaces.items.items) old.text.now old.pos around.openings_left)

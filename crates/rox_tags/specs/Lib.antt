@@ -3,4 +3,5 @@ pub mod TagState
 pub mod ElementRow
 pub mod PlainTag
 pub mod PlainParts
+pub mod TagAttributes
 pub mod SpacedBytes

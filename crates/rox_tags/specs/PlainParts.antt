@@ -16,25 +16,18 @@ use Rattle.rox_scopes.specs.Bindings.{FindsBinding}
 use Rattle.rox_grammar.specs.Document.{most_attributes, most_pairs}
 use Rattle.rox_rows.specs.Rows.{numbered_place, NamespaceWithin, attribute_rows, attribute_uri}
 use Rattle.rox_scopes.specs.Tables.{namespace_view}
-use Rattle.rox_rows.specs.Storage.{storage_bytes}
-use Rattle.rox_names.specs.declared.unresolved_attribute.UnresolvedAttribute.{UnresolvedAttribute}
 use Rattle.rox_names.specs.declared.seen_names.SeenNames.{SeenNames}
 use Rattle.rox_rows.specs.declared.row.AttributeNamespace.{AttributeNamespace}
 use Rattle.rox_scopes.specs.declared.tables.ElementTables.{ElementTables}
 use Rattle.rox_names.specs.OpenElements.{IsNamespaceOf, MayHavePrefix, open_name}
 use Rattle.rox_scopes.specs.TagScopes.{scope_in_tables}
-use Rattle.rox_tags.specs.PlainTag.{BeginsValue, EndsNear, HasPlainValue, HasScope, IsAttributeName, IsFirstPart, IsPlainAttribute, MayOpenAt, MayOpenBelow, MayPut, PutsPlain, SeesValue, few_in}
+use Rattle.rox_tags.specs.PlainTag.{BeginsValue, EndsNear, HasPlainValue, HasScope, IsAttributeName, IsFirstPart, MayOpenAt, MayOpenBelow, MayPut, PutsPlain, SeesValue, few_in}
 use Rattle.rox_names.specs.declared.open_element.OpenElement.{OpenElement}
 use Rattle.rox_tags.specs.declared.quick_attribute.NamedAttribute.{NamedAttribute}
 use Rattle.rox_tags.specs.declared.quick_tag.NextItem.{NextItem}
-use Rattle.rox_tags.specs.declared.quick_name.PlainName.{PlainName}
+use Rattle.rox_tags.specs.declared.quick_name.NameAt.{NameAt}
 use Rattle.rox_tags.specs.declared.quick_tag.TagEnd.{TagEnd}
 use Rattle.rox_tags.specs.declared.quick_tag.TagPlace.{TagPlace}
-
--- A plain attribute starts at `i`, and its value is all that is between its quotes.
-pub record FindsPlainAttribute (src : List ℕ) (i : ℕ) (result : Option UnresolvedAttribute) : Type 0 where
-  pub read : IfSome result (λ a. IsPlainAttribute src i a)
-  pub whole : IfSome result (λ a. a.end ≡ a.value_start + length (storage_bytes a.value) + 1)
 
 -- A name starts at `i`, and its first part ends at `j`, before the byte `b`.
 pub record EndsFirstPart (src : List ℕ) (i j b : ℕ) : Type 0 where
@@ -59,14 +52,14 @@ pub record IsLocalPart (src : List ℕ) (i j : ℕ) : Type 0 where
   pub stops : (slice_index src j == 58) ≡ false
 
 -- The name `n`, which has one part, was read from `i` up to `j`.
-pub record IsWholeName (src : List ℕ) (i j : ℕ) (n : PlainName) : Type 0 where
+pub record IsWholeName (src : List ℕ) (i j : ℕ) (n : NameAt) : Type 0 where
   pub value : qname_at src i ≡ Ok (name_view n.name, n.end)
   pub local : i + length n.name.local.now ≡ n.end
   pub end : n.end ≡ j
   pub bare : n.name.prefix.now ≡ []
 
 -- The name `n` of an attribute was read at `i`, and its prefix ends at `j`.
-pub record IsPrefixedName (src : List ℕ) (i j : ℕ) (n : PlainName) : Type 0 where
+pub record IsPrefixedName (src : List ℕ) (i j : ℕ) (n : NameAt) : Type 0 where
   pub named : IsAttributeName src i n
   pub prefix : n.name.prefix.now ≡ slice_range src i j
   pub local : j + 1 + length n.name.local.now ≡ n.end

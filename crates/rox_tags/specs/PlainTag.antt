@@ -1,22 +1,20 @@
 -- Start tags that the quick reader reads: without declarations, and with attributes whose values refer to no declared entity.
-use Rattle.std.specs.Prelude.{◌≡◌, ◌≢◌, ℕ, ◌+◌, ◌-◌, ◌<◌, ◌≤◌, ◌^◌, ◌==◌, ◌||◌, Bool, true, false, List, [], ◌++◌, Option, Some, Ok, drop, length, map, slice_index, slice_range, IfSome}
+use Rattle.std.specs.Prelude.{◌≡◌, ◌≢◌, ℕ, ◌+◌, ◌-◌, ◌<◌, ◌≤◌, ◌^◌, ◌==◌, ◌||◌, Bool, true, false, List, ◌++◌, Option, Some, Ok, drop, length, map, slice_index, slice_range, IfSome}
 use Rattle.std.specs.List.{AllByRecursion}
 use Rattle.std.specs.Str.{IsCharBoundary}
 use Rattle.rox_grammar.specs.declared.fault.Fault.{Fault}
 use Rattle.rox_grammar.specs.Chars.{is_name_start, is_part_char}
 use Rattle.rox_grammar.specs.Names.{spaces_end}
 use Rattle.rox_grammar.specs.Runs.{run_end, begins}
-use Rattle.rox_grammar.specs.Written.{Attribute, NamespaceDecl, Tag, is_namespace_decl}
-use Rattle.rox_grammar.specs.Tree.{attribute_in}
+use Rattle.rox_grammar.specs.Written.{NamespaceDecl, Tag, is_namespace_decl}
 use Rattle.rox_grammar.specs.Entities.{Entity}
 use Rattle.rox_grammar.specs.Failures.{name_view}
 use Rattle.rox_grammar.specs.Content.{is_verbatim_value}
 use Rattle.rox_reading.specs.Lexical.{qname_at}
 use Rattle.rox_reading.specs.Markup.{RawAttribute, more, attribute_at, raw_value_at, tag_item_at}
 use Rattle.rox_reading.specs.Values.{ValueInclusion, is_special, value_at}
-use Rattle.rox_reading.specs.Tags.{TagSoFar, Values, attribute_with, attributes_at, names_tested, tag_at}
-use Rattle.rox_scopes.specs.Bindings.{FindsBinding}
-use Rattle.rox_rows.specs.Rows.{AttributeRow, NamespaceWithin, attribute, attribute_rows}
+use Rattle.rox_reading.specs.Tags.{Values, attribute_with, tag_at}
+use Rattle.rox_rows.specs.Rows.{AttributeRow, NamespaceWithin, attribute_rows}
 use Rattle.rox_scopes.specs.Tables.{AreScopes, namespace_view}
 use Rattle.rox_scopes.specs.Scopes.{ArePlaces, PrefixesOnce, places_in}
 use Rattle.rox_scopes.specs.declared.bindings.PrefixBindings.{PrefixBindings}
@@ -34,9 +32,8 @@ use Rattle.rox_scopes.specs.TagScopes.{HasBindings, scope_in_tables}
 use Rattle.rox_names.specs.OpenElements.{IsOpenWithin}
 use Rattle.rox_names.specs.declared.open_element.OpenElement.{OpenElement}
 use Rattle.rox_tags.specs.ElementRow.{Tagged}
-use Rattle.rox_tags.specs.declared.quick_name.PlainName.{PlainName}
+use Rattle.rox_tags.specs.declared.quick_name.NameAt.{NameAt}
 use Rattle.rox_tags.specs.declared.quick_tag.PlainTag.{PlainTag}
-use Rattle.rox_tags.specs.declared.quick_tag.TagEnd.{TagEnd}
 use Rattle.rox_names.specs.declared.start_tag.StartTag.{StartTag}
 use Rattle.rox_names.specs.declared.unresolved_attribute.UnresolvedAttribute.{UnresolvedAttribute}
 
@@ -122,14 +119,14 @@ pub record IsBeforeLast (src : List ℕ) (i : ℕ) : Type 0 where
   pub within : i + 1 < length src
 
 -- The name `n` is read at `i`.
-pub record IsPlainName (src : List ℕ) (i : ℕ) (n : PlainName) : Type 0 where
+pub record IsPlainName (src : List ℕ) (i : ℕ) (n : NameAt) : Type 0 where
   pub value : qname_at src i ≡ Ok (name_view n.name, n.end)
   pub onward : i ≤ n.end
   pub cut : IsCharBoundary src n.end
   pub local : i + length n.name.local.now ≤ n.end
 
 -- The name `n` of an attribute is read at `i`, and `=` and a quote are right after it.
-pub record IsAttributeName (src : List ℕ) (i : ℕ) (n : PlainName) : Type 0 where
+pub record IsAttributeName (src : List ℕ) (i : ℕ) (n : NameAt) : Type 0 where
   pub value : qname_at src i ≡ Ok (name_view n.name, n.end)
   pub local : i + length n.name.local.now ≤ n.end
   pub equals : slice_index src n.end ≡ 61
@@ -190,41 +187,6 @@ pub record PutsPlain (old new : ElementTables) (n : ℕ) (s after : SeenNames) (
   pub seen : 0 < j → AreSeen after (attribute_rows new.attributes)
   pub refused : j ≡ 0 → attribute_rows new.attributes ≡ attribute_rows old.attributes
 
--- A tag that has the attributes `written` so far, and no declaration.
-abbrev pub holding : List Attribute → TagSoFar
-holding written = record { own = []; attributes = written }
-
--- The attributes of a tag from `start` up to `i`, each of them plain, are in the table, which had the rows `old` before.
-pub record PlainSoFar (namespaces : List NamespaceDecl) (few : Option (List ℕ)) (present : PrefixBindings) (src : List ℕ) (start : ℕ) (old : List AttributeRow) (i : ℕ) (now : List AttributeRow) : Type 0 where
-  pub written : List Attribute
-  pub more : List AttributeRow
-  pub rows : now ≡ old ++ more
-  pub within : AllByRecursion (λ a. NamespaceWithin (length namespaces) a.0.namespace) more
-  pub shown : (scope : List NamespaceDecl) → FindsBinding namespaces few present scope → map (attribute namespaces) more ≡ map (attribute_in scope) written
-  pub tested : (scope : List NamespaceDecl) (rest : List Attribute) → FindsBinding namespaces few present scope → names_tested scope [] (written ++ rest) ≡ names_tested scope written rest
-  -- At least `turns` turns are left for what follows.
-  pub turns : ℕ
-  pub enough : length src ≤ turns + i
-  pub read : (context : Values) (cut : Fault) (known : List NamespaceDecl) (openings_left : ℕ)
-      → attributes_at (length src) context cut known src start openings_left (holding []) ≡ attributes_at turns context cut known src i openings_left (holding written)
-
--- The attributes of a tag from `start` up to its end at `end` are in the table, which had the rows `old` before.
-pub record ArePlainAttributes (namespaces : List NamespaceDecl) (few : Option (List ℕ)) (present : PrefixBindings) (src : List ℕ) (start : ℕ) (old : List AttributeRow) (end : ℕ) (empty : Bool) (new : List AttributeRow) : Type 0 where
-  pub written : List Attribute
-  pub more : List AttributeRow
-  pub rows : new ≡ old ++ more
-  pub within : AllByRecursion (λ a. NamespaceWithin (length namespaces) a.0.namespace) more
-  pub shown : (scope : List NamespaceDecl) → FindsBinding namespaces few present scope → map (attribute namespaces) more ≡ map (attribute_in scope) written
-  pub tested : (scope : List NamespaceDecl) → FindsBinding namespaces few present scope → names_tested scope [] written ≡ Ok tt
-  pub read : (context : Values) (cut : Fault) (known : List NamespaceDecl) (openings_left : ℕ)
-      → attributes_at (length src) context cut known src start openings_left (holding []) ≡ Ok (record { held = holding written; empty = empty; openings_left = openings_left }, end)
-
--- The attributes of a tag whose element has the scope `n` may be read at `i`.
-pub record MayReadAttributes (src : List ℕ) (i : ℕ) (t : ElementTables) (n : ℕ) : Type 0 where
-  pub cut : IsCharBoundary src i
-  pub short : length src < 2 ^ 32
-  pub scope : HasScope t n
-
 -- The tables `new` are `old` with more attributes.
 pub record HasMore (old new : ElementTables) : Type 0 where
   pub more : List AttributeRow
@@ -235,30 +197,20 @@ pub record HasMore (old new : ElementTables) : Type 0 where
 -- text.
 pub record IsPlainTag (old new : ElementTables) (above : List NamespaceDecl) (src : List ℕ) (i end : ℕ) (t : StartTag) : Type 0 where
   pub tag : Tag
-  pub read : (context : Values) (cut : Fault) → tag_at context cut above (length (attribute_rows old.attributes)) (map namespace_view old.namespaces.items.items) src i t.openings_left ≡ Ok (record { tag = tag; empty = t.empty; openings_left = t.openings_left }, end)
+  pub read : (context : Values) (cut : Fault) (openings_left : ℕ)
+      → tag_at context cut above (length (attribute_rows old.attributes)) (map namespace_view old.namespaces.items.items) src i openings_left ≡ Ok (record { tag = tag; empty = t.empty; openings_left = openings_left }, end)
   pub tagged : Tagged old new t above tag
   pub starts : t.name_start ≡ i + 1
   pub cut : IsCharBoundary src end
 
--- The attributes of a tag were read from `i` up to its end, if they are plain, and are in the table. If no end is returned, the
--- table may have some of them too.
-pub record ReadsAttributes (old new : ElementTables) (n : ℕ) (src : List ℕ) (i : ℕ) (result : Option TagEnd) : Type 0 where
-  pub read : IfSome result
-      (λ e. ArePlainAttributes (map namespace_view old.namespaces.items.items) (few_in old n) old.present src i (attribute_rows old.attributes) e.at e.empty (attribute_rows new.attributes))
-  pub cut : IfSome result (λ e. IsCharBoundary src e.at)
-  pub grown : HasMore old new
-
--- The start tag at `i`, a child of `o`, was read, if it is plain. `openings` replacement texts may be opened after it.
-pub record ReadsTag (old new : ElementTables) (o : OpenElement) (src : List ℕ) (i openings : ℕ) (result : Option PlainTag) : Type 0 where
+-- The start tag at `i`, a child of `o`, was read, if it is plain.
+pub record ReadsTag (old new : ElementTables) (o : OpenElement) (src : List ℕ) (i : ℕ) (result : Option PlainTag) : Type 0 where
   pub read : IfSome result (λ t. IsPlainTag old new (scope_in_tables old o.scope) src i t.end t.tag)
-  pub openings_left : IfSome result (λ t. t.tag.openings_left ≡ openings)
   pub grown : HasMore old new
 
--- The start tag `p` of a name alone, which has no attributes, is read at `i`. Its parent is `o`, and `openings` replacement texts
--- may be opened after it.
-pub record IsBareTag (t : ElementTables) (o : OpenElement) (src : List ℕ) (i openings : ℕ) (p : PlainTag) : Type 0 where
+-- The start tag `p` of a name alone, which has no attributes, is read at `i`. Its parent is `o`.
+pub record IsBareTag (t : ElementTables) (o : OpenElement) (src : List ℕ) (i : ℕ) (p : PlainTag) : Type 0 where
   pub read : IsPlainTag t t (scope_in_tables t o.scope) src i p.end p.tag
-  pub openings_left : p.tag.openings_left ≡ openings
   pub opens : p.tag.empty ≡ false
 
 -- The tables hold equal rows, whatever room they have for attributes.

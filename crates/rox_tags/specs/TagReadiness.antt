@@ -1,7 +1,6 @@
 -- What has to hold where a start tag is read.
 use Rattle.std.specs.Prelude.{◌≡◌, ◌<◌, ◌≤◌, ◌+◌, ◌^◌, ℕ, length, slice_index}
 use Rattle.rox_grammar.specs.Document.{most_pairs, most_attributes}
-use Rattle.rox_grammar.specs.Search.{stands}
 use Rattle.rox_scan.specs.Views.{HasValue}
 use Rattle.rox_scan.specs.declared.cursor.Cursor.{Cursor}
 use Rattle.rox_scan.specs.declared.tag.RawAttribute.{RawAttribute}

@@ -6,23 +6,23 @@ ghost use Rattle.std.specs.Str.{IsCharBoundary};
 ghost use Rattle.rox_grammar.specs.Runs.{begins};
 ghost use Rattle.rox_grammar.specs.Failures.{name_view};
 ghost use Rattle.rox_grammar.specs.Written.{Name};
-ghost use Rattle.rox_tags.specs.PlainParts.{FindsPlainAttribute, IsAttributeNamespace, MayPutNamed, MayPutPart, PutsSome};
+ghost use Rattle.rox_tags.specs.PlainParts.{IsAttributeNamespace, MayPutNamed, MayPutPart, PutsSome};
 ghost use Rattle.rox_tags.specs.PlainTag.{HasScope, IsNearAttribute, IsPlainAttribute, MayPut, PutsPlain};
 
-use crate::quick_name::{PlainName, plain_name, prefixed_name, some_place, whole_name};
-use crate::quick_tag::near_space_end;
+use crate::any_value::any_value;
+use crate::quick_name::{NameAt, name_of_part, name_without_prefix, prefixed_name, some_place};
+use crate::quick_tag::one_space_end;
 use crate::quick_value::{
-    PlainValue, plain_value, plain_value_end, quote_before, quote_behind_equals, seen_quote,
-    seen_value, value_start,
+    UnchangedValue, quote_after_equals, quote_before, quote_in_text, unchanged_value,
+    unchanged_value_end, value_in_window, value_start,
 };
-use crate::spaced_value::{spaced_value, spaced_value_ends};
 use rox_bytes::byte_set::{PartByte, ValueByte, part_end, skip_set};
 use rox_bytes::chars::NameStart;
 use rox_bytes::runs::{after_byte, begins, is_at};
 use rox_bytes::window::{WIDTH, Window};
 use rox_grammar::name::QName;
 use rox_names::namespace_decl::is_namespace_decl;
-use rox_names::resolve::{put_changed, put_resolved, put_usual_attribute};
+use rox_names::resolve::{put_attribute_of, put_usual_attribute};
 use rox_names::seen_names::SeenNames;
 use rox_names::unresolved_attribute::{UnresolvedAttribute, UsualAttribute};
 use rox_rows::compare::same_text;
@@ -50,60 +50,34 @@ pub const MOST_ATTRIBUTES: usize = 4294967294;
 /// The longest name, in bytes, that fits into a 16-byte window with `=` and a quote.
 const MOST_NAME: usize = 14;
 
-/// Returns the attribute that starts at `start`, if it is plain: its value needs no replacement.
+/// Returns the attribute that starts at `start`, however it is written, or `None` if none does. Its value must not depend on
+/// context, and it is owned if it needs a replacement. Also returns `None` if memory is refused, which sets `lacking`.
 #[inline(always)]
-#[tactic(auto, unfolding(rox_reading::specs::Markup::attribute_at))]
-fn plain_attribute<'input>(text: &'input str, start: usize) -> Option<UnresolvedAttribute<'input>>
-    requires { IsCharBoundary text.now start }
-    ensures { FindsPlainAttribute text.entry.now start result }
-{
-    let colon = part_end(text, start);
-    let name = plain_name(text, start, colon)?;
-    let value_start = value_start(text, name.end);
-    if value_start == 0 {
-        return None;
-    }
-    let quote = quote_before(text, value_start);
-    let near = skip_set::<ValueByte>(text, value_start);
-    let value_end = plain_value_end(text, value_start, quote, near)?;
-    Some(UnresolvedAttribute {
-        start,
-        name_end: name.end,
-        value_start,
-        end: after_byte(text, value_end, quote),
-        name: name.name,
-        value: StringStorage::Borrowed(&text[value_start..value_end]),
-    })
-}
-
-/// Returns the attribute that starts at `start`, if its value needs a replacement that does not depend on context. The value is
-/// owned.
-#[inline(always)]
-fn spaced_attribute<'input>(
+fn any_attribute<'input>(
     alloc: Global,
     text: &'input str,
     start: usize,
     recent: &mut Option<Box<Recent>>,
+    lacking: &mut bool,
 ) -> Option<UnresolvedAttribute<'input>>
     requires { IsCharBoundary text.now start }
     ensures { IfSome result (λ a. IsPlainAttribute text.entry.now start a) }
 {
     let colon = part_end(text, start);
-    let name = plain_name(text, start, colon)?;
+    let name = name_of_part(text, start, colon)?;
     let from = value_start(text, name.end);
     if from == 0 {
         return None;
     }
     let quote = quote_before(text, from);
-    let ends = spaced_value_ends(text, from, quote)?;
-    let value = spaced_value(alloc, text, from, ends, recent)?;
+    let read = any_value(alloc, text, from, quote, recent, lacking)?;
     Some(UnresolvedAttribute {
         start,
         name_end: name.end,
         value_start: from,
-        end: after_byte(text, ends.end, quote),
+        end: after_byte(text, read.end, quote),
         name: name.name,
-        value,
+        value: read.value,
     })
 }
 
@@ -150,11 +124,11 @@ fn namespace_in(
     prefix_namespace(elements, scope, name.prefix, near)
 }
 
-/// Puts the attribute that starts at `start` after those of its tag, which `seen` records. Its value must need a replacement that
-/// does not depend on context. Returns the offset after it, or 0 with the table unchanged. A declaration is not put.
+/// Puts the attribute that starts at `start`, however it is written, after those of its tag, which `seen` records. Its value must
+/// not depend on context. Returns the offset after it, or 0 with the table unchanged. A declaration is not put.
 #[cold]
 #[inline(never)]
-fn put_spaced_attribute<'input>(
+fn put_any_attribute<'input>(
     text: &'input str,
     start: usize,
     elements: &mut ElementTables<'input>,
@@ -166,7 +140,7 @@ fn put_spaced_attribute<'input>(
         start result }
 {
     let alloc = *elements.attributes.items.allocator();
-    let Some(one) = spaced_attribute(alloc, text, start, &mut seen.values) else {
+    let Some(one) = any_attribute(alloc, text, start, &mut seen.values, &mut seen.lacking) else {
         return 0;
     };
     if is_namespace_decl(one.name) {
@@ -176,7 +150,7 @@ fn put_spaced_attribute<'input>(
         return 0;
     };
     let end = one.end;
-    if put_changed(
+    if put_attribute_of(
         &elements.namespaces,
         &mut elements.attributes,
         seen,
@@ -189,49 +163,13 @@ fn put_spaced_attribute<'input>(
     }
 }
 
-/// Like `put_spaced_attribute`, but also puts an attribute whose value needs no replacement, however it is written.
-#[cold]
-#[inline(never)]
-fn put_other_attribute<'input>(
-    text: &'input str,
-    start: usize,
-    elements: &mut ElementTables<'input>,
-    scope: u32,
-    seen: &mut SeenNames,
-) -> usize
-    requires { MayPut text.now start elements.old scope seen.old }
-    ensures { PutsPlain elements.old elements.new scope seen.old seen.new text.entry.now
-        start result }
-{
-    let Some(one) = plain_attribute(text, start) else {
-        return put_spaced_attribute(text, start, elements, scope, seen);
-    };
-    let name = one.name;
-    if is_namespace_decl(name) {
-        return 0;
-    }
-    let Some(places) = few_places(&elements.scopes, &elements.listed, scope) else {
-        return 0;
-    };
-    let namespaces = elements.namespaces.as_slice();
-    let behind = one.end;
-    if !put_resolved(
-        namespaces,
-        Some(places),
-        &elements.present,
-        &mut elements.attributes,
-        seen,
-        one,
-    ) {
-        return 0;
-    }
-    behind
-}
-
 /// Returns the attribute or declaration after the white space at `at`, if it is written as most are. Then `=` and a quote follow
 /// right after its name, and its value needs no replacement.
 #[inline(always)]
-pub fn near_attribute<'input>(text: &'input str, at: usize) -> Option<UnresolvedAttribute<'input>>
+pub fn verbatim_attribute<'input>(
+    text: &'input str,
+    at: usize,
+) -> Option<UnresolvedAttribute<'input>>
     requires { IsCharBoundary text.now at }
     ensures { IfSome result (λ a. IsNearAttribute text.entry.now at a) }
 {
@@ -239,20 +177,20 @@ pub fn near_attribute<'input>(text: &'input str, at: usize) -> Option<Unresolved
     if at + 1 >= text.len() {
         return None;
     }
-    let start = near_space_end(text, at);
+    let start = one_space_end(text, at);
     if start == at || !begins::<NameStart>(text, start) {
         return None;
     }
     let colon = part_end(text, start);
-    let name = plain_name(text, start, colon)?;
-    let quote = quote_behind_equals(text, name.end);
+    let name = name_of_part(text, start, colon)?;
+    let quote = quote_after_equals(text, name.end);
     if quote == 0 {
         return None;
     }
     let equals = after_byte(text, name.end, b'=');
     let first = after_byte(text, equals, quote);
     let near = skip_set::<ValueByte>(text, first);
-    let close = plain_value_end(text, first, quote, near)?;
+    let close = unchanged_value_end(text, first, quote, near)?;
     Some(UnresolvedAttribute {
         start,
         name_end: name.end,
@@ -269,8 +207,8 @@ pub struct NamedAttribute<'input> {
     pub start: usize,
     /// The number of bytes of its name before the local part: the prefix and the colon.
     pub before: usize,
-    pub name: PlainName<'input>,
-    pub value: PlainValue<'input>,
+    pub name: NameAt<'input>,
+    pub value: UnchangedValue<'input>,
 }
 
 /// Puts the attribute `read`, whose namespace is `namespace`, after those of its tag, which `seen` records. Returns the offset
@@ -294,7 +232,7 @@ fn put_named_attribute<'input>(
         return None;
     }
     if read.before >= UNUSUAL as usize {
-        return some_place(put_other_attribute(text, start, elements, scope, seen));
+        return some_place(put_any_attribute(text, start, elements, scope, seen));
     }
     let one = UsualAttribute {
         start: start as u32,
@@ -330,7 +268,7 @@ fn put_prefixed_attribute<'input>(
         start result }
 {
     if !is_at(text, part, b':') {
-        return put_other_attribute(text, start, elements, scope, seen);
+        return put_any_attribute(text, start, elements, scope, seen);
     }
     // The namespace is looked up first, while little else is in registers.
     let Some(namespace) = prefix_namespace(elements, scope, &text[start..part], &mut seen.near)
@@ -338,12 +276,12 @@ fn put_prefixed_attribute<'input>(
         return 0;
     };
     let Some(name) = prefixed_name(text, start, part) else {
-        return put_other_attribute(text, start, elements, scope, seen);
+        return put_any_attribute(text, start, elements, scope, seen);
     };
     let quote = quote_before(text, name.end + 2);
     let near = skip_set::<ValueByte>(text, name.end + 2);
-    let Some(value) = plain_value(text, name.end + 2, quote, near) else {
-        return put_spaced_attribute(text, start, elements, scope, seen);
+    let Some(value) = unchanged_value(text, name.end + 2, quote, near) else {
+        return put_any_attribute(text, start, elements, scope, seen);
     };
     let read = NamedAttribute {
         start,
@@ -360,7 +298,7 @@ fn put_prefixed_attribute<'input>(
 /// Like `put_attribute`, but for attributes whose name does not fit into a window, as it is long or the text ends. Returns 0
 /// where that returns `None`.
 #[inline(never)]
-fn put_far_attribute<'input>(
+fn put_long_attribute<'input>(
     text: &'input str,
     start: usize,
     elements: &mut ElementTables<'input>,
@@ -372,14 +310,14 @@ fn put_far_attribute<'input>(
         start result }
 {
     let part = skip_set::<PartByte>(text, start);
-    let quote = quote_behind_equals(text, part);
+    let quote = quote_after_equals(text, part);
     if quote == 0 {
         return put_prefixed_attribute(text, start, part, elements, scope, seen);
     }
-    let name = whole_name(text, start, part);
+    let name = name_without_prefix(text, start, part);
     let near = skip_set::<ValueByte>(text, part + 2);
-    let Some(value) = plain_value(text, part + 2, quote, near) else {
-        return put_spaced_attribute(text, start, elements, scope, seen);
+    let Some(value) = unchanged_value(text, part + 2, quote, near) else {
+        return put_any_attribute(text, start, elements, scope, seen);
     };
     let namespace = AttributeNamespace::None;
     let read = NamedAttribute {
@@ -406,21 +344,21 @@ pub fn put_attribute<'input>(
         start result }
 {
     if text.len() - start < WIDTH {
-        return some_place(put_far_attribute(text, start, elements, scope, seen));
+        return some_place(put_long_attribute(text, start, elements, scope, seen));
     }
     let window = Window::new(text, start);
     let count = window.part_count();
     if count > MOST_NAME {
-        return some_place(put_far_attribute(text, start, elements, scope, seen));
+        return some_place(put_long_attribute(text, start, elements, scope, seen));
     }
     let part = start + count;
-    let quote = seen_quote(text, part);
+    let quote = quote_in_text(text, part);
     if quote == 0 {
         return some_place(put_prefixed_attribute(text, start, part, elements, scope, seen));
     }
-    let name = whole_name(text, start, part);
-    let Some(value) = seen_value(text, window, count + 2, quote) else {
-        return some_place(put_spaced_attribute(text, start, elements, scope, seen));
+    let name = name_without_prefix(text, start, part);
+    let Some(value) = value_in_window(text, window, count + 2, quote) else {
+        return some_place(put_any_attribute(text, start, elements, scope, seen));
     };
     let namespace = AttributeNamespace::None;
     let read = NamedAttribute {

@@ -8,7 +8,7 @@ ghost use Rattle.rox_bytes.specs.ByteSets.{EndsSet, is_part_byte};
 ghost use Rattle.rox_tags.specs.PlainParts.{EndsFirstPart, EndsNearPart, EndsPart, IsLocalPart, IsPrefixedName, IsSomePlace, IsWholeName};
 ghost use Rattle.rox_tags.specs.PlainTag.{EndsNear, IsPlainName};
 
-use crate::quick_value::quote_behind_equals;
+use crate::quick_value::quote_after_equals;
 use rox_bytes::byte_set::{PartByte, part_end, skip_set};
 use rox_bytes::chars::NameStart;
 use rox_bytes::runs::{after_byte, begins, is_at};
@@ -16,7 +16,7 @@ use rox_grammar::name::QName;
 
 /// A name, and the offset at which it ends.
 #[derive(Clone, Copy)]
-pub struct PlainName<'input> {
+pub struct NameAt<'input> {
     pub name: QName<'input>,
     pub end: usize,
 }
@@ -24,11 +24,7 @@ pub struct PlainName<'input> {
 /// Returns the name that starts at `start`, or `None` if none does (Namespaces in XML section 4). Its first part ends at `colon`.
 #[inline(always)]
 #[tactic(auto, unfolding(rox_reading::specs::Lexical::qname_at))]
-pub fn plain_name<'input>(
-    text: &'input str,
-    start: usize,
-    colon: usize,
-) -> Option<PlainName<'input>>
+pub fn name_of_part<'input>(text: &'input str, start: usize, colon: usize) -> Option<NameAt<'input>>
     requires { EndsPart text.now start colon }
     ensures { IfSome result (λ n. IsPlainName text.entry.now start n) }
 {
@@ -40,7 +36,7 @@ pub fn plain_name<'input>(
             prefix: "",
             local: &text[start..colon],
         };
-        return Some(PlainName { name, end: colon });
+        return Some(NameAt { name, end: colon });
     }
     second_part(text, start, colon)
 }
@@ -92,7 +88,7 @@ fn local_end(text: &str, local: usize) -> Option<usize>
 /// follows.
 #[inline(always)]
 #[tactic(auto, unfolding(rox_reading::specs::Lexical::qname_at))]
-fn second_part<'input>(text: &'input str, start: usize, colon: usize) -> Option<PlainName<'input>>
+fn second_part<'input>(text: &'input str, start: usize, colon: usize) -> Option<NameAt<'input>>
     requires { EndsFirstPart text.now start colon 58 }
     ensures { IfSome result (λ n. IsPlainName text.entry.now start n) }
 {
@@ -102,7 +98,7 @@ fn second_part<'input>(text: &'input str, start: usize, colon: usize) -> Option<
         prefix: &text[start..colon],
         local: &text[local..end],
     };
-    Some(PlainName { name, end })
+    Some(NameAt { name, end })
 }
 
 /// Returns the offset `place`, or `None` if it is 0.
@@ -120,30 +116,26 @@ pub fn some_place(place: usize) -> Option<usize>
 /// of ASCII bytes, with `=` and a quote right after it. The local part starts with no digit or sign, as its first byte shows.
 #[inline(always)]
 #[tactic(auto, unfolding(rox_reading::specs::Lexical::qname_at))]
-pub fn prefixed_name<'input>(
-    text: &'input str,
-    start: usize,
-    part: usize,
-) -> Option<PlainName<'input>>
+pub fn prefixed_name<'input>(text: &'input str, start: usize, part: usize) -> Option<NameAt<'input>>
     requires { EndsFirstPart text.now start part 58 }
     ensures { IfSome result (λ n. IsPrefixedName text.entry.now start part n) }
 {
     let local = after_byte(text, part, b':');
     let end = skip_set::<PartByte>(text, local);
-    if quote_behind_equals(text, end) == 0 || text.as_bytes()[local] < b'A' {
+    if quote_after_equals(text, end) == 0 || text.as_bytes()[local] < b'A' {
         return None;
     }
     let name = QName {
         prefix: &text[start..part],
         local: &text[local..end],
     };
-    Some(PlainName { name, end })
+    Some(NameAt { name, end })
 }
 
 /// Returns the name from `start` up to `part`, where its first part ends at a `=`.
 #[inline(always)]
 #[tactic(auto, unfolding(rox_reading::specs::Lexical::qname_at))]
-pub fn whole_name<'input>(text: &'input str, start: usize, part: usize) -> PlainName<'input>
+pub fn name_without_prefix<'input>(text: &'input str, start: usize, part: usize) -> NameAt<'input>
     requires { EndsFirstPart text.now start part 61 }
     ensures { IsWholeName text.entry.now start part result }
 {
@@ -151,13 +143,13 @@ pub fn whole_name<'input>(text: &'input str, start: usize, part: usize) -> Plain
         prefix: "",
         local: &text[start..part],
     };
-    PlainName { name, end: part }
+    NameAt { name, end: part }
 }
 
 /// Returns the name from `start` up to `near`, where its ASCII bytes end. Neither a colon nor more of the name follows. It starts
 /// with no digit or sign, as its first byte shows.
 #[inline(always)]
-pub fn near_name<'input>(text: &'input str, start: usize, near: usize) -> &'input str
+pub fn ascii_name<'input>(text: &'input str, start: usize, near: usize) -> &'input str
     requires { EndsNearPart text.now start near }
     ensures { qname_at text.entry.now start
         ≡ Ok (record { prefix = []; local = result.now }, near) }

@@ -1,4 +1,4 @@
-//! Start tags by the quick reader: those without declarations whose attribute values refer only to predefined entities (XML 1.0
+//! Start tags by the quick reader: those whose attribute values refer only to predefined entities (XML 1.0
 //! sections 3.1 and 4.6). Nothing fails here: the general reader reads a tag that is not plain, or finds no room, from its `<`.
 
 ghost use Rattle.std.specs.Prelude.{◌≡◌, ◌<◌, ◌+◌, ◌-◌, ◌==◌, Ok, IfSome, slice_index, true, false};
@@ -7,10 +7,13 @@ ghost use Rattle.rox_grammar.specs.Runs.{run_end, begins};
 ghost use Rattle.rox_grammar.specs.Failures.{name_view};
 ghost use Rattle.rox_bytes.specs.ScanResults.{Finds};
 ghost use Rattle.rox_tags.specs.PlainParts.{EndsEmpty, EndsTag, FindsElementNamespace, IsNextItem, MayNameBelow, MayNameIn, MayReadBareTag, MayReadNearTag, MayReadPlainTag};
-ghost use Rattle.rox_tags.specs.PlainTag.{IsBareTag, IsBeforeLast, MayReadAttributes, ReadsAttributes, ReadsTag};
+ghost use Rattle.rox_tags.specs.PlainTag.{IsBareTag, IsBeforeLast, ReadsTag};
+ghost use Rattle.rox_tags.specs.TagAttributes.{EndsAttributes, MayReadAttributes, ReadsAttributes};
 
+use crate::own_declaration::{TagScope, declares_at, put_declaration};
 use crate::quick_attribute::{MOST_ATTRIBUTES, byte_count, put_attribute};
-use crate::quick_name::{near_name, plain_name};
+use crate::quick_name::{ascii_name, name_of_part};
+use crate::tag::element_of;
 use rox_bytes::runs::{after_byte, begins, is_at};
 use rox_grammar::name::QName;
 use rox_names::open_element::{OpenElement, has_prefix};
@@ -18,7 +21,7 @@ use rox_names::resolve::element_namespace;
 use rox_names::seen_names::SeenNames;
 use rox_names::start_tag::StartTag;
 use rox_rows::compare::same_text;
-use rox_rows::row::{ElementData, namespace_number};
+use rox_rows::row::namespace_number;
 use rox_scan::cursor::{Cursor, far_space_end};
 use rox_scopes::scope::few_places;
 use rox_scopes::tables::ElementTables;
@@ -48,7 +51,7 @@ fn empty_end(text: &str, at: usize) -> Option<TagEnd>
 
 /// Returns the end of the white space that starts at `at`, before the last byte. Most often it is one space, or there is none.
 #[inline(always)]
-pub fn near_space_end(text: &str, at: usize) -> usize
+pub fn one_space_end(text: &str, at: usize) -> usize
     requires { IsBeforeLast text.now at }
     ensures { Finds text.now at result (run_end is_space text.now at) }
 {
@@ -71,7 +74,7 @@ pub struct NextItem {
 
 /// Returns the item after the white space that starts at `at`, before the last byte. A name starts with no byte up to `>`.
 #[inline(always)]
-pub fn next_item(text: &str, at: usize) -> NextItem
+fn next_item(text: &str, at: usize) -> NextItem
     requires { IsBeforeLast text.now at }
     ensures { IsNextItem text.now at result }
 {
@@ -82,7 +85,7 @@ pub fn next_item(text: &str, at: usize) -> NextItem
             may_begin: true,
         };
     }
-    let end = near_space_end(text, at);
+    let end = one_space_end(text, at);
     NextItem {
         at: end,
         may_begin: end != at && end < text.len() && bytes[end] > b'>',
@@ -91,7 +94,7 @@ pub fn next_item(text: &str, at: usize) -> NextItem
 
 /// Returns the end of a start tag, if it is at `at`.
 #[inline(always)]
-pub fn tag_end(text: &str, at: usize) -> Option<TagEnd>
+fn tag_end(text: &str, at: usize) -> Option<TagEnd>
     ensures { EndsTag text.now at result }
 {
     if is_at(text, at, b'>') {
@@ -106,49 +109,65 @@ pub fn tag_end(text: &str, at: usize) -> Option<TagEnd>
     None
 }
 
-/// Reads the attributes of a tag from `start` up to its end, if they are plain and find room. Each is put into the table, with
-/// its namespace in the scope `scope`. If `None` is returned, the table may have some of them too.
+/// Returns the end of a start tag, if it is at `at` and the document has no more attributes than it may have.
 #[inline(always)]
-fn some_attributes<'input>(
+fn attributes_end(text: &str, at: usize, elements: &ElementTables<'_>) -> Option<TagEnd>
+    ensures { EndsAttributes text.now at elements.now result }
+{
+    if elements.attributes.len() > MOST_ATTRIBUTES {
+        return None;
+    }
+    tag_end(text, at)
+}
+
+/// Reads the attributes of a tag from `start` up to its end, and its declarations if it may have any. They must be plain and
+/// find room. Each attribute is put into the table, with its namespace in the declarations before it. If `None` is returned, the
+/// tables may have some of them too.
+#[inline(always)]
+pub fn tag_attributes<'input>(
     text: &'input str,
     start: usize,
     elements: &mut ElementTables<'input>,
-    scope: u32,
+    tag: TagScope,
     seen: &mut SeenNames,
 ) -> Option<TagEnd>
-    requires { MayReadAttributes text.now start elements.old scope }
-    ensures { ReadsAttributes elements.old elements.new scope text.entry.now start result }
+    requires { MayReadAttributes text.now start elements.old tag }
+    ensures { ReadsAttributes elements.old elements.new tag text.entry.now start result }
 {
     seen.begin(elements.attributes.len());
     let mut at = start;
     while at + 1 < text.len() {
         let next = next_item(text, at);
         if !next.may_begin {
-            return tag_end(text, next.at);
+            return attributes_end(text, next.at, elements);
         }
-        at = put_attribute(text, next.at, elements, scope, seen)?;
+        if declares_at(text, next.at, tag) {
+            at = put_declaration(text, next.at, elements, seen)?;
+        } else {
+            at = put_attribute(text, next.at, elements, tag.scope, seen)?;
+        }
     }
     None
 }
 
-/// Like `some_attributes`, but first tests whether white space follows the name. Many tags have no attributes, and then no white
+/// Like `tag_attributes`, but first tests whether white space follows the name. Many tags have no attributes, and then no white
 /// space follows.
 #[inline(always)]
-fn plain_attributes<'input>(
+fn tag_attributes_if_any<'input>(
     text: &'input str,
     start: usize,
     elements: &mut ElementTables<'input>,
-    scope: u32,
+    tag: TagScope,
     seen: &mut SeenNames,
 ) -> Option<TagEnd>
-    requires { MayReadAttributes text.now start elements.old scope }
-    ensures { ReadsAttributes elements.old elements.new scope text.entry.now start result }
+    requires { MayReadAttributes text.now start elements.old tag }
+    ensures { ReadsAttributes elements.old elements.new tag text.entry.now start result }
 {
     let bytes = text.as_bytes();
     if start < bytes.len() && bytes[start] > b' ' {
-        return tag_end(text, start);
+        return attributes_end(text, start, elements);
     }
-    some_attributes(text, start, elements, scope, seen)
+    tag_attributes(text, start, elements, tag, seen)
 }
 
 /// A plain start tag that was read, and the offset at which it ends.
@@ -159,40 +178,32 @@ pub struct PlainTag<'input> {
 }
 
 /// Returns the start tag at `start`, a name alone, if the name of `parent` has no prefix. The element has the namespace and the
-/// scope of `parent`. Its name is of ASCII bytes and ends at `near`. `openings` replacement texts may be opened after the tag.
+/// scope of `parent`. Its name is of ASCII bytes and ends at `near`.
 #[inline(always)]
-pub fn bare_start_tag<'input>(
+pub fn start_tag_of_name<'input>(
     text: &'input str,
     start: usize,
     elements: &ElementTables<'input>,
     parent: &OpenElement<'input>,
-    openings: u32,
     near: usize,
 ) -> Option<PlainTag<'input>>
     requires { MayReadBareTag text.now start near elements.now parent.now }
     ensures { IfSome result (λ t. IsBareTag elements.entry.now parent.entry.now text.entry.now start
-        openings t) }
+        t) }
 {
     if parent.prefixed {
         return None;
     }
     let name_at = after_byte(text, start, b'<');
-    let local = near_name(text, name_at, near);
-    let count = elements.attributes.len();
-    let element = ElementData {
-        local,
-        attributes_from: count as u32,
-        attributes_until: count as u32,
-        scope: parent.scope,
-        namespace: parent.namespace,
-    };
+    let local = ascii_name(text, name_at, near);
+    let from = elements.attributes.len();
+    let element = element_of(elements, local, from, parent.scope, parent.namespace);
     let tag = StartTag {
         name: QName { prefix: "", local },
         name_start: name_at,
         name_end: near,
         element,
         empty: false,
-        openings_left: openings,
     };
     let end = after_byte(text, near, b'>');
     Some(PlainTag { tag, end })
@@ -201,7 +212,7 @@ pub fn bare_start_tag<'input>(
 /// Returns the number of an element's namespace in the scope `scope`, as rows store it. Returns `None` if the prefix of its name
 /// is not known or the scope lists many places.
 #[inline(always)]
-pub fn other_namespace(
+pub fn namespace_in_scope(
     elements: &ElementTables<'_>,
     name: QName<'_>,
     at: usize,
@@ -218,7 +229,7 @@ pub fn other_namespace(
     }
 }
 
-/// Like `other_namespace`, but in the scope of the parent. Most names have no prefix, like the parent's, or its prefix. Their
+/// Like `namespace_in_scope`, but in the scope of the parent. Most names have no prefix, like the parent's, or its prefix. Their
 /// namespace is that of the parent.
 #[inline(always)]
 fn tag_namespace(
@@ -238,7 +249,7 @@ fn tag_namespace(
     if above != 0 && has_prefix(parent, name.prefix) {
         return Some(above);
     }
-    other_namespace(elements, name, at, parent.scope)
+    namespace_in_scope(elements, name, at, parent.scope)
 }
 
 /// The offset at which a start tag starts, and that at which the first part of its name ends.
@@ -249,88 +260,72 @@ pub struct TagPlace {
 }
 
 /// Reads the start tag at `place`, a child of `parent`, if it is plain and finds room. Its attributes are in the table then. If
-/// `None` is returned, the table may have some of them too. `openings_left` replacement texts may be opened after the tag.
+/// `None` is returned, the table may have some of them too.
 #[inline(always)]
-pub fn plain_start_tag<'input>(
+pub fn start_tag_in_scope<'input>(
     text: &'input str,
     place: TagPlace,
     elements: &mut ElementTables<'input>,
     parent: &OpenElement<'input>,
-    openings_left: u32,
     seen: &mut SeenNames,
 ) -> Option<PlainTag<'input>>
     requires { MayReadPlainTag text.now place elements.old parent.now }
     ensures { ReadsTag elements.old elements.new parent.entry.now text.entry.now place.start
-        openings_left result }
+        result }
 {
     let small = byte_count(text);
     let name_start = after_byte(text, place.start, b'<');
-    let name = plain_name(text, name_start, place.part)?;
+    let name = name_of_part(text, name_start, place.part)?;
     if same_text(name.name.prefix, "xmlns") {
         return None;
     }
     let from = elements.attributes.len();
     let namespace = tag_namespace(elements, name.name, name_start, parent)?;
-    let end = plain_attributes(text, name.end, elements, parent.scope, seen)?;
-    let until = elements.attributes.len();
-    if until > MOST_ATTRIBUTES {
-        return None;
-    }
-    let element = ElementData {
-        local: name.name.local,
-        attributes_from: from as u32,
-        attributes_until: until as u32,
+    let scope = TagScope {
         scope: parent.scope,
-        namespace,
+        declares: false,
     };
+    let end = tag_attributes_if_any(text, name.end, elements, scope, seen)?;
+    let element = element_of(elements, name.name.local, from, parent.scope, namespace);
     let tag = StartTag {
         name: name.name,
         name_start,
         name_end: name.end,
         element,
         empty: end.empty,
-        openings_left,
     };
     Some(PlainTag { tag, end: end.at })
 }
 
-/// Like `plain_start_tag`, but neither the name of the tag nor that of `above` has a prefix. The tag's name is of ASCII bytes.
+/// Like `start_tag_in_scope`, but neither the name of the tag nor that of `above` has a prefix. The tag's name is of ASCII bytes.
 #[inline(always)]
-pub fn near_start_tag<'input>(
+pub fn start_tag_without_prefix<'input>(
     text: &'input str,
     place: TagPlace,
     elements: &mut ElementTables<'input>,
     above: &OpenElement<'input>,
-    openings: u32,
     seen: &mut SeenNames,
 ) -> Option<PlainTag<'input>>
     requires { MayReadNearTag text.now place elements.old above.now }
-    ensures { ReadsTag elements.old elements.new above.entry.now text.entry.now place.start openings
+    ensures { ReadsTag elements.old elements.new above.entry.now text.entry.now place.start
         result }
 {
     let first = elements.attributes.len();
-    let close = some_attributes(text, place.part, elements, above.scope, seen)?;
-    let last = elements.attributes.len();
-    if last > MOST_ATTRIBUTES {
-        return None;
-    }
+    let scope = TagScope {
+        scope: above.scope,
+        declares: false,
+    };
+    let close = tag_attributes(text, place.part, elements, scope, seen)?;
     // What the attributes do not need is read after them, so that it takes no register meanwhile.
     let name_at = after_byte(text, place.start, b'<');
-    let local = near_name(text, name_at, place.part);
-    let element = ElementData {
-        local,
-        attributes_from: first as u32,
-        attributes_until: last as u32,
-        scope: above.scope,
-        namespace: above.namespace,
-    };
+    let local = ascii_name(text, name_at, place.part);
+    let element = element_of(elements, local, first, above.scope, above.namespace);
     let tag = StartTag {
         name: QName { prefix: "", local },
         name_start: name_at,
         name_end: place.part,
         element,
         empty: close.empty,
-        openings_left: openings,
     };
     Some(PlainTag { tag, end: close.at })
 }

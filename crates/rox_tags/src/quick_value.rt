@@ -47,7 +47,7 @@ fn wide_value_end(text: &str, at: usize, quote: u8) -> usize
 /// Returns the end of the value that starts at `start`, after the quote `quote`, if it needs no replacement. No byte up to `near`
 /// needs one.
 #[inline(always)]
-pub fn plain_value_end(text: &str, start: usize, quote: u8, near: usize) -> Option<usize>
+pub fn unchanged_value_end(text: &str, start: usize, quote: u8, near: usize) -> Option<usize>
     requires { SeesValue text.now start quote near }
     ensures { IfSome result (λ j. HasPlainValue text.now start quote j
         (slice_range text.now start j)) }
@@ -127,7 +127,7 @@ pub fn quote_before(text: &str, start: usize) -> u8
 
 /// Returns the quote after the `=` at `at`, or 0 if one of the two is missing.
 #[inline(always)]
-pub fn quote_behind_equals(text: &str, at: usize) -> u8
+pub fn quote_after_equals(text: &str, at: usize) -> u8
     requires { at ≤ length text.now }
     ensures { 0 < result → IsQuoteBehindEquals text.now at result }
 {
@@ -138,9 +138,9 @@ pub fn quote_behind_equals(text: &str, at: usize) -> u8
     quote_here(text, at + 1)
 }
 
-/// Like `quote_behind_equals`, but both bytes are in the text.
+/// Like `quote_after_equals`, but both bytes are in the text.
 #[inline(always)]
-pub fn seen_quote(text: &str, at: usize) -> u8
+pub fn quote_in_text(text: &str, at: usize) -> u8
     requires { at + 1 < length text.now }
     ensures { 0 < result → IsQuoteBehindEquals text.now at result }
 {
@@ -154,37 +154,37 @@ pub fn seen_quote(text: &str, at: usize) -> u8
 
 /// A value that needs no replacement, and the offset at which it ends.
 #[derive(Clone, Copy)]
-pub struct PlainValue<'input> {
+pub struct UnchangedValue<'input> {
     pub text: &'input str,
     pub end: usize,
 }
 
 /// Returns the value that starts at `start`, after the quote `quote`, if it needs no replacement. No byte up to `near` needs one.
 #[inline(always)]
-pub fn plain_value<'input>(
+pub fn unchanged_value<'input>(
     text: &'input str,
     start: usize,
     quote: u8,
     near: usize,
-) -> Option<PlainValue<'input>>
+) -> Option<UnchangedValue<'input>>
     requires { SeesValue text.now start quote near }
     ensures { IfSome result (λ v. HasPlainValue text.entry.now start quote v.end v.text.now) }
 {
-    let end = plain_value_end(text, start, quote, near)?;
-    Some(PlainValue {
+    let end = unchanged_value_end(text, start, quote, near)?;
+    Some(UnchangedValue {
         text: &text[start..end],
         end,
     })
 }
 
-/// Like `plain_value`, but for the value that starts `before` bytes after the start of `window`.
+/// Like `unchanged_value`, but for the value that starts `before` bytes after the start of `window`.
 #[inline(always)]
-pub fn seen_value<'input>(
+pub fn value_in_window<'input>(
     text: &'input str,
     window: Window,
     before: usize,
     quote: u8,
-) -> Option<PlainValue<'input>>
+) -> Option<UnchangedValue<'input>>
     requires { SeesStart text.now window before quote }
     ensures { IfSome result
         (λ v. HasPlainValue text.entry.now (window.at + before) quote v.end v.text.now) }
@@ -192,13 +192,13 @@ pub fn seen_value<'input>(
     let start = window.at + before;
     let Some(count) = window.value_end() else {
         let near = skip_set::<ValueByte>(text, window.at + WIDTH);
-        return plain_value(text, start, quote, near);
+        return unchanged_value(text, start, quote, near);
     };
     let near = window.at + count;
     if !closes_value(text, start, quote, near) {
-        return plain_value(text, start, quote, near);
+        return unchanged_value(text, start, quote, near);
     }
-    Some(PlainValue {
+    Some(UnchangedValue {
         text: &text[start..near],
         end: near,
     })

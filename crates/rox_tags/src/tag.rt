@@ -2,7 +2,7 @@
 
 ghost use Rattle.std.specs.Prelude.{◌≡◌, ◌<◌, ◌^◌, List, length, map, IfOk};
 ghost use Rattle.rox_grammar.specs.Failures.{name_view};
-ghost use Rattle.rox_tags.specs.ElementRow.{MakesElement, ReadsStartTag};
+ghost use Rattle.rox_tags.specs.ElementRow.{IsElementFrom, MakesElement, MayMakeElement, ReadsStartTag};
 ghost use Rattle.rox_tags.specs.TagReadiness.{IsBehind, MayReadTagBelow, MayResolve};
 ghost use Rattle.rox_scan.specs.Views.{attribute_view};
 ghost use Rattle.rox_grammar.specs.Entities.{Entity};
@@ -11,7 +11,7 @@ ghost use Rattle.rox_values.specs.Values.{piece_view};
 ghost use Rattle.rox_names.specs.TagDeclarations.{unresolved_view};
 ghost use Rattle.rox_tags.specs.TagState.{IsReadingTag, GivesAttribute, ReadsAttributes, ReadsTagPart, TakesAttribute, IsStored, value_of};
 
-use crate::quick_attribute::{MOST_ATTRIBUTES, byte_count, near_attribute};
+use crate::quick_attribute::{MOST_ATTRIBUTES, byte_count, verbatim_attribute};
 use rox_grammar::failure::Failure;
 use rox_grammar::fault::Fault;
 use rox_grammar::name::QName;
@@ -124,7 +124,7 @@ fn tag_part<'input>(
     ensures { ReadsTagPart context.entry cursor.old cursor.new openings_left result }
 {
     let small = byte_count(cursor.text);
-    if let Some(one) = near_attribute(cursor.text, cursor.pos) {
+    if let Some(one) = verbatim_attribute(cursor.text, cursor.pos) {
         cursor.pos = one.end;
         return Ok(TagPart::One(one, openings_left));
     }
@@ -200,6 +200,28 @@ fn attributes<'input>(
     Err(ParseError::Fault(tag.cut))
 }
 
+/// Returns the data of an element in the scope `scope`. Its attributes are those from the row `from` on, and `namespace` is the
+/// number of its namespace.
+#[inline(always)]
+pub fn element_of<'input>(
+    elements: &ElementTables<'input>,
+    local: &'input str,
+    from: usize,
+    scope: u32,
+    namespace: u16,
+) -> ElementData<'input>
+    requires { MayMakeElement elements.now from }
+    ensures { IsElementFrom elements.entry.now local.entry from scope namespace result }
+{
+    ElementData {
+        local,
+        attributes_from: from as u32,
+        attributes_until: elements.attributes.len() as u32,
+        scope,
+        namespace,
+    }
+}
+
 /// Returns the data of an element in the scope `scope`, once its names are tested. Its attributes are put into the table. Its
 /// name is at `at`.
 #[inline(always)]
@@ -235,16 +257,12 @@ fn element_data<'input>(
         name,
         at,
     )?;
-    Ok(ElementData {
-        local: name.local,
-        attributes_from: from as u32,
-        attributes_until: elements.attributes.len() as u32,
-        scope,
-        namespace: namespace_number(namespace),
-    })
+    let number = namespace_number(namespace);
+    Ok(element_of(elements, name.local, from, scope, number))
 }
 
-/// Reads a start tag, from its `<`, in the context `around`.
+/// Reads a start tag, from its `<`, in the context `around`. The number returned is how many replacement texts may be opened
+/// after it.
 #[inline(always)]
 #[tactic(auto, unfolding(rox_reading::specs::Tags::tag_at))]
 pub fn start_tag<'input>(
@@ -254,7 +272,7 @@ pub fn start_tag<'input>(
     buffers: &mut Buffers<'input>,
     around: TagContext,
     context: Context<'_, 'input>,
-) -> Result<StartTag<'input>, ParseError<'input>>
+) -> Result<(StartTag<'input>, u32), ParseError<'input>>
     requires { MayReadTagBelow cursor.old elements.old around.above }
     ensures { ReadsStartTag context.entry around cursor.old cursor.new elements.old elements.new
         result }
@@ -278,12 +296,12 @@ pub fn start_tag<'input>(
     let declared = OwnDeclarations { from: own, xml };
     let scope = scope_of_tag(elements, &buffers.prefix_set, around.above, declared)?;
     let element = element_data(alloc, elements, &mut buffers.taken, name, name_start, scope)?;
-    Ok(StartTag {
+    let tag = StartTag {
         name,
         name_start,
         name_end,
         element,
         empty,
-        openings_left,
-    })
+    };
+    Ok((tag, openings_left))
 }

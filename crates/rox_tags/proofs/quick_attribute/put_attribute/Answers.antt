@@ -7,14 +7,14 @@ use Rattle.rox_bytes.proofs.NearLemmas.{part_cut, part_stops}
 use Rattle.rox_tags.proofs.PlainTags.{bare_namespace, behind_quote, ascii_begins, quote_first}
 use Rattle.rox_tags.proofs.quick_attribute.put_attribute.Goals as goal
 
-pub whole_name-name-requires : goal.whole_name-name-requires
-whole_name-name-requires c =
+pub name_without_prefix-name-requires : goal.name_without_prefix-name-requires
+name_without_prefix-name-requires c =
     let src = c.args.text.now in
     let i = c.args.start in
     let window = c.new-window.ensures in
     let seen = c.part_count-count.ensures src window.sees (omega (arith, c.if-count-gt-MOST_NAME.false)) in
     let near : EndsSet is_part_byte src i (i + c.part_count-count.result) = rw window.place at seen in
-    let here = (c.seen_quote-quote.ensures (omega arith)).equals in
+    let here = (c.quote_in_text-quote.ensures (omega arith)).equals in
     record {
       first = record {
         start = c.requires.cut;
@@ -28,8 +28,8 @@ whole_name-name-requires c =
       here = here;
     }
 
-pub seen_value-requires : goal.seen_value-requires
-seen_value-requires c =
+pub value_in_window-requires : goal.value_in_window-requires
+value_in_window-requires c =
     let src = c.args.text.now in
     let n = c.args.start + c.part_count-count.result in
     let window = c.new-window.ensures in
@@ -37,8 +37,8 @@ seen_value-requires c =
     let few : c.part_count-count.result + 2 ≤ 16 = omega (arith, c.if-count-gt-MOST_NAME.false) in
     let near = c.part_count-count.ensures src window.sees (omega (arith, few)) in
     let name : EndsSet is_part_byte src c.args.start n = rw place at near in
-    let seen = c.seen_quote-quote.ensures (omega arith) in
-    let first = quote_first src c.args.start n c.seen_quote-quote.result name seen in
+    let seen = c.quote_in_text-quote.ensures (omega arith) in
+    let first = quote_first src c.args.start n c.quote_in_text-quote.result name seen in
     record {
       seen = record {
         sees = window.sees;
@@ -47,7 +47,7 @@ seen_value-requires c =
         opens = rw place (subst (EndsSet is_value_byte src c.args.start) (omega arith) first);
       };
       begins = record {
-        cut = subst (IsCharBoundary src) (omega (arith, place)) (behind_quote src n c.seen_quote-quote.result c.utf8.text seen.within seen.here seen.quote);
+        cut = subst (IsCharBoundary src) (omega (arith, place)) (behind_quote src n c.quote_in_text-quote.result c.utf8.text seen.within seen.here seen.quote);
         quote = seen.quote;
       };
     }
@@ -55,7 +55,7 @@ seen_value-requires c =
 pub put_named_attribute-requires : goal.put_named_attribute-requires
 put_named_attribute-requires c = record {
   put = first_of (search rules, grind (arith, common_steps));
-  found = bare_namespace c.args.elements.now c.args.scope (name_view c.whole_name-name.result.name) c.whole_name-name.ensures.bare;
+  found = bare_namespace c.args.elements.now c.args.scope (name_view c.name_without_prefix-name.result.name) c.name_without_prefix-name.ensures.bare;
   named = first_of (search rules, grind (arith, common_steps));
   local = first_of (search rules, grind (arith, common_steps));
   value = first_of (search rules, grind (arith, common_steps));

@@ -25,8 +25,8 @@ prefixed_name-requires c =
       here = here;
     }
 
-pub plain_value-requires : goal.plain_value-requires
-plain_value-requires c =
+pub unchanged_value-requires : goal.unchanged_value-requires
+unchanged_value-requires c =
     let named = c.in-Some-prefixed_name.ensures.named in
     let v = value_starts c.args.text.now c.in-Some-prefixed_name.name.end c.utf8.text named.inside named.equals named.quote in
     record { cut = v.cut; near = c.skip_set-near.ensures; quote = c.quote_before-quote.ensures.quote }

@@ -49,7 +49,7 @@ returns c =
     let all = rw place at near.passes in
     let onward : k + 1 ≤ j = rw place at near.onward in
     let letter : 65 ≤ slice_index src (k + 1) = rw (c.as_bytes.ensures.value, place) at c.if-as_bytes-local-lt65.false in
-    let quoted = c.quote_behind_equals.ensures (omega arith) in
+    let quoted = c.quote_after_equals.ensures (omega arith) in
     let is = quoted.equals in
     let apart : k + 1 ≡ j → ⊥ = λ same. absurd (let first = ap (slice_index src) same in omega (arith, first, is, letter)) in
     let more : k + 1 < j = omega (arith, onward, apart) in

@@ -1,4 +1,5 @@
-use Rattle.std.proofs.Common.{rules, ◌≡◌, ◌≤◌, ◌+◌, length, map, refl, sym, ap, subst, ◌∙◌, arith, ℕ, length-append}
+use Rattle.std.proofs.Common.{rules, ◌≡◌, ◌≤◌, ◌+◌, length, map, sym, ap, subst, ◌∙◌, arith, ℕ, List, length-append}
+use Rattle.std.specs.Borrow.{Bor}
 use Rattle.std.specs.List.{AllByRecursion}
 use Rattle.std.specs.Option.{option_map}
 use Rattle.std.proofs.lemmas.List.{length-map}
@@ -78,8 +79,8 @@ returns-in_err-namespace c = record {
       rw (p.1, p.2) (tested_unknown scope count c.args.at name written c.in_err-namespace.field-0.0 few fine k.0 k.1);
 }
 
-pub overflow_cast-result-2 : goal.overflow_cast-result-2
-overflow_cast-result-2 c =
+pub element_of-requires : goal.element_of-requires
+element_of-requires c =
     let t = c.args.elements.now in
     let namespaces = map namespace_view t.namespaces.items.items in
     let scope = scope_at (lists_in t) c.args.scope in
@@ -94,8 +95,8 @@ overflow_cast-result-2 c =
     let n = ap length moved.2 in
     let a = length-map moved.0 (attribute (map namespace_view c.as_slice.result.now)) in
     let b = length-map written (attribute_in scope) in
-    let until = c.len-2.ensures in
-    omega arith
+    let from = c.len-from.ensures in
+    record { within = omega arith; few = omega arith }
 
 pub returns : goal.returns
 returns c =
@@ -120,7 +121,7 @@ returns c =
           let named = c.in_ok-namespace.ensures.ok scope here2 in
           let o = c.in_ok-namespace.namespace in
           let place = subst (λ (n : ℕ). OptionWithin n o) (ap length c.as_slice-2.ensures.value) c.in_ok-namespace.ensures.within in
-          let number = c.namespace_number.ensures (option_more (length t.namespaces.items.items) most_pairs o c.requires.few_names place) in
+          let number = c.namespace_number-number.ensures (option_more (length t.namespaces.items.items) most_pairs o c.requires.few_names place) in
           let same : map (attribute namespaces) moved.0 ≡ map (attribute_in scope) written =
           ap (λ ns. map (attribute ns) moved.0) (sym seen) ∙ moved.2 in
           let wide : length c.as_slice.result.now ≡ length namespaces = ap length c.as_slice.ensures.value ∙ sym (length-map t.namespaces.items.items namespace_view) in
@@ -128,6 +129,7 @@ returns c =
           let n = ap length same in
           let a = length-map moved.0 (attribute namespaces) in
           let b = length-map written (attribute_in scope) in
+          let made = c.element_of.ensures in
           record {
             attributes = record {
               more = moved.0;
@@ -135,14 +137,14 @@ returns c =
               same = same;
               within = subst (λ (n : ℕ). AllByRecursion (λ (a : AttributeRow). NamespaceWithin n a.0.namespace) moved.0) wide moved.3;
             };
-            attributes_from = c.len-from.ensures;
-            attributes_until = c.len-2.ensures;
+            attributes_from = made.attributes_from ∙ c.len-from.ensures;
+            attributes_until = made.attributes_until;
             few = omega arith;
-            local = refl;
-            namespace = rw number (ap (λ ns. option_map (λ i. (namespace_at ns i).uri) o) (sym seen2) ∙ named.0);
-            namespace_within = rw number place;
-            scope_within = c.requires.within;
-            lists = refl;
+            local = ap (λ (l : Bor (List ℕ)). l.now) made.local;
+            namespace = rw (made.namespace, number) (ap (λ ns. option_map (λ i. (namespace_at ns i).uri) o) (sym seen2) ∙ named.0);
+            namespace_within = rw (made.namespace, number) place;
+            scope_within = rw made.scope c.requires.within;
+            lists = ap (scope_at (lists_in t)) made.scope;
           };
       err = search rules;
     }

@@ -1,0 +1,91 @@
+-- Plain start tags as a whole.
+use Rattle.std.proofs.Common.{◌≡◌, ℕ, ◌+◌, ◌≤◌, true, false, List, [], length, map, bytes_eq, refl, sym, ap, subst, ◌∙◌, arith, Ok}
+use Rattle.std.specs.Borrow.{Bor}
+use Rattle.std.specs.Option.{option_map}
+use Rattle.std.specs.Str.{IsCharBoundary}
+use Rattle.std.proofs.lemmas.List.{append-nil}
+use Rattle.rox_grammar.specs.declared.fault.Fault.{Fault}
+use Rattle.rox_grammar.specs.declared.fault.Word.TheVariants.{Xmlns}
+use Rattle.rox_grammar.specs.Document.{most_attributes}
+use Rattle.rox_grammar.specs.FixedTexts.{word_text}
+use Rattle.rox_grammar.specs.Failures.{name_view}
+use Rattle.rox_grammar.specs.Tree.{attribute_in, element_namespace, listed}
+use Rattle.rox_grammar.specs.WellNamed.{may_name}
+use Rattle.rox_grammar.specs.Written.{NamespaceDecl}
+use Rattle.rox_reading.specs.Lexical.{qname_at}
+use Rattle.rox_reading.specs.Tags.{Values, attributes_at, names_tested, tag_tested}
+use Rattle.rox_rows.specs.Rows.{attribute_rows, namespace_at, numbered_place, scope_at}
+use Rattle.rox_scopes.specs.Tables.{namespace_view}
+use Rattle.rox_scopes.specs.TagScopes.{lists_in, scope_in_tables}
+use Rattle.rox_scopes.specs.declared.tables.ElementTables.{ElementTables}
+use Rattle.rox_scopes.proofs.Listing.{listed-none}
+use Rattle.rox_names.specs.OpenElements.{IsNamespaceOf}
+use Rattle.rox_names.specs.declared.open_element.OpenElement.{OpenElement}
+use Rattle.rox_names.specs.declared.start_tag.StartTag.{StartTag}
+use Rattle.rox_tags.specs.ElementRow.{IsElementFrom}
+use Rattle.rox_tags.specs.PlainTag.{IsPlainTag, MayOpenBelow}
+use Rattle.rox_tags.specs.TagAttributes.{ArePlainAttributes, holding}
+use Rattle.rox_tags.specs.declared.own_declaration.TagScope.{TagScope}
+use Rattle.rox_tags.proofs.Starting.{tag_made, tested_known, tested_passes}
+use Rattle.rox_tags.proofs.TagAttributes.{plain_count}
+
+-- a scope in which a tag declares nothing
+abbrev pub below_parent : ℕ → TagScope
+below_parent n = record { scope = n; declares = false }
+
+-- the tag of a child of an open element, whose attributes were read
+pub plain_tagged : (old new : ElementTables) (o : OpenElement) (src : List ℕ) (i k end : ℕ) (t : StartTag) (from namespace : ℕ) → MayOpenBelow old o
+    → ArePlainAttributes (below_parent o.scope) old new src k end t.empty
+    → qname_at src (i + 1) ≡ Ok (name_view t.name, k) → bytes_eq (name_view t.name).prefix (word_text Xmlns) ≡ false → t.name_start ≡ i + 1 → t.name_end ≡ k
+    → IsElementFrom new t.name.local from o.scope namespace t.element → from ≡ length (attribute_rows old.attributes) → length (attribute_rows new.attributes) ≤ most_attributes
+    → IsNamespaceOf old o.scope (name_view t.name) (numbered_place namespace) → may_name (scope_in_tables old o.scope) (name_view t.name) ≡ true → IsCharBoundary src end
+    → IsPlainTag old new (scope_in_tables old o.scope) src i end t
+plain_tagged old new o src i k end t from namespace below x is other starts name_end e from_is most named known cut =
+    let above = scope_in_tables old o.scope in
+    let names = map namespace_view old.namespaces.items.items in
+    let count = length (attribute_rows old.attributes) in
+    let name = name_view t.name in
+    let others = x.declares.others in
+    let same : scope_in_tables new o.scope ≡ above = ap (λ (u : ElementTables). scope_in_tables u o.scope) others in
+    let spaces : map namespace_view new.namespaces.items.items ≡ names = ap (λ (u : ElementTables). map namespace_view u.namespaces.items.items) others in
+    let none : listed above [] ≡ above = listed-none above in
+    let counted = plain_count (below_parent o.scope) old new src k end t.empty x in
+    let fits : count + length x.written ≤ most_attributes = omega arith in
+    let tested : names_tested above [] x.written ≡ Ok tt = subst (λ (ds : List NamespaceDecl). names_tested ds [] x.written ≡ Ok tt) same x.tested in
+    let fine : tag_tested (listed above []) count i name x.written ≡ Ok tt =
+    tested_passes (listed above []) count i name x.written (rw none (tested_known above count (i + 1) name x.written fits tested known)) in
+    let read : (context : Values) (cut : Fault) (openings_left : ℕ) → attributes_at (length src) context cut names src k openings_left (holding [] [])
+    ≡ Ok (record { held = holding [] x.written; empty = t.empty; openings_left = openings_left }, end) =
+    λ context cut openings_left. subst (λ (ds : List NamespaceDecl). attributes_at (length src) context cut names src k openings_left (holding [] [])
+    ≡ Ok (record { held = holding ds x.written; empty = t.empty; openings_left = openings_left }, end)) x.declares.none (x.read context cut openings_left) in
+    let space : option_map (λ i. (namespace_at names i).uri) (numbered_place t.element.namespace) ≡ element_namespace above name = rw e.namespace named.is in
+    let within = below.parent in
+    record {
+      tag = record { name = name; name_end = k; declarations = []; attributes = x.written };
+      read = λ context cut openings_left. tag_made context cut above count names src i openings_left name k end (holding [] x.written) t.empty openings_left is other (read context cut openings_left) fine;
+      tagged = record {
+        name = refl;
+        name_end = name_end;
+        namespaces = spaces;
+        few = rw (ap (λ (u : ElementTables). u.namespaces) others) below.few;
+        more = [];
+        lists_more = ap lists_in others ∙ sym (append-nil _);
+        places = rw others below.places;
+        scopes = rw others below.scopes;
+        kept = rw others below.kept;
+        once = rw (e.scope, others) within.1;
+        element = record {
+          attributes = record { more = x.more; grown = x.rows; same = x.shown ∙ ap (λ (ds : List NamespaceDecl). map (attribute_in ds) x.written) (same ∙ sym none); within = x.within };
+          attributes_from = e.attributes_from ∙ from_is;
+          attributes_until = e.attributes_until;
+          few = most;
+          local = ap (λ (l : Bor (List ℕ)). l.now) e.local;
+          namespace = rw (none, spaces) space;
+          namespace_within = rw (ap (λ (u : ElementTables). length u.namespaces.items.items) others, e.namespace) named.within;
+          scope_within = rw (ap (λ (u : ElementTables). length u.scopes.items) others, e.scope) within.0;
+          lists = ap (scope_at (lists_in new)) e.scope ∙ same ∙ sym none;
+        };
+      };
+      starts = starts;
+      cut = cut;
+    }

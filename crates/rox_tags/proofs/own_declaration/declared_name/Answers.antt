@@ -1,0 +1,33 @@
+use Rattle.std.proofs.Common.{sym, ◌∙◌, arith}
+use Rattle.std.proofs.lemmas.Bool.{eqb-true}
+use Rattle.rox_tags.proofs.OwnNames.{colon_stops, declares_prefix, declares_whole, equals_stops, first_part}
+use Rattle.rox_tags.proofs.own_declaration.declared_name.Goals as goal
+
+pub prefixed_name-requires : goal.prefixed_name-requires
+prefixed_name-requires c =
+    first_part c.args.text.now c.args.start 58 c.utf8.text c.requires (eqb-true _ _ (sym c.is_at.ensures ∙ c.if-is_at.true)) (omega arith) colon_stops
+
+pub name_without_prefix-requires : goal.name_without_prefix-requires
+name_without_prefix-requires c =
+    first_part c.args.text.now c.args.start 61 c.utf8.text c.requires (c.quote_after_equals.ensures (omega arith)).equals (omega arith) equals_stops
+
+pub returns : goal.returns
+returns c =
+    let src = c.args.text.now in
+    let quoted = c.quote_after_equals.ensures (omega arith) in
+    let whole = c.name_without_prefix.ensures in
+    let end = whole.end in
+    let first = first_part src c.args.start 61 c.utf8.text c.requires quoted.equals (omega arith) equals_stops in
+    record {
+      named = record {
+        value = whole.value;
+        local = omega (arith, whole.local);
+        equals = rw end quoted.equals;
+        quote = rw (end, quoted.here) quoted.quote;
+        inside = omega (arith, end, quoted.within);
+      };
+      is = declares_whole src c.args.start c.name_without_prefix.result.end _ c.requires first whole.value;
+    }
+
+pub returns-then-is_at : goal.returns-then-is_at
+returns-then-is_at c = declares_prefix c.args.text.now c.args.start c.prefixed_name.result c.requires c.prefixed_name.ensures

@@ -1,0 +1,17 @@
+use Rattle.std.proofs.Common.{◌≡◌, ◌-◌, length}
+use Rattle.std.specs.Str.{IsCharBoundary}
+use Rattle.rox_rows.specs.Rows.{attribute_rows}
+use Rattle.rox_names.specs.SeenNames.{AreSeen}
+use Rattle.rox_tags.specs.TagAttributes.{HoldsSoFar}
+use Rattle.rox_tags.proofs.quick_tag.tag_attributes.Given as goal
+
+abbrev pub invariant-loop-at : goal.invariant-loop-at
+invariant-loop-at l = record {
+  from : l.seen.from ≡ length (attribute_rows l.fn.elements.attributes);
+  seen : AreSeen l.seen (attribute_rows l.elements.attributes);
+  cut : IsCharBoundary l.text l.at;
+  holds : HoldsSoFar l.tag l.fn.elements l.elements l.text l.start l.at;
+}
+
+abbrev pub decreases-loop-at : goal.decreases-loop-at
+decreases-loop-at l = length l.text - l.at

@@ -1,0 +1,189 @@
+-- The attributes and declarations of a tag that the fast path reads, and what the tables hold of them.
+use Rattle.std.specs.Prelude.{◌≡◌, ℕ, ◌+◌, ◌<◌, ◌≤◌, ◌^◌, Bool, true, false, List, [], ◌∷◌, ◌++◌, Option, Ok, length, map, slice_range, IfSome}
+use Rattle.std.specs.Borrow.{Bor}
+use Rattle.std.specs.List.{AllByRecursion}
+use Rattle.std.specs.Str.{IsCharBoundary}
+use Rattle.rox_grammar.specs.declared.fault.Fault.{Fault}
+use Rattle.rox_grammar.specs.declared.fault.Word.TheVariants.{Xmlns}
+use Rattle.rox_grammar.specs.Document.{most_attributes}
+use Rattle.rox_grammar.specs.Failures.{name_view}
+use Rattle.rox_grammar.specs.FixedTexts.{word_text}
+use Rattle.rox_grammar.specs.Tree.{attribute_in}
+use Rattle.rox_grammar.specs.Written.{Attribute, NamespaceDecl, is_namespace_decl}
+use Rattle.rox_reading.specs.Tags.{TagSoFar, Values, attributes_at, names_tested}
+use Rattle.rox_scopes.specs.Bindings.{AreBindingsOf}
+use Rattle.rox_rows.specs.Rows.{AttributeRow, NamespaceWithin, attribute, attribute_rows}
+use Rattle.rox_scopes.specs.Tables.{namespace_view}
+use Rattle.rox_scopes.specs.TagScopes.{scope_in_tables}
+use Rattle.rox_scopes.specs.declared.bindings.PrefixBindings.{PrefixBindings}
+use Rattle.rox_scopes.specs.declared.tables.ElementTables.{ElementTables}
+use Rattle.rox_scopes.specs.declared.tables.Scope.{Scope}
+use Rattle.rox_scopes.specs.declared.tables.Scope.TheVariants as scope
+use Rattle.rox_names.specs.SeenNames.{KeepsCodes}
+use Rattle.rox_names.specs.TagDeclarations.{Declares, DeclaresNew, HasOwn}
+use Rattle.rox_names.specs.declared.seen_names.SeenNames.{SeenNames}
+use Rattle.rox_names.specs.declared.unresolved_attribute.UnresolvedAttribute.{UnresolvedAttribute}
+use Rattle.rox_tags.specs.PlainTag.{HasScope, IsAttributeName, IsPlainAttribute}
+use Rattle.rox_tags.specs.PlainParts.{EndsTag}
+use Rattle.rox_tags.specs.declared.quick_name.NameAt.{NameAt}
+use Rattle.rox_tags.specs.declared.quick_tag.TagEnd.{TagEnd}
+use Rattle.rox_tags.specs.declared.own_declaration.TagScope.{TagScope}
+
+-- ---- declarations of a root element
+
+-- The name `n` of a declaration is read at `i`, and `=` and a quote are right after it.
+pub record IsDeclaredName (src : List ℕ) (i : ℕ) (n : NameAt) : Type 0 where
+  pub named : IsAttributeName src i n
+  pub is : is_namespace_decl (name_view n.name) ≡ true
+
+-- `xmlns` is at `i`, and a byte follows it.
+pub record HasXmlns (src : List ℕ) (i : ℕ) : Type 0 where
+  pub here : slice_range src i (i + 5) ≡ word_text Xmlns
+  pub behind : i + 5 < length src
+
+-- If the result is true, `xmlns` is at `i`, and the tag may declare namespaces.
+pub record MayDeclareHere (src : List ℕ) (i : ℕ) (tag : TagScope) (result : Bool) : Type 0 where
+  pub declares : result ≡ true → tag.declares ≡ true
+  pub here : result ≡ true → HasXmlns src i
+
+-- A scope that lists the first `n` places.
+abbrev pub first_places : ℕ → Scope
+first_places n = scope.Few (record { from = 0; until = n })
+
+-- The bindings are those of no scope.
+abbrev pub AreNoBindings : PrefixBindings → Type 0
+AreNoBindings x = (namespaces : List NamespaceDecl) (lists : List (List NamespaceDecl)) → AreBindingsOf namespaces lists x
+
+-- The tables have the scope of the root node and that of its element, which lists all listed places.
+pub record HasRootScope (t : ElementTables) : Type 0 where
+  pub scopes : t.scopes.items ≡ first_places 0 ∷ first_places (length t.listed.items) ∷ []
+  pub present : AreNoBindings t.present
+
+-- Nothing is declared, and the tables have the scope of the root element.
+pub record BeginsRoot (t : ElementTables) : Type 0 where
+  pub namespaces : t.namespaces.items.items ≡ []
+  pub listed : t.listed.items ≡ []
+  pub scope : HasRootScope t
+
+-- A declaration, not of `xml`, was read from `i` to `j`, and is listed.
+pub record ListsDeclaration (old new : ElementTables) (src : List ℕ) (i j : ℕ) : Type 0 where
+  pub one : UnresolvedAttribute
+  pub plain : IsPlainAttribute src i one
+  pub is : is_namespace_decl (name_view one.name) ≡ true
+  pub end : one.end ≡ j
+  pub listed : DeclaresNew old.namespaces.items.items old.listed.items new.namespaces.items.items new.listed.items one
+
+-- The declaration at `i` was put into the tables, up to the offset returned, if it is plain. What is recorded of names stays.
+pub record PutsDeclaration (old new : ElementTables) (s after : SeenNames) (src : List ℕ) (i : ℕ) (result : Option ℕ) : Type 0 where
+  pub others : new ≡ record old { namespaces = new.namespaces; listed = new.listed }
+  pub lists : IfSome result (λ j. ListsDeclaration old new src i j)
+  pub kept : KeepsCodes s after
+
+-- The scope of the root element lists all listed places, if true is returned.
+pub record ListsOwn (old new : ElementTables) (result : Bool) : Type 0 where
+  pub others : new ≡ record old { scopes = new.scopes }
+  pub lists : result ≡ true → (own : Scope) → old.scopes.items ≡ first_places 0 ∷ own ∷ [] → new.scopes.items ≡ first_places 0 ∷ first_places (length old.listed.items) ∷ []
+
+-- A declaration may be at `i`, and the tables have the scope of the root element.
+pub record MayPutDeclaration (src : List ℕ) (i : ℕ) (t : ElementTables) : Type 0 where
+  pub here : HasXmlns src i
+  pub scopes : length t.scopes.items ≡ 2
+
+-- The declaration at `i` was put into the tables as in `PutsDeclaration`, and the scope of the root element lists it.
+pub record DeclaresOwn (old new : ElementTables) (s after : SeenNames) (src : List ℕ) (i : ℕ) (result : Option ℕ) : Type 0 where
+  pub others : new ≡ record old { namespaces = new.namespaces; listed = new.listed; scopes = new.scopes }
+  pub lists : IfSome result (λ j. ListsDeclaration old new src i j)
+  pub scopes : IfSome result (λ j. (own : Scope) → old.scopes.items ≡ first_places 0 ∷ own ∷ [] → new.scopes.items ≡ first_places 0 ∷ first_places (length new.listed.items) ∷ [])
+  pub kept : KeepsCodes s after
+
+-- ---- attributes and declarations
+
+-- A tag that has the attributes `written` so far, and declares `own`.
+abbrev pub holding : List NamespaceDecl → List Attribute → TagSoFar
+holding own written = record { own = own; attributes = written }
+
+-- The attributes and declarations of a tag from `start` up to `i` were read, each of them plain. They declare `own`, and the
+-- attributes are in the table, which had the rows `old` before, with their namespaces in `scope`. Before the tag, the namespaces
+-- were `known`.
+pub record PlainSoFar (known namespaces scope own : List NamespaceDecl) (src : List ℕ) (start : ℕ) (old : List AttributeRow) (i : ℕ) (now : List AttributeRow) : Type 0 where
+  pub written : List Attribute
+  pub more : List AttributeRow
+  pub rows : now ≡ old ++ more
+  pub within : AllByRecursion (λ a. NamespaceWithin (length namespaces) a.0.namespace) more
+  pub shown : map (attribute namespaces) more ≡ map (attribute_in scope) written
+  pub tested : (rest : List Attribute) → names_tested scope [] (written ++ rest) ≡ names_tested scope written rest
+  -- At least `turns` turns are left for what follows.
+  pub turns : ℕ
+  pub enough : length src ≤ turns + i
+  pub read : (context : Values) (cut : Fault) (openings_left : ℕ)
+      → attributes_at (length src) context cut known src start openings_left (holding [] []) ≡ attributes_at turns context cut known src i openings_left (holding own written)
+
+-- A tag declares nothing in its scope `n`. The tables `now` are `old` with other attributes.
+pub record DeclaresNothing (old now : ElementTables) (n : ℕ) (own : List NamespaceDecl) : Type 0 where
+  pub others : now ≡ record old { attributes = now.attributes }
+  pub scope : HasScope old n
+  pub none : own ≡ []
+
+-- The tag of a root element declares `own`, which its scope `n` lists. Before the tag, nothing was declared.
+pub record DeclaresInRoot (old now : ElementTables) (n : ℕ) (own : List NamespaceDecl) : Type 0 where
+  pub root : n ≡ 1
+  pub known : old.namespaces.items.items ≡ []
+  pub declares : Declares [] [] (map namespace_view now.namespaces.items.items) now.listed.items false own
+  pub keys : List (Option (Bor (List ℕ)))
+  pub has : HasOwn now.namespaces.items.items now.listed.items keys 0
+  pub scope : HasRootScope now
+
+-- A tag declares `own` in its scope `n`, if it may declare anything.
+abbrev pub DeclaresIn : Bool → (old now : ElementTables) → ℕ → List NamespaceDecl → Type 0
+DeclaresIn false old now n own = DeclaresNothing old now n own
+DeclaresIn true old now n own = DeclaresInRoot old now n own
+
+-- The attributes and declarations of a tag up to `i` were read as in `PlainSoFar`, into the tables `now`.
+pub record HoldsSoFar (tag : TagScope) (old now : ElementTables) (src : List ℕ) (start i : ℕ) : Type 0 where
+  pub own : List NamespaceDecl
+  pub declares : DeclaresIn tag.declares old now tag.scope own
+  pub so_far : PlainSoFar (map namespace_view old.namespaces.items.items) (map namespace_view now.namespaces.items.items) (scope_in_tables now tag.scope) own src start (attribute_rows old.attributes) i (attribute_rows now.attributes)
+
+-- The attributes and declarations of a tag were read, up to its end at `end`, into the tables `now`.
+pub record ArePlainAttributes (tag : TagScope) (old now : ElementTables) (src : List ℕ) (start end : ℕ) (empty : Bool) : Type 0 where
+  pub own : List NamespaceDecl
+  pub declares : DeclaresIn tag.declares old now tag.scope own
+  pub written : List Attribute
+  pub more : List AttributeRow
+  pub rows : attribute_rows now.attributes ≡ attribute_rows old.attributes ++ more
+  pub within : AllByRecursion (λ a. NamespaceWithin (length (map namespace_view now.namespaces.items.items)) a.0.namespace) more
+  pub shown : map (attribute (map namespace_view now.namespaces.items.items)) more ≡ map (attribute_in (scope_in_tables now tag.scope)) written
+  pub tested : names_tested (scope_in_tables now tag.scope) [] written ≡ Ok tt
+  pub read : (context : Values) (cut : Fault) (openings_left : ℕ)
+      → attributes_at (length src) context cut (map namespace_view old.namespaces.items.items) src start openings_left (holding [] [])
+      ≡ Ok (record { held = holding own written; empty = empty; openings_left = openings_left }, end)
+
+-- The tables of a tag before its attributes.
+abbrev pub MayBegin : Bool → ElementTables → ℕ → Type 0
+MayBegin false t n = HasScope t n
+MayBegin true t n = BeginsRoot t × (n ≡ 1)
+
+-- The attributes of a tag, and its declarations if it may have any, may be read at `i`.
+pub record MayReadAttributes (src : List ℕ) (i : ℕ) (t : ElementTables) (tag : TagScope) : Type 0 where
+  pub cut : IsCharBoundary src i
+  pub short : length src < 2 ^ 32
+  pub begins : MayBegin tag.declares t tag.scope
+
+-- The table of attributes has grown, and the other tables only if the tag may declare anything.
+pub record HasGrown (tag : TagScope) (old new : ElementTables) : Type 0 where
+  pub more : List AttributeRow
+  pub rows : attribute_rows new.attributes ≡ attribute_rows old.attributes ++ more
+  pub others : tag.declares ≡ false → new ≡ record old { attributes = new.attributes }
+
+-- The attributes and declarations of a tag were read from `i` up to its end, if they are plain. If no end is returned, the tables
+-- may have some of them too.
+pub record ReadsAttributes (old new : ElementTables) (tag : TagScope) (src : List ℕ) (i : ℕ) (result : Option TagEnd) : Type 0 where
+  pub read : IfSome result (λ e. ArePlainAttributes tag old new src i e.at e.empty)
+  pub cut : IfSome result (λ e. IsCharBoundary src e.at)
+  pub few : IfSome result (λ e. length (attribute_rows new.attributes) ≤ most_attributes)
+  pub grown : HasGrown tag old new
+
+-- If an end is returned, `>` or `/>` is at `i`, and the tables have no more attributes than a document may have.
+pub record EndsAttributes (src : List ℕ) (i : ℕ) (t : ElementTables) (result : Option TagEnd) : Type 0 where
+  pub ends : EndsTag src i result
+  pub few : IfSome result (λ e. length (attribute_rows t.attributes) ≤ most_attributes)

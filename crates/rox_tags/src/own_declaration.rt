@@ -1,0 +1,137 @@
+//! Declarations of the tag of a root element, by the quick reader: those that are plain, while they are few. Its scope lists them
+//! (Namespaces in XML 1.0 section 3).
+
+ghost use Rattle.std.specs.Prelude.{◌≡◌, IfSome, length, true};
+ghost use Rattle.rox_tags.specs.TagAttributes.{DeclaresOwn, HasXmlns, IsDeclaredName, ListsOwn, MayDeclareHere, MayPutDeclaration, PutsDeclaration};
+
+use crate::quick_name::{NameAt, name_without_prefix, prefixed_name};
+use crate::quick_value::{quote_after_equals, quote_before, unchanged_value};
+use rox_bytes::byte_set::{ValueByte, skip_set};
+use rox_bytes::runs::{after_byte, is_at};
+use rox_names::namespace_decl::declare_new;
+use rox_names::seen_names::SeenNames;
+use rox_names::unresolved_attribute::UnresolvedAttribute;
+use rox_rows::storage::StringStorage;
+use rox_scopes::prefix_set::FEW;
+use rox_scopes::tables::{ElementTables, Scope, Stretch};
+
+/// The scope of a root element: the one after that of the root node.
+pub const OWN: u32 = 1;
+
+/// The scope of a start tag. Only the tag of a root element may declare namespaces, and its scope is then `OWN`.
+#[derive(Clone, Copy)]
+pub struct TagScope {
+    pub scope: u32,
+    pub declares: bool,
+}
+
+/// Returns true only if `xmlns` is at `at`, and a byte follows it.
+#[inline(always)]
+fn may_declare(text: &str, at: usize) -> bool
+    ensures { result ≡ true → HasXmlns text.now at }
+{
+    let bytes = text.as_bytes();
+    at < bytes.len()
+        && bytes.len() - at > 5
+        && bytes[at] == b'x'
+        && bytes[at + 1] == b'm'
+        && bytes[at + 2] == b'l'
+        && bytes[at + 3] == b'n'
+        && bytes[at + 4] == b's'
+}
+
+/// Returns true only if the tag may declare namespaces, and `xmlns` is at `at` with a byte after it.
+#[inline(always)]
+pub fn declares_at(text: &str, at: usize, tag: TagScope) -> bool
+    ensures { MayDeclareHere text.now at tag result }
+{
+    tag.declares && may_declare(text, at)
+}
+
+/// Returns the name of the declaration that starts with the `xmlns` at `start`, if `=` and a quote are right after it. The byte
+/// after `xmlns` shows whether that is its prefix or all of it.
+#[inline(always)]
+fn declared_name<'input>(text: &'input str, start: usize) -> Option<NameAt<'input>>
+    requires { HasXmlns text.now start }
+    ensures { IfSome result (λ n. IsDeclaredName text.entry.now start n) }
+{
+    let part = start + 5;
+    if is_at(text, part, b':') {
+        return prefixed_name(text, start, part);
+    }
+    if quote_after_equals(text, part) == 0 {
+        return None;
+    }
+    Some(name_without_prefix(text, start, part))
+}
+
+/// Puts the declaration at `start` into the tables, if it is plain and does not declare `xml`. Returns the offset after it. Sets
+/// `lacking` of `seen` if memory was refused.
+#[inline(always)]
+fn declared<'input>(
+    text: &'input str,
+    start: usize,
+    elements: &mut ElementTables<'input>,
+    seen: &mut SeenNames,
+) -> Option<usize>
+    requires { HasXmlns text.now start }
+    ensures { PutsDeclaration elements.old elements.new seen.old seen.new text.entry.now start result }
+{
+    let name = declared_name(text, start)?;
+    let value_start = name.end + 2;
+    let quote = quote_before(text, value_start);
+    let near = skip_set::<ValueByte>(text, value_start);
+    let value = unchanged_value(text, value_start, quote, near)?;
+    let end = after_byte(text, value.end, quote);
+    let one = UnresolvedAttribute {
+        start,
+        name_end: name.end,
+        value_start,
+        end,
+        name: name.name,
+        value: StringStorage::Borrowed(value.text),
+    };
+    match declare_new(&mut elements.namespaces, &mut elements.listed, one) {
+        Ok(true) => Some(end),
+        Ok(false) => None,
+        Err(_) => {
+            seen.lacking = true;
+            None
+        }
+    }
+}
+
+/// Makes the scope of the root element list all listed places, if they are few. Returns false if they are not.
+#[inline(always)]
+fn list_own(elements: &mut ElementTables<'_>) -> bool
+    requires { length elements.old.scopes.items ≡ 2 }
+    ensures { ListsOwn elements.old elements.new result }
+{
+    let count = elements.listed.len();
+    if count > FEW {
+        return false;
+    }
+    elements.scopes[OWN as usize] = Scope::Few(Stretch {
+        from: 0,
+        until: count as u32,
+    });
+    true
+}
+
+/// Puts the declaration at `start` into the tables, like `declared`, and lists it in the scope of the root element.
+#[inline(always)]
+pub fn put_declaration<'input>(
+    text: &'input str,
+    start: usize,
+    elements: &mut ElementTables<'input>,
+    seen: &mut SeenNames,
+) -> Option<usize>
+    requires { MayPutDeclaration text.now start elements.old }
+    ensures { DeclaresOwn elements.old elements.new seen.old seen.new text.entry.now start result }
+{
+    let end = declared(text, start, elements, seen)?;
+    if !list_own(elements) {
+        return None;
+    }
+    Some(end)
+}
