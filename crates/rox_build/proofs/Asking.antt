@@ -9,7 +9,8 @@ use Rattle.rox_grammar.specs.Doctype.{Request, Asked}
 use Rattle.rox_reading.specs.Refusals.{Refusal, here, there, refused}
 use Rattle.rox_reading.specs.Lexical.{byte_at}
 use Rattle.rox_reading.specs.Doctype.{Reply, Asks, Dtd, EntityHead, Definition, outer, answer_text, defined, replies_of, entity_head_at, definition_at, entity_step}
-use Rattle.rox_reading.specs.Answering.{Answered, Stops, left_with}
+use Rattle.rox_reading.specs.Answering.{Answered, left_with}
+use Rattle.rox_reading.specs.Stopping.{Stops}
 use Rattle.rox_reading.proofs.Settling.{entity_run, declared_there}
 use Rattle.rox_build.specs.Asking.{AreGiven, StopsBy}
 use Rattle.rox_values.specs.declared.parse_error.ParseError.{ParseError}

@@ -15,8 +15,10 @@ use Rattle.rox_reading.specs.Markup.{xml_decl_at}
 use Rattle.rox_reading.specs.Refusals.{Refusal, here, there, refused, lifted}
 use Rattle.rox_reading.specs.State.{State}
 use Rattle.rox_reading.specs.Doctype.{Reply, Dtd}
-use Rattle.rox_reading.specs.Answering.{Answered, Stops, Yields}
-use Rattle.rox_reading.specs.WholeText.{misc, prolog, body, finished, begins_doctype, has_doctype}
+use Rattle.rox_reading.specs.Answering.{Answered, Yields}
+use Rattle.rox_reading.specs.Stopping.{Stops}
+use Rattle.rox_reading.specs.WholeText.{misc, prolog, body, finished}
+use Rattle.rox_reading.specs.HasDoctype.{begins_doctype, has_doctype}
 use Rattle.rox_reading.proofs.Settling.{doctype_run, whole_run, prolog_stops, misc_stops, before_doctype, body_stops, finished_stops, whole_read, behind_stops, step_run}
 use Rattle.rox_reading.proofs.FaultsAlone.{alone_lifted, body_alone}
 use Rattle.rox_scan.specs.DoctypeViews.{xml_decl_if}

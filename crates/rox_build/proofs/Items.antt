@@ -14,7 +14,8 @@ use Rattle.rox_reading.specs.Refusals.{here, lifted}
 use Rattle.rox_reading.specs.State.{State}
 use Rattle.rox_reading.specs.Machine.{at_place, comment_step, instruction_step}
 use Rattle.rox_reading.specs.Doctype.{Reply, Asks, Dtd, with_state, entity_step, subset, doctype_head_at}
-use Rattle.rox_reading.specs.Answering.{left_with, Stops, Continues}
+use Rattle.rox_reading.specs.Answering.{left_with, Continues}
+use Rattle.rox_reading.specs.Stopping.{Stops}
 use Rattle.rox_reading.proofs.Answering as turn
 use Rattle.rox_reading.proofs.Answering.{spaced, texts_both}
 use Rattle.rox_reading.proofs.Settling.{step_run, subset_run, doctype_subset, doctype_subset_stops}

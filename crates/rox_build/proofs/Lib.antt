@@ -7,7 +7,6 @@ pub mod Wholes
 pub mod Asking
 pub mod Items
 pub mod PlainReads
-pub mod DeclaredNames
 pub mod RootTags
 pub mod RootElements
 pub mod SameBytes

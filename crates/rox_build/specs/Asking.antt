@@ -4,7 +4,8 @@ use Rattle.rox_grammar.specs.Doctype.{Request, Asked}
 use Rattle.rox_reading.specs.Refusals.{here, there, refused}
 use Rattle.rox_reading.specs.Doctype.{Asks, Definition, Dtd, defined, replies_of, AreTextReplies}
 use Rattle.rox_reading.specs.Machine.{at_place}
-use Rattle.rox_reading.specs.Answering.{Answered, Stops, Continues}
+use Rattle.rox_reading.specs.Answering.{Answered, Continues}
+use Rattle.rox_reading.specs.Stopping.{Stops}
 use Rattle.rox_build.specs.Requests.{Reply, AreAllowed, MayAsk}
 use Rattle.rox_scan.specs.DoctypeViews.{replacement_view}
 use Rattle.rox_scan.specs.declared.cursor.Cursor.{Cursor}

@@ -8,8 +8,9 @@ use Rattle.rox_grammar.specs.Doctype.{Request, Asked}
 use Rattle.rox_reading.specs.Refusals as refusal
 use Rattle.rox_reading.specs.Refusals.{Refusal}
 use Rattle.rox_reading.specs.Doctype.{Reply, replies_of, AreTextReplies}
-use Rattle.rox_reading.specs.Answering.{Stops}
-use Rattle.rox_reading.specs.WholeText.{has_doctype, reading}
+use Rattle.rox_reading.specs.Stopping.{Stops}
+use Rattle.rox_reading.specs.WholeText.{reading}
+use Rattle.rox_reading.specs.HasDoctype.{has_doctype}
 use Rattle.rox_build.specs.Requests.{AreAllowed}
 use Rattle.rox_scopes.specs.Tables.{HoldsTree}
 use Rattle.rox_scopes.specs.declared.tables.Tables.{Tables}

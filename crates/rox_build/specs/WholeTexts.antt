@@ -14,7 +14,8 @@ use Rattle.rox_reading.specs.Refusals.{Refusal, lifted}
 use Rattle.rox_reading.specs.State.{State}
 use Rattle.rox_reading.specs.Doctype.{Dtd}
 use Rattle.rox_reading.specs.Answering.{left_with, Yields}
-use Rattle.rox_reading.specs.WholeText.{misc, prolog, doctype, body, finished, has_doctype, reading}
+use Rattle.rox_reading.specs.WholeText.{misc, prolog, doctype, body, finished, reading}
+use Rattle.rox_reading.specs.HasDoctype.{has_doctype}
 use Rattle.rox_scan.specs.declared.cursor.Cursor.{Cursor}
 use Rattle.rox_build.specs.Asking.{IsDoctypeRead}
 use Rattle.rox_values.specs.Refusals.{IsRefusal}

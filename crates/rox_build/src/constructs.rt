@@ -142,8 +142,8 @@ pub fn element<'input>(
         openings_left,
     };
     let (tables, buffers) = (&mut builder.tables, &mut builder.buffers);
-    let tag = start_tag(alloc, cursor, tables, buffers, around, context)?;
-    builder.openings_left = tag.openings_left;
+    let (tag, left) = start_tag(alloc, cursor, tables, buffers, around, context)?;
+    builder.openings_left = left;
     if tag.empty {
         builder.leaf(alloc, start, cursor.pos, NodeKind::Element(tag.element))?;
         return Ok(());

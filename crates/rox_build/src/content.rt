@@ -13,14 +13,12 @@ ghost use Rattle.rox_builder.specs.Outcomes.{MayStep, ParsesAs};
 ghost use Rattle.rox_builder.specs.Readiness.{MayReadTo};
 
 use crate::constructs::{end_tag, markup};
-use crate::quick_content::{plain_main_line, plain_step, plain_stretch};
+use crate::quick_content::{put_main_line_end, quick_constructs, quick_markup_of_text};
 use rox_builder::builder::Builder;
 use rox_grammar::failure::Failure;
 use rox_grammar::fault::Fault;
 use rox_names::start_tag::Buffers;
-use rox_scan::character_data::{
-    ends_character_data, line_run_end, plain_run_end, raw_character_data,
-};
+use rox_scan::character_data::raw_character_data;
 use rox_scan::cursor::Cursor;
 use rox_scan::short_run::is_plain_to_end;
 use rox_values::character_data::data_part;
@@ -29,10 +27,10 @@ use rox_values::line_ends::line_feeds;
 use rox_values::parse_error::ParseError;
 use std::alloc::{AllocError, Global};
 
-/// Reads character data that the fast path does not read, up to the next `<` or the end.
+/// Reads the pieces of character data, up to the next `<` or the end.
 #[cycle(content)]
-#[inline(never)]
-fn slow_character_data<'input>(
+#[inline(always)]
+fn character_data_pieces<'input>(
     alloc: Global,
     cursor: &mut Cursor<'input>,
     builder: &mut Builder<'input>,
@@ -43,14 +41,6 @@ fn slow_character_data<'input>(
         builder.new result }
 {
     let start = cursor.pos;
-    let text = cursor.text;
-    if context.main {
-        if let Some(end) = line_run_end(*cursor) {
-            cursor.pos = end;
-            builder.owned_piece(alloc, start, end, &text[start + 1..end])?;
-            return Ok(());
-        }
-    }
     let raw = raw_character_data(cursor)?;
     if raw.is_verbatim {
         builder.slice_piece(start, cursor.pos, raw.text)?;
@@ -61,28 +51,9 @@ fn slow_character_data<'input>(
     data_parts(alloc, cursor, builder, context, start, stop)
 }
 
-/// Like `slow_character_data`, but then writes a waiting text to its row if the text cannot continue. It is out of line so that
-/// the function that reads a whole text is small enough to be in line.
+/// Reads character data, up to the next `<` or the end, and then writes a waiting text to its row if nothing can continue it.
 #[cycle(content)]
 #[inline(never)]
-fn ended_character_data<'input>(
-    alloc: Global,
-    cursor: &mut Cursor<'input>,
-    builder: &mut Builder<'input>,
-    context: Context<'_, 'input>,
-) -> Result<(), ParseError<'input>>
-    requires fine { IsConsistent builder.old.tables builder.old.opened.items }
-    ensures { ParsesAs machine.character_data_step context.entry cursor.old cursor.new builder.old
-        builder.new result }
-{
-    slow_character_data(alloc, cursor, builder, context)?;
-    builder.end_run(alloc, cursor.text, cursor.pos)?;
-    Ok(())
-}
-
-/// Reads character data, up to the next `<` or the end.
-#[cycle(content)]
-#[inline(always)]
 fn character_data<'input>(
     alloc: Global,
     cursor: &mut Cursor<'input>,
@@ -93,15 +64,9 @@ fn character_data<'input>(
     ensures { ParsesAs machine.character_data_step context.entry cursor.old cursor.new builder.old
         builder.new result }
 {
-    let start = cursor.pos;
-    let text = cursor.text;
-    let near = plain_run_end(*cursor);
-    if ends_character_data(text, near) {
-        cursor.pos = near;
-        builder.slice_piece(start, near, &text[start..near])?;
-        return Ok(());
-    }
-    slow_character_data(alloc, cursor, builder, context)
+    character_data_pieces(alloc, cursor, builder, context)?;
+    builder.end_run(alloc, cursor.text, cursor.pos)?;
+    Ok(())
 }
 
 /// Reads the parts of character data from the cursor up to `stop`, and the replacement texts between them. The character data
@@ -294,11 +259,18 @@ fn content_text<'input>(
     ensures { ReadsText context.entry text.entry builder.old builder.new result }
 {
     let mut cursor = text;
+    // Each turn but the last reads at least one byte.
     for _turn in 0..text.text.len() {
         if cursor.is_at_end() {
             return text_end(builder, context);
         }
-        inner_step(alloc, &mut cursor, builder, context)?;
+        if quick_markup_of_text(&mut cursor, builder, context.open_around) {
+            continue;
+        }
+        if builder.buffers.seen.lacking {
+            return Err(ParseError::Memory);
+        }
+        step(alloc, &mut cursor, builder, context)?;
     }
     text_end(builder, context)
 }
@@ -319,11 +291,11 @@ fn text_end<'input>(
     }
 }
 
-/// Reads one construct of content, whichever it is. Character data is read by `character_data`.
+/// Reads one construct of content.
 #[tactic(auto, unfolding(rox_reading::specs::Machine::step))]
 #[cycle(content)]
-#[inline(never)]
-fn other_step<'input>(
+#[inline(always)]
+fn step<'input>(
     alloc: Global,
     cursor: &mut Cursor<'input>,
     builder: &mut Builder<'input>,
@@ -349,69 +321,6 @@ fn other_step<'input>(
     Ok(())
 }
 
-/// Reads one construct of content, whichever it is. Character data that the fast path did not read, where no text may continue,
-/// is rarely a slice of the source.
-#[tactic(auto, unfolding(rox_reading::specs::Machine::step))]
-#[cycle(content)]
-#[inline(always)]
-fn general_step<'input>(
-    alloc: Global,
-    cursor: &mut Cursor<'input>,
-    builder: &mut Builder<'input>,
-    context: Context<'_, 'input>,
-) -> Result<(), ParseError<'input>>
-    requires { MayStep cursor.old builder.old }
-    ensures { ParsesAs machine.step context.entry cursor.old cursor.new builder.old builder.new
-        result }
-{
-    let bytes = cursor.text.as_bytes();
-    if bytes[cursor.pos] != b'<' && !builder.is_text_open() {
-        return ended_character_data(alloc, cursor, builder, context);
-    }
-    other_step(alloc, cursor, builder, context)
-}
-
-/// Reads one construct of content, by the fast path if it is plain.
-#[cycle(content)]
-#[inline(always)]
-fn step<'input>(
-    alloc: Global,
-    cursor: &mut Cursor<'input>,
-    builder: &mut Builder<'input>,
-    context: Context<'_, 'input>,
-) -> Result<(), ParseError<'input>>
-    requires { MayStep cursor.old builder.old }
-    ensures { ParsesAs machine.step context.entry cursor.old cursor.new builder.old builder.new
-        result }
-{
-    if plain_step(cursor, builder, context.open_around) {
-        return Ok(());
-    }
-    general_step(alloc, cursor, builder, context)?;
-    Ok(())
-}
-
-/// Reads one construct of a replacement text. Most often it is character data that continues a text.
-#[tactic(auto, unfolding(rox_reading::specs::Machine::step))]
-#[cycle(content)]
-#[inline(always)]
-fn inner_step<'input>(
-    alloc: Global,
-    cursor: &mut Cursor<'input>,
-    builder: &mut Builder<'input>,
-    context: Context<'_, 'input>,
-) -> Result<(), ParseError<'input>>
-    requires { MayStep cursor.old builder.old }
-    ensures { ParsesAs machine.step context.entry cursor.old cursor.new builder.old builder.new
-        result }
-{
-    let bytes = cursor.text.as_bytes();
-    if bytes[cursor.pos] != b'<' {
-        return character_data(alloc, cursor, builder, context);
-    }
-    step(alloc, cursor, builder, context)
-}
-
 /// Reads content up to the end tag of the root element.
 #[inline(always)]
 pub fn content<'input>(
@@ -427,7 +336,7 @@ pub fn content<'input>(
     // Each turn but the last reads at least one byte.
     for _turn in 0..cursor.text.len() {
         let rows = builder.rows_left();
-        let read = plain_stretch(cursor, builder, context.open_around, rows);
+        let read = quick_constructs(cursor, builder, context.open_around, rows);
         if builder.is_at_root() {
             return Ok(());
         }
@@ -439,10 +348,14 @@ pub fn content<'input>(
         if cursor.is_at_end() {
             return Err(ParseError::Fault(Fault::UnclosedRootNode));
         }
-        if plain_main_line(alloc, cursor, builder, context.main) {
+        if put_main_line_end(alloc, cursor, builder, context.main) {
             continue;
         }
-        general_step(alloc, cursor, builder, context)?;
+        // What the fast path was refused memory for is not asked for again.
+        if builder.buffers.seen.lacking {
+            return Err(ParseError::Memory);
+        }
+        step(alloc, cursor, builder, context)?;
     }
     if builder.is_at_root() {
         Ok(())

@@ -20,7 +20,9 @@ use rox_rows::storage::StringStorage;
 use rox_scan::character_data::{line_run_end, text_end};
 use rox_scan::cursor::Cursor;
 use rox_scan::markup::whole_comment;
-use rox_tags::quick_tag::{TagPlace, bare_start_tag, near_start_tag, plain_start_tag};
+use rox_tags::quick_tag::{
+    TagPlace, start_tag_in_scope, start_tag_of_name, start_tag_without_prefix,
+};
 use std::alloc::Global;
 
 /// The length in bytes of the longest text whose offsets all fit rows.
@@ -40,7 +42,7 @@ fn stands_apart(cursor: &Cursor<'_>, builder: &Builder<'_>) -> bool
 /// Reads character data, up to the next `<`, if it is a slice of the source. No text is open that it would continue. Returns
 /// whether it was read.
 #[inline(always)]
-fn plain_character_data<'input>(cursor: &mut Cursor<'input>, builder: &mut Builder<'input>) -> bool
+fn put_character_data<'input>(cursor: &mut Cursor<'input>, builder: &mut Builder<'input>) -> bool
     requires { MayReadRun cursor.old builder.old }
     ensures { ReadsRun cursor.old cursor.new builder.old builder.new result }
 {
@@ -57,7 +59,7 @@ fn plain_character_data<'input>(cursor: &mut Cursor<'input>, builder: &mut Build
 /// Reads character data if it is CR LF followed only by bytes that need no replacement. No text may be open that it would
 /// continue, and there must be room for it. Returns whether it was read.
 #[inline(never)]
-fn plain_line<'input>(
+fn put_line_end<'input>(
     alloc: Global,
     cursor: &mut Cursor<'input>,
     builder: &mut Builder<'input>,
@@ -75,15 +77,16 @@ fn plain_line<'input>(
         return false;
     };
     if !builder.put_owned(alloc, start, stop, &text[start + 1..stop]) {
+        builder.buffers.seen.lacking = true;
         return false;
     }
     cursor.pos = stop;
     true
 }
 
-/// Like `plain_line`, but only in the main text, where line ends are read as line feeds. It first tests for a CR at the cursor.
+/// Like `put_line_end`, but only in the main text, where line ends are read as line feeds. It first tests for a CR at the cursor.
 #[inline(always)]
-pub fn plain_main_line<'input>(
+pub fn put_main_line_end<'input>(
     alloc: Global,
     cursor: &mut Cursor<'input>,
     builder: &mut Builder<'input>,
@@ -99,14 +102,14 @@ pub fn plain_main_line<'input>(
     if !is_at(cursor.text, cursor.pos, b'\r') {
         return false;
     }
-    plain_line(alloc, cursor, builder)
+    put_line_end(alloc, cursor, builder)
 }
 
 /// Reads an end tag, from its `</`, if it closes the innermost open element. It must have the very bytes of the element's name,
 /// with `>` right after them. More elements than the `open_around` ones around the text must be open. Returns whether it was
 /// read.
 #[inline(always)]
-fn plain_end_tag(cursor: &mut Cursor<'_>, builder: &mut Builder<'_>, open_around: usize) -> bool
+fn close_element(cursor: &mut Cursor<'_>, builder: &mut Builder<'_>, open_around: usize) -> bool
     requires { MayReadEnd cursor.old builder.old }
     ensures { ReadsIf IsApart (λ k. k.open_around ≡ open_around)
         (λ k src s. lifted (machine.end_step k src s)) cursor.old cursor.new builder.old
@@ -135,7 +138,7 @@ fn plain_end_tag(cursor: &mut Cursor<'_>, builder: &mut Builder<'_>, open_around
 /// Reads a start tag that is a name alone, from its `<`, if the name of its parent has no prefix. The first ASCII bytes of its
 /// name end at `near`. Returns whether it was read.
 #[inline(always)]
-fn bare_element<'input>(
+fn element_of_name<'input>(
     cursor: &mut Cursor<'input>,
     builder: &mut Builder<'input>,
     near: usize,
@@ -153,15 +156,7 @@ fn bare_element<'input>(
         return false;
     };
     let start = cursor.pos;
-    let openings_left = builder.openings_left;
-    let Some(bare) = bare_start_tag(
-        cursor.text,
-        start,
-        &builder.tables,
-        &parent,
-        openings_left,
-        near,
-    ) else {
+    let Some(bare) = start_tag_of_name(cursor.text, start, &builder.tables, &parent, near) else {
         return false;
     };
     cursor.pos = bare.end;
@@ -172,7 +167,7 @@ fn bare_element<'input>(
 /// Reads a start tag, from its `<` at `start`, if it is plain. The first part of its name ends at `part`. Returns the offset
 /// after it, or `NOT_READ`: an offset that is passed and returned by itself stays in registers.
 #[inline(never)]
-fn other_element<'input>(
+fn element_in_scope<'input>(
     text: &'input str,
     start: usize,
     builder: &mut Builder<'input>,
@@ -190,14 +185,12 @@ fn other_element<'input>(
     }
     let above = &builder.opened[depth - 1];
     let row = above.row;
-    let openings_left = builder.openings_left;
     let held = builder.tables.attributes.len();
-    let Some(other) = plain_start_tag(
+    let Some(other) = start_tag_in_scope(
         text,
         TagPlace { start, part },
         &mut builder.tables,
         above,
-        openings_left,
         &mut builder.buffers.seen,
     ) else {
         builder.tables.attributes.truncate(held);
@@ -211,10 +204,10 @@ fn other_element<'input>(
     other.end
 }
 
-/// Like `other_element`, but for a tag whose name is of ASCII bytes, has no prefix and ends at `near`. If the name of its parent
+/// Like `element_in_scope`, but for a tag whose name is of ASCII bytes, has no prefix and ends at `near`. If the name of its parent
 /// has no prefix either, its namespace is the parent's, which is read after the attributes.
 #[inline(always)]
-fn plain_element<'input>(
+fn element_without_prefix<'input>(
     text: &'input str,
     start: usize,
     builder: &mut Builder<'input>,
@@ -231,17 +224,15 @@ fn plain_element<'input>(
         return NOT_READ;
     }
     if builder.opened[depth - 1].prefixed {
-        return other_element(text, start, builder, near);
+        return element_in_scope(text, start, builder, near);
     }
     let parent = &builder.opened[depth - 1];
-    let openings_left = builder.openings_left;
     let from = builder.tables.attributes.len();
-    let Some(read) = near_start_tag(
+    let Some(read) = start_tag_without_prefix(
         text,
         TagPlace { start, part: near },
         &mut builder.tables,
         parent,
-        openings_left,
         &mut builder.buffers.seen,
     ) else {
         builder.tables.attributes.truncate(from);
@@ -258,7 +249,7 @@ fn plain_element<'input>(
 
 /// Reads a comment, from `<!--`, if it is valid. Returns whether it was read.
 #[inline(always)]
-fn plain_comment<'input>(cursor: &mut Cursor<'input>, builder: &mut Builder<'input>) -> bool
+fn put_comment<'input>(cursor: &mut Cursor<'input>, builder: &mut Builder<'input>) -> bool
     requires { MayReadWord word.CommentStart cursor.old builder.old }
     ensures { ReadsIf IsApart any_context (λ k src s. lifted (machine.comment_step k.limit src s))
         cursor.old cursor.new builder.old builder.new result }
@@ -277,7 +268,7 @@ fn plain_comment<'input>(cursor: &mut Cursor<'input>, builder: &mut Builder<'inp
 /// a call would leave its registers.
 #[inline(never)]
 #[tactic(auto, unfolding(rox_reading::specs::Machine::step))]
-fn plain_section<'input>(text: &'input str, start: usize, builder: &mut Builder<'input>) -> usize
+fn put_comment_at<'input>(text: &'input str, start: usize, builder: &mut Builder<'input>) -> usize
     requires { MayReadAt text.now start builder.old }
     ensures { ReadsWhole machine.step text.entry.now start result builder.old builder.new }
 {
@@ -285,7 +276,7 @@ fn plain_section<'input>(text: &'input str, start: usize, builder: &mut Builder<
     if !cursor.starts(Word::CommentStart) {
         return NOT_READ;
     }
-    if !plain_comment(&mut cursor, builder) {
+    if !put_comment(&mut cursor, builder) {
         return NOT_READ;
     }
     cursor.pos
@@ -294,7 +285,7 @@ fn plain_section<'input>(text: &'input str, start: usize, builder: &mut Builder<
 /// Reads what `<` starts, if it is plain and finds room. Returns false if nothing was read.
 #[inline(always)]
 #[tactic(auto, unfolding(rox_reading::specs::Machine::step))]
-fn plain_markup<'input>(
+fn quick_markup<'input>(
     cursor: &mut Cursor<'input>,
     builder: &mut Builder<'input>,
     open_around: usize,
@@ -312,9 +303,9 @@ fn plain_markup<'input>(
     let start = cursor.pos;
     if next <= b'?' {
         if next == b'/' {
-            return plain_end_tag(cursor, builder, open_around);
+            return close_element(cursor, builder, open_around);
         }
-        let behind = plain_section(text, start, builder);
+        let behind = put_comment_at(text, start, builder);
         if behind > MOST_BYTES {
             return false;
         }
@@ -325,14 +316,14 @@ fn plain_markup<'input>(
     let Some(near) = find_other::<PartByte>(text, name) else {
         return false;
     };
-    if bare_element(cursor, builder, near) {
+    if element_of_name(cursor, builder, near) {
         return true;
     }
     // White space and `/` are lower than the colon.
     let end = if bytes[near] < b':' {
-        plain_element(text, start, builder, near)
+        element_without_prefix(text, start, builder, near)
     } else {
-        other_element(text, start, builder, near_part_end(text, name, near))
+        element_in_scope(text, start, builder, near_part_end(text, name, near))
     };
     if end > MOST_BYTES {
         return false;
@@ -344,7 +335,7 @@ fn plain_markup<'input>(
 /// Reads the constructs from the cursor on inside the root element, as long as they are plain. It stops when fewer than two of
 /// `rows` rows are left. Returns whether any was read.
 #[inline(always)]
-pub fn plain_stretch<'input>(
+pub fn quick_constructs<'input>(
     cursor: &mut Cursor<'input>,
     builder: &mut Builder<'input>,
     open_around: usize,
@@ -373,11 +364,11 @@ pub fn plain_stretch<'input>(
             break;
         }
         if bytes[here.pos] != b'<' {
-            if !plain_character_data(&mut here, builder) {
+            if !put_character_data(&mut here, builder) {
                 break;
             }
         }
-        if !plain_markup(&mut here, builder, open_around) {
+        if !quick_markup(&mut here, builder, open_around) {
             break;
         }
     }
@@ -385,10 +376,10 @@ pub fn plain_stretch<'input>(
     here.pos > from
 }
 
-/// Like `plain_markup`, but in a replacement text. Few replacement texts have tags, so each start tag takes the slower path here.
-/// The fast one is then in line in one place only, `plain_stretch`.
+/// Like `quick_markup`, but in a replacement text. Few replacement texts have tags, so each start tag takes the slower path here.
+/// The fast one is then in line in one place only, `quick_constructs`.
 #[tactic(auto, unfolding(rox_reading::specs::Machine::step))]
-fn inner_markup<'input>(
+fn markup_of_text<'input>(
     cursor: &mut Cursor<'input>,
     builder: &mut Builder<'input>,
     around: usize,
@@ -403,14 +394,14 @@ fn inner_markup<'input>(
     }
     let next = bytes[cursor.pos + 1];
     if next == b'/' {
-        return plain_end_tag(cursor, builder, around);
+        return close_element(cursor, builder, around);
     }
     let text = cursor.text;
     let start = cursor.pos;
     let stop = if next <= b'?' {
-        plain_section(text, start, builder)
+        put_comment_at(text, start, builder)
     } else {
-        other_element(
+        element_in_scope(
             text,
             start,
             builder,
@@ -424,10 +415,9 @@ fn inner_markup<'input>(
     true
 }
 
-/// Reads the construct of a replacement text at the cursor, if it is plain and finds room. Returns false if nothing was read.
+/// Reads the markup of a replacement text at the cursor, if it is plain and finds room. Returns false if nothing was read.
 #[inline(always)]
-#[tactic(auto, unfolding(rox_reading::specs::Machine::step))]
-pub fn plain_step<'input>(
+pub fn quick_markup_of_text<'input>(
     cursor: &mut Cursor<'input>,
     builder: &mut Builder<'input>,
     open_around: usize,
@@ -440,11 +430,8 @@ pub fn plain_step<'input>(
     if bytes.len() > MOST_BYTES || builder.rows_left() == 0 {
         return false;
     }
-    if bytes[cursor.pos] == b'<' {
-        return inner_markup(cursor, builder, open_around);
-    }
-    if builder.is_text_open() {
+    if bytes[cursor.pos] != b'<' {
         return false;
     }
-    plain_character_data(cursor, builder)
+    markup_of_text(cursor, builder, open_around)
 }

@@ -65,11 +65,11 @@ returns-then-tag c = record {
       let shows = grown_shows end s.stack s.done b _ h.shows c.requires.fine.sound c.requires.fine.elements (grown_by old new t (scope_of s.stack) v.0 tg) refl refl refl refl in
       let node : IsNode new (scope_of s.stack) pos d.pos (kind.Element t.element) (Element s.at d.pos v.0) =
       subst (λ (n : ℕ). IsNode new (scope_of s.stack) pos d.pos (kind.Element t.element) (Element n d.pos v.0)) h.here (is_node old new t (scope_of s.stack) v.0 pos d.pos tg) in
-      let adds = c.leaf.ensures.value end d.pos (with_left t.openings_left s) (Element s.at d.pos v.0) shows node in
-      rw (tag_is (context_of limit es c.args.context) c.args.cursor.now.text.now s pos _ _ _ _ v.0 t.empty t.openings_left d.pos h.here (c.cut_off_fault-cut.ensures end s.stack s.done h.shows) sc h.attributes h.namespaces v.1
-      ∙ ap (λ (e : Bool). lifted (opened_by limit s v.0 e t.openings_left d.pos)) c.if-tag.true)
-      (subst (λ r. ScansTo limit end r d c.leaf.new.self (lifted (opened_by limit s v.0 true t.openings_left d.pos))) c.in_ok-leaf.was
-      (empty_stepped limit end t.openings_left s d old new b.nodes_limit c.leaf.new.self c.leaf.result t (scope_of s.stack) v.0 tg h.namespaces h.attributes h.limit_is c.leaf.ensures.kept.openings_left c.leaf.ensures.kept.tables c.leaf.ensures.kept.limit adds));
+      let adds = c.leaf.ensures.value end d.pos (with_left c.in_ok-tag.left s) (Element s.at d.pos v.0) shows node in
+      rw (tag_is (context_of limit es c.args.context) c.args.cursor.now.text.now s pos _ _ _ _ v.0 t.empty c.in_ok-tag.left d.pos h.here (c.cut_off_fault-cut.ensures end s.stack s.done h.shows) sc h.attributes h.namespaces v.1
+      ∙ ap (λ (e : Bool). lifted (opened_by limit s v.0 e c.in_ok-tag.left d.pos)) c.if-tag.true)
+      (subst (λ r. ScansTo limit end r d c.leaf.new.self (lifted (opened_by limit s v.0 true c.in_ok-tag.left d.pos))) c.in_ok-leaf.was
+      (empty_stepped limit end c.in_ok-tag.left s d old new b.nodes_limit c.leaf.new.self c.leaf.result t (scope_of s.stack) v.0 tg h.namespaces h.attributes h.limit_is c.leaf.ensures.kept.openings_left c.leaf.ensures.kept.tables c.leaf.ensures.kept.limit adds));
   goes =
       let d = some_declare c.args.context.entities.now in
       let v = c.in_ok-tag.ensures.value d.0 d.1 in
@@ -97,16 +97,16 @@ returns-in_err-leaf c = record {
       let shows = grown_shows end s.stack s.done b _ h.shows c.requires.fine.sound c.requires.fine.elements (grown_by old new t (scope_of s.stack) v.0 tg) refl refl refl refl in
       let node : IsNode new (scope_of s.stack) pos d.pos (kind.Element t.element) (Element s.at d.pos v.0) =
       subst (λ (n : ℕ). IsNode new (scope_of s.stack) pos d.pos (kind.Element t.element) (Element n d.pos v.0)) h.here (is_node old new t (scope_of s.stack) v.0 pos d.pos tg) in
-      let adds = c.leaf.ensures.value end d.pos (with_left t.openings_left s) (Element s.at d.pos v.0) shows node in
+      let adds = c.leaf.ensures.value end d.pos (with_left c.in_ok-tag.left s) (Element s.at d.pos v.0) shows node in
       let p = err_from_is_err_and c.from_residual-in_err-leaf.result c.from_residual-in_err-leaf.ensures.1 in
       rw (
         p.1,
         p.2,
-        tag_is (context_of limit es c.args.context) c.args.cursor.now.text.now s pos _ _ _ _ v.0 t.empty t.openings_left d.pos h.here (c.cut_off_fault-cut.ensures end s.stack s.done h.shows) sc h.attributes h.namespaces v.1
-            ∙ ap (λ (e : Bool). lifted (opened_by limit s v.0 e t.openings_left d.pos)) c.if-tag.true,
+        tag_is (context_of limit es c.args.context) c.args.cursor.now.text.now s pos _ _ _ _ v.0 t.empty c.in_ok-tag.left d.pos h.here (c.cut_off_fault-cut.ensures end s.stack s.done h.shows) sc h.attributes h.namespaces v.1
+            ∙ ap (λ (e : Bool). lifted (opened_by limit s v.0 e c.in_ok-tag.left d.pos)) c.if-tag.true,
       )
-      (refused_too c.in_err-leaf.field-0.0 (lifted (opened_by limit s v.0 true t.openings_left d.pos)) (subst (λ r. ScansTo limit end r d c.leaf.new.self (lifted (opened_by limit s v.0 true t.openings_left d.pos))) c.in_err-leaf.was
-      (empty_stepped limit end t.openings_left s d old new b.nodes_limit c.leaf.new.self c.leaf.result t (scope_of s.stack) v.0 tg h.namespaces h.attributes h.limit_is c.leaf.ensures.kept.openings_left c.leaf.ensures.kept.tables c.leaf.ensures.kept.limit adds)));
+      (refused_too c.in_err-leaf.field-0.0 (lifted (opened_by limit s v.0 true c.in_ok-tag.left d.pos)) (subst (λ r. ScansTo limit end r d c.leaf.new.self (lifted (opened_by limit s v.0 true c.in_ok-tag.left d.pos))) c.in_err-leaf.was
+      (empty_stepped limit end c.in_ok-tag.left s d old new b.nodes_limit c.leaf.new.self c.leaf.result t (scope_of s.stack) v.0 tg h.namespaces h.attributes h.limit_is c.leaf.ensures.kept.openings_left c.leaf.ensures.kept.tables c.leaf.ensures.kept.limit adds)));
   goes = let p = err_from_is_err_and c.from_residual-in_err-leaf.result c.from_residual-in_err-leaf.ensures.1 in rw p.1 tt;
 }
 
@@ -123,11 +123,11 @@ returns c = record {
       let sc = c.scope-above.ensures.value c.requires.fine end s.stack s.done h.shows in
       let tg : Tagged old new t (scope_of s.stack) v.0 = subst (λ (a : List NamespaceDecl). Tagged old new t a v.0) sc v.2 in
       let shows = grown_shows end s.stack s.done b _ h.shows c.requires.fine.sound c.requires.fine.elements (grown_by old new t (scope_of s.stack) v.0 tg) refl refl refl refl in
-      let adds = c.open_element.ensures.value end d.pos t.openings_left s v.0 shows (sym h.here) (is_opening old new t (scope_of s.stack) v.0 pos tg c.in_ok-tag.ensures.starts) in
-      rw (tag_is (context_of limit es c.args.context) c.args.cursor.now.text.now s pos _ _ _ _ v.0 t.empty t.openings_left d.pos h.here (c.cut_off_fault-cut.ensures end s.stack s.done h.shows) sc h.attributes h.namespaces v.1
-      ∙ ap (λ (e : Bool). lifted (opened_by limit s v.0 e t.openings_left d.pos)) c.if-tag.false)
-      (subst (λ r. ScansTo limit end r d c.open_element.new.self (lifted (opened_by limit s v.0 false t.openings_left d.pos))) c.in_ok-open_element.was
-      (open_stepped limit end t.openings_left s d old new b.nodes_limit c.open_element.new.self c.open_element.result t (scope_of s.stack) v.0 tg h.namespaces h.attributes h.limit_is c.open_element.ensures.kept.openings_left c.open_element.ensures.kept.tables c.open_element.ensures.kept.limit adds));
+      let adds = c.open_element.ensures.value end d.pos c.in_ok-tag.left s v.0 shows (sym h.here) (is_opening old new t (scope_of s.stack) v.0 pos tg c.in_ok-tag.ensures.starts) in
+      rw (tag_is (context_of limit es c.args.context) c.args.cursor.now.text.now s pos _ _ _ _ v.0 t.empty c.in_ok-tag.left d.pos h.here (c.cut_off_fault-cut.ensures end s.stack s.done h.shows) sc h.attributes h.namespaces v.1
+      ∙ ap (λ (e : Bool). lifted (opened_by limit s v.0 e c.in_ok-tag.left d.pos)) c.if-tag.false)
+      (subst (λ r. ScansTo limit end r d c.open_element.new.self (lifted (opened_by limit s v.0 false c.in_ok-tag.left d.pos))) c.in_ok-open_element.was
+      (open_stepped limit end c.in_ok-tag.left s d old new b.nodes_limit c.open_element.new.self c.open_element.result t (scope_of s.stack) v.0 tg h.namespaces h.attributes h.limit_is c.open_element.ensures.kept.openings_left c.open_element.ensures.kept.tables c.open_element.ensures.kept.limit adds));
   goes =
       let d = some_declare c.args.context.entities.now in
       let v = c.in_ok-tag.ensures.value d.0 d.1 in
@@ -159,16 +159,16 @@ returns-in_err-open_element c = record {
       let sc = c.scope-above.ensures.value c.requires.fine end s.stack s.done h.shows in
       let tg : Tagged old new t (scope_of s.stack) v.0 = subst (λ (a : List NamespaceDecl). Tagged old new t a v.0) sc v.2 in
       let shows = grown_shows end s.stack s.done b _ h.shows c.requires.fine.sound c.requires.fine.elements (grown_by old new t (scope_of s.stack) v.0 tg) refl refl refl refl in
-      let adds = c.open_element.ensures.value end d.pos t.openings_left s v.0 shows (sym h.here) (is_opening old new t (scope_of s.stack) v.0 pos tg c.in_ok-tag.ensures.starts) in
+      let adds = c.open_element.ensures.value end d.pos c.in_ok-tag.left s v.0 shows (sym h.here) (is_opening old new t (scope_of s.stack) v.0 pos tg c.in_ok-tag.ensures.starts) in
       let p = err_from_is_err_and c.from_residual-in_err-open_element.result c.from_residual-in_err-open_element.ensures.1 in
       rw (
         p.1,
         p.2,
-        tag_is (context_of limit es c.args.context) c.args.cursor.now.text.now s pos _ _ _ _ v.0 t.empty t.openings_left d.pos h.here (c.cut_off_fault-cut.ensures end s.stack s.done h.shows) sc h.attributes h.namespaces v.1
-            ∙ ap (λ (e : Bool). lifted (opened_by limit s v.0 e t.openings_left d.pos)) c.if-tag.false,
+        tag_is (context_of limit es c.args.context) c.args.cursor.now.text.now s pos _ _ _ _ v.0 t.empty c.in_ok-tag.left d.pos h.here (c.cut_off_fault-cut.ensures end s.stack s.done h.shows) sc h.attributes h.namespaces v.1
+            ∙ ap (λ (e : Bool). lifted (opened_by limit s v.0 e c.in_ok-tag.left d.pos)) c.if-tag.false,
       )
-      (refused_too c.in_err-open_element.field-0.0 (lifted (opened_by limit s v.0 false t.openings_left d.pos)) (subst (λ r. ScansTo limit end r d c.open_element.new.self (lifted (opened_by limit s v.0 false t.openings_left d.pos))) c.in_err-open_element.was
-      (open_stepped limit end t.openings_left s d old new b.nodes_limit c.open_element.new.self c.open_element.result t (scope_of s.stack) v.0 tg h.namespaces h.attributes h.limit_is c.open_element.ensures.kept.openings_left c.open_element.ensures.kept.tables c.open_element.ensures.kept.limit adds)));
+      (refused_too c.in_err-open_element.field-0.0 (lifted (opened_by limit s v.0 false c.in_ok-tag.left d.pos)) (subst (λ r. ScansTo limit end r d c.open_element.new.self (lifted (opened_by limit s v.0 false c.in_ok-tag.left d.pos))) c.in_err-open_element.was
+      (open_stepped limit end c.in_ok-tag.left s d old new b.nodes_limit c.open_element.new.self c.open_element.result t (scope_of s.stack) v.0 tg h.namespaces h.attributes h.limit_is c.open_element.ensures.kept.openings_left c.open_element.ensures.kept.tables c.open_element.ensures.kept.limit adds)));
   goes = let p = err_from_is_err_and c.from_residual-in_err-open_element.result c.from_residual-in_err-open_element.ensures.1 in rw p.1 tt;
 }
 

@@ -16,54 +16,18 @@ use Rattle.rox_builder.proofs.TextOpening.{inner_state, outer_state, opens_err, 
 use Rattle.rox_build.proofs.LineRuns.{line_run}
 use Rattle.rox_build.proofs.content.+content.Goals as goal
 
--- ---- a run
+-- ---- character data
 
-pub character_data-returns-then-ends_character_data : goal.character_data-returns-then-ends_character_data
-character_data-returns-then-ends_character_data t c = record {
+pub character_data_pieces-returns-in_err-raw : goal.character_data_pieces-returns-in_err-raw
+character_data_pieces-returns-in_err-raw t c = record {
   value = λ limit end es s declared h.
-      let src = c.args.cursor.now.text.now in
-      let b = c.args.builder.now in
-      let i = c.args.cursor.now.pos in
-      let e = c.plain_run_end-near.result in
-      let look = c.plain_run_end-near.ensures in
-      let read = longer_run src i e true look (sym c.ends_character_data.ensures ∙ c.if-ends_character_data.true) in
-      let plain : is_verbatim (slice_range src i e) ≡ true = sym look.verbatim_is in
-      let text : ReadText = record { value = slice_range src i e; borrowed = true } in
-      rw (plain_run (context_of limit es c.args.context) src s i e (slice_range src i e) h.here read plain)
-      (text_stepped limit end s c.args.cursor.now _ b c.slice_piece.new.self (Ok c.in_ok-slice_piece.field-0) text h c.slice_piece.ensures.kept.tables c.slice_piece.ensures.kept.limit c.slice_piece.ensures.kept.openings_left
-      (rw c.range.ensures.value at (c.in_ok-slice_piece.ensures.value end e s h.shows)));
-  goes = search rules;
-}
-
-pub character_data-returns-in_err-slice_piece : goal.character_data-returns-in_err-slice_piece
-character_data-returns-in_err-slice_piece t c = record {
-  value = λ limit end es s declared h.
-      let src = c.args.cursor.now.text.now in
-      let b = c.args.builder.now in
-      let i = c.args.cursor.now.pos in
-      let e = c.plain_run_end-near.result in
-      let look = c.plain_run_end-near.ensures in
-      let read = longer_run src i e true look (sym c.ends_character_data.ensures ∙ c.if-ends_character_data.true) in
-      let plain : is_verbatim (slice_range src i e) ≡ true = sym look.verbatim_is in
-      let text : ReadText = record { value = slice_range src i e; borrowed = true } in
       let p = err_from_is_err_and c.from_residual.result c.from_residual.ensures.1 in
-      rw (p.1, p.2, plain_run (context_of limit es c.args.context) src s i e (slice_range src i e) h.here read plain)
-      (refused_too c.in_err-slice_piece.field-0.0 _
-      (text_stepped limit end s c.args.cursor.now (record { text = c.args.cursor.now.text; pos = e; utf8 = c.args.cursor.now.utf8; cut = look.cut }) b c.slice_piece.new.self (Err c.in_err-slice_piece.field-0.0) text h c.slice_piece.ensures.kept.tables c.slice_piece.ensures.kept.limit c.slice_piece.ensures.kept.openings_left
-      (rw c.range.ensures.value at (c.in_err-slice_piece.ensures.value end e s h.shows))));
+      rw (p.1, p.2) (run_fails (context_of limit es c.args.context) c.args.cursor.now.text.now s c.args.cursor.now.pos c.in_err-raw.field-0.0 h.here c.in_err-raw.ensures.read.value);
   goes = let p = err_from_is_err_and c.from_residual.result c.from_residual.ensures.1 in rw p.1 tt;
 }
 
-pub slow_character_data-returns-in_err-raw : goal.slow_character_data-returns-in_err-raw
-slow_character_data-returns-in_err-raw t c = record {
-  value = λ limit end es s declared h.
-      let p = err_from_is_err_and c.from_residual-in_err-raw.result c.from_residual-in_err-raw.ensures.1 in
-      rw (p.1, p.2) (run_fails (context_of limit es c.args.context) c.args.cursor.now.text.now s c.args.cursor.now.pos c.in_err-raw.field-0.0 h.here c.in_err-raw.ensures.read.value);
-  goes = let p = err_from_is_err_and c.from_residual-in_err-raw.result c.from_residual-in_err-raw.ensures.1 in rw p.1 tt;
-}
-
-pub slow_character_data-returns-then-raw : goal.slow_character_data-returns-then-raw
-slow_character_data-returns-then-raw t c = record {
+pub character_data_pieces-returns-then-raw : goal.character_data_pieces-returns-then-raw
+character_data_pieces-returns-then-raw t c = record {
   value = λ limit end es s declared h.
       let src = c.args.cursor.now.text.now in
       let b = c.args.builder.now in
@@ -77,8 +41,8 @@ slow_character_data-returns-then-raw t c = record {
   goes = search rules;
 }
 
-pub slow_character_data-returns-in_err-slice_piece : goal.slow_character_data-returns-in_err-slice_piece
-slow_character_data-returns-in_err-slice_piece t c = record {
+pub character_data_pieces-returns-in_err-slice_piece : goal.character_data_pieces-returns-in_err-slice_piece
+character_data_pieces-returns-in_err-slice_piece t c = record {
   value = λ limit end es s declared h.
       let src = c.args.cursor.now.text.now in
       let b = c.args.builder.now in
@@ -94,8 +58,8 @@ slow_character_data-returns-in_err-slice_piece t c = record {
   goes = let p = err_from_is_err_and c.from_residual-in_err-slice_piece.result c.from_residual-in_err-slice_piece.ensures.1 in rw p.1 tt;
 }
 
-pub slow_character_data-returns : goal.slow_character_data-returns
-slow_character_data-returns t c = record {
+pub character_data_pieces-returns : goal.character_data_pieces-returns
+character_data_pieces-returns t c = record {
   value = λ limit end es s declared h.
       let src = c.args.cursor.now.text.now in
       let raw = c.in_ok-raw.raw.text.now in
@@ -107,51 +71,18 @@ slow_character_data-returns t c = record {
   goes = search rules;
 }
 
--- a line end and bytes that stand for themselves
-pub slow_character_data-returns-in-Some : goal.slow_character_data-returns-in-Some
-slow_character_data-returns-in-Some t c = record {
+pub character_data-returns-in_err-character_data_pieces : goal.character_data-returns-in_err-character_data_pieces
+character_data-returns-in_err-character_data_pieces t c = record {
   value = λ limit end es s declared h.
-      let src = c.args.cursor.now.text.now in
-      let b = c.args.builder.now in
-      let i = c.args.cursor.now.pos in
-      let j = c.in-Some.end in
-      let run = c.in-Some.ensures in
-      let text : ReadText = record { value = slice_range src (i + 1) j; borrowed = false } in
-      rw (parted_run (context_of limit es c.args.context) src s i j (slice_range src i j) h.here run.value run.verbatim, line_run (context_of limit es c.args.context) src s i j h.here c.if-context.true run.line)
-      (text_stepped limit end s c.args.cursor.now _ b c.owned_piece.new.self (Ok c.in_ok-owned_piece.field-0) text h c.owned_piece.ensures.kept.tables c.owned_piece.ensures.kept.limit c.owned_piece.ensures.kept.openings_left
-      (rw c.range.ensures.value at (c.in_ok-owned_piece.ensures.value end j s h.shows)));
-  goes = search rules;
-}
-
-pub slow_character_data-returns-in_err-owned_piece : goal.slow_character_data-returns-in_err-owned_piece
-slow_character_data-returns-in_err-owned_piece t c = record {
-  value = λ limit end es s declared h.
-      let src = c.args.cursor.now.text.now in
-      let b = c.args.builder.now in
-      let i = c.args.cursor.now.pos in
-      let j = c.in-Some.end in
-      let run = c.in-Some.ensures in
-      let text : ReadText = record { value = slice_range src (i + 1) j; borrowed = false } in
       let p = err_from_is_err_and c.from_residual.result c.from_residual.ensures.1 in
-      rw (p.1, p.2, parted_run (context_of limit es c.args.context) src s i j (slice_range src i j) h.here run.value run.verbatim, line_run (context_of limit es c.args.context) src s i j h.here c.if-context.true run.line)
-      (refused_too c.in_err-owned_piece.field-0.0 _
-      (text_stepped limit end s c.args.cursor.now (record { text = c.args.cursor.now.text; pos = j; utf8 = c.args.cursor.now.utf8; cut = run.cut }) b c.owned_piece.new.self (Err c.in_err-owned_piece.field-0.0) text h c.owned_piece.ensures.kept.tables c.owned_piece.ensures.kept.limit c.owned_piece.ensures.kept.openings_left
-      (rw c.range.ensures.value at (c.in_err-owned_piece.ensures.value end j s h.shows))));
+      rw (p.1, p.2) (c.in_err-character_data_pieces.ensures.value limit end es s declared h);
   goes = let p = err_from_is_err_and c.from_residual.result c.from_residual.ensures.1 in rw p.1 tt;
 }
 
-pub ended_character_data-returns-in_err-slow_character_data : goal.ended_character_data-returns-in_err-slow_character_data
-ended_character_data-returns-in_err-slow_character_data t c = record {
+pub character_data-returns : goal.character_data-returns
+character_data-returns t c = record {
   value = λ limit end es s declared h.
-      let p = err_from_is_err_and c.from_residual.result c.from_residual.ensures.1 in
-      rw (p.1, p.2) (c.in_err-slow_character_data.ensures.value limit end es s declared h);
-  goes = let p = err_from_is_err_and c.from_residual.result c.from_residual.ensures.1 in rw p.1 tt;
-}
-
-pub ended_character_data-returns : goal.ended_character_data-returns
-ended_character_data-returns t c = record {
-  value = λ limit end es s declared h.
-      let r = c.in_ok-slow_character_data.ensures.value limit end es s declared h in
+      let r = c.in_ok-character_data_pieces.ensures.value limit end es s declared h in
       let k = r.2 in (
         r.0,
         r.1,
@@ -317,33 +248,53 @@ content_text-returns-then-is_at_end t c = record {
   fine = first_of (search rules, grind (arith, common_steps));
 }
 
-pub content_text-returns-in_err-inner_step : goal.content_text-returns-in_err-inner_step
-content_text-returns-in_err-inner_step t c = record {
+pub content_text-returns-in_err-step : goal.content_text-returns-in_err-step
+content_text-returns-in_err-step t c = record {
   value = λ limit end es s declared h at.
       let src = c.args.text.text.now in
       let n = length src - c.loop-turn._turn in
       let one : n ≡ suc (n - 1) = omega arith in
       let s0 = ap (λ t. t.now) c.loop-turn.invariant.source in
+      let s1 = ap (λ t. t.now) c.quick_markup_of_text.ensures.goes.source ∙ s0 in
       let g = c.loop-turn.invariant.reads limit end es s declared h at in
       let more : g.s.at < length src = rw (s0, g.sees.here) at (leb-false _ _ (sym c.is_at_end.ensures ∙ c.if-is_at_end.false)) in
+      let still = (let o = c.quick_markup_of_text.ensures.other c.if-quick_markup_of_text.false in state_kept limit end g.s _ _ _ _ g.sees o.0 o.1) in
       let p = err_from_is_err_and c.from_residual.result c.from_residual.ensures.1 in
-      rw (p.1, p.2) (text_fails (context_of limit es c.args.context) end src _ n (n - 1) c.loop-turn.cursor c.loop-turn.builder c.in_err-inner_step.field-0.0 g one more (rw s0 at (c.in_err-inner_step.ensures.value limit end es g.s declared g.sees)));
+      rw (p.1, p.2) (text_fails (context_of limit es c.args.context) end src _ n (n - 1) c.loop-turn.cursor c.loop-turn.builder c.in_err-step.field-0.0 g one more (rw s1 at (c.in_err-step.ensures.value limit end es g.s declared still)));
   fine = let p = err_from_is_err_and c.from_residual.result c.from_residual.ensures.1 in rw p.1 tt;
 }
 
 pub content_text-loop-turn-preserved : goal.content_text-loop-turn-preserved
 content_text-loop-turn-preserved t c = record {
-  source = c.in_ok-inner_step.ensures.goes.source ∙ c.loop-turn.invariant.source;
-  fine = c.in_ok-inner_step.ensures.goes.fine;
+  source = c.in_ok-step.ensures.goes.source ∙ c.quick_markup_of_text.ensures.goes.source ∙ c.loop-turn.invariant.source;
+  fine = c.in_ok-step.ensures.goes.fine;
   reads = λ limit end es s declared h at.
       let src = c.args.text.text.now in
       let n = length src - c.loop-turn._turn in
       let one : n ≡ suc (length src - (c.loop-turn._turn + 1)) = omega arith in
       let s0 = ap (λ t. t.now) c.loop-turn.invariant.source in
+      let s1 = ap (λ t. t.now) c.quick_markup_of_text.ensures.goes.source ∙ s0 in
       let g = c.loop-turn.invariant.reads limit end es s declared h at in
       let more : g.s.at < length src = rw (s0, g.sees.here) at (leb-false _ _ (sym c.is_at_end.ensures ∙ c.if-is_at_end.false)) in
-      let went = rw s0 at (c.in_ok-inner_step.ensures.value limit end es g.s declared g.sees) in
+      let still = (let o = c.quick_markup_of_text.ensures.other c.if-quick_markup_of_text.false in state_kept limit end g.s _ _ _ _ g.sees o.0 o.1) in
+      let went = rw s1 at (c.in_ok-step.ensures.value limit end es g.s declared still) in
       text_on (context_of limit es c.args.context) end src _ n (length src - (c.loop-turn._turn + 1)) c.loop-turn.cursor _ c.loop-turn.builder _ _ g one more went;
+}
+
+pub content_text-loop-turn-preserved-then-quick_markup_of_text : goal.content_text-loop-turn-preserved-then-quick_markup_of_text
+content_text-loop-turn-preserved-then-quick_markup_of_text t c = record {
+  source = c.quick_markup_of_text.ensures.goes.source ∙ c.loop-turn.invariant.source;
+  fine = c.quick_markup_of_text.ensures.goes.fine;
+  reads = λ limit end es s declared h at.
+      let src = c.args.text.text.now in
+      let context = context_of limit es c.args.context in
+      let n = length src - c.loop-turn._turn in
+      let one : n ≡ suc (length src - (c.loop-turn._turn + 1)) = omega arith in
+      let s0 = ap (λ t. t.now) c.loop-turn.invariant.source in
+      let g = c.loop-turn.invariant.reads limit end es s declared h at in
+      let more : g.s.at < length src = rw (s0, g.sees.here) at (leb-false _ _ (sym c.is_at_end.ensures ∙ c.if-is_at_end.false)) in
+      let went = rw s0 at (c.quick_markup_of_text.ensures.value c.if-quick_markup_of_text.true context end g.s refl g.sees) in
+      text_on context end src _ n (length src - (c.loop-turn._turn + 1)) c.loop-turn.cursor _ c.loop-turn.builder _ tt g one more went;
 }
 
 pub content_text-returns : goal.content_text-returns
@@ -359,40 +310,8 @@ content_text-returns t c = record {
 
 -- ---- one construct
 
-pub step-returns-then-plain_step : goal.step-returns-then-plain_step
-step-returns-then-plain_step t c = record {
-  value = λ limit end es s declared h. c.plain_step.ensures.value c.if-plain_step.true (context_of limit es c.args.context) end s refl h;
-  goes = search rules;
-}
-
-pub step-returns : goal.step-returns
-step-returns t c = record {
-  value = λ limit end es s declared h.
-      let no = c.if-plain_step.false in
-      let same = ap (λ t. t.text.now) (c.plain_step.ensures.other no).0 in
-      rw same at (c.in_ok-general_step.ensures.value limit end es s declared (state_kept limit end s _ _ _ _ h (c.plain_step.ensures.other no).0 (c.plain_step.ensures.other no).1));
-  goes = search rules;
-}
-
-pub step-returns-in_err-general_step : goal.step-returns-in_err-general_step
-step-returns-in_err-general_step t c = record {
-  value = λ limit end es s declared h.
-      let no = c.if-plain_step.false in
-      let same = ap (λ t. t.text.now) (c.plain_step.ensures.other no).0 in
-      let p = err_from_is_err_and c.from_residual.result c.from_residual.ensures.1 in
-      rw (p.1, p.2) (rw same at (c.in_err-general_step.ensures.value limit end es s declared (state_kept limit end s _ _ _ _ h (c.plain_step.ensures.other no).0 (c.plain_step.ensures.other no).1)));
-  goes = let p = err_from_is_err_and c.from_residual.result c.from_residual.ensures.1 in rw p.1 tt;
-}
-
-pub inner_step-returns-then-bytes-cursor-ne60 : goal.inner_step-returns-then-bytes-cursor-ne60
-inner_step-returns-then-bytes-cursor-ne60 t c = record {
-  value = λ limit end es s declared h.
-      rw (step_is_run (context_of limit es c.args.context) c.args.cursor.now.text.now _ s c.args.cursor.now.pos c.as_bytes-bytes.ensures.value h.here c.if-bytes-cursor-ne60.true) (c.character_data.ensures.value limit end es s declared h);
-  goes = search rules;
-}
-
-pub other_step-end_tag-requires : goal.other_step-end_tag-requires
-other_step-end_tag-requires t c =
+pub step-end_tag-requires : goal.step-end_tag-requires
+step-end_tag-requires t c =
     let e = c.as_bytes-bytes.ensures.value in
     let i = c.args.cursor.now.pos in
     let l = c.as_bytes-bytes.ensures.len in
@@ -402,15 +321,15 @@ other_step-end_tag-requires t c =
       fine = c.requires.fine;
     }
 
-pub other_step-returns-then-bytes-cursor-ne60 : goal.other_step-returns-then-bytes-cursor-ne60
-other_step-returns-then-bytes-cursor-ne60 t c = record {
+pub step-returns-then-bytes-cursor-ne60 : goal.step-returns-then-bytes-cursor-ne60
+step-returns-then-bytes-cursor-ne60 t c = record {
   value = λ limit end es s declared h.
       rw (step_is_run (context_of limit es c.args.context) c.args.cursor.now.text.now _ s c.args.cursor.now.pos c.as_bytes-bytes.ensures.value h.here c.if-bytes-cursor-ne60.true) (c.character_data.ensures.value limit end es s declared h);
   goes = search rules;
 }
 
-pub other_step-returns-in_err-end_tag : goal.other_step-returns-in_err-end_tag
-other_step-returns-in_err-end_tag t c = record {
+pub step-returns-in_err-end_tag : goal.step-returns-in_err-end_tag
+step-returns-in_err-end_tag t c = record {
   value = λ limit end es s declared h.
       let p = err_from_is_err_and c.from_residual.result c.from_residual.ensures.1 in
       rw (
@@ -422,18 +341,11 @@ other_step-returns-in_err-end_tag t c = record {
   goes = let p = err_from_is_err_and c.from_residual.result c.from_residual.ensures.1 in rw p.1 tt;
 }
 
-pub other_step-returns-then-next-eq47 : goal.other_step-returns-then-next-eq47
-other_step-returns-then-next-eq47 t c = record {
+pub step-returns-then-next-eq47 : goal.step-returns-then-next-eq47
+step-returns-then-next-eq47 t c = record {
   value = λ limit end es s declared h.
       rw (step_is_markup (context_of limit es c.args.context) c.args.cursor.now.text.now _ s c.args.cursor.now.pos 47 c.as_bytes-bytes.ensures.value h.here c.if-bytes-cursor-ne60.false c.if-cursor-bytes.false c.if-next-eq47.true (λ e. cc e))
       (c.in_ok-end_tag.ensures.value limit end es s h);
-  goes = search rules;
-}
-
-pub general_step-returns-then-not-is_text_open : goal.general_step-returns-then-not-is_text_open
-general_step-returns-then-not-is_text_open t c = record {
-  value = λ limit end es s declared h.
-      rw (step_is_run (context_of limit es c.args.context) c.args.cursor.now.text.now _ s c.args.cursor.now.pos c.as_bytes-bytes.ensures.value h.here c.if-bytes-cursor-ne60.true) (c.ended_character_data.ensures.value limit end es s declared h);
   goes = search rules;
 }
 

@@ -18,29 +18,17 @@ decreases-open_text l = 16 * l.context.depth_left + 1
 abbrev pub decreases-data_parts : goal.decreases-data_parts
 decreases-data_parts l = 16 * l.context.depth_left + 2
 
-abbrev pub decreases-slow_character_data : goal.decreases-slow_character_data
-decreases-slow_character_data l = 16 * l.context.depth_left + 3
-
-abbrev pub decreases-ended_character_data : goal.decreases-ended_character_data
-decreases-ended_character_data l = 16 * l.context.depth_left + 4
+abbrev pub decreases-character_data_pieces : goal.decreases-character_data_pieces
+decreases-character_data_pieces l = 16 * l.context.depth_left + 3
 
 abbrev pub decreases-character_data : goal.decreases-character_data
 decreases-character_data l = 16 * l.context.depth_left + 4
 
-abbrev pub decreases-other_step : goal.decreases-other_step
-decreases-other_step l = 16 * l.context.depth_left + 5
-
-abbrev pub decreases-general_step : goal.decreases-general_step
-decreases-general_step l = 16 * l.context.depth_left + 6
-
 abbrev pub decreases-step : goal.decreases-step
-decreases-step l = 16 * l.context.depth_left + 7
-
-abbrev pub decreases-inner_step : goal.decreases-inner_step
-decreases-inner_step l = 16 * l.context.depth_left + 8
+decreases-step l = 16 * l.context.depth_left + 5
 
 abbrev pub decreases-content_text : goal.decreases-content_text
-decreases-content_text l = 16 * l.context.depth_left + 9
+decreases-content_text l = 16 * l.context.depth_left + 6
 
 abbrev pub invariant-data_parts-loop-turn : goal.invariant-data_parts-loop-turn
 invariant-data_parts-loop-turn l = record {

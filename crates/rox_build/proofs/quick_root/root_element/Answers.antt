@@ -39,7 +39,7 @@ put_leaf-requires c =
     let b = c.args.builder.now in
     let src = c.args.cursor.now.text.now in
     let pos = c.args.cursor.now.pos in
-    let x : IsReadFirst b.tables c.first_tag.new.elements src pos b.openings_left c.in-Some.read = rw c.in-Some.is at c.in-Ok.ensures in
+    let x : IsReadFirst b.tables c.first_tag.new.elements src pos c.in-Some.read = rw c.in-Some.is at c.in-Ok.ensures in
     let ready = c.rows_left.ensures 1 (omega arith) (omega arith) in
     record {
       row = record {
@@ -57,12 +57,12 @@ put_open-requires c =
     let src = c.args.cursor.now.text.now in
     let pos = c.args.cursor.now.pos in
     let t = c.in-Some.read.tag in
-    let x : IsReadFirst b.tables c.first_tag.new.elements src pos b.openings_left c.in-Some.read = rw c.in-Some.is at c.in-Ok.ensures in
+    let x : IsReadFirst b.tables c.first_tag.new.elements src pos c.in-Some.read = rw c.in-Some.is at c.in-Ok.ensures in
     let plain = x.plain in
     let ready = c.rows_left.ensures 1 (omega arith) (omega arith) in
     let room = not_err c.reserve_exact.result (sym c.is_err.ensures.value ∙ c.if-is_err.false) c.reserve_exact.ensures.ok in
-    let read = plain.read any_values fault.NoRootNode in
-    let named = tag_is_named any_values fault.NoRootNode _ _ _ src pos t.openings_left _ _ t c.args.cursor.now.utf8 c.requires.here read
+    let read = plain.read any_values fault.NoRootNode 0 in
+    let named = tag_is_named any_values fault.NoRootNode _ _ _ src pos 0 _ _ t c.args.cursor.now.utf8 c.requires.here read
     plain.tagged.name plain.tagged.name_end plain.starts in
     record {
       row = record {
@@ -84,7 +84,7 @@ returns-then-read c =
     let pos = c.args.cursor.now.pos in
     let t = c.in-Some.read.tag in
     let e = c.in-Some.read.end in
-    let first : IsReadFirst old new src pos b.openings_left c.in-Some.read = rw c.in-Some.is at c.in-Ok.ensures in
+    let first : IsReadFirst old new src pos c.in-Some.read = rw c.in-Some.is at c.in-Ok.ensures in
     let x = first.plain in
     let fine = c.requires.fine in
     let u = c.put_leaf.new.self in
@@ -94,14 +94,13 @@ returns-then-read c =
           let sc : [] ≡ scope_of s.stack = lists_nothing old b.opened.items s.stack (omega arith) h.shows.open_rows in
           let tg : Tagged old new t (scope_of s.stack) x.tag = subst (λ (a : List NamespaceDecl). Tagged old new t a x.tag) sc x.tagged in
           let cut = cut_off_fault context.values.main s.stack in
-          let kept : t.openings_left ≡ s.openings_left = first.openings_left ∙ h.openings_left_is in
           let grown = grown_by old new t (scope_of s.stack) x.tag tg in
           let shows = grown_shows end s.stack s.done b _ h.shows fine.sound fine.elements grown refl refl refl refl in
           let node : IsNode new (scope_of s.stack) pos e (kind.Element t.element) (Element s.at e x.tag) =
           subst (λ (n : ℕ). IsNode new (scope_of s.stack) pos e (kind.Element t.element) (Element n e x.tag)) h.here
           (is_node old new t (scope_of s.stack) x.tag pos e tg) in
           let adds = put.value end e s (Element s.at e x.tag) shows node in
-          let read = rw kept at (x.read context.values cut) in
+          let read = x.read context.values cut s.openings_left in
           let left = put.kept.openings_left ∙ h.openings_left_is in
           rw (tag_is context src s pos cut _ _ _ x.tag t.empty s.openings_left e h.here refl sc h.attributes h.namespaces read
           ∙ ap (λ (y : Bool). lifted (opened_by context.limit s x.tag y s.openings_left e)) c.if-read.true)
@@ -125,7 +124,7 @@ returns c =
     let pos = c.args.cursor.now.pos in
     let t = c.in-Some.read.tag in
     let e = c.in-Some.read.end in
-    let first : IsReadFirst old new src pos b.openings_left c.in-Some.read = rw c.in-Some.is at c.in-Ok.ensures in
+    let first : IsReadFirst old new src pos c.in-Some.read = rw c.in-Some.is at c.in-Ok.ensures in
     let x = first.plain in
     let fine = c.requires.fine in
     let u = c.put_open.new.self in
@@ -136,12 +135,11 @@ returns c =
           let sc : [] ≡ scope_of s.stack = lists_nothing old b.opened.items s.stack (omega arith) h.shows.open_rows in
           let tg : Tagged old new t (scope_of s.stack) x.tag = subst (λ (a : List NamespaceDecl). Tagged old new t a x.tag) sc x.tagged in
           let cut = cut_off_fault context.values.main s.stack in
-          let kept : t.openings_left ≡ s.openings_left = first.openings_left ∙ h.openings_left_is in
           let grown = grown_by old new t (scope_of s.stack) x.tag tg in
           let shows = grown_shows end s.stack s.done b _ h.shows fine.sound fine.elements grown refl empty refl refl in
           let adds = put.value end e s.openings_left s x.tag shows (sym h.here)
           (is_opening old new t (scope_of s.stack) x.tag pos tg x.starts) in
-          let read = rw kept at (x.read context.values cut) in
+          let read = x.read context.values cut s.openings_left in
           let left = put.kept.openings_left ∙ h.openings_left_is in
           rw (tag_is context src s pos cut _ _ _ x.tag t.empty s.openings_left e h.here refl sc h.attributes h.namespaces read
           ∙ ap (λ (y : Bool). lifted (opened_by context.limit s x.tag y s.openings_left e)) c.if-read.false)
@@ -150,13 +148,13 @@ returns c =
       same = λ is. absurd (cc is);
       other = λ is. absurd (cc is);
       goes = λ _.
-          let read = x.read any_values fault.NoRootNode in
+          let read = x.read any_values fault.NoRootNode 0 in
           let row = x.tagged in
           record {
             source = refl;
             fine = fine_more (Ok tt) new b.opened.items u src t (fine_by old new t _ x.tag b.opened.items row fine) put.kept.tables
                 (rw empty at put.opened) row.element.scope_within row.once (namespace_by old new t _ x.tag row)
-                (λ o by. opened_named any_values fault.NoRootNode _ _ _ src pos t.openings_left _ _ t o c.args.cursor.now.utf8
+                (λ o by. opened_named any_values fault.NoRootNode _ _ _ src pos 0 _ _ t o c.args.cursor.now.utf8
                 c.requires.here read row.name row.name_end x.starts by);
           };
     }
