@@ -6,6 +6,7 @@ use crate::cases::first_case;
 use crate::fault::Fault;
 use crate::options::Options;
 use crate::sources::{Sources, write_text};
+use rox_programs::input::decode;
 use rox_programs::program_error::ProgramError;
 use std::alloc::Global;
 use std::io::Write;
@@ -42,7 +43,7 @@ fn write_case<W: Write>(
     options: Options,
     out: &mut W,
 ) -> Result<(), ProgramError> {
-    match str::from_utf8(text) {
+    match decode(text) {
         Ok(text) => write_text(alloc, text, sources, options, out),
         Err(_) => {
             out.write_all(b"NOTUTF8\n")?;

@@ -5,6 +5,7 @@ ghost use Rattle.rox_dump.specs.Numbers.{number_of};
 ghost use Rattle.rox_dump.specs.Batch.{BeginsWith, IsOneLine, IsSplit};
 
 use crate::numbers::number;
+use rox_programs::input::decode;
 
 /// A text of a batch, and what follows it.
 #[derive(Clone, Copy)]
@@ -37,7 +38,7 @@ fn first_line(batch: &[u8]) -> Option<(&[u8], &[u8])>
 fn line_number(line: &[u8]) -> Option<usize>
     ensures { result ≡ number_of line.now }
 {
-    match str::from_utf8(line) {
+    match decode(line) {
         Ok(digits) => number(digits),
         Err(_) => None,
     }

@@ -6,7 +6,7 @@ use crate::batch::write_batch;
 use crate::fault::Fault;
 use crate::options::Options;
 use crate::sources::{Sources, write_text};
-use rox_programs::input::read_all;
+use rox_programs::input::{decode, read_all};
 use rox_programs::program_error::ProgramError;
 use std::alloc::Global;
 use std::io::{BufWriter, Read, Write};
@@ -92,8 +92,6 @@ fn write_dumps<W: Write>(
     if options.batch {
         return write_batch(alloc, bytes, sources, options, out);
     }
-    match str::from_utf8(bytes) {
-        Ok(text) => Ok(write_text(alloc, text, sources, options, out)?),
-        Err(_) => Err(Fault::Program(ProgramError::NotUtf8)),
-    }
+    let text = decode(bytes)?;
+    Ok(write_text(alloc, text, sources, options, out)?)
 }

@@ -1,9 +1,12 @@
 //! Resolvers of external entities (XML 1.0 section 4.2.2).
 
-ghost use Rattle.std.specs.Prelude.{◌≡◌, Some, true, List, IfOk};
+ghost use Rattle.std.specs.Prelude.{◌≡◌, ◌≢◌, Some, true, List, IfOk, IfErr};
+ghost use Rattle.std.specs.Option.{option_map};
 ghost use Rattle.roxmltree.specs.Doctype.{Asked};
-ghost use Rattle.roxmltree.specs.Document.{IsTreeOf, Permits};
+ghost use Rattle.roxmltree.specs.Document.{IsTreeOf};
+ghost use Rattle.roxmltree.specs.FirstError.{IsFirst};
 ghost use Rattle.roxmltree.specs.Requests.{Allows, AreAllowed};
+ghost use Rattle.rox_uses.specs.Resolvers.{IsReplyOf, text_of_name};
 
 use rox_error::error::Error;
 use roxmltree::{Document, EntityResolver, ParsingOptions, ResolveWith};
@@ -19,6 +22,9 @@ pub fn parse_answered<'input, 'w, R: EntityResolver<'input> + Drop>(
     ensures is_parse { IfOk result (λ document. (asked : List Asked)
         × AreAllowed (Allows R.allows (Some resolver)) asked
         × IsTreeOf text.now document.dtd asked 4294967295 document.tree) }
+    ensures text { IfOk result (λ document. document.text ≡ text.now) }
+    ensures first { IfErr result (λ e. e ≢ Error.OutOfMemory
+        → IsFirst 4294967295 true (Allows R.allows (Some resolver)) text.now e) }
 {
     let mut options = ParsingOptions::with_resolver(resolver);
     options.allow_dtd = true;
@@ -31,19 +37,29 @@ pub fn parse_named<'input>(
     alloc: Global,
     text: &'input str,
     texts: &[(&str, &'input str)],
-) -> Result<Document<'input>, roxmltree::Error> {
-    let resolver = ResolveWith::new(|_public_id, uri| {
+) -> Result<Document<'input>, roxmltree::Error>
+    ensures is_parse { IfOk result (λ document. (asked : List Asked)
+        × AreAllowed (IsReplyOf texts.now) asked
+        × IsTreeOf text.now document.dtd asked 4294967295 document.tree) }
+    ensures text { IfOk result (λ document. document.text ≡ text.now) }
+    ensures first { IfErr result (λ e. e ≢ Error.OutOfMemory
+        → IsFirst 4294967295 true (IsReplyOf texts.now) text.now e) }
+{
+    let answers = ResolveWith::new(|_public_id, uri| {
         match text_named(texts, uri) {
             Some(text) => Ok(Some(text)),
             None => Err(String::from_str(alloc, "no such text").unwrap_or(String::new(alloc))),
         }
     });
-    let mut options = ParsingOptions::with_resolver(resolver);
+    let mut options = ParsingOptions::with_resolver(answers);
     options.allow_dtd = true;
     Document::parse_with_options(alloc, text, options)
 }
 
-fn text_named<'input>(texts: &[(&str, &'input str)], uri: &str) -> Option<&'input str> {
+/// Returns the first text with this name.
+fn text_named<'input>(texts: &[(&str, &'input str)], uri: &str) -> Option<&'input str>
+    ensures { option_map (λ t. t.now) result ≡ text_of_name texts.now uri.now }
+{
     for (name, text) in texts {
         if *name == uri {
             return Some(*text);

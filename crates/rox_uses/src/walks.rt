@@ -1,12 +1,14 @@
 //! Walks over a tree: by recursion, and by chains of iterators.
 
-ghost use Rattle.std.specs.Prelude.{◌≡◌, ◌<◌, ◌≤◌, true, false, None, IfSome, filter, slice_range};
+ghost use Rattle.std.specs.Prelude.{◌≡◌, ◌+◌, ◌^◌, ◌<◌, ◌≤◌, true, false, None, IfSome, IsNone, filter, slice_range};
 ghost use Rattle.std.specs.Option.{option_map};
+ghost use Rattle.std.specs.Str.{IsCharBoundary};
 ghost use Rattle.std.specs.List.{find, last_or};
 ghost use Rattle.roxmltree.specs.NodeParts.{is_element_node, start_of, end_of};
-ghost use Rattle.roxmltree.specs.NodeRef.{node_ref, document_of, item_of};
+ghost use Rattle.roxmltree.specs.NodeRef.{node_ref, document_of, id_of, item_of};
 ghost use Rattle.roxmltree.specs.LaterNodes.{nodes_left_from};
 ghost use Rattle.rox_uses.specs.Ids.{has_id};
+ghost use Rattle.rox_uses.specs.Levels.{levels_of};
 ghost use Rattle.rox_uses.specs.Nodes.{nodes_of};
 
 use rox_laws::laws::element_is_a_slice;
@@ -14,17 +16,20 @@ use roxmltree::{Document, Node};
 
 /// Returns the number of levels of the tree from a node down: 1 for a node without children.
 ///
-/// The recursion ends, as each child has fewer nodes from it on in document order than its parent. The measure of this in
-/// `proofs/walks/+levels/Invariants.antt` and an invariant of the loop are all of its proof.
+/// The recursion ends, as each child has fewer nodes from it on in document order than its parent. The sum does not wrap, as each
+/// level has a greater id than the one above it.
+#[tactic(auto, using(crate::proofs::Levels::levels_are))]
 pub fn levels(node: Node<'_, '_>) -> usize
+    ensures levels { result ≡ levels_of (node_ref node.entry) }
     ensures some { 0 < result }
     ensures few { result ≤ nodes_left_from node.entry }
+    ensures ids { id_of node.entry + result ≤ 2 ^ 32 }
 {
     let mut below: usize = 0;
     for child in node.children() {
-        below = levels(child).max(below);
+        below = below.max(levels(child));
     }
-    below.saturating_add(1)
+    below + 1
 }
 
 /// Whether the attribute `id` of a node has this value.
@@ -61,10 +66,13 @@ pub fn last_with_id<'a, 'input>(
 /// Returns the source of a node: the slice of the document's text that its range selects. Returns `None` if the range is none of
 /// that text, as the range of a node that comes from an answer of the resolver may be.
 pub fn source_of<'input>(node: Node<'_, 'input>) -> Option<&'input str>
-    ensures { IfSome result
+    ensures some { IfSome result
         (λ source. source.now
         ≡ slice_range (document_of node.entry).text (start_of (item_of node.entry))
         (end_of (item_of node.entry))) }
+    ensures none { IsNone result → start_of (item_of node.entry) ≤ end_of (item_of node.entry)
+        → IsCharBoundary (document_of node.entry).text (start_of (item_of node.entry))
+        → ¬ IsCharBoundary (document_of node.entry).text (end_of (item_of node.entry)) }
 {
     node.document().input_text().get(node.range())
 }
