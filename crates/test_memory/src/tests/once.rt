@@ -60,6 +60,39 @@ fn entities(rt: HostRuntime) {
 }
 
 #[test]
+fn values_that_change(rt: HostRuntime) {
+    let document = document_of(&rt, "<r><a b='&lt;' c='&amp;' d='\t'/></r>");
+    let a = node_of(&rt, &document, 2);
+    same(&rt, "b", a.attribute("b".into()), Some("<"));
+    same(&rt, "c", a.attribute("c".into()), Some("&"));
+    same(&rt, "d", a.attribute("d".into()), Some(" "));
+    ends(&rt);
+}
+
+#[test]
+fn a_value_of_an_entity(rt: HostRuntime) {
+    let text = "<!DOCTYPE r [<!ENTITY e 'x'>]><r><a b='&e;'/></r>";
+    let document = asked(&rt, text).expect(&rt, "an entity");
+    let a = node_of(&rt, &document, 2);
+    same(&rt, "b", a.attribute("b".into()), Some("x"));
+    ends(&rt);
+}
+
+#[test]
+fn a_line_end(rt: HostRuntime) {
+    let document = document_of(&rt, "<r><a/>\r\n</r>");
+    same(&rt, "text", node_of(&rt, &document, 3).text(), Some("\n"));
+    ends(&rt);
+}
+
+#[test]
+fn a_fault_after_values_and_line_ends(rt: HostRuntime) {
+    let error = refusal_of(&rt, "<r><a b='&lt;'/>\r\n<a b='\t'/>&x;</r>");
+    tells(&rt, &error, "unknown entity reference 'x' at 2:11");
+    ends(&rt);
+}
+
+#[test]
 fn entities_too_often(rt: HostRuntime) {
     let text = opening(rt.alloc(), 256).expect(&rt, "memory");
     let error = asked(&rt, text.as_str()).expect_err(&rt, "a loop");
