@@ -1,2 +1,2 @@
-pub mod Levels
+pub mod NodeLevels
 pub mod Replies

@@ -18,7 +18,7 @@ use roxmltree::{Document, Node};
 ///
 /// The recursion ends, as each child has fewer nodes from it on in document order than its parent. The sum does not wrap, as each
 /// level has a greater id than the one above it.
-#[tactic(auto, using(crate::proofs::Levels::levels_are))]
+#[tactic(auto, using(crate::proofs::NodeLevels::levels_are))]
 pub fn levels(node: Node<'_, '_>) -> usize
     ensures levels { result ≡ levels_of (node_ref node.entry) }
     ensures some { 0 < result }
