@@ -291,10 +291,10 @@ fn text_end<'input>(
     }
 }
 
-/// Reads one construct of content.
+/// Reads one construct of content. It is out of line, so that its callers are small enough to be in line.
 #[tactic(auto, unfolding(rox_reading::specs::Machine::step))]
 #[cycle(content)]
-#[inline(always)]
+#[inline(never)]
 fn step<'input>(
     alloc: Global,
     cursor: &mut Cursor<'input>,

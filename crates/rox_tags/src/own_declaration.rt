@@ -118,8 +118,9 @@ fn list_own(elements: &mut ElementTables<'_>) -> bool
     true
 }
 
-/// Puts the declaration at `start` into the tables, like `declared`, and lists it in the scope of the root element.
-#[inline(always)]
+/// Puts the declaration at `start` into the tables, like `declared`, and lists it in the scope of the root element. It is out of
+/// line, so that the loop over attributes is small enough to be in line.
+#[inline(never)]
 pub fn put_declaration<'input>(
     text: &'input str,
     start: usize,
