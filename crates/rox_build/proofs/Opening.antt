@@ -22,7 +22,7 @@ use Rattle.rox_values.proofs.PartLemmas.{refuses_by}
 use Rattle.rox_scan.specs.declared.cursor.Cursor.{Cursor}
 use Rattle.rox_grammar.specs.declared.failure.Failure.{Failure}
 use Rattle.rox_rows.specs.Rows.{node, numbered_place, attribute, scope_at, NamespaceWithin, AttributeRow, attribute_rows}
-use Rattle.rox_scopes.specs.Tables.{namespace_view}
+use Rattle.rox_scopes.specs.NamespaceViews.{namespace_view}
 use Rattle.rox_scopes.specs.Scopes.{PrefixesOnce}
 use Rattle.rox_scopes.specs.TagScopes.{lists_in}
 use Rattle.rox_tags.specs.ElementRow.{Tagged}

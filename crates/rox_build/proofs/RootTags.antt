@@ -15,7 +15,8 @@ use Rattle.rox_grammar.specs.WellNamed.{may_name}
 use Rattle.rox_reading.specs.Lexical.{qname_at}
 use Rattle.rox_reading.specs.Tags.{Values, attributes_at, names_tested, tag_tested}
 use Rattle.rox_rows.specs.Rows.{attribute_rows, namespace_at, numbered_place, scope_at}
-use Rattle.rox_scopes.specs.Tables.{AreRows, AreScopes, IsRow, lists_of, namespace_view}
+use Rattle.rox_scopes.specs.Tables.{AreRows, AreScopes, IsRow, lists_of}
+use Rattle.rox_scopes.specs.NamespaceViews.{namespace_view}
 use Rattle.rox_scopes.specs.Scopes.{ArePlaces, PrefixesOnce, entries}
 use Rattle.rox_scopes.specs.TagScopes.{lists_in, scope_in_tables}
 use Rattle.rox_scopes.specs.declared.tables.ElementTables.{ElementTables}

@@ -1,7 +1,7 @@
 -- The start tag of a root element that the fast path reads, with its declarations.
 use Rattle.std.specs.Prelude.{◌≡◌, ℕ, ◌<◌, ◌^◌, List, [], ◌∷◌, ◌++◌, Option, Some, None, length, map, slice_index, IfSome, OnOk, Result}
 use Rattle.rox_rows.specs.Rows.{AttributeRow, attribute_rows}
-use Rattle.rox_scopes.specs.Tables.{namespace_view}
+use Rattle.rox_scopes.specs.NamespaceViews.{namespace_view}
 use Rattle.rox_scopes.specs.TagScopes.{lists_in}
 use Rattle.rox_scopes.specs.declared.tables.ElementTables.{ElementTables}
 use Rattle.rox_tags.specs.PlainTag.{IsPlainTag}

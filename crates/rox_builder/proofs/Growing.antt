@@ -8,7 +8,7 @@ use Rattle.rox_grammar.specs.Written.{Item, NamespaceDecl}
 use Rattle.rox_grammar.specs.State.{Open}
 use Rattle.rox_grammar.specs.Tree.{element_namespace}
 use Rattle.rox_rows.specs.Rows.{row_view, namespace_at, scope_at, NamespaceWithin, OptionWithin, KindWithin, numbered_place, AttributeRow, attribute_rows}
-use Rattle.rox_scopes.specs.Tables.{namespace_view}
+use Rattle.rox_scopes.specs.NamespaceViews.{namespace_view}
 use Rattle.rox_scopes.specs.Scopes.{PrefixesOnce}
 use Rattle.rox_scopes.specs.TagScopes.{lists_in}
 use Rattle.rox_builder.specs.BuilderState.{opened, opened_in, names_in, line_in, IsRowWithin, AreSound, HasEmpty, Represents, Grown}

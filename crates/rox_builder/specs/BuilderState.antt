@@ -16,7 +16,8 @@ use Rattle.rox_grammar.specs.Failures.{Fails, name_view}
 use Rattle.rox_scan.specs.declared.cursor.Cursor.{Cursor}
 use Rattle.rox_grammar.specs.declared.failure.Failure.{Failure}
 use Rattle.rox_rows.specs.Rows.{node_rows, RowView, row_view, node, scope_at, NamespaceWithin, KindWithin, AttributeRow, attribute_rows}
-use Rattle.rox_scopes.specs.Tables.{namespace_view, AreScopes}
+use Rattle.rox_scopes.specs.Tables.{AreScopes}
+use Rattle.rox_scopes.specs.NamespaceViews.{namespace_view}
 use Rattle.rox_reading.specs.Values.{Next, part_text}
 use Rattle.rox_values.specs.Refusals.{IsFailure, IsRefusal}
 use Rattle.rox_values.specs.Values.{next_view}

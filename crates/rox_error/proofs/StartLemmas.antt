@@ -5,7 +5,8 @@ use Rattle.std.specs.declared.alloc.Global.{Global}
 use Rattle.rox_error.specs.declared.position.TextPos.{TextPos}
 use Rattle.rox_error.specs.declared.error.Error.{Error}
 use Rattle.rox_error.specs.declared.error.Error.TheVariants as error
-use Rattle.rox_error.specs.Messages.{message_start, IsFixedStart}
+use Rattle.rox_error.specs.Messages.{message_start}
+use Rattle.rox_error.specs.FixedStarts.{IsFixedStart}
 
 -- The message of the error starts with no text of its own.
 pub record StartsFixed (e : Error) : Type 0 where

@@ -1,4 +1,5 @@
 pub mod Copies
 pub mod Messages
+pub mod FixedStarts
 pub mod ErrorPositions
 pub mod FaultErrors

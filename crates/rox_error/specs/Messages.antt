@@ -1,5 +1,5 @@
 -- What a position and an error print.
-use Rattle.std.specs.Prelude.{◌≡◌, ⊤, ℕ, List, [], ◌++◌, Option, Some, None, codes, if◌then◌else◌, ◌==◌, decimal, string_bytes, encode_utf8}
+use Rattle.std.specs.Prelude.{ℕ, List, [], ◌++◌, Option, Some, None, codes, if◌then◌else◌, ◌==◌, decimal, string_bytes, encode_utf8}
 use Rattle.std.specs.Fmt.{◌++?◌, debug_char}
 use Rattle.rox_error.specs.ErrorPositions.{kept_position}
 use Rattle.rox_error.specs.declared.position.TextPos.{TextPos}
@@ -54,19 +54,6 @@ message_start (error.InvalidCharacterData p) = Some (codes "']]>'")
 message_start (error.UnknownToken p) = Some (codes "unknown token")
 message_start error.UnexpectedEndOfStream = Some (codes "unexpected end of stream")
 message_start error.OutOfMemory = Some (codes "out of memory")
-
--- The text is the message up to where the position comes, if all errors of this kind have the same. Of the other kinds it is any.
-abbrev pub IsFixedStart : Error → List ℕ → Type 0
-IsFixedStart (error.DuplicatedNamespace n p) text = ⊤
-IsFixedStart (error.UnknownNamespace n p) text = ⊤
-IsFixedStart (error.UnexpectedCloseTag e a p) text = ⊤
-IsFixedStart (error.UnknownEntityReference n p) text = ⊤
-IsFixedStart (error.DuplicatedAttribute n p) text = ⊤
-IsFixedStart (error.NonXmlChar c p) text = ⊤
-IsFixedStart (error.InvalidChar e a p) text = ⊤
-IsFixedStart (error.InvalidChar2 e a p) text = ⊤
-IsFixedStart (error.InvalidString s p) text = ⊤
-IsFixedStart other text = message_start other ≡ Some text
 
 -- the message of an error from the position on
 unfoldable pub message_end : Error → List ℕ

@@ -2,7 +2,8 @@
 
 ghost use Rattle.std.specs.Prelude.{◌≡◌, ◌++◌, Some, codes, encode_utf8};
 ghost use Rattle.std.specs.Fmt.{◌++?◌, DisplaysOnOk, WritesOnOk};
-ghost use Rattle.rox_error.specs.Messages.{message_start, message_end, place_text, quoted, IsFixedStart};
+ghost use Rattle.rox_error.specs.Messages.{message_start, message_end, place_text, quoted};
+ghost use Rattle.rox_error.specs.FixedStarts.{IsFixedStart};
 
 use crate::error::Error;
 use crate::position::TextPos;

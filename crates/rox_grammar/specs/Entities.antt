@@ -33,10 +33,10 @@ Spends false before first last after = (before ≡ first + 1) × (after ≡ last
 abbrev pub no_entities : Inclusion
 no_entities = record { content = λ name b items c. ⊥; value = λ name b v c. ⊥ }
 
--- XML 4.4.2, 4.4.5: what a reference opens, in the main text or in a replacement text, where `openings_left` replacement texts may
+-- XML 4.4.2, 4.4.5: what a reference opens, in the main text or in a replacement text, where `depth_left` replacement texts may
 -- be opened inside one another. In content the whole text is content. In a value it is a part of the value, of Chars. Departures:
 -- XML has no such bound. The text may be an external entity's in a value too, which 3.1 (No External Entity References) forbids.
-abbrev pub Includes : List Entity → (openings_left : ℕ) → (main : Bool) → Inclusion
+abbrev pub Includes : List Entity → (depth_left : ℕ) → (main : Bool) → Inclusion
 Includes es zero main = no_entities
 Includes es (suc d) main = record {
   content = λ name before items after. (t : Replacement) × (first : ℕ) × (last : ℕ) × (text_of es name ≡ Some t) × Spends main before first last after

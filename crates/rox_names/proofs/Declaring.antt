@@ -18,7 +18,8 @@ use Rattle.rox_grammar.specs.declared.failure.Failure.{Failure}
 use Rattle.rox_grammar.specs.declared.failure.Failure.TheVariants as failure
 use Rattle.rox_scopes.specs.declared.tables.Namespace.{Namespace}
 use Rattle.rox_rows.specs.Rows.{namespace_at}
-use Rattle.rox_scopes.specs.Tables.{namespace_view, lists_of, AreScopes}
+use Rattle.rox_scopes.specs.Tables.{lists_of, AreScopes}
+use Rattle.rox_scopes.specs.NamespaceViews.{namespace_view}
 use Rattle.rox_scopes.specs.PrefixSet.{IsPrefixSet}
 use Rattle.rox_scopes.specs.Scopes.{entries, others, ArePlaces, PrefixesOnce}
 use Rattle.rox_names.specs.TagDeclarations.{declares_xml, Declares, Declared}

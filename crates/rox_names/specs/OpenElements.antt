@@ -7,7 +7,7 @@ use Rattle.rox_grammar.specs.Tree.{element_namespace}
 use Rattle.rox_reading.specs.Lexical.{qname_at}
 use Rattle.rox_grammar.specs.Failures.{name_view}
 use Rattle.rox_rows.specs.Rows.{namespace_at, scope_at, OptionWithin, numbered_place}
-use Rattle.rox_scopes.specs.Tables.{namespace_view}
+use Rattle.rox_scopes.specs.NamespaceViews.{namespace_view}
 use Rattle.rox_names.specs.SpelledNames.{before_colon, is_prefixed, kept_length, KeepsName, spelled_name}
 use Rattle.rox_scopes.specs.Scopes.{PrefixesOnce}
 use Rattle.rox_scopes.specs.TagScopes.{lists_in}

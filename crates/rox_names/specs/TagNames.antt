@@ -14,7 +14,7 @@ use Rattle.rox_scopes.specs.Bindings.{FindsBinding, LooksWithin}
 use Rattle.rox_names.specs.ExpandedNames.{HasExpandedNames, Key, TestedOr}
 use Rattle.rox_names.specs.ResolvedNames.{has_expanded, AddsNew, IsNamespaceOf, Tested}
 use Rattle.rox_rows.specs.Rows.{AttributeRow, NamespaceWithin, OptionWithin, attribute, namespace_at}
-use Rattle.rox_scopes.specs.Tables.{namespace_view}
+use Rattle.rox_scopes.specs.NamespaceViews.{namespace_view}
 use Rattle.rox_names.specs.SeenNames.{HasNameOf, KeepsCodes, PutsSeen, SeesName}
 use Rattle.rox_rows.specs.StoredAttributes.{data_of}
 use Rattle.rox_names.specs.TagDeclarations.{unresolved_view}

@@ -6,7 +6,7 @@ ghost use Rattle.rox_grammar.specs.NameParts.{local_span, prefix_span};
 ghost use Rattle.rox_grammar.specs.Tree.{is_declared};
 ghost use Rattle.rox_reading.specs.Tags as spec;
 ghost use Rattle.rox_grammar.specs.Failures.{name_view};
-ghost use Rattle.rox_scopes.specs.Tables.{namespace_view};
+ghost use Rattle.rox_scopes.specs.NamespaceViews.{namespace_view};
 ghost use Rattle.rox_scopes.specs.Scopes.{prefix_view};
 ghost use Rattle.rox_names.specs.TagDeclarations.{unresolved_view, DeclaresNew, DeclaresOne, HasOwn};
 

@@ -6,7 +6,7 @@ ghost use Rattle.std.specs.List.{list_any};
 ghost use Rattle.rox_grammar.specs.Written.{NamespaceDecl};
 ghost use Rattle.rox_grammar.specs.Failures.{name_view};
 ghost use Rattle.rox_rows.specs.Rows.{attribute_rows, attribute_uri, NamespaceWithin};
-ghost use Rattle.rox_scopes.specs.Tables.{namespace_view};
+ghost use Rattle.rox_scopes.specs.NamespaceViews.{namespace_view};
 ghost use Rattle.rox_rows.specs.StoredAttributes.{data_of};
 ghost use Rattle.rox_scopes.specs.Scopes.{prefix_view};
 ghost use Rattle.rox_scopes.specs.Bindings.{FindsBinding, LooksWithin, places_view};

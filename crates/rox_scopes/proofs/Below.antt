@@ -16,7 +16,8 @@ use Rattle.rox_scopes.specs.declared.tables.Stretch.{Stretch}
 use Rattle.rox_scopes.specs.declared.tables.ElementTables.{ElementTables}
 use Rattle.rox_scopes.specs.declared.bindings.PrefixBindings.{PrefixBindings}
 use Rattle.rox_rows.specs.Rows.{namespace_at, scope_at}
-use Rattle.rox_scopes.specs.Tables.{namespace_view, lists_of, AreRows, AreScopes}
+use Rattle.rox_scopes.specs.Tables.{lists_of, AreRows, AreScopes}
+use Rattle.rox_scopes.specs.NamespaceViews.{namespace_view}
 use Rattle.rox_scopes.specs.Scopes.{entries, places_in, ArePlaces, PrefixesOnce, others, unlisted, is_few_at}
 use Rattle.rox_scopes.specs.Ropes.{IsRope, IsListed}
 use Rattle.rox_scopes.specs.Bindings.{AreBindingsOf, IsBound, IsEntered, bound_place}

@@ -9,7 +9,7 @@ use Rattle.rox_scopes.specs.declared.tables.Scope.{Scope}
 use Rattle.rox_scopes.specs.declared.tables.Scope.TheVariants as scope
 use Rattle.rox_scopes.specs.declared.tables.Stretch.{Stretch}
 use Rattle.rox_rows.specs.Rows.{scope_at, OptionWithin}
-use Rattle.rox_scopes.specs.Tables.{namespace_view}
+use Rattle.rox_scopes.specs.NamespaceViews.{namespace_view}
 use Rattle.rox_scopes.specs.Scopes.{entries, places_in, is_few_at, ArePlaces}
 use Rattle.rox_scopes.specs.Bindings.{bound_place, IsBound, FindsBinding, LooksWithin, places_view}
 use Rattle.rox_scopes.specs.TagScopes.{HasBindingsOf, lists_in}

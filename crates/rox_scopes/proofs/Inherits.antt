@@ -8,7 +8,7 @@ use Rattle.rox_grammar.specs.Tree.{is_declared, is_xml}
 use Rattle.rox_reading.proofs.Stretches.{slice-more, slice-rest}
 use Rattle.rox_scopes.specs.declared.tables.Namespace.{Namespace}
 use Rattle.rox_rows.specs.Rows.{namespace_at}
-use Rattle.rox_scopes.specs.Tables.{namespace_view}
+use Rattle.rox_scopes.specs.NamespaceViews.{namespace_view}
 use Rattle.rox_scopes.specs.Scopes.{entries, ArePlaces, others}
 use Rattle.rox_rows.proofs.Stable.{slice-append, all_append}
 use Rattle.rox_scopes.proofs.Pairs.{place_at, namespace_at-get}

@@ -9,7 +9,7 @@ use Rattle.rox_grammar.specs.Written.{NamespaceDecl}
 use Rattle.rox_grammar.specs.Tree.{same_prefix, is_declared, uri_of, is_xml}
 use Rattle.rox_scopes.specs.declared.tables.Namespace.{Namespace}
 use Rattle.rox_rows.specs.Rows.{namespace_at, scope_at, OptionWithin}
-use Rattle.rox_scopes.specs.Tables.{namespace_view}
+use Rattle.rox_scopes.specs.NamespaceViews.{namespace_view}
 use Rattle.rox_scopes.specs.Scopes.{prefix_view, entries, ArePlaces, others}
 use Rattle.std.specs.BTreeMap.{BTreeMap, get_by}
 use Rattle.std.specs.Cmp.Lexicographic.{slice_cmp}

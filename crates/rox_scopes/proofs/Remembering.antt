@@ -14,7 +14,7 @@ use Rattle.rox_grammar.specs.Written.{NamespaceDecl}
 use Rattle.rox_grammar.specs.Tree.{same_prefix, is_declared}
 use Rattle.rox_scopes.specs.declared.tables.Namespace.{Namespace}
 use Rattle.rox_rows.specs.Rows.{namespace_at}
-use Rattle.rox_scopes.specs.Tables.{namespace_view}
+use Rattle.rox_scopes.specs.NamespaceViews.{namespace_view}
 use Rattle.rox_scopes.specs.Scopes.{prefix_view, entries, ArePlaces}
 use Rattle.rox_scopes.specs.PrefixSet.{has_prefix, IsPrefixSet}
 use Rattle.rox_scopes.proofs.Listing.{same_prefix-sym}

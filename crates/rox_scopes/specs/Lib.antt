@@ -1,3 +1,4 @@
+pub mod NamespaceViews
 pub mod Tables
 pub mod Scopes
 pub mod PairIndex

@@ -5,7 +5,7 @@ use Rattle.std.specs.Borrow.{Bor}
 use Rattle.rox_grammar.specs.Written.{NamespaceDecl}
 use Rattle.rox_grammar.specs.Tree.{same_prefix, is_declared}
 use Rattle.rox_scopes.specs.Scopes.{prefix_view, entries, ArePlaces}
-use Rattle.rox_scopes.specs.Tables.{namespace_view}
+use Rattle.rox_scopes.specs.NamespaceViews.{namespace_view}
 use Rattle.rox_scopes.specs.declared.tables.Namespace.{Namespace}
 
 abbrev pub has_prefix : Option (List ℕ) → List (Option (Bor (List ℕ))) → Bool

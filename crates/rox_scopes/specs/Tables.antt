@@ -1,23 +1,14 @@
 -- The tables of a document: what its scopes list, and the tree that the tables hold.
-use Rattle.std.specs.Prelude.{Bool, ◌≡◌, ℕ, ◌+◌, ◌-◌, ◌^◌, ◌<◌, ◌≤◌, List, [], ◌∷◌, ◌++◌, length, map, reverse, get_or, slice_range}
+use Rattle.std.specs.Prelude.{◌≡◌, ℕ, ◌+◌, ◌-◌, ◌^◌, ◌<◌, ◌≤◌, List, [], ◌∷◌, ◌++◌, length, map, reverse, get_or, slice_range}
 use Rattle.std.specs.List.{AllByRecursion}
-use Rattle.std.specs.Option.{option_map}
 use Rattle.rox_grammar.specs.Forest.{Forest}
 use Rattle.rox_grammar.specs.Written.{NamespaceDecl}
 use Rattle.rox_grammar.specs.Tree.{Node}
-use Rattle.rox_rows.specs.Storage.{is_borrowed, storage_bytes}
-use Rattle.rox_scopes.specs.declared.tables.Namespace.{Namespace}
 use Rattle.rox_scopes.specs.declared.tables.Scope.{Scope}
 use Rattle.rox_scopes.specs.declared.tables.Scope.TheVariants as scope
 use Rattle.rox_scopes.specs.declared.tables.Tables.{Tables}
 use Rattle.rox_rows.specs.Rows.{node_rows, RowView, preorder_rows, namespace_at, attribute_rows, row_view, NamespaceWithin, KindWithin}
-
-abbrev pub namespace_view : Namespace → NamespaceDecl
-namespace_view n = record { prefix = option_map (λ p. p.now) n.name; uri = storage_bytes n.uri }
-
--- its URI is a slice of the input
-abbrev pub has_borrowed_uri : Namespace → Bool
-has_borrowed_uri n = is_borrowed n.uri
+use Rattle.rox_scopes.specs.NamespaceViews.{namespace_view}
 
 -- The places that the scope at the index `i` lists.
 abbrev pub listed_at : List (List ℕ) → ℕ → List ℕ

@@ -5,7 +5,8 @@ ghost use Rattle.std.specs.Prelude.{◌≡◌, ◌<◌, ◌≤◌, ◌+◌, ◌-
 ghost use Rattle.rox_grammar.specs.Tree.{same_prefix};
 ghost use Rattle.rox_grammar.specs.Written.{NamespaceDecl};
 ghost use Rattle.rox_rows.specs.Rows.{namespace_at, scope_at};
-ghost use Rattle.rox_scopes.specs.Tables.{namespace_view, lists_of};
+ghost use Rattle.rox_scopes.specs.Tables.{lists_of};
+ghost use Rattle.rox_scopes.specs.NamespaceViews.{namespace_view};
 ghost use Rattle.rox_scopes.specs.Scopes.{prefix_view, entries, ArePlaces};
 ghost use Rattle.rox_scopes.specs.Ropes.{IsScopeOf};
 

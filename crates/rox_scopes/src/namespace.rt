@@ -2,7 +2,7 @@
 
 ghost use Rattle.std.specs.Prelude.{◌≡◌, true, bytes_eq};
 ghost use Rattle.std.specs.Option.{option_map, option_eq};
-ghost use Rattle.rox_scopes.specs.Tables.{namespace_view, has_borrowed_uri};
+ghost use Rattle.rox_scopes.specs.NamespaceViews.{namespace_view, has_borrowed_uri};
 
 use crate::tables::Namespace;
 use std::alloc::AllocError;

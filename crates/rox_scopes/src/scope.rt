@@ -3,7 +3,7 @@
 
 ghost use Rattle.std.specs.Prelude.{◌≡◌, ◌<◌, ◌++◌, ℕ, List, length, map, drop, slice_range, false, OnOk, Some, None, ◌&&◌, ◌||◌};
 ghost use Rattle.rox_grammar.specs.Tree.{same_prefix, is_declared, is_xml};
-ghost use Rattle.rox_scopes.specs.Tables.{namespace_view};
+ghost use Rattle.rox_scopes.specs.NamespaceViews.{namespace_view};
 ghost use Rattle.rox_scopes.specs.Scopes.{prefix_view, entries, ArePlaces, PrefixesOnce, others};
 ghost use Rattle.rox_scopes.specs.PrefixSet.{HasPrefixes, IsBelowFew};
 ghost use Rattle.rox_scopes.specs.Ropes.{GivesFew, IsScope};

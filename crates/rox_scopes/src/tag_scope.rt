@@ -4,7 +4,8 @@
 ghost use Rattle.std.specs.Prelude.{◌≡◌, ◌<◌, ◌≤◌, ◌++◌, false, List, None, length, map, drop, reverse, slice_range, slice_index_or, IfOk, OnOk};
 ghost use Rattle.rox_grammar.specs.Written.{NamespaceDecl};
 ghost use Rattle.rox_grammar.specs.Tree.{is_declared};
-ghost use Rattle.rox_scopes.specs.Tables.{namespace_view, AreScopes};
+ghost use Rattle.rox_scopes.specs.Tables.{AreScopes};
+ghost use Rattle.rox_scopes.specs.NamespaceViews.{namespace_view};
 ghost use Rattle.rox_scopes.specs.Scopes.{prefix_view, entries, places_in, PrefixesOnce, others, unlisted};
 ghost use Rattle.rox_scopes.specs.PrefixSet.{IsBelowFew};
 ghost use Rattle.rox_scopes.specs.Bindings.{bound_place};

@@ -24,7 +24,7 @@ use Rattle.rox_reading.specs.Lexical.{qname_at, quote_at}
 use Rattle.rox_reading.specs.Markup.{RawAttribute, more, opened, closed, attribute_at, raw_value_at, tag_item_at, end_tag_at}
 use Rattle.rox_reading.specs.Values.{ValueInclusion, is_special, value_at}
 use Rattle.rox_scopes.specs.Bindings.{FindsBinding}
-use Rattle.rox_scopes.specs.Tables.{namespace_view}
+use Rattle.rox_scopes.specs.NamespaceViews.{namespace_view}
 use Rattle.rox_tags.specs.PlainParts.{IsAttributeNamespace, IsLocalPart}
 use Rattle.rox_tags.specs.PlainTag.{EndsVerbatim, HasPlainValue, HasScope, IsQuoteBehindEquals, few_in, IsValueStart, EndsNear}
 use Rattle.std.specs.Str.{IsUtf8, IsCharBoundary}

@@ -23,7 +23,8 @@ use Rattle.rox_scopes.specs.declared.tables.ElementTables.{ElementTables}
 use Rattle.rox_names.specs.declared.unresolved_attribute.UnresolvedAttribute.{UnresolvedAttribute}
 use Rattle.rox_names.specs.declared.start_tag.StartTag.{StartTag}
 use Rattle.rox_rows.specs.Rows.{attribute_rows}
-use Rattle.rox_scopes.specs.Tables.{namespace_view, lists_of, AreScopes}
+use Rattle.rox_scopes.specs.Tables.{lists_of, AreScopes}
+use Rattle.rox_scopes.specs.NamespaceViews.{namespace_view}
 use Rattle.rox_scopes.specs.Scopes.{ArePlaces, PrefixesOnce}
 use Rattle.rox_names.specs.TagDeclarations.{unresolved_view}
 use Rattle.rox_tags.specs.TagState.{HoldsTag}

@@ -26,7 +26,8 @@ use Rattle.rox_reading.specs.Tags.{TagSoFar, Values, attribute_with, attributes_
 use Rattle.rox_scopes.specs.Bindings.{FindsBinding}
 use Rattle.rox_names.specs.ResolvedNames.{AddsResolved, row_of_unresolved}
 use Rattle.rox_rows.specs.Rows.{AttributeRow, NamespaceWithin, attribute, attribute_rows, scope_at}
-use Rattle.rox_scopes.specs.Tables.{AreRows, AreScopes, IsRow, lists_of, namespace_view}
+use Rattle.rox_scopes.specs.Tables.{AreRows, AreScopes, IsRow, lists_of}
+use Rattle.rox_scopes.specs.NamespaceViews.{namespace_view}
 use Rattle.rox_scopes.specs.Scopes.{ArePlaces, PrefixesOnce, entries}
 use Rattle.rox_rows.specs.Storage.{is_borrowed, storage_bytes}
 use Rattle.rox_names.specs.TagDeclarations.{Declares, HasOwn, unresolved_view}

@@ -18,7 +18,8 @@ use Rattle.rox_values.specs.Refusals.{IsRefusal}
 use Rattle.rox_values.specs.declared.context.Context.{Context}
 use Rattle.rox_values.specs.declared.parse_error.ParseError.{ParseError}
 use Rattle.rox_rows.specs.Rows.{attribute, namespace_at, scope_at, NamespaceWithin, OptionWithin, numbered_place, AttributeRow, attribute_rows}
-use Rattle.rox_scopes.specs.Tables.{namespace_view, AreScopes}
+use Rattle.rox_scopes.specs.Tables.{AreScopes}
+use Rattle.rox_scopes.specs.NamespaceViews.{namespace_view}
 use Rattle.rox_scopes.specs.Scopes.{ArePlaces, PrefixesOnce}
 use Rattle.rox_scopes.specs.TagScopes.{lists_in, HasBindings, scope_in_tables}
 use Rattle.rox_rows.specs.declared.row.ElementData.{ElementData}

@@ -15,7 +15,7 @@ use Rattle.rox_bytes.specs.declared.window.Window.{Window}
 use Rattle.rox_scopes.specs.Bindings.{FindsBinding}
 use Rattle.rox_grammar.specs.Document.{most_attributes, most_pairs}
 use Rattle.rox_rows.specs.Rows.{numbered_place, NamespaceWithin, attribute_rows, attribute_uri}
-use Rattle.rox_scopes.specs.Tables.{namespace_view}
+use Rattle.rox_scopes.specs.NamespaceViews.{namespace_view}
 use Rattle.rox_names.specs.declared.seen_names.SeenNames.{SeenNames}
 use Rattle.rox_rows.specs.declared.row.AttributeNamespace.{AttributeNamespace}
 use Rattle.rox_scopes.specs.declared.tables.ElementTables.{ElementTables}

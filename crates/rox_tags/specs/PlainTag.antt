@@ -15,7 +15,8 @@ use Rattle.rox_reading.specs.Markup.{RawAttribute, more, attribute_at, raw_value
 use Rattle.rox_reading.specs.Values.{ValueInclusion, is_special, value_at}
 use Rattle.rox_reading.specs.Tags.{Values, attribute_with, tag_at}
 use Rattle.rox_rows.specs.Rows.{AttributeRow, NamespaceWithin, attribute_rows}
-use Rattle.rox_scopes.specs.Tables.{AreScopes, namespace_view}
+use Rattle.rox_scopes.specs.Tables.{AreScopes}
+use Rattle.rox_scopes.specs.NamespaceViews.{namespace_view}
 use Rattle.rox_scopes.specs.Scopes.{ArePlaces, PrefixesOnce, places_in}
 use Rattle.rox_scopes.specs.declared.bindings.PrefixBindings.{PrefixBindings}
 use Rattle.rox_names.specs.ResolvedNames.{AddsResolved}

@@ -13,7 +13,7 @@ use Rattle.rox_grammar.specs.Written.{Attribute, NamespaceDecl, is_namespace_dec
 use Rattle.rox_reading.specs.Tags.{TagSoFar, Values, attributes_at, names_tested}
 use Rattle.rox_scopes.specs.Bindings.{AreBindingsOf}
 use Rattle.rox_rows.specs.Rows.{AttributeRow, NamespaceWithin, attribute, attribute_rows}
-use Rattle.rox_scopes.specs.Tables.{namespace_view}
+use Rattle.rox_scopes.specs.NamespaceViews.{namespace_view}
 use Rattle.rox_scopes.specs.TagScopes.{scope_in_tables}
 use Rattle.rox_scopes.specs.declared.bindings.PrefixBindings.{PrefixBindings}
 use Rattle.rox_scopes.specs.declared.tables.ElementTables.{ElementTables}

@@ -3,7 +3,7 @@
 
 ghost use Rattle.std.specs.Prelude.{◌≡◌};
 ghost use Rattle.roxmltree.specs.AttributeView.{attribute_of};
-ghost use Rattle.roxmltree.specs.Tables.{namespace_view};
+ghost use Rattle.roxmltree.specs.NamespaceViews.{namespace_view};
 ghost use Rattle.roxmltree.specs.Storage.{is_borrowed};
 ghost use Rattle.rox_uses.specs.Answers.{attribute_answered, namespace_answered};
 

@@ -4,7 +4,7 @@ use Rattle.std.specs.List.{AllByRecursion, slice_range}
 use Rattle.std.proofs.lemmas.List.{length-map, take_more, take_all, take-map, drop-map, map-append}
 use Rattle.rox_grammar.specs.Tree as tree
 use Rattle.rox_rows.specs.Rows.{AttributeRow, NamespaceWithin, attribute, attribute_rows}
-use Rattle.rox_scopes.specs.Tables.{namespace_view}
+use Rattle.rox_scopes.specs.NamespaceViews.{namespace_view}
 use Rattle.rox_rows.specs.StoredAttributes.{AreNumbered, data_of, row_in, place_bound, unusual_count}
 use Rattle.rox_rows.specs.declared.row.AttributePlaces.{AttributePlaces}
 use Rattle.rox_scopes.specs.declared.tables.Tables.{Tables}

@@ -24,7 +24,7 @@ use Rattle.rox_build.specs.Built.{Built}
 use Rattle.rox_scopes.specs.Tables.{HoldsTree}
 use Rattle.rox_scopes.specs.declared.tables.Tables.{Tables}
 use Rattle.roxmltree.specs.DocumentView.{DocumentView}
-use Rattle.roxmltree.specs.FirstError.{IsReadDocument}
+use Rattle.roxmltree.specs.ReadDocument.{IsReadDocument}
 use Rattle.roxmltree.specs.DocumentTables.{HoldsDocument}
 use Rattle.roxmltree.proofs.Rows.{row_count}
 

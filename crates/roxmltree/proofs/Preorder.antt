@@ -4,7 +4,8 @@ use Rattle.std.proofs.lemmas.List.{get_or_append_left, get_or-append-add}
 use Rattle.std.proofs.lemmas.Bool.{cases_lt, cases_eq}
 use Rattle.rox_grammar.specs.Forest.{Forest, Nil, Cons, size}
 use Rattle.rox_grammar.specs.Tree.{Node}
-use Rattle.roxmltree.specs.Places.{ids, Place, place_at, places, nowhere, preorder, place, first, last, parent, first_child, last_child, next_sibling, prev_sibling, child_in, up_to}
+use Rattle.roxmltree.specs.Places.{ids, Place, place_at, places, nowhere, preorder, place, first, last, parent, first_child, last_child, next_sibling, prev_sibling}
+use Rattle.roxmltree.specs.Climbing.{child_in, up_to}
 
 pub length-places : (up left : List ℕ) (b : ℕ) (f : Forest Node) → length (places up left b f) ≡ size f
 length-places up left b Nil = refl

@@ -7,7 +7,8 @@ use Rattle.rox_grammar.specs.Forest.{Forest, Nil, Cons, size}
 use Rattle.rox_grammar.specs.Tree.{Node}
 use Rattle.roxmltree.specs.DocumentView.{DocumentView}
 use Rattle.roxmltree.specs.NodeRef.{node_refs}
-use Rattle.roxmltree.specs.Places.{ids, Place, preorder, place, first, last, parent, children, last_child, next_sibling, prev_sibling, up_to}
+use Rattle.roxmltree.specs.Places.{ids, Place, preorder, place, first, last, parent, children, last_child, next_sibling, prev_sibling}
+use Rattle.roxmltree.specs.Climbing.{up_to}
 use Rattle.roxmltree.specs.SiblingRange.{row_from, apart, siblings_through, IsSiblingRange}
 use Rattle.roxmltree.specs.ChildrenLeft.{if_some, last_before, between, IsStretch}
 use Rattle.roxmltree.proofs.Preorder.{at, Sits, Leads, here, place_is, prior_rest, up_to_leads, length-preorder, first_child_some, first_child_none, last_child_some, place_end}

@@ -31,7 +31,8 @@ use Rattle.rox_build.specs.Built.{BuiltNone, BuiltRefusal}
 use Rattle.rox_values.specs.declared.parse_error.ParseError.{ParseError}
 use Rattle.rox_values.specs.declared.parse_error.ParseError.TheVariants as why
 use Rattle.roxmltree.specs.TextErrors.{IsTextError}
-use Rattle.roxmltree.specs.FirstError.{IsErrorOfRefusal, MayRefuse, IsFirst, IsErrorOfReason}
+use Rattle.roxmltree.specs.FirstError.{IsErrorOfRefusal, MayRefuse, IsFirst}
+use Rattle.roxmltree.specs.ReadDocument.{IsErrorOfReason}
 use Rattle.roxmltree.proofs.Parsed.{read_alone}
 
 -- ---- replies

@@ -2,7 +2,7 @@
 use Rattle.std.specs.Prelude.{map}
 use Rattle.rox_grammar.specs.Tree as tree
 use Rattle.rox_rows.specs.Rows.{attribute}
-use Rattle.rox_scopes.specs.Tables.{namespace_view}
+use Rattle.rox_scopes.specs.NamespaceViews.{namespace_view}
 use Rattle.rox_rows.specs.StoredAttributes.{row_in}
 use Rattle.roxmltree.specs.declared.attributes.Attribute.{Attribute}
 

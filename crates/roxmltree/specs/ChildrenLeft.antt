@@ -3,7 +3,8 @@ use Rattle.std.specs.Prelude.{◌≡◌, ℕ, zero, suc, ◌+◌, ◌-◌, ◌<�
 use Rattle.rox_grammar.specs.Forest.{Forest, size}
 use Rattle.rox_grammar.specs.Tree as grammar
 use Rattle.roxmltree.specs.DocumentView.{DocumentView}
-use Rattle.roxmltree.specs.Places.{place, parent, up_to}
+use Rattle.roxmltree.specs.Places.{place, parent}
+use Rattle.roxmltree.specs.Climbing.{up_to}
 use Rattle.roxmltree.specs.NodeRef.{node_refs}
 use Rattle.roxmltree.specs.SiblingRange.{siblings_through, IsSiblingRange}
 use Rattle.roxmltree.specs.declared.iterators.Children.TheInside.{Inside}

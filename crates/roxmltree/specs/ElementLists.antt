@@ -5,7 +5,8 @@ use Rattle.std.specs.List.{AllByRecursion}
 use Rattle.rox_grammar.specs.Written.{NamespaceDecl}
 use Rattle.rox_grammar.specs.Tree as tree
 use Rattle.rox_rows.specs.Rows.{attribute, attribute_rows, namespace_at, NamespaceWithin}
-use Rattle.rox_scopes.specs.Tables.{namespace_view, AreScopes}
+use Rattle.rox_scopes.specs.Tables.{AreScopes}
+use Rattle.rox_scopes.specs.NamespaceViews.{namespace_view}
 use Rattle.rox_scopes.specs.Scopes.{places_in, ArePlaces}
 use Rattle.rox_rows.specs.StoredAttributes.{data_of, row_in, place_bound}
 use Rattle.rox_scopes.specs.declared.tables.Tables.{Tables}

@@ -1,10 +1,12 @@
 pub mod Places
+pub mod Climbing
 pub mod NodeParts
 pub mod Stripped
 pub mod Kinds
 pub mod StoredText
 pub mod TreeCodes
 pub mod DocumentView
+pub mod DocumentCodes
 pub mod DocumentTables
 pub mod EachNode
 pub mod ExpandedNames
@@ -23,6 +25,7 @@ pub mod DescendantsLeft
 pub mod AxisNodes
 pub mod TextErrors
 pub mod FirstError
+pub mod ReadDocument
 pub mod SelfContained
 -- what the public clauses cite of the crates below
 pub use Rattle.rox_grammar.specs.Forest
@@ -45,4 +48,4 @@ pub use Rattle.rox_error.specs.FaultErrors
 pub use Rattle.rox_error.specs.Messages
 pub use Rattle.rox_rows.specs.Rows
 pub use Rattle.rox_rows.specs.Storage
-pub use Rattle.rox_scopes.specs.Tables
+pub use Rattle.rox_scopes.specs.NamespaceViews

@@ -1,10 +1,9 @@
 -- A node as callers see it: the document and the id.
 use Rattle.std.specs.Prelude.{ℕ, List, map}
-use Rattle.std.specs.Coded.{Coded, coded×, coded_ℕ, coded_list}
 use Rattle.rox_grammar.specs.Forest.{Forest}
 use Rattle.rox_grammar.specs.Tree as grammar
 use Rattle.roxmltree.specs.NodeParts.{node_at}
-use Rattle.roxmltree.specs.DocumentView.{DocumentView, document_code}
+use Rattle.roxmltree.specs.DocumentView.{DocumentView}
 use Rattle.roxmltree.specs.declared.nodes.NodeId.{NodeId}
 use Rattle.roxmltree.specs.declared.nodes.Node.{Node}
 
@@ -31,6 +30,3 @@ node_ref node = (document_of node, id_of node)
 -- the nodes of these ids
 abbrev pub node_refs : DocumentView → List ℕ → List (DocumentView × ℕ)
 node_refs document ids = map (λ id. (document, id)) ids
-
-abbrev pub node_refs_code : Coded (List (DocumentView × ℕ))
-node_refs_code = coded_list (coded× document_code coded_ℕ)

@@ -42,7 +42,7 @@ pub struct AxisIter<'a, 'input> {
 impl<'a, 'input> Model for AxisIter<'a, 'input> {
     ghost use Rattle.std.specs.Prelude.{List, ℕ};
     ghost use Rattle.roxmltree.specs.DocumentView.{DocumentView};
-    ghost use Rattle.roxmltree.specs.NodeRef.{node_refs_code};
+    ghost use Rattle.roxmltree.specs.DocumentCodes.{node_refs_code};
 
     ghost Value = { List (DocumentView × ℕ) };
 
@@ -160,7 +160,7 @@ pub struct Descendants<'a, 'input> {
 impl<'a, 'input> Model for Descendants<'a, 'input> {
     ghost use Rattle.std.specs.Prelude.{List, ℕ};
     ghost use Rattle.roxmltree.specs.DocumentView.{DocumentView};
-    ghost use Rattle.roxmltree.specs.NodeRef.{node_refs_code};
+    ghost use Rattle.roxmltree.specs.DocumentCodes.{node_refs_code};
 
     ghost Value = { List (DocumentView × ℕ) };
 
@@ -297,7 +297,7 @@ pub struct Children<'a, 'input> {
 impl<'a, 'input> Model for Children<'a, 'input> {
     ghost use Rattle.std.specs.Prelude.{List, ℕ};
     ghost use Rattle.roxmltree.specs.DocumentView.{DocumentView};
-    ghost use Rattle.roxmltree.specs.NodeRef.{node_refs_code};
+    ghost use Rattle.roxmltree.specs.DocumentCodes.{node_refs_code};
 
     ghost Value = { List (DocumentView × ℕ) };
 

@@ -1,7 +1,7 @@
 //! The namespaces that an element lists.
 
 ghost use Rattle.std.specs.Prelude.{◌≡◌, length};
-ghost use Rattle.rox_scopes.specs.Tables.{namespace_view};
+ghost use Rattle.rox_scopes.specs.NamespaceViews.{namespace_view};
 
 use rox_scopes::rope::{count, place_at};
 use rox_scopes::tables::{Namespace, Scope};

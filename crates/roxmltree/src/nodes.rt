@@ -5,7 +5,8 @@ ghost use Rattle.std.specs.Option.{option_map};
 ghost use Rattle.rox_grammar.specs.Forest.{size};
 ghost use Rattle.roxmltree.specs.NodeRows.{IsRowOf, views-prop, NamespaceWithin-prop, KindWithin-prop, EndsWithin-prop, IsRow-prop};
 ghost use Rattle.std.proofs.Props.{props};
-ghost use Rattle.roxmltree.specs.Places.{place, parent, children, first_child, last_child, next_sibling, prev_sibling, up_to};
+ghost use Rattle.roxmltree.specs.Places.{place, parent, children, first_child, last_child, next_sibling, prev_sibling};
+ghost use Rattle.roxmltree.specs.Climbing.{up_to};
 
 use crate::iterators::{Axis, AxisIter, Children, Descendants};
 use crate::tree::Document;

@@ -15,7 +15,8 @@ ghost use Rattle.rox_reading.specs.WholeText.{reading};
 ghost use Rattle.rox_build.specs.Requests.{Allows, AreAllowed, MayAsk};
 ghost use Rattle.rox_error.specs.FaultErrors.{position_at, IsErrorOf};
 ghost use Rattle.roxmltree.specs.TextErrors.{IsTextError};
-ghost use Rattle.roxmltree.specs.FirstError.{IsFirst, IsReadDocument, IsErrorOfReason};
+ghost use Rattle.roxmltree.specs.FirstError.{IsFirst};
+ghost use Rattle.roxmltree.specs.ReadDocument.{IsReadDocument, IsErrorOfReason};
 
 use crate::options::ParsingOptions;
 use crate::tree::Document;

@@ -4,7 +4,7 @@
 ghost use Rattle.std.specs.Prelude.{◌≡◌, ◌++◌, None, length, map, reverse};
 ghost use Rattle.std.specs.Option.{option_map};
 ghost use Rattle.rox_grammar.specs.Tree.{same_prefix, uri_of};
-ghost use Rattle.rox_scopes.specs.Tables.{namespace_view};
+ghost use Rattle.rox_scopes.specs.NamespaceViews.{namespace_view};
 ghost use Rattle.rox_scopes.specs.Scopes.{prefix_view, entries, places_in, ArePlaces};
 ghost use Rattle.rox_scopes.specs.Ropes.{IsScopeOf};
 ghost use Rattle.roxmltree.specs.ExpandedNames.{first_prefix};

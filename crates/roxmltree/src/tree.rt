@@ -4,7 +4,7 @@ ghost use Rattle.std.specs.Prelude.{◌≡◌, ◌^◌, ◌<◌, ◌≤◌, ℕ,
 ghost use Rattle.std.specs.Option.{option_map};
 ghost use Rattle.rox_grammar.specs.Forest.{Forest, size};
 ghost use Rattle.rox_grammar.specs.Tree.{uri_of};
-ghost use Rattle.rox_scopes.specs.Tables.{namespace_view};
+ghost use Rattle.rox_scopes.specs.NamespaceViews.{namespace_view};
 ghost use Rattle.roxmltree.specs.Places.{place, children};
 ghost use Rattle.roxmltree.specs.NodeParts.{node_at, is_element_node, is_text_node, start_of, end_of, content_of, namespace_of, listed_of, attributes_of};
 ghost use Rattle.roxmltree.specs.ExpandedNames.{first_prefix};
@@ -37,7 +37,8 @@ pub struct Document<'input> {
 }
 
 impl<'input> Model for Document<'input> {
-    ghost use Rattle.roxmltree.specs.DocumentView.{DocumentView, document_code};
+    ghost use Rattle.roxmltree.specs.DocumentView.{DocumentView};
+    ghost use Rattle.roxmltree.specs.DocumentCodes.{document_code};
 
     ghost Value = { DocumentView };
 

@@ -2,7 +2,7 @@ use Rattle.std.proofs.Common.{◌<◌, Some, length, map, sym, ap, ◌∙◌, su
 use Rattle.rox_grammar.specs.Written.{NamespaceDecl}
 use Rattle.rox_rows.specs.declared.row.AttributeNamespace.{AttributeNamespace}
 use Rattle.rox_rows.specs.Rows.{attribute_uri, NamespaceWithin}
-use Rattle.rox_scopes.specs.Tables.{namespace_view}
+use Rattle.rox_scopes.specs.NamespaceViews.{namespace_view}
 use Rattle.rox_scopes.specs.declared.tables.Namespace.{Namespace}
 use Rattle.rox_scopes.proofs.Pairs.{namespace_at-get}
 use Rattle.rox_names.proofs.resolve.namespace_uri.Goals as goal

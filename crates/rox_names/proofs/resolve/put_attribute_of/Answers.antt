@@ -1,5 +1,5 @@
 use Rattle.std.proofs.Common.{rules, map, sym, subst, refl, ◌∙◌}
-use Rattle.rox_scopes.specs.Tables.{namespace_view}
+use Rattle.rox_scopes.specs.NamespaceViews.{namespace_view}
 use Rattle.rox_names.specs.ResolvedNames.{row_of_unresolved}
 use Rattle.rox_names.specs.SeenNames.{AreSeen}
 use Rattle.rox_names.proofs.SeenCodes.{same_seen}

@@ -1,6 +1,6 @@
 use Rattle.std.proofs.Common.{rules, List, ◌++◌, ◌∷◌, [], ◌∙◌, map, sym, ap, subst, refl}
 use Rattle.rox_rows.specs.Rows.{AttributeRow, attribute_rows}
-use Rattle.rox_scopes.specs.Tables.{namespace_view}
+use Rattle.rox_scopes.specs.NamespaceViews.{namespace_view}
 use Rattle.rox_names.specs.ResolvedNames.{row_of_usual}
 use Rattle.rox_names.specs.SeenNames.{AreSeen}
 use Rattle.rox_rows.specs.declared.row.AttributeData.{AttributeData}

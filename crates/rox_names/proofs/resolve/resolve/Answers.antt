@@ -1,7 +1,7 @@
 use Rattle.std.proofs.Common.{rules, ◌≡◌, ◌<◌, ◌≤◌, length, length-append, map, drop, sym, ap, ◌∙◌, subst, arith}
 use Rattle.std.proofs.lemmas.Result.{err_from_is_err_and}
 use Rattle.rox_rows.specs.Rows.{AttributeRow, attribute_rows, NamespaceWithin}
-use Rattle.rox_scopes.specs.Tables.{namespace_view}
+use Rattle.rox_scopes.specs.NamespaceViews.{namespace_view}
 use Rattle.rox_names.specs.ResolvedNames.{row_of_unresolved}
 use Rattle.rox_names.specs.SeenNames.{HasNameOf, SeesName}
 use Rattle.rox_names.proofs.SeenCodes.{seen_first, seen_more}

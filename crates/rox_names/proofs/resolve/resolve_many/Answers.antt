@@ -1,7 +1,7 @@
 use Rattle.std.proofs.Common.{◌<◌, length, map, drop, ap, ◌∙◌, arith}
 use Rattle.std.proofs.lemmas.Result.{err_from_is_err_and}
 use Rattle.rox_rows.specs.Rows.{attribute_rows, AttributeRow}
-use Rattle.rox_scopes.specs.Tables.{namespace_view}
+use Rattle.rox_scopes.specs.NamespaceViews.{namespace_view}
 use Rattle.rox_names.specs.declared.unresolved_attribute.UnresolvedAttribute.{UnresolvedAttribute}
 use Rattle.rox_names.proofs.Resolving.{ends, refuses_or, moves, resolves, starts, resolves_first, read_again}
 use Rattle.rox_names.proofs.Seeing.{sees_start, sees_next}

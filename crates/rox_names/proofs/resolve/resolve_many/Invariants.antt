@@ -1,7 +1,7 @@
 use Rattle.std.proofs.Common.{List, length, map, drop}
 use Rattle.rox_grammar.specs.Written.{NamespaceDecl}
 use Rattle.rox_rows.specs.Rows.{attribute_rows, AttributeRow}
-use Rattle.rox_scopes.specs.Tables.{namespace_view}
+use Rattle.rox_scopes.specs.NamespaceViews.{namespace_view}
 use Rattle.rox_scopes.specs.Bindings.{FindsBinding, places_view}
 use Rattle.rox_names.specs.ExpandedNames.{HasExpandedNames}
 use Rattle.rox_names.proofs.Resolving.{Moving, Resolving}

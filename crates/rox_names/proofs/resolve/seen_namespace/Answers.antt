@@ -1,7 +1,7 @@
 use Rattle.std.proofs.Common.{rules, Err, map, refl, sym, ap, ◌∙◌}
 use Rattle.rox_grammar.specs.declared.fault.Span.{Span}
 use Rattle.rox_grammar.specs.declared.fault.Fault.TheVariants as fault
-use Rattle.rox_scopes.specs.Tables.{namespace_view}
+use Rattle.rox_scopes.specs.NamespaceViews.{namespace_view}
 use Rattle.rox_names.specs.TagDeclarations.{unresolved_view}
 use Rattle.rox_names.proofs.NameTests.{repeated_is, tested_unknown, tested_again, tested_on}
 use Rattle.rox_names.proofs.Seeing.{sees_is, sees_more}

@@ -2,7 +2,7 @@ use Rattle.std.proofs.Common.{rules, Err, map, refl, sym, ap, ◌∙◌}
 use Rattle.std.specs.List.{list_any}
 use Rattle.rox_grammar.specs.declared.fault.Span.{Span}
 use Rattle.rox_grammar.specs.declared.fault.Fault.TheVariants as fault
-use Rattle.rox_scopes.specs.Tables.{namespace_view}
+use Rattle.rox_scopes.specs.NamespaceViews.{namespace_view}
 use Rattle.rox_names.specs.TagDeclarations.{unresolved_view}
 use Rattle.rox_names.specs.ResolvedNames.{has_expanded}
 use Rattle.rox_rows.proofs.AttributeRows.{any_data}

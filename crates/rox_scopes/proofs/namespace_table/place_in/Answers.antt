@@ -3,7 +3,7 @@ use Rattle.std.proofs.lemmas.List.{length-map}
 use Rattle.rox_grammar.specs.Written.{NamespaceDecl}
 use Rattle.rox_grammar.specs.Document.{same_pair}
 use Rattle.rox_rows.specs.Rows.{namespace_at}
-use Rattle.rox_scopes.specs.Tables.{namespace_view}
+use Rattle.rox_scopes.specs.NamespaceViews.{namespace_view}
 use Rattle.rox_scopes.specs.PairIndex.{place_of}
 use Rattle.rox_scopes.proofs.Pairs.{namespace_at-get}
 use Rattle.rox_scopes.proofs.Indexing.{place_here, place_on}

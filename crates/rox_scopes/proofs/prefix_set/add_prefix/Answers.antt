@@ -1,7 +1,7 @@
 use Rattle.std.proofs.Common.{◌≡◌, ◌<◌, ◌∙◌, false, length, map, take, ap, arith}
 use Rattle.std.proofs.lemmas.List.{take_all}
 use Rattle.rox_grammar.specs.Tree.{is_declared}
-use Rattle.rox_scopes.specs.Tables.{namespace_view}
+use Rattle.rox_scopes.specs.NamespaceViews.{namespace_view}
 use Rattle.rox_scopes.specs.Scopes.{prefix_view, entries}
 use Rattle.rox_scopes.specs.PrefixSet.{has_prefix}
 use Rattle.rox_scopes.proofs.Remembering.{remembers_few, remembers_many, remembers_more, declared_next}

@@ -1,6 +1,6 @@
 use Rattle.std.proofs.Common.{◌≡◌, ℕ, List, Option, map, take}
 use Rattle.rox_grammar.specs.Tree.{is_declared}
-use Rattle.rox_scopes.specs.Tables.{namespace_view}
+use Rattle.rox_scopes.specs.NamespaceViews.{namespace_view}
 use Rattle.rox_scopes.specs.Scopes.{entries}
 use Rattle.rox_scopes.specs.PrefixSet.{has_prefix}
 use Rattle.rox_scopes.proofs.prefix_set.add_prefix.Given as goal

@@ -3,7 +3,8 @@ use Rattle.std.proofs.lemmas.List.{take_all}
 use Rattle.rox_grammar.specs.Tree.{same_prefix, uri_of}
 use Rattle.rox_grammar.specs.Written.{NamespaceDecl}
 use Rattle.rox_rows.specs.Rows.{namespace_at}
-use Rattle.rox_scopes.specs.Tables.{namespace_view, count_at}
+use Rattle.rox_scopes.specs.Tables.{count_at}
+use Rattle.rox_scopes.specs.NamespaceViews.{namespace_view}
 use Rattle.rox_scopes.specs.Scopes.{prefix_view, entries, places_in}
 use Rattle.rox_scopes.proofs.Pairs.{namespace_at-get, uri_none_more, declared_none}
 use Rattle.rox_scopes.proofs.Ropes.{count_places}

@@ -1,6 +1,6 @@
 use Rattle.std.proofs.Common.{◌≡◌, ◌<◌, length, get_or, true, false, map, sym, ap, ◌∙◌, arith, Some}
 use Rattle.rox_grammar.specs.Tree.{same_prefix}
-use Rattle.rox_scopes.specs.Tables.{namespace_view}
+use Rattle.rox_scopes.specs.NamespaceViews.{namespace_view}
 use Rattle.rox_grammar.specs.Written.{NamespaceDecl}
 use Rattle.rox_scopes.proofs.Pairs.{namespace_at-get, place_at, uri_here, uri_none_more}
 use Rattle.rox_scopes.proofs.scope.find_far.Goals as goal

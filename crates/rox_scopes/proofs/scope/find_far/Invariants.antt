@@ -1,6 +1,6 @@
 use Rattle.std.proofs.Common.{◌≡◌, None, Some, map, take}
 use Rattle.rox_grammar.specs.Tree.{uri_of}
-use Rattle.rox_scopes.specs.Tables.{namespace_view}
+use Rattle.rox_scopes.specs.NamespaceViews.{namespace_view}
 use Rattle.rox_scopes.specs.Scopes.{entries}
 use Rattle.rox_scopes.proofs.scope.find_far.Given as goal
 

@@ -1,6 +1,6 @@
 use Rattle.std.proofs.Common.{◌≡◌, ◌<◌, length, get_or, true, map, sym, ap, ◌∙◌, arith, Some}
 use Rattle.rox_grammar.specs.Tree.{same_prefix}
-use Rattle.rox_scopes.specs.Tables.{namespace_view}
+use Rattle.rox_scopes.specs.NamespaceViews.{namespace_view}
 use Rattle.rox_grammar.specs.Written.{NamespaceDecl}
 use Rattle.rox_scopes.proofs.Pairs.{namespace_at-get, place_at}
 use Rattle.rox_scopes.proofs.Hiding.{uri_once}

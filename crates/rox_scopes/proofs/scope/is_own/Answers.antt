@@ -1,6 +1,6 @@
 use Rattle.std.proofs.Common.{◌≡◌, ◌<◌, ◌&&◌, ◌||◌, ◌∙◌, Bool, true, false, length, map, refl, sym, ap, arith}
 use Rattle.rox_grammar.specs.Tree.{is_declared, is_xml}
-use Rattle.rox_scopes.specs.Tables.{namespace_view}
+use Rattle.rox_scopes.specs.NamespaceViews.{namespace_view}
 use Rattle.rox_scopes.specs.Scopes.{prefix_view, entries}
 use Rattle.rox_scopes.proofs.Remembering.{remembered}
 use Rattle.rox_scopes.proofs.scope.is_own.Goals as goal

@@ -2,7 +2,7 @@ use Rattle.std.proofs.Common.{rules, ◌<◌, ◌≤◌, false, Some, length, ma
 use Rattle.std.specs.List.{slice_range}
 use Rattle.rox_grammar.specs.declared.fault.Word.TheVariants.{Xml}
 use Rattle.rox_grammar.specs.FixedTexts.{word_text}
-use Rattle.rox_scopes.specs.Tables.{namespace_view}
+use Rattle.rox_scopes.specs.NamespaceViews.{namespace_view}
 use Rattle.rox_scopes.specs.Scopes.{prefix_view, entries, places_in, PrefixesOnce}
 use Rattle.rox_scopes.specs.Bindings.{bound_place}
 use Rattle.rox_scopes.proofs.Pairs.{place_at}

@@ -1,6 +1,6 @@
 use Rattle.std.proofs.Common.{false, map}
 use Rattle.std.specs.List.{slice_range}
-use Rattle.rox_scopes.specs.Tables.{namespace_view}
+use Rattle.rox_scopes.specs.NamespaceViews.{namespace_view}
 use Rattle.rox_scopes.specs.Scopes.{entries, places_in, others}
 use Rattle.rox_scopes.specs.Ropes.{IsListed}
 use Rattle.rox_scopes.proofs.tag_scope.hide_own.Given as goal

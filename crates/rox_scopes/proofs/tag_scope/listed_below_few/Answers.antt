@@ -1,7 +1,7 @@
 use Rattle.std.proofs.Common.{◌≡◌, ◌≤◌, length, map, drop, sym, ap, subst, ◌∙◌, arith}
 use Rattle.std.proofs.lemmas.List.{length-map}
 use Rattle.rox_scopes.specs.declared.tables.Stretch.{Stretch}
-use Rattle.rox_scopes.specs.Tables.{namespace_view}
+use Rattle.rox_scopes.specs.NamespaceViews.{namespace_view}
 use Rattle.rox_scopes.specs.Scopes.{ArePlaces, entries}
 use Rattle.rox_scopes.specs.Ropes.{IsListed}
 use Rattle.rox_scopes.proofs.Sharing.{inherits_listed, places_behind, scopes_behind, within_behind, few_listed}

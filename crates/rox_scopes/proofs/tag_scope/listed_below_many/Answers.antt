@@ -1,5 +1,5 @@
 use Rattle.std.proofs.Common.{rules, map, drop, subst}
-use Rattle.rox_scopes.specs.Tables.{namespace_view}
+use Rattle.rox_scopes.specs.NamespaceViews.{namespace_view}
 use Rattle.rox_scopes.specs.Scopes.{entries, places_in, others}
 use Rattle.rox_scopes.specs.Ropes.{IsListed}
 use Rattle.rox_scopes.proofs.Below.{joined_listed}

@@ -2,7 +2,8 @@ use Rattle.std.proofs.Common.{◌≡◌, ◌≤◌, ◌++◌, length, map, drop,
 use Rattle.std.proofs.lemmas.Bool.{not-true}
 use Rattle.rox_scopes.specs.declared.tables.ElementTables.{ElementTables}
 use Rattle.rox_rows.specs.Rows.{scope_at}
-use Rattle.rox_scopes.specs.Tables.{namespace_view, lists_of}
+use Rattle.rox_scopes.specs.Tables.{lists_of}
+use Rattle.rox_scopes.specs.NamespaceViews.{namespace_view}
 use Rattle.rox_scopes.specs.Scopes.{entries, places_in, others, PrefixesOnce}
 use Rattle.rox_scopes.specs.Ropes.{IsListed}
 use Rattle.rox_scopes.specs.Bindings.{IsBound, bound_place}

@@ -1,6 +1,6 @@
 use Rattle.std.proofs.Common.{◌≤◌, length, map, refl, sym, ◌∙◌, arith}
 use Rattle.std.proofs.lemmas.Bool.{not-true}
-use Rattle.rox_scopes.specs.Tables.{namespace_view}
+use Rattle.rox_scopes.specs.NamespaceViews.{namespace_view}
 use Rattle.rox_scopes.proofs.Finding.{present_few}
 use Rattle.rox_scopes.proofs.Below.{few_here, has_scope, nothing_listed}
 use Rattle.rox_scopes.proofs.tag_scope.scope_of_tag.Goals as goal

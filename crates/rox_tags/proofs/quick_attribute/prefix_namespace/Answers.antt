@@ -2,7 +2,7 @@ use Rattle.std.proofs.Common.{ℕ, List, sym, ◌∙◌, map, Some, rules, arith
 use Rattle.std.proofs.lemmas.Grind.{common_steps}
 use Rattle.rox_grammar.specs.Tree.{uri_of}
 use Rattle.rox_scopes.specs.Bindings.{FindsBinding}
-use Rattle.rox_scopes.specs.Tables.{namespace_view}
+use Rattle.rox_scopes.specs.NamespaceViews.{namespace_view}
 use Rattle.rox_names.proofs.NameTests.{known_some}
 use Rattle.rox_tags.proofs.PlainTags.{few_within, few_once, few_is}
 use Rattle.rox_tags.proofs.quick_attribute.prefix_namespace.Goals as goal

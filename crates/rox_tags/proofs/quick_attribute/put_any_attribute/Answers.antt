@@ -1,7 +1,7 @@
 use Rattle.std.proofs.Common.{map, refl, sym, subst, ◌∙◌, arith}
 use Rattle.std.proofs.lemmas.List.{length-map}
 use Rattle.rox_rows.specs.Rows.{attribute_rows, NamespaceWithin}
-use Rattle.rox_scopes.specs.Tables.{namespace_view}
+use Rattle.rox_scopes.specs.NamespaceViews.{namespace_view}
 use Rattle.rox_names.proofs.NameTests.{adds_row}
 use Rattle.rox_tags.specs.PlainTag.{few_in}
 use Rattle.rox_tags.proofs.quick_attribute.put_any_attribute.Goals as goal

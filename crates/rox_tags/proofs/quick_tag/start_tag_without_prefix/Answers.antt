@@ -5,7 +5,7 @@ use Rattle.rox_grammar.specs.Tree.{element_namespace}
 use Rattle.rox_grammar.specs.Written.{Name}
 use Rattle.rox_scopes.specs.TagScopes.{scope_in_tables}
 use Rattle.rox_rows.specs.Rows.{numbered_place, namespace_at, attribute_rows}
-use Rattle.rox_scopes.specs.Tables.{namespace_view}
+use Rattle.rox_scopes.specs.NamespaceViews.{namespace_view}
 use Rattle.rox_names.specs.OpenElements.{open_name}
 use Rattle.rox_bytes.proofs.RunLemmas.{stands_within}
 use Rattle.rox_tags.proofs.PlainTags.{near_cut}

@@ -1,7 +1,7 @@
 use Rattle.std.proofs.Common.{◌≡◌, ◌-◌, ℕ, List, length, map, false}
 use Rattle.rox_grammar.specs.Written.{NamespaceDecl}
 use Rattle.rox_reading.specs.Tags.{TagSoFar, attributes_at}
-use Rattle.rox_scopes.specs.Tables.{namespace_view}
+use Rattle.rox_scopes.specs.NamespaceViews.{namespace_view}
 use Rattle.rox_grammar.specs.Entities.{Entity}
 use Rattle.rox_values.specs.DeclaredEntities.{AreDeclared, values_in}
 use Rattle.rox_tags.specs.TagState.{HoldsTag, IsReadingTag, KeepsScopes}

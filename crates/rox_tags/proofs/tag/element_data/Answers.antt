@@ -8,7 +8,7 @@ use Rattle.rox_grammar.specs.Tree.{attribute_in}
 use Rattle.rox_grammar.specs.Document.{most_attributes, most_pairs}
 use Rattle.rox_grammar.specs.Failures.{name_view}
 use Rattle.rox_rows.specs.Rows.{namespace_at, attribute, scope_at, NamespaceWithin, OptionWithin, AttributeRow, attribute_rows}
-use Rattle.rox_scopes.specs.Tables.{namespace_view}
+use Rattle.rox_scopes.specs.NamespaceViews.{namespace_view}
 use Rattle.rox_scopes.specs.Bindings.{places_view}
 use Rattle.rox_names.specs.TagDeclarations.{unresolved_view}
 use Rattle.rox_scopes.specs.TagScopes.{lists_in}

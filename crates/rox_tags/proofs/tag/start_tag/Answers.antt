@@ -11,7 +11,8 @@ use Rattle.rox_reading.specs.Tags.{TagSoFar, attributes_at, tag_tested}
 use Rattle.rox_grammar.specs.Failures.{Fails, name_view}
 use Rattle.rox_values.specs.DeclaredEntities.{values_in}
 use Rattle.rox_rows.specs.Rows.{scope_at, attribute_rows}
-use Rattle.rox_scopes.specs.Tables.{namespace_view, AreScopes}
+use Rattle.rox_scopes.specs.Tables.{AreScopes}
+use Rattle.rox_scopes.specs.NamespaceViews.{namespace_view}
 use Rattle.rox_scopes.specs.Scopes.{PrefixesOnce}
 use Rattle.rox_scopes.specs.TagScopes.{scope_in_tables}
 use Rattle.rox_tags.specs.TagState.{IsReadingTag}

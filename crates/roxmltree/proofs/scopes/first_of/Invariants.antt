@@ -1,6 +1,6 @@
 use Rattle.std.proofs.Common.{◌≡◌, None, map, take}
 use Rattle.rox_grammar.specs.Tree.{uri_of}
-use Rattle.rox_scopes.specs.Tables.{namespace_view}
+use Rattle.rox_scopes.specs.NamespaceViews.{namespace_view}
 use Rattle.rox_scopes.specs.Scopes.{prefix_view, entries}
 use Rattle.roxmltree.proofs.scopes.first_of.Given as goal
 

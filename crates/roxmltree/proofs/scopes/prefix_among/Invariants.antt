@@ -1,5 +1,5 @@
 use Rattle.std.proofs.Common.{◌≡◌, drop, map}
-use Rattle.rox_scopes.specs.Tables.{namespace_view}
+use Rattle.rox_scopes.specs.NamespaceViews.{namespace_view}
 use Rattle.rox_scopes.specs.Scopes.{entries}
 use Rattle.roxmltree.specs.ExpandedNames.{first_prefix}
 use Rattle.roxmltree.proofs.scopes.prefix_among.Given as goal

@@ -1,7 +1,7 @@
 use Rattle.std.proofs.Common.{◌++◌, ◌&&◌, not, filter, List, map, reverse, slice_range}
 use Rattle.rox_grammar.specs.Written.{NamespaceDecl}
 use Rattle.rox_grammar.specs.Tree.{is_xml}
-use Rattle.rox_scopes.specs.Tables.{namespace_view}
+use Rattle.rox_scopes.specs.NamespaceViews.{namespace_view}
 use Rattle.rox_scopes.specs.Scopes.{entries}
 use Rattle.rox_scopes.specs.Bindings.{bound_place, IsBound, KeepsBindings}
 use Rattle.rox_scopes.proofs.bindings.PrefixBindings.enter.Given as goal

@@ -1,6 +1,7 @@
 use Rattle.std.proofs.Common.{rules, ◌≡◌, ◌≤◌, ◌<◌, ◌-◌, ◌++◌, ◌∷◌, ◌∙◌, [], map, length, get_or, ap, subst, sym, refl, arith}
 use Rattle.rox_rows.specs.Rows.{scope_at}
-use Rattle.rox_scopes.specs.Tables.{namespace_view, lists_of}
+use Rattle.rox_scopes.specs.Tables.{lists_of}
+use Rattle.rox_scopes.specs.NamespaceViews.{namespace_view}
 use Rattle.rox_scopes.specs.Scopes.{places_in}
 use Rattle.rox_scopes.specs.Bindings.{bound_place, IsBound}
 use Rattle.rox_scopes.specs.declared.bindings.ScopeFrame.{ScopeFrame}

@@ -1,6 +1,6 @@
 use Rattle.std.proofs.Common.{◌-◌, List, map, length, drop}
 use Rattle.rox_grammar.specs.Written.{NamespaceDecl}
-use Rattle.rox_scopes.specs.Tables.{namespace_view}
+use Rattle.rox_scopes.specs.NamespaceViews.{namespace_view}
 use Rattle.rox_scopes.specs.Scopes.{entries, places_in}
 use Rattle.rox_scopes.specs.Bindings.{bound_place, IsBound, AreBindingsOf}
 use Rattle.rox_scopes.proofs.bindings.PrefixBindings.make_innermost.Given as goal

@@ -1,7 +1,7 @@
 use Rattle.std.proofs.Common.{◌≡◌, ◌≤◌, length, map, sym, ap, ◌∙◌, arith}
 use Rattle.std.proofs.lemmas.List.{length-map}
 use Rattle.std.specs.BTreeMap.{insert_entry}
-use Rattle.rox_scopes.specs.Tables.{namespace_view}
+use Rattle.rox_scopes.specs.NamespaceViews.{namespace_view}
 use Rattle.rox_scopes.specs.PairIndex.{few_pairs, place_among, place_behind, key_cmp}
 use Rattle.rox_scopes.proofs.Indexing.{found_more, none_behind, was_ok}
 use Rattle.rox_scopes.proofs.namespace_table.NamespaceTable.add.Goals as goal

@@ -1,5 +1,5 @@
 use Rattle.std.proofs.Common.{rules, ◌∙◌, sym, ap, map, take, arith}
-use Rattle.rox_scopes.specs.Tables.{namespace_view}
+use Rattle.rox_scopes.specs.NamespaceViews.{namespace_view}
 use Rattle.rox_scopes.specs.PairIndex.{place_of}
 use Rattle.rox_scopes.proofs.Indexing.{row_in, row_behind, row_nowhere}
 use Rattle.rox_scopes.proofs.namespace_table.NamespaceTable.find.Goals as goal

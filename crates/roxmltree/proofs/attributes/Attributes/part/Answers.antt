@@ -1,6 +1,6 @@
 use Rattle.std.proofs.Common.{length, map, ap}
 use Rattle.rox_rows.specs.Rows.{attribute}
-use Rattle.rox_scopes.specs.Tables.{namespace_view}
+use Rattle.rox_scopes.specs.NamespaceViews.{namespace_view}
 use Rattle.rox_rows.proofs.Stable.{all_slice}
 use Rattle.roxmltree.proofs.AttributeRows.{stretch_rows, all_reach, all_placed}
 use Rattle.roxmltree.proofs.attributes.Attributes.part.Goals as goal

@@ -2,7 +2,7 @@ use Rattle.std.proofs.Common.{◌<◌, ◌-◌, [], ◌∷◌, ◌++◌, length,
 use Rattle.std.specs.List.{slice_range}
 use Rattle.std.proofs.lemmas.List.{map-append}
 use Rattle.rox_rows.specs.Rows.{namespace_at}
-use Rattle.rox_scopes.specs.Tables.{namespace_view}
+use Rattle.rox_scopes.specs.NamespaceViews.{namespace_view}
 use Rattle.rox_scopes.specs.Scopes.{places_in}
 use Rattle.roxmltree.proofs.Entries.{entry_is}
 use Rattle.roxmltree.proofs.Ends.{last_of}

@@ -1,7 +1,7 @@
 use Rattle.std.proofs.Common.{◌<◌, ◌+◌, ◌∷◌, length, map, ap, sym, ◌∙◌, arith}
 use Rattle.std.specs.List.{slice_range}
 use Rattle.rox_rows.specs.Rows.{namespace_at}
-use Rattle.rox_scopes.specs.Tables.{namespace_view}
+use Rattle.rox_scopes.specs.NamespaceViews.{namespace_view}
 use Rattle.rox_scopes.specs.Scopes.{places_in}
 use Rattle.roxmltree.proofs.Entries.{entry_is}
 use Rattle.roxmltree.proofs.Ends.{first_of}

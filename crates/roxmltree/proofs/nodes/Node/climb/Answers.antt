@@ -1,7 +1,8 @@
 use Rattle.std.proofs.Common.{◌≡◌, ◌<◌, Some, length, sym, ap, ◌∙◌, subst}
 use Rattle.rox_grammar.specs.Forest.{size}
 use Rattle.roxmltree.specs.declared.nodes.NodeId.{NodeId}
-use Rattle.roxmltree.specs.Places.{place, parent, up_to}
+use Rattle.roxmltree.specs.Places.{place, parent}
+use Rattle.roxmltree.specs.Climbing.{up_to}
 use Rattle.roxmltree.proofs.Preorder.{climbs}
 use Rattle.roxmltree.proofs.nodes.Node.climb.Goals as goal
 

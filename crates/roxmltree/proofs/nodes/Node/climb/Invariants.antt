@@ -1,5 +1,6 @@
 use Rattle.std.proofs.Common.{◌≡◌, length}
-use Rattle.roxmltree.specs.Places.{place, up_to}
+use Rattle.roxmltree.specs.Places.{place}
+use Rattle.roxmltree.specs.Climbing.{up_to}
 use Rattle.roxmltree.proofs.nodes.Node.climb.Given as goal
 
 abbrev pub invariant-loop-document : goal.invariant-loop-document
