@@ -8,7 +8,7 @@ use Rattle.rox_grammar.specs.Search.{stands, mark_from, byte_from}
 use Rattle.rox_grammar.specs.Written.{Name}
 use Rattle.rox_grammar.specs.Names.{byte, spaces_end, IsName, IsQName}
 
--- Whether the text is at `i`.
+-- Whether the text is at `i` in the source.
 abbrev pub text_at : String → List ℕ → ℕ → Bool
 text_at text src i = stands (codes text) src i
 
@@ -20,7 +20,7 @@ first_text text src i = mark_from (codes text) src i
 abbrev pub AreChars : (src : List ℕ) (i j : ℕ) → Type 0
 AreChars src i j = run_end is_char (take j src) i ≡ j
 
--- The characters from `i` up to `e` are Chars, and at `e` the text is for the first time.
+-- The characters from `i` up to `e` are Chars, and `e` is the first offset from `i` on at which the text is.
 abbrev pub IsTextTo : (text : String) (src : List ℕ) (i e : ℕ) → Type 0
 IsTextTo text src i e = (e ≡ first_text text src i) × AreChars src i e × (text_at text src e ≡ true)
 
@@ -28,9 +28,9 @@ IsTextTo text src i e = (e ≡ first_text text src i) × AreChars src i e × (te
 pub data IsComment (src : List ℕ) (i e : ℕ) : (j : ℕ) → Type 0 where
   comment : text_at "<!--" src i ≡ true → IsTextTo "--" src (i + 4) e → text_at "-->" src e ≡ true → IsComment src i e (e + 3)
 
--- XML 2.6 [16] PI: its target ends at `n`, and its value at `e`. Departures: after the target there may be no white space, where
--- [16] requires some. Of the names only `xml` before a space is not a target, where [17] forbids `xml` in any letters, and NS 7 a
--- colon.
+-- XML 2.6 [16] PI: its target ends at `n`, and its value at `e`. Departures: the white space after the target may be missing,
+-- where [16] requires some before a value. Of the names, only `xml` before a space is refused as a target, where [17] forbids
+-- `xml` in upper and lower case, and NS 7 a colon.
 pub data IsPI (src : List ℕ) (i n e : ℕ) : (j : ℕ) → Type 0 where
   pi : text_at "<?" src i ≡ true → text_at "<?xml " src i ≡ false → IsName src (i + 2) n → IsTextTo "?>" src (spaces_end src n) e → IsPI src i n e (e + 2)
 
@@ -46,8 +46,8 @@ IsEq src i j = (byte src (spaces_end src i) ≡ code "=") × (j ≡ spaces_end s
 abbrev pub IsQuote : List ℕ → ℕ → Type 0
 IsQuote src i = (byte src i ≡ code "'") ⊎ (byte src i ≡ code "\"")
 
--- XML 2.3 [9], [11], [12]: a literal from `i` up to `j`, with its last quote at `e`: any characters but the quote. Departure: they
--- need not be Chars (2.2), nor those of [12].
+-- XML 2.3 [9], [11], [12]: a literal from `i` up to `j`, with its last quote at `e`. Between its quotes are any characters except
+-- that quote. Departure: they need not be Chars (2.2), nor those that [12] allows.
 abbrev pub IsQuoted : List ℕ → (i e j : ℕ) → Type 0
 IsQuoted src i e j = IsQuote src i × (e ≡ byte_from (λ c. c == byte src i) src (i + 1)) × (e < length src) × (j ≡ e + 1)
 
@@ -55,8 +55,8 @@ IsQuoted src i e j = IsQuote src i × (e ≡ byte_from (λ c. c == byte src i) s
 abbrev pub IsAttValue : List ℕ → (i e j : ℕ) → Type 0
 IsAttValue src i e j = IsQuoted src i e j × AreChars src (i + 1) e × (e ≡ byte_from (λ c. c == code "<") (take e src) (i + 1))
 
--- XML 3.1 [41] Attribute, and of a declaration 2.8 [24]: a name up to `n`, Eq up to `v`, and a value in quotes, with its last quote
--- at `e`.
+-- XML 3.1 [41] Attribute, and a pair of an XML declaration (2.8 [24]): a name up to `n`, Eq up to `v`, and a value in quotes,
+-- with its last quote at `e`.
 abbrev pub IsPair : List ℕ → (i : ℕ) → Name → (n v e j : ℕ) → Type 0
 IsPair src i name n v e j = IsQName src i name n × IsEq src n v × IsAttValue src v e j
 
@@ -70,22 +70,23 @@ pub record PairAt (src : List ℕ) (i : ℕ) : Type 0 where
   pub end : ℕ
   pub is_written : IsPair src i name name_end first_quote last_quote end
 
--- A pair that starts with this text, and the white space after it, or nothing if the text is not at `i`. Departures: the white
--- space may be empty before `?>` and at the end of the source. The name may continue after the text, and the value is any literal,
--- where XML 2.8 [24], [26], 4.3.3 [80], [81] and 2.9 [32] fix both.
+-- A pair that starts with this text, and the white space after it. It is nothing if the text is not at `i`. Departures: the white
+-- space may be empty before `?>` and at the end of the source. The name may continue after the text, and the value may be any
+-- literal, where XML 2.8 [24], [26], 4.3.3 [80], [81] and 2.9 [32] fix both.
 pub data MayBePair (text : List ℕ) (src : List ℕ) (i : ℕ) : (j : ℕ) → Type 0 where
   is_pair : (name : Name) (n v e j : ℕ) → stands text src i ≡ true → IsPair src i name n v e j
       → (j < spaces_end src j) ⊎ ((text_at "?>" src j ≡ true) ⊎ (length src ≡ j)) → MayBePair text src i (spaces_end src j)
   no_pair : stands text src i ≡ false → MayBePair text src i i
 
--- XML 2.8 [23]: the declaration that starts at `i`, up to the offset at which a pair that starts with this text is read. The pair
--- of `version` is required.
+-- XML 2.8 [23]: the declaration that starts at `i` is read up to `p`, where a pair that starts with `text` is next. The pair of
+-- `version` is required.
 pub data DeclarationTo (src : List ℕ) (i : ℕ) : (text : List ℕ) → (p : ℕ) → Type 0 where
   version : text_at "version" src (spaces_end src (i + 5)) ≡ true → DeclarationTo src i (codes "version") (spaces_end src (i + 5))
   encoding : (p q : ℕ) → DeclarationTo src i (codes "version") p → MayBePair (codes "version") src p q → DeclarationTo src i (codes "encoding") q
   standalone : (p q : ℕ) → DeclarationTo src i (codes "encoding") p → MayBePair (codes "encoding") src p q → DeclarationTo src i (codes "standalone") q
 
--- XML 2.8 [23] XMLDecl. Departure: only a space after `<?xml` starts it. With other white space there it is read as an instruction.
+-- XML 2.8 [23] XMLDecl. Departure: it starts only with `<?xml` and a space. With other white space it is read as a processing
+-- instruction.
 pub data IsXmlDecl (src : List ℕ) (i : ℕ) : (j : ℕ) → Type 0 where
   xml_decl : (p q : ℕ) → text_at "<?xml " src i ≡ true → DeclarationTo src i (codes "standalone") p → MayBePair (codes "standalone") src p q → text_at "?>" src q ≡ true
       → IsXmlDecl src i (q + 2)

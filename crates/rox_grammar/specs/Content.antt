@@ -1,4 +1,4 @@
--- Character data, attribute values, tags, elements and content. Each is a relation between two places of one source.
+-- Character data, attribute values, tags, elements and content. Each rule relates two offsets of one source.
 use Prim.Native.Char.{code}
 use Rattle.std.specs.Prelude.{◌≡◌, ◌≢◌, ℕ, ◌+◌, ◌<◌, ◌≤◌, ◌⊎◌, ◌==◌, ◌||◌, Bool, true, false, not, List, [], ◌∷◌, ◌++◌, map, if◌then◌else◌, ◌&&◌}
 use Rattle.std.specs.List.{list_any}
@@ -12,13 +12,14 @@ use Rattle.rox_grammar.specs.Names.{byte, slice, spaces_end, IsQName}
 use Rattle.rox_grammar.specs.Constructs.{first_text, AreChars, IsComment, IsPI, IsCData, IsEnd, IsPair}
 use Rattle.rox_grammar.specs.References.{IsEntityReference, IsCharacter}
 
--- What a reference to the entity `name` means. In content it gives the nodes `items`, in a value the bytes `v`; `before` and
--- `after` are the openings left before the reference and after it.
+-- The meaning of a reference to the entity `name`. In content it gives the nodes `items`, and in a value the bytes `v`. `before`
+-- and `after` are the openings that are left before the reference and after it.
 pub record Inclusion : Type 1 where
   pub content : (name : List ℕ) (before : ℕ) (items : Forest Item) (after : ℕ) → Type 0
   pub value : (name : List ℕ) (before : ℕ) (v : List ℕ) (after : ℕ) → Type 0
 
--- A byte of character data: `literal`, as it is written, or `kept`, which stays as it is because a reference gave it.
+-- A byte of character data: `literal` if it is written there, `kept` if a reference gave it. Line ends are replaced only in
+-- literal bytes.
 pub data DataByte : Type 0 where
   literal : ℕ → DataByte
   kept : ℕ → DataByte
@@ -31,8 +32,8 @@ abbrev pub is_literal : ℕ → DataByte → Bool
 is_literal c (literal b) = b == c
 is_literal c (kept b) = false
 
--- The bytes of a character from a reference: they are kept in the main text only. Departure: by XML 2.11 they are kept everywhere,
--- because line ends are found before references are opened.
+-- The bytes of a character from a reference: kept in the main text, literal in a replacement text. Departure: by XML 2.11 they
+-- are kept everywhere, because line ends are replaced before references are opened.
 abbrev pub data_bytes_of : Bool → List ℕ → List DataByte
 data_bytes_of main bs = map (if main then kept else literal) bs
 
@@ -41,7 +42,7 @@ abbrev pub line_ends : List DataByte → List ℕ
 line_ends [] = []
 line_ends (s ∷ ss) = if is_literal (code "\r") s then (if first_passes (is_literal (code "\n")) ss then line_ends ss else code "\n" ∷ line_ends ss) else data_byte s ∷ line_ends ss
 
--- Each byte as it is written.
+-- The bytes, all literal.
 abbrev pub literals : List ℕ → List DataByte
 literals bs = data_bytes_of false bs
 
@@ -62,8 +63,8 @@ abbrev pub piece : ℕ → ℕ → Bool → List DataByte → Forest Item
 piece start stop borrowed [] = Nil
 piece start stop borrowed (s ∷ ss) = leaf (Text start stop (line_ends (s ∷ ss)) borrowed)
 
--- XML 2.4, 4.1: characters and references to them, from `i` up to `j`. Departure: in a replacement text too a reference gives a
--- character. By 4.5 a reference in an entity's literal is opened beforehand, and what it gives may start markup.
+-- XML 2.4, 4.1: characters and references to characters, from `i` up to `j`. Departure: in a replacement text too a reference
+-- gives a character. By 4.5 a reference in an entity's literal is opened beforehand, and what it gives may start markup.
 pub data Part (main : Bool) (src : List ℕ) (j : ℕ) : (i : ℕ) → List DataByte → Type 0 where
   part_ends : Part main src j j []
   as_written : (i : ℕ) (ss : List DataByte) → i < j → byte src i ≢ code "&" → Part main src j (i + 1) ss → Part main src j i (literal (byte src i) ∷ ss)
@@ -78,7 +79,7 @@ pub data IsCharacterData (src : List ℕ) (i j : ℕ) : Type 0 where
 abbrev pub value_bytes : Bool → ℕ → List ℕ
 value_bytes main c = if not main && (c == code "\t" || (c == code "\n" || c == code "\r")) then code " " ∷ [] else encode_utf8 c
 
--- `>`, or `/>` if the element is empty, after white space.
+-- The end of a start tag, after optional white space: `>`, or `/>` if the element is empty.
 pub data TagEnds (src : List ℕ) : (i : ℕ) → (empty : Bool) → (j : ℕ) → Type 0 where
   opened : (i : ℕ) → byte src (spaces_end src i) ≡ code ">" → TagEnds src i false (spaces_end src i + 1)
   closed : (i : ℕ) → byte src (spaces_end src i) ≡ code "/" → byte src (spaces_end src i + 1) ≡ code ">" → TagEnds src i true (spaces_end src i + 2)
@@ -88,11 +89,11 @@ pub data IsMisc (src : List ℕ) : (i j : ℕ) → Item → Type 0 where
   comment : (i e j : ℕ) → IsComment src i e j → IsMisc src i j (Comment i j (slice src (i + 4) e))
   instruction : (i n e j : ℕ) → IsPI src i n e j → IsMisc src i j (PI i j (slice src (i + 2) n) (none_if_empty (slice src (spaces_end src n) e)))
 
--- The rules in which references to entities occur: in the main text if `main`, else in a replacement text, where `Includes` is what
--- a reference means, in the source `src`. `b`, `c` and `d` are the openings that are left: `b` before what a rule reads, and `c`,
--- or `d` if the rule has two steps, after it.
+-- The rules in which references to entities occur. They read the source `src`, which is the main text if `main`, else a
+-- replacement text. `Includes` is the meaning of a reference. `b`, `c` and `d` are the openings that are left: `b` before what a
+-- rule reads, and `c`, or `d` if the rule has two steps, after it.
 module _ (main : Bool) (Includes : Inclusion) (src : List ℕ) where
-  -- The parts of the run from `start` up to `stop`, which references to entities divide: those from `i` up to `p`. `borrowed` says
+  -- The parts of the run from `start` up to `stop`, divided by references to entities: those from `i` up to `p`. `borrowed` says
   -- whether the last one is a slice of the source.
   pub data Parts (borrowed : Bool) (start stop p : ℕ) : (i b c : ℕ) → Forest Item → Type 0 where
     last_part : (i b : ℕ) (ss : List DataByte) → Part main src p i ss → Parts borrowed start stop p i b b (piece start stop borrowed ss)

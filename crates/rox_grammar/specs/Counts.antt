@@ -6,18 +6,18 @@ use Rattle.rox_grammar.specs.Tree.{listable_of}
 use Rattle.rox_grammar.specs.Document.{same_pair}
 pub use Rattle.rox_grammar.specs.Document.{own_attributes, own_pairs, attributes_in as attribute_count, pairs_in as pairs}
 
--- What a tag declares and its element lists.
+-- The declarations of a tag that its element lists.
 abbrev pub listable : Tag → List NamespaceDecl
 listable t = listable_of t.declarations
 
 abbrev pub has_pair : List NamespaceDecl → NamespaceDecl → Bool
 has_pair ds d = list_any (λ e. same_pair e d) ds
 
--- The declarations `ds`, and each of the others once that is not among them.
+-- The declarations `ds`, and after them each different pair of the others that is not among them.
 abbrev pub with_new : List NamespaceDecl → List NamespaceDecl → List NamespaceDecl
 with_new ds [] = ds
 with_new ds (e ∷ es) = if has_pair ds e then with_new ds es else with_new (ds ++ e ∷ []) es
 
--- Each pair of a prefix, or the default, and a URI once.
+-- Each different pair of a prefix, or the default, and a URI, once.
 abbrev pub distinct_pairs : List NamespaceDecl → List NamespaceDecl
 distinct_pairs ds = with_new [] ds

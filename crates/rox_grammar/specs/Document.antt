@@ -1,8 +1,8 @@
 -- Documents, and their limits. How a rule is read:
--- - It relates places of the source `src`: what is from `i` up to `j` (or up to `p`), with further places between them.
+-- - It relates offsets of the source `src`: what is from `i` up to `j` (or up to `p`), with further offsets between them.
 -- - Its premises are read from left to right, and its last term is what they give.
--- - `items`, `before`, `one` and `after` are nodes as they are written. `openings_left`, or b, c and d, counts openings (Content).
--- - `asked` is what was asked for external entities and answered, and `es` the entities that are declared, each in order (Doctype).
+-- - `items`, `before`, `one` and `after` are nodes as written. `openings_left`, or b, c and d, counts openings (Content).
+-- - `asked` are the requests for external entities with their answers, and `es` the declared entities, each in order (Doctype).
 use Rattle.std.specs.Prelude.{◌≡◌, ℕ, ◌+◌, ◌-◌, ◌^◌, ◌≤◌, Option, Bool, true, false, ◌&&◌, List, [], ◌∷◌, ◌++◌, length, if◌then◌else◌, bytes_eq, IfSome, IsUtf8}
 use Rattle.std.specs.List.{list_any}
 use Rattle.rox_grammar.specs.Chars.{is_space}
@@ -27,7 +27,7 @@ pub data Misc (src : List ℕ) : (i j : ℕ) → Forest Item → Type 0 where
 abbrev pub PrologTo : (src : List ℕ) (p : ℕ) → Forest Item → Type 0
 PrologTo src p items = (i : ℕ) × MayHaveXmlDecl src (after_bom src) i × Misc src i p items
 
--- XML 2.8 [22] prolog, up to the root element at `p`: whether it has a document type declaration, its nodes, what is asked for its
+-- XML 2.8 [22] prolog, up to the root element at `p`: whether it has a document type declaration, its nodes, the requests for its
 -- entities, and the entities.
 pub data Prolog (src : List ℕ) (p : ℕ) : (dtd : Bool) → Forest Item → List Asked → List Entity → Type 0 where
   with_doctype : (i j : ℕ) (before items after : Forest Item) (asked : List Asked) (es : List Entity) → PrologTo src i before → IsDoctype src i j items asked es
@@ -40,7 +40,7 @@ pub data DocumentTo (Includes : Inclusion) (src : List ℕ) (PrologAt : ℕ → 
   element_and_misc : (i j openings_left : ℕ) (before one after : Forest Item) → PrologAt i before → IsElement true Includes src i j most_within openings_left one
       → Misc src j p after → AreWellNamed [] (join (join before one) after) → DocumentTo Includes src PrologAt p (join (join before one) after)
 
--- XML 2.1 [1], 2.8 [22] document: whether it has a document type declaration, what is asked for its entities, and its top nodes.
+-- XML 2.1 [1], 2.8 [22] document: whether it has a document type declaration, the requests for its entities, and its top nodes.
 pub record ParseOf (src : List ℕ) (dtd : Bool) (asked : List Asked) (tree : Forest Item) : Type 0 where
   pub entities : List Entity
   pub whole : DocumentTo (included_in_main entities) src (λ p items. Prolog src p dtd items asked entities) (length src) tree
@@ -50,26 +50,26 @@ abbrev pub own_attributes : Item → ℕ
 own_attributes (Element start end tag) = length tag.attributes
 own_attributes other = 0
 
--- The number of attributes.
+-- The number of attributes of all items, at any depth.
 abbrev pub attributes_in : Forest Item → ℕ
 attributes_in Nil = 0
 attributes_in (Cons item children rest) = own_attributes item + attributes_in children + attributes_in rest
 
--- What an item declares and lists.
+-- The declarations of an item that it lists.
 abbrev pub own_pairs : Item → List NamespaceDecl
 own_pairs (Element start end tag) = listable_of tag.declarations
 own_pairs other = []
 
--- All that is declared and listed, in document order.
+-- The declarations that the items list, at any depth, in document order.
 abbrev pub pairs_in : Forest Item → List NamespaceDecl
 pairs_in Nil = []
 pairs_in (Cons item children rest) = own_pairs item ++ (pairs_in children ++ pairs_in rest)
 
--- Whether both have one prefix, or are both the default, and have one URI.
+-- Whether both have one prefix, or both are the default, and both have one URI.
 abbrev pub same_pair : NamespaceDecl → NamespaceDecl → Bool
 same_pair d e = same_prefix d.prefix e.prefix && bytes_eq d.uri e.uri
 
--- The number of different pairs.
+-- The number of different pairs of a prefix, or the default, and a URI.
 abbrev pub distinct_count : List NamespaceDecl → ℕ
 distinct_count [] = 0
 distinct_count (d ∷ ds) = if list_any (same_pair d) ds then distinct_count ds else 1 + distinct_count ds
@@ -80,7 +80,7 @@ most_attributes = 2 ^ 32 - 2
 abbrev pub most_pairs : ℕ
 most_pairs = 2 ^ 16 - 1
 
--- The limits of a tree, with the root node counted. Departure: XML has none.
+-- The tree is within the limits, with the root node counted. Departure: XML has no limits.
 pub record IsWithinLimits (nodes_limit : ℕ) (tree : Forest Item) : Type 0 where
   pub nodes : size tree + 1 ≤ nodes_limit
   pub attributes : attributes_in tree ≤ most_attributes
@@ -90,17 +90,17 @@ pub record IsWithinLimits (nodes_limit : ℕ) (tree : Forest Item) : Type 0 wher
 pub data IsTreeOf (src : List ℕ) (dtd : Bool) (asked : List Asked) (nodes_limit : ℕ) : Forest Node → Type 0 where
   document : (tops : Forest Item) → ParseOf src dtd asked tops → IsWithinLimits nodes_limit tops → IsTreeOf src dtd asked nodes_limit (document_tree (length src) tops)
 
--- A document type declaration is there only if it is allowed. Departure: by XML 2.8 it always is.
+-- There is a document type declaration only if it is allowed. Departure: XML 2.8 always allows it.
 abbrev pub Permits : (allow dtd : Bool) → Type 0
 Permits allow dtd = dtd ≡ true → allow ≡ true
 
--- After these were asked, in order, this is asked next: the declaration of an external entity is read up to `p`, where the request
--- is made, and all before it is valid.
+-- After the requests `asked`, this request is next. The declaration of an external entity is read up to `p`, where the request is
+-- made, and all before it is valid.
 pub data AsksNext (src : List ℕ) (asked : List Asked) (request : Request) (p : ℕ) : Type 0 where
   at_entity : (i j : ℕ) (before items : Forest Item) → PrologTo src i before → SubsetTo src i j items asked → AsksAt src j request p → AsksNext src asked request p
 
--- What was asked, in order, while the text was read: the declaration for each is next after those before it, and the answer is a
--- text in UTF-8, or none. Nothing is asked if no document type declaration is allowed.
+-- The requests that are made while the text is read, in order, with their answers. The declaration for each request is next after
+-- those before it. Each answer is a text in UTF-8, or none. No request is made if no document type declaration is allowed.
 pub data HasAsked (src : List ℕ) (allow : Bool) : List Asked → Type 0 where
   nothing : HasAsked src allow []
   one_more : (asked : List Asked) (request : Request) (p : ℕ) (answer : Option (List ℕ)) → allow ≡ true → AsksNext src asked request p

@@ -1,5 +1,5 @@
 -- Entities, and what a reference to one opens (XML 4.4). A replacement text is read as a source of its own, which ends where the
--- text ends. Its places count in the source that contains it: the main text, or the rest of a resolver's answer.
+-- text ends. Its offsets count in the source that contains it: the main text, or the rest of a resolver's answer.
 use Rattle.std.specs.Prelude.{◌≡◌, ℕ, zero, suc, ◌+◌, Bool, true, false, List, Option, Some, length, bytes_eq, find, option_map}
 use Rattle.rox_grammar.specs.Constructs.{AreChars}
 use Rattle.rox_grammar.specs.Content.{Inclusion, Content, Value}
@@ -23,19 +23,21 @@ text_of es name = option_map (λ e. e.text) (find (λ e. bytes_eq e.name name) e
 abbrev pub most_within : ℕ
 most_within = 255
 
--- The openings that are left: `before` a reference and `after` it, and in the text that it opens `first` at the start and `last` at
--- the end. A reference in the main text has `most_within` of its own. A reference in a replacement text takes one of those left.
+-- The openings that are left: `before` a reference, `first` at the start of the text that it opens, `last` at the end of that
+-- text, and `after` the reference. A reference in the main text has `most_within` of its own. A reference in a replacement text
+-- takes one of those that are left.
 abbrev pub Spends : (main : Bool) (before first last after : ℕ) → Type 0
 Spends true before first last after = (first ≡ most_within) × (after ≡ before)
 Spends false before first last after = (before ≡ first + 1) × (after ≡ last)
 
--- No name is declared as an entity, or none may be opened.
+-- The meaning of references where no entity is declared, or no replacement text may be opened: they have none.
 abbrev pub no_entities : Inclusion
 no_entities = record { content = λ name b items c. ⊥; value = λ name b v c. ⊥ }
 
--- XML 4.4.2, 4.4.5: what a reference opens, in the main text or in a replacement text, where `depth_left` replacement texts may
--- be opened inside one another. In content the whole text is content. In a value it is a part of the value, of Chars. Departures:
--- XML has no such bound. The text may be an external entity's in a value too, which 3.1 (No External Entity References) forbids.
+-- XML 4.4.2, 4.4.5: the meaning of a reference, in the main text or in a replacement text, where `depth_left` replacement texts
+-- may be opened inside one another. In content the whole replacement text is content. In a value it is a part of the value, of
+-- Chars. Departures: XML has no such bound. The text may be an external entity's in a value too, which 3.1 (No External Entity
+-- References) forbids.
 abbrev pub Includes : List Entity → (depth_left : ℕ) → (main : Bool) → Inclusion
 Includes es zero main = no_entities
 Includes es (suc d) main = record {
@@ -49,6 +51,6 @@ Includes es (suc d) main = record {
 abbrev pub most_deep : ℕ
 most_deep = 10
 
--- What a reference in the main text opens.
+-- The meaning of a reference in the main text.
 abbrev pub included_in_main : List Entity → Inclusion
 included_in_main es = Includes es most_deep true

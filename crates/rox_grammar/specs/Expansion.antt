@@ -4,8 +4,8 @@ use Rattle.rox_grammar.specs.Constructs.{AreChars}
 use Rattle.rox_grammar.specs.Content.{Inclusion, Content, Value}
 use Rattle.rox_grammar.specs.Entities.{Replacement, Entity, text_of, no_entities}
 
--- The replacement texts that a reference opens, at most `depth_left` inside one another, with no other limit. The numbers count
--- those that were opened before it and after it.
+-- Like `Includes`, but with no limit except `depth_left`. The numbers count the replacement texts that were opened before the
+-- reference, and up to its end.
 abbrev pub Counts : List Entity → (depth_left : ℕ) → Inclusion
 Counts es zero = no_entities
 Counts es (suc d) =

@@ -1,4 +1,4 @@
--- A row of siblings with their descendants, in order.
+-- Rows of siblings with their descendants, in order.
 use Rattle.std.specs.Prelude.{ℕ, ◌+◌}
 
 pub data Forest (I : Type 0) : Type 0 where
@@ -6,6 +6,7 @@ pub data Forest (I : Type 0) : Type 0 where
   -- An item, its children, and the siblings after it.
   Cons : I → Forest I → Forest I → Forest I
 
+-- The siblings of the first row, and then those of the second.
 abbrev pub join : {I : Type 0} → Forest I → Forest I → Forest I
 join Nil g = g
 join (Cons item children rest) g = Cons item children (join rest g)

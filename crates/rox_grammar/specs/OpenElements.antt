@@ -21,7 +21,7 @@ abbrev pub depth_of : Open → ℕ
 depth_of root = 0
 depth_of (inside start tag before up) = depth_of up + 1
 
--- What the innermost open element lists.
+-- The namespaces that the innermost open element lists.
 abbrev pub scope_of : Open → List NamespaceDecl
 scope_of root = []
 scope_of (inside start tag before up) = listed (scope_of up) tag.declarations
@@ -31,11 +31,11 @@ abbrev pub tree_so_far : Open → Forest Item → Forest Item
 tree_so_far root done = merge done
 tree_so_far (inside start tag before up) done = tree_so_far up (join before (Cons (Element start start tag) (merge done) Nil))
 
--- The tree so far is within the limits. The root node by itself always is: with a limit of 0 the first node after it is the one too
--- many. A tree never shrinks, so all that came before is within the limits too.
+-- The tree so far is within the limits. The root node by itself always is: with a limit of 0, the first node after it is one too
+-- many. A tree never shrinks, so every tree before it is within the limits too.
 abbrev pub FitsLimits : (nodes_limit : ℕ) → Open → Forest Item → Type 0
 FitsLimits nodes_limit stack done = IsWithinLimits (max nodes_limit 1) (tree_so_far stack done)
 
--- The tree has too many nodes only, with the root node counted: attributes and pairs are counted first.
+-- The tree has too many nodes, with the root node counted, but not too many attributes or pairs: these are counted first.
 abbrev pub HasTooManyNodes : (nodes_limit : ℕ) → Forest Item → Type 0
 HasTooManyNodes nodes_limit tree = (attributes_in tree ≤ most_attributes) × (distinct_count (pairs_in tree) ≤ most_pairs) × (nodes_limit < 1 + size tree)

@@ -16,7 +16,7 @@ is_hex_digit b = is_digit b || (is_between (code "a") (code "f") b || is_between
 abbrev pub digit_value : ℕ → ℕ
 digit_value b = if nat_le b (code "9") then b - code "0" else if nat_le b (code "F") then b - (code "A" - 10) else b - (code "a" - 10)
 
--- The number that these digits give.
+-- The number that the digits give in this base.
 abbrev pub number : ℕ → List ℕ → ℕ
 number base ds = fold (λ n d. n * base + digit_value d) 0 ds
 

@@ -1,4 +1,4 @@
--- The names of a fault, which are spans of the source.
+-- The names in a fault, which are spans of the source.
 use Rattle.std.specs.Prelude.{◌≤◌, ℕ, List, IsCharBoundary}
 use Rattle.rox_grammar.specs.declared.fault.Span.{Span}
 use Rattle.rox_grammar.specs.declared.fault.Fault.{Fault}
@@ -8,7 +8,7 @@ use Rattle.rox_grammar.specs.declared.fault.Fault.TheVariants as fault
 abbrev pub IsTextSpan : List ℕ → Span → Type 0
 IsTextSpan src span = (span.start ≤ span.end) × IsCharBoundary src span.start × IsCharBoundary src span.end
 
--- Each name of the fault is a text of the source.
+-- Each name in the fault is a text of the source.
 abbrev pub NamesText : List ℕ → Fault → Type 0
 NamesText src (fault.DuplicatedNamespace name at) = IsTextSpan src name
 NamesText src (fault.UnknownNamespace name at) = IsTextSpan src name

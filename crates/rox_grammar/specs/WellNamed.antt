@@ -5,12 +5,13 @@ use Rattle.rox_grammar.specs.Forest.{Forest, Nil, Cons}
 use Rattle.rox_grammar.specs.Written.{Name, Attribute, NamespaceDecl, Tag, Item, Element}
 use Rattle.rox_grammar.specs.Tree.{xml_uri, xmlns_uri, same_prefix, is_xml, is_declared, scope_in, attribute_namespace}
 
--- NS 3: `xml`, and nothing else, may be bound to its URI, and nothing to that of `xmlns`. Departures: NS 3 also forbids to declare
--- the prefix `xmlns`, NS 5 (No Prefix Undeclaring) the empty text for a prefix, and by NS 2.2 the value is a URI.
+-- NS 3: the prefix `xml` may be bound only to its URI, no other prefix to that URI, and no prefix to that of `xmlns`. Departures:
+-- NS 3 also forbids to declare the prefix `xmlns`, NS 5 (No Prefix Undeclaring) the empty text for a prefix, and by NS 2.2 the
+-- value is a URI.
 abbrev pub may_declare : NamespaceDecl → Bool
 may_declare d = not (bytes_eq d.uri xmlns_uri) && (if is_xml d.prefix then bytes_eq d.uri xml_uri else not (bytes_eq d.uri xml_uri))
 
--- Each may be declared, and no two declare one prefix.
+-- Each declaration is allowed, and no two declare one prefix.
 abbrev pub AreDeclarable : List NamespaceDecl → Type 0
 AreDeclarable ds = (list_all may_declare ds ≡ true) × IsDistinct (λ d e. same_prefix d.prefix e.prefix) ds
 
@@ -26,7 +27,7 @@ same_expanded scope m n = same_prefix (attribute_namespace scope m) (attribute_n
 abbrev pub AreDistinct : List NamespaceDecl → List Attribute → Type 0
 AreDistinct scope as' = (list_all (λ a. is_known scope a.name) as' ≡ true) × IsDistinct (λ a b. same_expanded scope a.name b.name) as'
 
--- NS 5: the prefix of an element is empty or listed. Departure: so `xml` is refused, which NS 3 declares everywhere.
+-- NS 5: the prefix of an element is empty or listed. Departure: so the prefix `xml` is refused, which NS 3 declares everywhere.
 abbrev pub may_name : List NamespaceDecl → Name → Bool
 may_name scope n = bytes_eq n.prefix [] || is_declared (Some n.prefix) scope
 

@@ -7,7 +7,7 @@ pub record Name : Type 0 where
   pub prefix : List ℕ
   pub local : List ℕ
 
--- An attribute: its name is from `start` up to `name_end`, its value, without the quotes, from `value_start` up to `end` less one.
+-- An attribute: its name is from `start` up to `name_end`, and its value, without the quotes, from `value_start` up to `end - 1`.
 pub record Attribute : Type 0 where
   pub start : ℕ
   pub name_end : ℕ
@@ -26,12 +26,12 @@ pub record NamespaceDecl : Type 0 where
 -- The content of an element's start tag.
 pub record Tag : Type 0 where
   pub name : Name
-  -- The place where its name ends.
+  -- The offset at which its name ends.
   pub name_end : ℕ
   pub declarations : List NamespaceDecl
   pub attributes : List Attribute
 
--- Each with its range.
+-- An item, with its range.
 pub data Item : Type 0 where
   Element : (start end : ℕ) → Tag → Item
   -- `borrowed` says whether its value is a slice of the source.
@@ -47,24 +47,26 @@ is_namespace_decl n = bytes_eq n.prefix (codes "xmlns") || bytes_eq n.local (cod
 abbrev pub namespace_decl_of : Attribute → NamespaceDecl
 namespace_decl_of a = record { prefix = if bytes_eq a.name.prefix (codes "xmlns") then Some a.name.local else None; uri = a.value }
 
--- The attributes as written that declare, and the others.
+-- The declarations among the attributes as written.
 abbrev pub namespace_decls_of : List Attribute → List NamespaceDecl
 namespace_decls_of as' = map namespace_decl_of (filter (λ a. is_namespace_decl a.name) as')
 
+-- The attributes as written that are not declarations.
 abbrev pub plain_attributes_of : List Attribute → List Attribute
 plain_attributes_of as' = filter (λ a. not (is_namespace_decl a.name)) as'
 
--- Puts an item first: a text takes in the text that it touches. (A text has no descendants.)
+-- Puts an item before a row of siblings. If both it and the first of them are texts, they become one. (A text has no
+-- descendants.)
 abbrev pub glue : Item → Forest Item → Forest Item → Forest Item
 glue (Text a e v borrowed) below (Cons (Text x y w p) children rest) = Cons (Text a e (v ++ w) false) (join below children) rest
 glue item below rest = Cons item below rest
 
--- Makes each longest row of touching pieces one text, with the range of its first piece. It is a slice of the source only if it is
--- one such piece.
+-- Joins each longest sequence of texts into one text, with the range of the first. A text joined of several is not a slice of the
+-- source.
 abbrev pub merge : Forest Item → Forest Item
 merge Nil = Nil
 merge (Cons item children rest) = glue item children (merge rest)
 
--- A text or another item without descendants.
+-- An item without descendants, by itself.
 abbrev pub leaf : Item → Forest Item
 leaf item = Cons item Nil Nil
