@@ -1,14 +1,14 @@
--- What a copy of an error is.
+-- What it means that an error is a copy of another.
 use Rattle.std.specs.Prelude.{◌≡◌, ⊤, String, string_bytes}
 use Rattle.std.specs.declared.alloc.Global.{Global}
 use Rattle.rox_error.specs.declared.error.Error.{Error}
 use Rattle.rox_error.specs.declared.error.Error.TheVariants as error
 
--- the same text, as another string
+-- The two strings have equal bytes.
 abbrev pub IsCopyOf : String Global → String Global → Type 0
 IsCopyOf text copy = string_bytes copy ≡ string_bytes text
 
--- the same error, with copies of its texts
+-- The second error is equal to the first, except that its strings are copies.
 abbrev pub IsCopy : Error → Error → Type 0
 IsCopy (error.DuplicatedNamespace n p) e = (m : String Global) × IsCopyOf n m × (e ≡ error.DuplicatedNamespace m p)
 IsCopy (error.UnknownNamespace n p) e = (m : String Global) × IsCopyOf n m × (e ≡ error.UnknownNamespace m p)
@@ -18,7 +18,7 @@ IsCopy (error.DuplicatedAttribute n p) e = (m : String Global) × IsCopyOf n m �
 IsCopy (error.EntityResolver p n) e = (m : String Global) × IsCopyOf n m × (e ≡ error.EntityResolver p m)
 IsCopy other e = e ≡ other
 
--- an error without a text of its own, whose copy needs no memory
+-- The error owns no string, so its copy needs no memory.
 abbrev pub NamesNothing : Error → Type 0
 NamesNothing (error.DuplicatedNamespace n p) = ⊥
 NamesNothing (error.UnknownNamespace n p) = ⊥

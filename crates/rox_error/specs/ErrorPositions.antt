@@ -1,10 +1,10 @@
--- Where in a text an error is.
+-- The position of an error.
 use Rattle.std.specs.Prelude.{Option, Some, None}
 use Rattle.rox_error.specs.declared.position.TextPos.{TextPos}
 use Rattle.rox_error.specs.declared.error.Error.{Error}
 use Rattle.rox_error.specs.declared.error.Error.TheVariants as error
 
--- the position that the error keeps, or none
+-- The position that an error has, or `None` if it has none.
 abbrev pub kept_position : Error → Option TextPos
 kept_position (error.InvalidXmlPrefixUri p) = Some p
 kept_position (error.UnexpectedXmlUri p) = Some p
@@ -32,10 +32,11 @@ kept_position (error.InvalidCharacterData p) = Some p
 kept_position (error.UnknownToken p) = Some p
 kept_position other = None
 
--- that position, or 1:1 if there is none
+-- The position, or 1:1 if there is none.
 abbrev pub position_or_first : Option TextPos → TextPos
 position_or_first None = record { row = 1; col = 1 }
 position_or_first (Some p) = p
 
+-- The position of an error, or 1:1 if it has none.
 abbrev pub position_of : Error → TextPos
 position_of e = position_or_first (kept_position e)

@@ -14,11 +14,11 @@ use Rattle.rox_error.specs.declared.position.TextPos.{TextPos}
 use Rattle.rox_error.specs.declared.error.Error.{Error}
 use Rattle.rox_error.specs.declared.error.Error.TheVariants as error
 
--- the position of a place in a source
+-- The row and the column of the offset `i` of a source.
 abbrev pub position_at : List ℕ → ℕ → TextPos
 position_at src i = record { row = row_of src i; col = col_of src i }
 
--- what was due, in words
+-- The words for what is required.
 abbrev pub due_text : Due → List ℕ
 due_text due.Space = codes "a whitespace"
 due_text due.Quote = codes "a quote"
@@ -26,20 +26,20 @@ due_text due.SubsetOrEnd = codes "'[' or '>'"
 due_text due.End = codes "'>'"
 due_text due.EntityDefinition = codes "a quote, SYSTEM or PUBLIC"
 
--- the name is the text of the span
+-- If the span is a slice of text, the name is that slice.
 abbrev pub Names : List ℕ → Span → String Global → Type 0
 Names src span name = IsTextSpan src span → string_bytes name ≡ slice_range src span.start span.end
 
--- an error with a name, for which there may be no memory
+-- The error is `kind` of the name, or `OutOfMemory` because there is no memory for the name.
 abbrev pub IsErrorWithName : List ℕ → Span → (String Global → Error) → Error → Type 0
 IsErrorWithName src span kind e = ((n : String Global) × Names src span n × (e ≡ kind n)) ⊎ (e ≡ error.OutOfMemory)
 
--- the same with two names
+-- Like `IsErrorWithName`, but with two names.
 abbrev pub IsErrorWithNames : List ℕ → Span → Span → (String Global → String Global → Error) → Error → Type 0
 IsErrorWithNames src one other kind e = ((n : String Global) × (m : String Global) × Names src one n × Names src other m × (e ≡ kind n m)) ⊎ (e ≡ error.OutOfMemory)
 
--- The error is the one that the fault of the source becomes: its kind, its position and what it names. Only where it has a
--- name of the source can it be want of memory.
+-- The error that a fault of the source becomes: its kind, its position, and what it names. It may be `OutOfMemory` instead only
+-- if the fault names a text of the source.
 abbrev pub IsErrorOf : List ℕ → Fault → Error → Type 0
 IsErrorOf src (fault.InvalidXmlPrefixUri at) e = e ≡ error.InvalidXmlPrefixUri (position_at src at)
 IsErrorOf src (fault.UnexpectedXmlUri at) e = e ≡ error.UnexpectedXmlUri (position_at src at)

@@ -4,8 +4,8 @@ use Rattle.rox_error.specs.Messages.{message_start}
 use Rattle.rox_error.specs.declared.error.Error.{Error}
 use Rattle.rox_error.specs.declared.error.Error.TheVariants as error
 
--- The text is what the message begins with, up to the position. Of the nine kinds that have a name, a character or a text of their
--- own there it may be any text: their messages are written by other functions.
+-- The text is the start of the error's message, up to the position. It may be any text for the nine kinds whose message has a
+-- name, a character or a text there: other functions write those messages.
 abbrev pub IsFixedStart : Error → List ℕ → Type 0
 IsFixedStart (error.DuplicatedNamespace n p) text = ⊤
 IsFixedStart (error.UnknownNamespace n p) text = ⊤

@@ -1,4 +1,4 @@
--- What a position and an error print.
+-- The texts that a position and an error print.
 use Rattle.std.specs.Prelude.{ℕ, List, [], ◌++◌, Option, Some, None, codes, if◌then◌else◌, ◌==◌, decimal, string_bytes, encode_utf8}
 use Rattle.std.specs.Fmt.{◌++?◌, debug_char}
 use Rattle.rox_error.specs.ErrorPositions.{kept_position}
@@ -6,21 +6,22 @@ use Rattle.rox_error.specs.declared.position.TextPos.{TextPos}
 use Rattle.rox_error.specs.declared.error.Error.{Error}
 use Rattle.rox_error.specs.declared.error.Error.TheVariants as error
 
--- its row, a colon and its column
+-- The row, a colon and the column.
 abbrev pub position_text : TextPos → List ℕ
 position_text p = decimal p.row ++ (codes ":" ++ decimal p.col)
 
--- the position in a message, if there is one
+-- The position in a message, or nothing if there is none.
 abbrev pub place_text : Option TextPos → List ℕ
 place_text None = []
 place_text (Some p) = codes " at " ++ position_text p
 
--- A character in quotes, as its debug form has it. XML 1.0 2.2 [2]: past ASCII, U+FFFE and U+FFFF alone are no Char.
+-- A character in quotes, as its debug form has it. XML 2.2 [2]: of the characters past ASCII only U+FFFE and U+FFFF are not
+-- Chars, so their forms are given here.
 abbrev pub quoted : ℕ → Option (List ℕ)
 quoted c = if c == 65534 then Some (codes "'\\u{fffe}'") else if c == 65535 then Some (codes "'\\u{ffff}'") else debug_char c
 
--- The message of an error up to where the position comes. It is a text for each error that a parse answers; for `NonXmlChar`, of
--- each character that is no Char.
+-- The message of an error before its position. It is `Some` for each error that parsing returns. For `NonXmlChar` it is `Some`
+-- for each character that is not a Char.
 unfoldable pub message_start : Error → Option (List ℕ)
 message_start (error.InvalidXmlPrefixUri p) = Some (codes "'xml' namespace prefix mapped to wrong URI")
 message_start (error.UnexpectedXmlUri p) = Some (codes "the 'xml' namespace URI is used for not 'xml' prefix")
@@ -55,7 +56,7 @@ message_start (error.UnknownToken p) = Some (codes "unknown token")
 message_start error.UnexpectedEndOfStream = Some (codes "unexpected end of stream")
 message_start error.OutOfMemory = Some (codes "out of memory")
 
--- the message of an error from the position on
+-- The message of an error after its position.
 unfoldable pub message_end : Error → List ℕ
 message_end (error.UnexpectedXmlnsUri p) = codes ", but it must not be declared"
 message_end (error.InvalidElementNamePrefix p) = codes ", but it must not be"
@@ -66,10 +67,10 @@ message_end (error.InvalidComment p) = codes " contains '--'"
 message_end (error.InvalidCharacterData p) = codes " is not allowed inside a character data"
 message_end other = []
 
--- the message of an error
+-- The message of an error, without its position.
 abbrev pub message : Error → Option (List ℕ)
 message e = message_start e ++? Some (message_end e)
 
--- the message of an error, with its position if it keeps one
+-- The message of an error, with its position if it has one.
 abbrev pub message_with_position : Error → Option (List ℕ)
 message_with_position e = message_start e ++? (Some (place_text (kept_position e)) ++? Some (message_end e))
