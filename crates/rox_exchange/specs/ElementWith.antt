@@ -11,18 +11,20 @@ use Rattle.rox_grammar.specs.Exchange.{Move, moved, shifted, subtree, start_at, 
 use Rattle.rox_exchange.specs.Local.{moved_items}
 
 mutual
-  -- An element from `i` up to `j`, in which an element is from `s` up to `e`.
+  -- An element from `i` up to `j` that is, or contains, an element from `s` up to `e`. Its items have `hole` in the place of that
+  -- element.
   pub data ElementWith (src : List ℕ) (s e : ℕ) (hole : Forest Item) : ℕ → ℕ → Forest Item → Type 0 where
     here : ElementWith src s e hole s e hole
     inside : (i j m p k : ℕ) (t : Tag) (kids : Forest Item) → IsTag true no_entities src i j 255 255 false t → ContentWith src s e hole j m kids → IsEnd src m t.name p k
         → ElementWith src s e hole i k (Cons (Element i k t) (merge kids) Nil)
 
-  -- Content that contains it: content before it, an element with it, and content after it.
+  -- Content that contains such an element: content before it, the element, and content after it.
   pub data ContentWith (src : List ℕ) (s e : ℕ) (hole : Forest Item) : ℕ → ℕ → Forest Item → Type 0 where
     between : (i j k l : ℕ) (before one after : Forest Item) → Content true no_entities src i j 255 255 before → ElementWith src s e hole j k one → Content true no_entities src k l 255 255 after
         → ContentWith src s e hole i l (join before (join one after))
 
--- The row with these in the place of the element that starts at `s`. What is after it moves, and its ancestors grow.
+-- The siblings with `one` in the place of the element that starts at `s`. What follows it is moved, and so are the ends of its
+-- ancestors.
 abbrev pub exchanged_items : Move → Forest Item → ℕ → Forest Item → Forest Item
 exchanged_items m one s Nil = Nil
 exchanged_items m one s (Cons (Element a z t) children rest) =
@@ -33,15 +35,17 @@ exchanged_items m one s (Cons (Text a z v borrowed) children rest) = Cons (Text 
 exchanged_items m one s (Cons (Comment a z v) children rest) = Cons (Comment a z v) children (exchanged_items m one s rest)
 exchanged_items m one s (Cons (PI a z v o) children rest) = Cons (PI a z v o) children (exchanged_items m one s rest)
 
--- ---- what is proved
+-- ---- What is proved.
 
--- The slice of a self-contained node is a document, whatever the limits are. Its tree is that node only, moved to the start.
+-- The slice of a self-contained node is a document, whatever the limits are. Its tree is a root node with that node, moved to the
+-- start of the text.
 abbrev pub Reparses : List ℕ → Forest Node → ℕ → Type 0
 Reparses text tree id = IsUtf8 text → HasTree text tree → self_contained tree id ≡ true
     → HasTree (slice text (start_at tree id) (end_at tree id))
     (Cons (Root (end_at tree id - start_at tree id)) (shifted (record { add = 0; sub = start_at tree id }) (subtree tree id)) Nil)
 
--- A self-contained node of another document may replace a self-contained node.
+-- A self-contained node may be replaced by a self-contained node of another document. The new text is a document, and its tree is
+-- the exchanged one.
 abbrev pub Exchanges : List ℕ → Forest Node → ℕ → List ℕ → Forest Node → ℕ → Type 0
 Exchanges text tree id other_text other at = IsUtf8 text → HasTree text tree → self_contained tree id ≡ true
     → IsUtf8 other_text → HasTree other_text other → self_contained other at ≡ true

@@ -1,21 +1,21 @@
--- Two sources that agree from a place on, or up to a place; and items moved to another place.
+-- Two sources that agree from an offset on, or up to an offset, and items that are moved.
 use Rattle.std.specs.Prelude.{◌≡◌, ℕ, ◌+◌, ◌≤◌, List, map, length, take, drop, IsUtf8}
 use Rattle.rox_grammar.specs.Forest.{Forest, Nil, Cons}
 use Rattle.rox_grammar.specs.Written.{Attribute, Tag, Item, Element, Text, Comment, PI}
 use Rattle.rox_grammar.specs.Exchange.{Move, moved}
 
--- From `i` on `src` continues as `to` does from `k` on, and `i` moves to `k`.
+-- The rest of `src` from `i` on is the rest of `to` from `k` on, and the move takes `i` to `k`.
 pub record Follows (m : Move) (src : List ℕ) (i : ℕ) (to : List ℕ) (k : ℕ) : Type 0 where
   pub same : drop i src ≡ drop k to
   pub at : k + m.sub ≡ i + m.add
 
--- Up to this place both are one text, in UTF-8.
+-- The first `m` bytes of both sources are equal, and are UTF-8.
 pub record Fronts (src to : List ℕ) (m : ℕ) : Type 0 where
   pub same : take m src ≡ take m to
   pub inside : m ≤ length src
   pub utf8 : IsUtf8 (take m src)
 
--- ---- items as they are written, moved
+-- ---- Items as they are written, moved.
 
 abbrev pub moved_written : Move → Attribute → Attribute
 moved_written m a = record {

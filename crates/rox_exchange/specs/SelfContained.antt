@@ -5,7 +5,7 @@ use Rattle.rox_grammar.specs.Written.{Item, Element, Text, Comment, PI}
 use Rattle.rox_grammar.specs.Tree.{listed}
 use Rattle.rox_grammar.specs.Exchange.{none_of}
 
--- No ancestor of the element at `s` lists a namespace, in a row whose parent lists none.
+-- Whether no ancestor of the element that starts at `s` lists a namespace, in a row of siblings whose parent lists none.
 abbrev pub is_contained : ℕ → Forest Item → Bool
 is_contained s Nil = true
 is_contained s (Cons (Element a z t) children rest) =
