@@ -5,23 +5,23 @@ use Rattle.rox_reading.specs.Refusals.{Refusal, here, there, refused}
 use Rattle.rox_reading.specs.Doctype.{Reply, Asks, Dtd, replies_of, subset}
 use Rattle.rox_reading.specs.Stopping.{Stops}
 
--- `d` with these replies left.
+-- The state `d` with these replies left.
 abbrev pub left_with : List Reply → Dtd → Dtd
 left_with replies d = record { state = d.state; entities = d.entities; replies = replies }
 
--- `r` after these were asked.
+-- The result `r` of a reading after these requests were made.
 abbrev pub having_asked : {A : Type 0} → List Asked → Asks A → Asks A
 having_asked asked r = (asked ++ r.0, r.1)
 
--- The reading asks these and gives `d`. The replies after their answers are left.
+-- The reading makes these requests and gives `d`. The replies after those to the requests are left.
 abbrev pub Answered : (run : List Reply → Asks Dtd) → List Asked → Dtd → Type 0
 Answered run asked d = (more : List Reply) → run (replies_of asked ++ more) ≡ (asked, Ok (left_with more d))
 
--- The reading asks these and gives `x`, which has no replies.
+-- The reading makes these requests and gives `x`, which has no replies.
 abbrev pub Yields : {A : Type 0} → (run : List Reply → Asks A) → List Asked → A → Type 0
 Yields run asked x = (more : List Reply) → run (replies_of asked ++ more) ≡ (asked, Ok x)
 
--- `e` says what is wrong with the text: it is not the resolver's own refusal.
+-- The refusal says what is wrong with the text: it is not the resolver's own.
 abbrev pub IsTextRefusal : Refusal → Type 0
 IsTextRefusal (here f) = Unit {0}
 IsTextRefusal (there source f) = Unit {0}
@@ -36,6 +36,7 @@ abbrev pub SettledWhole : {A : Type 0} → (run : List Reply → Asks A) → Ask
 SettledWhole run (asked, Ok x) = Yields run asked x
 SettledWhole run (asked, Err e) = Stops run asked e
 
--- The items of the declaration that starts at `i`: these are asked, and then at most `n` more items are read, from `d` on.
+-- The items of the declaration that starts at `i`: these requests are made, and then at most `n` more items are read, from the
+-- state `d` on.
 abbrev pub Continues : (run : List Reply → Asks Dtd) → List Asked → (limit i n : ℕ) → List ℕ → Dtd → Type 0
 Continues run asked limit i n src d = (more : List Reply) → run (replies_of asked ++ more) ≡ having_asked asked (subset limit i n src (left_with more d))

@@ -1,4 +1,5 @@
--- Reading of a document type declaration. The resolver gives the replies, in order. After the last one it answers nothing.
+-- Reading of a document type declaration. The resolver gives the replies, in order. After the last reply, each request gets no
+-- text.
 use Prim.Native.Char.{code}
 use Rattle.std.specs.Prelude.{ℕ, zero, suc, ◌+◌, ◌==◌, ◌||◌, Bool, true, false, List, [], ◌∷◌, ◌++◌, Option, Some, None, Result, Ok, Err, length, take, drop, slice_index, slice_range, nat_lt, nat_le, if◌then◌else◌, IsUtf8}
 use Rattle.rox_grammar.specs.declared.fault.Fault.TheVariants as fault
@@ -17,23 +18,23 @@ use Rattle.rox_reading.specs.Refusals.{Refusal, here, refused, lifted, elsewhere
 use Rattle.rox_reading.specs.State.{State}
 use Rattle.rox_reading.specs.Machine.{comment_step, instruction_step, at_place}
 
--- The answers, as replies.
+-- The answers to these requests, as replies.
 abbrev pub replies_of : List Asked → List Reply
 replies_of [] = []
 replies_of (a ∷ as') = Ok a.answer ∷ replies_of as'
 
--- A text that is answered is in UTF-8.
+-- If the reply is a text, it is in UTF-8.
 abbrev pub IsTextReply : Reply → Type 0
 IsTextReply (Ok None) = Unit {0}
 IsTextReply (Ok (Some text)) = IsUtf8 text
 IsTextReply (Err message) = Unit {0}
 
--- Each reply has this property.
+-- Each reply that is a text is in UTF-8.
 abbrev pub AreTextReplies : List Reply → Type 0
 AreTextReplies [] = Unit {0}
 AreTextReplies (r ∷ rs) = IsTextReply r × AreTextReplies rs
 
--- What is asked, and the result.
+-- The requests that a reading makes, and its result.
 abbrev pub Asks : Type 0 → Type 0
 Asks A = List Asked × Result A Refusal
 
@@ -41,14 +42,14 @@ abbrev pub asks_nothing : {A : Type 0} → Result A Refusal → Asks A
 asks_nothing r = ([], r)
 
 infixl 10 ◌>>>◌
--- One reading after another.
+-- Continues with a second reading, whose requests follow those of the first. A refusal of the first ends both.
 abbrev pub ◌>>>◌ : {A B : Type 0} → Asks A → (A → Asks B) → Asks B
 (asked, Ok x) >>> f = (let rest = f x in (asked ++ rest.0, rest.1))
 (asked, Err e) >>> f = (asked, Err e)
 
--- ---- what asks nothing
+-- ---- Readings that make no request.
 
--- Reads any bytes but the quote, in quotes.
+-- Reads a text in quotes, which may have any bytes except the quote.
 unfoldable pub quoted_at : List ℕ → ℕ → Read (List ℕ)
 quoted_at src i =
     quote_at src i >>= λ quote. (let e = byte_from (λ c. c == quote.0) src quote.1 in byte_at quote.0 src e >>= λ x. Ok (slice_range src quote.1 e, x.1))
@@ -61,18 +62,18 @@ public_at src i =
     space_at src (i + 6) >>= λ p. quoted_at src p.1 >>= λ id. space_at src id.1 >>= λ s. quoted_at src s.1 >>= λ uri.
     Ok (record { public_id = Some id.0; uri = uri.0 }, uri.1)
 
--- Reads an external id from `SYSTEM` or `PUBLIC` on.
+-- Reads an external identifier from `SYSTEM` or `PUBLIC` on.
 unfoldable pub external_id_at : List ℕ → ℕ → Read Request
 external_id_at src i =
     if at word.System src i then system_at src i
     else if at word.Public src i then public_at src i
     else Err (fault.InvalidExternalID i)
 
--- Reads a name. At the end of the source nothing is refused.
+-- Reads a name, or nothing at the end of the source.
 unfoldable pub name_or_end_at : List ℕ → ℕ → Read (List ℕ)
 name_or_end_at src i = if nat_le (length src) i then Ok ([], i) else name_at src i
 
--- Reads up to where a resolver is asked: after a general entity's white space.
+-- Reads up to where the request for an entity is made. For a general entity, that is after its notation, or after white space.
 unfoldable pub notation_at : (parameter : Bool) → List ℕ → ℕ → Read (Unit {0})
 notation_at parameter src i =
     if parameter then Ok (tt, i)
@@ -83,7 +84,7 @@ pub data Definition : Type 0 where
   inner : Replacement → Definition
   outer : Request → Definition
 
--- A definition: a replacement text, or what is asked for it.
+-- Reads a definition: a replacement text, or the request for it.
 unfoldable pub definition_at : (parameter : Bool) → List ℕ → ℕ → Read Definition
 definition_at parameter src i =
     if nat_le (length src) i then Err fault.UnexpectedEndOfStream
@@ -112,7 +113,7 @@ answer_text (Some t) =
     elsewhere t (lifted (if at word.XmlDeclStart t (after_bom t) then xml_decl_at t (after_bom t) else Ok (tt, after_bom t))) >>= λ x.
     Ok (Some (record { source = drop x.1 t; start = 0 }))
 
--- ---- what asks
+-- ---- Readings that make requests.
 
 -- The state within the declaration: the nodes, the entities, and the replies that are left.
 pub record Dtd : Type 0 where
@@ -179,7 +180,7 @@ subset limit i (suc n) src d =
     else if slice_index src s.at == code "]" then subset_end src (with_state d s)
     else ([], Err (here (fault.UnknownToken s.at))))
 
--- Reads an external id, if there is one.
+-- Reads an external identifier, if there is one.
 unfoldable pub external_id_if : List ℕ → ℕ → Read (Unit {0})
 external_id_if src i =
     if at word.System src i || at word.Public src i then (external_id_at src i >>= λ x. Ok (tt, x.1)) else Ok (tt, i)

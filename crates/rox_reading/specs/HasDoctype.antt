@@ -11,7 +11,7 @@ use Rattle.rox_reading.specs.Lexical.{◌>>=◌}
 use Rattle.rox_reading.specs.State.{State}
 use Rattle.rox_reading.specs.WholeText.{misc, prolog}
 
--- Whether a document type declaration starts after what is read.
+-- Whether a document type declaration starts at the offset of the state.
 abbrev pub begins_doctype : List ℕ → Result State Fault → Bool
 begins_doctype src (Ok s) = at word.DoctypeStart src s.at
 begins_doctype src (Err f) = false

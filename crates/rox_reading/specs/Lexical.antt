@@ -1,4 +1,4 @@
--- What each small step reads at a place of a source: a value and the next place, or the first fault.
+-- What each small step reads at an offset of a source: a value and the next offset, or the first fault.
 use Prim.Native.Char.{code}
 use Rattle.std.specs.Prelude.{ℕ, ◌+◌, ◌==◌, ◌||◌, ◌&&◌, not, Bool, List, [], Result, Ok, Err, length, take, drop, slice_index, slice_range, nat_lt, nat_le, if◌then◌else◌}
 use Rattle.std.specs.Str.{chars}
@@ -17,7 +17,7 @@ use Rattle.rox_grammar.specs.Names.{spaces_end}
 abbrev pub has_mark : List ℕ → List ℕ → Bool
 has_mark mark text = nat_lt (before_mark mark text) (length text)
 
--- A value and the next place.
+-- A value and the next offset, or a fault.
 abbrev pub Read : Type 0 → Type 0
 Read A = Result (A × ℕ) Fault
 
@@ -47,13 +47,13 @@ quote_at src i =
     else if slice_index src i == code "'" || slice_index src i == code "\"" then Ok (slice_index src i, i + 1)
     else Err (InvalidChar2 Quote (slice_index src i) i)
 
--- Reads the longest Name.
+-- Reads the longest Name from `i` on.
 unfoldable pub name_at : List ℕ → ℕ → Read (List ℕ)
 name_at src i =
     if begins is_name_start src i then Ok (slice_range src i (run_end is_name_char src i), run_end is_name_char src i)
     else Err (InvalidName i)
 
--- Reads the fixed text.
+-- Reads a fixed text.
 unfoldable pub string_at : Expected → List ℕ → ℕ → Read (Unit {0})
 string_at w src i =
     if stands (expected_text w) src i then Ok (tt, i + length (expected_text w))
@@ -66,7 +66,7 @@ chars_up_to end src i =
     if nat_lt ill end then Err (NonXmlChar (slice_index (chars (drop ill src)) 0) ill)
     else Ok (slice_range src i end, end)
 
--- Reads the text up to a mark, and the mark.
+-- Reads the text up to the first mark, and the mark.
 unfoldable pub text_to : Expected → List ℕ → ℕ → Read (List ℕ)
 text_to w src i = do
   text ← chars_up_to (mark_from (expected_text w) src i) src i
@@ -81,7 +81,7 @@ part_end src i = run_end is_part_char src i
 abbrev pub is_colon : List ℕ → ℕ → Bool
 is_colon src i = slice_index src i == code ":"
 
--- Reads the longest run of NameChars, split at its colon. There is at most one, and only the prefix may be empty.
+-- Reads the longest run of NameChars, split at its colon. There is at most one colon, and only the prefix may be empty.
 unfoldable pub qname_at : List ℕ → ℕ → Read Name
 qname_at src i =
     let k = part_end src i in

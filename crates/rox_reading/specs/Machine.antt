@@ -1,5 +1,5 @@
--- Reading of content, one construct a step. A replacement text is read as content by its own steps, over its own source, which add
--- to the items and open elements of the text around it. It is read to its end, where as many elements must be open as at its start.
+-- Reading of content, one construct a step. A replacement text is read as content by steps of its own, over its own source. They
+-- add to the items and open elements of the text around it. At its end as many elements must be open as at its start.
 use Prim.Native.Char.{code}
 use Rattle.std.specs.Prelude.{ℕ, zero, suc, ◌+◌, ◌-◌, ◌==◌, not, Bool, true, false, List, [], ◌∷◌, Result, Ok, Err, length, slice_index, nat_lt, nat_le, bytes_eq, if◌then◌else◌}
 use Rattle.rox_grammar.specs.declared.fault.Fault.{Fault}
@@ -21,15 +21,15 @@ use Rattle.rox_reading.specs.Tags.{Values, tag_at}
 use Rattle.rox_grammar.specs.State.{Open, root, inside, is_root, scope_of, nodes_so_far, attributes_so_far, pairs_so_far}
 use Rattle.rox_reading.specs.State.{State, depth_of}
 
--- How a text is read: the limit, how values are read, how many elements are open around it, and how a replacement text is read,
--- with the place after its reference.
+-- How a text is read: the limit of nodes, how values are read, how many elements are open around the text, and how a replacement
+-- text is read, given the offset after its reference.
 pub record Context : Type 0 where
   pub limit : ℕ
   pub values : Values
   pub open_around : ℕ
   pub opener : Replacement → ℕ → State → Result State Refusal
 
--- The state, if its nodes are within the limit.
+-- The state, if its nodes are within the limit; otherwise the fault.
 abbrev pub counted : ℕ → State → Result State Fault
 counted limit s = if nat_le (nodes_so_far s.stack s.done) limit then Ok s else Err fault.NodesLimitReached
 
@@ -60,20 +60,20 @@ abbrev pub after_part : Context → (State → Result State Refusal) → ℕ →
 after_part context more stop s at_end = Ok (at_place stop s)
 after_part context more stop s (opening t j) = context.opener t j s >>= more
 
--- Reads the parts of the run from `start` up to `stop`, from the state's place on, at most `n`.
+-- Reads at most `n` parts of the run from `start` up to `stop`, from the offset of the state on.
 unfoldable pub data_parts : Context → ℕ → List ℕ → (start stop : ℕ) → State → Result State Refusal
 data_parts context zero src start stop s = Ok (at_place stop s)
 data_parts context (suc n) src start stop s =
     lifted (data_part context.values.main context.values.entities (stop - s.at) src stop s.at) >>= λ x.
     lifted (with_piece context.limit s start stop (part_text context.values.main x.0)) >>= λ t. after_part context (λ u. data_parts context n src start stop u) stop t x.1
 
--- Reads a run, which is a slice of the source if it has no `&` and no CR.
+-- Reads a run. Without `&` and CR it is one slice of the source.
 unfoldable pub character_data_step : Context → List ℕ → State → Result State Refusal
 character_data_step context src s =
     lifted (raw_character_data_at src s.at) >>= λ x.
     if is_verbatim x.0 then lifted (with_item context.limit s x.1 (Text s.at x.1 x.0 true)) else data_parts context (length src) src s.at x.1 s
 
--- The fault if a tag is cut off by the end of the text right after its name or an attribute.
+-- The fault if the text ends right after the name or an attribute of a tag.
 abbrev pub cut_off_fault : (main : Bool) → Open → Fault
 cut_off_fault true root = fault.NoRootNode
 cut_off_fault true (inside start tag before up) = fault.UnclosedRootNode
@@ -88,7 +88,7 @@ tag_step context src s =
     tag_at context.values (cut_off_fault context.values.main s.stack) (scope_of s.stack) (attributes_so_far s.stack s.done) (distinct_pairs (pairs_so_far s.stack s.done)) src s.at s.openings_left
     >>= λ x. lifted (opened_by context.limit s x.0.tag x.0.empty x.0.openings_left x.1)
 
--- The span of a name that ends at `n`, in a tag whose name starts at `i`: without the colon if there is no prefix.
+-- The span of a name that ends at `n`, in a tag whose name starts at `i`. Without a prefix it has no colon.
 abbrev pub name_span : Name → ℕ → ℕ → Span
 name_span name i n = if bytes_eq name.prefix [] then local_span name n else record { start = i; end = n }
 
@@ -99,7 +99,7 @@ closed_by i name n j done (inside start tag before up) openings_left =
     if same_qname tag.name name then Ok (record { at = j; done = join before (Cons (Element start j tag) (merge done) Nil); stack = up; openings_left = openings_left })
     else Err (fault.UnexpectedCloseTag (name_span tag.name (start + 1) tag.name_end) (name_span name (i + 2) n) i)
 
--- Reads an end tag, which closes no element that was open before the text.
+-- Reads an end tag. It may close only an element that the text itself opened.
 unfoldable pub end_step : Context → List ℕ → State → Result State Fault
 end_step context src s =
     end_tag_at src s.at >>= λ x.
@@ -135,20 +135,20 @@ unfoldable pub drive_text : Context → ℕ → List ℕ → State → Result St
 drive_text context zero src s = text_ends context s
 drive_text context (suc n) src s = if nat_lt s.at (length src) then (step context src s >>= λ t. drive_text context n src t) else text_ends context s
 
--- ---- what a reference opens
+-- ---- What a reference opens.
 
--- The openings inside a replacement text whose reference ends at `after`, if `openings_left` are left before it.
+-- The openings inside a replacement text whose reference ends at `after`, if `openings_left` are left before the reference.
 abbrev pub budget : (main : Bool) → (after openings_left : ℕ) → Result ℕ Fault
 budget true after openings_left = Ok most_within
 budget false after zero = Err (fault.EntityReferenceLoop after)
 budget false after (suc r) = Ok r
 
--- The openings that are left after the reference.
+-- The openings that are left after the reference. `before` are left before it, and `inner` at the end of its replacement text.
 abbrev pub left_behind : (main : Bool) → (before inner : ℕ) → ℕ
 left_behind true before inner = before
 left_behind false before inner = inner
 
--- Reads a replacement text as a part of a value, where `depth_left` may be opened inside one another.
+-- Reads a replacement text as a part of a value. At most `depth_left` replacement texts may be opened inside one another.
 unfoldable pub value_opener : List Entity → (depth_left : ℕ) → (main : Bool) → ValueInclusion
 value_opener es zero main t after openings_left = Err (here (fault.EntityReferenceLoop after))
 value_opener es (suc d) main t after openings_left =

@@ -55,7 +55,7 @@ pair_at src i = do
   value ← chars_up_to (byte_from (λ c. c == quote.0 || c == code "<") src quote.1) src quote.1
   byte_at quote.0 src value.1
 
--- Reads white space, or nothing before `?>` and at the end.
+-- Reads white space. Before `?>` and at the end of the source it may be empty.
 unfoldable pub gap_at : List ℕ → ℕ → Read (Unit {0})
 gap_at src i =
     if nat_le (length src) i then Ok (tt, i)
@@ -63,12 +63,12 @@ gap_at src i =
     else if stands (word_text word.PIEnd) src i then Ok (tt, i)
     else Err (InvalidChar2 Space (slice_index src i) i)
 
--- Reads a pair and the white space after it, if the word is here.
+-- Reads a pair and the white space after it, if the word is at `i`.
 unfoldable pub pair_if : Word → List ℕ → ℕ → Read (Unit {0})
 pair_if w src i =
     if stands (word_text w) src i then (pair_at src i >>= λ x. gap_at src x.1) else Ok (tt, i)
 
--- Reads a declaration from `<?xml` on.
+-- Reads an XML declaration from `<?xml` on.
 unfoldable pub xml_decl_at : List ℕ → ℕ → Read (Unit {0})
 xml_decl_at src i =
     if stands (word_text word.Version) src (spaces_end src (i + 5)) then
@@ -85,7 +85,7 @@ pub record RawAttribute : Type 0 where
   pub value_start : ℕ
   pub value_end : ℕ
 
--- Reads Chars up to the quote or `<`. One of the two must follow.
+-- Reads Chars up to the quote or a `<`. One of the two must follow.
 unfoldable pub raw_value_at : ℕ → List ℕ → ℕ → Read (List ℕ)
 raw_value_at quote src i =
     let end = byte_from (λ c. c == quote || c == code "<") src i in

@@ -17,7 +17,7 @@ use Rattle.rox_grammar.specs.Entities.{Entity}
 use Rattle.rox_reading.specs.Refusals.{Refusal, here, lifted}
 use Rattle.rox_reading.specs.Values.{ReadText, ValueInclusion, value_at}
 
--- What is read of a tag so far.
+-- The declarations and attributes of a tag that are read so far.
 pub record TagSoFar : Type 0 where
   pub own : List NamespaceDecl
   pub attributes : List Attribute
@@ -30,7 +30,7 @@ prefix_tested a =
     else if bytes_eq a.value xml_uri then Err (fault.UnexpectedXmlUri a.start)
     else Ok tt
 
--- Tests the URI of a declaration of the default.
+-- Tests the URI of a declaration of the default namespace.
 abbrev pub default_tested : Attribute → Result (Unit {0}) Fault
 default_tested a =
     if bytes_eq a.value xml_uri then Err (fault.UnexpectedXmlUri a.start)
@@ -40,7 +40,7 @@ default_tested a =
 abbrev pub uri_tested : Attribute → Result (Unit {0}) Fault
 uri_tested a = if bytes_eq a.name.prefix (word_text word.Xmlns) then prefix_tested a else default_tested a
 
--- Adds a declaration, where `known` are the pairs before the tag.
+-- Adds a declaration. `known` are the pairs before the tag.
 unfoldable pub declared : List NamespaceDecl → Attribute → TagSoFar → Result TagSoFar Fault
 declared known a h =
     uri_tested a >>= λ _.
@@ -48,7 +48,7 @@ declared known a h =
     else if nat_lt most_pairs (length (with_new known (listable_of (h.own ++ namespace_decl_of a ∷ [])))) then Err fault.NamespacesLimitReached
     else Ok (record { own = h.own ++ namespace_decl_of a ∷ []; attributes = h.attributes })
 
--- Adds an attribute as it is written.
+-- Adds an attribute as it is written, which may be a declaration.
 abbrev pub taken : List NamespaceDecl → Attribute → TagSoFar → Result TagSoFar Fault
 taken known a h =
     if is_namespace_decl a.name then declared known a h
@@ -59,14 +59,14 @@ abbrev pub attribute_with : RawAttribute → ReadText → Attribute
 attribute_with raw v =
     record { start = raw.start; name_end = raw.name_end; value_start = raw.value_start; end = raw.value_end + 1; name = raw.name; value = v.value; borrowed = v.borrowed }
 
--- How values are read: in the main text or in a replacement text, the entities, and how a replacement text is read as a part of a
--- value.
+-- How values are read: whether in the main text or in a replacement text, the entities, and how a replacement text is read as a
+-- part of a value.
 pub record Values : Type 0 where
   pub main : Bool
   pub entities : List Entity
   pub opener : ValueInclusion
 
--- What a tag contains, whether it is empty, and the openings that are left after it.
+-- The content of a tag, whether its element is empty, and the openings that are left after it.
 pub record TagRest : Type 0 where
   pub held : TagSoFar
   pub empty : Bool
@@ -80,15 +80,15 @@ after_tag_item next context known src openings_left h (more raw) j =
 after_tag_item next context known src openings_left h opened j = Ok (record { held = h; empty = false; openings_left = openings_left }, j)
 after_tag_item next context known src openings_left h closed j = Ok (record { held = h; empty = true; openings_left = openings_left }, j)
 
--- Reads attributes and declarations, at most `n`, and whether the tag is empty. `cut` is the fault if the source ends right after
--- its name or an attribute.
+-- Reads at most `n` attributes and declarations, and whether the element is empty. `cut` is the fault if the source ends right
+-- after the tag's name or an attribute.
 unfoldable pub attributes_at : ℕ → Values → Fault → List NamespaceDecl → List ℕ → ℕ → ℕ → TagSoFar → Result (TagRest × ℕ) Refusal
 attributes_at zero context cut known src i openings_left h = Err (here cut)
 attributes_at (suc n) context cut known src i openings_left h =
     if nat_le (length src) i then Err (here cut)
     else lifted (tag_item_at src i) >>= λ x. after_tag_item (λ j l held. attributes_at n context cut known src j l held) context known src openings_left h x.0 x.1
 
--- Tests that each prefix is known, and that no expanded name comes twice. `before` are those that are tested.
+-- Tests that each prefix is known, and that no two attributes have one expanded name. `before` are the attributes tested so far.
 unfoldable pub names_tested : List NamespaceDecl → List Attribute → List Attribute → Result (Unit {0}) Fault
 names_tested scope before [] = Ok tt
 names_tested scope before (a ∷ as') =
@@ -96,14 +96,14 @@ names_tested scope before (a ∷ as') =
     else if list_any (λ e. same_expanded scope e.name a.name) before then Err (fault.DuplicatedAttribute (local_span a.name a.name_end) a.start)
     else names_tested scope (before ++ a ∷ []) as'
 
--- Tests the names of a tag in this scope. Its own is at `at`, and `count` attributes are before the tag.
+-- Tests the names of a tag in this scope. The name of the tag is at `at`, and `count` attributes are before the tag.
 abbrev pub tested_at : List NamespaceDecl → (count at : ℕ) → Name → List Attribute → Result (Unit {0}) Fault
 tested_at scope count at name as' =
     if nat_lt most_attributes (count + length as') then Err fault.AttributesLimitReached
     else names_tested scope [] as' >>= λ _.
     if may_name scope name then Ok tt else Err (fault.UnknownNamespace (prefix_span name at) at)
 
--- Tests the names of a tag that starts at `i`, of an element that lists this scope.
+-- Tests the names of a tag that starts at `i`. Its element lists this scope.
 unfoldable pub tag_tested : List NamespaceDecl → ℕ → ℕ → Name → List Attribute → Result (Unit {0}) Fault
 tag_tested scope count i name as' = tested_at scope count (i + 1) name as'
 
@@ -112,7 +112,7 @@ pub record TagRead : Type 0 where
   pub empty : Bool
   pub openings_left : ℕ
 
--- Reads a start tag from `<` on. `above` is what its parent lists.
+-- Reads a start tag from `<` on. `above` are the namespaces that its parent lists.
 unfoldable pub tag_at : Values → Fault → List NamespaceDecl → ℕ → List NamespaceDecl → List ℕ → ℕ → ℕ → Result (TagRead × ℕ) Refusal
 tag_at context cut above count known src i openings_left =
     lifted (qname_at src (i + 1)) >>= λ name.

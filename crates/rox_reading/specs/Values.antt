@@ -1,4 +1,4 @@
--- References, and the texts that contain them.
+-- Readings of references, and of the texts that contain them.
 use Prim.Native.Char.{code}
 use Rattle.std.specs.Prelude.{ℕ, zero, suc, ◌+◌, ◌-◌, ◌^◌, ◌==◌, ◌||◌, Bool, true, false, List, [], ◌∷◌, ◌++◌, Option, Some, None, Result, Ok, Err, take, slice_range, slice_index, nat_lt, nat_le, if◌then◌else◌}
 use Rattle.std.specs.Char.{encode_utf8}
@@ -19,7 +19,7 @@ use Rattle.rox_reading.specs.Lexical.{has_mark, Read, ◌>>=◌, chars_up_to}
 -- A reference to a character, or to an entity.
 pub data Reference : Type 0 where
   character_of : ℕ → Reference
-  -- The span of its name.
+  -- The name is the text of this span.
   entity_at : Span → Reference
 
 -- Reads the digits from `d` on of the reference at `i`, and `;`.
@@ -52,7 +52,7 @@ reference_at src i =
     (if slice_index src (i + 2) == code "x" then number_at 16 is_hex_digit src i (i + 3) else number_at 10 is_digit src i (i + 2))
     else name_reference_at src i
 
--- Bytes that a text gives, or a replacement text that is opened.
+-- Bytes that are read, or a replacement text that is opened.
 pub data Bit : Type 0 where
   bytes_of : List ℕ → Bit
   opens : Replacement → Bit
@@ -61,7 +61,7 @@ abbrev pub entity_bit : Option Replacement → ℕ → Span → Result Bit Fault
 entity_bit None i span = Err (UnknownEntityReference span i)
 entity_bit (Some t) i span = Ok (opens t)
 
--- The meaning of a reference at `i`.
+-- The meaning of a reference that starts at `i`.
 abbrev pub reference_bit : List Entity → List ℕ → ℕ → Reference → Result Bit Fault
 reference_bit es src i (character_of c) = Ok (bytes_of (encode_utf8 c))
 reference_bit es src i (entity_at span) = entity_bit (text_of es (slice_range src span.start span.end)) i span
@@ -69,8 +69,8 @@ reference_bit es src i (entity_at span) = entity_bit (text_of es (slice_range sr
 unfoldable pub expansion_at : List Entity → List ℕ → ℕ → Read Bit
 expansion_at es src i = reference_at src i >>= λ r. reference_bit es src i r.0 >>= λ bit. Ok (bit, r.1)
 
--- Reads in a run: a reference, a line end, or all bytes up to the next `&` or CR. In a replacement text the whole part's line ends
--- are found later.
+-- Reads an item of a run: a reference, a line end, or all bytes up to the next `&` or CR. In a replacement text, line ends are
+-- replaced later, in the whole part.
 unfoldable pub data_bit_at : (main : Bool) → List Entity → List ℕ → ℕ → ℕ → Read Bit
 data_bit_at main es src stop i =
     if slice_index src i == code "&" then expansion_at es src i
@@ -79,7 +79,8 @@ data_bit_at main es src stop i =
     else (let j = byte_from (λ c. c == code "&" || c == code "\r") (take stop src) i in Ok (bytes_of (slice_range src i j), j)))
     else (let j = byte_from (λ c. c == code "&") (take stop src) i in Ok (bytes_of (slice_range src i j), j))
 
--- The end of a part of a run, or of a value: the end of all, or a replacement text, with the place after its reference.
+-- The end of a part of a run or of a value. It is the end of the whole, or a replacement text, with the offset after its
+-- reference.
 pub data Next : Type 0 where
   at_end : Next
   opening : Replacement → ℕ → Next
@@ -88,7 +89,7 @@ abbrev pub after_bit : (ℕ → Result (List ℕ × Next) Fault) → Bit → ℕ
 after_bit more (bytes_of bs) j = more j >>= λ rest. Ok (bs ++ rest.0, rest.1)
 after_bit more (opens t) j = Ok ([], opening t j)
 
--- Reads the part of a run from `i` on, at most `n` bits.
+-- Reads the part of a run from `i` on, in at most `n` items.
 unfoldable pub data_part : (main : Bool) → List Entity → ℕ → List ℕ → ℕ → ℕ → Result (List ℕ × Next) Fault
 data_part main es zero src stop i = Ok ([], at_end)
 data_part main es (suc n) src stop i =
@@ -99,7 +100,7 @@ abbrev pub part_text : (main : Bool) → List ℕ → List ℕ
 part_text true bs = bs
 part_text false bs = line_ends (literals bs)
 
--- Reads a run, up to the next `<` or the end, and tests it for Chars and `]]>`.
+-- Reads a run up to the next `<` or the end of the source. Tests that it has only Chars and no `]]>`.
 unfoldable pub raw_character_data_at : List ℕ → ℕ → Read (List ℕ)
 raw_character_data_at src i =
     let end = byte_from (λ c. c == code "<") src i in
@@ -108,14 +109,14 @@ raw_character_data_at src i =
 
 pub record ReadText : Type 0 where
   pub value : List ℕ
-  -- Whether it is a slice of the source.
+  -- Whether the value is a slice of the source.
   pub borrowed : Bool
 
 -- Whether the byte is `&`, or white space other than a space.
 abbrev pub is_special : ℕ → Bool
 is_special b = b == code "&" || (b == code "\t" || (b == code "\n" || b == code "\r"))
 
--- Tests a reference: in a replacement text its character is not `<`, and gives a space if it is white space.
+-- Tests a reference in a value. In a replacement text its character may not be `<`, and gives a space if it is white space.
 abbrev pub tested_bit : (main : Bool) → ℕ → Reference → Result Bit Fault → Result Bit Fault
 tested_bit true i r read = read
 tested_bit false i (character_of c) read = if c == code "<" then Err (InvalidAttributeValue i) else Ok (bytes_of (value_bytes false c))
@@ -124,15 +125,15 @@ tested_bit false i (entity_at span) read = read
 unfoldable pub value_reference_at : (main : Bool) → List Entity → List ℕ → ℕ → Read Bit
 value_reference_at main es src i = reference_at src i >>= λ r. tested_bit main i r.0 (reference_bit es src i r.0) >>= λ bit. Ok (bit, r.1)
 
--- Reads all bytes up to the next special one. In a replacement text a `<`, or a character that is not a Char, is a fault: the first
--- of them.
+-- Reads all bytes up to the next special one. In a replacement text the first `<`, or character that is not a Char, is a fault.
 abbrev pub stretch_at : (main : Bool) → List ℕ → ℕ → ℕ → Read Bit
 stretch_at true src stop i = (let j = byte_from is_special (take stop src) i in Ok (bytes_of (slice_range src i j), j))
 stretch_at false src stop i =
     (let j = byte_from (λ b. is_special b || b == code "<") (take stop src) i in
     chars_up_to j src i >>= λ x. if slice_index (take stop src) j == code "<" then Err (InvalidAttributeValue j) else Ok (bytes_of x.0, j))
 
--- Reads in a value: a reference, white space, or all bytes up to the next special one. A CR right before a LF gives nothing.
+-- Reads an item of a value: a reference, white space, or all bytes up to the next special one. A CR right before a LF gives
+-- nothing.
 unfoldable pub value_bit_at : (main : Bool) → List Entity → List ℕ → ℕ → ℕ → Read Bit
 value_bit_at main es src stop i =
     if slice_index src i == code "&" then value_reference_at main es src i
@@ -141,7 +142,7 @@ value_bit_at main es src stop i =
     else Ok (bytes_of (code " " ∷ []), i + 1))
     else stretch_at main src stop i
 
--- How a replacement text is read as a part of a value: the text, the place after its reference, and the openings that are left.
+-- How a replacement text is read as a part of a value, given the offset after its reference and the openings that are left.
 abbrev pub ValueInclusion : Type 0
 ValueInclusion = Replacement → ℕ → ℕ → Result (List ℕ × ℕ) Refusal
 
@@ -149,7 +150,7 @@ abbrev pub after_value_bit : ValueInclusion → (ℕ → ℕ → Result (List �
 after_value_bit opener more openings_left (bytes_of bs) j = more j openings_left >>= λ rest. Ok (bs ++ rest.0, rest.1)
 after_value_bit opener more openings_left (opens t) j = opener t j openings_left >>= λ x. more j x.1 >>= λ rest. Ok (x.0 ++ rest.0, rest.1)
 
--- Reads the value's bytes from `i` up to `stop`, at most `n` bits: what they give, and the openings that are left.
+-- Reads the value from `i` up to `stop`, in at most `n` items: the bytes that they give, and the openings that are left.
 unfoldable pub value_text : (main : Bool) → List Entity → ValueInclusion → ℕ → List ℕ → ℕ → ℕ → ℕ → Result (List ℕ × ℕ) Refusal
 value_text main es opener zero src stop i openings_left = Ok ([], openings_left)
 value_text main es opener (suc n) src stop i openings_left =

@@ -27,24 +27,24 @@ misc limit (suc n) src s =
     else if at word.PIStart src t.at then (instruction_step limit src t >>= λ u. misc limit n src u)
     else Ok t
 
--- Reads the root element, if `<` is here, and what follows it.
+-- Reads the root element, if `<` is at the offset of the state, and what follows it.
 unfoldable pub body : ℕ → List Entity → List ℕ → State → Result (State × Bool) Refusal
 body limit es src s =
     if slice_index src s.at == code "<" then
     (tag_step (main_text limit es) src s >>= λ t. drive (main_text limit es) (length src) src t >>= λ u. lifted (misc limit (length src) src u) >>= λ v. Ok (v, true))
     else Ok (s, false)
 
--- Nothing is left, and there is an element.
+-- The top items, if the whole text is read and there is an element.
 unfoldable pub finished : List ℕ → State × Bool → Result (Forest Item) Fault
 finished src (s, some) =
     if nat_lt s.at (length src) then Err (fault.UnknownToken s.at)
     else if some then Ok s.done else Err fault.NoRootNode
 
--- Reads the declaration, if it is here.
+-- Reads the XML declaration, if it is at `i`.
 unfoldable pub prolog : List ℕ → ℕ → Result ℕ Fault
 prolog src i = if at word.XmlDeclStart src i then (xml_decl_at src i >>= λ x. Ok x.1) else Ok i
 
--- Reads the document type declaration, if it is here, and what follows it.
+-- Reads the document type declaration, if it is at the offset of the state, and what follows it.
 unfoldable pub doctype : ℕ → (allow : Bool) → List ℕ → Dtd → Asks Dtd
 doctype limit allow src d =
     if at word.DoctypeStart src d.state.at then
@@ -52,7 +52,7 @@ doctype limit allow src d =
     else ([], Err (here fault.DtdDetected)))
     else ([], Ok d)
 
--- Reads a whole text: what is asked, and its top items, or why it is refused.
+-- Reads a whole text: the requests that it makes, and its top items, or why it is refused.
 unfoldable pub reading : ℕ → (allow : Bool) → List Reply → List ℕ → Asks (Forest Item)
 reading limit allow replies src =
     asks_nothing (lifted (prolog src (after_bom src))) >>> λ i.
