@@ -1,4 +1,4 @@
--- The size and the number of a text's items, compared with the text.
+-- The size and the number of the items of a text, compared with the text.
 use Prim.Native.Char.{code}
 use Rattle.std.specs.Prelude.{ℕ, ◌+◌, ◌*◌, ◌≤◌, ◌==◌, List, [], ◌∷◌, length, count_by}
 use Rattle.rox_grammar.specs.Forest.{Forest, Nil, Cons, size}
@@ -21,12 +21,12 @@ abbrev pub bytes_in : Forest Item → ℕ
 bytes_in Nil = 0
 bytes_in (Cons item children rest) = own_bytes item + (bytes_in children + bytes_in rest)
 
--- The bytes of the text, and for each `&` in it the bytes of the longest replacement text, as many times as one reference may open
--- a text.
+-- The bytes of the text, and for each `&` in it the bytes of the longest replacement text, as many times as one reference may
+-- open one.
 abbrev pub most_bytes : List ℕ → List Entity → ℕ
 most_bytes src es = length src + (most_within + 1) * count_by (λ b. b == code "&") src * longest es
 
--- The tree is at most as large.
+-- The values of the tree have at most `most_bytes` bytes together. Its nodes and attributes are at most as many together.
 pub record IsBounded (src : List ℕ) (es : List Entity) (tree : Forest Item) : Type 0 where
   pub bytes : bytes_in tree ≤ most_bytes src es
   pub nodes : size tree + attribute_count tree ≤ most_bytes src es

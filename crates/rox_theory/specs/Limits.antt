@@ -3,6 +3,6 @@ use Rattle.std.specs.Prelude.{◌≡◌, ◌⊎◌}
 use Rattle.rox_grammar.specs.declared.fault.Fault.{Fault}
 use Rattle.rox_grammar.specs.declared.fault.Fault.TheVariants as fault
 
--- Too many nodes, attributes, or pairs of a prefix and a URI.
+-- The fault is that of a limit: too many nodes, attributes, or pairs of a prefix and a URI.
 abbrev pub IsLimit : Fault → Type 0
 IsLimit f = (f ≡ fault.NodesLimitReached) ⊎ ((f ≡ fault.AttributesLimitReached) ⊎ (f ≡ fault.NamespacesLimitReached))

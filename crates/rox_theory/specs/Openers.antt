@@ -11,7 +11,7 @@ use Rattle.rox_reading.specs.State.{State}
 use Rattle.rox_reading.specs.Values.{ValueInclusion}
 use Rattle.rox_theory.specs.ValidState.{IsValidState, state}
 
--- `<` or a quote, which ends a run or a value.
+-- The byte is `<` or a quote: it ends a run or a value.
 abbrev pub IsStop : ℕ → Type 0
 IsStop b = (b ≡ code "<") ⊎ ((b ≡ code "'") ⊎ (b ≡ code "\""))
 
@@ -19,13 +19,13 @@ IsStop b = (b ≡ code "<") ⊎ ((b ≡ code "'") ⊎ (b ≡ code "\""))
 abbrev pub AreTexts : List Entity → Type 0
 AreTexts es = (name : List ℕ) (t : Replacement) → text_of es name ≡ Some t → IsUtf8 t.source × IsCharBoundary t.source t.start
 
--- A replacement text as a part of a value. The place after the reference matters only for a fault.
+-- In values, the opener reads replacement texts as `O` says. The offset after the reference matters only for a fault.
 pub record AgreesValue (es : List Entity) (O : Inclusion) (opener : ValueInclusion) : Type 0 where
   pub sound : (name : List ℕ) (t : Replacement) (after b c : ℕ) (w : List ℕ) → text_of es name ≡ Some t → opener t after b ≡ Ok (w, c) → O.value name b w c
   pub complete : (name : List ℕ) (after b c : ℕ) (w : List ℕ) → O.value name b w c → (t : Replacement) × (text_of es name ≡ Some t) × (opener t after b ≡ Ok (w, c))
 
--- What a reference opens in content, over the state of the text around it. The place after the reference matters only for a fault
--- and for where reading continues. The place of the state does not matter.
+-- In content, the opener reads replacement texts as `O` says, over the state of the text around the reference. The offset after
+-- the reference matters only for a fault and for where reading continues. The offset of the state does not matter.
 pub record AgreesContent (es : List Entity) (limit : ℕ) (O : Inclusion) (opener : Replacement → ℕ → State → Result State Refusal) : Type 0 where
   pub sound : (most : ℕ) (name : List ℕ) (t : Replacement) (after : ℕ) (s u : State) → limit ≤ most → text_of es name ≡ Some t → IsValidState most s → opener t after s ≡ Ok u
       → (items : Forest Item) × (c : ℕ) × O.content name s.openings_left items c × (u ≡ state after (join s.done items) s.stack c) × IsValidState most u

@@ -1,4 +1,4 @@
--- A parse in more parts: what is before the root element has one form with and without a document type declaration.
+-- A parse in more parts: a prolog has one form with and without a document type declaration.
 use Rattle.std.specs.Prelude.{◌≡◌, ℕ, Bool, true, false, List, [], length}
 use Rattle.rox_grammar.specs.Forest.{Forest, Nil, join}
 use Rattle.rox_grammar.specs.Written.{Item}
@@ -8,14 +8,14 @@ use Rattle.rox_grammar.specs.Entities.{Entity, most_within, included_in_main}
 use Rattle.rox_grammar.specs.Doctype.{Asked, IsDoctype}
 use Rattle.rox_grammar.specs.Document.{Misc, PrologTo}
 
--- A document type declaration with what follows it, or nothing: whether there is one, its nodes, what is asked for its entities,
+-- A document type declaration with what follows it, or nothing: whether there is one, its nodes, the requests for its entities,
 -- and the entities.
 pub data MayHaveDoctype (src : List ℕ) : ℕ → ℕ → Bool → Forest Item → List Asked → List Entity → Type 0 where
   doctype : (i j k : ℕ) (items more : Forest Item) (asked : List Asked) (es : List Entity) → IsDoctype src i j items asked es → Misc src j k more
       → MayHaveDoctype src i k true (join items more) asked es
   no_doctype : (i : ℕ) → MayHaveDoctype src i i false Nil [] []
 
--- A prolog up to `p`.
+-- A prolog up to `p`, in parts.
 pub record PrologParts (text : List ℕ) (dtd : Bool) (asked : List Asked) (es : List Entity) (p : ℕ) (items : Forest Item) : Type 0 where
   pub begun : ℕ
   pub before : Forest Item
@@ -24,7 +24,7 @@ pub record PrologParts (text : List ℕ) (dtd : Bool) (asked : List Asked) (es :
   pub doctype : MayHaveDoctype text begun p dtd nodes asked es
   pub all : items ≡ join before nodes
 
--- A parse.
+-- A parse, in parts.
 pub record ParseParts (src : List ℕ) (dtd : Bool) (asked : List Asked) (tree : Forest Item) : Type 0 where
   pub begun : ℕ
   pub before : Forest Item

@@ -22,6 +22,6 @@ pub record IsValidState (limit : ℕ) (s : State) : Type 0 where
   pub pairs : length (distinct_pairs (pairs_so_far s.stack s.done)) ≤ most_pairs
   pub named : AreNamed s.stack s.done
 
--- The state with these parts.
+-- The state with these fields.
 abbrev pub state : ℕ → Forest Item → Open → ℕ → State
 state i done stack openings_left = record { at = i; done = done; stack = stack; openings_left = openings_left }

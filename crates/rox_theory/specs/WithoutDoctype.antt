@@ -7,7 +7,7 @@ use Rattle.rox_grammar.specs.WellNamed.{AreWellNamed}
 use Rattle.rox_grammar.specs.Entities.{most_within, no_entities}
 use Rattle.rox_grammar.specs.Document.{Misc, PrologTo}
 
--- A declaration, the root element, in which nothing is opened, and what is around it.
+-- A parse of a text that has no document type declaration. No reference in its root element opens a replacement text.
 pub record ParseWithout (src : List ℕ) (tree : Forest Item) : Type 0 where
   pub start : ℕ
   pub before : Forest Item
