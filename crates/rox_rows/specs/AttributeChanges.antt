@@ -6,7 +6,7 @@ use Rattle.rox_rows.specs.declared.attributes.AttributeTable.{AttributeTable}
 use Rattle.rox_rows.specs.declared.row.AttributeData.{AttributeData}
 use Rattle.rox_rows.specs.declared.row.AttributePlaces.{AttributePlaces}
 
--- The attributes stay, and there is room for one more unless memory ran out.
+-- The attributes stay. There is room for one more unless memory ran out.
 pub record MakesAttributeRoom {E : Type 0} (old new : AttributeTable) (result : Result (Unit {0}) E) : Type 0 where
   pub items : new.items.items ≡ old.items.items
   pub unusual : new.unusual ≡ old.unusual

@@ -15,7 +15,8 @@ capped n = min n (2 ^ 64 - 1)
 abbrev pub foretold : ℕ → ℕ → ℕ → ℕ
 foretold len place end = let rest = capped (len * (end - place)) / max place 1 in capped (capped (len + rest) + (rest / 8 + 8))
 
--- The room for a table that is full with `len` rows. It is at most eight times as much, but at least an eighth and 4 rows more.
+-- The room for a table that is full with `len` rows. It is at most room for eight times `len` rows, and at least for an eighth
+-- and 4 rows more.
 abbrev pub foreseen : ℕ → ℕ → ℕ → ℕ
 foreseen len place end = max (min (foretold len place end) (capped (len * 8))) (len + len / 8 + 4)
 
@@ -59,8 +60,8 @@ pub record GivesBack {A : Type 0} (old new : Vec A Global) : Type 0 where
   pub room : vec_capacity new ≤ vec_capacity old
   pub none : vec_len old ≡ 0 → 65536 < vec_capacity old → vec_capacity new ≡ 0
 
--- The rows that a text of `bytes` bytes gets room for at first. They are at most one of each kind in 12 bytes, and some more; at
--- least one node.
+-- The rows that a text of `bytes` bytes gets room for at first: of each kind at most one in 12 bytes, and some more. They include
+-- at least one node.
 pub record IsFirstRoom (bytes : ℕ) (rows : RowCounts) : Type 0 where
   pub nodes : rows.nodes ≤ bytes / 12 + 16
   pub some : 0 < rows.nodes

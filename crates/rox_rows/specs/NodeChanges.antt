@@ -6,7 +6,7 @@ use Rattle.rox_rows.specs.declared.node_table.NodeTable.{NodeTable}
 use Rattle.rox_rows.specs.declared.row.NodeData.{NodeData}
 use Rattle.rox_rows.specs.declared.row.NodeKind.TheVariants as kind
 
--- Only the root node of a text of `bytes` bytes is there.
+-- The table has only the root node of a text of `bytes` bytes.
 pub record IsRootAlone (bytes : ℕ) (t : NodeTable) : Type 0 where
   pub rows : node_rows t ≡ record { start = 0; end = bytes; parent = 0; subtree_end = 0; kind = kind.Root } ∷ []
   pub len : vec_len t.rows ≡ 1
@@ -16,7 +16,7 @@ pub record KeepsNodes (old new : NodeTable) : Type 0 where
   pub rows : node_rows new ≡ node_rows old
   pub len : vec_len new.rows ≡ vec_len old.rows
 
--- There is room for a row, and the offsets of the node have no upper halves.
+-- There is room for a row, and the node's offsets are below 2^32.
 pub record FitsNode (row : NodeData) (t : NodeTable) : Type 0 where
   pub room : vec_len t.rows < vec_capacity t.rows
   pub start : row.start < 2 ^ 32
@@ -58,7 +58,7 @@ pub record EndsRoot (count : ℕ) (old new : NodeTable) : Type 0 where
   pub rows : (d : NodeData) → node_rows new ≡ set (node_rows old) 0 (record (get_or (node_rows old) 0 d) { subtree_end = count })
   pub len : vec_len new.rows ≡ vec_len old.rows
 
--- The element of the row `row` ends at `end`, and all later rows are its descendants.
+-- The element of the row `row` ends at `end`, and all later rows become its descendants.
 pub record EndsNode (row end : ℕ) (old new : NodeTable) : Type 0 where
   pub rows : (d : NodeData) → node_rows new ≡ set (node_rows old) row (record (get_or (node_rows old) row d) { end = end; subtree_end = length (node_rows old) })
   pub len : vec_len new.rows ≡ vec_len old.rows

@@ -1,4 +1,4 @@
--- What is appended to a list.
+-- How values are appended to a list.
 use Rattle.std.specs.declared.alloc.Global.{Global}
 use Rattle.std.specs.Prelude.{◌≡◌, ◌+◌, ◌++◌, ◌∷◌, [], Bool, true, false, List, Vec, vec_len, if◌then◌else◌}
 

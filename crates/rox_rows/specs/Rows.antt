@@ -1,4 +1,4 @@
--- The rows of a tree, and the tree that tables hold.
+-- The rows of a tree, and the tree that the tables hold.
 use Rattle.std.specs.Prelude.{◌≡◌, true, ℕ, ◌+◌, ◌-◌, ◌<◌, ◌≤◌, List, [], ◌∷◌, ◌++◌, Option, Some, None, map, slice_range}
 use Rattle.std.specs.Option.{option_map}
 use Rattle.rox_grammar.specs.Forest.{Forest, Nil, Cons, size}
@@ -90,7 +90,7 @@ abbrev pub row_view : List AttributeRow → List NamespaceDecl → List (List Na
 row_view attributes namespaces lists row =
     record { parent = row.parent; subtree_end = row.subtree_end; node = node attributes namespaces lists row.start row.end row.kind }
 
--- The namespace that an attribute's or an element's row names is in the table, which has `n`.
+-- The namespace that a row names is in the table, which has `n` namespaces.
 abbrev pub NamespaceWithin : ℕ → AttributeNamespace → Type 0
 NamespaceWithin n (space.Listed i) = i < n
 NamespaceWithin n other = Unit {0}

@@ -30,7 +30,7 @@ pub record StoresAttribute (item : AttributeData) (before place : ℕ) (r : Stor
   pub before_is : r.before ≡ before
   pub place_is : r.place ≡ place
 
--- The offsets of an attribute, beside the table of unusual offsets.
+-- The offsets of an attribute. `unusual` is the table of unusual offsets.
 abbrev pub places_in : List AttributePlaces → StoredAttribute → AttributePlaces
 places_in unusual r =
     let usual = usual_places r.place r.before (length r.local.now) (length (storage_bytes (manually_drop_value r.value))) in
@@ -39,11 +39,11 @@ places_in unusual r =
 abbrev pub row_in : List AttributePlaces → StoredAttribute → AttributeData × AttributePlaces
 row_in unusual r = (data_of r, places_in unusual r)
 
--- The least length of the table of unusual offsets that has those of this row.
+-- The least length that the table of unusual offsets must have for this row.
 abbrev pub place_bound : StoredAttribute → ℕ
 place_bound r = if r.before == 255 then r.place + 1 else 0
 
--- How many of these rows are unusual.
+-- The number of these rows whose offsets are unusual.
 abbrev pub unusual_count : List StoredAttribute → ℕ
 unusual_count [] = 0
 unusual_count (r ∷ rs) = (if r.before == 255 then 1 else 0) + unusual_count rs

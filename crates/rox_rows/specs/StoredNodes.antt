@@ -75,7 +75,7 @@ is_kind_within n (stored.Instruction i) = nat_lt i n
 abbrev pub are_within : ℕ → List StoredNode → Bool
 are_within n rows = list_all (λ r. is_kind_within n r.kind) rows
 
--- Whether a row owns its text. `previous` is the number before that text.
+-- Whether a row owns its text. `previous` is the number that is stored with the text.
 abbrev pub owns : StoredKind → Bool
 owns stored.Root = false
 owns (stored.Element namespace scope local from until) = false
@@ -109,7 +109,7 @@ pub record Stores (pis : List PI) (last : ℕ) (k : NodeKind) (row : StoredKind)
   pub within : is_kind_within (length pis) row ≡ true
   pub chained : IsChainedTo last k row
 
--- If the row owns a text, its number is `last`, that of the last earlier row that owns one.
+-- Whether the row owns no text, or its number is `last`, that of the last earlier row that owns one.
 abbrev pub is_linked : ℕ → StoredKind → Bool
 is_linked last k = if owns k then previous k == last else true
 
@@ -157,7 +157,7 @@ pub record StoresKind {E : Type 0} (last : ℕ) (k : NodeKind) (old new : List P
   pub more : length old ≤ length new
   pub none : IfErr result (λ e. new ≡ old)
 
--- The kind that is borrowed here.
+-- The node kind that `KindRef` borrows.
 abbrev pub kind_of : KindRef → NodeKind
 kind_of lent.Root = kind.Root
 kind_of (lent.Element e) = kind.Element e
