@@ -28,19 +28,19 @@ found_at default prefixes (Some prefix) = option_joined (get_by (λ k. slice_cmp
 abbrev pub place_in : PrefixBindings → Option (List ℕ) → Option Binding
 place_in x prefix = found_at x.default x.prefixes prefix
 
--- The place of a binding.
+-- The index of the namespace of a binding, if there is one.
 abbrev pub bound_namespace : Option Binding → Option ℕ
 bound_namespace place = option_map (λ p. p.namespace) place
 
 abbrev pub bound_place : PrefixBindings → Option (List ℕ) → Option ℕ
 bound_place x prefix = bound_namespace (place_in x prefix)
 
--- The places before these bindings were replaced. The first in the list was replaced first.
+-- The indices before these bindings were replaced. The first binding in the list was replaced first.
 abbrev pub restored : List ShadowedBinding → (Option (List ℕ) → Option ℕ) → Option (List ℕ) → Option ℕ
 restored [] places prefix = places prefix
 restored (r ∷ rs) places prefix = if same_prefix (prefix_view r.prefix) prefix then bound_namespace r.before else restored rs places prefix
 
--- The places are those of what is listed: each prefix has the URI that `listed` gives it.
+-- The indices are those of the listed namespaces: each prefix has the URI that `listed` gives it.
 pub record IsBound (namespaces : List NamespaceDecl) (places : Option (List ℕ) → Option ℕ) (listed : List NamespaceDecl) : Type 0 where
   pub within : (prefix : Option (List ℕ)) → OptionWithin (length namespaces) (places prefix)
   pub uris : (prefix : Option (List ℕ)) → option_map (λ i. (namespace_at namespaces i).uri) (places prefix) ≡ uri_of listed prefix
@@ -65,12 +65,12 @@ pub record SetsPlace {E : Type 0} (prefix : Option (List ℕ)) (place : Option B
   pub replaced : new.replaced ≡ old.replaced
   pub layers : new.layers ≡ old.layers
 
--- A prefix, or the default, has this binding now, and it can be undone.
+-- A prefix, or the default, has this binding now, which can be undone.
 pub record PutsPlace (prefix : Option (List ℕ)) (place : Option Binding) (old new : PrefixBindings) : Type 0 where
   pub present : (p : Option (List ℕ)) → place_in new p ≡ (if same_prefix prefix p then place else place_in old p)
   pub keeps : KeepsBindings old new
 
--- The innermost scope is left.
+-- The innermost scope is left. The bindings belong to the scopes that remain.
 pub record LeavesScope (old new : PrefixBindings) : Type 0 where
   pub layers : new.layers.items ≡ take (length old.layers.items - 1) old.layers.items
   pub back : (ls : List ScopeFrame) (l : ScopeFrame) → new.layers.items ≡ ls ++ l ∷ [] → l.count ≤ length old.replaced.items → length new.replaced.items ≡ l.count
@@ -127,7 +127,7 @@ pub record IsEntered (own : List NamespaceDecl) (xml : Bool) (above : List Names
 abbrev pub places_view : Option (Bor (List ℕ)) → Option (List ℕ)
 places_view few = option_map (λ p. p.now) few
 
--- What is found is in a table of `n` pairs, among the few places or in the bindings.
+-- An index that is found is in a table of `n` pairs, whether among the few places or in the bindings.
 abbrev pub LooksWithin : ℕ → Option (List ℕ) → PrefixBindings → Type 0
 LooksWithin n (Some places) x = ArePlaces n places
 LooksWithin n None x = (prefix : Option (List ℕ)) → OptionWithin n (bound_place x prefix)
@@ -137,12 +137,13 @@ abbrev pub looked_up : List NamespaceDecl → Option (List ℕ) → PrefixBindin
 looked_up namespaces (Some places) x prefix = uri_of (entries namespaces places) prefix
 looked_up namespaces None x prefix = option_map (λ i. (namespace_at namespaces i).uri) (bound_place x prefix)
 
--- What is found among the places for a prefix, or the default: the place of the namespace listed for it, or `None`.
+-- The result of a search among the places for a prefix, or the default: the place of the namespace that is listed for it, or
+-- `None`.
 abbrev pub FindsPlace : List Namespace → List ℕ → Option (List ℕ) → Option ℕ → Type 0
 FindsPlace table places prefix (Some i) = (i < length table) × (uri_of (entries (map namespace_view table) places) prefix ≡ Some (namespace_at (map namespace_view table) i).uri)
 FindsPlace table places prefix None = uri_of (entries (map namespace_view table) places) prefix ≡ None
 
--- What is found among the places for a prefix, or the default: the index of one whose namespace has it, or `None`.
+-- The result of a search among the places for a prefix, or the default: the index of a place whose namespace has it, or `None`.
 abbrev pub FindsIndex : List Namespace → List ℕ → Option (List ℕ) → Option ℕ → Type 0
 FindsIndex table places prefix (Some i) = (i < length places) × (same_prefix (namespace_at (map namespace_view table) (slice_index places i)).prefix prefix ≡ true)
 FindsIndex table places prefix None = is_declared prefix (entries (map namespace_view table) places) ≡ false

@@ -11,17 +11,17 @@ use Rattle.rox_scopes.specs.declared.tables.Namespace.{Namespace}
 abbrev pub has_prefix : Option (List ℕ) → List (Option (Bor (List ℕ))) → Bool
 has_prefix prefix keys = list_any (λ k. same_prefix (prefix_view k) prefix) keys
 
--- The keys are the prefixes at these places if there are more than 16.
+-- The keys are the prefixes at these places, if there are more than 16 places.
 unfoldable pub IsPrefixSet : List NamespaceDecl → List ℕ → List (Option (Bor (List ℕ))) → Type 0
 IsPrefixSet namespaces places keys = 16 < length places → (prefix : Option (List ℕ)) → has_prefix prefix keys ≡ is_declared prefix (entries namespaces places)
 
--- Each place is in the table, and the keys are the prefixes there if they are many.
+-- Each place is in the table, and the keys are the prefixes there if there are more than 16.
 pub record HasPrefixes (table : List Namespace) (own : List ℕ) (keys : List (Option (Bor (List ℕ)))) : Type 0 where
   pub places : ArePlaces (length table) own
   pub prefix_set : IsPrefixSet (map namespace_view table) own keys
 
--- A tag whose parent lists few: `listed[first..last]`. What the tag declares is listed from `from` on, after that. The keys are
--- its prefixes if they are many.
+-- A tag whose parent lists few: `listed[first..last]`. After that, from `from` on, is what the tag declares. The keys are its
+-- prefixes if there are more than 16.
 pub record IsBelowFew (table : List Namespace) (listed : List ℕ) (keys : List (Option (Bor (List ℕ)))) (first last from : ℕ) : Type 0 where
   pub places : ArePlaces (length table) listed
   pub own : from ≤ length listed

@@ -1,4 +1,4 @@
--- What rows of scopes list that were made from others.
+-- What rows of scopes list that are made from other rows.
 use Rattle.std.specs.Prelude.{◌≡◌, ℕ, ◌-◌, ◌<◌, ◌≤◌, false, List, [], ◌∷◌, ◌++◌, Option, IfSome, IfNone, length, slice_index}
 use Rattle.std.specs.Borrow.{Bor}
 use Rattle.std.specs.List.{AllByRecursion}
@@ -18,7 +18,7 @@ pub record IsScope (listed : List ℕ) (table : List Scope) (scope : ℕ) : Type
   pub scopes : AreScopes (length listed) table
   pub within : scope < length table
 
--- The result is what the row lists, if it is a stretch of few.
+-- The result is what the row lists. It is `None` only if the row is not a stretch of few.
 pub record GivesFew (listed : List ℕ) (table : List Scope) (scope : ℕ) (result : Option (Bor (List ℕ))) : Type 0 where
   pub few : IfSome result (λ places. places.now ≡ places_in listed table scope)
   pub many : IfNone result (is_few_at table scope ≡ false)

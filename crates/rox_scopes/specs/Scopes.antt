@@ -40,8 +40,8 @@ is_few_at (s ∷ ss) (Prim.Native.Nat.suc i) = is_few_at ss i
 abbrev pub ArePlaces : ℕ → List ℕ → Type 0
 ArePlaces n places = AllByRecursion (λ i. i < n) places
 
--- Namespaces 6.1: the declarations of the parent that are not overridden here. `own` are those declared here, and the flag says
--- whether `xml` is.
+-- NS 6.1: the declarations of the parent that are not overridden here. `own` are those declared here, and `xml` says whether
+-- `xml` is declared here.
 abbrev pub others : List NamespaceDecl → Bool → List NamespaceDecl → List NamespaceDecl
 others own xml above = filter (λ d. not (is_declared d.prefix own || (xml && is_xml d.prefix))) above
 

@@ -39,7 +39,7 @@ pub record HasOpenTag (t : ElementTables) (above own : ℕ) : Type 0 where
   pub own_once : PrefixesOnce (entries (map namespace_view t.namespaces.items.items) (drop own t.listed.items))
   pub kept : HasBindings t
 
--- A start tag is read as in `HasOpenTag`, and the keys are its prefixes if they are many.
+-- A start tag is read as in `HasOpenTag`, and the keys are its prefixes if there are more than 16.
 pub record HasTagPrefixes (t : ElementTables) (keys : List (Option (Bor (List ℕ)))) (above own : ℕ) : Type 0 where
   pub tag : HasOpenTag t above own
   pub prefix_set : IsPrefixSet (map namespace_view t.namespaces.items.items) (drop own t.listed.items) keys
