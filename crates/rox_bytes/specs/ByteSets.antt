@@ -1,5 +1,5 @@
--- Bytes that need no replacement, whichever character they are of, for the fast path. None of them is 239, which starts the two
--- characters past ASCII that are not Chars.
+-- Sets of bytes that need no replacement, whichever character they are of. Byte 239 starts the two characters past ASCII that are
+-- not Chars. Of these sets, only `is_stretch_byte` and `is_run_byte` have it: they do not say that a character is a Char.
 use Rattle.rox_grammar.specs.Chars.{is_part_char}
 use Rattle.std.specs.Prelude.{◌≡◌, ◌+◌, ◌≤◌, ◌<◌, ℕ, Bool, true, false, not, ◌&&◌, ◌||◌, ◌==◌, nat_le, nat_lt, bit_xor, List, length, slice_index}
 use Rattle.rox_grammar.specs.declared.fault.Word.{Word}

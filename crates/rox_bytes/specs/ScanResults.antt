@@ -29,19 +29,19 @@ pub record IsCharAt (text : List ℕ) (at c : ℕ) : Type 0 where
   pub first : c ≡ slice_index (chars (drop at text)) 0
   pub cut : IsCharBoundary text (at + len_utf8 c)
 
--- What is searched for from `at` on is at `found`, which is between two characters, as `at` is.
+-- The offset `found` is that of what is searched for from `at` on. It is between two characters, and not before `at`.
 pub record Finds (text : List ℕ) (at found wanted : ℕ) : Type 0 where
   pub place : found ≡ wanted
   pub onward : at ≤ found
   pub cut : IsCharBoundary text found
 
--- `count` bytes come before the first that passes `test`, or all bytes.
+-- The first byte that passes `test` is after `count` bytes. If none does, `count` is the number of all bytes.
 pub record FindsByte (test : ℕ → Bool) (bytes : List ℕ) (count : ℕ) : Type 0 where
   pub value : count ≡ position_or_len test bytes
   pub within : count ≤ length bytes
   pub found : count < length bytes → test (slice_index bytes count) ≡ true
 
--- The bytes of a part of a name from `at` on end at `end`, if only ASCII bytes count.
+-- The ASCII bytes of a part of a name that start at `at` end at `end`.
 pub record EndsNear (text : List ℕ) (at end : ℕ) : Type 0 where
   pub cut : IsCharBoundary text at
   pub near : EndsSet is_part_byte text at end
@@ -83,7 +83,7 @@ pub record MaySeekEither (text : List ℕ) (at byte other_byte : ℕ) : Type 0 w
   pub one : byte < 128
   pub other : other_byte < 128
 
--- The first ASCII byte `byte` from `at` on is at `found`: after it a character starts, or the text ends.
+-- The first ASCII byte `byte` from `at` on is at `found`. After it a character starts, or the text ends.
 pub record FindsAscii (text : List ℕ) (at byte found : ℕ) : Type 0 where
   pub finds : Finds text at found (byte_from (λ c. c == byte) text at)
   pub after : found < length text → IsCharBoundary text (found + 1)

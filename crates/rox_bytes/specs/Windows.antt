@@ -4,7 +4,7 @@ use Rattle.std.specs.Simd.Lanes.{mask_l}
 use Rattle.rox_bytes.specs.ByteSets.{EndsSet, is_part_byte, is_value_byte}
 use Rattle.rox_bytes.specs.declared.window.Window.{Window}
 
--- `others` is the mask of the sixteen bytes from `i` on, for the set `p`.
+-- The mask of the sixteen bytes from `i` on, for the set `p`, is `others`.
 pub record IsSeen (p : ℕ → Bool) (src : List ℕ) (i others : ℕ) : Type 0 where
   pub within : i + 16 ≤ length src
   pub mask : others ≡ mask_l (map (λ b. not (p b)) (take 16 (drop i src)))
