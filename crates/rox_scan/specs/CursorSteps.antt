@@ -5,7 +5,7 @@ use Rattle.rox_grammar.specs.declared.fault.Fault.{Fault}
 use Rattle.rox_reading.specs.Lexical.{Read, chars_up_to}
 use Rattle.rox_scan.specs.declared.cursor.Cursor.{Cursor}
 
--- The result, seen by `view`, and the offset after it are what is read. After a fault the cursor's position is unspecified.
+-- The result, as `view` shows it, and the offset after it are what is read. After a fault the cursor's position is unspecified.
 abbrev pub Reads : {A B : Type 0} → (A → B) → Cursor → Result A Fault → Read B → Type 0
 Reads view after (Ok x) read = read ≡ Ok (view x, after.pos)
 Reads view after (Err f) read = read ≡ Err f
@@ -32,7 +32,7 @@ pub record MovesTo (to : ℕ) (old new : Cursor) : Type 0 where
   pub source : new.text ≡ old.text
   pub onward : old.pos ≤ new.pos
 
--- The text up to `end` is read, if all its characters are Chars.
+-- The text up to `end` is read if all its characters are Chars.
 pub record ReadsChars (end : ℕ) (old new : Cursor) (result : Result (Bor (List ℕ)) Fault) : Type 0 where
   pub read : Steps (λ x. x.now) old new result (chars_up_to end)
   pub text : IfOk result (λ x. (x.now ≡ slice_range old.text.now old.pos end) × (new.pos ≡ end))

@@ -25,7 +25,7 @@ use Rattle.rox_scan.specs.declared.doctype.Definition.TheVariants as definition
 use Rattle.rox_scan.specs.declared.doctype.EntityHead.{EntityHead}
 use Rattle.rox_bytes.specs.ByteSets.{IsOfLetters}
 
--- A replacement text starts at the cursor, and its source is cut off where it ends.
+-- The replacement text that starts at the cursor. Its source is cut off where it ends.
 abbrev pub replacement_view : Cursor → Replacement
 replacement_view c = record { source = c.text.now; start = c.pos }
 
@@ -45,11 +45,11 @@ pub record ReadsQuoted (old new : Cursor) (result : Result (ℕ × ℕ) Fault) :
   pub start : IfOk result (λ x. x.0 ≡ old.pos + 1)
   pub within : IfOk result (λ x. AreBoundaries old.text.now x.0 x.1)
 
--- A definition in quotes.
+-- Reads a definition in quotes.
 abbrev pub inner_at : List ℕ → ℕ → Read reading.Definition
 inner_at src i = reading.quoted_at src i >>= λ x. Ok (reading.inner (record { source = take (i + 1 + length x.0) src; start = i + 1 }), x.1)
 
--- A definition by an external identifier.
+-- Reads a definition by an external identifier.
 abbrev pub outer_at : (parameter : Bool) → List ℕ → ℕ → Read reading.Definition
 outer_at parameter src i = reading.external_id_at src i >>= λ x. reading.notation_at parameter src x.1 >>= λ y. Ok (reading.outer x.0, y.1)
 
@@ -57,13 +57,13 @@ outer_at parameter src i = reading.external_id_at src i >>= λ x. reading.notati
 abbrev pub is_skipped_declaration : List ℕ → ℕ → Bool
 is_skipped_declaration src i = at word.ElementStart src i || (at word.AttlistStart src i || at word.NotationStart src i)
 
--- A declaration is read up to its `>`, in the document type declaration that starts at `start`.
+-- Reads a declaration up to its `>`, in the document type declaration that starts at `start`.
 abbrev pub skipped_declaration_at : (start : ℕ) → List ℕ → ℕ → Read (Unit {0})
 skipped_declaration_at start src i =
     let e = byte_from (λ c. c == 62) src i in
     if nat_lt e (length src) then Ok (tt, e + 1) else Err (fault.UnknownToken start)
 
--- The end of a document type declaration is read, from the `]` of its subset.
+-- Reads the end of a document type declaration, from the `]` of its subset.
 abbrev pub subset_end_at : List ℕ → ℕ → Read (Unit {0})
 subset_end_at src i =
     let e = spaces_end src (i + 1) in
@@ -71,7 +71,7 @@ subset_end_at src i =
     else if slice_index src e == 62 then Ok (tt, e + 1)
     else Err (fault.InvalidChar2 due.End (slice_index src e) e)
 
--- A value of an XML declaration: what is before the quote `quote` or a `<`.
+-- Reads a value of an XML declaration up to the quote `quote` or a `<`.
 abbrev pub up_to_quote : ℕ → List ℕ → ℕ → Read (List ℕ)
 up_to_quote quote src i = chars_up_to (byte_from (λ c. c == quote || c == code "<") src i) src i
 
@@ -80,7 +80,7 @@ pub record StandsAsName (w : Word) (c : Cursor) : Type 0 where
   pub here : stands (word_text w) c.text.now c.pos ≡ true
   pub letters : IsOfLetters w
 
--- A declaration at the start of a text is read, if it is there.
+-- Reads a declaration at the start of a text, if it is there.
 abbrev pub xml_decl_if : List ℕ → ℕ → Read (Unit {0})
 xml_decl_if src i = if at word.XmlDeclStart src i then xml_decl_at src i else Ok (tt, i)
 

@@ -37,7 +37,7 @@ pub record IsAfterChar (src : List ℕ) (i j : ℕ) : Type 0 where
   pub step : IsStep src i j
   pub stops : j ≡ i → begins is_char src i ≡ false
 
--- A value ends at its quote or a `<`. Each special byte changes it.
+-- Whether a value ends at the offset: a quote or a `<` is there. Each special byte changes a value.
 abbrev pub ends_value : ℕ → List ℕ → ℕ → Bool
 ends_value quote src k = (slice_index src k == quote) || (slice_index src k == 60)
 
@@ -46,19 +46,19 @@ pub record LooksAtValue (quote : ℕ) (src : List ℕ) (i j : ℕ) (verbatim : B
   pub looked : IsLookahead (ends_value quote src) is_special src i j verbatim
   pub stops : j < length src → (ends_value quote src j || slice_index src j == 38) ≡ false → begins is_char src j ≡ false
 
--- Character data ends at a `<` or a `]]>`.
+-- Whether character data ends at the offset: a `<` or a `]]>` is there.
 abbrev pub ends_run : List ℕ → ℕ → Bool
 ends_run src k = (slice_index src k == 60) || stands (word_text word.CDataEnd) src k
 
--- Character data is changed at a `&` and at a CR.
+-- Whether the byte changes character data: it is `&` or CR.
 abbrev pub changes_run : ℕ → Bool
 changes_run b = (b == 38) || (b == 13)
 
--- A comment ends at two dashes.
+-- Whether the text of a comment ends at the offset: two dashes are there.
 abbrev pub ends_comment : List ℕ → ℕ → Bool
 ends_comment src k = stands double_dash src k
 
--- A comment is not changed.
+-- Whether the byte changes a comment, which none does.
 abbrev pub changes_comment : ℕ → Bool
 changes_comment b = false
 

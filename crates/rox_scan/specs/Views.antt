@@ -1,4 +1,4 @@
--- The values of the scanner, without where they are in memory.
+-- The values of the scanner, whatever their addresses in memory.
 use Rattle.std.specs.Prelude.{◌≡◌, ◌≤◌, List, ℕ, Bool, Option, Result, IfOk, Ok, option_map, slice_range}
 use Rattle.std.specs.Borrow.{Bor}
 use Rattle.std.specs.Str.{IsCharBoundary}
@@ -24,7 +24,7 @@ text_view o = option_map (λ x. x.now) o
 abbrev pub instruction_view : Instruction → markup.Instruction
 instruction_view p = record { target = p.target.now; value = text_view p.value }
 
--- A comment is read at `i`.
+-- A comment is read that starts at `i`.
 pub record IsComment (src : List ℕ) (i : ℕ) (c : WholeComment) : Type 0 where
   pub read : markup.comment_at src i ≡ Ok (c.text.now, c.end)
   pub cut : IsCharBoundary src c.end
@@ -47,7 +47,7 @@ pub record HasValue (text : List ℕ) (a : RawAttribute) : Type 0 where
   pub from : IsCharBoundary text a.value_start
   pub until : IsCharBoundary text a.value_end
   pub is : a.value.now ≡ slice_range text a.value_start a.value_end
-  -- It is known whether the value needs no replacement.
+  -- `is_verbatim` says whether the value needs no replacement.
   pub verbatim : a.is_verbatim ≡ is_verbatim_value a.value.now
 
 -- A value in the quotes `quote` is read up to the quote, and the result says whether it needs no replacement.
