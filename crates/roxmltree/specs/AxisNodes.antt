@@ -10,7 +10,7 @@ use Rattle.roxmltree.specs.declared.iterators.Axis.TheVariants as axis
 use Rattle.roxmltree.specs.declared.nodes.Node.{Node}
 use Rattle.roxmltree.specs.declared.iterators.AxisIter.TheInside.{Inside}
 
--- the nodes on an axis, the node itself first
+-- The nodes on an axis, with the node itself first.
 abbrev pub axis_nodes : Axis → Forest grammar.Node → ℕ → List ℕ
 axis_nodes axis.Ancestors tree id = id ∷ (place tree id).above
 axis_nodes axis.PrevSiblings tree id = id ∷ (place tree id).before

@@ -9,20 +9,20 @@ use Rattle.roxmltree.specs.NodeRef.{node_refs}
 use Rattle.roxmltree.specs.SiblingRange.{siblings_through, IsSiblingRange}
 use Rattle.roxmltree.specs.declared.iterators.Children.TheInside.{Inside}
 
--- the list, or none of it where the number is 0
+-- The list, or the empty list if the number is 0.
 abbrev pub if_some : ℕ → List ℕ → List ℕ
 if_some zero ids = []
 if_some (suc n) ids = ids
 
--- the last of the children of this node that end before this id
+-- The last child of `node` whose descendants end before the id `until`.
 abbrev pub last_before : Forest grammar.Node → ℕ → ℕ → ℕ
 last_before tree until node = up_to tree (until - 1) node
 
--- the children of this node from one on, up to the last that ends before this id
+-- The children of `node` from the id `from` on whose descendants end before the id `until`.
 abbrev pub between : Forest grammar.Node → (from until node : ℕ) → List ℕ
 between tree from until node = if_some (until - from) (siblings_through tree from (last_before tree until node))
 
--- the last one is the first, or a sibling after it, and ends there
+-- The last of these children is `from` or a sibling after it, and its descendants end right before the id `until`.
 pub record IsStretch (tree : Forest grammar.Node) (from until node : ℕ) : Type 0 where
   pub inside : from < size tree
   pub is_run : IsSiblingRange tree from (last_before tree until node)

@@ -4,12 +4,12 @@ use Rattle.rox_grammar.specs.Forest.{Forest}
 use Rattle.rox_grammar.specs.Tree.{Node}
 use Rattle.roxmltree.specs.Places.{place}
 
--- Of nodes each of which is a child of the next, the first that is a child of q. The last if none is.
+-- The first node of the list whose parent is `q`, or the last node if there is none. Each node is a child of the next.
 abbrev pub child_in : List ℕ → ℕ → ℕ
 child_in [] q = 0
 child_in (i ∷ []) q = i
 child_in (i ∷ p ∷ up) q = if p == q then i else child_in (p ∷ up) q
 
--- Of the node and its ancestors, the nearest that is a child of q. The root if none is.
+-- The nearest of the node and its ancestors that is a child of `q`, or the root node if none is.
 unfoldable pub up_to : Forest Node → ℕ → ℕ → ℕ
 up_to tree id q = child_in (id ∷ (place tree id).above) q

@@ -10,7 +10,7 @@ use Rattle.roxmltree.specs.declared.iterators.Descendants.TheInside.{Inside}
 abbrev pub in_range : Inside → List (DocumentView × ℕ)
 in_range d = node_refs d.document.now (range_with_len d.from.0 (length d.rest.now))
 
--- the rows that are left are those of these nodes
+-- The rows that are left are those of the nodes that are left.
 pub record IsRange (d : Inside) : Type 0 where
   pub within : d.from.0 + length d.rest.now ≤ size d.document.now.tree
   pub holds : HoldsTree d.tables.now d.document.now.tree

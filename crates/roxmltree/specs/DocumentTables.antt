@@ -11,16 +11,16 @@ use Rattle.roxmltree.specs.TreeCodes.{unflattened}
 use Rattle.roxmltree.specs.DocumentView.{DocumentView}
 use Rattle.roxmltree.specs.declared.tree.Document.TheInside.{Inside}
 
--- of each row how many nodes are below it, and its node; the first row has this id
+-- The node of each row, and how many descendants it has. The first row has the id `id`.
 abbrev pub nodes_from : ℕ → List RowView → List (ℕ × Node)
 nodes_from id [] = []
 nodes_from id (row ∷ rows) = (row.subtree_end - (id + 1), row.node) ∷ nodes_from (id + 1) rows
 
--- the tree of the tables
+-- The tree that the tables hold.
 abbrev pub tree_in : Tables → Forest Node
 tree_in t = unflattened (nodes_from 0 (row_views t))
 
--- the tables are those of the tree of this text, with what was answered for its external entities
+-- The tables hold the tree of a parse of the text, with some answers for its external entities.
 pub record HoldsDocument (text : List ℕ) (dtd : Bool) (t : Tables) : Type 0 where
   pub tree : Forest Node
   pub holds : HoldsTree t tree
@@ -28,7 +28,7 @@ pub record HoldsDocument (text : List ℕ) (dtd : Bool) (t : Tables) : Type 0 wh
   pub parsed : IsTreeOf text dtd asked 4294967295 tree
   pub utf8 : IsUtf8 text
 
--- the tables hold the tree that they are read as, which is that of the text
+-- The tables hold the tree `tree_in`, which is that of a parse of the text, with some answers for its external entities.
 pub record IsWhole (text : List ℕ) (dtd : Bool) (t : Tables) : Type 0 where
   pub holds : HoldsTree t (tree_in t)
   pub asked : List Asked

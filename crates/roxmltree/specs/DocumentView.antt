@@ -1,5 +1,5 @@
--- What callers see of a document: its tree, its text, whether that has a document type declaration, and the key that its nodes
--- are compared by.
+-- What callers see of a document: its tree, its text, whether the text has a document type declaration, and the key by which its
+-- nodes are compared.
 use Rattle.std.specs.Prelude.{ℕ, Bool, List}
 use Rattle.rox_grammar.specs.Forest.{Forest}
 use Rattle.rox_grammar.specs.Tree.{Node}
@@ -8,5 +8,5 @@ pub record DocumentView : Type 0 where
   pub tree : Forest Node
   pub text : List ℕ
   pub key : ℕ
-  -- XML 2.8 [28]
+  -- Whether there is a document type declaration (XML 2.8 [28]).
   pub dtd : Bool

@@ -22,29 +22,29 @@ attributes_code = coded_list attribute_code
 abbrev pub namespace_decls_code : Coded (List NamespaceDecl)
 namespace_decls_code = coded_list namespace_decl_code
 
--- those that are left
+-- The attributes that are left.
 abbrev pub attributes_left : attributes.Inside → List tree.Attribute
 attributes_left a = map (attribute (map namespace_view a.tables.now.namespaces.items)) (map (row_in a.tables.now.attributes.unusual.items) a.rest.now)
 
--- of each row the namespace and the unusual places are in the tables
+-- Each row that is left names only a namespace and unusual offsets that the tables have.
 pub record AttributesWithin (a : attributes.Inside) : Type 0 where
   pub within : AllByRecursion (λ r. namespace_bound (data_of r).namespace ≤ length a.tables.now.namespaces.items) a.rest.now
   pub placed : AllByRecursion (λ r. place_bound r ≤ length a.tables.now.attributes.unusual.items) a.rest.now
 
--- a stretch of the table, each of whose rows has its namespace among the others
+-- The rows from `start` up to `stop` are in the table of attributes, and each row names only a namespace that the tables have.
 pub record IsAttributeStretch (tables : Tables) (start stop : ℕ) : Type 0 where
   pub ordered : start ≤ stop
   pub within : stop ≤ length (attribute_rows tables.attributes)
   pub each : AllByRecursion (λ r. NamespaceWithin (length tables.namespaces.items) r.0.namespace) (attribute_rows tables.attributes)
 
--- the places that are left of those that the scope lists
+-- The places that are left of those that the scope lists.
 abbrev pub places_left : namespaces.Inside → List ℕ
 places_left n = slice_range (places_in n.listed.now n.scopes.now n.scope) n.from n.until
 
 abbrev pub namespaces_left : namespaces.Inside → List NamespaceDecl
 namespaces_left n = map (namespace_at (map namespace_view n.namespaces.now)) (places_left n)
 
--- they are a stretch of these, and each place that is listed is in the table
+-- What is left is a stretch of what the scope lists, and each listed place is in the table of namespaces.
 pub record NamespacesWithin (n : namespaces.Inside) : Type 0 where
   pub ordered : n.from ≤ n.until
   pub within : n.until ≤ length (places_in n.listed.now n.scopes.now n.scope)

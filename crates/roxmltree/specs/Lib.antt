@@ -27,7 +27,7 @@ pub mod TextErrors
 pub mod FirstError
 pub mod ReadDocument
 pub mod SelfContained
--- what the public clauses cite of the crates below
+-- The definitions of the crates below that public clauses cite.
 pub use Rattle.rox_grammar.specs.Forest
 pub use Rattle.rox_grammar.specs.Written
 pub use Rattle.rox_grammar.specs.Tree

@@ -1,4 +1,4 @@
--- How many namespaces a table needs for an attribute's row.
+-- The number of namespaces that a table needs for an attribute's row.
 use Rattle.std.specs.Prelude.{ℕ, ◌+◌}
 use Rattle.rox_rows.specs.declared.row.AttributeNamespace.{AttributeNamespace}
 use Rattle.rox_rows.specs.declared.row.AttributeNamespace.TheVariants as space

@@ -1,4 +1,4 @@
--- What a node says of itself.
+-- The parts of a node.
 use Rattle.std.specs.Prelude.{ℕ, Bool, true, false, List, [], Option, None, Some, if◌then◌else◌}
 use Rattle.std.specs.Option.{option_map}
 use Rattle.rox_grammar.specs.Forest.{Forest}
@@ -7,7 +7,7 @@ use Rattle.rox_grammar.specs.Tree.{Node, Attribute, Root, Element, Text, Comment
 pub use Rattle.rox_grammar.specs.NodeRanges.{is_element_node, start_of, end_of}
 use Rattle.roxmltree.specs.Places.{place, first_child, next_sibling}
 
--- the node of this id
+-- The node of this id.
 abbrev pub node_at : Forest Node → ℕ → Node
 node_at tree id = (place tree id).item
 
@@ -27,53 +27,56 @@ abbrev pub is_pi_node : Node → Bool
 is_pi_node (PI start end target value) = true
 is_pi_node other = false
 
--- of an element, and nothing for other nodes
+-- The local name of an element, and nothing for other nodes.
 abbrev pub local_of : Node → List ℕ
 local_of (Element start end namespace local listed attributes) = local
 local_of other = []
 
+-- The namespace of an element's name, and `None` for other nodes.
 abbrev pub namespace_of : Node → Option (List ℕ)
 namespace_of (Element start end namespace local listed attributes) = namespace
 namespace_of other = None
 
+-- The namespaces that an element lists, and none for other nodes.
 abbrev pub listed_of : Node → List NamespaceDecl
 listed_of (Element start end namespace local listed attributes) = listed
 listed_of other = []
 
+-- The attributes of an element, and none for other nodes.
 abbrev pub attributes_of : Node → List Attribute
 attributes_of (Element start end namespace local listed attributes) = attributes
 attributes_of other = []
 
--- of a processing instruction its target and its value
+-- The target and the value of a processing instruction.
 abbrev pub pi_of : Node → Option (List ℕ × Option (List ℕ))
 pi_of (PI start end target value) = Some (target, value)
 pi_of other = None
 
--- the text of a text node, and whether it is a slice of the input
+-- The text of a text node, and whether it is a slice of the input.
 abbrev pub text_content : Node → Option (List ℕ × Bool)
 text_content (Text start end value borrowed) = Some (value, borrowed)
 text_content other = None
 
--- that of a text node or a comment: a comment's is always a slice
+-- The text of a text node or a comment, and whether it is a slice of the input. That of a comment always is.
 abbrev pub content_of : Node → Option (List ℕ × Bool)
 content_of (Text start end value borrowed) = Some (value, borrowed)
 content_of (Comment start end text) = Some (text, true)
 content_of other = None
 
--- that of a node, if it is a text node
+-- The text of the node of this id, if it is a text node.
 abbrev pub stored_under : Forest Node → Option ℕ → Option (List ℕ × Bool)
 stored_under tree None = None
 stored_under tree (Some id) = text_content (node_at tree id)
 
--- of an element that of its first child, if that is a text node, and of a text node or a comment its own
+-- The text of an element's first child if that is a text node, and the own text of a text node or a comment.
 abbrev pub stored_text : Forest Node → ℕ → Option (List ℕ × Bool)
 stored_text tree id = if is_element_node (node_at tree id) then stored_under tree (first_child tree id) else content_of (node_at tree id)
 
--- of an element that of its next sibling, if that is a text node
+-- The text of an element's next sibling if that is a text node.
 abbrev pub stored_tail : Forest Node → ℕ → Option (List ℕ × Bool)
 stored_tail tree id = if is_element_node (node_at tree id) then stored_under tree (next_sibling tree id) else None
 
--- the texts alone
+-- The text of `stored_text`. `tail` is that of `stored_tail`.
 abbrev pub text : Forest Node → ℕ → Option (List ℕ)
 text tree id = option_map (λ t. t.0) (stored_text tree id)
 

@@ -1,4 +1,4 @@
--- A node as callers see it: the document and the id.
+-- A node as callers see it: its document and its id.
 use Rattle.std.specs.Prelude.{ℕ, List, map}
 use Rattle.rox_grammar.specs.Forest.{Forest}
 use Rattle.rox_grammar.specs.Tree as grammar
@@ -7,11 +7,11 @@ use Rattle.roxmltree.specs.DocumentView.{DocumentView}
 use Rattle.roxmltree.specs.declared.nodes.NodeId.{NodeId}
 use Rattle.roxmltree.specs.declared.nodes.Node.{Node}
 
--- an id as a number
+-- The id as a number.
 abbrev pub number : NodeId → ℕ
 number id = id.0
 
--- of a node its id, its document, the tree of that, and what it is there
+-- The id of a node. `document_of` is its document, `tree_of` is the tree of its document, and `item_of` is the node in that tree.
 abbrev pub id_of : Node → ℕ
 id_of node = number node.id
 
@@ -27,6 +27,6 @@ item_of node = node_at (tree_of node) (id_of node)
 abbrev pub node_ref : Node → DocumentView × ℕ
 node_ref node = (document_of node, id_of node)
 
--- the nodes of these ids
+-- The nodes of these ids.
 abbrev pub node_refs : DocumentView → List ℕ → List (DocumentView × ℕ)
 node_refs document ids = map (λ id. (document, id)) ids

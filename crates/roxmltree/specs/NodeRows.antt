@@ -15,12 +15,12 @@ use Rattle.rox_scopes.specs.declared.tables.Scope.TheVariants as scope
 use Rattle.rox_rows.specs.declared.stored_node.StoredNode.{StoredNode}
 use Rattle.roxmltree.specs.TreeCodes.{node_code}
 
--- the tables hold this tree, and the row is that of its node of this id
+-- The tables hold this tree, and the row is that of the node of this id.
 pub record IsRowOf (tables : Tables) (tree : Forest Node) (id : ℕ) (row : StoredNode) : Type 0 where
   pub holds : HoldsTree tables tree
   pub here : row ≡ get_or tables.nodes.rows.items id row
 
--- of each of its parts there is one proof at most
+-- A code of rows, by which they are compared.
 abbrev row_view_code : Coded RowView
 row_view_code =
     code_by (ℕ × (ℕ × Node)) (coded× coded_ℕ (coded× coded_ℕ node_code))

@@ -15,7 +15,7 @@ use Rattle.rox_values.specs.declared.parse_error.ParseError.{ParseError}
 use Rattle.rox_values.specs.declared.parse_error.ParseError.TheVariants as why
 use Rattle.roxmltree.specs.DocumentView.{DocumentView}
 
--- The document with this key is what is read of the text, after these were asked.
+-- The document with this key is what reading the text gives, after these requests were made.
 pub record IsReadDocument (limit : ℕ) (allow : Bool) (allows : Request → Reply → Type 0) (text : List ℕ) (key : ℕ) (d : DocumentView) : Type 0 where
   pub text_is : d.text ≡ text
   pub key_is : d.key ≡ key
@@ -27,7 +27,7 @@ pub record IsReadDocument (limit : ℕ) (allow : Bool) (allows : Request → Rep
   pub seen : d.dtd ≡ has_doctype limit text
   pub shown : d.tree ≡ document_tree (length text) tops
 
--- What the error says, by the reason that there are no tables.
+-- The error for each reason that there are no tables.
 abbrev pub IsErrorOfReason : (text : List ℕ) → ParseError → Error → Type 0
 IsErrorOfReason text why.Memory e = e ≡ error.OutOfMemory
 IsErrorOfReason text (why.Fault f) e = IsErrorOf text f e

@@ -4,19 +4,19 @@ use Rattle.rox_grammar.specs.Forest.{Forest}
 use Rattle.rox_grammar.specs.Tree.{Node}
 use Rattle.roxmltree.specs.Places.{place}
 
--- a node and its siblings after it
+-- The id of a node and those of its siblings after it.
 abbrev pub row_from : Forest Node → ℕ → List ℕ
 row_from tree id = id ∷ (place tree id).after
 
--- how many siblings stand from a first node up to another
+-- The number of siblings from `from` to `to`, without `to`.
 abbrev pub apart : Forest Node → ℕ → ℕ → ℕ
 apart tree from to = length (place tree to).before - length (place tree from).before
 
--- the siblings from a first node to a last one
+-- The siblings from `from` to `to`, both included.
 unfoldable pub siblings_through : Forest Node → ℕ → ℕ → List ℕ
 siblings_through tree from to = take (suc (apart tree from to)) (row_from tree from)
 
--- the last node is the first, or a sibling after it
+-- The node `to` is `from` or a sibling after it.
 pub record IsSiblingRange (tree : Forest Node) (from to : ℕ) : Type 0 where
   pub le : length (place tree from).before ≤ length (place tree to).before
   pub short : apart tree from to < length (row_from tree from)

@@ -1,14 +1,14 @@
--- Texts and instructions as the tables hold them.
+-- Texts and processing instructions as the tables hold them.
 use Rattle.std.specs.Prelude.{ℕ, Bool, List, Option}
 use Rattle.std.specs.Option.{option_map}
 use Rattle.rox_rows.specs.Storage.{storage_bytes, is_borrowed}
 use Rattle.rox_rows.specs.declared.storage.StringStorage.{StringStorage}
 use Rattle.rox_rows.specs.declared.row.PI.{PI}
 
--- the bytes, and whether they are a slice of the input
+-- The bytes of a text, and whether they are a slice of the input.
 abbrev pub stored : StringStorage → List ℕ × Bool
 stored s = (storage_bytes s, is_borrowed s)
 
--- a target and a value
+-- The target and the value of a processing instruction.
 abbrev pub instruction : PI → List ℕ × Option (List ℕ)
 instruction pi = (pi.target.now, option_map (λ v. v.now) pi.value)

@@ -1,4 +1,4 @@
--- A forest of nodes as a list: each node and how many nodes are below it, in preorder.
+-- A forest of nodes as a list: each node with the number of its descendants, in preorder.
 use Rattle.std.specs.Prelude.{◌≡◌, ℕ, zero, suc, ◌-◌, List, [], ◌∷◌, ◌++◌, refl, Bool, false, Option, None}
 use Rattle.std.proofs.Common.{sym, ◌∙◌, ap, arith, append_assoc}
 use Rattle.std.specs.Coded.{Coded, code_by, coded×, coded_ℕ, coded_list, coded_bool, coded_option}
@@ -7,47 +7,48 @@ use Rattle.rox_grammar.specs.Forest.{Forest, Nil, Cons, size, join}
 use Rattle.rox_grammar.specs.Written.{NamespaceDecl}
 use Rattle.rox_grammar.specs.Tree.{Node, Attribute, Root, Element, Text, Comment, PI}
 
--- the first nodes, n in all with what is below them
+-- The first siblings with their descendants, `n` nodes in all.
 abbrev pub front : ℕ → Forest Node → Forest Node
 front n Nil = Nil
 front zero (Cons item children rest) = Nil
 front (suc n) (Cons item children rest) = Cons item children (front (n - size children) rest)
 
--- the nodes after those
+-- The siblings after the first `n` nodes.
 abbrev pub back : ℕ → Forest Node → Forest Node
 back n Nil = Nil
 back zero (Cons item children rest) = Cons item children rest
 back (suc n) (Cons item children rest) = back (n - size children) rest
 
+-- The list of a forest.
 abbrev pub flattened : Forest Node → List (ℕ × Node)
 flattened Nil = []
 flattened (Cons item children rest) = (size children, item) ∷ (flattened children ++ flattened rest)
 
--- the forest of such a list
+-- The forest of such a list.
 abbrev pub unflattened : List (ℕ × Node) → Forest Node
 unflattened [] = Nil
 unflattened ((n, item) ∷ nodes) = Cons item (front n (unflattened nodes)) (back n (unflattened nodes))
 
--- the first nodes of a joined forest are the first forest's
+-- The first nodes of a joined forest are those of the first forest.
 pub front-join : (f g : Forest Node) (n : ℕ) → n ≡ size f → front n (join f g) ≡ f
 front-join Nil Nil n h = refl
 front-join Nil (Cons i c r) n h = rw h
 front-join (Cons i c r) g zero h = absurd (omega arith)
 front-join (Cons i c r) g (suc n) h = ap (Cons i c) (front-join r g (n - size c) (omega arith))
 
--- the others are the second forest's
+-- The other nodes are those of the second forest.
 pub back-join : (f g : Forest Node) (n : ℕ) → n ≡ size f → back n (join f g) ≡ g
 back-join Nil Nil n h = refl
 back-join Nil (Cons i c r) n h = rw h
 back-join (Cons i c r) g zero h = absurd (omega arith)
 back-join (Cons i c r) g (suc n) h = back-join r g (n - size c) (omega arith)
 
--- nothing joined to a forest leaves it
+-- Joining an empty forest changes nothing.
 pub join-nil : (f : Forest Node) → join f Nil ≡ f
 join-nil Nil = refl
 join-nil (Cons i c r) = ap (Cons i c) (join-nil r)
 
--- the list of a forest with more after it is read as the forest joined to the rest
+-- The list of a forest with more nodes after it is read as the forest joined with those nodes.
 pub unflattened-append : (f : Forest Node) (nodes : List (ℕ × Node)) → unflattened (flattened f ++ nodes) ≡ join f (unflattened nodes)
 unflattened-append Nil nodes = refl
 unflattened-append (Cons i c r) nodes =
@@ -55,11 +56,11 @@ unflattened-append (Cons i c r) nodes =
     let g = join r (unflattened nodes) in
     rw below (rw (front-join c g (size c) refl, back-join c g (size c) refl))
 
--- the list of a forest is read as that forest
+-- The list of a forest is read as that forest.
 pub unflattened-flattened : (f : Forest Node) → unflattened (flattened f) ≡ f
 unflattened-flattened f = ap unflattened (sym (append-nil (flattened f))) ∙ unflattened-append f [] ∙ join-nil f
 
--- a declaration, an attribute and a node are stored as tuples
+-- A declaration as a tuple. Attributes and nodes are stored as tuples too.
 abbrev pub namespace_decl_code : Coded NamespaceDecl
 namespace_decl_code =
     code_by (Option (List ℕ) × List ℕ) (coded× (coded_option (coded_list coded_ℕ)) (coded_list coded_ℕ))
@@ -89,7 +90,7 @@ attribute_code =
     })
     (λ _. refl)
 
--- the kind, the range, a text, an optional text, the lists of an element, and a mark
+-- A node as a tuple: its kind, its range, a text, an optional text, its namespaces and attributes, and a mark.
 abbrev pub NodeKey : Type 0
 NodeKey = (ℕ × (ℕ × ℕ)) × (List ℕ × (Option (List ℕ) × (List NamespaceDecl × (List Attribute × Bool))))
 
@@ -110,7 +111,7 @@ node_by (suc (suc (suc (suc n)))) start end bytes option listed attributes mark 
 abbrev pub node_of_key : NodeKey → Node
 node_of_key k = node_by k.0.0 k.0.1.0 k.0.1.1 k.1.0 k.1.1.0 k.1.1.1.0 k.1.1.1.1.0 k.1.1.1.1.1
 
--- a node's key is read as that node
+-- The key of a node is read as that node.
 pub node_of_key-key : (i : Node) → node_of_key (node_key i) ≡ i
 node_of_key-key (Root end) = refl
 node_of_key-key (Element start end namespace local listed attributes) = refl
