@@ -1,4 +1,4 @@
--- Texts without a character.
+-- Empty text nodes.
 use Prim.Native.Char.{code}
 use Rattle.std.specs.Prelude.{◌≡◌, ℕ, ◌+◌, false, List, []}
 use Rattle.rox_grammar.specs.Forest.{Forest}
@@ -9,12 +9,12 @@ use Rattle.rox_grammar.specs.Entities.{Entity}
 use Rattle.rox_theory.specs.Pieces.{IsSourceIn, IsEmptySection}
 use Rattle.roxmltree.specs.EachNode.{EachNode}
 
--- XML 2.7: from this place on empty CDATA sections stand, one at least, and then markup that is no such section
+-- XML 2.7: from the offset `i` on, the text has one or more empty CDATA sections, and then markup that is not a CDATA section.
 pub data EmptySections (text : List ℕ) : ℕ → Type 0 where
   last : (i : ℕ) → IsCData text i (i + 9) (i + 12) → byte text (i + 12) ≡ code "<" → text_at "<![CDATA[" text (i + 12) ≡ false → EmptySections text i
   more : (i : ℕ) → IsCData text i (i + 9) (i + 12) → EmptySections text (i + 12) → EmptySections text i
 
--- a text node that is empty is made of such sections alone
+-- If the node is an empty text, it is written as empty CDATA sections only.
 abbrev pub EmptyIsSections : List ℕ → Node → Type 0
 EmptyIsSections text (Text start end value borrowed) = value ≡ [] → EmptySections text start
 EmptyIsSections text other = Unit {0}
@@ -22,7 +22,8 @@ EmptyIsSections text other = Unit {0}
 abbrev pub EmptyTextsAreSections : List ℕ → Forest Node → Type 0
 EmptyTextsAreSections text tree = EachNode (EmptyIsSections text) tree
 
--- With entities too: if a text is empty its range is an empty section, the first of its pieces, in the text or in a replacement text.
+-- If the node is an empty text, its range is that of an empty CDATA section, the first of its pieces. It is in the text, or in
+-- the source of an entity.
 abbrev pub BeginsWithSection : (text : List ℕ) (es : List Entity) → Node → Type 0
 BeginsWithSection text es (Text start end value borrowed) = value ≡ [] → (source : List ℕ) × IsSourceIn text es source × IsEmptySection source start end
 BeginsWithSection text es other = Unit {0}

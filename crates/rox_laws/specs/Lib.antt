@@ -4,7 +4,7 @@ pub mod RangeLaws
 pub mod NearestDeclaration
 pub mod EmptySections
 pub mod Sources
--- what the clauses cite of the crates below
+-- The definitions of the crates below that the clauses cite.
 pub use Rattle.rox_grammar.specs.Written
 pub use Rattle.rox_grammar.specs.Entities
 pub use Rattle.rox_grammar.specs.Expansion

@@ -1,4 +1,4 @@
--- Where a prefix is declared in a text as written, and which declaration is the nearest (Namespaces in XML 1.0 section 6.1).
+-- Where a prefix is declared in a text as written, and which declaration is the nearest (Namespaces in XML 1.0, 6.1).
 use Rattle.std.specs.Prelude.{◌≡◌, ℕ, false, List, [], ◌∷◌, ◌++◌, Option, Some, IsTrue, All, Contains, get_or, codes}
 use Rattle.rox_grammar.specs.Forest.{Forest, Nil, Cons}
 use Rattle.rox_grammar.specs.Written.{NamespaceDecl, Item, Element}
@@ -6,30 +6,29 @@ use Rattle.rox_grammar.specs.Tree.{Node, is_declared, uri_of}
 use Rattle.roxmltree.specs.Places.{place}
 use Rattle.roxmltree.specs.NodeParts.{node_at, is_element_node, listed_of}
 
--- what an item declares in its own tag
+-- The declarations in the start tag of an item.
 abbrev pub declared_at : Item → List NamespaceDecl
 declared_at (Element start end tag) = tag.declarations
 declared_at other = []
 
--- what each item declares, in document order
+-- The declarations of each item, at any depth, in document order.
 abbrev pub declared_in : Forest Item → List (List NamespaceDecl)
 declared_in Nil = []
 declared_in (Cons item children rest) = declared_at item ∷ (declared_in children ++ declared_in rest)
 
--- what the node of this id declares in a document of these top items: the root node, which has id 0, declares nothing
+-- The declarations of the node of this id, in a document of these top items. The root node, whose id is 0, has none.
 abbrev pub declared_by : Forest Item → ℕ → List NamespaceDecl
 declared_by tops id = get_or ([] ∷ declared_in tops) id []
 
--- the node of this id and those above it, nearest first
+-- The ids of the node and of its ancestors, nearest first.
 abbrev pub upwards : Forest Node → ℕ → List ℕ
 upwards tree id = id ∷ (place tree id).above
 
--- none of these nodes declares the prefix, or the default
+-- None of these nodes declares the prefix, or the default.
 abbrev pub NoneDeclares : Forest Item → Option (List ℕ) → List ℕ → Type 0
 NoneDeclares tops prefix ids = All (λ id. is_declared prefix (declared_by tops id) ≡ false) ids
 
--- Upwards from the node of this id, itself first, come some nodes of which none declares the prefix, and then one that
--- declares it as this URI.
+-- Of the node of this id and its ancestors, the nearest that declares the prefix, or the default, declares this URI for it.
 pub record IsNearest (tops : Forest Item) (tree : Forest Node) (id : ℕ) (prefix : Option (List ℕ)) (uri : List ℕ) : Type 0 where
   pub nearer : List ℕ
   pub declarer : ℕ
@@ -41,10 +40,10 @@ pub record IsNearest (tops : Forest Item) (tree : Forest Node) (id : ℕ) (prefi
 abbrev pub IsElementAt : Forest Node → ℕ → Type 0
 IsElementAt tree id = IsTrue (is_element_node (node_at tree id))
 
--- the prefix `xml`
+-- The prefix `xml`.
 abbrev pub xml : Option (List ℕ)
 xml = Some (codes "xml")
 
--- the URI that the node of this id lists for a prefix, or for the default
+-- The URI that the node of this id lists for a prefix, or for the default.
 abbrev pub listed_uri : Forest Node → ℕ → Option (List ℕ) → Option (List ℕ)
 listed_uri tree id prefix = uri_of (listed_of (node_at tree id)) prefix

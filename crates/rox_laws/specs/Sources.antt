@@ -1,9 +1,9 @@
--- The sources that faults stand in: the text, a replacement text that the text declares by a literal, and what was answered.
+-- The sources in which faults are: the text, a replacement text that a literal of the text declares, and a resolver's answer.
 use Rattle.std.specs.Prelude.{◌≡◌, ◌⊎◌, ℕ, List, Some, Contains, take, drop}
 use Rattle.rox_grammar.specs.TextStart.{after_bom, MayHaveXmlDecl}
 use Rattle.rox_grammar.specs.Doctype.{Request, Asked, IsQuoted}
 
--- XML 4.2 [73]: the text up to the closing quote of a literal in it. So its places are those of the text.
+-- XML 4.2 [73]: the source is the text up to the last quote of a literal in it. So its offsets are those of the text.
 pub record IsLiteralIn (text source : List ℕ) : Type 0 where
   pub start : ℕ
   pub end : ℕ
@@ -11,7 +11,7 @@ pub record IsLiteralIn (text source : List ℕ) : Type 0 where
   pub quoted : IsQuoted text start end next
   pub cut_off : source ≡ take end text
 
--- XML 4.3.1: a text that was answered, or what follows a byte order mark and a declaration in it
+-- XML 4.3.1: the source is a text that the resolver answered, or what follows the byte order mark and the declaration in it.
 pub record IsAnswerIn (asked : List Asked) (source : List ℕ) : Type 0 where
   pub request : Request
   pub answer : List ℕ

@@ -11,12 +11,12 @@ abbrev pub begins_with_text : Forest Node → Bool
 begins_with_text Nil = false
 begins_with_text (Cons node children rest) = is_text_node node
 
--- no text is followed by a text, at any depth
+-- No text is followed by a text, at any depth.
 abbrev pub TextsApart : Forest Node → Type 0
 TextsApart Nil = Unit {0}
 TextsApart (Cons node children rest) = ((is_text_node node && begins_with_text rest) ≡ false) × TextsApart children × TextsApart rest
 
--- NS 6.3: both have no namespace or one, and one local name
+-- NS 6.3: whether both have one local name, and both have no namespace or one namespace.
 abbrev pub same_attribute_name : Attribute → Attribute → Bool
 same_attribute_name a b = same_prefix a.namespace b.namespace && bytes_eq a.local b.local
 
@@ -24,13 +24,13 @@ same_attribute_name a b = same_prefix a.namespace b.namespace && bytes_eq a.loca
 abbrev pub NamesDistinct : Forest Node → Type 0
 NamesDistinct tree = EachNode (λ node. IsDistinct (λ d e. same_prefix d.prefix e.prefix) (listed_of node) × IsDistinct same_attribute_name (attributes_of node)) tree
 
--- the namespace of an attribute, if it has one, its local name and its value are texts of Chars
+-- The namespace of an attribute, if it has one, its local name and its value are texts of Chars.
 pub record AttributeChars (a : Attribute) : Type 0 where
   pub namespace : IfSome a.namespace IsCharText
   pub local : IsCharText a.local
   pub value : IsCharText a.value
 
--- and all that a node says
+-- The names and values of a node are texts of Chars.
 abbrev pub NodeChars : Node → Type 0
 NodeChars (Root end) = Unit {0}
 NodeChars (Element start end namespace local listed attributes) =
@@ -39,6 +39,6 @@ NodeChars (Text start end value borrowed) = IsCharText value
 NodeChars (Comment start end text) = IsCharText text
 NodeChars (PI start end target value) = IsCharText target × IfSome value IsCharText
 
--- and all that these nodes say, at any depth
+-- The names and values of these nodes, at any depth, are texts of Chars.
 abbrev pub AllChars : Forest Node → Type 0
 AllChars tree = EachNode NodeChars tree
