@@ -9,27 +9,27 @@ use Rattle.rox_uses.specs.declared.records.Record.{Record}
 use Rattle.rox_uses.specs.declared.records.RecordsError.{RecordsError}
 use Rattle.rox_uses.specs.declared.records.RecordsError.TheVariants as error
 
--- an element `row`, without namespace
+-- Whether the node is an element `row`, without a namespace.
 abbrev pub is_row : DocumentView × ℕ → Bool
 is_row node_ref = is_element_node (item_at node_ref) && same_expanded_name (namespace_of (item_at node_ref), local_of (item_at node_ref)) (None, codes "row")
 
--- the rows among these nodes
+-- The rows among these nodes.
 abbrev pub rows_of : List (DocumentView × ℕ) → List (DocumentView × ℕ)
 rows_of nodes = filter is_row nodes
 
--- the name and the value that a row says, if it does
+-- The name and the value that a row has, each if it is there.
 abbrev pub said : DocumentView × ℕ → Option (List ℕ) × Option (List ℕ)
 said row = (value_at (codes "name") row, value_at (codes "value") row)
 
--- what a record's row says
+-- The name and the value of a record, as its row has them.
 abbrev pub written : Record → Option (List ℕ) × Option (List ℕ)
 written record' = (Some (string_bytes record'.name), Some (string_bytes record'.value))
 
--- one of the two is missing
+-- Whether the name or the value is missing.
 abbrev pub is_incomplete : DocumentView × ℕ → Bool
 is_incomplete row = is_none (value_at (codes "name") row) || is_none (value_at (codes "value") row)
 
--- what an error prints
+-- The text that an error prints.
 abbrev pub message : RecordsError → List ℕ
 message (error.Incomplete start) = codes "the row at byte " ++ (decimal start ++ codes " is incomplete")
 message error.OutOfMemory = codes "out of memory"

@@ -13,6 +13,6 @@ invariant-loop-child l = record {
   ids : id_of l.fn.node + l.below < 2 ^ 32;
 }
 
--- how many nodes are left from the node on
+-- The number of nodes from the node on, in document order.
 abbrev pub decreases-levels : goal.decreases-levels
 decreases-levels l = nodes_left_from l.node
