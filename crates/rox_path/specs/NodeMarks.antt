@@ -46,7 +46,7 @@ is_named name node_ref =
 abbrev pub is_below : ℕ → List Bool → DocumentView × ℕ → Bool
 is_below first marks node_ref = list_any (is_marked first marks) (place node_ref.0.tree node_ref.1).above
 
--- The next node of the subtree is `next`. For each node before it, `below` has whether an ancestor is marked.
+-- The next node of the subtree is `next`. For each node before it, `below` says whether an ancestor is marked.
 pub record MarksSoFar (start : Node) (marks below : List Bool) (next : Node) : Type 0 where
   pub document : document_of next ≡ document_of start
   pub place : id_of next ≡ id_of start + length below

@@ -8,7 +8,7 @@ use Rattle.rox_path.specs.declared.parse.PathError.TheVariants.{BadPath, OutOfMe
 use Rattle.rox_path.specs.Steps.{Expanded, PathStep}
 use Rattle.rox_path.specs.Paths.{local_end, uri_end, IsStepName, IsStep}
 
--- What is read from `i` up to `j` is not empty, and `j` is between two characters.
+-- The range from `i` up to `j` is not empty, and `j` is between two characters.
 pub record EndsBehind (text : List ℕ) (i j : ℕ) : Type 0 where
   pub onward : i < j
   pub cut : IsCharBoundary text j
@@ -29,7 +29,7 @@ pub record ReadsStep (text : List ℕ) (i j : ℕ) (read : PathStep) : Type 0 wh
   pub step : IsStep text i j read
   pub ends : EndsBehind text i j
 
--- A URI that begins at `i` ends at `j`: at a `}`, or at the end of the text.
+-- The URI that starts at `i` ends at `j`: at a `}`, or at the end of the text.
 pub record ReadsUri (text : List ℕ) (i j : ℕ) : Type 0 where
   pub value : j ≡ uri_end text i
   pub onward : i ≤ j

@@ -4,7 +4,7 @@ use Rattle.roxmltree.specs.ExpandedNames.{expanded}
 use Rattle.rox_path.specs.declared.steps.Step.{Step}
 use Rattle.rox_path.specs.declared.steps.Step.TheVariants as step
 
--- A namespace, or none, and a local name.
+-- The namespace of a name, or none, and the local name.
 abbrev pub Expanded : Type 0
 Expanded = Option (List ℕ) × List ℕ
 
