@@ -6,13 +6,13 @@ use Rattle.rox_programs.specs.ProgramError as program
 use Rattle.rox_listing.specs.declared.fault.Fault.{Fault}
 use Rattle.rox_listing.specs.declared.fault.Fault.TheVariants.{BadPath, Refused, Program}
 
--- the exit status: 2 for a bad path and for faults of input and output, 1 for a text that is refused and for want of memory
+-- The exit status: 1 for a text that is refused, 2 for a bad path, and that of the program's error otherwise.
 abbrev pub status_of : Fault → ℕ
 status_of (BadPath _) = 2
 status_of (Refused _) = 1
 status_of (Program error) = program.status_of error
 
--- what is told of a path that is not read
+-- The fault for a path that cannot be read.
 abbrev pub fault_of_path : PathError → Fault
 fault_of_path (path.BadPath place) = BadPath place
 fault_of_path path.OutOfMemory = Program OutOfMemory
