@@ -8,7 +8,7 @@ use Rattle.rox_dump.specs.declared.options.Command.{Command}
 use Rattle.rox_dump.specs.declared.arguments.Change.{Change}
 use Rattle.rox_dump.specs.declared.arguments.Change.TheVariants as change
 
--- what the resolver is to answer: the text of a file, nothing, or a refusal in these words
+-- The answer that a word asks the resolver to give: the text of a file, no text, or a refusal with these words.
 pub data Answer : Type 0 where
   text_of : List ℕ → Answer
   nothing : Answer
@@ -19,19 +19,19 @@ answer_of (word.File path) = text_of path.now
 answer_of word.Nothing = nothing
 answer_of (word.Refusal text) = refusal text.now
 
--- what is asked for: the options, the resolver's answers in order, the file of the main text, if the input's texts are answers, and the
--- file, or None for standard input
+-- What is asked for: the options, the answers of the resolver in order, the main text's file, if the texts of the input are
+-- answers, and the file, or `None` for standard input.
 pub record CommandView : Type 0 where
   pub options : Options
   pub answers : List Answer
   pub main : Option (List ℕ)
   pub file : Option (List ℕ)
 
--- what a command asks for
+-- The meaning of a command.
 abbrev pub meaning : Command → CommandView
 meaning c = record { options = c.options; answers = map answer_of c.answers.items; main = option_map (λ s. s.now) c.main; file = option_map (λ s. s.now) c.file }
 
--- where no option stands
+-- The options if no word gives one.
 abbrev pub no_options : Options
 no_options = record { allow_dtd = false; nodes_limit = 4294967295; axes = false; lookups = false; batch = false }
 
@@ -56,11 +56,11 @@ changed a change.Batch = with_options a (record a.options { batch = true })
 changed a (change.Answer answer) = with_answer a (answer_of answer)
 changed a (change.Main path) = with_main a path.now
 
--- a limit is a number below 2^32
+-- A limit is a number below 2^32.
 abbrev pub limit_of : List ℕ → Option ℕ
 limit_of word = option_and_then (λ n. if nat_lt n (2 ^ 32) then Some n else None) (number_of word)
 
--- what was asked for and what a word asks for alone
+-- The meaning of one more word that takes no value. It is `None` for another word.
 abbrev pub with_flag : CommandView → List ℕ → Option CommandView
 with_flag a word =
     (if bytes_eq word (codes "--allow-dtd") then Some (with_options a (record a.options { allow_dtd = true }))
@@ -70,7 +70,7 @@ with_flag a word =
     else if bytes_eq word (codes "--ans-none") then Some (with_answer a nothing)
     else None)
 
--- what was asked for and what a word asks for with the one behind it
+-- The meaning of one more word and its value. It is `None` for another word or a wrong value.
 abbrev pub with_value : CommandView → List ℕ → List ℕ → Option CommandView
 with_value a word value =
     (if bytes_eq word (codes "--nodes-limit") then option_map (λ n. with_options a (record a.options { nodes_limit = n })) (limit_of value)
@@ -83,20 +83,20 @@ abbrev pub begins_with_dash : List ℕ → Bool
 begins_with_dash [] = false
 begins_with_dash (byte ∷ _) = byte == 45
 
--- `-` is standard input, and no other word that begins with it is a file
+-- The meaning of the file's word. `-` is standard input, and no other word that starts with `-` is a file.
 abbrev pub with_file : CommandView → List ℕ → Option CommandView
 with_file a word =
     (if bytes_eq word (codes "-") then Some a
     else if begins_with_dash word then None
     else Some (record a { file = Some word }))
 
--- what words without a further option ask for: they are one file, or wrong
+-- The meaning of the words after the last option: they are one file, or wrong.
 abbrev pub with_last : CommandView → List (List ℕ) → Option CommandView
 with_last a [] = None
 with_last a (word ∷ []) = with_file a word
 with_last a (_ ∷ _ ∷ _) = None
 
--- what words ask for behind others that ask for this
+-- The meaning of further words, after words that mean `a`.
 abbrev pub command_with : CommandView → List (List ℕ) → Option CommandView
 command_with a [] = None
 command_with a (word ∷ []) = with_file a word
@@ -104,7 +104,7 @@ command_with a (word ∷ next ∷ words) =
     (if is_some (with_flag a word) then option_and_then (λ b. command_with b (next ∷ words)) (with_flag a word)
     else option_and_then (λ b. command_with b words) (with_value a word next))
 
--- what the words after the program's name ask for: `[--allow-dtd] [--nodes-limit N] [--axes] [--lookups] [--batch] [--ans-file PATH]
--- [--ans-none] [--ans-err TEXT] [--main MAIN] FILE`, the options in any order, and None where a word is wrong
+-- The meaning of the words after the program's name: `[--allow-dtd] [--nodes-limit N] [--axes] [--lookups] [--batch] [--ans-file
+-- PATH] [--ans-none] [--ans-err TEXT] [--main MAIN] FILE`, with the options in any order. It is `None` if a word is wrong.
 abbrev pub command_of : List (List ℕ) → Option CommandView
 command_of words = command_with nothing_asked words
