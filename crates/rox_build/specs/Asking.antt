@@ -21,7 +21,7 @@ pub record AreGiven (allows : Request → Reply → Type 0) (asked : List Asked)
   pub allowed : AreAllowed allows asked
   pub texts : AreTextReplies (replies_of asked)
 
--- Why a run stopped that asked `asked`, whatever replies follow. Nothing is stated if memory ran out.
+-- Why a run stopped after the requests `asked`, whatever replies follow. Nothing is stated if memory ran out.
 abbrev pub StopsBy : {A : Type 0} → (Request → Reply → Type 0) → (run : List Reply → Asks A) → List Asked → ParseError → Type 0
 StopsBy allows run asked code.Memory = Unit {0}
 StopsBy allows run asked (code.Fault f) = Stops run asked (here f)
@@ -41,7 +41,7 @@ AskOutcome allows run ok result = (asked : List Asked) × AreGiven allows asked 
 abbrev pub IsDefined : Definition → ℕ → List Asked → Option Cursor → Type 0
 IsDefined d at asked text = (more : List Reply) → defined d at (replies_of asked ++ more) ≡ (asked, Ok (option_map replacement_view text, more))
 
--- The declaration of an entity was read, up to the cursor.
+-- The declaration of an entity was read up to the cursor.
 pub record IsEntityRead (run : List Reply → Asks Dtd) (d : Dtd) (c : Cursor) (es : Entities) (asked : List Asked) : Type 0 where
   pub dtd : Dtd
   pub answered : Answered run asked dtd
@@ -75,7 +75,7 @@ pub record MayReadAsking {R : Type 0} (can : R → Type 0) (resolver : Option R)
   pub may : MayAsk can resolver
   pub fine : IsConsistent b.tables b.opened.items
 
--- `place` holds, and the resolver may be asked, if there is one.
+-- `place` is true, and the resolver may be asked, if there is one.
 pub record MayAskHere {R : Type 0} (place : Type 0) (can : R → Type 0) (resolver : Option R) : Type 0 where
   pub here : place
   pub may : MayAsk can resolver

@@ -36,7 +36,8 @@ pub record BuiltNone (limit : ℕ) (allow : Bool) (allows : Request → Reply �
   pub texts : AreTextReplies (replies_of asked)
   pub stops : Stops (λ replies. reading limit allow replies text) asked e
 
--- Nothing is stated if memory ran out. The resolver's own refusal is one that it may reply to that request.
+-- Why there are no tables. The resolver's own refusal is one that it may reply to that request. Nothing is stated if memory ran
+-- out.
 abbrev pub BuiltRefusal : (limit : ℕ) (allow : Bool) (allows : Request → Reply → Type 0) (text : List ℕ) → ParseError → Type 0
 BuiltRefusal limit allow allows text refused.Memory = Unit {0}
 BuiltRefusal limit allow allows text (refused.Fault f) = BuiltNone limit allow allows text (refusal.here f)

@@ -1,4 +1,4 @@
--- What the fast path needs, and what it makes of the cursor and the builder: it reads a construct if it is plain.
+-- What the fast path requires, and how it changes the cursor and the builder. It reads a construct only if that is plain.
 use Rattle.std.specs.Prelude.{◌≡◌, ◌≢◌, ℕ, ◌+◌, ◌<◌, ◌^◌, true, false, Bool, List, Result, Ok, length, slice_index, vec_len}
 use Rattle.std.specs.Str.{IsCharBoundary}
 use Rattle.rox_grammar.specs.Chars.{is_part_char}

@@ -27,7 +27,7 @@ pub record ReadsRootTag (old new : ElementTables) (src : List ℕ) (i : ℕ) (re
   pub read : IfSome result (λ t. (blank : ElementTables) → IsBlank blank → attribute_rows blank.attributes ≡ attribute_rows old.attributes → IsPlainTag blank new [] src i t.end t.tag)
   pub grown : HasMoreRows old new
 
--- The tables `old` and `now` hold equal rows, so that a start tag is read into one as into the other.
+-- The tables `old` and `now` hold equal rows. So a start tag is read into both alike.
 pub record HoldAlike (old now : ElementTables) : Type 0 where
   pub rows : attribute_rows now.attributes ≡ attribute_rows old.attributes
   pub names : map namespace_view now.namespaces.items.items ≡ map namespace_view old.namespaces.items.items

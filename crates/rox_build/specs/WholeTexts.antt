@@ -55,7 +55,7 @@ abbrev pub Finishes : (end : ℕ) → Result (Unit {0}) ParseError → Builder �
 Finishes end (Ok x) b read = (tops : Forest Item) × (read ≡ Ok tops) × Represents end root tops b
 Finishes end (Err e) b read = IsRefusal e read
 
--- A whole text was read.
+-- A whole text was read, with these requests, into the top items `tops`.
 pub record IsWholeRead (limit end : ℕ) (allow : Bool) (src : List ℕ) (b : Builder) (asked : List Asked) (dtd : Bool) : Type 0 where
   pub tops : Forest Item
   pub read : Yields (λ replies. reading limit allow replies src) asked tops
