@@ -1,4 +1,4 @@
--- What the builder holds, against the state of reading.
+-- What the builder holds, compared with the state of reading.
 use Rattle.std.specs.Prelude.{◌≡◌, vec_len, vec_capacity, ℕ, ◌+◌, ◌-◌, nat_lt, ◌&&◌, ◌^◌, ◌<◌, ◌≤◌, Bool, true, false, List, [], ◌∷◌, ◌++◌, Option, is_some, Result, Ok, Err, length, map}
 use Rattle.std.specs.String.{string_bytes}
 use Rattle.std.specs.List.{AllByRecursion}
@@ -42,7 +42,7 @@ use Rattle.rox_names.specs.OpenElements.{name_length, open_name, IsOpenWithin}
 abbrev pub tables_of : Builder → Tables
 tables_of b = record { nodes = b.nodes; attributes = b.tables.attributes; namespaces = b.tables.namespaces.items; listed = b.tables.listed; scopes = b.tables.scopes }
 
--- What is stored of an open element.
+-- The stored part of an open element.
 pub record OpenRow : Type 0 where
   pub row : ℕ
   pub name : Name
@@ -54,7 +54,7 @@ pub record OpenRow : Type 0 where
 abbrev pub opened : List (List NamespaceDecl) → OpenElement → OpenRow
 opened lists o = record { row = o.row; name = open_name o; name_length = name_length o; is_placed = true; scope = scope_at lists o.scope }
 
--- What is stored of the element in the row `row` that the tag `tag` opens at `start`, and that lists `scope`.
+-- The stored part of the element in the row `row` that the tag `tag` opens at `start`, and that lists `scope`.
 abbrev pub tag_row : ℕ → ℕ → Tag → List NamespaceDecl → OpenRow
 tag_row row start tag scope =
     record { row = row; name = tag.name; name_length = tag.name_end - (start + 1); is_placed = nat_lt start tag.name_end && nat_lt tag.name_end (2 ^ 64); scope = scope }
@@ -145,7 +145,7 @@ pub record HasEmpty (t : ElementTables) : Type 0 where
   pub there : 0 < length t.scopes.items
   pub none : scope_at (lists_in t) 0 ≡ []
 
--- What holds between two constructs, whatever the text.
+-- The tables and the open elements are consistent, which they are between any two constructs of a text.
 pub record IsConsistent (t : ElementTables) (opened : List OpenElement) : Type 0 where
   pub sound : AreSound t
   pub elements : AllByRecursion (IsOpenWithin t) opened
@@ -216,7 +216,7 @@ pub record IsReadyTo (most : ℕ) (b : Builder) : Type 0 where
 abbrev pub IsReady : ℕ → Builder → Type 0
 IsReady n b = IsReadyTo (vec_len b.nodes.rows + n) b
 
--- A step stays in its source, and what the builder holds is consistent.
+-- A step stays in its source, and the builder stays consistent.
 pub record GoesOn (old new : Cursor) (b : Builder) : Type 0 where
   pub source : new.text ≡ old.text
   pub fine : IsConsistent b.tables b.opened.items

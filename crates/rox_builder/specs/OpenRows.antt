@@ -11,7 +11,7 @@ abbrev pub top : Open → ℕ
 top root = 0
 top (inside start tag before up) = top up + 1 + size (merge before)
 
--- The row of the root node while its descendants are not all known.
+-- The row of the root node while its last descendant is not known.
 abbrev pub root_line : ℕ → RowView
 root_line end = record { parent = 0; subtree_end = 0; node = Root end }
 

@@ -1,4 +1,4 @@
--- What a call makes of the cursor and the builder that it is lent.
+-- How a call changes the cursor and the builder that it borrows.
 use Rattle.std.specs.Prelude.{◌≡◌, ℕ, ◌+◌, ◌++◌, ◌∷◌, [], ◌<◌, ◌≤◌, ◌^◌, false, List, OnOk, Result, Ok, length, vec_len}
 use Rattle.std.specs.Str.{IsCharBoundary}
 use Rattle.rox_grammar.specs.Entities.{Entity}

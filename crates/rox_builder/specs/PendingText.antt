@@ -7,13 +7,13 @@ use Rattle.rox_rows.specs.declared.row.NodeKind.TheVariants as kind
 use Rattle.rox_builder.specs.declared.pending.Pending.{Pending}
 use Rattle.rox_builder.specs.declared.pending.Pending.TheVariants as pending
 
--- How many rows the text will take.
+-- The number of rows that the text still needs.
 abbrev pub waiting : Pending → ℕ
 waiting pending.None = 0
 waiting pending.Written = 0
 waiting pending.Joined = 1
 
--- How many rows the text has.
+-- The number of rows that the text has.
 abbrev pub written : Pending → ℕ
 written pending.None = 0
 written pending.Written = 1
@@ -27,7 +27,7 @@ text_of (kind.Text value) = storage_bytes value
 text_of (kind.Comment text) = []
 text_of (kind.PI pi) = []
 
--- What a buffer of the bytes `bytes` has of the text.
+-- The bytes of the text that a buffer of the bytes `bytes` holds.
 abbrev pub text_before : Pending → List ℕ → List ℕ
 text_before pending.None bytes = []
 text_before pending.Written bytes = []

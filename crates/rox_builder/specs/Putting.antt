@@ -1,4 +1,4 @@
--- What the calls of the builder require, and what they make of it.
+-- What the calls of the builder require, and how they change it.
 use Rattle.std.specs.Prelude.{◌≡◌, ℕ, ◌+◌, ◌-◌, ◌∷◌, [], ◌<◌, ◌≤◌, ◌^◌, true, false, Bool, List, OnOk, IfOk, IfErr, Result, Ok, length, take, vec_len, vec_capacity}
 use Rattle.std.specs.declared.alloc.AllocError.{AllocError}
 use Rattle.rox_grammar.specs.Forest.{Forest, Nil, Cons, join}
@@ -25,7 +25,7 @@ use Rattle.rox_builder.specs.declared.builder.FirstTables.{FirstTables}
 use Rattle.rox_builder.specs.declared.pending.Pending.TheVariants as pending
 use Rattle.rox_names.specs.declared.start_tag.StartTag.{StartTag}
 
--- The builder has the root node alone.
+-- The builder has only the root node.
 pub record IsOfRoot (first : FirstTables) (most : ℕ) (b : Builder) : Type 0 where
   pub empty : (names_in b.tables ≡ []) × (length (attribute_rows b.tables.attributes) ≡ 0)
   pub fine : IsConsistent b.tables b.opened.items
@@ -39,7 +39,7 @@ pub record IsInnermostScope (b : Builder) (n : ℕ) : Type 0 where
   pub within : IsConsistent b.tables b.opened.items → n < length b.tables.scopes.items
   pub once : IsConsistent b.tables b.opened.items → PrefixesOnce (scope_in_tables b.tables n)
 
--- One more node is allowed, or would be too many.
+-- One more node is allowed, or the fault is that it is one too many.
 pub record MayHaveMore (b : Builder) (result : Result (Unit {0}) Failure) : Type 0 where
   pub ok : OnOk result (vec_len b.nodes.rows + waiting b.pending < b.nodes_limit)
   pub few : OnOk result (vec_len b.nodes.rows + waiting b.pending + 1 < 2 ^ 32)

@@ -1,4 +1,4 @@
--- What has to hold where something is read: of the offset, of what the builder holds, and of the room that there is.
+-- What is required where something is read: of the offset, of the builder, and of the room.
 use Rattle.std.specs.Prelude.{◌≡◌, ◌≢◌, ◌<◌, ◌+◌, ◌^◌, ℕ, true, List, length, slice_index, vec_len}
 use Rattle.std.specs.Str.{IsCharBoundary}
 use Rattle.rox_grammar.specs.FixedTexts.{word_text}
