@@ -1,4 +1,4 @@
--- What the code holds of a start tag that was read, against the tag.
+-- The stored form of a start tag that was read, compared with the tag.
 use Rattle.std.specs.Prelude.{◌≡◌, ℕ, ◌<◌, ◌≤◌, ◌+◌, List, ◌++◌, length, map, OnOk, IfOk, IfErr, Result, Ok, Err}
 use Rattle.std.specs.Borrow.{Bor}
 use Rattle.std.specs.List.{AllByRecursion}

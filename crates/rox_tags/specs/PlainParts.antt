@@ -1,4 +1,4 @@
--- What the parts of a plain tag need, and what is read of them.
+-- What the parts of a plain tag require, and what is read of them.
 use Rattle.std.specs.Prelude.{◌≡◌, ℕ, ◌+◌, ◌<◌, ◌≤◌, ◌^◌, ◌==◌, true, false, List, [], Option, Ok, IfSome, IfNone, length, map, slice_index, slice_range}
 use Rattle.std.specs.Str.{IsCharBoundary}
 use Rattle.rox_grammar.specs.Chars.{is_name_start, is_part_char, is_space}

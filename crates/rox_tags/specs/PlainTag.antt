@@ -1,4 +1,4 @@
--- Start tags that the quick reader reads: without declarations, and with attributes whose values refer to no declared entity.
+-- Start tags that the fast path reads: without declarations, and with attributes whose values refer to no declared entity.
 use Rattle.std.specs.Prelude.{◌≡◌, ◌≢◌, ℕ, ◌+◌, ◌-◌, ◌<◌, ◌≤◌, ◌^◌, ◌==◌, ◌||◌, Bool, true, false, List, ◌++◌, Option, Some, Ok, drop, length, map, slice_index, slice_range, IfSome}
 use Rattle.std.specs.List.{AllByRecursion}
 use Rattle.std.specs.Str.{IsCharBoundary}
@@ -45,7 +45,7 @@ pub record HasScope (t : ElementTables) (scope : ℕ) : Type 0 where
   pub within : scope < length t.scopes.items
   pub once : PrefixesOnce (scope_in_tables t scope)
 
--- The places that the scope `scope` lists, as a look-up among few takes them.
+-- The places that the scope `scope` lists, as few places in which a prefix is searched for.
 abbrev pub few_in : ElementTables → ℕ → Option (List ℕ)
 few_in t scope = Some (places_in t.listed.items t.scopes.items scope)
 

@@ -29,7 +29,7 @@ use Rattle.rox_tags.specs.declared.quick_name.NameAt.{NameAt}
 use Rattle.rox_tags.specs.declared.quick_tag.TagEnd.{TagEnd}
 use Rattle.rox_tags.specs.declared.own_declaration.TagScope.{TagScope}
 
--- ---- declarations of a root element
+-- ---- Declarations of a root element.
 
 -- The name `n` of a declaration is read at `i`, and `=` and a quote are right after it.
 pub record IsDeclaredName (src : List ℕ) (i : ℕ) (n : NameAt) : Type 0 where
@@ -96,7 +96,7 @@ pub record DeclaresOwn (old new : ElementTables) (s after : SeenNames) (src : Li
   pub scopes : IfSome result (λ j. (own : Scope) → old.scopes.items ≡ first_places 0 ∷ own ∷ [] → new.scopes.items ≡ first_places 0 ∷ first_places (length new.listed.items) ∷ [])
   pub kept : KeepsCodes s after
 
--- ---- attributes and declarations
+-- ---- Attributes and declarations.
 
 -- A tag that has the attributes `written` so far, and declares `own`.
 abbrev pub holding : List NamespaceDecl → List Attribute → TagSoFar
@@ -158,7 +158,7 @@ pub record ArePlainAttributes (tag : TagScope) (old now : ElementTables) (src : 
       → attributes_at (length src) context cut (map namespace_view old.namespaces.items.items) src start openings_left (holding [] [])
       ≡ Ok (record { held = holding own written; empty = empty; openings_left = openings_left }, end)
 
--- The tables of a tag before its attributes.
+-- What is required of the tables before the attributes of a tag are read.
 abbrev pub MayBegin : Bool → ElementTables → ℕ → Type 0
 MayBegin false t n = HasScope t n
 MayBegin true t n = BeginsRoot t × (n ≡ 1)

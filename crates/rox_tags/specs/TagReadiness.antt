@@ -1,4 +1,4 @@
--- What has to hold where a start tag is read.
+-- What is required where a start tag is read.
 use Rattle.std.specs.Prelude.{◌≡◌, ◌<◌, ◌≤◌, ◌+◌, ◌^◌, ℕ, length, slice_index}
 use Rattle.rox_grammar.specs.Document.{most_pairs, most_attributes}
 use Rattle.rox_scan.specs.Views.{HasValue}

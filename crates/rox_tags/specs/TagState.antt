@@ -1,4 +1,4 @@
--- What the code holds of a start tag, against what is read of it.
+-- The stored form of a start tag, compared with what is read of it.
 use Rattle.std.specs.Prelude.{◌≡◌, ◌⊎◌, ℕ, ◌≤◌, Bool, false, if◌then◌else◌, List, Option, length, map, drop, OnOk, Result, Ok, Err}
 use Rattle.std.specs.Borrow.{Bor}
 use Rattle.rox_grammar.specs.Document.{most_pairs}
