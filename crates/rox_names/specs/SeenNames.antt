@@ -9,7 +9,7 @@ use Rattle.rox_names.specs.declared.seen_names.SeenNames.{SeenNames}
 use Rattle.rox_rows.specs.declared.row.AttributeData.{AttributeData}
 use Rattle.rox_rows.specs.declared.row.AttributeNamespace.{AttributeNamespace}
 
--- The number that a name's code is made of.
+-- The number from which the code of a name is computed.
 unfoldable pub name_sum : List ℕ → ℕ
 name_sum local = if leb 4 (length local)
     then from_le_bytes w32 (slice_range local 0 4) + from_le_bytes w32 (slice_range local (length local - 4) (length local)) * 5 + length local

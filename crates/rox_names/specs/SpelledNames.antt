@@ -29,7 +29,7 @@ pub record SpellsName (text : List ℕ) (tag : StartTag) : Type 0 where
   pub within : tag.name_end ≤ length text
   pub spells : spelled_name (slice_range text tag.name_start tag.name_end) ≡ name_view tag.name
 
--- The count that a wide name has.
+-- The count that is stored for a name of 2^32 - 1 bytes or more. Its source is then as long as the name.
 abbrev pub wide_name : ℕ
 wide_name = 4294967295
 

@@ -1,4 +1,4 @@
--- What the tables hold of the declarations of a start tag, against what is read of it.
+-- The stored form of a start tag's declarations, compared with what is read of them.
 use Rattle.std.specs.Prelude.{◌≡◌, ℕ, ◌≤◌, Bool, false, List, ◌++◌, Option, drop, length, map, Result, Ok, Err, OnOk}
 use Rattle.std.specs.Borrow.{Bor}
 use Rattle.std.specs.List.{list_any}
@@ -37,7 +37,7 @@ unresolved_view t = record {
   borrowed = is_borrowed t.value;
 }
 
--- What a tag declares is listed from `from` on, each prefix once. The keys are its prefixes if they are many.
+-- What a tag declares is listed from `from` on, each prefix once. The keys are its prefixes if there are more than 16.
 pub record HasOwn (table : List Namespace) (listed : List ℕ) (keys : List (Option (Bor (List ℕ)))) (from : ℕ) : Type 0 where
   pub places : ArePlaces (length table) listed
   pub own : from ≤ length listed
@@ -56,7 +56,7 @@ pub record Declares (known : List NamespaceDecl) (before : List ℕ) (namespaces
   pub places : ArePlaces (length namespaces) mine
   pub same : entries namespaces mine ≡ listable_of own
 
--- What one more declaration makes of them.
+-- The declarations of the tag after one more is read, or its fault.
 abbrev pub Declared : (known : List NamespaceDecl) (before : List ℕ) (namespaces : List NamespaceDecl) (listed : List ℕ) → Result Bool Failure → TagSoFar → Result TagSoFar Fault → Type 0
 Declared known before namespaces listed (Ok xml) h read = (own : List NamespaceDecl) × (read ≡ Ok (record { own = own; attributes = h.attributes })) × Declares known before namespaces listed xml own
 Declared known before namespaces listed (Err e) h read = Fails e read
