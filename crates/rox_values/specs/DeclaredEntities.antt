@@ -1,4 +1,4 @@
--- The entities that the code holds, and how it reads a text, against how it is read.
+-- The entities that the code holds, and how it reads a text, compared with how a text is read.
 use Rattle.std.specs.Prelude.{◌≡◌, ◌-◌, ◌<◌, ℕ, zero, suc, Bool, false, List, Option, Result, Ok, Err, IfOk}
 use Rattle.std.specs.Option.{option_map}
 use Rattle.std.specs.BTreeMap.{get_by}
@@ -17,7 +17,7 @@ use Rattle.rox_values.specs.declared.context.Context.{Context}
 abbrev pub text_in : Entities → List ℕ → Option Replacement
 text_in e name = option_map replacement_view (get_by (named_cmp name) e.texts)
 
--- The entities that are held are those that `es` declares.
+-- The entities that are held are those of `es`.
 pub record AreDeclared (es : List Entity) (e : Entities) : Type 0 where
   pub texts : (name : List ℕ) → text_in e name ≡ text_of es name
 
@@ -25,8 +25,8 @@ pub record AreDeclared (es : List Entity) (e : Entities) : Type 0 where
 abbrev pub values_in : List Entity → Context → Values
 values_in es context = values_of es context.depth_left context.main
 
--- How many replacement texts may be opened inside one whose reference ends at `after`. `depth_left` may be open inside one
--- another.
+-- How many replacement texts may be opened inside the one whose reference ends at `after`. At most `depth_left` may be open
+-- inside one another.
 abbrev pub opened_at : (depth_left : ℕ) → (main : Bool) → (after openings_left : ℕ) → Result ℕ Fault
 opened_at zero main after openings_left = Err (fault.EntityReferenceLoop after)
 opened_at (suc d) main after openings_left = budget main after openings_left
@@ -36,7 +36,7 @@ abbrev pub Opens : Result (Context × ℕ) Fault → Result ℕ Fault → Type 0
 Opens (Ok x) read = read ≡ Ok x.1
 Opens (Err f) read = read ≡ Err f
 
--- The context of a text whose reference ends at `after`, and how many may be opened inside it, or the fault.
+-- The context of the replacement text whose reference ends at `after`, with the openings left in it, or the fault.
 pub record OpensWithin (around : Context) (after openings_left elements : ℕ) (result : Result (Context × ℕ) Fault) : Type 0 where
   pub value : Opens result (opened_at around.depth_left around.main after openings_left)
   pub context : IfOk result (λ x. x.0 ≡ record { main = false; depth_left = around.depth_left - 1; open_around = elements; entities = around.entities })

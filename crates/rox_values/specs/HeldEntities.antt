@@ -1,4 +1,4 @@
--- Names of entities, and the entities that the map has under them.
+-- The code of an entity's name, and the entities in the map by name.
 use Rattle.std.specs.Prelude.{◌≡◌, ℕ, ◌+◌, ◌-◌, ◌*◌, ◌/◌, List, Some, length, min, nat_lt, slice_index, if◌then◌else◌}
 use Rattle.std.specs.Borrow.{Bor}
 use Rattle.std.specs.Cmp.Lexicographic.{slice_cmp}
@@ -8,7 +8,7 @@ use Rattle.std.specs.BTreeMap.{BTreeMap, get_by}
 use Rattle.rox_scan.specs.declared.cursor.Cursor.{Cursor}
 use Rattle.rox_values.specs.declared.entities.Declared.{Declared}
 
--- A number that few names share.
+-- The code of a name, which few names share.
 unfoldable pub code_of : List ℕ → ℕ
 code_of name =
     if nat_lt (length name) 2 then 0 else

@@ -1,4 +1,4 @@
--- The items of a value that need no entity, against what is read.
+-- The items of a value that refer to no declared entity, compared with what is read.
 use Rattle.std.specs.Prelude.{◌≡◌, ◌<◌, ◌≤◌, ◌-◌, ◌==◌, ℕ, Bool, true, false, not, List, Result, Ok, Err, IfOk, slice_index, slice_range}
 use Rattle.std.specs.Char.{encode_utf8}
 use Rattle.std.specs.Str.{IsCharBoundary}

@@ -1,4 +1,4 @@
--- Why reading stopped, against what is read.
+-- Why reading stopped, compared with what is read.
 use Rattle.std.specs.Prelude.{◌≡◌, ℕ, List, Result, Err}
 use Rattle.std.specs.Borrow.{Bor}
 use Rattle.std.specs.String.{string_bytes}

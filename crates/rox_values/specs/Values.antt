@@ -1,4 +1,4 @@
--- How the texts and references of the code relate to what is read.
+-- How the texts and references in the code relate to what is read.
 use Rattle.std.specs.Prelude.{◌≡◌, ◌≢◌, ◌<◌, ◌≤◌, ◌^◌, ℕ, Bool, true, false, not, ◌==◌, ◌||◌, List, ◌++◌, Option, Some, None, Result, Ok, Err, IfOk, drop, length, min, slice_index, slice_range, if◌then◌else◌}
 use Rattle.std.specs.List.{list_any}
 use Rattle.std.specs.Str.{IsCharBoundary}
