@@ -48,7 +48,7 @@ pub record SelectsAttribute (text : List ℕ) (a : Attribute) : Type 0 where
   -- A quote is before the value.
   pub opens : (byte text (a.value_start - 1) ≡ code "'") ⊎ (byte text (a.value_start - 1) ≡ code "\"")
   pub closes : byte text (a.end - 1) ≡ byte text (a.value_start - 1)
-  -- The raw value has no such quote and no `<`.
+  -- The raw value does not contain its quote, nor `<`.
   pub between : (k : ℕ) → a.value_start ≤ k → k < a.end - 1 → (byte text k ≢ byte text (a.value_start - 1)) × (byte text k ≢ code "<")
   -- The raw value is the value, if that is a slice of the text.
   pub value : a.borrowed ≡ true → a.value ≡ slice text a.value_start (a.end - 1)
