@@ -1,4 +1,4 @@
--- What holds of every state that reading reaches: its names and its limits.
+-- What is true of every state that reading reaches: its names are valid, and it is within its limits.
 use Rattle.std.specs.Prelude.{ℕ, ◌≤◌, [], length}
 use Rattle.rox_grammar.specs.Forest.{Forest}
 use Rattle.rox_grammar.specs.Written.{Item}
