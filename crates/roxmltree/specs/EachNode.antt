@@ -1,4 +1,4 @@
--- What holds of each node of a tree.
+-- A property of each node of a tree.
 use Rattle.rox_grammar.specs.Forest.{Forest, Nil, Cons}
 
 -- `P` holds of each item, at any depth.

@@ -1,4 +1,4 @@
--- What parsing makes of a reading: the document that was read, or the error that says why there is none.
+-- The result of parsing, in terms of a reading: the document that was read, or the error that says why none was.
 use Rattle.std.specs.Prelude.{◌≡◌, ◌++◌, ℕ, Bool, List, Ok, length}
 use Rattle.rox_grammar.specs.Doctype.{Request, Asked}
 use Rattle.rox_grammar.specs.Written.{Item}
