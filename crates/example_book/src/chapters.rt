@@ -11,8 +11,8 @@ pub struct Chapter {
     pub text: String,
 }
 
-/// Returns the system identifiers that a book asks for, in order. The book is read once with nothing answered, only to be
-/// told what it asks for: an error of that reading says nothing of the book.
+/// Returns the system identifiers of the entities that a book requests, in order. The book is parsed with no text in answer, only
+/// to collect its requests. So an error of that parse says nothing about the book, and is ignored unless memory ran out.
 pub fn asked_for(alloc: Global, book: &str) -> Result<Vec<String>, AllocError> {
     let asked = RefCell::new(Vec::new(alloc));
     let resolver = ResolveWith::new(|_public_id, uri| {

@@ -49,7 +49,7 @@ fn print_dependency<W: Write>(
     Ok(())
 }
 
-/// Returns what a child element says, with its properties replaced, or `otherwise` if there is no such child.
+/// Returns the text of the child element `name`, or `otherwise` if there is none, with its properties replaced.
 fn value(
     alloc: Global,
     project: Node<'_, '_>,
@@ -75,7 +75,7 @@ fn child_text<'a>(element: Node<'a, '_>, name: &str) -> Option<&'a str> {
     Some(child(element, name)?.text()?.trim())
 }
 
-/// Returns the text with its properties replaced, and those in their values.
+/// Returns the text with its properties replaced, and those in their values, in at most `MOST_ROUNDS` rounds.
 fn with_properties(alloc: Global, project: Node<'_, '_>, text: &str) -> Result<String, AllocError> {
     let mut value = String::from_str(alloc, text)?;
     for _ in 0..MOST_ROUNDS {
@@ -109,7 +109,7 @@ fn push_property(value: &mut String, project: Node<'_, '_>, part: &str) -> Resul
     value.push_str(part)
 }
 
-/// Returns the value of a property: what the project says of itself, or else what its `properties` say.
+/// Returns the value of a property: a part of the project's own identity, or else the child of its `properties` with this name.
 fn property<'a>(project: Node<'a, '_>, name: &str) -> Option<&'a str> {
     match name {
         "project.version" => own_or_parents(project, "version"),

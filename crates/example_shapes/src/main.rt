@@ -73,7 +73,7 @@ fn fill<'a>(shape: Node<'a, '_>) -> &'a str {
     "black"
 }
 
-/// Returns the fill that an element says itself, in its `style` or else in its attribute `fill`.
+/// Returns the fill of the element itself: that of its `style`, or else its attribute `fill`.
 fn own_fill<'a>(element: Node<'a, '_>) -> Option<&'a str> {
     if let Some(style) = element.attribute("style".into()) {
         if let Some(fill) = fill_of_style(style) {
@@ -83,7 +83,7 @@ fn own_fill<'a>(element: Node<'a, '_>) -> Option<&'a str> {
     element.attribute("fill".into())
 }
 
-/// Returns the value of the last `fill` among the declarations of a style, as `red` of `stroke:none; fill: red`.
+/// Returns the value of the last `fill` among the declarations of a style, for example `red` of `stroke:none; fill: red`.
 fn fill_of_style(style: &str) -> Option<&str> {
     let mut found = None;
     for declaration in style.split(';') {

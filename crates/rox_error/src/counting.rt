@@ -38,7 +38,7 @@ impl Counted for FirstByte {
 /// The length of a block in bytes: a `u8` holds a count in one, so that the compiler counts sixteen bytes at a time.
 const BLOCK: usize = 128;
 
-/// Counts bytes of a block.
+/// Returns the number of bytes of a block that `C` counts.
 #[inline(always)]
 fn count_in_block<C: Counted>(block: &[u8]) -> u8
     requires { length block.now ≤ 128 }
@@ -53,7 +53,7 @@ fn count_in_block<C: Counted>(block: &[u8]) -> u8
     count
 }
 
-/// Counts bytes of a text.
+/// Returns the number of bytes of a text that `C` counts.
 pub(crate) fn count<C: Counted>(bytes: &[u8]) -> usize
     ensures { result ≡ count_by C.test bytes.now }
 {

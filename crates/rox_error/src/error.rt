@@ -159,9 +159,9 @@ impl Error<'_> {
     ghost use Rattle.std.specs.Prelude.{◌≡◌};
     ghost use Rattle.rox_error.specs.ErrorPositions.{kept_position, position_of};
 
-    /// Returns the position that the error keeps, or `None` if its kind keeps none. The kinds without a position are
+    /// Returns the position of the error, or `None` if its kind has none. The kinds without a position are
     /// `NoRootNode`, `UnclosedRootNode`, `DtdDetected`, `NodesLimitReached`, `AttributesLimitReached`, `NamespacesLimitReached`,
-    /// `UnexpectedEndOfStream` and `OutOfMemory`: each of them is about the whole text, or about memory.
+    /// `UnexpectedEndOfStream` and `OutOfMemory`: each of them is about a whole text, about its end, or about memory.
     ///
     /// ```
     /// // the text ends inside of `a`
@@ -208,7 +208,7 @@ impl Error<'_> {
         }
     }
 
-    /// Returns the position of the error, or 1:1 if its kind keeps none. `position` tells these apart.
+    /// Returns the position of the error, or 1:1 if its kind has none. `position` distinguishes the two.
     pub fn pos(&self) -> TextPos
         ensures { result ≡ position_of self.now }
     {

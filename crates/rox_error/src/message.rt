@@ -21,8 +21,8 @@ use std::fmt;
 pub struct Message<'e>(pub &'e Error<'e>);
 
 impl Error<'_> {
-    /// Returns the message of the error without its position, to be printed. `Display` of the error itself prints the same text
-    /// with ` at ` and the position in it, if the error keeps one.
+    /// Returns the message of the error without its position, to be printed. `Display` of the error itself prints this message
+    /// with ` at ` and the position in it, if the error has one.
     ///
     /// ```
     /// let text = "<a>\n</b>";

@@ -19,9 +19,9 @@ impl<'a, 'input> Node<'a, 'input> {
     ghost use Rattle.roxmltree.specs.NodeRef.{id_of, document_of, tree_of, item_of, node_refs};
     ghost use Rattle.roxmltree.specs.Elements.{root_id};
 
-    /// Returns whether it is a self-contained element (Namespaces in XML 1.0 section 6). Its text has no document type
-    /// declaration, and no ancestor lists a namespace. The slice of the text with such an element defines all its names and
-    /// references by itself. So it can be parsed alone and put elsewhere.
+    /// Returns whether it is a self-contained element (Namespaces in XML 1.0 section 6): the document has no document type
+    /// declaration, and no ancestor of the element lists a namespace. The element's slice of the text then defines all its names
+    /// and references by itself. So it can be parsed alone and put elsewhere.
     pub fn is_self_contained(&self) -> bool
         ensures { result ≡ stands_alone (document_of self.now) (id_of self.now) }
     {

@@ -73,14 +73,14 @@ impl<'input> Document<'input> {
     /// document is `opt.document_key`.
     ///
     /// The resolver is asked for the external entities that a declaration declares (XML 1.0 section 4.2.2). The tree is that of
-    /// the text with some answers that its relation `allows` (`is_parse`). Only tests show that each declaration is asked for
-    /// once, in order, and that these answers are the given ones.
+    /// the text with some answers, each of which the resolver's relation `allows` (`is_parse`). Only tests show that each
+    /// declaration is asked for once, in order, and that these answers are the given ones.
     ///
     /// `Error::OutOfMemory` says nothing about the text. `Error::EntityResolver` has words with which the resolver may refuse a
     /// request, and the position of that request (`resolver`). For any other error there are allowed answers to what the text
     /// asks for. No parse within the limits has answers that begin with these (`no_parse`).
     ///
-    /// By the clause `fault`, such an error reports a fault that the grammar has there, after what was asked until then. Its
+    /// By the clause `fault`, such an error reports a fault by the rules of the grammar, after the requests made until then. Its
     /// kind, position and names refer to the source it is in: this text, a replacement text of an entity, or an answer. By the
     /// clause `first`, each error except `Error::OutOfMemory` is the one that reading from left to right meets first.
     ///
