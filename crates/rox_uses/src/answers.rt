@@ -23,7 +23,7 @@ pub struct AttributeAnswers<'a, 'input> {
     pub borrowed: bool,
 }
 
-/// An attribute is seen as what its calls answer.
+/// Returns the results of the calls of an attribute, which give the attribute of the tree.
 pub fn attribute_answers<'a, 'input>(
     attribute: Attribute<'a, 'input>,
 ) -> AttributeAnswers<'a, 'input>
@@ -57,7 +57,7 @@ pub struct NamespaceAnswers<'a, 'input> {
     pub uri: &'a str,
 }
 
-/// A namespace is seen as what its calls answer.
+/// Returns the results of the calls of a namespace, which give the declaration of the tree.
 pub fn namespace_answers<'a, 'input>(
     namespace: &'a Namespace<'input>,
 ) -> NamespaceAnswers<'a, 'input>

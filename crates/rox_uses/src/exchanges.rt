@@ -13,7 +13,7 @@ use rox_laws::exchanges::root_elements_stand_alone;
 use roxmltree::{Error, Node};
 use std::alloc::Global;
 
-/// The text that an element is in, with a copy of another element in its place, which may be one of the same document.
+/// Returns the text of an element's document with a copy of another element in the element's place. Both may be in one document.
 pub fn with_copy(alloc: Global, element: Node<'_, '_>, other: Node<'_, '_>) -> Result<String, Error>
     requires mine { stands_alone (document_of element) (id_of element) ≡ true }
     requires others { stands_alone (document_of other) (id_of other) ≡ true }

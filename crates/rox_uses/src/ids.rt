@@ -9,7 +9,7 @@ ghost use Rattle.rox_uses.specs.Nodes.{nodes_of};
 
 use roxmltree::{Document, Node};
 
-/// The first element, in document order, whose attribute `id` has this value.
+/// Returns the first element, in document order, whose attribute `id` has this value, or `None` if there is none.
 pub fn element_by_id<'a, 'input>(
     document: &'a Document<'input>,
     id: &str,

@@ -64,7 +64,7 @@ impl<T: Drop> From<AllocFailed<T>> for QueryError {
     }
 }
 
-/// The records of the elements that a path leads to from the root node, in document order: of each its `name` and `value`.
+/// Returns the records of the elements that a path reaches from the root node, in document order: the `name` and `value` of each.
 pub fn records_at(
     alloc: Global,
     document: &Document<'_>,

@@ -11,9 +11,9 @@ ghost use Rattle.rox_uses.specs.Qualified.{qname_prefix, qname_local};
 
 use roxmltree::{ExpandedName, Node};
 
-/// What a qualified name stands for in an element (XML Schema 1.0 part 2 section 3.2.18): what is before its colon is a
-/// prefix that the element lists, and a name without colon is in the default namespace, if one is listed. None where the
-/// prefix is not listed.
+/// Returns the expanded name of a qualified name in an element (XML Schema 1.0 part 2 section 3.2.18). What is before its first
+/// colon is a prefix that the element lists. A name without a colon is in the default namespace, if one is listed. Returns `None`
+/// if the prefix is not listed, as `xml` never is.
 #[tactic(auto, using(std::proofs::lemmas::List::Sums::fails_before_first))]
 pub fn resolve<'a, 'name>(
     element: Node<'a, '_>,
@@ -34,7 +34,7 @@ pub fn resolve<'a, 'name>(
     Some(ExpandedName::from((uri, local)))
 }
 
-/// A name in the default namespace of an element, if it lists one.
+/// Returns the name with this local name in the default namespace of an element, or in none if the element lists none.
 fn in_default<'a, 'name>(element: Node<'a, '_>, local: &'name str) -> ExpandedName<'a, 'name>
     ensures { expanded result ≡ (uri_of (listed_of (item_of element.entry)) None, local.now) }
 {

@@ -59,7 +59,7 @@ impl<T: Drop> From<AllocFailed<T>> for RecordsError {
     }
 }
 
-/// The rows among the children of an element, in order. Other children are passed over.
+/// Returns the records of the rows among the children of an element, in order. Other children are skipped.
 pub fn read_records(alloc: Global, table: Node<'_, '_>) -> Result<Vec<Record>, RecordsError>
     ensures ok { IfOk result (λ records. map written records.items
         ≡ map said (rows_of (children_of table.entry))) }

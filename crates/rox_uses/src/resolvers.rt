@@ -12,7 +12,7 @@ use rox_error::error::Error;
 use roxmltree::{Document, EntityResolver, ParsingOptions, ResolveWith};
 use std::alloc::Global;
 
-/// Returns the document of a text whose external entities a resolver answers for, of whatever type it is.
+/// Returns the document of a text. A resolver of any type answers the requests for its external entities.
 pub fn parse_answered<'input, 'w, R: EntityResolver<'input> + Drop>(
     alloc: Global,
     text: &'input str,

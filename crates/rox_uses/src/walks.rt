@@ -32,7 +32,7 @@ pub fn levels(node: Node<'_, '_>) -> usize
     below + 1
 }
 
-/// Whether the attribute `id` of a node has this value.
+/// Returns whether the attribute `id` of a node has this value.
 fn is_named(node: &Node<'_, '_>, id: &str) -> bool
     ensures { result ≡ has_id id.now (node_ref node.now) }
 {
