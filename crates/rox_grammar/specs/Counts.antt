@@ -10,6 +10,7 @@ pub use Rattle.rox_grammar.specs.Document.{own_attributes, own_pairs, attributes
 abbrev pub listable : Tag → List NamespaceDecl
 listable t = listable_of t.declarations
 
+-- Whether a pair of a prefix, or the default, and a URI is among these.
 abbrev pub has_pair : List NamespaceDecl → NamespaceDecl → Bool
 has_pair ds d = list_any (λ e. same_pair e d) ds
 

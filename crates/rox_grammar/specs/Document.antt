@@ -74,9 +74,11 @@ abbrev pub distinct_count : List NamespaceDecl → ℕ
 distinct_count [] = 0
 distinct_count (d ∷ ds) = if list_any (same_pair d) ds then distinct_count ds else 1 + distinct_count ds
 
+-- The maximum number of attributes of a document.
 abbrev pub most_attributes : ℕ
 most_attributes = 2 ^ 32 - 2
 
+-- The maximum number of different pairs of a prefix, or the default, and a URI in a document.
 abbrev pub most_pairs : ℕ
 most_pairs = 2 ^ 16 - 1
 

@@ -10,6 +10,7 @@ pub record Replacement : Type 0 where
   pub source : List ℕ
   pub start : ℕ
 
+-- An entity that is declared: its name and its replacement text.
 pub record Entity : Type 0 where
   pub name : List ℕ
   pub text : Replacement

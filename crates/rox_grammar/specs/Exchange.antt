@@ -15,6 +15,7 @@ pub record Move : Type 0 where
   pub add : ℕ
   pub sub : ℕ
 
+-- The offset `i` after a move.
 abbrev pub moved : Move → ℕ → ℕ
 moved m i = i + m.add - m.sub
 

@@ -10,6 +10,7 @@ pub data Open : Type 0 where
   root : Open
   inside : (start : ℕ) → (tag : Tag) → (before : Forest Item) → Open → Open
 
+-- The state of reading: its offset, the items that are read, and the open elements.
 pub record State : Type 0 where
   pub at : ℕ
   -- The items of the innermost open element, or at the top.

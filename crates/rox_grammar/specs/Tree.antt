@@ -6,6 +6,7 @@ use Rattle.rox_grammar.specs.Forest.{Forest, Nil, Cons}
 use Rattle.rox_grammar.specs.Written as written
 use Rattle.rox_grammar.specs.Written.{Name, NamespaceDecl, Item}
 
+-- An attribute as its readers see it. Its offsets are those of the attribute as written.
 pub record Attribute : Type 0 where
   pub start : ℕ
   pub name_end : ℕ
@@ -17,6 +18,7 @@ pub record Attribute : Type 0 where
   pub value : List ℕ
   pub borrowed : Bool
 
+-- A node as its readers see it, with its range. `borrowed` says whether the value of a text is a slice of the source.
 pub data Node : Type 0 where
   Root : (end : ℕ) → Node
   -- An element: its range, its namespace and local name, the namespaces that it lists, and its attributes.
@@ -48,8 +50,8 @@ is_xml prefix = same_prefix prefix (Some (codes "xml"))
 abbrev pub listable_of : List NamespaceDecl → List NamespaceDecl
 listable_of ds = filter (λ d. not (is_xml d.prefix)) ds
 
--- NS 6: the namespaces that an element lists: those that it declares, and then those that its parent lists and it does not
--- declare.
+-- NS 6: the namespaces that an element lists: those that it declares, except `xml`, and then those that its parent lists and it
+-- does not declare.
 abbrev pub listed : List NamespaceDecl → List NamespaceDecl → List NamespaceDecl
 listed above own = listable_of own ++ filter (λ d. not (is_declared d.prefix own)) above
 
@@ -58,6 +60,7 @@ abbrev pub uri_of : List NamespaceDecl → Option (List ℕ) → Option (List �
 uri_of [] prefix = None
 uri_of (d ∷ ds) prefix = if same_prefix d.prefix prefix then Some d.uri else uri_of ds prefix
 
+-- The text, or `None` if it is empty.
 abbrev pub none_if_empty : List ℕ → Option (List ℕ)
 none_if_empty [] = None
 none_if_empty (b ∷ bs) = Some (b ∷ bs)
@@ -72,6 +75,7 @@ abbrev pub attribute_namespace : List NamespaceDecl → Name → Option (List �
 attribute_namespace scope name =
     if bytes_eq name.prefix [] then None else if bytes_eq name.prefix (codes "xml") then Some xml_uri else uri_of scope (Some name.prefix)
 
+-- An attribute as its readers see it, if its element lists `scope`.
 abbrev pub attribute_in : List NamespaceDecl → written.Attribute → Attribute
 attribute_in scope a =
     record { start = a.start; name_end = a.name_end; value_start = a.value_start; end = a.end; namespace = attribute_namespace scope a.name; local = a.name.local; value = a.value; borrowed = a.borrowed }

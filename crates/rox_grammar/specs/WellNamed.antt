@@ -35,6 +35,7 @@ may_name scope n = bytes_eq n.prefix [] || is_declared (Some n.prefix) scope
 abbrev pub IsWellNamed : List NamespaceDecl → Tag → Type 0
 IsWellNamed scope t = (bytes_eq t.name.prefix (codes "xmlns") ≡ false) × AreDeclarable t.declarations × AreDistinct scope t.attributes × (may_name scope t.name ≡ true)
 
+-- If the item is an element, its names are valid. `scope` is what it lists.
 abbrev pub ItemWellNamed : List NamespaceDecl → Item → Type 0
 ItemWellNamed scope (Element start end t) = IsWellNamed scope t
 ItemWellNamed scope other = Unit {0}

@@ -44,6 +44,7 @@ pub data Item : Type 0 where
 abbrev pub is_namespace_decl : Name → Bool
 is_namespace_decl n = bytes_eq n.prefix (codes "xmlns") || bytes_eq n.local (codes "xmlns")
 
+-- The declaration that an attribute as written makes.
 abbrev pub namespace_decl_of : Attribute → NamespaceDecl
 namespace_decl_of a = record { prefix = if bytes_eq a.name.prefix (codes "xmlns") then Some a.name.local else None; uri = a.value }
 
