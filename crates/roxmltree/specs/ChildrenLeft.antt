@@ -14,11 +14,11 @@ abbrev pub if_some : ℕ → List ℕ → List ℕ
 if_some zero ids = []
 if_some (suc n) ids = ids
 
--- The last child of `node` whose descendants end before the id `until`.
+-- The child of `node` whose subtree has the id `until - 1`.
 abbrev pub last_before : Forest grammar.Node → ℕ → ℕ → ℕ
 last_before tree until node = up_to tree (until - 1) node
 
--- The children of `node` from the id `from` on whose descendants end before the id `until`.
+-- The children of `node` from `from` up to `last_before`, both included, or none if `from` is not before `until`.
 abbrev pub between : Forest grammar.Node → (from until node : ℕ) → List ℕ
 between tree from until node = if_some (until - from) (siblings_through tree from (last_before tree until node))
 

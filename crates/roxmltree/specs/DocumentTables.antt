@@ -35,8 +35,10 @@ pub record IsWhole (text : List ℕ) (dtd : Bool) (t : Tables) : Type 0 where
   pub parsed : IsTreeOf text dtd asked 4294967295 (tree_in t)
   pub utf8 : IsUtf8 text
 
+-- What callers see of a document, whose tree is that of its tables.
 abbrev pub document_view : Inside → DocumentView
 document_view d = record { tree = tree_in d.tables; text = d.text.now; key = d.key; dtd = d.dtd }
 
+-- The tables of a document hold the tree of its text.
 abbrev pub IsDocumentOf : Inside → Type 0
 IsDocumentOf d = IsWhole d.text.now d.dtd d.tables

@@ -4,6 +4,7 @@ use Rattle.std.specs.Prelude.{ℕ, Bool, List}
 use Rattle.rox_grammar.specs.Forest.{Forest}
 use Rattle.rox_grammar.specs.Tree.{Node}
 
+-- A document as callers see it.
 pub record DocumentView : Type 0 where
   pub tree : Forest Node
   pub text : List ℕ

@@ -6,6 +6,7 @@ use Rattle.roxmltree.specs.Places.{children}
 use Rattle.roxmltree.specs.NodeParts.{is_element_node, node_at}
 use Rattle.roxmltree.specs.DocumentView.{DocumentView}
 
+-- Whether the node is an element.
 abbrev pub is_element : DocumentView × ℕ → Bool
 is_element node_ref = is_element_node (node_at node_ref.0.tree node_ref.1)
 

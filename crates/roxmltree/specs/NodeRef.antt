@@ -24,6 +24,7 @@ tree_of node = (document_of node).tree
 abbrev pub item_of : Node → grammar.Node
 item_of node = node_at (tree_of node) (id_of node)
 
+-- The document and the id of a node.
 abbrev pub node_ref : Node → DocumentView × ℕ
 node_ref node = (document_of node, id_of node)
 
