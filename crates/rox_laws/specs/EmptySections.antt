@@ -19,6 +19,7 @@ abbrev pub EmptyIsSections : List ℕ → Node → Type 0
 EmptyIsSections text (Text start end value borrowed) = value ≡ [] → EmptySections text start
 EmptyIsSections text other = Unit {0}
 
+-- Each empty text of the tree is written as empty CDATA sections only.
 abbrev pub EmptyTextsAreSections : List ℕ → Forest Node → Type 0
 EmptyTextsAreSections text tree = EachNode (EmptyIsSections text) tree
 

@@ -37,6 +37,7 @@ pub record IsNearest (tops : Forest Item) (tree : Forest Node) (id : ℕ) (prefi
   pub none_nearer : NoneDeclares tops prefix nearer
   pub declares : Contains (declared_by tops declarer) (record { prefix = prefix; uri = uri })
 
+-- The node of this id is an element.
 abbrev pub IsElementAt : Forest Node → ℕ → Type 0
 IsElementAt tree id = IsTrue (is_element_node (node_at tree id))
 

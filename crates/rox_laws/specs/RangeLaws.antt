@@ -34,6 +34,7 @@ AttributesInOrder tree = EachNode (λ node. AreInOrder (start_of node) (end_of n
 abbrev pub IsWritten : List ℕ → List NamespaceDecl → Attribute → Type 0
 IsWritten text scope a = (w : written.Attribute) × IsAttribute true no_entities text a.start a.end most_within most_within w × (a ≡ attribute_in scope w)
 
+-- Each attribute of the tree is written in the text, as in `IsWritten`.
 abbrev pub AttributesWritten : List ℕ → Forest Node → Type 0
 AttributesWritten text tree = EachNode (λ node. All (IsWritten text (listed_of node)) (attributes_of node)) tree
 
@@ -53,5 +54,6 @@ pub record SelectsAttribute (text : List ℕ) (a : Attribute) : Type 0 where
   -- The raw value is the value, if that is a slice of the text.
   pub value : a.borrowed ≡ true → a.value ≡ slice text a.value_start (a.end - 1)
 
+-- The ranges of each attribute of the tree are as in `SelectsAttribute`.
 abbrev pub RangesSelect : List ℕ → Forest Node → Type 0
 RangesSelect text tree = EachNode (λ node. All (SelectsAttribute text) (attributes_of node)) tree

@@ -7,6 +7,7 @@ use Rattle.rox_grammar.specs.Tree.{Node, Attribute, Root, Element, Text, Comment
 use Rattle.roxmltree.specs.NodeParts.{is_text_node, listed_of, attributes_of}
 use Rattle.roxmltree.specs.EachNode.{EachNode}
 
+-- Whether the first of these nodes is a text.
 abbrev pub begins_with_text : Forest Node → Bool
 begins_with_text Nil = false
 begins_with_text (Cons node children rest) = is_text_node node
