@@ -12,8 +12,8 @@ pub record IsElementOf (tree : Forest Node) (id : ℕ) (name : Expanded) : Type 
   pub namespace : namespace_of (node_at tree id) ≡ name.0
   pub local : local_of (node_at tree id) ≡ name.1
 
--- Without steps, only the start is reached. Otherwise the elements with the name of the last step are reached whose parent, or
--- one of whose ancestors, the steps before it reach.
+-- Without steps, only the start is reached. A last step to children reaches the elements with its name whose parent the steps
+-- before it reach. A last step to descendants reaches the elements with its name of which the steps before it reach an ancestor.
 pub data Match (tree : Forest Node) (start : ℕ) : List PathStep → ℕ → Type 0 where
   at_start : Match tree start [] start
   by_child : (steps : List PathStep) (name : Expanded) (id p : ℕ) → Match tree start steps p → parent tree id ≡ Some p → IsElementOf tree id name
