@@ -78,8 +78,8 @@ pub data MayBePair (text : List ℕ) (src : List ℕ) (i : ℕ) : (j : ℕ) → 
       → (j < spaces_end src j) ⊎ ((text_at "?>" src j ≡ true) ⊎ (length src ≡ j)) → MayBePair text src i (spaces_end src j)
   no_pair : stands text src i ≡ false → MayBePair text src i i
 
--- XML 2.8 [23]: the declaration that starts at `i` is read up to `p`. A pair that starts with `text` is read there, if it is there.
--- The pair of `version` is required.
+-- XML 2.8 [23]: the declaration that starts at `i` is read up to `p`, where a pair that starts with `text` comes next. Only the
+-- pair of `version` is required there; another one may be missing.
 pub data DeclarationTo (src : List ℕ) (i : ℕ) : (text : List ℕ) → (p : ℕ) → Type 0 where
   version : text_at "version" src (spaces_end src (i + 5)) ≡ true → DeclarationTo src i (codes "version") (spaces_end src (i + 5))
   encoding : (p q : ℕ) → DeclarationTo src i (codes "version") p → MayBePair (codes "version") src p q → DeclarationTo src i (codes "encoding") q
