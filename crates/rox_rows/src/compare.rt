@@ -1,13 +1,19 @@
 //! Equality of short texts.
 
 ghost use Rattle.std.specs.Prelude.{◌≡◌, ◌≤◌, ◌<◌, ◌+◌, length, bytes_eq, slice_range};
-ghost use Rattle.rox_rows.specs.Words.{HasLength, IsWord};
+ghost use Rattle.rox_rows.specs.Words.{HasLength, IsLongWord, IsWord};
 
 /// The length in bytes from which on the comparison of the standard library is used.
 pub const LONG: usize = 16;
 
 /// The number of bytes in a word.
 pub const WORD: usize = 4;
+
+/// The number of bytes in a long word.
+const LONG_WORD: usize = 8;
+
+/// The number of bytes in two long words.
+const STRETCH: usize = 16;
 
 /// Returns the four bytes from `at` on as one word, the lowest byte first.
 #[inline(always)]
@@ -45,6 +51,68 @@ pub fn same_words(pair: Pair<'_, '_>) -> bool
 {
     let last = pair.one.len() - WORD;
     same_word(pair, 0) && same_word(pair, last)
+}
+
+/// Returns the eight bytes from `at` on as one long word, the lowest byte first.
+#[inline(always)]
+fn long_word_at(bytes: &[u8], at: usize) -> u64
+    requires { at + 8 ≤ length bytes.now }
+    ensures { IsLongWord bytes.now at result }
+{
+    u64::from_le_bytes([
+        bytes[at],
+        bytes[at + 1],
+        bytes[at + 2],
+        bytes[at + 3],
+        bytes[at + 4],
+        bytes[at + 5],
+        bytes[at + 6],
+        bytes[at + 7],
+    ])
+}
+
+/// Returns whether both slices have the same eight bytes from `at` on.
+#[inline(always)]
+fn same_long_word(pair: Pair<'_, '_>, at: usize) -> bool
+    requires { at + 8 ≤ length pair.one.now }
+    ensures { result
+        ≡ bytes_eq (slice_range pair.entry.one.now at (at + 8))
+        (slice_range pair.entry.other.now at (at + 8)) }
+{
+    long_word_at(pair.one, at) == long_word_at(pair.other, at)
+}
+
+/// Returns whether two slices of eight to sixteen bytes are equal: their first eight bytes are, and their last eight.
+#[inline(always)]
+fn same_long_words(pair: Pair<'_, '_>) -> bool
+    requires { HasLength 8 16 pair.one.now }
+    ensures { result ≡ bytes_eq pair.entry.one.now pair.entry.other.now }
+{
+    let last = pair.one.len() - LONG_WORD;
+    same_long_word(pair, 0) && same_long_word(pair, last)
+}
+
+/// Returns whether both slices have the same sixteen bytes from `at` on.
+#[inline(always)]
+fn same_sixteen(pair: Pair<'_, '_>, at: usize) -> bool
+    requires { at + 16 ≤ length pair.one.now }
+    ensures { result
+        ≡ bytes_eq (slice_range pair.entry.one.now at (at + 16))
+        (slice_range pair.entry.other.now at (at + 16)) }
+{
+    let one = &pair.one[at..at + STRETCH];
+    let other = &pair.other[at..at + STRETCH];
+    same_long_words(Pair { one, other })
+}
+
+/// Returns whether two slices of sixteen to thirty-two bytes are equal: their first sixteen bytes are, and their last sixteen.
+#[inline(always)]
+fn same_sixteens(pair: Pair<'_, '_>) -> bool
+    requires { HasLength 16 32 pair.one.now }
+    ensures { result ≡ bytes_eq pair.entry.one.now pair.entry.other.now }
+{
+    let last = pair.one.len() - STRETCH;
+    same_sixteen(pair, 0) && same_sixteen(pair, last)
 }
 
 /// Returns whether both slices are equal, byte by byte.
@@ -88,8 +156,11 @@ pub fn same_short(pair: Pair<'_, '_>) -> bool
     if count < WORD {
         return same_few(pair);
     }
-    if count <= WORD * 2 {
+    if count <= LONG_WORD {
         return same_words(pair);
+    }
+    if count <= STRETCH {
+        return same_long_words(pair);
     }
     same_bytes(pair)
 }
@@ -122,4 +193,23 @@ pub fn same_text(one: &str, other: &str) -> bool
     ensures { result ≡ bytes_eq one.now other.now }
 {
     same_stretch(one.as_bytes(), other.as_bytes())
+}
+
+/// Returns whether two texts are equal, in line for texts of at most thirty-two bytes. Line ends with their indentation are such.
+#[inline(always)]
+pub(crate) fn same_line_end(one: &str, other: &str) -> bool
+    ensures { result ≡ bytes_eq one.now other.now }
+{
+    let one = one.as_bytes();
+    let other = other.as_bytes();
+    if one.len() != other.len() {
+        return false;
+    }
+    if one.len() <= STRETCH {
+        return same_short(Pair { one, other });
+    }
+    if one.len() <= 2 * STRETCH {
+        return same_sixteens(Pair { one, other });
+    }
+    same_long(one, other)
 }

@@ -2,10 +2,12 @@
 //! shares its storage if it equals the last one of its length. A made value shares its storage if it equals the last one of its
 //! place (see `place_of`).
 
-ghost use Rattle.std.specs.Prelude.{◌<◌, vec_len, OnOk, IfOk, IfSome};
+ghost use Rattle.std.specs.Prelude.{◌≡◌, ◌<◌, vec_len, OnOk, IfOk, IfSome};
+ghost use Rattle.std.specs.Rc.{rc_str_bytes};
 ghost use Rattle.std.specs.String.{string_bytes};
 ghost use Rattle.rox_rows.specs.Storage.{IsOwnText};
 
+use crate::compare::same_line_end;
 use crate::storage::StringStorage;
 use std::alloc::{AllocError, Global};
 use std::rc::RcStr;
@@ -86,7 +88,23 @@ impl Recent {
         }
     }
 
+    /// Returns a text that shares the storage of the one stored at this place, if that equals `text`. Otherwise, or if it is
+    /// shared too often to be counted, returns `None`.
+    #[inline(always)]
+    fn again(&self, place: usize, text: &str) -> Option<RcStr>
+        ensures { IfSome result (λ t. rc_str_bytes t ≡ text.now) }
+    {
+        let Some(Some(kept)) = self.texts.get(place) else {
+            return None;
+        };
+        if same_line_end(kept.as_str(), text) {
+            return kept.clone().ok();
+        }
+        None
+    }
+
     /// Returns an owned text of the bytes of `text`. It shares its storage with the last text of its length if both are equal.
+    #[inline(always)]
     pub fn owned<'input>(
         &mut self,
         alloc: Global,
@@ -94,12 +112,21 @@ impl Recent {
     ) -> Result<StringStorage<'input>, AllocError>
         ensures { IfOk result (IsOwnText text.now) }
     {
-        if let Some(Some(kept)) = self.texts.get(text.len()) {
-            if kept.as_str() == text {
-                let shared = kept.clone()?;
-                return Ok(StringStorage::Owned(shared));
-            }
+        if let Some(shared) = self.again(text.len(), text) {
+            return Ok(StringStorage::Owned(shared));
         }
+        self.owned_anew(alloc, text)
+    }
+
+    /// Like `owned`, but the storage is not shared with an earlier text.
+    #[inline(never)]
+    fn owned_anew<'input>(
+        &mut self,
+        alloc: Global,
+        text: &str,
+    ) -> Result<StringStorage<'input>, AllocError>
+        ensures { IfOk result (IsOwnText text.now) }
+    {
         let owned = RcStr::from_str(alloc, text)?;
         if text.len() < LONG {
             self.keep(&owned, text.len())?;
@@ -113,11 +140,8 @@ impl Recent {
         ensures { IfOk result (IsOwnText (string_bytes text)) }
     {
         let place = place_of(text.as_str());
-        if let Some(Some(kept)) = self.texts.get(place) {
-            if kept.as_str() == text.as_str() {
-                let again = kept.clone()?;
-                return Ok(StringStorage::Owned(again));
-            }
+        if let Some(again) = self.again(place, text.as_str()) {
+            return Ok(StringStorage::Owned(again));
         }
         let owned = RcStr::from_string(text)?;
         self.keep(&owned, place)?;
