@@ -54,15 +54,15 @@ pub record MakesRoom {A E : Type 0} (place end : ℕ) (old new : Vec A Global) (
   pub eighth : OnOk result (vec_len new + vec_len new / 8 < vec_capacity new)
   pub small : OnOk result (foreseen (vec_len old) place end ≤ 204 → foreseen (vec_len old) place end ≤ vec_capacity new)
 
--- The rows stay, and the room does not grow. An empty table with room for more than 65,536 rows has no room afterwards.
+-- The rows stay, and the room does not grow. An empty table with room for more than 1,024 rows has no room afterwards.
 pub record GivesBack {A : Type 0} (old new : Vec A Global) : Type 0 where
   pub items : VecUnchanged old new
   pub room : vec_capacity new ≤ vec_capacity old
-  pub none : vec_len old ≡ 0 → 65536 < vec_capacity old → vec_capacity new ≡ 0
+  pub none : vec_len old ≡ 0 → 1024 < vec_capacity old → vec_capacity new ≡ 0
 
--- The rows that a text of `bytes` bytes gets room for at first: of each kind at most one in 12 bytes, and some more. They include
--- at least one node.
+-- The rows that a text of `bytes` bytes gets room for at first: at most a node for 4 bytes and an attribute for 6 bytes, and some
+-- more. They include at least one node.
 pub record IsFirstRoom (bytes : ℕ) (rows : RowCounts) : Type 0 where
-  pub nodes : rows.nodes ≤ bytes / 12 + 16
+  pub nodes : rows.nodes ≤ bytes / 4 + 16
   pub some : 0 < rows.nodes
-  pub attributes : rows.attributes ≤ bytes / 12 + 10
+  pub attributes : rows.attributes ≤ bytes / 6 + 10

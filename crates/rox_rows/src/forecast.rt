@@ -30,8 +30,11 @@ const SHIFTS: usize = 32;
 /// The least length of a part, in bytes, so that its sample lies inside it.
 const LEAST_PART: usize = 96;
 
-/// At most one row of each kind is estimated for this many bytes, however dense the sample is.
-const DENSEST: usize = 12;
+/// At most one node is estimated for this many bytes, however dense the sample is: `<a/>` has as many.
+const DENSEST_NODES: usize = 4;
+
+/// At most one attribute is estimated for this many bytes, however dense the sample is: ` a="b"` has as many.
+const DENSEST_ATTRIBUTES: usize = 6;
 
 /// The nodes of most texts of fewer bytes fit into 21 rows, which have less than 1 KB. The C library keeps blocks of that size at
 /// hand.
@@ -121,9 +124,8 @@ pub fn first_rows(text: &str) -> RowCounts
     } else {
         by_sample(text.as_bytes())
     };
-    let most = len / DENSEST;
     RowCounts {
-        nodes: rows.nodes.min(most) + MORE_NODES,
-        attributes: rows.attributes.min(most) + MORE_ATTRIBUTES,
+        nodes: rows.nodes.min(len / DENSEST_NODES) + MORE_NODES,
+        attributes: rows.attributes.min(len / DENSEST_ATTRIBUTES) + MORE_ATTRIBUTES,
     }
 }

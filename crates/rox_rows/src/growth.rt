@@ -128,9 +128,9 @@ pub fn make_room<T: Drop>(to: &mut Vec<T>, place: usize, end: usize) -> Result<(
 }
 
 /// The most rows of spare room that stay: giving back less costs more than it is worth.
-const SPARE: usize = 65536;
+const SPARE: usize = 1024;
 
-/// Gives back the spare room of a finished table if there is much of it. That is more than `SPARE` rows and more than a quarter
+/// Gives back the spare room of a finished table if there is much of it. That is more than `SPARE` rows and more than a sixteenth
 /// of the rows in use.
 #[inline]
 pub fn trim<T: Drop>(table: &mut Vec<T>)
@@ -138,7 +138,7 @@ pub fn trim<T: Drop>(table: &mut Vec<T>)
 {
     let len = table.len();
     let spare = table.capacity() - len;
-    if spare > SPARE && spare > len / 4 {
+    if spare > SPARE && spare > len / 16 {
         table.shrink_to_fit();
     }
 }
