@@ -1,3 +1,4 @@
+pub mod EasedLemmas
 pub mod LaneLemmas
 pub mod MarkLemmas
 pub mod NearLemmas

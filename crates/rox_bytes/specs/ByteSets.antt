@@ -1,7 +1,7 @@
 -- Sets of bytes that need no replacement, whichever character they are of. Byte 239 starts the two characters past ASCII that are
 -- not Chars. Of these sets, only `is_stretch_byte` and `is_run_byte` have it: they do not say that a character is a Char.
 use Rattle.rox_grammar.specs.Chars.{is_part_char}
-use Rattle.std.specs.Prelude.{◌≡◌, ◌+◌, ◌≤◌, ◌<◌, ℕ, Bool, true, false, not, ◌&&◌, ◌||◌, ◌==◌, nat_le, nat_lt, bit_xor, List, length, slice_index}
+use Rattle.std.specs.Prelude.{◌≡◌, ◌+◌, ◌≤◌, ◌<◌, ℕ, Bool, true, false, not, ◌&&◌, ◌||◌, ◌==◌, nat_le, nat_lt, bit_xor, cond, List, [], ◌∷◌, length, slice_index}
 use Rattle.rox_grammar.specs.declared.fault.Word.{Word}
 use Rattle.rox_grammar.specs.FixedTexts.{word_text}
 use Rattle.rox_reading.specs.Refusals.{there}
@@ -63,6 +63,27 @@ is_part_byte b = nat_lt b 128 && is_part_char b
 abbrev pub AllPass : (ℕ → Bool) → List ℕ → ℕ → ℕ → Type 0
 AllPass p src i j = (k : ℕ) → i ≤ k → k < j → p (slice_index src k) ≡ true
 
+-- The byte `b` is a 239 that the byte `next` does not follow if it starts U+FFFE or U+FFFF: these start with 239 and 191.
+abbrev pub leads_char : (b next : ℕ) → Bool
+leads_char b next = (b == 239) && not (next == 191)
+
+-- The bytes with 255 in place of each 239 that 191 does not follow.
+abbrev pub eased : List ℕ → List ℕ
+eased [] = []
+eased (b ∷ bs) = cond (leads_char b (slice_index bs 0)) 255 b ∷ eased bs
+
+-- The byte at `k` passes `p`, or it is a 239 that 191 does not follow.
+abbrev pub passes_eased : (ℕ → Bool) → List ℕ → ℕ → Bool
+passes_eased p src k = p (slice_index src k) || leads_char (slice_index src k) (slice_index src (k + 1))
+
+-- The bytes from `i` up to `j` pass `p` or are 239 without 191 after it. The byte at `j`, if there is one, does not pass `p`, or
+-- is 239.
+pub record EndsEased (p : ℕ → Bool) (src : List ℕ) (i j : ℕ) : Type 0 where
+  pub onward : i ≤ j
+  pub within : j ≤ length src
+  pub passes : (k : ℕ) → i ≤ k → k < j → passes_eased p src k ≡ true
+  pub stops : j < length src → (p (slice_index src j) && not (slice_index src j == 239)) ≡ false
+
 -- There are at least sixteen bytes, and at most sixteen of them from `i` on.
 pub record EndsInBlock (src : List ℕ) (i : ℕ) : Type 0 where
   pub room : 16 ≤ length src
@@ -80,11 +101,6 @@ pub record EndsSet (p : ℕ → Bool) (src : List ℕ) (i j : ℕ) : Type 0 wher
 pub record StopsSet (p : ℕ → Bool) (src : List ℕ) (i j : ℕ) : Type 0 where
   pub ends : EndsSet p src i j
   pub there : j < length src
-
--- Character data from `i` up to `j` needs no replacement, and `<` is at `j`.
-pub record EndsText (src : List ℕ) (i j : ℕ) : Type 0 where
-  pub ends : EndsSet is_text_byte src i j
-  pub here : slice_index src j ≡ 60
 
 -- The bytes of a word are letters or `_`, and there is at least one.
 pub record IsOfLetters (w : Word) : Type 0 where

@@ -7,7 +7,7 @@ ghost use Rattle.std.specs.Simd.Lanes.{mask_l};
 ghost use Rattle.rox_grammar.specs.Chars as spec;
 ghost use Rattle.rox_grammar.specs.Runs.{run_end};
 ghost use Rattle.rox_bytes.specs.ByteSets as near;
-ghost use Rattle.rox_bytes.specs.ByteSets.{EndsSet, StopsSet, is_part_byte};
+ghost use Rattle.rox_bytes.specs.ByteSets.{EndsEased, EndsSet, StopsSet, eased, is_part_byte};
 ghost use Rattle.rox_bytes.specs.Windows.{IsSeen};
 ghost use Rattle.rox_bytes.specs.ScanResults.{EndsNear, Finds, TellsAscii};
 
@@ -296,6 +296,37 @@ fn far_end<C: ByteSet>(bytes: &[u8], at: usize) -> usize
     short_end::<C>(bytes, block)
 }
 
+/// Returns the sixteen bytes from `at` on, with 255 in place of each 239 that 191 does not follow. U+FFFE and U+FFFF, which are not
+/// Chars, start with 239 and 191, so these other characters are Chars.
+#[inline(always)]
+fn eased_at(bytes: &[u8], at: usize) -> u8x16
+    requires { at + 17 ≤ length bytes.now }
+    ensures { result ≡ take 16 (drop at (eased bytes.now)) }
+{
+    let block = u8x16::from_slice(&bytes[at..]);
+    let next = u8x16::from_slice(&bytes[at + 1..]);
+    let leads = block.simd_eq(u8x16::splat(239)) & next.simd_ne(u8x16::splat(191));
+    leads.select(u8x16::splat(255), block)
+}
+
+/// Like `far_end`, but each 239 that 191 does not follow is passed too. A 239 among the last bytes is not.
+#[inline(never)]
+fn eased_end<C: ByteSet>(bytes: &[u8], at: usize) -> usize
+    requires { at ≤ length bytes.now }
+    ensures { EndsEased C.test bytes.now at result }
+{
+    let mut block = at;
+    while block + 17 <= bytes.len() {
+        let others = C::others(eased_at(bytes, block));
+        if others != 0 {
+            let count = before_first(others);
+            return block + count;
+        }
+        block += 16;
+    }
+    short_end::<C>(bytes, block)
+}
+
 /// Like `short_end`, but sixteen bytes at a time. Most runs end among the first sixteen bytes, which are tested in line.
 #[inline(always)]
 fn bytes_end<C: ByteSet>(bytes: &[u8], at: usize) -> usize
@@ -358,6 +389,16 @@ pub fn skip_set<C: ByteSet>(text: &str, at: usize) -> usize
     ensures { EndsSet C.test text.now at result }
 {
     bytes_end::<C>(text.as_bytes(), at)
+}
+
+/// Like `skip_set`, but each 239 that 191 does not follow is passed too, unless it is among the last bytes. It is out of line, for
+/// texts that have such a byte: others are searched by `skip_set`.
+#[inline(always)]
+pub fn skip_eased<C: ByteSet>(text: &str, at: usize) -> usize
+    requires { at ≤ length text.now }
+    ensures { EndsEased C.test text.now at result }
+{
+    eased_end::<C>(text.as_bytes(), at)
 }
 
 /// Returns whether an ASCII byte is at `at`, or no byte is.

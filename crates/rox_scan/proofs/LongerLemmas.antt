@@ -1,5 +1,5 @@
 -- What longer looks tell of a text, step by step.
-use Rattle.std.proofs.Common.{◌≡◌, ◌≢◌, ◌++◌, append_assoc, ℕ, suc, ◌+◌, ◌-◌, ◌<◌, ◌≤◌, ◌==◌, ◌||◌, ◌&&◌, leb, Bool, true, false, not, List, ◌∷◌, Ok, length, length-drop, get_or-drop, get_or, drop, slice_range, refl, sym, ap, ◌∙◌, arith, inl, inr}
+use Rattle.std.proofs.Common.{◌≡◌, ◌≢◌, ◌⊎◌, ◌++◌, append_assoc, ℕ, suc, ◌+◌, ◌-◌, ◌<◌, ◌≤◌, ◌==◌, ◌||◌, ◌&&◌, leb, Bool, true, false, not, List, ◌∷◌, Ok, length, length-drop, get_or-drop, get_or, drop, slice_range, refl, sym, ap, ◌∙◌, arith, inl, inr}
 use Rattle.std.specs.List.{list_any, starts_with}
 use Rattle.std.specs.Str.{IsUtf8, IsCharBoundary}
 use Rattle.std.proofs.lemmas.Bool.{cases_eq, cases_lt, eqb-true, le-leb, leb-true, le-ltb, lt-leb, ne_eqb, eq-eqb, false≢true}
@@ -15,9 +15,10 @@ use Rattle.rox_grammar.specs.FixedTexts.{word_text}
 use Rattle.rox_reading.specs.Lexical.{has_mark, chars_up_to, text_to, string_at}
 use Rattle.rox_reading.specs.Markup.{raw_value_at, comment_at}
 use Rattle.rox_reading.specs.Values.{is_special}
-use Rattle.rox_bytes.specs.ByteSets.{is_char_byte, AllPass, is_value_byte, is_wide_value_byte, is_quoted_byte, is_text_byte, is_comment_byte, is_ascii_comment_byte}
+use Rattle.rox_bytes.specs.ByteSets.{is_char_byte, AllPass, EndsEased, is_value_byte, is_wide_value_byte, is_quoted_byte, is_text_byte, is_comment_byte, is_ascii_comment_byte}
 use Rattle.rox_scan.specs.Lookahead.{IsLookahead, ends_value, ends_run, changes_run, ends_comment, changes_comment}
 use Rattle.rox_bytes.proofs.NearLemmas.{near_chars, near_found, none_among, value_is_plain, value_cut, value_widens, wide_value_is_plain, wide_value_cut, quoted_is_plain, quoted_cut, text_is_plain, text_cut, comment_is_plain, comment_cut, ascii_comment_widens, ascii_comment_cut}
+use Rattle.rox_bytes.proofs.EasedLemmas.{eased_byte, eased_chars}
 use Rattle.rox_bytes.proofs.MarkLemmas.{before_mark_is, not_from_first, fails, stands_split, stands_from_split}
 use Rattle.rox_scan.proofs.CharLemmas.{chars_joined}
 use Rattle.rox_reading.proofs.Stretches.{range_parts, range_length}
@@ -222,6 +223,38 @@ run_on src i j n e verbatim utf8 start f some cut chars wide here le within all 
     let two = looked_on changes_run ends src i j n verbatim _ utf8 start f one in
     let three = looked_on changes_run ends src i n e _ true utf8 start two (run_near src n e utf8 cut le within all stops) in
     rw (and_true (verbatim && not (changes_run (get_or src j 0)))) at three
+
+-- the same of a longer stretch, where characters that begin with 239 may stand
+eased_run_byte : (b : ℕ) → (is_text_byte b ≡ true) ⊎ (b ≡ 239) → changes_run b ≡ false
+eased_run_byte b h = elim h [ inl passes ↦ run_same b passes | inr wide ↦ rw wide refl ]
+
+eased_run_end : (src : List ℕ) (k : ℕ) → (is_text_byte (get_or src k 0) ≡ true) ⊎ (get_or src k 0 ≡ 239) → ends_run src k ≡ false
+eased_run_end src k h = elim h [ inl passes ↦ no_run_end src k (text_no_tag _ passes) (text_no_bracket _ passes) | inr wide ↦ wide_no_run_end src k (omega (arith, wide)) ]
+
+eased_leads : (b : ℕ) → (is_text_byte b && not (b == 239)) ≡ false → 128 ≤ b → 192 ≤ b
+unfolding is_text_byte
+eased_leads b h wide = grind (arith, nat_tests)
+
+pub run_eased : (src : List ℕ) (i e : ℕ) → IsUtf8 src → IsCharBoundary src i → EndsEased is_text_byte src i e → IsLookahead (ends_run src) changes_run src i e true
+run_eased src i e utf8 start f =
+    let cut : IsCharBoundary src e = (f.within, λ more wide. eased_leads _ (f.stops more) wide) in
+    let each = λ (k : ℕ) (low : i ≤ k) (high : k < e). eased_byte is_text_byte src k (f.passes k low high) in
+    record {
+      onward = f.onward;
+      cut = cut;
+      chars = eased_chars is_text_byte src i e utf8 start f.onward cut f.passes text_is_plain;
+      apart = λ k low high. eased_run_end src k (each k low high);
+      verbatim_is = sym (ap not (none_among (λ b. not (changes_run b)) changes_run src i e (e - i) (omega (arith, f.onward)) f.within (λ k low high. ap not (eased_run_byte _ (each k low high))) (λ b h. not_true (changes_run b) h)));
+    }
+
+-- and of one character
+pub run_step : (src : List ℕ) (i j : ℕ) → IsUtf8 src → IsCharBoundary src i → i ≤ j → IsCharBoundary src j → AreChars src i j → ((k : ℕ) → i < k → k < j → 128 ≤ get_or src k 0) → ends_run src i ≡ false → changes_run (get_or src i 0) ≡ false
+    → IsLookahead (ends_run src) changes_run src i j true
+run_step src i j utf8 start le cut chars wide here same =
+    elim (cases_eq j i) [
+      | inl none ↦ rw none (run_none src i utf8 start)
+      | inr other ↦ let one = char_looked changes_run (ends_run src) src i j (omega (arith, le, other)) cut chars wide wide_run (wide_no_run_end src) here in rw same at one
+    ]
 
 -- a mark stands in a slice only where it stands in the text
 mark_within : (mark src : List ℕ) (i e : ℕ) → 0 < length mark → e ≤ length src → i ≤ e → ((k : ℕ) → i ≤ k → k < e → stands mark src k ≡ false) → has_mark mark (slice_range src i e) ≡ false

@@ -8,6 +8,7 @@ use Rattle.rox_grammar.specs.Search.{byte_from, stands}
 use Rattle.rox_grammar.specs.Chars.{is_char}
 use Rattle.rox_grammar.specs.Runs.{begins}
 use Rattle.rox_grammar.specs.Content.{is_verbatim}
+use Rattle.rox_bytes.specs.ByteSets.{StopsSet, is_text_byte}
 use Rattle.rox_reading.specs.Values.{is_special, raw_character_data_at}
 use Rattle.rox_grammar.specs.Constructs.{AreChars}
 use Rattle.rox_grammar.specs.FixedTexts.{double_dash}
@@ -53,6 +54,16 @@ ends_run src k = (slice_index src k == 60) || stands (word_text word.CDataEnd) s
 -- Whether the byte changes character data: it is `&` or CR.
 abbrev pub changes_run : ℕ → Bool
 changes_run b = (b == 38) || (b == 13)
+
+-- Character data from `i` up to `j` is valid and needs no replacement, and `<` is at `j`.
+pub record EndsRun (src : List ℕ) (i j : ℕ) : Type 0 where
+  pub looked : IsLookahead (ends_run src) changes_run src i j true
+  pub here : slice_index src j ≡ 60
+
+-- The bytes from `i` up to `j` are of `TextByte`, and there is a byte at `j`, which is not.
+pub record SeesRun (src : List ℕ) (i j : ℕ) : Type 0 where
+  pub cut : IsCharBoundary src i
+  pub stops : StopsSet is_text_byte src i j
 
 -- Whether the text of a comment ends at the offset: two dashes are there.
 abbrev pub ends_comment : List ℕ → ℕ → Bool

@@ -9,15 +9,16 @@ ghost use Rattle.rox_grammar.specs.Constructs.{AreChars};
 ghost use Rattle.rox_grammar.specs.Content as content;
 ghost use Rattle.rox_reading.specs.Values as spec;
 ghost use Rattle.rox_bytes.specs.ByteSets as near;
-ghost use Rattle.rox_bytes.specs.ByteSets.{EndsText};
 ghost use Rattle.rox_scan.specs.Lookahead as longer;
-ghost use Rattle.rox_scan.specs.Lookahead.{IsLineRun, IsLookahead, IsStep, LooksAhead};
+ghost use Rattle.rox_scan.specs.Lookahead.{EndsRun, IsLineRun, IsLookahead, IsStep, LooksAhead, SeesRun};
 ghost use Rattle.rox_scan.specs.Views.{ReadsRun};
-ghost use Rattle.rox_bytes.specs.ScanResults.{HasWideAt};
+ghost use Rattle.rox_bytes.specs.ScanResults.{HasCharAt, HasWideAt};
 
 use crate::cursor::Cursor;
 use crate::lookahead::{Lookahead, after_char, is_mark_at};
-use rox_bytes::byte_set::{BEHIND_CONTROLS, ByteSet, find_other, skip_set, wide_first};
+use rox_bytes::byte_set::{
+    BEHIND_CONTROLS, ByteSet, find_other, skip_eased, skip_set, wide_first,
+};
 use rox_bytes::nibbles::by_low;
 use rox_bytes::runs::{after_byte, is_at};
 use rox_bytes::search::{before_either, byte_from, has_mark};
@@ -79,12 +80,12 @@ impl ByteSet for AsciiTextByte {
     }
 }
 
-/// Returns the offset of the `<` after the bytes of character data from `at` on that need no replacement, if one is there. Most
-/// often these bytes are ASCII, for which the test is quicker.
+/// Returns the offset of the `<` after the character data from `at` on, if it needs no replacement. Most often all its bytes are
+/// ASCII, for which the test is quicker.
 #[inline(always)]
 pub fn text_end(text: &str, at: usize) -> Option<usize>
-    requires { at ≤ length text.now }
-    ensures { IfSome result (EndsText text.now at) }
+    requires { IsCharBoundary text.now at }
+    ensures { IfSome result (EndsRun text.entry.now at) }
 {
     let bytes = text.as_bytes();
     let near = find_other::<AsciiTextByte>(text, at)?;
@@ -95,7 +96,23 @@ pub fn text_end(text: &str, at: usize) -> Option<usize>
     if bytes[end] == b'<' {
         return Some(end);
     }
-    None
+    far_text_end(text, at, end)
+}
+
+/// Like `text_end`, but the bytes up to `near` are `TextByte`s, and the byte at `near` is another.
+#[inline(always)]
+fn far_text_end(text: &str, at: usize, near: usize) -> Option<usize>
+    requires { SeesRun text.now at near }
+    ensures { IfSome result (EndsRun text.entry.now at) }
+{
+    if !is_rare(text.as_bytes()[near]) {
+        return None;
+    }
+    let end = far_run_end(Cursor { text, pos: near });
+    if !is_at(text, end, b'<') {
+        return None;
+    }
+    Some(end)
 }
 
 /// Returns whether character data ends at `at`: a `<` is there, or the text ends.
@@ -161,6 +178,31 @@ fn after_wide(text: &str, at: usize) -> usize
     at + 3
 }
 
+/// Returns whether a byte that is not a `TextByte` may be of character data that needs no replacement: 239 or `]`.
+#[inline(always)]
+fn is_rare(byte: u8) -> bool
+    ensures { result ≡ ((byte == 239) || (byte == 93)) }
+{
+    (byte == 239) | (byte == b']')
+}
+
+/// Returns the offset after the character at `at` if it is a Char that starts with 239, or a `]` that starts no `]]>`. Otherwise
+/// returns `at`.
+#[inline(always)]
+fn after_rare(text: &str, at: usize) -> usize
+    requires { HasCharAt text.now at }
+    ensures { IsLookahead (longer.ends_run text.now) longer.changes_run text.now at result true }
+{
+    let here = text.as_bytes()[at];
+    if here == 239 {
+        return after_wide(text, at);
+    }
+    if here == b']' && !is_mark_at(text, at, b"]]>") {
+        return at + 1;
+    }
+    at
+}
+
 /// Returns the end of the character data from the cursor on that needs no replacement. It ends there, or another byte follows.
 #[inline(always)]
 pub fn plain_run_end(from: Cursor<'_>) -> usize
@@ -169,16 +211,16 @@ pub fn plain_run_end(from: Cursor<'_>) -> usize
 {
     let text = from.text;
     let near = skip_set::<TextByte>(text, from.pos);
-    if is_at(text, near, 239) {
-        return wide_run_end(Cursor { text, pos: near });
+    if is_at(text, near, 239) || is_at(text, near, b']') {
+        return far_run_end(Cursor { text, pos: near });
     }
     near
 }
 
-/// Like `plain_run_end`, but from a character that starts with byte 239, as full-width forms do. All of these except U+FFFE and
-/// U+FFFF are Chars.
+/// Like `plain_run_end`, but from a character that starts with 239, as full-width forms do, or from a `]`. Full-width forms come in
+/// numbers, so the search after one passes most others too.
 #[inline(never)]
-fn wide_run_end(from: Cursor<'_>) -> usize
+fn far_run_end(from: Cursor<'_>) -> usize
     ensures { IsLookahead (longer.ends_run from.entry.text.now) longer.changes_run
         from.entry.text.now from.entry.pos result true }
 {
@@ -186,15 +228,11 @@ fn wide_run_end(from: Cursor<'_>) -> usize
     let bytes = text.as_bytes();
     let mut end = from.pos;
     while end < bytes.len() {
-        let here = bytes[end];
-        if here != 239 {
-            break;
-        }
-        let next = after_wide(text, end);
+        let next = after_rare(text, end);
         if next == end {
             break;
         }
-        end = skip_set::<TextByte>(text, next);
+        end = skip_eased::<TextByte>(text, next);
     }
     end
 }

@@ -1,6 +1,6 @@
 use Rattle.std.proofs.Common.{◌-◌, true, length}
 use Rattle.rox_scan.specs.Lookahead.{IsLookahead, ends_run, changes_run}
-use Rattle.rox_scan.proofs.character_data.wide_run_end.Given as goal
+use Rattle.rox_scan.proofs.character_data.far_run_end.Given as goal
 
 abbrev pub invariant-loop-end : goal.invariant-loop-end
 invariant-loop-end l = record {
