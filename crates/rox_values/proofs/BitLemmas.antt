@@ -104,7 +104,7 @@ return_is : (main : Bool) (es : List Entity) (src : List ℕ) (stop i : ℕ) →
 unfolding value_bit_at
 return_is main es src stop i here other = rw (here, other) refl
 
-space_is : (main : Bool) (es : List Entity) (src : List ℕ) (stop i : ℕ) → is_special (slice_index src i) ≡ true → slice_index src i ≢ 38 → slice_index src i ≢ 13
+pub space_is : (main : Bool) (es : List Entity) (src : List ℕ) (stop i : ℕ) → is_special (slice_index src i) ≡ true → slice_index src i ≢ 38 → slice_index src i ≢ 13
     → value_bit_at main es src stop i ≡ Ok (bytes_of (32 ∷ []), i + 1)
 unfolding value_bit_at
 space_is main es src stop i special other no_cr = rw (no_reference_is _ other, white_is _ special other, no_return _ no_cr) refl
@@ -305,7 +305,7 @@ inner_stretch src stop i j read on cut = record { value = value; onward = on; cu
     value true may = cc may
     value false may = read
 
-stretch_is : (main : Bool) (es : List Entity) (src : List ℕ) (stop i : ℕ) → is_special (slice_index src i) ≡ false → value_bit_at main es src stop i ≡ stretch_at main src stop i
+pub stretch_is : (main : Bool) (es : List Entity) (src : List ℕ) (stop i : ℕ) → is_special (slice_index src i) ≡ false → value_bit_at main es src stop i ≡ stretch_at main src stop i
 unfolding value_bit_at
 stretch_is main es src stop i plain = rw (no_reference (slice_index src i) plain, no_white (slice_index src i) plain) refl
 

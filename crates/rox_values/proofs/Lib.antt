@@ -9,3 +9,5 @@ pub mod ValueOpening
 pub mod SectionLemmas
 pub mod Lifting
 pub mod BitLemmas
+pub mod SpacedLemmas
+pub mod StopLemmas

@@ -1,5 +1,5 @@
 -- The items of a value that refer to no declared entity, compared with what is read.
-use Rattle.std.specs.Prelude.{◌≡◌, ◌<◌, ◌≤◌, ◌-◌, ◌==◌, ℕ, Bool, true, false, not, List, Result, Ok, Err, IfOk, slice_index, slice_range}
+use Rattle.std.specs.Prelude.{◌≡◌, ◌<◌, ◌≤◌, ◌+◌, ◌-◌, ◌==◌, ◌||◌, if◌then◌else◌, ℕ, Bool, true, false, not, List, Result, Ok, Err, IfOk, slice_index, slice_range}
 use Rattle.std.specs.Char.{encode_utf8}
 use Rattle.std.specs.Str.{IsCharBoundary}
 use Rattle.rox_grammar.specs.declared.fault.Fault.{Fault}
@@ -83,6 +83,33 @@ pub record PutsOne (kind : TextKind) (src : List ℕ) (i stop : ℕ) (old new : 
   pub put : 0 < j → PutsBit kind src i stop old new j
   pub refused : j ≡ 0 → new ≡ old
 
+-- What a reference to `c` gives in a value depends on the kind of the text: TAB, LF and CR give a space only in a replacement text,
+-- where `<` is a fault.
+abbrev pub depends_on_kind : ℕ → Bool
+depends_on_kind c = c == 9 || (c == 10 || (c == 13 || c == 60))
+
+-- No bytes are what a reference to `character` gives in each value of a text of the kind `kind`: it is a fault, or depends on the
+-- kind.
+abbrev pub HasNoCharacter : TextKind → ℕ → Type 0
+HasNoCharacter kind character = (i : ℕ) (given : List ℕ) → ((main : Bool) → may_be kind main ≡ true
+    → tested_bit main i (character_of character) (Ok (bytes_of (encode_utf8 character))) ≡ Ok (bytes_of given)) → ⊥
+
+-- No bytes are what the item at `i` gives in each text of the kind `kind`, whatever is declared: it names an entity, is a fault, or
+-- depends on the kind.
+abbrev pub GivesNoBytes : TextKind → List ℕ → ℕ → ℕ → Type 0
+GivesNoBytes kind src i stop = (given : List ℕ) (j : ℕ) → ((main : Bool) (es : List Entity) → may_be kind main ≡ true → value_bit_at main es src stop i ≡ Ok (bytes_of given, j)) → ⊥
+
+-- A buffer of `len` bytes has room for `cap`. If `j` is 0, nothing was appended for the item at `i`. With room for what is left up
+-- to `stop`, and for four bytes more, that is so only if the item gives no bytes.
+pub record StopsAtOne (kind : TextKind) (src : List ℕ) (i stop len cap new_len new_cap j : ℕ) : Type 0 where
+  pub room : cap ≤ new_cap
+  pub same : j ≡ 0 → new_len ≡ len
+  pub why : j ≡ 0 → len + (stop - i) + 4 ≤ cap → GivesNoBytes kind src i stop
+
+-- A value is read up to an item at `j` that gives no bytes, or to its end, if the room of the buffer was enough from the start.
+abbrev pub StopsWithRoom : TextKind → List ℕ → (stop cap len j : ℕ) → Type 0
+StopsWithRoom kind src stop cap len j = j < stop → len + (stop - j) + 4 ≤ cap → GivesNoBytes kind src j stop
+
 -- The bytes from `i` up to `j` are a stretch of a value.
 pub record IsStretch (kind : TextKind) (src : List ℕ) (i stop j : ℕ) : Type 0 where
   pub value : (main : Bool) → may_be kind main ≡ true → stretch_at main src stop i ≡ Ok (bytes_of (slice_range src i j), j)
@@ -98,6 +125,7 @@ GivesStretch src i (Err f) read = read ≡ Err f
 pub record EndsInnerStretch (src : List ℕ) (i stop : ℕ) (result : Result ℕ Fault) : Type 0 where
   pub value : GivesStretch src i result (stretch_at false src stop i)
   pub onward : IfOk result (λ j. i < j)
+  pub short : IfOk result (λ j. j ≤ stop)
   pub cut : IfOk result (λ j. IsCharBoundary src j)
 
 -- What a value gives from `i` up to `j` was appended. Then the rest from `j` on gives what the value from `i` on gave, whatever is
@@ -116,6 +144,16 @@ pub record HasChange (src : List ℕ) (i first j : ℕ) : Type 0 where
   pub front : EndsSet is_stretch_byte src i first
   pub before : first < j
   pub chars : AreValueChars src i j
+
+-- A TAB or a LF gives a space in a value. Other bytes that are neither `&` nor CR give themselves.
+abbrev pub spaced_byte : ℕ → ℕ
+spaced_byte b = if b == 9 || b == 10 then 32 else b
+
+-- The first byte that changes a value from `i` up to `j` is at `first`.
+pub record SpacesFrom (src : List ℕ) (i first j : ℕ) : Type 0 where
+  pub after : i ≤ first
+  pub before : first < j
+  pub stop : IsCharBoundary src j
 
 -- A replacement text that a reference names, and the offset after the reference. A failure is the fault of what is read.
 abbrev pub NamesThere : Result (Cursor × ℕ) Failure → Read Bit → Type 0

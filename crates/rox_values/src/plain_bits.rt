@@ -1,12 +1,14 @@
 //! The items of attribute values that need no entity: characters, references to characters, and white space (XML 1.0 sections 3.3.3
 //! and 4.1). They are appended one after another, up to a reference to an entity, a fault, or the end of memory.
 
-ghost use Rattle.std.specs.Prelude.{◌≡◌, ◌-◌, ℕ, Bool, List, Ok, IfSome};
-ghost use Rattle.std.specs.String.{string_bytes};
+ghost use Rattle.std.specs.Prelude.{◌≡◌, ◌-◌, ◌≤◌, ℕ, Bool, List, Ok, IfNone, IfSome, map, true};
+ghost use Rattle.std.specs.String.{string_bytes, string_capacity, string_len};
 ghost use Rattle.rox_grammar.specs.Entities.{Entity};
+ghost use Rattle.rox_bytes.specs.ByteSets.{AllPass, is_run_byte};
 ghost use Rattle.rox_reading.specs.Values as spec;
 ghost use Rattle.rox_values.specs.Values.{BeginsWhiteSpace, is_inner_byte};
-ghost use Rattle.rox_values.specs.PlainBits.{BeginsBit, BeginsReference, BeginsStretch, EndsInnerStretch, GivesCharacter, HasChange, IsRest, IsStretch, PutsBits, PutsOne};
+ghost use Rattle.rox_values.specs.PlainBits.{BeginsBit, BeginsReference, BeginsStretch, EndsInnerStretch, GivesCharacter, GivesNoBytes, HasChange, HasNoCharacter, IsRest, IsStretch, PutsBits, PutsOne, SpacesFrom, StopsAtOne, StopsWithRoom, depends_on_kind, spaced_byte};
+ghost use Rattle.rox_values.specs.declared.plain_bits.TextKind.{TextKind};
 ghost use Rattle.rox_values.specs.declared.plain_bits.TextKind.TheVariants as kind_of;
 
 use crate::reference::{Reference, read_reference};
@@ -15,7 +17,7 @@ use rox_bytes::nibbles::by_low;
 use rox_bytes::runs::is_at;
 use rox_grammar::fault::Fault;
 use rox_scan::cursor::Cursor;
-use rox_scan::lookahead::{StretchByte, is_special};
+use rox_scan::lookahead::{RunByte, StretchByte, is_special};
 use std::alloc::Global;
 use std::simd::prelude::*;
 
@@ -33,8 +35,10 @@ pub enum TextKind {
 #[inline(always)]
 fn put_space(text: &str, at: usize, stop: usize, out: &mut String) -> usize
     requires { BeginsWhiteSpace text.now at stop }
-    ensures { PutsOne kind_of.Either text.now at stop (string_bytes out.old)
+    ensures puts { PutsOne kind_of.Either text.now at stop (string_bytes out.old)
         (string_bytes out.new) result }
+    ensures stops { (kind : TextKind) → StopsAtOne kind text.now at stop (string_len out.old) (string_capacity out.old)
+        (string_len out.new) (string_capacity out.new) result }
 {
     let after = at + 1;
     if text.as_bytes()[at] == b'\r' && is_at(&text[..stop], after, b'\n') {
@@ -50,7 +54,8 @@ fn put_space(text: &str, at: usize, stop: usize, out: &mut String) -> usize
 /// Returns `None` for a `<`, which is a fault (XML 1.0 sections 3.1 and 3.3.3).
 #[inline(always)]
 fn inner_given(character: char) -> Option<char>
-    ensures { IfSome result (λ c. GivesCharacter kind_of.Replacement character c) }
+    ensures some { IfSome result (λ c. GivesCharacter kind_of.Replacement character c) }
+    ensures none { IfNone result (character ≡ 60) }
 {
     if character == '<' {
         return None;
@@ -61,11 +66,33 @@ fn inner_given(character: char) -> Option<char>
     Some(character)
 }
 
+/// Returns whether what a reference to `character` gives in a value depends on the kind of the text.
+#[inline(always)]
+fn depends_on_kind(character: char) -> bool
+    ensures { result ≡ depends_on_kind character }
+{
+    (character == '\t') | ((character == '\n') | ((character == '\r') | (character == '<')))
+}
+
+/// Returns the character that a reference to `character` gives in a value of either kind of text. Returns `None` for `<`, TAB, LF and
+/// CR, which depend on the kind.
+#[inline(always)]
+fn alike_given(character: char) -> Option<char>
+    ensures some { IfSome result (λ c. GivesCharacter kind_of.Either character c) }
+    ensures none { IfNone result (HasNoCharacter kind_of.Either character) }
+{
+    if depends_on_kind(character) {
+        return None;
+    }
+    Some(character)
+}
+
 /// Returns the character that a reference to `character` gives in a value, or `None` if that is a fault. Also returns `None` if it
 /// depends on the kind of the text, which is not known: it does for `<`, TAB, LF and CR.
 #[inline(always)]
 fn given(character: char, kind: TextKind) -> Option<char>
-    ensures { IfSome result (λ c. GivesCharacter kind character c) }
+    ensures some { IfSome result (λ c. GivesCharacter kind character c) }
+    ensures none { IfNone result (HasNoCharacter kind character) }
 {
     if character > '\r' && character != '<' {
         return Some(character);
@@ -73,7 +100,7 @@ fn given(character: char, kind: TextKind) -> Option<char>
     match kind {
         TextKind::Main => Some(character),
         TextKind::Replacement => inner_given(character),
-        TextKind::Either => None,
+        TextKind::Either => alike_given(character),
     }
 }
 
@@ -82,12 +109,16 @@ fn given(character: char, kind: TextKind) -> Option<char>
 #[inline(always)]
 fn put_reference(text: &str, at: usize, kind: TextKind, out: &mut String) -> usize
     requires { BeginsReference text.now at }
-    ensures { (stop : ℕ) → PutsOne kind text.now at stop (string_bytes out.old)
+    ensures puts { (stop : ℕ) → PutsOne kind text.now at stop (string_bytes out.old)
         (string_bytes out.new) result }
+    ensures stops { (stop : ℕ) → StopsAtOne kind text.now at stop (string_len out.old) (string_capacity out.old)
+        (string_len out.new) (string_capacity out.new) result }
 {
     let mut cursor = Cursor::at(text, at);
-    let Ok(Reference::Character(character)) = read_reference(&mut cursor) else {
-        return 0;
+    let character = match read_reference(&mut cursor) {
+        Ok(Reference::Character(character)) => character,
+        Ok(Reference::Entity(_, _)) => return 0,
+        Err(_) => return 0,
     };
     let Some(given) = given(character, kind) else {
         return 0;
@@ -143,10 +174,15 @@ pub(crate) fn inner_stretch_end(text: &str, at: usize, stop: usize) -> Result<us
 #[inline(always)]
 fn stretch_end(text: &str, at: usize, stop: usize, kind: TextKind) -> Option<usize>
     requires { BeginsStretch kind text.now at stop }
-    ensures { IfSome result (λ end. IsStretch kind text.now at stop end) }
+    ensures some { IfSome result (λ end. IsStretch kind text.now at stop end) }
+    ensures short { IfSome result (λ end. end ≤ stop) }
+    ensures none { IfNone result (GivesNoBytes kind text.now at stop) }
 {
     if let TextKind::Replacement = kind {
-        return inner_stretch_end(text, at, stop).ok();
+        return match inner_stretch_end(text, at, stop) {
+            Ok(end) => Some(end),
+            Err(_) => None,
+        };
     }
     Some(skip_set::<StretchByte>(text, at).min(stop))
 }
@@ -156,8 +192,10 @@ fn stretch_end(text: &str, at: usize, stop: usize, kind: TextKind) -> Option<usi
 #[inline(always)]
 fn put_stretch(text: &str, at: usize, stop: usize, kind: TextKind, out: &mut String) -> usize
     requires { BeginsStretch kind text.now at stop }
-    ensures { PutsOne kind text.now at stop (string_bytes out.old) (string_bytes out.new)
+    ensures puts { PutsOne kind text.now at stop (string_bytes out.old) (string_bytes out.new)
         result }
+    ensures stops { StopsAtOne kind text.now at stop (string_len out.old) (string_capacity out.old)
+        (string_len out.new) (string_capacity out.new) result }
 {
     let Some(end) = stretch_end(text, at, stop, kind) else {
         return 0;
@@ -173,8 +211,10 @@ fn put_stretch(text: &str, at: usize, stop: usize, kind: TextKind, out: &mut Str
 #[inline(always)]
 fn put_bit(text: &str, at: usize, stop: usize, kind: TextKind, out: &mut String) -> usize
     requires { BeginsBit kind text.now at stop }
-    ensures { PutsOne kind text.now at stop (string_bytes out.old) (string_bytes out.new)
+    ensures puts { PutsOne kind text.now at stop (string_bytes out.old) (string_bytes out.new)
         result }
+    ensures stops { StopsAtOne kind text.now at stop (string_len out.old) (string_capacity out.old)
+        (string_len out.new) (string_capacity out.new) result }
 {
     let here = text.as_bytes()[at];
     if here == b'&' {
@@ -197,8 +237,10 @@ pub fn put_plain_bits(
     out: &mut String,
 ) -> usize
     requires { IsRest kind text.now start stop }
-    ensures { PutsBits kind text.now start stop (string_bytes out.old) (string_bytes out.new)
+    ensures puts { PutsBits kind text.now start stop (string_bytes out.old) (string_bytes out.new)
         result }
+    ensures stops { StopsWithRoom kind text.now stop (string_capacity out.old)
+        (string_len out.new) result }
 {
     let mut at = start;
     'bits: while at < stop {
@@ -209,6 +251,56 @@ pub fn put_plain_bits(
         at = after;
     }
     at
+}
+
+/// Returns a space for a TAB or a LF, and any other byte as it is.
+#[inline(always)]
+fn spaced(byte: u8) -> u8
+    ensures { result ≡ spaced_byte byte }
+{
+    if (byte == b'\t') | (byte == b'\n') {
+        b' '
+    } else {
+        byte
+    }
+}
+
+/// Puts a space for each TAB and LF.
+#[inline(always)]
+fn put_spaces(bytes: &mut [u8])
+    ensures { bytes.new ≡ map spaced_byte bytes.old }
+{
+    for at in 0..bytes.len() {
+        bytes[at] = spaced(bytes[at]);
+    }
+}
+
+/// Returns a text with a space for each TAB and LF. Returns `None` if memory is refused, which sets `lacking`. The function is out of
+/// line so that other values, which have a few of them, are read as before.
+#[inline(never)]
+fn spaced_text(alloc: Global, text: &str, lacking: &mut bool) -> Option<String>
+    ensures { IfSome result (λ s. string_bytes s ≡ map spaced_byte text.now) }
+{
+    let Ok(mut bytes) = Vec::from_slice(alloc, text.as_bytes()) else {
+        *lacking = true;
+        return None;
+    };
+    put_spaces(bytes.as_mut_slice());
+    String::from_utf8(bytes).ok()
+}
+
+/// Returns true only if the value from `start` up to `stop` has no `&` and no CR from `first` on, where the first byte that changes
+/// it is. It returns false if that byte, or the next one that changes the value, comes after sixteen bytes or more.
+#[inline(always)]
+fn is_spaced(text: &str, start: usize, first: usize, stop: usize) -> bool
+    requires { SpacesFrom text.now start first stop }
+    ensures { result ≡ true → AllPass is_run_byte text.now first stop }
+{
+    if first - start >= 16 || is_at(text, first, b'&') {
+        return false;
+    }
+    let next = skip_set::<StretchByte>(text, first + 1);
+    next < stop && next - first < 16 && skip_set::<RunByte>(&text[..stop], first) >= stop
 }
 
 /// Returns the value of the text from `start` up to `stop`, or `None` if it depends on the kind of the text or on entities, or if
@@ -229,6 +321,9 @@ pub fn changed_value(
         → spec.value_text main es opener (stop - start) text.now stop start openings_left
         ≡ Ok (string_bytes s, openings_left)) }
 {
+    if is_spaced(text, start, first, stop) {
+        return spaced_text(alloc, &text[start..stop], lacking);
+    }
     let count = stop - start;
     let Ok(mut out) = String::with_capacity(alloc, count) else {
         *lacking = true;

@@ -53,7 +53,7 @@ value_text-returns-then-at-stop t c = λ es bits declared enough.
     let main = c.args.context.main in
     let opener = value_opener es c.args.context.depth_left main in
     let r = l.invariant.reads es bits declared enough in
-    let p = c.put_plain_bits-at.ensures.reads main r.0 (rw c.text_kind-kind.ensures (kind_may main)) r.1.0 in
+    let p = c.put_plain_bits-at.ensures.puts.reads main r.0 (rw c.text_kind-kind.ensures (kind_may main)) r.1.0 in
     sym (p.1.1 es opener l.openings_left ∙ r.1.1) ∙ value_done main es opener l.openings_left (string_bytes c.put_plain_bits-at.new.out) _ _ _ _ (omega arith)
 
 pub value_text-returns-in_err-named : goal.value_text-returns-in_err-named
@@ -63,7 +63,7 @@ value_text-returns-in_err-named t c = λ es bits declared enough.
     let main = c.args.context.main in
     let opener = value_opener es c.args.context.depth_left main in
     let r = l.invariant.reads es bits declared enough in
-    let q = c.put_plain_bits-at.ensures.reads main r.0 (rw c.text_kind-kind.ensures (kind_may main)) r.1.0 in
+    let q = c.put_plain_bits-at.ensures.puts.reads main r.0 (rw c.text_kind-kind.ensures (kind_may main)) r.1.0 in
     rw (p.1, p.2) (value_fails main es opener l.openings_left c.in_err-named.field-0.0 (string_bytes c.args.out.now) (string_bytes c.put_plain_bits-at.new.out) _ q.0 c.args.from.text.now c.args.stop c.put_plain_bits-at.result
     (q.1.1 es opener l.openings_left ∙ r.1.1) (omega arith) (omega arith) (c.in_err-named.ensures.value es declared))
 
@@ -74,7 +74,7 @@ value_text-returns-in_err-openings_left t c = λ es bits declared enough.
     let main = c.args.context.main in
     let opener = value_opener es c.args.context.depth_left main in
     let r = l.invariant.reads es bits declared enough in
-    let q = c.put_plain_bits-at.ensures.reads main r.0 (rw c.text_kind-kind.ensures (kind_may main)) r.1.0 in
+    let q = c.put_plain_bits-at.ensures.puts.reads main r.0 (rw c.text_kind-kind.ensures (kind_may main)) r.1.0 in
     rw (p.1, p.2) (value_opens_fails main es opener l.openings_left c.in_err-openings_left.field-0.0 (string_bytes c.args.out.now) (string_bytes c.put_plain_bits-at.new.out) _ q.0 c.args.from.text.now c.args.stop c.put_plain_bits-at.result
     c.in_ok-named.after (replacement_view c.in_ok-named.named) (q.1.1 es opener l.openings_left ∙ r.1.1) (omega arith) (omega arith) (c.in_ok-named.ensures.value es declared) (c.in_err-openings_left.ensures es declared))
 
@@ -86,7 +86,7 @@ value_text-bits-preserved t c = record {
       let main = c.args.context.main in
       let opener = value_opener es c.args.context.depth_left main in
       let r = l.invariant.reads es bits declared enough in
-      let q = c.put_plain_bits-at.ensures.reads main r.0 (rw c.text_kind-kind.ensures (kind_may main)) r.1.0 in
+      let q = c.put_plain_bits-at.ensures.puts.reads main r.0 (rw c.text_kind-kind.ensures (kind_may main)) r.1.0 in
       let left = q.0 in
       let room = q.1.0 in
       let on = c.in_ok-named.ensures.onward in

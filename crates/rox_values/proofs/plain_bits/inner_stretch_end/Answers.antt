@@ -1,4 +1,5 @@
-use Rattle.std.proofs.Common.{sym, ◌∙◌}
+use Rattle.std.proofs.Common.{sym, ◌∙◌, arith}
+use Rattle.std.proofs.lemmas.List.{length-take-le}
 use Rattle.std.proofs.lemmas.Result.{err_from_is_err_and}
 use Rattle.rox_values.proofs.BitLemmas.{from_start, inner_cut, inner_fails, inner_on, inner_reads, inner_tag}
 use Rattle.rox_values.proofs.plain_bits.inner_stretch_end.Goals as goal
@@ -19,7 +20,7 @@ returns-in_err-chars_up_to c =
     let p = err_from_is_err_and c.from_residual.result c.from_residual.ensures.1 in
     let e = rw (c.range-front.ensures.value ∙ from_start src stop) at c.skip_set-end.ensures in
     let read = rw (cur.source, cur.place) at c.in_err-chars_up_to.ensures.read.value in
-    rw (p.1, p.2) (record { value = inner_fails src stop c.args.at c.skip_set-end.result c.in_err-chars_up_to.field-0.0 e read; onward = tt; cut = tt })
+    rw (p.1, p.2) (record { value = inner_fails src stop c.args.at c.skip_set-end.result c.in_err-chars_up_to.field-0.0 e read; onward = tt; short = tt; cut = tt })
 
 pub returns-then-is_at : goal.returns-then-is_at
 returns-then-is_at c =
@@ -29,7 +30,7 @@ returns-then-is_at c =
     let e = rw (c.range-front.ensures.value ∙ from_start src stop) at c.skip_set-end.ensures in
     let read = rw (cur.source, cur.place) at c.in_ok-chars_up_to.ensures.read.value in
     let tag = rw (c.range-front.ensures.value ∙ from_start src stop) at (sym c.is_at.ensures ∙ c.if-is_at.true) in
-    record { value = inner_tag src stop c.args.at c.skip_set-end.result _ e read tag; onward = tt; cut = tt }
+    record { value = inner_tag src stop c.args.at c.skip_set-end.result _ e read tag; onward = tt; short = tt; cut = tt }
 
 pub returns : goal.returns
 returns c =
@@ -44,6 +45,7 @@ returns c =
     let to = c.requires.begins.rest.stop in
     record {
       value = inner_reads src stop i c.skip_set-end.result _ _ e read is tag;
+      short = let within = e.within in let long = length-take-le stop src to.0 in omega (arith, within, long);
       onward = inner_on src stop i c.skip_set-end.result to.0 c.requires.begins.before c.requires.plain e tag;
       cut = inner_cut src stop i c.skip_set-end.result to e;
     }

@@ -7,6 +7,7 @@ pub bits-init : goal.bits-init
 bits-init c = record {
   done = none_put c.args.kind c.args.text.now (string_bytes c.args.out.now) c.args.stop c.args.start c.requires.start;
   tested = c.requires.tested;
+  room = omega arith;
 }
 
 pub bits-preserved : goal.bits-preserved
@@ -15,9 +16,21 @@ bits-preserved c =
     let n = c.put_bit-after.result in
     let zero = c.if-after-eq0.false in
     let some : 0 < n = omega arith in
-    let b = c.put_bit-after.ensures.put some in
+    let b = c.put_bit-after.ensures.puts.put some in
     let on = b.onward in
     record {
       done = one_more c.args.kind c.args.text.now _ (string_bytes l.out) _ c.args.stop c.args.start l.at n c.bits-test.true l.invariant.done b;
+      room = omega (arith, l.invariant.room, c.put_bit-after.ensures.stops.room);
       tested = tested_on c.args.kind c.args.text.now l.at n c.args.stop c.utf8.text l.invariant.done.cut b.cut c.requires.stop (omega (arith, on)) l.invariant.tested;
     }
+
+pub returns-then-after-eq0-clause-stops : goal.returns-then-after-eq0-clause-stops
+returns-then-after-eq0-clause-stops c = λ before enough.
+    let s = c.put_bit-after.ensures.stops in
+    let zero = c.if-after-eq0.true in
+    let same = s.same zero in
+    let room = c.bits.invariant.room in
+    s.why zero (omega (arith, same, room, enough))
+
+pub returns-clause-stops : goal.returns-clause-stops
+returns-clause-stops c = λ before enough. absurd (omega (arith, before, c.bits-test.false))

@@ -1,5 +1,5 @@
-use Rattle.std.proofs.Common.{◌-◌}
-use Rattle.std.specs.String.{string_bytes}
+use Rattle.std.proofs.Common.{◌-◌, ◌≤◌}
+use Rattle.std.specs.String.{string_bytes, string_capacity}
 use Rattle.rox_values.specs.PlainBits.{IsTested, PutsBits}
 use Rattle.rox_values.proofs.plain_bits.put_plain_bits.Given as goal
 
@@ -7,6 +7,7 @@ abbrev pub invariant-bits : goal.invariant-bits
 invariant-bits l = record {
   done : PutsBits l.kind l.text l.start l.stop (string_bytes l.fn.out) (string_bytes l.out) l.at;
   tested : IsTested l.kind l.text l.at l.stop;
+  room : string_capacity l.fn.out ≤ string_capacity l.out;
 }
 
 abbrev pub decreases-bits : goal.decreases-bits
