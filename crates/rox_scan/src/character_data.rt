@@ -16,9 +16,7 @@ ghost use Rattle.rox_bytes.specs.ScanResults.{HasCharAt, HasWideAt};
 
 use crate::cursor::Cursor;
 use crate::lookahead::{Lookahead, after_char, is_mark_at};
-use rox_bytes::byte_set::{
-    BEHIND_CONTROLS, ByteSet, find_other, skip_eased, skip_set, wide_first,
-};
+use rox_bytes::byte_set::{BEHIND_CONTROLS, ByteSet, find_other, skip_eased, skip_set, wide_first};
 use rox_bytes::nibbles::by_low;
 use rox_bytes::runs::{after_byte, is_at};
 use rox_bytes::search::{before_either, byte_from, has_mark};
