@@ -149,10 +149,6 @@ whole_runs src i first stop e all = λ k low high. elim (cases_lt k first) [
   | inr behind ↦ all k behind high
 ]
 
--- no byte of the front ends a run
-pub front_runs : (src : List ℕ) (first stop e : ℕ) → stop ≤ length src → stop ≤ e → EndsSet is_run_byte (take stop src) first e → AllPass is_run_byte src first stop
-front_runs src first stop e within past s = λ k low high. sym (ap is_run_byte (get_or-take stop src k 0 high)) ∙ s.passes k low (omega (arith, high, past))
-
 pub spaced_value : (o : Option (String Global)) (src text : List ℕ) (i stop : ℕ) → IsUtf8 src → i ≤ stop → IsCharBoundary src i → IsCharBoundary src stop → AreValueChars src i stop → AllPass is_run_byte src i stop
     → text ≡ slice_range src i stop → IfSome o (λ s. string_bytes s ≡ map spaced_byte text)
     → IfSome o (λ s. (main : Bool) (es : List Entity) (opener : ValueInclusion) (openings_left : ℕ) → value_text main es opener (stop - i) src stop i openings_left ≡ Ok (string_bytes s, openings_left))
