@@ -3,7 +3,7 @@
 mod again;
 mod once;
 
-use roxmltree::{Document, Error, Node, NodeId};
+use roxmltree::{Document, Error, Node, NodeId, TextPos};
 use std::fmt::Debug;
 use std::process::Abort;
 
@@ -20,7 +20,7 @@ fn document_of<'input>(rt: &(impl Abort + AllocGlobal), text: &'input str) -> Do
 /// Why a text is refused.
 fn refusal_of(rt: &(impl Abort + AllocGlobal), text: &str) -> Error {
     let error = Document::parse(rt.alloc(), text).expect_err(rt, text);
-    assert_ne!(rt; error, Error::OutOfMemory, "{text:?}");
+    assert!(rt; error != Error::OutOfMemory, "out of memory: {text}");
     error
 }
 
@@ -49,4 +49,70 @@ fn count_of_x(text: &str) -> usize {
 /// The number of a node.
 fn number(node: Node<'_, '_>) -> u32 {
     node.id().get()
+}
+
+/// Wants the node of this id to have this text.
+fn has_text(rt: &impl Abort, document: &Document<'_>, id: u32, text: &str) {
+    same(rt, "text", node_of(rt, document, id).text(), Some(text));
+}
+
+/// Wants the node of this id to have an attribute in no namespace, of this name and value.
+fn has_value(rt: &impl Abort, document: &Document<'_>, id: u32, name: &str, value: &str) {
+    let found = node_of(rt, document, id).attribute(name.into());
+    same(rt, name, found, Some(value));
+}
+
+/// Wants the node of this id to have an attribute of this URI, name and value.
+fn has_value_in(
+    rt: &impl Abort,
+    document: &Document<'_>,
+    id: u32,
+    name: (&str, &str),
+    value: &str,
+) {
+    let found = node_of(rt, document, id).attribute(name.into());
+    same(rt, name.1, found, Some(value));
+}
+
+/// An element in another, with attributes in two namespaces.
+const NAMESPACES: &str = "<a xmlns:p='1' xmlns:q='2'><b xmlns:p='3' p:x='' q:y=''/></a>";
+
+/// Wants a document of that text.
+fn has_its_namespaces(rt: &impl Abort, document: &Document<'_>) {
+    let count = node_of(rt, document, 2).namespaces().len();
+    same(rt, "namespaces", count, 2);
+    has_value_in(rt, document, 2, ("3", "x"), "");
+    has_value_in(rt, document, 2, ("2", "y"), "");
+}
+
+/// An element with two attributes `a`, one in a namespace.
+const ATTRIBUTES: &str = "<e xmlns:n='' n:a='1' a='2'/>";
+
+/// Wants a document of that text.
+fn has_its_attributes(rt: &impl Abort, document: &Document<'_>) {
+    let count = node_of(rt, document, 1).attributes().len();
+    same(rt, "attributes", count, 2);
+    has_value(rt, document, 1, "a", "2");
+    has_value_in(rt, document, 1, ("", "a"), "1");
+}
+
+/// Wants the text of the root element to be 255 `x`.
+fn has_255_x(rt: &impl Abort, document: &Document<'_>) {
+    let found = node_of(rt, document, 1).text().unwrap_or("");
+    same(rt, "length", found.len(), 255);
+    same(rt, "count of x", count_of_x(found), 255);
+}
+
+/// Wants an element `foobar` in the root element, in the first nine bytes of a text.
+fn has_foobar(rt: &impl Abort, document: &Document<'_>) {
+    let foobar = node_of(rt, document, 2);
+    same(rt, "name", foobar.tag_name(), "foobar".into());
+    same(rt, "range", foobar.range(), 0..9);
+}
+
+/// Wants a text to be refused since its entities open one another too often or too deep, in this column of the first line.
+fn is_a_loop(rt: &impl Abort, answer: Result<Document<'_>, Error>, col: u32) {
+    let error = answer.expect_err(rt, "a loop");
+    let wanted = Error::EntityReferenceLoop(TextPos::new(1, col));
+    same(rt, "error", error, wanted);
 }

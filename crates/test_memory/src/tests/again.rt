@@ -3,10 +3,11 @@
 
 ghost use Rattle.std.specs.Prelude.{◌≡◌, Some};
 
-use super::{count_of_x, same};
-use roxmltree::{
-    Document, Error, ExpandedName, Node, ParsingOptions, ResolveWith, StringStorage, TextPos,
+use super::{
+    ATTRIBUTES, NAMESPACES, has_255_x, has_foobar, has_its_attributes, has_its_namespaces,
+    has_text, has_value_in, is_a_loop, node_of, same,
 };
+use roxmltree::{Document, Error, Node, ParsingOptions, ResolveWith, StringStorage, TextPos};
 use std::alloc::{AllocError, Global};
 use std::cell::Cell;
 use std::process::Abort;
@@ -38,68 +39,54 @@ fn answered_by<R>(resolver: R) -> ParsingOptions<R>
     options
 }
 
-/// The first child of the root element.
-fn first_child<'a, 'input>(rt: &impl Abort, document: &'a Document<'input>) -> Node<'a, 'input> {
-    document.root_element().first_child().expect(rt, "no child")
-}
-
 #[test]
 fn texts(rt: HostRuntime) {
-    for (text, value) in [
+    for (text, value) in &[
         ("<root>&apos;</root>", "'"),
         ("<p><![CDATA[1]]><![CDATA[2]]></p>", "12"),
     ] {
-        let document = read(&rt, text);
-        same(&rt, text, first_child(&rt, &document).text(), Some(value));
+        has_text(&rt, &read(&rt, text), 2, value);
     }
-}
-
-/// Wants an attribute to have this value.
-fn says(rt: &impl Abort, node: Node<'_, '_>, name: ExpandedName<'_, '_>, value: &str) {
-    same(rt, value, node.attribute(name), Some(value));
 }
 
 #[test]
 fn namespaces(rt: HostRuntime) {
-    let text = "<a xmlns:p='1' xmlns:q='2'><b xmlns:p='3' p:x='' q:y=''/></a>";
-    let document = read(&rt, text);
-    let b = first_child(&rt, &document);
-    same(&rt, "count", b.namespaces().len(), 2);
-    says(&rt, b, ("3", "x").into(), "");
-    says(&rt, b, ("2", "y").into(), "");
+    has_its_namespaces(&rt, &read(&rt, NAMESPACES));
 }
 
 #[test]
 fn attributes(rt: HostRuntime) {
-    let document = read(&rt, "<e xmlns:n='' n:a='1' a='2'/>");
-    same(&rt, "count", document.root_element().attributes().len(), 2);
-    says(&rt, document.root_element(), "a".into(), "2");
-    says(&rt, document.root_element(), ("", "a").into(), "1");
+    has_its_attributes(&rt, &read(&rt, ATTRIBUTES));
 }
 
-/// The last name that an error tells.
+/// The last name that an error tells, or the words of a resolver.
 fn name_in(error: &Error) -> Option<&str> {
     match error {
         Error::DuplicatedNamespace(name, _)
         | Error::UnknownNamespace(name, _)
         | Error::UnknownEntityReference(name, _)
         | Error::DuplicatedAttribute(name, _)
-        | Error::UnexpectedCloseTag(_, name, _) => Some(name.as_str()),
+        | Error::UnexpectedCloseTag(_, name, _)
+        | Error::EntityResolver(_, name) => Some(name.as_str()),
         _ => None,
     }
 }
 
+/// Wants an error to tell this name, and this column of the first line.
+fn names(rt: &impl Abort, error: &Error, name: &str, col: u32) {
+    same(rt, "name", name_in(error), Some(name));
+    same(rt, name, error.pos(), TextPos::new(1, col));
+}
+
 #[test]
 fn names_in_errors(rt: HostRuntime) {
-    for (text, name, col) in [
+    for (text, name, col) in &[
         ("<e xmlns='' xmlns='a'/>", "xmlns", 13),
         ("<xml:e/>", "xml", 2),
         ("<e xmlns:n='u' xmlns:m='u' n:a='1' m:a='2'/>", "a", 36),
         ("<a:b xmlns:a='1'></b>", "b", 18),
     ] {
-        let error = refused(&rt, text);
-        same(&rt, text, name_in(&error), Some(name));
-        same(&rt, text, error.pos(), TextPos::new(1, col));
+        names(&rt, &refused(&rt, text), name, *col);
     }
 }
 
@@ -119,6 +106,11 @@ fn declared<'input>(rt: &impl AllocGlobal, text: &'input str) -> Result<Document
         Err(Error::OutOfMemory) => asked(rt, text),
         answer => answer,
     }
+}
+
+/// The document of a text that may have a document type declaration.
+fn opens<'input>(rt: &(impl Abort + AllocGlobal), text: &'input str) -> Document<'input> {
+    declared(rt, text).expect(rt, "entities")
 }
 
 /// An entity that opens another so many times.
@@ -143,18 +135,13 @@ fn opened(rt: &(impl Abort + AllocGlobal), count: usize) -> String {
 #[test]
 fn entities(rt: HostRuntime) {
     let text = opened(&rt, 255);
-    let document = declared(&rt, text.as_str()).expect(&rt, "entities");
-    let found = document.root_element().text().unwrap_or("");
-    same(&rt, "count", found.len(), 255);
-    same(&rt, "count of x", count_of_x(found), 255);
+    has_255_x(&rt, &opens(&rt, text.as_str()));
 }
 
 #[test]
 fn entities_too_often(rt: HostRuntime) {
     let text = opened(&rt, 256);
-    let error = declared(&rt, text.as_str()).expect_err(&rt, "a loop");
-    let wanted = Error::EntityReferenceLoop(TextPos::new(1, 809));
-    same(&rt, "error", error, wanted);
+    is_a_loop(&rt, declared(&rt, text.as_str()), 809);
 }
 
 /// Ten entities that open one another.
@@ -170,15 +157,12 @@ pub(super) const ELEVEN: &str =
 
 #[test]
 fn entities_in_one_another(rt: HostRuntime) {
-    let document = declared(&rt, TEN).expect(&rt, "entities");
-    same(&rt, "text", document.root_element().text(), Some("x"));
+    has_text(&rt, &opens(&rt, TEN), 1, "x");
 }
 
 #[test]
 fn entities_in_one_another_too_deep(rt: HostRuntime) {
-    let error = declared(&rt, ELEVEN).expect_err(&rt, "a loop");
-    let wanted = Error::EntityReferenceLoop(TextPos::new(1, 205));
-    same(&rt, "error", error, wanted);
+    is_a_loop(&rt, declared(&rt, ELEVEN), 205);
 }
 
 /// An external entity.
@@ -207,24 +191,22 @@ fn answered<'input>(
 #[test]
 fn external_entities(rt: HostRuntime) {
     let answer = Some("<?xml version=\"1.0\"?><foobar/>");
-    let document = answered(&rt, answer).expect(&rt, "an answer");
-    let foobar = first_child(&rt, &document);
-    assert!(rt; foobar.has_tag_name("foobar".into()));
-    same(&rt, "range", foobar.range(), 0..9);
+    has_foobar(&rt, &answered(&rt, answer).expect(&rt, "an answer"));
+}
+
+/// Why the document is refused where its external entity has this text.
+fn why(rt: &(impl Abort + AllocGlobal), answer: Option<&str>) -> Error {
+    answered(rt, answer).expect_err(rt, "a refusal")
 }
 
 #[test]
 fn external_entities_that_refer_to_others(rt: HostRuntime) {
-    let error = answered(&rt, Some("<a>&x;</a>")).expect_err(&rt, "an answer");
-    same(&rt, "name", name_in(&error), Some("x"));
-    same(&rt, "place", error.pos(), TextPos::new(1, 4));
+    names(&rt, &why(&rt, Some("<a>&x;</a>")), "x", 4);
 }
 
 #[test]
 fn external_entities_without_a_text(rt: HostRuntime) {
-    let error = answered(&rt, None).expect_err(&rt, "no answer");
-    same(&rt, "name", name_in(&error), Some("bar"));
-    same(&rt, "place", error.pos(), TextPos::new(1, 54));
+    names(&rt, &why(&rt, None), "bar", 54);
 }
 
 /// What a resolver's own refusal becomes.
@@ -252,13 +234,7 @@ fn refusals_of_a_resolver(rt: HostRuntime) {
         Error::OutOfMemory => refused_by_resolver(&rt, other),
         error => error,
     };
-    match error {
-        Error::EntityResolver(pos, words) => {
-            same(&rt, "place", pos, TextPos::new(1, 45));
-            same(&rt, "words", words.as_str(), "no");
-        }
-        _ => assert!(rt; false, "another refusal"),
-    }
+    names(&rt, &error, "no", 45);
 }
 
 /// The text with one element in the place of another, asked again where a growth was refused.
@@ -284,19 +260,16 @@ fn reparsed<'input>(rt: &(impl Abort + AllocGlobal), node: Node<'_, 'input>) -> 
 fn slices(rt: HostRuntime) {
     let document = read(&rt, "<r>a<b xmlns:n='u' n:a='&lt;'>&gt;</b>c</r>");
     let other = read(&rt, "<x/>");
-    let b = document
-        .root_element()
-        .last_element_child()
-        .expect(&rt, "b");
-    same(
-        &rt,
-        "text",
-        exchanged(&rt, b, &other).as_str(),
-        "<r>a<x/>c</r>",
-    );
-    let alone = reparsed(&rt, b);
-    says(&rt, alone.root_element(), ("u", "a").into(), "<");
-    same(&rt, "text", first_child(&rt, &alone).text(), Some(">"));
+    let b = node_of(&rt, &document, 3);
+    let text = exchanged(&rt, b, &other);
+    same(&rt, "text", text.as_str(), "<r>a<x/>c</r>");
+    is_b(&rt, &reparsed(&rt, b));
+}
+
+/// Wants the document of that element `b` alone.
+fn is_b(rt: &impl Abort, alone: &Document<'_>) {
+    has_value_in(rt, alone, 1, ("u", "a"), "<");
+    has_text(rt, alone, 2, ">");
 }
 
 #[test]

@@ -4,9 +4,12 @@
 //! the most. So in the runs of `tools/refuse-growths` a test fails up to that of its last growth, and passes from there on.
 
 use super::again::{ELEVEN, TEN, asked, opening, refused_by_resolver, resolved};
-use super::{count_of_x, document_of, node_of, number, refusal_of, same};
+use super::{
+    ATTRIBUTES, NAMESPACES, document_of, has_255_x, has_foobar, has_its_attributes,
+    has_its_namespaces, has_text, has_value, is_a_loop, node_of, number, refusal_of, same,
+};
 use rox_path::{parse_path, select};
-use roxmltree::{Error, StringStorage, TextPos};
+use roxmltree::{Document, Error, Node, StringStorage};
 use std::fmt;
 use std::fmt::Write;
 use std::process::Abort;
@@ -24,7 +27,7 @@ impl Write for Left<'_> {
 
 /// Wants an error to be printed so, which takes no memory.
 fn tells(rt: &impl Abort, error: &Error, wanted: &str) {
-    assert_ne!(rt; *error, Error::OutOfMemory, "{wanted}");
+    assert!(rt; *error != Error::OutOfMemory, "out of memory: {wanted}");
     let mut left = Left(wanted);
     let printed = write!(left, "{error}");
     assert!(rt; printed.is_ok() && left.0.is_empty(), "{error}");
@@ -35,109 +38,114 @@ fn ends(rt: &(impl Abort + AllocGlobal)) {
     String::from_str(rt.alloc(), "the end").expect(rt, "the end");
 }
 
+/// Wants the node of this id to have this text in the document of a text.
+fn reads(rt: &(impl Abort + AllocGlobal), text: &str, id: u32, wanted: &str) {
+    has_text(rt, &document_of(rt, text), id, wanted);
+    ends(rt);
+}
+
+/// Wants a text to be refused with this message.
+fn refuses(rt: &(impl Abort + AllocGlobal), text: &str, message: &str) {
+    tells(rt, &refusal_of(rt, text), message);
+    ends(rt);
+}
+
+/// The document of a text that may have a document type declaration.
+fn declared<'input>(rt: &(impl Abort + AllocGlobal), text: &'input str) -> Document<'input> {
+    asked(rt, text).expect(rt, text)
+}
+
+/// Wants a text that may have a document type declaration to be refused for its entities, in this column.
+fn loops(rt: &(impl Abort + AllocGlobal), text: &str, col: u32) {
+    is_a_loop(rt, asked(rt, text), col);
+    ends(rt);
+}
+
+/// Wants the document with an external entity to be refused with this message where the entity has this text.
+fn refuses_answer(rt: &(impl Abort + AllocGlobal), answer: Option<&str>, message: &str) {
+    let error = resolved(rt, answer).expect_err(rt, message);
+    tells(rt, &error, message);
+    ends(rt);
+}
+
 #[test]
 fn a_reference(rt: HostRuntime) {
-    let document = document_of(&rt, "<root>&apos;</root>");
-    same(&rt, "text", document.root_element().text(), Some("'"));
-    ends(&rt);
+    reads(&rt, "<root>&apos;</root>", 1, "'");
 }
 
 #[test]
 fn sections(rt: HostRuntime) {
-    let document = document_of(&rt, "<p><![CDATA[1]]><![CDATA[2]]></p>");
-    same(&rt, "text", document.root_element().text(), Some("12"));
-    ends(&rt);
+    reads(&rt, "<p><![CDATA[1]]><![CDATA[2]]></p>", 1, "12");
 }
 
 #[test]
 fn entities(rt: HostRuntime) {
     let text = opening(rt.alloc(), 255).expect(&rt, "memory");
-    let document = asked(&rt, text.as_str()).expect(&rt, "entities");
-    let found = document.root_element().text().unwrap_or("");
-    same(&rt, "count", found.len(), 255);
-    same(&rt, "count of x", count_of_x(found), 255);
+    has_255_x(&rt, &declared(&rt, text.as_str()));
     ends(&rt);
 }
 
 #[test]
 fn values_that_change(rt: HostRuntime) {
     let document = document_of(&rt, "<r><a b='&lt;' c='&amp;' d='\t'/></r>");
-    let a = node_of(&rt, &document, 2);
-    same(&rt, "b", a.attribute("b".into()), Some("<"));
-    same(&rt, "c", a.attribute("c".into()), Some("&"));
-    same(&rt, "d", a.attribute("d".into()), Some(" "));
+    for (name, value) in &[("b", "<"), ("c", "&"), ("d", " ")] {
+        has_value(&rt, &document, 2, name, value);
+    }
     ends(&rt);
 }
 
 #[test]
 fn a_value_of_an_entity(rt: HostRuntime) {
     let text = "<!DOCTYPE r [<!ENTITY e 'x'>]><r><a b='&e;'/></r>";
-    let document = asked(&rt, text).expect(&rt, "an entity");
-    let a = node_of(&rt, &document, 2);
-    same(&rt, "b", a.attribute("b".into()), Some("x"));
+    has_value(&rt, &declared(&rt, text), 2, "b", "x");
     ends(&rt);
 }
 
 #[test]
 fn a_line_end(rt: HostRuntime) {
-    let document = document_of(&rt, "<r><a/>\r\n</r>");
-    same(&rt, "text", node_of(&rt, &document, 3).text(), Some("\n"));
-    ends(&rt);
+    reads(&rt, "<r><a/>\r\n</r>", 3, "\n");
 }
 
 #[test]
 fn a_fault_after_values_and_line_ends(rt: HostRuntime) {
-    let error = refusal_of(&rt, "<r><a b='&lt;'/>\r\n<a b='\t'/>&x;</r>");
-    tells(&rt, &error, "unknown entity reference 'x' at 2:11");
-    ends(&rt);
+    let text = "<r><a b='&lt;'/>\r\n<a b='\t'/>&x;</r>";
+    refuses(&rt, text, "unknown entity reference 'x' at 2:11");
 }
 
 #[test]
 fn entities_too_often(rt: HostRuntime) {
     let text = opening(rt.alloc(), 256).expect(&rt, "memory");
-    let error = asked(&rt, text.as_str()).expect_err(&rt, "a loop");
-    let wanted = Error::EntityReferenceLoop(TextPos::new(1, 809));
-    same(&rt, "error", error, wanted);
-    ends(&rt);
+    loops(&rt, text.as_str(), 809);
 }
 
 #[test]
 fn entities_in_one_another(rt: HostRuntime) {
-    let document = asked(&rt, TEN).expect(&rt, "entities");
-    same(&rt, "text", document.root_element().text(), Some("x"));
+    has_text(&rt, &declared(&rt, TEN), 1, "x");
     ends(&rt);
 }
 
 #[test]
 fn entities_in_one_another_too_deep(rt: HostRuntime) {
-    let error = asked(&rt, ELEVEN).expect_err(&rt, "a loop");
-    let wanted = Error::EntityReferenceLoop(TextPos::new(1, 205));
-    same(&rt, "error", error, wanted);
-    ends(&rt);
+    loops(&rt, ELEVEN, 205);
 }
 
 #[test]
 fn an_external_entity(rt: HostRuntime) {
     let answer = Some("<?xml version=\"1.0\"?><foobar/>");
     let document = resolved(&rt, answer).expect(&rt, "an answer");
-    let foobar = node_of(&rt, &document, 2);
-    assert!(rt; foobar.has_tag_name("foobar".into()));
-    same(&rt, "range", foobar.range(), 0..9);
+    has_foobar(&rt, &document);
     ends(&rt);
 }
 
 #[test]
 fn an_external_entity_that_refers_to_another(rt: HostRuntime) {
-    let error = resolved(&rt, Some("<a>&x;</a>")).expect_err(&rt, "an answer");
-    tells(&rt, &error, "unknown entity reference 'x' at 1:4");
-    ends(&rt);
+    let message = "unknown entity reference 'x' at 1:4";
+    refuses_answer(&rt, Some("<a>&x;</a>"), message);
 }
 
 #[test]
 fn an_external_entity_without_a_text(rt: HostRuntime) {
-    let error = resolved(&rt, None).expect_err(&rt, "no answer");
-    tells(&rt, &error, "unknown entity reference 'bar' at 1:54");
-    ends(&rt);
+    refuses_answer(&rt, None, "unknown entity reference 'bar' at 1:54");
 }
 
 #[test]
@@ -150,56 +158,37 @@ fn a_refusal_of_a_resolver(rt: HostRuntime) {
 
 #[test]
 fn namespaces(rt: HostRuntime) {
-    let text = "<a xmlns:p='1' xmlns:q='2'><b xmlns:p='3' p:x='' q:y=''/></a>";
-    let document = document_of(&rt, text);
-    let b = node_of(&rt, &document, 2);
-    same(&rt, "count", b.namespaces().len(), 2);
-    same(&rt, "attribute", b.attribute(("3", "x").into()), Some(""));
-    same(&rt, "attribute", b.attribute(("2", "y").into()), Some(""));
+    has_its_namespaces(&rt, &document_of(&rt, NAMESPACES));
     ends(&rt);
 }
 
 #[test]
 fn attributes(rt: HostRuntime) {
-    let document = document_of(&rt, "<e xmlns:n='' n:a='1' a='2'/>");
-    let element = document.root_element();
-    same(&rt, "count", element.attributes().len(), 2);
-    same(&rt, "attribute", element.attribute("a".into()), Some("2"));
-    same(
-        &rt,
-        "attribute",
-        element.attribute(("", "a").into()),
-        Some("1"),
-    );
+    has_its_attributes(&rt, &document_of(&rt, ATTRIBUTES));
     ends(&rt);
 }
 
 #[test]
 fn a_default_declared_twice(rt: HostRuntime) {
-    let error = refusal_of(&rt, "<e xmlns='' xmlns='a'/>");
-    tells(&rt, &error, "namespace 'xmlns' at 1:13 is already defined");
-    ends(&rt);
+    let message = "namespace 'xmlns' at 1:13 is already defined";
+    refuses(&rt, "<e xmlns='' xmlns='a'/>", message);
 }
 
 #[test]
 fn an_unknown_prefix(rt: HostRuntime) {
-    let error = refusal_of(&rt, "<xml:e/>");
-    tells(&rt, &error, "an unknown namespace prefix 'xml' at 1:2");
-    ends(&rt);
+    refuses(&rt, "<xml:e/>", "an unknown namespace prefix 'xml' at 1:2");
 }
 
 #[test]
 fn tags_of_two_names(rt: HostRuntime) {
-    let error = refusal_of(&rt, "<a:b xmlns:a='1'></b>");
-    tells(&rt, &error, "expected 'a:b' tag, not 'b' at 1:18");
-    ends(&rt);
+    let message = "expected 'a:b' tag, not 'b' at 1:18";
+    refuses(&rt, "<a:b xmlns:a='1'></b>", message);
 }
 
 #[test]
 fn an_attribute_twice(rt: HostRuntime) {
-    let error = refusal_of(&rt, "<e xmlns:n='u' xmlns:m='u' n:a='1' m:a='2'/>");
-    tells(&rt, &error, "attribute 'a' at 1:36 is already defined");
-    ends(&rt);
+    let text = "<e xmlns:n='u' xmlns:m='u' n:a='1' m:a='2'/>";
+    refuses(&rt, text, "attribute 'a' at 1:36 is already defined");
 }
 
 #[test]
@@ -209,12 +198,24 @@ fn a_text_of_its_own(rt: HostRuntime) {
     ends(&rt);
 }
 
+/// The document of a node alone.
+fn reparsed<'input>(rt: &(impl Abort + AllocGlobal), node: Node<'_, 'input>) -> Document<'input> {
+    assert!(rt; node.is_self_contained());
+    node.reparse(rt.alloc()).expect(rt, "an element")
+}
+
+/// Wants the nodes of these ids to have ranges that begin and end there.
+fn have_ranges(rt: &impl Abort, document: &Document<'_>, wanted: &[(u32, usize, usize)]) {
+    for (id, start, end) in wanted {
+        let range = node_of(rt, document, *id).range();
+        same(rt, "range", range, *start..*end);
+    }
+}
+
 #[test]
 fn an_element(rt: HostRuntime) {
     let document = document_of(&rt, "<r><b>&lt;</b></r>");
-    let b = document.root_element().first_child().expect(&rt, "b");
-    assert!(rt; b.is_self_contained());
-    let alone = b.reparse(rt.alloc()).expect(&rt, "an element");
+    let alone = reparsed(&rt, node_of(&rt, &document, 2));
     same(&rt, "text", alone.input_text(), "<b>&lt;</b>");
     same(&rt, "id", number(alone.root_element()), 1);
     ends(&rt);
@@ -223,35 +224,46 @@ fn an_element(rt: HostRuntime) {
 #[test]
 fn an_element_among_texts(rt: HostRuntime) {
     let document = document_of(&rt, "<?xml version='1.0'?><r>a<x y='1'>&lt;</x>c</r>");
-    let x = node_of(&rt, &document, 3);
-    assert!(rt; x.is_self_contained());
-    let alone = x.reparse(rt.alloc()).expect(&rt, "an element");
-    same(&rt, "range", alone.root_element().range(), 0..17);
-    same(&rt, "range", node_of(&rt, &alone, 2).range(), 9..13);
+    let alone = reparsed(&rt, node_of(&rt, &document, 3));
+    have_ranges(&rt, &alone, &[(1, 0, 17), (2, 9, 13)]);
+}
+
+/// Wants this text where the root element of another takes the place of the element of this id.
+fn exchanges(rt: &(impl Abort + AllocGlobal), texts: (&str, &str), id: u32, wanted: &str) {
+    let (document, other) = (document_of(rt, texts.0), document_of(rt, texts.1));
+    let element = node_of(rt, &document, id);
+    exchanges_to(rt, element, &other, wanted);
+    ends(rt);
+}
+
+fn exchanges_to(
+    rt: &(impl Abort + AllocGlobal),
+    element: Node<'_, '_>,
+    other: &Document<'_>,
+    wanted: &str,
+) {
+    assert!(rt; element.is_self_contained());
+    assert!(rt; other.root_element().is_self_contained());
+    let text = element.exchange(rt.alloc(), other).expect(rt, "memory");
+    same(rt, "text", text.as_str(), wanted);
 }
 
 #[test]
 fn an_exchange(rt: HostRuntime) {
     let document = document_of(&rt, "<r><b/></r>");
-    let b = document.root_element().first_child().expect(&rt, "b");
-    assert!(rt; b.is_self_contained());
-    assert!(rt; document.root_element().is_self_contained());
-    let text = b.exchange(rt.alloc(), &document).expect(&rt, "memory");
-    same(&rt, "text", text.as_str(), "<r><r><b/></r></r>");
+    let b = node_of(&rt, &document, 2);
+    exchanges_to(&rt, b, &document, "<r><r><b/></r></r>");
     ends(&rt);
 }
 
 #[test]
 fn an_exchange_with_another_document(rt: HostRuntime) {
-    let document = document_of(&rt, "<?xml version='1.0'?><r>a<b/>c</r>");
-    let other = document_of(&rt, "<!--z--><x y='1'>&lt;</x>");
-    let b = node_of(&rt, &document, 3);
-    assert!(rt; b.is_self_contained());
-    assert!(rt; other.root_element().is_self_contained());
-    let text = b.exchange(rt.alloc(), &other).expect(&rt, "memory");
+    let texts = (
+        "<?xml version='1.0'?><r>a<b/>c</r>",
+        "<!--z--><x y='1'>&lt;</x>",
+    );
     let wanted = "<?xml version='1.0'?><r>a<x y='1'>&lt;</x>c</r>";
-    same(&rt, "text", text.as_str(), wanted);
-    ends(&rt);
+    exchanges(&rt, texts, 3, wanted);
 }
 
 #[test]
