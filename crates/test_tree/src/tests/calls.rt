@@ -1,9 +1,13 @@
 //! Calls on a document that is read. None takes memory, so the answers hold as well where any one growth is refused.
 
-use super::{child_count, document_of, is_of_kind, node_of, number, same, same_at};
-use roxmltree::{
-    Attribute, AxisIter, Document, Error, Node, NodeId, NodeType, PI, StringStorage, TextPos,
+use super::documents::{finds, has_its_text_and_its_nodes};
+use super::iterators::{
+    gives_attributes, gives_children, gives_descendants, gives_namespaces, position,
 };
+use super::names::is_named;
+use super::namespaces::{are_equal, finds_prefix, finds_uri};
+use super::{child_count, document_of, is_of_kind, node_of, number, same, same_at};
+use roxmltree::{AxisIter, Document, Error, Node, NodeType, PI, StringStorage, TextPos};
 use std::cmp::Ordering;
 use std::fmt;
 use std::fmt::{Debug, Write};
@@ -45,10 +49,11 @@ fn each_call(rt: &impl Abort, document: &Document<'_>) {
     document_has(rt, document);
     nodes_have(rt, document);
     nodes_have_texts(rt, document);
+    nodes_are_near(rt, document);
     let (r, e) = (node_of(rt, document, 2), node_of(rt, document, 4));
-    nodes_are_near(rt, r, e);
+    has_children_and_siblings(rt, r);
     ways_lead(rt, r, e);
-    element_has_its_name(rt, e);
+    is_named(rt, TEXT, e, Some("v"));
     attributes_have(rt, r);
     attribute_has(rt, r);
     namespaces_have(rt, e);
@@ -60,19 +65,10 @@ fn each_call(rt: &impl Abort, document: &Document<'_>) {
 }
 
 fn document_has(rt: &impl Abort, document: &Document<'_>) {
-    let root = document.root();
-    same(rt, "text", document.input_text(), TEXT);
-    same(rt, "root", root.id(), NodeId::new(0));
-    same(rt, "root element", number(document.root_element()), 2);
-    let none = document.get_node(NodeId::new(7)).is_none();
-    same(rt, "no node 7", none, true);
-    same(rt, "document", root.document().input_text(), TEXT);
-    same(
-        rt,
-        "position",
-        document.text_pos_at(66),
-        TextPos::new(1, 67),
-    );
+    has_its_text_and_its_nodes(rt, document, TEXT, 2, 7);
+    finds(rt, document, &[(6, Some(6)), (7, None)]);
+    let position = document.text_pos_at(66);
+    same(rt, "position", position, TextPos::new(1, 67));
 }
 
 fn nodes_have(rt: &impl Abort, document: &Document<'_>) {
@@ -114,10 +110,14 @@ fn has(rt: &impl Abort, node: Node<'_, '_>, text: Option<&str>, tail: Option<&st
 }
 
 fn nodes_have_texts(rt: &impl Abort, document: &Document<'_>) {
-    has(rt, node_of(rt, document, 1), Some("c"), None);
-    has(rt, node_of(rt, document, 2), Some("x&y"), None);
-    has(rt, node_of(rt, document, 3), Some("x&y"), None);
-    has(rt, node_of(rt, document, 4), None, Some("z"));
+    for (id, text, tail) in &[
+        (1, Some("c"), None),
+        (2, Some("x&y"), None),
+        (3, Some("x&y"), None),
+        (4, None, Some("z")),
+    ] {
+        has(rt, node_of(rt, document, *id), *text, *tail);
+    }
 }
 
 /// The next node along each axis: `parent`, `prev_sibling`, `next_sibling`, `first_child`, `last_child`.
@@ -142,25 +142,36 @@ fn nearest_elements(node: Node<'_, '_>) -> [Option<u32>; 5] {
     ]
 }
 
-fn nodes_are_near(rt: &impl Abort, r: Node<'_, '_>, e: Node<'_, '_>) {
-    same(rt, "e", nearest(e), [Some(2), Some(3), Some(5), None, None]);
-    same(
-        rt,
-        "r",
-        nearest(r),
+/// The nodes and the elements that are next to these.
+const NEAREST: [(u32, [Option<u32>; 5], [Option<u32>; 5]); 2] = [
+    (
+        2,
         [Some(0), Some(1), None, Some(3), Some(6)],
-    );
-    let elements = [Some(2), None, None, None, None];
-    same(rt, "elements at e", nearest_elements(e), elements);
-    let elements = [None, None, None, Some(4), Some(4)];
-    same(rt, "elements at r", nearest_elements(r), elements);
+        [None, None, None, Some(4), Some(4)],
+    ),
+    (
+        4,
+        [Some(2), Some(3), Some(5), None, None],
+        [Some(2), None, None, None, None],
+    ),
+];
+
+fn nodes_are_near(rt: &impl Abort, document: &Document<'_>) {
+    for (id, nodes, elements) in &NEAREST {
+        let node = node_of(rt, document, *id);
+        same_at(rt, *id, nearest(node), *nodes);
+        same_at(rt, *id, nearest_elements(node), *elements);
+    }
+}
+
+fn has_children_and_siblings(rt: &impl Abort, r: Node<'_, '_>) {
     same(rt, "children", r.has_children(), true);
     same(rt, "siblings", r.has_siblings(), true);
     same(rt, "child count", child_count(r), 4);
 }
 
 /// Wants an axis to lead over these nodes, and then to stay at its end.
-fn leads_over(rt: &impl Abort, mut nodes: AxisIter<'_, '_>, wanted: &[u32]) {
+pub(super) fn leads_over(rt: &impl Abort, mut nodes: AxisIter<'_, '_>, wanted: &[u32]) {
     for id in wanted {
         same_at(rt, *id, nodes.next().map(number), Some(*id));
     }
@@ -176,14 +187,6 @@ fn ways_lead(rt: &impl Abort, r: Node<'_, '_>, e: Node<'_, '_>) {
     leads_over(rt, r.last_children(), &[2, 6]);
 }
 
-fn element_has_its_name(rt: &impl Abort, e: Node<'_, '_>) {
-    let name = ("v", "e").into();
-    same(rt, "name", e.tag_name(), name);
-    same(rt, "is named", e.has_tag_name(name), true);
-    same(rt, "e", e.has_local_name("e"), true);
-    same(rt, "r", e.has_local_name("r"), false);
-}
-
 /// Wants the attributes of an element to be in these namespaces.
 fn attributes_are_in(rt: &impl Abort, element: Node<'_, '_>, wanted: &[Option<&str>]) {
     same(rt, "count", element.attributes().len(), wanted.len());
@@ -192,10 +195,6 @@ fn attributes_are_in(rt: &impl Abort, element: Node<'_, '_>, wanted: &[Option<&s
         let attribute = attributes.next().expect(rt, "no attribute");
         same(rt, "URI", attribute.namespace(), *uri);
     }
-}
-
-fn position(attribute: Attribute<'_, '_>) -> usize {
-    attribute.position()
 }
 
 fn attributes_have(rt: &impl Abort, r: Node<'_, '_>) {
@@ -228,42 +227,33 @@ fn namespaces_have(rt: &impl Abort, e: Node<'_, '_>) {
         same(rt, "URI", namespace.uri(), *uri);
     }
     same(rt, "default", e.default_namespace(), Some("u"));
-    same(rt, "n", e.lookup_namespace_uri(Some("n")), Some("v"));
-    same(rt, "v", e.lookup_prefix("v"), Some("n"));
+    finds_uri(rt, e, Some("n"), Some("v"));
+    finds_prefix(rt, e, "v", Some("n"));
 }
 
 fn namespaces_are_those_of_the_parent(rt: &impl Abort, r: Node<'_, '_>, e: Node<'_, '_>) {
     let mut inherited = e.namespaces();
     for one in r.namespaces() {
         let other = inherited.next().expect(rt, "no namespace");
-        same(rt, "equal", one == other, true);
-        let copy = other.clone().expect(rt, "memory");
-        same(rt, "copy", *one == copy, true);
+        are_equal(rt, one, other, true);
     }
 }
 
 fn both_ends(rt: &impl Abort, document: &Document<'_>, r: Node<'_, '_>) {
-    let mut nodes = document.descendants().clone().expect(rt, "memory");
-    same(rt, "last", nodes.next_back().map(number), Some(6));
-    same(rt, "first", nodes.next().map(number), Some(0));
-    same(rt, "left", nodes.len(), 5);
-    same(rt, "of r", r.descendants().len(), 5);
-    let mut children = r.children().clone().expect(rt, "memory");
-    same(rt, "last child", children.next_back().map(number), Some(6));
-    same(rt, "first child", children.next().map(number), Some(3));
+    let nodes = document.descendants().clone().expect(rt, "memory");
+    gives_descendants(rt, nodes, 7, &[(Some(0), Some(6), 5)]);
+    gives_descendants(rt, r.descendants(), 5, &[(Some(2), Some(6), 3)]);
+    let children = r.children().clone().expect(rt, "memory");
+    gives_children(rt, children, &[(Some(3), Some(6))]);
 }
 
 fn both_ends_of_an_element(rt: &impl Abort, r: Node<'_, '_>) {
-    let mut ancestors = r.ancestors().clone().expect(rt, "memory");
-    same(rt, "ancestor", ancestors.next().map(number), Some(2));
-    let mut attributes = r.attributes().clone().expect(rt, "memory");
-    let last = attributes.next_back().map(position);
-    same(rt, "last attribute", last, Some(39));
-    same(rt, "attributes", attributes.len(), 1);
-    let mut namespaces = r.namespaces().clone().expect(rt, "memory");
-    let is_some = namespaces.next_back().is_some();
-    same(rt, "last namespace", is_some, true);
-    same(rt, "namespaces", namespaces.len(), 1);
+    let ancestors = r.ancestors().clone().expect(rt, "memory");
+    leads_over(rt, ancestors, &[2, 0]);
+    let attributes = r.attributes().clone().expect(rt, "memory");
+    gives_attributes(rt, attributes, 2, &[(Some(33), Some(39), 0)]);
+    let namespaces = r.namespaces().clone().expect(rt, "memory");
+    gives_namespaces(rt, namespaces, 2, &[(Some(b'n'), 1)], Some(0));
 }
 
 fn nodes_are_compared(rt: &impl Abort, r: Node<'_, '_>, e: Node<'_, '_>) {

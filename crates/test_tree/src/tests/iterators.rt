@@ -1,58 +1,75 @@
 //! Iterators from both ends: what is left, how many, copies, and None again after the end.
 
+use super::calls::leads_over;
 use super::{document_of, node_of, number, same, same_at};
-use roxmltree::{Attribute, Namespace, Node};
+use roxmltree::{
+    Attribute, Attributes, Children, Descendants, Document, Namespace, NamespaceIter, Node,
+};
+use std::process::Abort;
+
+/// Wants children to be given in turn from the front and from the back.
+pub(super) fn gives_children(
+    rt: &impl Abort,
+    mut nodes: Children<'_, '_>,
+    wanted: &[(Option<u32>, Option<u32>)],
+) {
+    for (front, back) in wanted {
+        same(rt, "front", nodes.next().map(number), *front);
+        same(rt, "back", nodes.next_back().map(number), *back);
+    }
+}
+
+/// Wants children to be given in order, and then none.
+fn gives_children_in_order(rt: &impl Abort, mut nodes: Children<'_, '_>, wanted: &[Option<u32>]) {
+    for id in wanted {
+        same(rt, "in order", nodes.next().map(number), *id);
+    }
+}
 
 #[test]
-fn children(rt: HostRuntime) {
+fn children_and_their_copies(rt: HostRuntime) {
     let document = document_of(&rt, "<r>a<!--b-->c<?d?></r>");
-    let mut nodes = document.root_element().children();
-    for (front, back) in &[
+    let nodes = document.root_element().children();
+    let in_order = &[Some(2), Some(3), Some(4), Some(5), None, None];
+    gives_children_in_order(&rt, nodes.clone().expect(&rt, "memory"), in_order);
+    let in_turn = &[
         (Some(2), Some(5)),
         (Some(3), Some(4)),
         (None, None),
         (None, None),
-    ] {
-        same(&rt, "front", nodes.next().map(number), *front);
-        same(&rt, "back", nodes.next_back().map(number), *back);
+    ];
+    gives_children(&rt, nodes, in_turn);
+}
+
+/// Wants so many nodes to be given in turn from the front and from the back, with so many left after each turn.
+pub(super) fn gives_descendants(
+    rt: &impl Abort,
+    mut nodes: Descendants<'_, '_>,
+    count: usize,
+    wanted: &[(Option<u32>, Option<u32>, usize)],
+) {
+    same(rt, "count", nodes.len(), count);
+    for (front, back, left) in wanted {
+        same(rt, "front", nodes.next().map(number), *front);
+        same(rt, "back", nodes.next_back().map(number), *back);
+        same(rt, "left", nodes.size_hint(), (*left, Some(*left)));
+        same(rt, "length", nodes.len(), *left);
     }
 }
 
 #[test]
-fn copies_of_children(rt: HostRuntime) {
-    let document = document_of(&rt, "<r>a<!--b-->c<?d?></r>");
-    let nodes = document.root_element().children();
-    let mut copy = nodes.clone().expect(&rt, "memory");
-    for wanted in &[Some(2), Some(3), Some(4), Some(5), None, None] {
-        same(&rt, "copy", copy.next().map(number), *wanted);
-    }
-}
-
-#[test]
-fn descendants(rt: HostRuntime) {
+fn descendants_and_their_copies(rt: HostRuntime) {
     let document = document_of(&rt, "<root><a/>t<b/><!--c--></root>");
-    let mut nodes = document.descendants();
-    for (front, back, left) in &[
+    let nodes = document.descendants();
+    let wanted = &[
         (Some(0), Some(5), 4),
         (Some(1), Some(4), 2),
         (Some(2), Some(3), 0),
         (None, None, 0),
         (None, None, 0),
-    ] {
-        same(&rt, "front", nodes.next().map(number), *front);
-        same(&rt, "back", nodes.next_back().map(number), *back);
-        same(&rt, "left", nodes.len(), *left);
-        same(&rt, "hint", nodes.size_hint(), (*left, Some(*left)));
-    }
-}
-
-#[test]
-fn copies_of_descendants(rt: HostRuntime) {
-    let document = document_of(&rt, "<root><a/>t<b/><!--c--></root>");
-    let nodes = document.descendants();
-    let mut copy = nodes.clone().expect(&rt, "memory");
-    same(&rt, "count", copy.len(), 6);
-    same(&rt, "back", copy.next_back().map(number), Some(5));
+    ];
+    gives_descendants(&rt, nodes.clone().expect(&rt, "memory"), 6, wanted);
+    gives_descendants(&rt, nodes, 6, wanted);
 }
 
 #[test]
@@ -65,39 +82,40 @@ fn descendants_of_a_node(rt: HostRuntime) {
 }
 
 #[test]
-fn ancestors(rt: HostRuntime) {
+fn ancestors_and_their_copies(rt: HostRuntime) {
     let document = document_of(&rt, "<r><a/></r>");
-    let mut nodes = document.root_element().ancestors();
-    let mut copy = nodes.clone().expect(&rt, "memory");
-    for wanted in &[Some(1), Some(0), None, None] {
-        same(&rt, "front", nodes.next().map(number), *wanted);
-    }
-    same(&rt, "copy", copy.next().map(number), Some(1));
+    let nodes = document.root_element().ancestors();
+    leads_over(&rt, nodes.clone().expect(&rt, "memory"), &[1, 0]);
+    leads_over(&rt, nodes, &[1, 0]);
 }
 
-fn position(attribute: Attribute<'_, '_>) -> usize {
+pub(super) fn position(attribute: Attribute<'_, '_>) -> usize {
     attribute.position()
 }
 
-#[test]
-fn attributes(rt: HostRuntime) {
-    let document = document_of(&rt, "<r a='1' b='2' xmlns:n='' c='3'/>");
-    let mut attributes = document.root_element().attributes();
-    for (front, back, left) in &[(Some(3), Some(26), 1), (Some(9), None, 0), (None, None, 0)] {
-        same(&rt, "front", attributes.next().map(position), *front);
-        same(&rt, "back", attributes.next_back().map(position), *back);
-        same(&rt, "left", attributes.len(), *left);
-        same(&rt, "hint", attributes.size_hint(), (*left, Some(*left)));
+/// Wants so many attributes to be given in turn from the front and from the back, with so many left after each turn.
+pub(super) fn gives_attributes(
+    rt: &impl Abort,
+    mut attributes: Attributes<'_, '_>,
+    count: usize,
+    wanted: &[(Option<usize>, Option<usize>, usize)],
+) {
+    same(rt, "count", attributes.len(), count);
+    for (front, back, left) in wanted {
+        same(rt, "front", attributes.next().map(position), *front);
+        same(rt, "back", attributes.next_back().map(position), *back);
+        same(rt, "left", attributes.size_hint(), (*left, Some(*left)));
+        same(rt, "length", attributes.len(), *left);
     }
 }
 
 #[test]
-fn copies_of_attributes(rt: HostRuntime) {
+fn attributes_and_their_copies(rt: HostRuntime) {
     let document = document_of(&rt, "<r a='1' b='2' xmlns:n='' c='3'/>");
     let attributes = document.root_element().attributes();
-    let mut copy = attributes.clone().expect(&rt, "memory");
-    same(&rt, "count", copy.len(), 3);
-    same(&rt, "back", copy.next_back().map(position), Some(26));
+    let wanted = &[(Some(3), Some(26), 1), (Some(9), None, 0), (None, None, 0)];
+    gives_attributes(&rt, attributes.clone().expect(&rt, "memory"), 3, wanted);
+    gives_attributes(&rt, attributes, 3, wanted);
 }
 
 /// The first byte of a prefix, which has one: 0 for the default.
@@ -108,27 +126,37 @@ fn initial(namespace: &Namespace<'_>) -> u8 {
     }
 }
 
-const DECLARED: &str = "<a xmlns:p='1' xmlns:q='2'><b xmlns:p='3' p:x='' q:y=''/></a>";
-
-#[test]
-fn namespaces(rt: HostRuntime) {
-    let document = document_of(&rt, DECLARED);
-    let mut namespaces = node_of(&rt, &document, 2).namespaces();
-    for (wanted, left) in &[(Some(b'q'), 1), (Some(b'p'), 0), (None, 0), (None, 0)] {
-        same(&rt, "back", namespaces.next_back().map(initial), *wanted);
-        same(&rt, "left", namespaces.len(), *left);
-        same(&rt, "hint", namespaces.size_hint(), (*left, Some(*left)));
+/// Wants so many namespaces, of which these are given from the back, with so many left after each, and then this one from the front.
+pub(super) fn gives_namespaces(
+    rt: &impl Abort,
+    mut namespaces: NamespaceIter<'_, '_>,
+    count: usize,
+    backs: &[(Option<u8>, usize)],
+    front: Option<u8>,
+) {
+    same(rt, "count", namespaces.len(), count);
+    for (back, left) in backs {
+        same(rt, "back", namespaces.next_back().map(initial), *back);
+        same(rt, "left", namespaces.size_hint(), (*left, Some(*left)));
+        same(rt, "length", namespaces.len(), *left);
     }
-    same(&rt, "front", namespaces.next().map(initial), None);
+    same(rt, "front", namespaces.next().map(initial), front);
 }
 
 #[test]
-fn copies_of_namespaces(rt: HostRuntime) {
-    let document = document_of(&rt, DECLARED);
+fn namespaces_and_their_copies(rt: HostRuntime) {
+    let text = "<a xmlns:p='1' xmlns:q='2'><b xmlns:p='3' p:x='' q:y=''/></a>";
+    let document = document_of(&rt, text);
     let namespaces = node_of(&rt, &document, 2).namespaces();
-    let mut copy = namespaces.clone().expect(&rt, "memory");
-    same(&rt, "count", copy.len(), 2);
-    same(&rt, "front", copy.next().map(initial), Some(b'p'));
+    gives_namespaces(
+        &rt,
+        namespaces.clone().expect(&rt, "memory"),
+        2,
+        &[],
+        Some(b'p'),
+    );
+    let backs = &[(Some(b'q'), 1), (Some(b'p'), 0), (None, 0), (None, 0)];
+    gives_namespaces(&rt, namespaces, 2, backs, None);
 }
 
 /// How many nodes each axis has from a node on: `children`, `descendants`, `ancestors`, `prev_siblings`, `next_siblings`,
@@ -160,14 +188,13 @@ fn counted(rt: HostRuntime) {
         let node = node_of(&rt, &document, *id);
         same_at(&rt, *id, counts(node), *wanted);
     }
+    attributes_and_namespaces_are_counted(&rt, &document);
 }
 
-#[test]
-fn attributes_and_namespaces_counted(rt: HostRuntime) {
-    let document = document_of(&rt, COUNTED);
+fn attributes_and_namespaces_are_counted(rt: &impl Abort, document: &Document<'_>) {
     for (id, attributes, namespaces) in &[(0, 0, 0), (2, 3, 2), (4, 0, 0), (6, 0, 2)] {
-        let node = node_of(&rt, &document, *id);
-        same_at(&rt, *id, node.attributes().count(), *attributes);
-        same_at(&rt, *id, node.namespaces().count(), *namespaces);
+        let node = node_of(rt, document, *id);
+        same_at(rt, *id, node.attributes().count(), *attributes);
+        same_at(rt, *id, node.namespaces().count(), *namespaces);
     }
 }

@@ -4,26 +4,29 @@ use super::{document_of, node_of, same, same_at};
 use roxmltree::{Attribute, ExpandedName, NS_XML_URI, NS_XMLNS_URI, Node};
 use std::process::Abort;
 
-/// Wants the root element of a text to be named `e`, in this namespace or in none.
-fn is_named(rt: &(impl Abort + AllocGlobal), text: &str, namespace: Option<&str>) {
-    let document = document_of(rt, text);
-    let element = document.root_element();
-    let name = element.tag_name();
-    same(rt, text, name.name(), "e");
-    same(rt, text, name.namespace(), namespace);
-    same(rt, text, element.has_local_name("e"), true);
-    same(rt, text, element.has_local_name("p"), false);
-    answers_to(rt, text, element, namespace);
+/// The name of this URI, or without one.
+fn named<'a>(uri: Option<&'a str>, local: &'a str) -> ExpandedName<'a, 'a> {
+    match uri {
+        Some(uri) => (uri, local).into(),
+        None => local.into(),
+    }
 }
 
-/// Wants an element to be found by the name `e` in this namespace or in none alone.
-fn answers_to(rt: &impl Abort, text: &str, element: Node<'_, '_>, namespace: Option<&str>) {
-    let named = element.has_tag_name("e".into());
-    same(rt, text, named, namespace == None);
-    let named = element.has_tag_name(("", "e").into());
-    same(rt, text, named, namespace == Some(""));
-    let named = element.has_tag_name(("u", "e").into());
-    same(rt, text, named, namespace == Some("u"));
+/// Wants an element of a text to be named `e`, in this namespace or in none, and to be found by that name alone.
+pub(super) fn is_named(
+    rt: &impl Abort,
+    text: &str,
+    element: Node<'_, '_>,
+    namespace: Option<&str>,
+) {
+    same(rt, text, element.tag_name(), named(namespace, "e"));
+    for (local, has) in &[("e", true), ("p", false), ("r", false)] {
+        same(rt, local, element.has_local_name(local), *has);
+    }
+    for uri in &[None, Some(""), Some("u"), Some("v")] {
+        let is_named = element.has_tag_name(named(*uri, "e"));
+        same(rt, text, is_named, *uri == namespace);
+    }
 }
 
 #[test]
@@ -37,7 +40,7 @@ fn names_of_elements(rt: HostRuntime) {
         ("<p:e xmlns:p='u'/>", Some("u")),
         ("<e xmlns:p='u'/>", None),
     ] {
-        is_named(&rt, text, *namespace);
+        is_named(&rt, text, document_of(&rt, text).root_element(), *namespace);
     }
 }
 
@@ -67,9 +70,13 @@ fn names_of_attributes(rt: HostRuntime) {
     let document = document_of(&rt, "<e xmlns:n='' n:a='1' a='2'/>");
     let element = document.root_element();
     same(&rt, "count", element.attributes().len(), 2);
-    has(&rt, element, "a".into(), Some("2"));
-    has(&rt, element, ("", "a").into(), Some("1"));
-    has(&rt, element, "b".into(), None);
+    for (uri, name, value) in &[
+        (None, "a", Some("2")),
+        (Some(""), "a", Some("1")),
+        (None, "b", None),
+    ] {
+        has(&rt, element, named(*uri, name), *value);
+    }
     same(&rt, "prefix", element.lookup_prefix(""), Some("n"));
     local_names_of_attributes(&rt, element);
 }
@@ -109,10 +116,14 @@ fn expanded_names(rt: HostRuntime) {
     same(&rt, "URI", name.namespace(), Some("u"));
     same(&rt, "name", name.name(), "e");
     same(&rt, "none", ExpandedName::from("e").namespace(), None);
-    same(&rt, "{u}e", name == ("u", "e").into(), true);
-    same(&rt, "e", name == "e".into(), false);
-    same(&rt, "{v}e", name == ("v", "e").into(), false);
-    same(&rt, "{u}f", name == ("u", "f").into(), false);
+    for (uri, local, is_equal) in &[
+        (Some("u"), "e", true),
+        (None, "e", false),
+        (Some("v"), "e", false),
+        (Some("u"), "f", false),
+    ] {
+        same(&rt, local, name == named(*uri, local), *is_equal);
+    }
     let empty = ExpandedName::from(("", "e"));
     same(&rt, "{}e", empty == "e".into(), false);
 }

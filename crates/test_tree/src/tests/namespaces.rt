@@ -43,23 +43,30 @@ pub(super) fn finds_uri(
     );
 }
 
+/// What is found for prefixes, and for the default.
+static URIS: [(Option<&str>, Option<&str>); 6] = [
+    (None, Some("u")),
+    (Some("n"), Some("u")),
+    (Some("k"), Some("v")),
+    (Some("p"), None),
+    (Some(""), None),
+    (Some("xml"), None),
+];
+
 #[test]
 fn uris_of_prefixes(rt: HostRuntime) {
     let document = document_of(&rt, "<e xmlns='u' xmlns:n='u' xmlns:k='v'/>");
     let element = document.root_element();
-    finds_uri(&rt, element, None, Some("u"));
-    finds_uri(&rt, element, Some("n"), Some("u"));
-    finds_uri(&rt, element, Some("k"), Some("v"));
-    finds_uri(&rt, element, Some("p"), None);
-    finds_uri(&rt, element, Some(""), None);
-    finds_uri(&rt, element, Some("xml"), None);
+    for (prefix, uri) in &URIS {
+        finds_uri(&rt, element, *prefix, *uri);
+    }
     finds_uri(&rt, document.root(), None, None);
     same(&rt, "element", element.default_namespace(), Some("u"));
     same(&rt, "root", document.root().default_namespace(), None);
 }
 
 /// Wants two namespaces to be equal or not, and one to be equal to its copy.
-fn are_equal(rt: &impl Abort, one: &Namespace<'_>, other: &Namespace<'_>, wanted: bool) {
+pub(super) fn are_equal(rt: &impl Abort, one: &Namespace<'_>, other: &Namespace<'_>, wanted: bool) {
     same(rt, "equal", one == other, wanted);
     let copy = one.clone().expect(rt, "memory");
     same(rt, "copy", *one == copy, true);

@@ -2,7 +2,7 @@
 
 use super::{document_of, node_of, refusal_of, same};
 use roxmltree::{
-    ExpandedName, NodeId, NodeIdTooLarge, NodeType, ParsingOptions, StringStorage, TextPos,
+    ExpandedName, Node, NodeId, NodeIdTooLarge, NodeType, ParsingOptions, StringStorage, TextPos,
 };
 use std::fmt::Debug;
 use std::process::Abort;
@@ -31,20 +31,28 @@ fn values(rt: HostRuntime) {
 fn parts_of_documents(rt: HostRuntime) {
     let document = document_of(&rt, "<e xmlns:n='uri' n:a='b'><?target value?></e>");
     let element = document.root_element();
-    names(&rt, &node_of(&rt, &document, 0), "Root");
-    names(
-        &rt,
-        &node_of(&rt, &document, 2),
-        "PI { target: \"target\", value: Some(\"value\") }",
-    );
+    for (id, part) in &[
+        (0, "Root"),
+        (2, "PI { target: \"target\", value: Some(\"value\") }"),
+    ] {
+        names(&rt, &node_of(&rt, &document, *id), part);
+    }
     names(&rt, &node_of(&rt, &document, 2).pi(), "target");
-    names(&rt, &element.attributes().next(), "b");
-    names(&rt, &element.namespaces().next(), "uri");
-    names(&rt, &element.attributes(), "Attributes");
-    names(&rt, &element.namespaces(), "NamespaceIter");
-    names(&rt, &element.children(), "Children");
-    names(&rt, &element.ancestors(), "AxisIter");
-    names(&rt, &document.descendants(), "Descendants");
+    iterators(&rt, element);
+    attributes_and_namespaces(&rt, element);
+}
+
+fn iterators(rt: &(impl Abort + AllocGlobal), element: Node<'_, '_>) {
+    names(rt, &element.children(), "Children");
+    names(rt, &element.ancestors(), "AxisIter");
+    names(rt, &element.descendants(), "Descendants");
+}
+
+fn attributes_and_namespaces(rt: &(impl Abort + AllocGlobal), element: Node<'_, '_>) {
+    names(rt, &element.attributes(), "Attributes");
+    names(rt, &element.namespaces(), "NamespaceIter");
+    names(rt, &element.attributes().next(), "b");
+    names(rt, &element.namespaces().next(), "uri");
 }
 
 /// What `Debug` prints of a document with a node of each kind.

@@ -8,30 +8,28 @@ use std::alloc::{AllocError, Global};
 use std::process::Abort;
 
 /// Twenty declarations. That of the default is the eighteenth.
-fn many() -> [(Option<&'static str>, &'static str); 20] {
-    [
-        (Some("a"), "A"),
-        (Some("b"), "B"),
-        (Some("c"), "C"),
-        (Some("d"), "D"),
-        (Some("e"), "E"),
-        (Some("f"), "F"),
-        (Some("g"), "G"),
-        (Some("h"), "H"),
-        (Some("i"), "I"),
-        (Some("j"), "J"),
-        (Some("k"), "K"),
-        (Some("l"), "L"),
-        (Some("m"), "M"),
-        (Some("n"), "N"),
-        (Some("o"), "O"),
-        (Some("p"), "P"),
-        (Some("q"), "Q"),
-        (None, "u"),
-        (Some("r"), "R"),
-        (Some("s"), "S"),
-    ]
-}
+static MANY: [(Option<&str>, &str); 20] = [
+    (Some("a"), "A"),
+    (Some("b"), "B"),
+    (Some("c"), "C"),
+    (Some("d"), "D"),
+    (Some("e"), "E"),
+    (Some("f"), "F"),
+    (Some("g"), "G"),
+    (Some("h"), "H"),
+    (Some("i"), "I"),
+    (Some("j"), "J"),
+    (Some("k"), "K"),
+    (Some("l"), "L"),
+    (Some("m"), "M"),
+    (Some("n"), "N"),
+    (Some("o"), "O"),
+    (Some("p"), "P"),
+    (Some("q"), "Q"),
+    (None, "u"),
+    (Some("r"), "R"),
+    (Some("s"), "S"),
+];
 
 /// Writes declarations behind a tag's name.
 fn declare(text: &mut String, declared: &[(Option<&str>, &str)]) -> Result<(), AllocError> {
@@ -84,10 +82,9 @@ fn lists_from_both_ends(
 
 #[test]
 fn many_from_both_ends(rt: HostRuntime) {
-    let many = many();
-    let text = text_of(rt.alloc(), "<r", &many, "><e/></r>").expect(&rt, "memory");
+    let text = text_of(rt.alloc(), "<r", &MANY, "><e/></r>").expect(&rt, "memory");
     let document = document_of(&rt, text.as_str());
-    let (fronts, backs) = many.split_at(10);
+    let (fronts, backs) = MANY.split_at(10);
     lists_from_both_ends(&rt, document.root_element(), fronts, backs);
     lists_from_both_ends(&rt, node_of(&rt, &document, 2), fronts, backs);
 }
@@ -98,7 +95,7 @@ const INNER: &str = "><c:e xmlns:q='1' xmlns='' xmlns:c='2' xmlns:z='3' q:x='' c
 
 #[test]
 fn inner_declarations_hide_outer_ones(rt: HostRuntime) {
-    let text = text_of(rt.alloc(), "<r", &many(), INNER).expect(&rt, "memory");
+    let text = text_of(rt.alloc(), "<r", &MANY, INNER).expect(&rt, "memory");
     let document = document_of(&rt, text.as_str());
     let (inner, behind) = (node_of(&rt, &document, 2), node_of(&rt, &document, 5));
     for (prefix, inside, outside) in &[
@@ -116,8 +113,7 @@ fn inner_declarations_hide_outer_ones(rt: HostRuntime) {
 
 /// Wants an element to list, from the back, so many of the twenty with the URI 0, the last of them first in front of the others.
 fn lists_from_the_back(rt: &impl Abort, element: Node<'_, '_>, count: usize) {
-    let many = many();
-    let (declared, inherited) = many.split_at(count.min(20));
+    let (declared, inherited) = MANY.split_at(count.min(20));
     let mut namespaces = element.namespaces();
     for pair in inherited.iter().rev() {
         is_pair(rt, namespaces.next_back(), pair);
@@ -130,13 +126,13 @@ fn lists_from_the_back(rt: &impl Abort, element: Node<'_, '_>, count: usize) {
 
 /// Elements below the twenty, each in the one before it, that declare one of them each for the URI 0, with an element behind each.
 fn levels(alloc: Global) -> Result<String, AllocError> {
-    let mut text = text_of(alloc, "<r", &many(), ">")?;
-    for (prefix, _) in &many() {
+    let mut text = text_of(alloc, "<r", &MANY, ">")?;
+    for (prefix, _) in &MANY {
         text.push_str("<e")?;
         declare(&mut text, &[(*prefix, "0")])?;
         text.push_str(">")?;
     }
-    for _ in &many() {
+    for _ in &MANY {
         text.push_str("</e><e/>")?;
     }
     text.push_str("</r>")?;
