@@ -54,6 +54,17 @@ fn case_of(alloc: Global, row: usize) -> Result<Case, AllocError> {
     case_within(alloc, row, ["<r>", "x", "</r>"])
 }
 
+/// The text of a case without its last byte, a `>`.
+fn cut(case: &Case) -> &str {
+    case.text.as_str().strip_suffix('>').unwrap_or("")
+}
+
+/// Wants the root element of a case to have so many children, and the case that is cut to be refused so.
+fn is_read(rt: &impl Abort, case: &Case, children: usize, error: Error) {
+    same(rt, case.text.as_str(), children, case.children);
+    same(rt, cut(case), error, Error::UnexpectedEndOfStream);
+}
+
 /// How many children the root element of this text has.
 fn children_of(rt: &(impl Abort + AllocGlobal), text: &str) -> usize {
     let document = document_of(rt, text);
@@ -68,28 +79,20 @@ fn declared_children_of(rt: &(impl Abort + AllocGlobal), text: &str) -> usize {
 
 #[test]
 fn texts_of_pieces(rt: HostRuntime) {
-    let alloc = rt.alloc();
     for row in 0..ROWS {
-        let Case { mut text, children } = case_of(alloc, row).expect(&rt, "memory");
-        let count = children_of(&rt, text.as_str());
-        same(&rt, text.as_str(), count, children);
-        text.pop();
-        let error = refusal_of(&rt, text.as_str());
-        same(&rt, text.as_str(), error, Error::UnexpectedEndOfStream);
+        let case = case_of(rt.alloc(), row).expect(&rt, "memory");
+        let children = children_of(&rt, case.text.as_str());
+        is_read(&rt, &case, children, refusal_of(&rt, cut(&case)));
     }
 }
 
 #[test]
 fn texts_of_pieces_and_an_entity(rt: HostRuntime) {
-    let alloc = rt.alloc();
     let parts = ["<!DOCTYPE r [<!ENTITY a 'x'>]><r>", "&a;", "</r>"];
     for row in 0..ROWS {
-        let Case { mut text, children } = case_within(alloc, row, parts).expect(&rt, "memory");
-        let count = declared_children_of(&rt, text.as_str());
-        same(&rt, text.as_str(), count, children);
-        text.pop();
-        let error = declared_refusal(&rt, text.as_str());
-        same(&rt, text.as_str(), error, Error::UnexpectedEndOfStream);
+        let case = case_within(rt.alloc(), row, parts).expect(&rt, "memory");
+        let children = declared_children_of(&rt, case.text.as_str());
+        is_read(&rt, &case, children, declared_refusal(&rt, cut(&case)));
     }
 }
 
@@ -120,24 +123,24 @@ fn pieces_in_an_answer(rt: HostRuntime) {
     for row in 0..ROWS {
         let case = case_within(rt.alloc(), row, ["", "x", ""]).expect(&rt, "memory");
         let answer = case.text.as_str();
-        same(
-            &rt,
-            answer,
-            answered_children_of(&rt, main, answer),
-            case.children,
-        );
+        let children = answered_children_of(&rt, main, answer);
+        same(&rt, answer, children, case.children);
     }
+}
+
+/// Wants the root element of a text to have so many children where it is parsed alone, and to take its own place.
+fn stands_alone(rt: &(impl Abort + AllocGlobal), text: &str, children: usize) {
+    let document = document_of(rt, text);
+    let root = document.root_element();
+    let count = child_count(reparsed(rt, root).root_element());
+    same(rt, text, count, children);
+    same(rt, text, exchanged(rt, root, &document).as_str(), text);
 }
 
 #[test]
 fn root_elements_of_pieces(rt: HostRuntime) {
     for row in 0..ROWS {
         let case = case_of(rt.alloc(), row).expect(&rt, "memory");
-        let text = case.text.as_str();
-        let document = document_of(&rt, text);
-        let root = document.root_element();
-        let alone = reparsed(&rt, root);
-        same(&rt, text, child_count(alone.root_element()), case.children);
-        same(&rt, text, exchanged(&rt, root, &document).as_str(), text);
+        stands_alone(&rt, case.text.as_str(), case.children);
     }
 }

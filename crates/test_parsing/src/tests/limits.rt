@@ -8,7 +8,7 @@ use std::process::Abort;
 #[test]
 fn default_options(rt: HostRuntime) {
     let options = ParsingOptions::default();
-    assert!(rt; !options.allow_dtd);
+    same(&rt, "allow_dtd", options.allow_dtd, false);
     same(&rt, "nodes_limit", options.nodes_limit, u32::MAX);
     same(&rt, "document_key", options.document_key, 0);
 }
@@ -48,19 +48,29 @@ pub(super) fn declaring(alloc: Global, open: &str, count: u32) -> Result<String,
     Ok(text)
 }
 
+/// Wants the root element of a text to have so many children.
+fn has_children(rt: &(impl Abort + AllocGlobal), text: &str, count: usize) {
+    let document = document_of(rt, text);
+    same(rt, "children", child_count(document.root_element()), count);
+}
+
 #[test]
 fn as_many_namespaces_as_may_be(rt: HostRuntime) {
     let text = declaring(rt.alloc(), "<r>", 65535).expect(&rt, "memory");
-    let document = document_of(&rt, text.as_str());
-    same(&rt, "children", child_count(document.root_element()), 65535);
+    has_children(&rt, text.as_str(), 65535);
+}
+
+/// Wants a text to be refused since it has too many namespaces.
+pub(super) fn has_too_many_namespaces(rt: &(impl Abort + AllocGlobal), text: &str) {
+    let error = refusal_of(rt, text);
+    prints(rt, &error, "more than 2^16 unique namespaces were parsed");
+    same(rt, "error", error, Error::NamespacesLimitReached);
 }
 
 #[test]
 fn one_namespace_too_many(rt: HostRuntime) {
     let text = declaring(rt.alloc(), "<r>", 65536).expect(&rt, "memory");
-    let error = refusal_of(&rt, text.as_str());
-    assert!(rt; error == Error::NamespacesLimitReached);
-    prints(&rt, &error, "more than 2^16 unique namespaces were parsed");
+    has_too_many_namespaces(&rt, text.as_str());
 }
 
 /// So many elements, each in the one before it.
@@ -94,13 +104,16 @@ fn depth_of_the_last(document: &Document<'_>) -> usize {
     }
 }
 
+fn has_200_000_elements(rt: &impl Abort, document: &Document<'_>) {
+    same(rt, "elements", element_count(document), 200_000);
+    same(rt, "nodes", document.descendants().len(), 200_001);
+    same(rt, "depth", depth_of_the_last(document), 200_001);
+}
+
 #[test]
 fn deep_elements(rt: HostRuntime) {
     let text = nested(rt.alloc(), 200_000).expect(&rt, "memory");
-    let document = document_of(&rt, text.as_str());
-    same(&rt, "elements", element_count(&document), 200_000);
-    same(&rt, "nodes", document.descendants().len(), 200_001);
-    same(&rt, "depth", depth_of_the_last(&document), 200_001);
+    has_200_000_elements(&rt, &document_of(&rt, text.as_str()));
 }
 
 /// An element with so many children, each a hundred elements deep.
@@ -122,16 +135,14 @@ fn ends_agree(rt: &impl Abort, element: Node<'_, '_>) {
         let child = children.next_back().map(number);
         same(rt, "child", child, Some(number(node)));
     }
-    assert!(rt; children.next_back().is_none());
+    same(rt, "end", children.next_back().is_none(), true);
 }
 
 #[test]
 fn many_deep_children(rt: HostRuntime) {
     let text = with_deep_children(rt.alloc(), 1000).expect(&rt, "memory");
-    let document = document_of(&rt, text.as_str());
-    let element = document.root_element();
-    same(&rt, "children", child_count(element), 1000);
-    ends_agree(&rt, element);
+    has_children(&rt, text.as_str(), 1000);
+    ends_agree(&rt, document_of(&rt, text.as_str()).root_element());
 }
 
 /// So many entities, each with its number for its text, and a reference to each from the last on.
@@ -157,13 +168,16 @@ fn numbers_from_the_last(alloc: Global, count: u32) -> Result<String, AllocError
     Ok(text)
 }
 
+/// Wants the root element to have this text.
+fn has_text(rt: &impl Abort, document: &Document<'_>, text: &str) {
+    same(rt, "text", document.root_element().text(), Some(text));
+}
+
 #[test]
 fn each_of_many_is_found(rt: HostRuntime) {
     let text = numbered(rt.alloc(), 20_000).expect(&rt, "memory");
     let wanted = numbers_from_the_last(rt.alloc(), 20_000).expect(&rt, "memory");
-    let document = declared(&rt, text.as_str());
-    let found = document.root_element().text();
-    same(&rt, "text", found, Some(wanted.as_str()));
+    has_text(&rt, &declared(&rt, text.as_str()), wanted.as_str());
 }
 
 /// How many `x` there are, where a text is nothing else.
@@ -194,6 +208,12 @@ fn most_bytes(text: &str, longest: usize) -> usize {
     text.len().saturating_add(opened)
 }
 
+/// Wants a node to have a text of 255 `x`.
+fn has_255_x(rt: &impl Abort, node: Node<'_, '_>) {
+    let found = node.text().unwrap_or("");
+    same(rt, "text", count_of(found), Some(255));
+}
+
 /// The bound of a text with 256 references, and what there is.
 #[test]
 fn bound_of_256_references(rt: HostRuntime) {
@@ -201,9 +221,7 @@ fn bound_of_256_references(rt: HostRuntime) {
     text.push_str("&b;</r>").expect(&rt, "memory");
     same(&rt, "bytes", text.len(), 819);
     same(&rt, "bound", most_bytes(text.as_str(), 765), 50_135_859);
-    let document = declared(&rt, text.as_str());
-    let found = document.root_element().text().unwrap_or("");
-    same(&rt, "text", count_of(found), Some(255));
+    has_255_x(&rt, declared(&rt, text.as_str()).root_element());
 }
 
 /// An entity of 255 references to another, and so many references to it.
@@ -221,8 +239,7 @@ fn texts_of_x(rt: &impl Abort, element: Node<'_, '_>) -> usize {
     let mut count: usize = 0;
     for node in element.children() {
         if node.is_text() {
-            let length = count_of(node.text().unwrap_or(""));
-            same(rt, "text", length, Some(255));
+            has_255_x(rt, node);
             count = count.saturating_add(1);
         }
     }
@@ -233,7 +250,6 @@ fn texts_of_x(rt: &impl Abort, element: Node<'_, '_>) -> usize {
 #[test]
 fn many_references(rt: HostRuntime) {
     let text = opened_often(rt.alloc(), 1000).expect(&rt, "memory");
-    let document = declared(&rt, text.as_str());
-    let count = texts_of_x(&rt, document.root_element());
+    let count = texts_of_x(&rt, declared(&rt, text.as_str()).root_element());
     same(&rt, "texts", count, 1000);
 }

@@ -9,8 +9,7 @@ use std::alloc::Global;
 use std::process::Abort;
 
 fn shows(rt: &(impl Abort + AllocGlobal), error: Error<'_>, text: &str) {
-    let shown = error.to_string(rt.alloc()).expect(rt, "memory");
-    same(rt, "printed", shown.as_str(), text);
+    prints(rt, &error, text);
 }
 
 fn place() -> TextPos {
@@ -20,48 +19,36 @@ fn place() -> TextPos {
 /// Errors that a text is too long for, that no text has, and that want memory. The others are in `texts/messages.txt`.
 #[test]
 fn messages(rt: HostRuntime) {
-    shows(
-        &rt,
-        Error::NamespacesLimitReached,
-        "more than 2^16 unique namespaces were parsed",
-    );
-    shows(
-        &rt,
-        Error::AttributesLimitReached,
-        "more than 2^32 attributes were parsed",
-    );
-    shows(
-        &rt,
-        Error::NonXmlChar('\u{e9}', place()),
-        "a non-XML character 'é' found at 2:7",
-    );
+    let namespaces = "more than 2^16 unique namespaces were parsed";
+    shows(&rt, Error::NamespacesLimitReached, namespaces);
+    let attributes = "more than 2^32 attributes were parsed";
+    shows(&rt, Error::AttributesLimitReached, attributes);
+    let character = "a non-XML character 'é' found at 2:7";
+    shows(&rt, Error::NonXmlChar('\u{e9}', place()), character);
     shows(&rt, Error::OutOfMemory, "out of memory");
 }
 
 #[test]
 fn faults(rt: HostRuntime) {
-    let alloc = rt.alloc();
     let text = "<é>\n<b></c>\r\n</é>";
     let opened = Span { start: 6, end: 7 };
     let closed = Span { start: 10, end: 11 };
-    let close = Fault::UnexpectedCloseTag(opened, closed, 8);
-    shows(
-        &rt,
-        error_of_fault(alloc, text, close),
-        "expected 'b' tag, not 'c' at 2:4",
-    );
-    let space = Fault::InvalidChar2(Due::Space, b'"', 2);
-    shows(
-        &rt,
-        error_of_fault(alloc, text, space),
-        "expected a whitespace not '\"' at 1:2",
-    );
-    let version = Fault::InvalidString(Expected::Version, 14);
-    shows(
-        &rt,
-        error_of_fault(alloc, text, version),
-        "expected 'version' at 3:1",
-    );
+    for (fault, message) in [
+        (
+            Fault::UnexpectedCloseTag(opened, closed, 8),
+            "expected 'b' tag, not 'c' at 2:4",
+        ),
+        (
+            Fault::InvalidChar2(Due::Space, b'"', 2),
+            "expected a whitespace not '\"' at 1:2",
+        ),
+        (
+            Fault::InvalidString(Expected::Version, 14),
+            "expected 'version' at 3:1",
+        ),
+    ] {
+        shows(&rt, error_of_fault(rt.alloc(), text, fault), message);
+    }
     same(&rt, text, text_pos_at(text, 1000), TextPos::new(3, 5));
 }
 
@@ -71,28 +58,31 @@ fn unknown(rt: &(impl Abort + AllocGlobal), prefix: &str, pos: TextPos) -> Error
     Error::UnknownNamespace(prefix, pos)
 }
 
+/// Wants an error to be that of a prefix that is not declared, or another.
+fn is_unknown(rt: &impl Abort, error: &Error<'_>, prefix: &Error<'_>, wanted: bool) {
+    same(rt, "equal", error == prefix, wanted);
+}
+
 #[test]
 fn copies_are_equal(rt: HostRuntime) {
     let error = unknown(&rt, "n", place());
     let copy = error.clone().expect(&rt, "memory");
-    same(&rt, "equal", error == copy, true);
+    is_unknown(&rt, &copy, &error, true);
     same(&rt, "pos", copy.pos(), place());
 }
 
 #[test]
 fn errors_of_one_kind_differ_by_name(rt: HostRuntime) {
     let error = unknown(&rt, "n", place());
-    let other = unknown(&rt, "m", place());
-    same(&rt, "equal", error == other, false);
+    is_unknown(&rt, &unknown(&rt, "m", place()), &error, false);
 }
 
 #[test]
 fn errors_of_texts_are_values(rt: HostRuntime) {
     let error = unknown(&rt, "p", TextPos::new(1, 4));
-    let read = refusal_of(&rt, "<e p:a=''/>");
-    same(&rt, "equal", error == read, true);
-    let other = refusal_of(&rt, "<e q:a=''/>");
-    same(&rt, "equal", error == other, false);
+    for (text, wanted) in &[("<e p:a=''/>", true), ("<e q:a=''/>", false)] {
+        is_unknown(&rt, &refusal_of(&rt, text), &error, *wanted);
+    }
 }
 
 #[test]
@@ -112,18 +102,29 @@ fn says(rt: &(impl Abort + AllocGlobal), error: &Error<'_>, whole: &str, message
 
 #[test]
 fn messages_without_their_places(rt: HostRuntime) {
-    says(
-        &rt,
-        &refusal_of(&rt, "<a></b>"),
-        "expected 'a' tag, not 'b' at 1:4",
-        "expected 'a' tag, not 'b'",
-    );
-    says(
-        &rt,
-        &refusal_of(&rt, "<a b='' b=''/>"),
-        "attribute 'b' at 1:9 is already defined",
-        "attribute 'b' is already defined",
-    );
+    for (text, whole, message) in &[
+        (
+            "<a></b>",
+            "expected 'a' tag, not 'b' at 1:4",
+            "expected 'a' tag, not 'b'",
+        ),
+        (
+            "<a b='' b=''/>",
+            "attribute 'b' at 1:9 is already defined",
+            "attribute 'b' is already defined",
+        ),
+        (
+            "<a>",
+            "the root node was opened but never closed",
+            "the root node was opened but never closed",
+        ),
+    ] {
+        says(&rt, &refusal_of(&rt, text), whole, message);
+    }
+}
+
+#[test]
+fn messages_of_other_errors_without_their_places(rt: HostRuntime) {
     says(
         &rt,
         &Error::UnexpectedXmlnsUri(place()),
@@ -136,12 +137,6 @@ fn messages_without_their_places(rt: HostRuntime) {
         &Error::EntityResolver(place(), reason),
         "entity resolver failed at 2:7: no network",
         "entity resolver failed: no network",
-    );
-    says(
-        &rt,
-        &refusal_of(&rt, "<a>"),
-        "the root node was opened but never closed",
-        "the root node was opened but never closed",
     );
 }
 

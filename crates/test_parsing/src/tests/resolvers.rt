@@ -1,7 +1,7 @@
 //! Resolvers of external entities in Rust. What they are asked, and what becomes of their answers, is in `texts/answers.txt`.
 
 use super::{answered_by, prints, same};
-use roxmltree::{Document, Error, NoResolver, ParsingOptions, ResolveWith, TextPos};
+use roxmltree::{Document, Error, NoResolver, Node, ParsingOptions, ResolveWith, TextPos};
 use std::alloc::Global;
 use std::cell::Cell;
 use std::process::Abort;
@@ -62,6 +62,12 @@ fn chapter<'input>(chapters: &[(&str, &'input str)], uri: &str) -> Option<&'inpu
     None
 }
 
+/// Wants a node to be the chapter of this number, which is a text of ten bytes.
+fn is_chapter(rt: &impl Abort, chapter: Node<'_, '_>, number: &str) {
+    same(rt, number, chapter.attribute("n".into()), Some(number));
+    same(rt, number, chapter.range(), 0..10);
+}
+
 #[test]
 fn chapters_of_a_book(rt: HostRuntime) {
     let text =
@@ -70,9 +76,7 @@ fn chapters_of_a_book(rt: HostRuntime) {
     let document = book(rt.alloc(), text, &chapters).expect(&rt, text);
     let mut children = document.root_element().children();
     for number in ["1", "2"] {
-        let child = children.next().expect(&rt, "no chapter");
-        same(&rt, number, child.attribute("n".into()), Some(number));
-        same(&rt, number, child.range(), 0..10);
+        is_chapter(&rt, children.next().expect(&rt, "no chapter"), number);
     }
     same(&rt, "end", children.next().is_none(), true);
     let error = book(rt.alloc(), text, &[]).expect_err(&rt, text);

@@ -1,8 +1,8 @@
 //! Elements parsed alone, and put in the place of others.
 
-use super::limits::declaring;
-use super::{child_count, declared, document_of, node_of, refusal_of, same};
-use roxmltree::{Document, Error, Node};
+use super::limits::{declaring, has_too_many_namespaces};
+use super::{child_count, declared, document_of, node_of, same};
+use roxmltree::{Document, Node};
 use std::process::Abort;
 
 /// The text that a node is in, with the root element of another text in its place.
@@ -25,10 +25,12 @@ pub(super) fn reparsed<'input>(
     node.reparse(rt.alloc()).expect(rt, "memory")
 }
 
-/// Wants a node to stand from one byte up to another.
-fn stands(rt: &impl Abort, node: Node<'_, '_>, start: usize, end: usize) {
-    same(rt, "start", node.range().start, start);
-    same(rt, "end", node.range().end, end);
+/// Wants the nodes of these ids to stand from one byte up to another.
+fn stand(rt: &impl Abort, document: &Document<'_>, wanted: &[(u32, usize, usize)]) {
+    for (id, start, end) in wanted {
+        let range = node_of(rt, document, *id).range();
+        same(rt, "range", range, *start..*end);
+    }
 }
 
 #[test]
@@ -94,9 +96,9 @@ fn exchanges(rt: HostRuntime) {
 /// Wants the second element of this text to be `x` in the namespace `u`.
 fn has_x_in_its_namespace(rt: &(impl Abort + AllocGlobal), text: &str) {
     let document = document_of(rt, text);
-    let x = node_of(rt, &document, 2);
-    assert!(rt; x.has_tag_name(("u", "x").into()));
-    stands(rt, x, 3, 21);
+    let name = node_of(rt, &document, 2).tag_name();
+    same(rt, "name", name, ("u", "x").into());
+    stand(rt, &document, &[(2, 3, 21)]);
 }
 
 #[test]
@@ -110,13 +112,9 @@ fn an_exchange_with_a_namespace_is_read(rt: HostRuntime) {
 #[test]
 fn places_after_an_exchange(rt: HostRuntime) {
     let document = document_of(&rt, "<?xml version='1.0'?><r>a<x y='1'>&lt;</x>c</r>");
-    stands(&rt, document.root_element(), 21, 47);
-    let x = node_of(&rt, &document, 3);
-    stands(&rt, x, 25, 42);
-    stands(&rt, node_of(&rt, &document, 5), 42, 43);
-    let alone = reparsed(&rt, x);
-    stands(&rt, alone.root_element(), 0, 17);
-    stands(&rt, node_of(&rt, &alone, 2), 9, 13);
+    stand(&rt, &document, &[(1, 21, 47), (3, 25, 42), (5, 42, 43)]);
+    let alone = reparsed(&rt, node_of(&rt, &document, 3));
+    stand(&rt, &alone, &[(1, 0, 17), (2, 9, 13)]);
     same(&rt, "x alone", alone.input_text(), "<x y='1'>&lt;</x>");
 }
 
@@ -124,12 +122,11 @@ fn places_after_an_exchange(rt: HostRuntime) {
 fn line_ends_around_an_exchange(rt: HostRuntime) {
     let text = "<r>\r<x/>\n</r>";
     let document = document_of(&rt, text);
-    for (id, start, end) in &[(2, 3, 4), (4, 8, 9)] {
-        let node = node_of(&rt, &document, *id);
-        stands(&rt, node, *start, *end);
+    stand(&rt, &document, &[(2, 3, 4), (3, 4, 8), (4, 8, 9)]);
+    for id in [2, 4] {
+        let node = node_of(&rt, &document, id);
         same(&rt, "line end", node.text(), Some("\n"));
     }
-    stands(&rt, node_of(&rt, &document, 3), 4, 8);
 }
 
 #[test]
@@ -138,19 +135,22 @@ fn too_many_namespaces_after_an_exchange(rt: HostRuntime) {
     let document = document_of(&rt, text.as_str());
     let other = document_of(&rt, "<e xmlns:n='65536'/>");
     let answer = exchanged(&rt, node_of(&rt, &document, 2), &other);
-    let error = refusal_of(&rt, answer.as_str());
-    same(&rt, "error", error, Error::NamespacesLimitReached);
+    has_too_many_namespaces(&rt, answer.as_str());
+}
+
+/// Wants the document of that element `a` alone.
+fn has_a(rt: &impl Abort, alone: &Document<'_>) {
+    let a = alone.root_element();
+    let wanted = "<a n:b='1' xmlns:n='u'><c/>\r\n</a>";
+    same(rt, "text", alone.input_text(), wanted);
+    same(rt, "b", a.attribute(("u", "b").into()), Some("1"));
+    same(rt, "children", child_count(a), 2);
+    stand(rt, alone, &[(1, 0, 33)]);
 }
 
 #[test]
 fn an_element_alone(rt: HostRuntime) {
     let text = "<r>x<a n:b='1' xmlns:n='u'><c/>\r\n</a></r>";
     let document = document_of(&rt, text);
-    let alone = reparsed(&rt, node_of(&rt, &document, 3));
-    let a = alone.root_element();
-    let wanted = "<a n:b='1' xmlns:n='u'><c/>\r\n</a>";
-    same(&rt, text, alone.input_text(), wanted);
-    same(&rt, text, a.attribute(("u", "b").into()), Some("1"));
-    same(&rt, text, child_count(a), 2);
-    stands(&rt, a, 0, 33);
+    has_a(&rt, &reparsed(&rt, node_of(&rt, &document, 3)));
 }
