@@ -21,7 +21,7 @@ pub struct SeenNames {
     pub codes: [u64; CODES / WIDTH],
     /// How many names had a code that was recorded.
     pub again: usize,
-    /// The index of the last prefix found among the places of its scope.
+    /// Where prefixes were found among the places of their scopes, in all tags. `near_prefix.rt` of `rox_tags` says how.
     pub near: usize,
     /// The owned values stored for sharing, of all tags; `None` before there is one.
     pub values: Option<Box<Recent>>,

@@ -1,5 +1,5 @@
 -- What the parts of a plain tag require, and what is read of them.
-use Rattle.std.specs.Prelude.{◌≡◌, ℕ, ◌+◌, ◌<◌, ◌≤◌, ◌^◌, ◌==◌, true, false, List, [], Option, Ok, IfSome, IfNone, length, map, slice_index, slice_range}
+use Rattle.std.specs.Prelude.{◌≡◌, ℕ, ◌+◌, ◌<◌, ◌≤◌, ◌^◌, ◌==◌, true, false, List, [], Option, Ok, IfSome, IfNone, bytes_eq, length, map, slice_index, slice_range}
 use Rattle.std.specs.Str.{IsCharBoundary}
 use Rattle.rox_grammar.specs.Chars.{is_name_start, is_part_char, is_space}
 use Rattle.rox_grammar.specs.Failures.{name_view}
@@ -115,6 +115,12 @@ pub record MayNameIn (t : ElementTables) (n i : ℕ) : Type 0 where
   pub scope : HasScope t n
   pub few : length t.namespaces.items.items ≤ most_pairs
   pub small : i < 2 ^ 63
+
+-- The name `name` has a prefix, which may be looked up in the scope `n`.
+pub record MayNamePrefixed (t : ElementTables) (n : ℕ) (name : Name) : Type 0 where
+  pub scope : HasScope t n
+  pub few : length t.namespaces.items.items ≤ most_pairs
+  pub prefixed : bytes_eq name.prefix [] ≡ false
 
 -- The name `name` at `i` may be resolved in the scope of the open element `o`.
 pub record MayNameBelow (t : ElementTables) (o : OpenElement) (name : Name) (i : ℕ) : Type 0 where

@@ -2,6 +2,7 @@
 #![tactic(auto)]
 
 pub mod any_value;
+pub mod near_prefix;
 pub mod own_declaration;
 pub mod quick_attribute;
 pub mod quick_name;

@@ -10,6 +10,7 @@ ghost use Rattle.rox_tags.specs.PlainParts.{IsAttributeNamespace, MayPutNamed, M
 ghost use Rattle.rox_tags.specs.PlainTag.{HasScope, IsNearAttribute, IsPlainAttribute, MayPut, PutsPlain};
 
 use crate::any_value::any_value;
+use crate::near_prefix::find_in_slot;
 use crate::quick_name::{NameAt, name_of_part, name_without_prefix, prefixed_name, some_place};
 use crate::quick_tag::one_space_end;
 use crate::quick_value::{
@@ -30,7 +31,7 @@ use rox_rows::recent_texts::Recent;
 use rox_rows::row::AttributeNamespace;
 use rox_rows::storage::StringStorage;
 use rox_rows::stored_attribute::UNUSUAL;
-use rox_scopes::scope::{few_places, find_near};
+use rox_scopes::scope::few_places;
 use rox_scopes::tables::ElementTables;
 use std::alloc::Global;
 
@@ -99,7 +100,7 @@ fn prefix_namespace(
     }
     let places = few_places(&elements.scopes, &elements.listed, scope)?;
     let namespaces = elements.namespaces.as_slice();
-    match find_near(namespaces, places, prefix, near) {
+    match find_in_slot(namespaces, places, prefix, near) {
         Some(place) => Some(AttributeNamespace::Listed(place)),
         None => None,
     }

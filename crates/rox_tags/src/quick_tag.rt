@@ -6,10 +6,11 @@ ghost use Rattle.rox_grammar.specs.Chars.{is_space};
 ghost use Rattle.rox_grammar.specs.Runs.{run_end, begins};
 ghost use Rattle.rox_grammar.specs.Failures.{name_view};
 ghost use Rattle.rox_bytes.specs.ScanResults.{Finds};
-ghost use Rattle.rox_tags.specs.PlainParts.{EndsEmpty, EndsTag, FindsElementNamespace, IsNextItem, MayNameBelow, MayNameIn, MayReadBareTag, MayReadNearTag, MayReadPlainTag};
+ghost use Rattle.rox_tags.specs.PlainParts.{EndsEmpty, EndsTag, FindsElementNamespace, IsNextItem, MayNameBelow, MayNameIn, MayNamePrefixed, MayReadBareTag, MayReadNearTag, MayReadPlainTag};
 ghost use Rattle.rox_tags.specs.PlainTag.{IsBareTag, IsBeforeLast, ReadsTag};
 ghost use Rattle.rox_tags.specs.TagAttributes.{EndsAttributes, MayReadAttributes, ReadsAttributes};
 
+use crate::near_prefix::find_in_slot;
 use crate::own_declaration::{TagScope, declares_at, put_declaration};
 use crate::quick_attribute::{MOST_ATTRIBUTES, byte_count, put_attribute};
 use crate::quick_name::{ascii_name, name_of_part};
@@ -229,6 +230,23 @@ pub fn namespace_in_scope(
     }
 }
 
+/// Like `namespace_in_scope`, but for a name with a prefix. It first tries where its prefix was found last.
+#[inline(always)]
+fn prefixed_namespace(
+    elements: &ElementTables<'_>,
+    name: QName<'_>,
+    scope: u32,
+    near: &mut usize,
+) -> Option<u16>
+    requires { MayNamePrefixed elements.now scope (name_view name) }
+    ensures { FindsElementNamespace elements.entry.now scope (name_view name.entry) result }
+{
+    let places = few_places(&elements.scopes, &elements.listed, scope)?;
+    let namespaces = elements.namespaces.as_slice();
+    let place = find_in_slot(namespaces, places, name.prefix, near)?;
+    Some(namespace_number(Some(place)))
+}
+
 /// Like `namespace_in_scope`, but in the scope of the parent. Most names have no prefix, like the parent's, or its prefix. Their
 /// namespace is that of the parent.
 #[inline(always)]
@@ -237,19 +255,23 @@ fn tag_namespace(
     name: QName<'_>,
     at: usize,
     parent: &OpenElement<'_>,
+    near: &mut usize,
 ) -> Option<u16>
     requires { MayNameBelow elements.now parent.now (name_view name) at }
     ensures { FindsElementNamespace elements.entry.now parent.entry.now.scope
         (name_view name.entry) result }
 {
     let above = parent.namespace;
-    if name.prefix.is_empty() && !parent.prefixed {
-        return Some(above);
+    if name.prefix.is_empty() {
+        if !parent.prefixed {
+            return Some(above);
+        }
+        return namespace_in_scope(elements, name, at, parent.scope);
     }
     if above != 0 && has_prefix(parent, name.prefix) {
         return Some(above);
     }
-    namespace_in_scope(elements, name, at, parent.scope)
+    prefixed_namespace(elements, name, parent.scope, near)
 }
 
 /// The offset at which a start tag starts, and that at which the first part of its name ends.
@@ -280,7 +302,7 @@ pub fn start_tag_in_scope<'input>(
         return None;
     }
     let from = elements.attributes.len();
-    let namespace = tag_namespace(elements, name.name, name_start, parent)?;
+    let namespace = tag_namespace(elements, name.name, name_start, parent, &mut seen.near)?;
     let scope = TagScope {
         scope: parent.scope,
         declares: false,

@@ -7,8 +7,8 @@ use Rattle.rox_names.proofs.NameTests.{known_some}
 use Rattle.rox_tags.proofs.PlainTags.{few_within, few_once, few_is}
 use Rattle.rox_tags.proofs.quick_attribute.prefix_namespace.Goals as goal
 
-pub find_near-requires : goal.find_near-requires
-find_near-requires c = record {
+pub find_in_slot-requires : goal.find_in_slot-requires
+find_in_slot-requires c = record {
   within = few_within c.args.elements.now c.as_slice-namespaces.result.now c.deref.result.now c.deref-2.result.now c.in_ok-places.places.now c.args.scope c.as_slice-namespaces.ensures.value c.deref.ensures.value c.deref-2.ensures.value c.requires.places c.in_ok-places.ensures.few;
   once = few_once c.args.elements.now c.as_slice-namespaces.result.now c.deref.result.now c.deref-2.result.now c.in_ok-places.places.now c.args.scope c.as_slice-namespaces.ensures.value c.deref.ensures.value c.deref-2.ensures.value c.requires.once c.in_ok-places.ensures.few;
 }
