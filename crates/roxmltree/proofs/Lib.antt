@@ -1,5 +1,7 @@
 pub mod Preorder
 pub mod Siblings
+pub mod Axes
+pub mod Firsts
 pub mod Rows
 pub mod NodeRows
 pub mod Bare

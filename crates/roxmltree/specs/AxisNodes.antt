@@ -1,5 +1,5 @@
 -- The axes as lists of ids.
-use Rattle.std.specs.Prelude.{ℕ, List, [], ◌∷◌, Option, Some, None}
+use Rattle.std.specs.Prelude.{ℕ, List, [], ◌∷◌, Option, Some, None, if◌then◌else◌}
 use Rattle.rox_grammar.specs.Forest.{Forest}
 use Rattle.rox_grammar.specs.Tree as grammar
 use Rattle.roxmltree.specs.Places.{place}
@@ -22,5 +22,11 @@ abbrev pub axis_nodes_from : Axis → Option Node → List (DocumentView × ℕ)
 axis_nodes_from along None = []
 axis_nodes_from along (Some node) = node_refs node.document.now (axis_nodes along node.document.now.tree node.id.0)
 
+-- all but the first
+abbrev pub after_first : List (DocumentView × ℕ) → List (DocumentView × ℕ)
+after_first [] = []
+after_first (node ∷ nodes) = nodes
+
+-- The nodes from the iterator's own on, without it if it was returned.
 abbrev pub axis_nodes_left : Inside → List (DocumentView × ℕ)
-axis_nodes_left iter = axis_nodes_from iter.axis iter.node
+axis_nodes_left iter = if iter.given then after_first (axis_nodes_from iter.axis iter.node) else axis_nodes_from iter.axis iter.node

@@ -11,7 +11,7 @@ use std::fmt;
 use std::marker::Model;
 
 /// The direction of an `AxisIter`.
-#[derive(Clone, Copy, Debug)]
+#[derive(Clone, Copy)]
 pub(crate) enum Axis {
     Ancestors,
     PrevSiblings,
@@ -20,7 +20,8 @@ pub(crate) enum Axis {
     LastChildren,
 }
 
-/// An iterator over a node and those after it along an axis.
+/// An iterator over a node and those after it along an axis. A node is looked for only when it is asked for, as each step back
+/// climbs.
 ///
 /// ```
 /// let document = Document::parse(alloc, "<r lang='en'><a><b/></a></r>")?;
@@ -33,10 +34,13 @@ pub(crate) enum Axis {
 /// }
 /// assert!(rt; lang == Some("en"));
 /// ```
-#[derive(Debug, Drop)]
+#[derive(Drop)]
 pub struct AxisIter<'a, 'input> {
+    /// The node that was returned last, or the first one. `None` if there are no more nodes.
     pub(crate) node: Option<Node<'a, 'input>>,
     pub(crate) axis: Axis,
+    /// Whether `node` was returned.
+    pub(crate) given: bool,
 }
 
 impl<'a, 'input> Model for AxisIter<'a, 'input> {
@@ -54,9 +58,10 @@ impl<'a, 'input> Model for AxisIter<'a, 'input> {
 }
 
 impl<'a, 'input> AxisIter<'a, 'input> {
-    ghost use Rattle.roxmltree.specs.AxisNodes.{axis_nodes_from};
+    ghost use Rattle.roxmltree.specs.AxisNodes.{axis_nodes_from, after_first};
     ghost use Rattle.roxmltree.specs.NodeRef.{node_ref};
 
+    /// Returns the node after this one along an axis, or `None` if there is none.
     #[inline(always)]
     #[tactic(auto, using(crate::proofs::Preorder::parent_is, crate::proofs::Siblings::no_parent, crate::proofs::Siblings::prev_row, crate::proofs::Siblings::no_prev, crate::proofs::Siblings::next_row, crate::proofs::Siblings::no_next, crate::proofs::Siblings::first_children_step, crate::proofs::Siblings::no_first_child, crate::proofs::Siblings::last_children_step, crate::proofs::Siblings::no_last_child))]
     fn step(axis: Axis, node: Node<'a, 'input>) -> Option<Node<'a, 'input>>
@@ -69,6 +74,17 @@ impl<'a, 'input> AxisIter<'a, 'input> {
             Axis::NextSiblings => node.next_sibling(),
             Axis::FirstChildren => node.first_child(),
             Axis::LastChildren => node.last_child(),
+        }
+    }
+
+    /// Like `step`, but returns `None` after `None`.
+    #[inline(always)]
+    fn after(axis: Axis, node: Option<Node<'a, 'input>>) -> Option<Node<'a, 'input>>
+        ensures { axis_nodes_from axis result ≡ after_first (axis_nodes_from axis node.entry) }
+    {
+        match node {
+            None => None,
+            Some(node) => AxisIter::step(axis, node),
         }
     }
 }
@@ -102,6 +118,7 @@ impl<'a, 'input> AxisIter<'a, 'input> {
         AxisIter {
             node: self.node,
             axis: self.axis,
+            given: self.given,
         }
     }
 }
@@ -118,6 +135,14 @@ impl Clone for AxisIter<'_, '_> {
     }
 }
 
+/// Prints the first node that is left.
+impl fmt::Debug for AxisIter<'_, '_> {
+    fn fmt<W: fmt::Write>(&self, f: &mut fmt::Formatter<W>) -> fmt::Result {
+        let node = self.copy().next();
+        f.debug_struct("AxisIter").field("node", &node).finish()
+    }
+}
+
 impl<'a, 'input> Iterator for AxisIter<'a, 'input> {
     type Item = Node<'a, 'input>;
 
@@ -129,14 +154,13 @@ impl<'a, 'input> Iterator for AxisIter<'a, 'input> {
     ghost remaining = { item_count (λ s. s) };
 
     #[inline(always)]
+    #[tactic(auto, using(crate::proofs::Axes::starts))]
     fn next(&mut self) -> Option<Node<'a, 'input>> {
-        match self.node {
-            None => None,
-            Some(node) => {
-                self.node = AxisIter::step(self.axis, node);
-                Some(node)
-            }
+        if self.given {
+            self.node = AxisIter::after(self.axis, self.node);
         }
+        self.given = true;
+        self.node
     }
 }
 

@@ -231,22 +231,18 @@ impl<'a, 'input> Node<'a, 'input> {
 
     /// Returns the child of its parent right before it, or `None` if it is the first.
     #[inline]
-    #[tactic(auto, using(crate::proofs::Preorder::prev_sibling_some, crate::proofs::Preorder::prev_sibling_none, crate::proofs::Preorder::prev_sibling_root, crate::proofs::Preorder::prev_sibling_under))]
+    #[tactic(auto, using(crate::proofs::Preorder::prev_sibling_some, crate::proofs::Preorder::prev_sibling_under))]
     pub fn prev_sibling(&self) -> Option<Node<'a, 'input>>
         ensures { GivesNode self.now (prev_sibling (tree_of self.now) (id_of self.now)) result }
     {
         let document = self.document;
-        if self.id.0 == 0 {
+        let parent = self.row().parent;
+        // This is so of the root node and of a first child.
+        if self.id.0 as usize <= parent as usize + 1 {
             return None;
         }
-        let parent = self.row().parent;
-        let id = NodeId(self.id.0 - 1);
-        if parent == id.0 {
-            None
-        } else {
-            let before = Node::of(document, id);
-            Some(before.climb(NodeId(parent)))
-        }
+        let before = Node::of(document, NodeId(self.id.0 - 1));
+        Some(before.climb(NodeId(parent)))
     }
 
     /// Returns an iterator over its children, in document order. Each child has a greater id than this node, so a recursion over
@@ -330,6 +326,7 @@ impl<'a, 'input> Node<'a, 'input> {
         AxisIter {
             node: Some(*self),
             axis: Axis::Ancestors,
+            given: false,
         }
     }
 
@@ -346,6 +343,7 @@ impl<'a, 'input> Node<'a, 'input> {
         AxisIter {
             node: Some(*self),
             axis: Axis::PrevSiblings,
+            given: false,
         }
     }
 
@@ -362,6 +360,7 @@ impl<'a, 'input> Node<'a, 'input> {
         AxisIter {
             node: Some(*self),
             axis: Axis::NextSiblings,
+            given: false,
         }
     }
 
@@ -378,6 +377,7 @@ impl<'a, 'input> Node<'a, 'input> {
         AxisIter {
             node: Some(*self),
             axis: Axis::FirstChildren,
+            given: false,
         }
     }
 
@@ -394,6 +394,7 @@ impl<'a, 'input> Node<'a, 'input> {
         AxisIter {
             node: Some(*self),
             axis: Axis::LastChildren,
+            given: false,
         }
     }
 
