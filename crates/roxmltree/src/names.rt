@@ -2,7 +2,7 @@
 
 ghost use Rattle.std.specs.Prelude.{◌≡◌, ◌≤◌, ◌+◌, length, Some, None, bytes_eq, slice_range};
 ghost use Rattle.std.specs.Int.{w64, from_le_bytes, to_le_bytes};
-ghost use Rattle.std.specs.Option.{option_map};
+ghost use Rattle.std.specs.Option.{option_map, option_eq};
 ghost use Rattle.rox_rows.specs.Words.{HasLength};
 ghost use Rattle.roxmltree.specs.ExpandedNames.{expanded, same_expanded_name};
 
@@ -178,7 +178,7 @@ pub(crate) fn equal_uris(one: &str, other: &str) -> bool
 /// assert!(rt; name.name() == "a");
 /// assert!(rt; ExpandedName::from("a").namespace().is_none());
 /// ```
-#[derive(Clone, Copy, PartialEq, Eq)]
+#[derive(Clone, Copy)]
 pub struct ExpandedName<'a, 'b> {
     local: &'b str,
     uri: Option<&'a str>,
@@ -221,6 +221,41 @@ impl ExpandedName<'static, 'static> {
             uri: Some(uri),
         }
     }
+}
+
+/// Returns whether both namespaces have equal URIs, or both are `None`.
+#[inline(always)]
+fn equal_namespaces(one: Option<&str>, other: Option<&str>) -> bool
+    ensures { result ≡ option_eq bytes_eq (option_map (λ u. u.now) one.entry) (option_map
+        (λ u. u.now) other.entry) }
+{
+    match (one, other) {
+        (None, None) => true,
+        (Some(one), Some(other)) => equal_uris(one, other),
+        _ => false,
+    }
+}
+
+impl PartialEq for ExpandedName<'_, '_> {
+    ghost use Rattle.std.specs.Ordering.{on, eq_of_both};
+    ghost use Rattle.std.specs.Cmp.{partial_equiv_from_equiv, and_equiv, on_equiv};
+    ghost use Rattle.std.specs.Cmp.Lexicographic.{options_equiv, nat_list_eq_equiv};
+
+    ghost eq = { eq_of_both (on (λ n. (expanded n).1) bytes_eq) (on (λ n. (expanded n).0) (option_eq bytes_eq)) };
+
+    ghost laws = { partial_equiv_from_equiv (and_equiv (on_equiv (λ n. (expanded n).1) nat_list_eq_equiv) (on_equiv (λ n. (expanded n).0) (options_equiv nat_list_eq_equiv))) };
+
+    #[inline]
+    fn eq(&self, other: &Self) -> bool {
+        equal_names(self.local, other.local) && equal_namespaces(self.uri, other.uri)
+    }
+}
+
+impl Eq for ExpandedName<'_, '_> {
+    ghost use Rattle.std.specs.Cmp.{and_equiv, on_equiv};
+    ghost use Rattle.std.specs.Cmp.Lexicographic.{options_equiv, nat_list_eq_equiv};
+
+    ghost laws = { and_equiv (on_equiv (λ n. (expanded n).1) nat_list_eq_equiv) (on_equiv (λ n. (expanded n).0) (options_equiv nat_list_eq_equiv)) };
 }
 
 /// Prints `{uri}local`, or only the local name if there is no namespace.
