@@ -11,6 +11,7 @@ use rox_rows::row::AttributeNamespace;
 use rox_rows::storage::StringStorage;
 use rox_rows::stored_attribute::{NamespaceKind, StoredAttribute};
 use rox_scopes::tables::Tables;
+use std::alloc::AllocError;
 use std::fmt;
 use std::marker::Model;
 use std::ops::Range;
@@ -191,7 +192,7 @@ impl fmt::Debug for Attribute<'_, '_> {
 /// let first = attributes.next().expect(&rt, "an attribute");
 /// assert!(rt; first.name() == "b");
 /// ```
-#[derive(Clone, Drop)]
+#[derive(Drop)]
 pub struct Attributes<'a, 'input> {
     pub(crate) tables: &'a Tables<'input>,
     pub(crate) rest: &'a [StoredAttribute<'input>],
@@ -267,10 +268,36 @@ impl<'a, 'input> Attributes<'a, 'input> {
     }
 }
 
+impl<'a, 'input> Attributes<'a, 'input> {
+    ghost use Rattle.std.specs.Prelude.{◌≡◌};
+
+    /// Returns an iterator over the attributes that are left.
+    fn copy(&self) -> Attributes<'a, 'input>
+        ensures { result ≡ self.now }
+    {
+        Attributes {
+            tables: self.tables,
+            rest: self.rest,
+        }
+    }
+}
+
+impl Clone for Attributes<'_, '_> {
+    ghost use Rattle.std.specs.Prelude.{◌≡◌, ⊤};
+
+    ghost is_clone = { λ attributes copy. copy ≡ attributes };
+
+    ghost is_infallible = { λ _. ⊤ };
+
+    fn clone(&self) -> Result<Self, AllocError> {
+        Ok(self.copy())
+    }
+}
+
 impl fmt::Debug for Attributes<'_, '_> {
     fn fmt<W: fmt::Write>(&self, f: &mut fmt::Formatter<W>) -> fmt::Result {
         f.write_str("Attributes(")?;
-        f.debug_list().entries(self.clone()?).finish()?;
+        f.debug_list().entries(self.copy()).finish()?;
         f.write_str(")")
     }
 }

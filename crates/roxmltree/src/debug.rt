@@ -1,7 +1,10 @@
-//! The debug text of a document and of its nodes.
+//! The debug text of a document and of its nodes. It is written by many small functions, since the proof of one takes longer the
+//! more results it asks about.
 
 ghost use Rattle.std.specs.Iterator.{IsFinite};
 
+use crate::attributes::Attributes;
+use crate::namespaces::NamespaceIter;
 use crate::nodes::Node;
 use crate::tree::Document;
 use rox_rows::stored_node::KindRef;
@@ -10,27 +13,9 @@ use std::fmt;
 /// Prints the tree, one node after the other, in a loop: no depth of the tree uses up the stack.
 impl fmt::Debug for Document<'_> {
     fn fmt<W: fmt::Write>(&self, f: &mut fmt::Formatter<W>) -> fmt::Result {
-        writeln!(f, "Document [")?;
-        let mut nodes = self.descendants();
-        nodes.next();
-        // The parent of the next node is `innermost` or an ancestor of it. `open` elements are open: their ends are still to be
-        // printed.
-        let mut innermost = self.root();
-        let mut open = 0;
-        for node in nodes {
-            let around = count_around(innermost, open, node);
-            close_elements(f, around, open)?;
-            write_node(f, node, around)?;
-            if node.has_children() {
-                innermost = node;
-                open = around.saturating_add(1);
-            } else {
-                innermost = node.parent().unwrap_or(node);
-                open = around;
-            }
-        }
-        close_elements(f, 0, open)?;
-        writeln!(f, "]")
+        f.write_str("Document [\n")?;
+        write_nodes(f, self)?;
+        f.write_str("]\n")
     }
 }
 
@@ -38,33 +23,65 @@ impl fmt::Debug for Document<'_> {
 impl fmt::Debug for Node<'_, '_> {
     fn fmt<W: fmt::Write>(&self, f: &mut fmt::Formatter<W>) -> fmt::Result {
         match self.kind() {
-            KindRef::Root => write!(f, "Root"),
-            KindRef::Element(_) => {
-                let name = self.tag_name();
-                let attributes = self.attributes();
-                let namespaces = self.namespaces();
-                write!(
-                    f,
-                    "Element {{ tag_name: {name:?}, attributes: {attributes:?}, namespaces: {namespaces:?} }}"
-                )
-            }
-            KindRef::Text(text) => {
-                let text = text.as_str();
-                write!(f, "Text({text:?})")
-            }
-            KindRef::Comment(text) => {
-                let text = text.as_str();
-                write!(f, "Comment({text:?})")
-            }
-            KindRef::PI(pi) => write!(f, "{pi:?}"),
+            KindRef::Root => f.write_str("Root"),
+            KindRef::Element(_) => write_element(f, self),
+            KindRef::Text(text) => write_text(f, "Text", text.as_str()),
+            KindRef::Comment(text) => write_text(f, "Comment", text.as_str()),
+            KindRef::PI(pi) => fmt::Debug::fmt(&pi, f),
         }
     }
 }
 
-// Returns how many elements are around `node`. `innermost` is the innermost open element, and `open` elements are around its
-// content.
-fn count_around(innermost: Node<'_, '_>, open: u32, node: Node<'_, '_>) -> u32 {
-    let parent = node.row().parent;
+// Prints the names and the attributes of an element.
+fn write_element<W: fmt::Write>(f: &mut fmt::Formatter<W>, node: &Node<'_, '_>) -> fmt::Result {
+    f.debug_struct("Element")
+        .field("tag_name", &node.tag_name())
+        .field("attributes", &node.attributes())
+        .field("namespaces", &node.namespaces())
+        .finish()
+}
+
+// Prints a kind of node, and its text.
+fn write_text<W: fmt::Write>(f: &mut fmt::Formatter<W>, kind: &str, text: &str) -> fmt::Result {
+    write!(f, "{kind}({text:?})")
+}
+
+// Prints all nodes but the root, and the ends of the elements.
+fn write_nodes<W: fmt::Write>(f: &mut fmt::Formatter<W>, document: &Document<'_>) -> fmt::Result {
+    let mut nodes = document.descendants();
+    nodes.next();
+    // The parent of the next node is `innermost` or an ancestor of it. `open` elements are open: their ends are still to be
+    // printed.
+    let mut innermost = document.root();
+    let mut open = 0;
+    for node in nodes {
+        let around = count_around(innermost, open, node.row().parent);
+        write_next(f, &node, around, open)?;
+        innermost = innermost_after(node);
+        open = open_after(&node, around);
+    }
+    close_elements(f, 0, open)
+}
+
+// Returns the element that a node is, if it has children, and its parent otherwise.
+fn innermost_after<'a, 'input>(node: Node<'a, 'input>) -> Node<'a, 'input> {
+    if node.has_children() {
+        return node;
+    }
+    node.parent().unwrap_or(node)
+}
+
+// Returns how many elements are open after a node that is inside `around` elements.
+fn open_after(node: &Node<'_, '_>, around: u32) -> u32 {
+    if node.has_children() {
+        return around.saturating_add(1);
+    }
+    around
+}
+
+// Returns how many elements are around a child of `parent`. `innermost` is the innermost open element, and `open` elements are
+// around its content.
+fn count_around(innermost: Node<'_, '_>, open: u32, parent: u32) -> u32 {
     let mut around = open;
     for above in innermost.ancestors() {
         if above.id.0 == parent {
@@ -75,64 +92,121 @@ fn count_around(innermost: Node<'_, '_>, open: u32, node: Node<'_, '_>) -> u32 {
     around
 }
 
-// Prints a node that is inside `around` elements. An element with children is left open.
-fn write_node<W: fmt::Write>(
+// Prints the ends of the elements that a node is not in, and the node. It is inside `around` of the `open` elements.
+fn write_next<W: fmt::Write>(
     f: &mut fmt::Formatter<W>,
-    node: Node<'_, '_>,
+    node: &Node<'_, '_>,
+    around: u32,
+    open: u32,
+) -> fmt::Result {
+    close_elements(f, around, open)?;
+    if node.is_element() {
+        return open_element(f, node, around);
+    }
+    write_item(f, around, 1, node)
+}
+
+// Prints an element that is inside `around` elements. One with children is left open.
+fn open_element<W: fmt::Write>(
+    f: &mut fmt::Formatter<W>,
+    node: &Node<'_, '_>,
     around: u32,
 ) -> fmt::Result {
-    if !node.is_element() {
-        return write_line(f, around, 1, format_args!("{node:?}"));
-    }
-    let name = node.tag_name();
-    write_line(f, around, 1, "Element {")?;
-    write_line(f, around, 2, format_args!("tag_name: {name:?}"))?;
-    write_list(f, around, "attributes", node.attributes())?;
-    write_list(f, around, "namespaces", node.namespaces())?;
+    write_name(f, node, around)?;
+    write_attributes(f, around, node.attributes())?;
+    write_namespaces(f, around, node.namespaces())?;
     if node.has_children() {
-        write_line(f, around, 2, "children: [")
-    } else {
-        write_line(f, around, 1, "}")
+        return write_line(f, around, 2, "children: [\n");
     }
+    write_line(f, around, 1, "}\n")
+}
+
+// Prints the start of an element, with its name.
+fn write_name<W: fmt::Write>(
+    f: &mut fmt::Formatter<W>,
+    node: &Node<'_, '_>,
+    around: u32,
+) -> fmt::Result {
+    write_line(f, around, 1, "Element {\n")?;
+    write_line(f, around, 2, "tag_name: ")?;
+    let name = node.tag_name();
+    writeln!(f, "{name:?}")
 }
 
 // Prints the ends of the open elements, the innermost first, except the `kept` outermost.
 fn close_elements<W: fmt::Write>(f: &mut fmt::Formatter<W>, kept: u32, open: u32) -> fmt::Result {
     for around in (kept..open).rev() {
-        write_line(f, around, 2, "]")?;
-        write_line(f, around, 1, "}")?;
+        write_line(f, around, 2, "]\n")?;
+        write_line(f, around, 1, "}\n")?;
     }
     Ok(())
 }
 
-// Prints what an element has of one kind, each item on its own line, or nothing if there is none.
-fn write_list<T: fmt::Debug + Drop, I: ExactSizeIterator<Item = T>, W: fmt::Write>(
+// Prints the attributes of an element, each on its own line, or nothing if there is none.
+fn write_attributes<W: fmt::Write>(
     f: &mut fmt::Formatter<W>,
     around: u32,
-    name: &str,
+    attributes: Attributes<'_, '_>,
+) -> fmt::Result {
+    if attributes.len() == 0 {
+        return Ok(());
+    }
+    write_line(f, around, 2, "attributes: [\n")?;
+    write_items(f, around, attributes)
+}
+
+// Prints the namespaces that an element lists, each on its own line, or nothing if there is none.
+fn write_namespaces<W: fmt::Write>(
+    f: &mut fmt::Formatter<W>,
+    around: u32,
+    namespaces: NamespaceIter<'_, '_>,
+) -> fmt::Result {
+    if namespaces.len() == 0 {
+        return Ok(());
+    }
+    write_line(f, around, 2, "namespaces: [\n")?;
+    write_items(f, around, namespaces)
+}
+
+// Prints what an element has of one kind, each item on its own line, and the end of the list.
+fn write_items<T: fmt::Debug + Drop, I: Iterator<Item = T>, W: fmt::Write>(
+    f: &mut fmt::Formatter<W>,
+    around: u32,
     items: I,
 ) -> fmt::Result
     requires can { I.can_next items }
     requires finite { IsFinite (I.remaining items) }
 {
-    if items.len() == 0 {
-        return Ok(());
-    }
-    write_line(f, around, 2, format_args!("{name}: ["))?;
     for item in items {
-        write_line(f, around, 3, format_args!("{item:?}"))?;
+        write_item(f, around, 3, &item)?;
     }
-    write_line(f, around, 2, "]")
+    write_line(f, around, 2, "]\n")
 }
 
-// Prints a line after eight spaces for each of the elements around it, and four for each step.
-fn write_line<D: fmt::Display + Drop, W: fmt::Write>(
+// Prints an item on a line of its own.
+fn write_item<T: fmt::Debug, W: fmt::Write>(
     f: &mut fmt::Formatter<W>,
     around: u32,
     steps: usize,
-    text: D,
+    item: &T,
 ) -> fmt::Result {
+    indent(f, around, steps)?;
+    writeln!(f, "{item:?}")
+}
+
+// Prints a text after the spaces in front of it.
+fn write_line<W: fmt::Write>(
+    f: &mut fmt::Formatter<W>,
+    around: u32,
+    steps: usize,
+    text: &str,
+) -> fmt::Result {
+    indent(f, around, steps)?;
+    f.write_str(text)
+}
+
+// Prints eight spaces for each of the elements around a line, and four for each step.
+fn indent<W: fmt::Write>(f: &mut fmt::Formatter<W>, around: u32, steps: usize) -> fmt::Result {
     f.write_repeated("        ", around as usize)?;
-    f.write_repeated("    ", steps)?;
-    writeln!(f, "{text}")
+    f.write_repeated("    ", steps)
 }

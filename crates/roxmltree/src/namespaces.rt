@@ -5,6 +5,7 @@ ghost use Rattle.rox_scopes.specs.NamespaceViews.{namespace_view};
 
 use rox_scopes::rope::{count, place_at};
 use rox_scopes::tables::{Namespace, Scope};
+use std::alloc::AllocError;
 use std::fmt;
 use std::marker::Model;
 
@@ -18,7 +19,7 @@ use std::marker::Model;
 /// assert!(rt; first.name().is_none());
 /// assert!(rt; first.uri() == "urn:d");
 /// ```
-#[derive(Clone, Drop)]
+#[derive(Drop)]
 pub struct NamespaceIter<'a, 'input> {
     pub(crate) scopes: &'a [Scope],
     pub(crate) listed: &'a [u16],
@@ -88,10 +89,40 @@ impl<'a, 'input> NamespaceIter<'a, 'input> {
     }
 }
 
+impl<'a, 'input> NamespaceIter<'a, 'input> {
+    ghost use Rattle.std.specs.Prelude.{◌≡◌};
+
+    /// Returns an iterator over the namespaces that are left.
+    fn copy(&self) -> NamespaceIter<'a, 'input>
+        ensures { result ≡ self.now }
+    {
+        NamespaceIter {
+            scopes: self.scopes,
+            listed: self.listed,
+            namespaces: self.namespaces,
+            scope: self.scope,
+            from: self.from,
+            until: self.until,
+        }
+    }
+}
+
+impl Clone for NamespaceIter<'_, '_> {
+    ghost use Rattle.std.specs.Prelude.{◌≡◌, ⊤};
+
+    ghost is_clone = { λ namespaces copy. copy ≡ namespaces };
+
+    ghost is_infallible = { λ _. ⊤ };
+
+    fn clone(&self) -> Result<Self, AllocError> {
+        Ok(self.copy())
+    }
+}
+
 impl fmt::Debug for NamespaceIter<'_, '_> {
     fn fmt<W: fmt::Write>(&self, f: &mut fmt::Formatter<W>) -> fmt::Result {
         f.write_str("NamespaceIter(")?;
-        f.debug_list().entries(self.clone()?).finish()?;
+        f.debug_list().entries(self.copy()).finish()?;
         f.write_str(")")
     }
 }
