@@ -70,10 +70,12 @@ pub record WaitsForMore (old new : Builder) (result : Result Bool AllocError) (i
   pub other : IfOk result (λ yes. yes ≡ false → new ≡ old)
   pub kept : KeepsOpen old new
 
--- The piece has its row, or the builder holds equal rows.
+-- The piece has its row, for which there was room, or the builder holds equal rows.
 pub record PutsOwned (old new : Builder) (result : Bool) (item : Item) : Type 0 where
   pub value : result ≡ true → HasAdded old new item
   pub other : result ≡ false → KeepsState old new
+  pub rows : result ≡ true → vec_len new.nodes.rows ≡ vec_len old.nodes.rows + 1
+  pub ready : result ≡ true → (most : ℕ) → IsReadyTo most old → IsReadyTo most new
   pub kept : KeepsOpen old new
 
 -- The piece has its row, for which there was room.

@@ -1,4 +1,5 @@
-use Rattle.std.proofs.Common.{◌≡◌, ◌++◌, ◌∷◌, [], false, refl, ap, ◌∙◌, List, ℕ, arith}
+use Rattle.std.proofs.Common.{◌≡◌, ◌++◌, ◌∷◌, [], false, refl, ap, ◌∙◌, List, ℕ, arith, rules}
+use Rattle.std.proofs.lemmas.Grind.{common_steps}
 use Rattle.rox_grammar.specs.Forest.{join}
 use Rattle.rox_grammar.specs.Tree.{node_in}
 use Rattle.rox_grammar.specs.State.{scope_of}
@@ -34,5 +35,7 @@ returns c = record {
       let rows = c.put.ensures.rows ∙ ap (λ (r : NodeData). (node_rows b.nodes) ++ r ∷ []) c.row-row.ensures in
       (t, fits_counted b.nodes_limit t (omega arith), piece_first total s.stack s.done b _ c.args.start c.args.end v false k sh c.requires.apart is tt rows refl refl refl);
   other = λ no. absurd (cc no);
+  rows = λ _. first_of (search rules, grind (arith, common_steps));
+  ready = λ _. first_of (search rules, grind (arith, common_steps));
   kept = record { opened = refl; tables = refl; limit = refl; openings_left = refl };
 }
