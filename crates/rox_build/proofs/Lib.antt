@@ -7,6 +7,7 @@ pub mod Wholes
 pub mod Asking
 pub mod Items
 pub mod PlainReads
+pub mod PlainSections
 pub mod RootTags
 pub mod RootElements
 pub mod SameBytes

@@ -1,9 +1,9 @@
 -- What a look answers that reads nothing.
-use Rattle.std.proofs.Common.{◌≡◌, false, refl}
+use Rattle.std.proofs.Common.{◌≡◌, ◌≤◌, ◌^◌, ℕ, List, false, refl, arith}
 use Rattle.rox_reading.specs.Machine as machine
 use Rattle.rox_scan.specs.declared.cursor.Cursor.{Cursor}
 use Rattle.rox_builder.specs.BuilderState.{IsConsistent, KeepsState}
-use Rattle.rox_build.specs.PlainOutcomes.{ReadsStep}
+use Rattle.rox_build.specs.PlainOutcomes.{ReadsRunAt, ReadsStep}
 use Rattle.rox_builder.specs.declared.builder.Builder.{Builder}
 
 pub keeps_all : (b : Builder) → KeepsState b b
@@ -21,3 +21,16 @@ fine_same b u fine tables opens = rw (tables, opens) fine
 
 pub keeps_same : (b u : Builder) → u ≡ b → KeepsState b u
 keeps_same b u same = rw same (keeps_all b)
+
+pub runs_not : (such : machine.Context → Type 0) (src : List ℕ) (i j : ℕ) (b u : Builder) → 2 ^ 32 ≤ j → KeepsState b u → u.tables ≡ b.tables → u.opened ≡ b.opened → ReadsRunAt such src i j b u
+runs_not such src i j b u not_read kept tables opened = record {
+  value = λ less. absurd (omega (arith, less, not_read));
+  other = λ _. kept;
+  cut = λ less. absurd (omega (arith, less, not_read));
+  ready = λ less. absurd (omega (arith, less, not_read));
+  moves = λ less. absurd (omega (arith, less, not_read));
+  tables = tables;
+  opened = opened;
+  rows = λ less. absurd (omega (arith, less, not_read));
+  behind = λ less. absurd (omega (arith, less, not_read));
+}

@@ -2,14 +2,17 @@
 use Rattle.std.proofs.Common.{◌≡◌, ℕ, suc, ◌+◌, ◌-◌, ◌<◌, ◌≤◌, false, List, length, vec_len, slice_index, refl, sym, ap, subst, ◌∙◌, arith, Result, Ok}
 use Rattle.std.specs.Str.{IsUtf8}
 use Rattle.rox_grammar.specs.State.{Open, root, inside, is_root}
-use Rattle.rox_reading.specs.Refusals.{Refusal}
+use Rattle.rox_grammar.specs.Written.{Text}
+use Rattle.rox_grammar.specs.declared.failure.Failure.{Failure}
+use Rattle.rox_reading.specs.Refusals.{Refusal, lifted}
+use Rattle.rox_reading.specs.Values.{ReadText}
 use Rattle.rox_reading.specs.State.{State, depth_of}
-use Rattle.rox_reading.specs.Machine.{Context, step, drive}
+use Rattle.rox_reading.specs.Machine.{Context, step, drive, with_item}
 use Rattle.rox_scan.specs.declared.cursor.Cursor.{Cursor}
-use Rattle.rox_builder.specs.BuilderState.{IsInState, IsReady, IsReadyTo, ScansTo}
+use Rattle.rox_builder.specs.BuilderState.{Adds, IsInState, IsReady, IsReadyTo, KeepsOpen, ScansTo}
 use Rattle.rox_build.specs.PlainSteps.{Steps, no_step, one_more, Reads}
 use Rattle.rox_bytes.proofs.RunLemmas.{stands_within}
-use Rattle.rox_builder.proofs.Stepping.{opened_deep}
+use Rattle.rox_builder.proofs.Stepping.{opened_deep, text_stepped}
 use Rattle.rox_build.proofs.Looping.{Driving, driven}
 use Rattle.rox_tags.proofs.Moving.{step_moves}
 use Rattle.rox_builder.specs.declared.builder.Builder.{Builder}
@@ -37,6 +40,15 @@ stands_there limit end s c d b same h = record {
 
 pub scans_there : (limit end : ℕ) (c d : Cursor) (b : Builder) (read : Result State Refusal) → d.pos ≡ c.pos → ScansTo limit end (Ok tt) c b read → ScansTo limit end (Ok tt) d b read
 scans_there limit end c d b read same (t, is, sees) = (t, is, stands_there limit end t c d b same sees)
+
+-- a text between two offsets was added
+pub text_stepped_at : (limit end : ℕ) (s : State) (c d : Cursor) (i j : ℕ) (b u : Builder) (r : Result (Unit {0}) Failure) (t : ReadText) → c.pos ≡ i → d.pos ≡ j → IsInState limit end s c b
+    → KeepsOpen b u → Adds end r u (with_item b.nodes_limit s j (Text i j t.value t.borrowed)) → ScansTo limit end r d u (lifted (with_item limit s j (Text s.at j t.value t.borrowed)))
+text_stepped_at limit end s c d i j b u r t start stop h kept adds =
+    subst (λ (n : ℕ). ScansTo limit end r d u (lifted (with_item limit s n (Text s.at n t.value t.borrowed)))) stop
+    (text_stepped limit end s c d b u r t h kept.tables kept.limit kept.openings_left
+    (subst (λ (n : ℕ). Adds end r u (with_item b.nodes_limit s n (Text c.pos n t.value t.borrowed))) (sym stop)
+    (subst (λ (n : ℕ). Adds end r u (with_item b.nodes_limit s j (Text n j t.value t.borrowed))) (sym start) adds)))
 
 -- nothing was read
 pub reads_none : (context : Context) (end : ℕ) (src : List ℕ) (s : State) (c : Cursor) (b : Builder) → IsInState context.limit end s c b → Reads context end 0 c b src s

@@ -1,5 +1,5 @@
 -- What the fast path requires, and how it changes the cursor and the builder. It reads a construct only if that is plain.
-use Rattle.std.specs.Prelude.{◌≡◌, ◌≢◌, ℕ, ◌+◌, ◌<◌, ◌^◌, true, false, Bool, List, Result, Ok, length, slice_index, vec_len}
+use Rattle.std.specs.Prelude.{◌≡◌, ◌≢◌, ℕ, ◌+◌, ◌<◌, ◌≤◌, ◌^◌, true, false, Bool, List, Result, Ok, length, slice_index, vec_len}
 use Rattle.std.specs.Str.{IsCharBoundary}
 use Rattle.rox_grammar.specs.Chars.{is_part_char}
 use Rattle.rox_grammar.specs.FixedTexts.{word_text}
@@ -16,7 +16,7 @@ use Rattle.rox_builder.specs.BuilderState.{GoesOn, IsConsistent, IsInState, IsRe
 use Rattle.rox_builder.specs.PendingText.{waiting}
 use Rattle.rox_build.specs.PlainSteps.{Reads}
 use Rattle.rox_tags.specs.PlainTag.{EndsNear}
-use Rattle.rox_builder.specs.Readiness.{HasRoom, IsApart}
+use Rattle.rox_builder.specs.Readiness.{HasRoom}
 use Rattle.rox_builder.specs.declared.builder.Builder.{Builder}
 use Rattle.rox_builder.specs.declared.pending.Pending.TheVariants as pending
 
@@ -77,6 +77,12 @@ pub record MayReadRun (c : Cursor) (b : Builder) : Type 0 where
   pub room : HasRoom c.text.now b
   pub apart : b.pending ≡ pending.None
 
+-- Character data may be at `i`, there is room for its row, and no text is open that it would continue.
+pub record MayReadRunAt (src : List ℕ) (i : ℕ) (b : Builder) : Type 0 where
+  pub cut : IsCharBoundary src i
+  pub room : HasRoom src b
+  pub apart : b.pending ≡ pending.None
+
 -- The construct at the cursor was read as `read` does, in a context that meets `such`, or nothing was read. It is read in the
 -- room that there is for rows, which leaves the builder as `leaves` says.
 pub record ReadsIf (leaves : ℕ → Builder → Type 0) (such : machine.Context → Type 0) (read : machine.Context → List ℕ → State → Result State Refusal) (old new : Cursor) (b after : Builder) (result : Bool) : Type 0 where
@@ -87,13 +93,31 @@ pub record ReadsIf (leaves : ℕ → Builder → Type 0) (such : machine.Context
   pub moves : result ≡ true → old.pos < new.pos
   pub goes : GoesOn old new after
 
--- Character data before `<` was read, or nothing was.
-pub record ReadsRun (old new : Cursor) (b after : Builder) (result : Bool) : Type 0 where
-  pub reads : ReadsIf IsReadyTo any_context machine.character_data_step old new b after result
-  pub tables : after.tables ≡ b.tables
+-- Character data before `<` was read, in a context that meets `such`. Or nothing was, and the builder holds equal rows.
+pub record ReadsRun (such : machine.Context → Type 0) (old new : Cursor) (b after : Builder) (result : Bool) : Type 0 where
+  pub value : result ≡ true → (context : machine.Context) (end : ℕ) (s : State) → such context → IsInState context.limit end s old b
+      → ScansTo context.limit end (Ok tt) new after (machine.character_data_step context old.text.now s)
+  pub other : result ≡ false → (new ≡ old) × KeepsState b after
+  pub ready : result ≡ true → (most : ℕ) → IsReadyTo most b → IsReadyTo most after
+  pub moves : result ≡ true → old.pos < new.pos
+  pub goes : GoesOn old new after
   pub opened : after.opened ≡ b.opened
   pub rows : result ≡ true → vec_len after.nodes.rows ≡ vec_len b.nodes.rows + 1
   pub behind : result ≡ true → slice_index old.text.now new.pos ≡ 60
+
+-- Character data from `i` up to the `<` at `j` was read, in a context that meets `such`. Or nothing was, and the builder holds
+-- equal rows.
+pub record ReadsRunAt (such : machine.Context → Type 0) (src : List ℕ) (i j : ℕ) (b after : Builder) : Type 0 where
+  pub value : j < 2 ^ 32 → (context : machine.Context) (end : ℕ) (s : State) (here behind : Cursor) → such context → here.pos ≡ i → behind.pos ≡ j → IsInState context.limit end s here b
+      → ScansTo context.limit end (Ok tt) behind after (machine.character_data_step context src s)
+  pub other : 2 ^ 32 ≤ j → KeepsState b after
+  pub cut : j < 2 ^ 32 → IsCharBoundary src j
+  pub ready : j < 2 ^ 32 → (most : ℕ) → IsReadyTo most b → IsReadyTo most after
+  pub moves : j < 2 ^ 32 → i < j
+  pub tables : after.tables ≡ b.tables
+  pub opened : after.opened ≡ b.opened
+  pub rows : j < 2 ^ 32 → vec_len after.nodes.rows ≡ vec_len b.nodes.rows + 1
+  pub behind : j < 2 ^ 32 → slice_index src j ≡ 60
 
 -- The construct at the cursor was read, in a context that meets `such`. Or nothing was, and the builder holds equal rows.
 pub record ReadsStep (such : machine.Context → Type 0) (old new : Cursor) (b after : Builder) (result : Bool) : Type 0 where
@@ -102,15 +126,29 @@ pub record ReadsStep (such : machine.Context → Type 0) (old new : Cursor) (b a
   pub other : result ≡ false → (new ≡ old) × KeepsState b after
   pub goes : GoesOn old new after
 
--- The markup at the cursor was read, in the room that there is for rows, and no text may continue after it. Or nothing was read.
+-- The markup at the cursor was read, in the room that there is for rows, and no text is open that character data after it would
+-- continue. Or nothing was read.
 pub record ReadsMarkup (such : machine.Context → Type 0) (old new : Cursor) (b after : Builder) (result : Bool) : Type 0 where
   pub reads : ReadsStep such old new b after result
-  pub ready : result ≡ true → (most : ℕ) → IsReadyTo most b → IsApart most after
+  pub ready : result ≡ true → (most : ℕ) → IsReadyTo most b → IsReadyTo most after
+  pub apart : result ≡ true → StandsApart new after
   pub moves : result ≡ true → old.pos < new.pos
 
--- Some constructs were read, or none. `around` elements are open around the text.
-pub record ReadsRows (around : ℕ) (old new : Cursor) (b after : Builder) (result : Bool) : Type 0 where
-  pub value : (context : machine.Context) (end : ℕ) (s : State) → context.open_around ≡ around → IsInState context.limit end s old b
+-- Some constructs were read, or none. `around` elements are open around the text, and `main` is true if it is the main text.
+pub record ReadsRows (around : ℕ) (main : Bool) (old new : Cursor) (b after : Builder) (result : Bool) : Type 0 where
+  pub value : (context : machine.Context) (end : ℕ) (s : State) → context.open_around ≡ around → context.values.main ≡ main → IsInState context.limit end s old b
       → (n : ℕ) × Reads context end n new after old.text.now s
   pub moves : result ≡ true → old.pos < new.pos
   pub goes : GoesOn old new after
+
+-- The markup at `i` was read, up to `j`, or nothing was. If it was read, `j` fits a row and is after `i`, the rows were put into
+-- the room that there was, and no text is open that character data at `j` would continue.
+pub record ReadsSection (src : List ℕ) (i j : ℕ) (b after : Builder) : Type 0 where
+  pub value : j < 2 ^ 32 → (context : machine.Context) (end : ℕ) (s : State) (here behind : Cursor) → here.pos ≡ i → behind.pos ≡ j → IsInState context.limit end s here b
+      → ScansTo context.limit end (Ok tt) behind after (machine.step context src s)
+  pub other : 2 ^ 32 ≤ j → after ≡ b
+  pub cut : j < 2 ^ 32 → IsCharBoundary src j
+  pub ready : j < 2 ^ 32 → (most : ℕ) → IsReadyTo most b → IsReadyTo most after
+  pub apart : j < 2 ^ 32 → slice_index src j ≢ 60 → after.pending ≡ pending.None
+  pub moves : j < 2 ^ 32 → i < j
+  pub fine : IsConsistent after.tables after.opened.items

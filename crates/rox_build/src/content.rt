@@ -13,7 +13,7 @@ ghost use Rattle.rox_builder.specs.Outcomes.{MayStep, ParsesAs};
 ghost use Rattle.rox_builder.specs.Readiness.{MayReadTo};
 
 use crate::constructs::{end_tag, markup};
-use crate::quick_content::{put_main_line_end, quick_constructs, quick_markup_of_text};
+use crate::quick_content::{quick_constructs, quick_markup_of_text};
 use rox_builder::builder::Builder;
 use rox_grammar::failure::Failure;
 use rox_grammar::fault::Fault;
@@ -336,7 +336,14 @@ pub fn content<'input>(
     // Each turn but the last reads at least one byte.
     for _turn in 0..cursor.text.len() {
         let rows = builder.rows_left();
-        let read = quick_constructs(cursor, builder, context.open_around, rows);
+        let read = quick_constructs(
+            alloc,
+            cursor,
+            builder,
+            context.open_around,
+            context.main,
+            rows,
+        );
         if builder.is_at_root() {
             return Ok(());
         }
@@ -347,9 +354,6 @@ pub fn content<'input>(
         }
         if cursor.is_at_end() {
             return Err(ParseError::Fault(Fault::UnclosedRootNode));
-        }
-        if put_main_line_end(alloc, cursor, builder, context.main) {
-            continue;
         }
         // What the fast path was refused memory for is not asked for again.
         if builder.buffers.seen.lacking {

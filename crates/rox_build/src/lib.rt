@@ -6,6 +6,7 @@ pub mod content;
 pub mod dtd;
 pub mod quick_content;
 pub mod quick_root;
+pub mod quick_sections;
 pub mod reader;
 pub mod resolver;
 pub mod same_front;

@@ -2,24 +2,20 @@
 //! tags. Nothing fails here: the general step reads a construct that is not plain, or finds no room, from its first byte.
 
 ghost use Rattle.std.specs.Prelude.{◌≡◌, true};
-ghost use Rattle.rox_grammar.specs.declared.fault.Word.TheVariants as word;
 ghost use Rattle.rox_reading.specs.Machine as machine;
 ghost use Rattle.rox_reading.specs.Refusals.{lifted};
-ghost use Rattle.rox_builder.specs.BuilderState.{IsConsistent};
-ghost use Rattle.rox_builder.specs.Outcomes.{MayStep, ReadsAt, ReadsWhole};
-ghost use Rattle.rox_build.specs.PlainOutcomes.{MayReadBare, MayReadEnd, MayReadNear, MayReadPart, MayReadPlain, MayReadRows, MayReadRun, MayReadWord, ReadsIf, ReadsMarkup, ReadsRows, ReadsRun, ReadsStep, StandsApart, any_context};
-ghost use Rattle.rox_builder.specs.Readiness.{HasRoom, IsApart, MayReadAt};
+ghost use Rattle.rox_builder.specs.Outcomes.{MayStep, ReadsAt};
+ghost use Rattle.rox_build.specs.PlainOutcomes.{MayReadBare, MayReadEnd, MayReadNear, MayReadPart, MayReadPlain, MayReadRows, MayReadRun, MayReadRunAt, ReadsIf, ReadsMarkup, ReadsRows, ReadsRun, ReadsRunAt, ReadsStep, StandsApart, any_context};
+ghost use Rattle.rox_builder.specs.Readiness.{IsApart};
 
+use crate::quick_sections::{NOT_READ, put_delimited};
 use crate::same_front::closes_front;
 use rox_builder::builder::Builder;
 use rox_bytes::byte_set::{PartByte, find_other, near_part_end, part_end};
 use rox_bytes::runs::{after_byte, is_at};
-use rox_grammar::fault::Word;
 use rox_rows::row::NodeKind;
-use rox_rows::storage::StringStorage;
 use rox_scan::character_data::{line_run_end, text_end};
 use rox_scan::cursor::Cursor;
-use rox_scan::markup::whole_comment;
 use rox_tags::quick_tag::{
     TagPlace, start_tag_in_scope, start_tag_of_name, start_tag_without_prefix,
 };
@@ -27,9 +23,6 @@ use std::alloc::Global;
 
 /// The length in bytes of the longest text whose offsets all fit rows.
 const MOST_BYTES: usize = 4294967295;
-
-/// Returned in place of the offset after a construct that was not read.
-const NOT_READ: usize = usize::MAX;
 
 /// Returns true only if no text is open that character data at the cursor would continue.
 #[inline(always)]
@@ -39,70 +32,76 @@ fn stands_apart(cursor: &Cursor<'_>, builder: &Builder<'_>) -> bool
     is_at(cursor.text, cursor.pos, b'<') || !builder.is_text_open()
 }
 
-/// Reads character data, up to the next `<`, if it is a slice of the source. No text is open that it would continue. Returns
-/// whether it was read.
-#[inline(always)]
-fn put_character_data<'input>(cursor: &mut Cursor<'input>, builder: &mut Builder<'input>) -> bool
-    requires { MayReadRun cursor.old builder.old }
-    ensures { ReadsRun cursor.old cursor.new builder.old builder.new result }
-{
-    let start = cursor.pos;
-    let text = cursor.text;
-    let Some(end) = text_end(text, start) else {
-        return false;
-    };
-    cursor.pos = end;
-    builder.put_text(start, end, &text[start..end]);
-    true
-}
-
-/// Reads character data if it is CR LF followed only by bytes that need no replacement. No text may be open that it would
-/// continue, and there must be room for it. Returns whether it was read.
+/// Reads the character data at `start` if it is CR LF followed only by bytes that need no replacement, up to a `<`. It is of the
+/// main text, where line ends are read as line feeds. Returns the offset after it, or `NOT_READ`.
 #[inline(never)]
 fn put_line_end<'input>(
     alloc: Global,
-    cursor: &mut Cursor<'input>,
+    text: &'input str,
+    start: usize,
     builder: &mut Builder<'input>,
-) -> bool
-    requires { IsConsistent builder.old.tables builder.old.opened.items }
-    ensures { ReadsStep (λ k. k.values.main ≡ true) cursor.old cursor.new builder.old builder.new
-        result }
+) -> usize
+    requires { MayReadRunAt text.now start builder.old }
+    ensures { ReadsRunAt (λ k. k.values.main ≡ true) text.entry.now start result builder.old builder.new }
 {
-    let start = cursor.pos;
-    let text = cursor.text;
-    if text.len() > MOST_BYTES || builder.is_text_open() || builder.rows_left() == 0 {
-        return false;
-    }
-    let Some(stop) = line_run_end(*cursor) else {
-        return false;
+    let Some(end) = line_run_end(Cursor { text, pos: start }) else {
+        return NOT_READ;
     };
-    if !builder.put_owned(alloc, start, stop, &text[start + 1..stop]) {
-        builder.buffers.seen.lacking = true;
-        return false;
+    if !is_at(text, end, b'<') {
+        return NOT_READ;
     }
-    cursor.pos = stop;
-    true
+    if !builder.put_owned(alloc, start, end, &text[start + 1..end]) {
+        builder.buffers.seen.lacking = true;
+        return NOT_READ;
+    }
+    end
 }
 
-/// Like `put_line_end`, but only in the main text, where line ends are read as line feeds. It first tests for a CR at the cursor.
+/// Like `put_line_end`, but only if the text is the main text. Returns whether character data was read. Whether a CR is at the
+/// cursor is tested out of line: a byte that is tested after a search would take the register of the text.
 #[inline(always)]
-pub fn put_main_line_end<'input>(
+fn put_main_line_end<'input>(
     alloc: Global,
     cursor: &mut Cursor<'input>,
     builder: &mut Builder<'input>,
     main: bool,
 ) -> bool
-    requires { IsConsistent builder.old.tables builder.old.opened.items }
-    ensures { ReadsStep (λ k. k.values.main ≡ main) cursor.old cursor.new builder.old builder.new
+    requires { MayReadRun cursor.old builder.old }
+    ensures { ReadsRun (λ k. k.values.main ≡ main) cursor.old cursor.new builder.old builder.new
         result }
 {
     if !main {
         return false;
     }
-    if !is_at(cursor.text, cursor.pos, b'\r') {
+    let end = put_line_end(alloc, cursor.text, cursor.pos, builder);
+    if end > MOST_BYTES {
         return false;
     }
-    put_line_end(alloc, cursor, builder)
+    cursor.pos = end;
+    true
+}
+
+/// Reads character data, up to the next `<`, if it is a slice of the source, or a line end that `put_main_line_end` reads. No text
+/// is open that it would continue. Returns whether it was read.
+#[inline(always)]
+fn put_character_data<'input>(
+    alloc: Global,
+    cursor: &mut Cursor<'input>,
+    builder: &mut Builder<'input>,
+    main: bool,
+) -> bool
+    requires { MayReadRun cursor.old builder.old }
+    ensures { ReadsRun (λ k. k.values.main ≡ main) cursor.old cursor.new builder.old builder.new
+        result }
+{
+    let start = cursor.pos;
+    let text = cursor.text;
+    let Some(end) = text_end(text, start) else {
+        return put_main_line_end(alloc, cursor, builder, main);
+    };
+    cursor.pos = end;
+    builder.put_text(start, end, &text[start..end]);
+    true
 }
 
 /// Reads an end tag, from its `</`, if it closes the innermost open element. It must have the very bytes of the element's name,
@@ -247,41 +246,6 @@ fn element_without_prefix<'input>(
     read.end
 }
 
-/// Reads a comment, from `<!--`, if it is valid. Returns whether it was read.
-#[inline(always)]
-fn put_comment<'input>(cursor: &mut Cursor<'input>, builder: &mut Builder<'input>) -> bool
-    requires { MayReadWord word.CommentStart cursor.old builder.old }
-    ensures { ReadsIf IsApart any_context (λ k src s. lifted (machine.comment_step k.limit src s))
-        cursor.old cursor.new builder.old builder.new result }
-{
-    let start = cursor.pos;
-    let Some(whole) = whole_comment(*cursor) else {
-        return false;
-    };
-    cursor.pos = whole.end;
-    let kind = NodeKind::Comment(StringStorage::Borrowed(whole.text));
-    builder.put_leaf(builder.parent(), start, cursor.pos, kind);
-    true
-}
-
-/// Reads the construct at `start`, if it is a valid comment. Returns the offset after it, or `NOT_READ`: a cursor that is lent to
-/// a call would leave its registers.
-#[inline(never)]
-#[tactic(auto, unfolding(rox_reading::specs::Machine::step))]
-fn put_comment_at<'input>(text: &'input str, start: usize, builder: &mut Builder<'input>) -> usize
-    requires { MayReadAt text.now start builder.old }
-    ensures { ReadsWhole machine.step text.entry.now start result builder.old builder.new }
-{
-    let mut cursor = Cursor { text, pos: start };
-    if !cursor.starts(Word::CommentStart) {
-        return NOT_READ;
-    }
-    if !put_comment(&mut cursor, builder) {
-        return NOT_READ;
-    }
-    cursor.pos
-}
-
 /// Reads what `<` starts, if it is plain and finds room. Returns false if nothing was read.
 #[inline(always)]
 #[tactic(auto, unfolding(rox_reading::specs::Machine::step))]
@@ -305,7 +269,7 @@ fn quick_markup<'input>(
         if next == b'/' {
             return close_element(cursor, builder, open_around);
         }
-        let behind = put_comment_at(text, start, builder);
+        let behind = put_delimited(text, start, builder);
         if behind > MOST_BYTES {
             return false;
         }
@@ -336,13 +300,15 @@ fn quick_markup<'input>(
 /// `rows` rows are left. Returns whether any was read.
 #[inline(always)]
 pub fn quick_constructs<'input>(
+    alloc: Global,
     cursor: &mut Cursor<'input>,
     builder: &mut Builder<'input>,
     open_around: usize,
+    main: bool,
     rows: usize,
 ) -> bool
     requires { MayReadRows rows builder.old }
-    ensures { ReadsRows open_around cursor.old cursor.new builder.old builder.new result }
+    ensures { ReadsRows open_around main cursor.old cursor.new builder.old builder.new result }
 {
     let mut here = *cursor;
     if cursor.text.len() > MOST_BYTES {
@@ -364,7 +330,7 @@ pub fn quick_constructs<'input>(
             break;
         }
         if bytes[here.pos] != b'<' {
-            if !put_character_data(&mut here, builder) {
+            if !put_character_data(alloc, &mut here, builder, main) {
                 break;
             }
         }
@@ -399,7 +365,7 @@ fn markup_of_text<'input>(
     let text = cursor.text;
     let start = cursor.pos;
     let stop = if next <= b'?' {
-        put_comment_at(text, start, builder)
+        put_delimited(text, start, builder)
     } else {
         element_in_scope(
             text,

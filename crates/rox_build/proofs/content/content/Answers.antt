@@ -6,9 +6,9 @@ use Rattle.rox_grammar.specs.State.{is_root}
 use Rattle.rox_reading.specs.Machine.{step}
 use Rattle.rox_values.specs.Contexts.{context_of}
 use Rattle.rox_build.proofs.Looping.{drives_on, drive_fails, drive_done, drive_cut}
-use Rattle.rox_builder.specs.BuilderState.{ScansTo}
+use Rattle.rox_builder.specs.BuilderState.{ParsesTo}
 use Rattle.rox_build.proofs.Twice.{drives_past}
-use Rattle.rox_builder.proofs.Stepping.{fine_open, rows_kept, state_kept}
+use Rattle.rox_builder.proofs.Stepping.{fine_open, rows_kept}
 use Rattle.rox_build.proofs.content.content.Goals as goal
 
 pub loop-turn-init : goal.loop-turn-init
@@ -25,7 +25,7 @@ returns-then-is_at_root c = record {
       let context = context_of limit es c.args.context in
       let s0 = ap (λ t. t.now) c.loop-turn.invariant.source in
       let g0 = c.loop-turn.invariant.reads limit end es s declared sees in
-      let read = rw s0 at (c.quick_constructs-read.ensures.value context end g0.s refl g0.sees) in
+      let read = rw s0 at (c.quick_constructs-read.ensures.value context end g0.s refl refl g0.sees) in
       let g = drives_past context end src _ c.loop-turn._turn read.0 _ _ _ _ g0 c.args.cursor.now.utf8 read.1 in
       drive_done context end src _ _ _ _ g (sym (c.is_at_root.ensures end g.s.stack g.s.done g.sees.shows) ∙ c.if-is_at_root.true);
   goes = search rules;
@@ -39,7 +39,7 @@ returns-then-is_at_end c = record {
       let s0 = ap (λ t. t.now) c.loop-turn.invariant.source in
       let s1 = ap (λ t. t.now) c.quick_constructs-read.ensures.goes.source ∙ s0 in
       let g0 = c.loop-turn.invariant.reads limit end es s declared sees in
-      let read = rw s0 at (c.quick_constructs-read.ensures.value context end g0.s refl g0.sees) in
+      let read = rw s0 at (c.quick_constructs-read.ensures.value context end g0.s refl refl g0.sees) in
       let g = drives_past context end src _ c.loop-turn._turn read.0 _ _ _ _ g0 c.args.cursor.now.utf8 read.1 in
       let inner : is_root g.s.stack ≡ false = sym (c.is_at_root.ensures end g.s.stack g.s.done g.sees.shows) ∙ c.if-is_at_root.false in
       let past : length src ≤ g.s.at = rw (s1, g.sees.here) at (leb-true _ _ (sym c.is_at_end.ensures ∙ c.if-is_at_end.true)) in
@@ -57,7 +57,7 @@ loop-turn-preserved-then-rows_left-lt2 c = record {
       let context = context_of limit es c.args.context in
       let s0 = ap (λ t. t.now) c.loop-turn.invariant.source in
       let g0 = c.loop-turn.invariant.reads limit end es s declared sees in
-      let read = rw s0 at (c.quick_constructs-read.ensures.value context end g0.s refl g0.sees) in
+      let read = rw s0 at (c.quick_constructs-read.ensures.value context end g0.s refl refl g0.sees) in
       let g = drives_past context end src _ c.loop-turn._turn read.0 _ _ _ _ g0 c.args.cursor.now.utf8 read.1 in
       record {
         s = g.s;
@@ -69,43 +69,23 @@ loop-turn-preserved-then-rows_left-lt2 c = record {
       };
 }
 
-pub loop-turn-preserved-then-put_main_line_end : goal.loop-turn-preserved-then-put_main_line_end
-loop-turn-preserved-then-put_main_line_end c = record {
-  source = c.put_main_line_end.ensures.goes.source ∙ c.quick_constructs-read.ensures.goes.source ∙ c.loop-turn.invariant.source;
-  fine = c.put_main_line_end.ensures.goes.fine;
-  reads = λ limit end es s declared sees.
-      let src = c.args.cursor.now.text.now in
-      let context = context_of limit es c.args.context in
-      let s0 = ap (λ t. t.now) c.loop-turn.invariant.source in
-      let s1 = ap (λ t. t.now) c.quick_constructs-read.ensures.goes.source ∙ s0 in
-      let g0 = c.loop-turn.invariant.reads limit end es s declared sees in
-      let read = rw s0 at (c.quick_constructs-read.ensures.value context end g0.s refl g0.sees) in
-      let g = drives_past context end src _ c.loop-turn._turn read.0 _ _ _ _ g0 c.args.cursor.now.utf8 read.1 in
-      let inner : is_root g.s.stack ≡ false = sym (c.is_at_root.ensures end g.s.stack g.s.done g.sees.shows) ∙ c.if-is_at_root.false in
-      let inside : g.s.at < length src = rw (s1, g.sees.here) at (leb-false _ _ (sym c.is_at_end.ensures ∙ c.if-is_at_end.false)) in
-      let stepped : ScansTo limit end (Ok tt) c.put_main_line_end.new.cursor c.put_main_line_end.new.builder (step context src g.s) =
-      subst (λ (x : List ℕ). ScansTo limit end (Ok tt) c.put_main_line_end.new.cursor c.put_main_line_end.new.builder (step context x g.s)) s1 (c.put_main_line_end.ensures.value c.if-put_main_line_end.true context end g.s refl g.sees) in
-      drives_on context end src _ c.loop-turn._turn _ _ _ _ tt g c.args.cursor.now.utf8 inner inside stepped;
-}
-
 pub loop-turn-preserved : goal.loop-turn-preserved
 loop-turn-preserved c = record {
-  source = c.in_ok-step.ensures.goes.source ∙ c.put_main_line_end.ensures.goes.source ∙ c.quick_constructs-read.ensures.goes.source ∙ c.loop-turn.invariant.source;
+  source = c.in_ok-step.ensures.goes.source ∙ c.quick_constructs-read.ensures.goes.source ∙ c.loop-turn.invariant.source;
   fine = c.in_ok-step.ensures.goes.fine;
   reads = λ limit end es s declared sees.
       let src = c.args.cursor.now.text.now in
       let context = context_of limit es c.args.context in
       let s0 = ap (λ t. t.now) c.loop-turn.invariant.source in
       let s1 = ap (λ t. t.now) c.quick_constructs-read.ensures.goes.source ∙ s0 in
-      let s2 = ap (λ t. t.now) c.put_main_line_end.ensures.goes.source ∙ s1 in
       let g0 = c.loop-turn.invariant.reads limit end es s declared sees in
-      let read = rw s0 at (c.quick_constructs-read.ensures.value context end g0.s refl g0.sees) in
+      let read = rw s0 at (c.quick_constructs-read.ensures.value context end g0.s refl refl g0.sees) in
       let g = drives_past context end src _ c.loop-turn._turn read.0 _ _ _ _ g0 c.args.cursor.now.utf8 read.1 in
       let inner : is_root g.s.stack ≡ false = sym (c.is_at_root.ensures end g.s.stack g.s.done g.sees.shows) ∙ c.if-is_at_root.false in
       let inside : g.s.at < length src = rw (s1, g.sees.here) at (leb-false _ _ (sym c.is_at_end.ensures ∙ c.if-is_at_end.false)) in
-      let still = (let o = c.put_main_line_end.ensures.other c.if-put_main_line_end.false in state_kept limit end g.s _ _ _ _ g.sees o.0 o.1) in
-      let stepped = rw s2 at (c.in_ok-step.ensures.value limit end es g.s declared still) in
-      drives_on context end src _ c.loop-turn._turn _ _ _ _ _ g c.args.cursor.now.utf8 inner inside stepped;
+      let stepped : ParsesTo limit end (Ok tt) c.step.new.cursor c.step.new.builder (step context src g.s) =
+      subst (λ (x : List ℕ). ParsesTo limit end (Ok tt) c.step.new.cursor c.step.new.builder (step context x g.s)) s1 (c.in_ok-step.ensures.value limit end es g.s declared g.sees) in
+      drives_on context end src _ c.loop-turn._turn _ _ _ _ tt g c.args.cursor.now.utf8 inner inside stepped;
 }
 
 pub returns-in_err-step : goal.returns-in_err-step
@@ -115,15 +95,13 @@ returns-in_err-step c = record {
       let context = context_of limit es c.args.context in
       let s0 = ap (λ t. t.now) c.loop-turn.invariant.source in
       let s1 = ap (λ t. t.now) c.quick_constructs-read.ensures.goes.source ∙ s0 in
-      let s2 = ap (λ t. t.now) c.put_main_line_end.ensures.goes.source ∙ s1 in
       let g0 = c.loop-turn.invariant.reads limit end es s declared sees in
-      let read = rw s0 at (c.quick_constructs-read.ensures.value context end g0.s refl g0.sees) in
+      let read = rw s0 at (c.quick_constructs-read.ensures.value context end g0.s refl refl g0.sees) in
       let g = drives_past context end src _ c.loop-turn._turn read.0 _ _ _ _ g0 c.args.cursor.now.utf8 read.1 in
       let inner : is_root g.s.stack ≡ false = sym (c.is_at_root.ensures end g.s.stack g.s.done g.sees.shows) ∙ c.if-is_at_root.false in
       let inside : g.s.at < length src = rw (s1, g.sees.here) at (leb-false _ _ (sym c.is_at_end.ensures ∙ c.if-is_at_end.false)) in
-      let still = (let o = c.put_main_line_end.ensures.other c.if-put_main_line_end.false in state_kept limit end g.s _ _ _ _ g.sees o.0 o.1) in
       let q = err_from_is_err_and c.from_residual-in_err-step.result c.from_residual-in_err-step.ensures.1 in
-      let fails : IsRefusal c.in_err-step.field-0.0 (step context src g.s) = rw s2 at (c.in_err-step.ensures.value limit end es g.s declared still) in
+      let fails : IsRefusal c.in_err-step.field-0.0 (step context src g.s) = subst (λ (x : List ℕ). IsRefusal c.in_err-step.field-0.0 (step context x g.s)) s1 (c.in_err-step.ensures.value limit end es g.s declared g.sees) in
       rw (q.1, q.2) (drive_fails context end src _ c.loop-turn._turn _ _ c.in_err-step.field-0.0 g inner inside fails);
   goes = let q = err_from_is_err_and c.from_residual-in_err-step.result c.from_residual-in_err-step.ensures.1 in rw q.1 tt;
 }

@@ -18,7 +18,7 @@ pub returns : goal.returns
 returns c = record {
   value = λ _ context end s around h.
       elim c.if-next-le63.branch [
-        | then-next-le63 w ↦ rw w.builder-is (w.put_comment_at-stop.ensures.reads.value (omega (arith, c.if-stop-gt-MOST_BYTES.false, w.stop-is)) context end s c.args.cursor.now _ refl w.stop-is h)
+        | then-next-le63 w ↦ rw w.builder-is (w.put_delimited-stop.ensures.value (omega (arith, c.if-stop-gt-MOST_BYTES.false, w.stop-is)) context end s c.args.cursor.now _ refl w.stop-is h)
         | else-next-le63 w ↦ (
             let i = c.args.cursor.now.pos in
             let b = slice_index c.as_bytes-bytes.result.now (i + 1) in
@@ -30,7 +30,7 @@ returns c = record {
   goes = record {
     source = refl;
     fine = elim c.if-next-le63.branch [
-      | then-next-le63 w ↦ rw w.builder-is w.put_comment_at-stop.ensures.reads.fine
+      | then-next-le63 w ↦ rw w.builder-is w.put_delimited-stop.ensures.fine
       | else-next-le63 w ↦ rw w.builder-is w.element_in_scope-stop.ensures.fine
     ];
   };
@@ -42,14 +42,14 @@ returns-then-stop-gt-MOST_BYTES c = record {
   other = λ _. (
     refl,
     elim c.if-next-le63.branch [
-      | then-next-le63 w ↦ rw w.builder-is (w.put_comment_at-stop.ensures.reads.other (omega (arith, c.if-stop-gt-MOST_BYTES.true, w.stop-is)))
+      | then-next-le63 w ↦ rw w.builder-is (keeps_same _ _ (w.put_delimited-stop.ensures.other (omega (arith, c.if-stop-gt-MOST_BYTES.true, w.stop-is))))
       | else-next-le63 w ↦ rw w.builder-is (w.element_in_scope-stop.ensures.other (omega (arith, c.if-stop-gt-MOST_BYTES.true, w.stop-is)))
     ],
   );
   goes = record {
     source = refl;
     fine = elim c.if-next-le63.branch [
-      | then-next-le63 w ↦ rw w.builder-is w.put_comment_at-stop.ensures.reads.fine
+      | then-next-le63 w ↦ rw w.builder-is w.put_delimited-stop.ensures.fine
       | else-next-le63 w ↦ rw w.builder-is w.element_in_scope-stop.ensures.fine
     ];
   };

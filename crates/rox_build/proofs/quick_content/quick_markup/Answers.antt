@@ -1,6 +1,6 @@
 use Rattle.std.proofs.Common.{ℕ, List, ◌+◌, slice_index, ne_eqb, refl, ap, ◌∙◌, arith, rules}
 use Rattle.std.proofs.lemmas.Grind.{common_steps}
-use Rattle.rox_builder.specs.BuilderState.{IsInState, IsReadyTo}
+use Rattle.rox_builder.specs.BuilderState.{IsInState, IsReady, IsReadyTo}
 use Rattle.rox_builder.proofs.Stepping.{step_is_markup}
 use Rattle.rox_build.proofs.PlainReads.{keeps_same, steps_not}
 use Rattle.rox_build.proofs.quick_content.quick_markup.Goals as goal
@@ -15,7 +15,8 @@ returns-then-next-eq47 c = record {
     other = λ no. let o = c.close_element.ensures.other no in (o.0, keeps_same _ _ o.1);
     goes = c.close_element.ensures.goes;
   };
-  ready = c.close_element.ensures.ready;
+  ready = λ yes most h. (c.close_element.ensures.ready yes most h).ready;
+  apart = λ yes _. (c.close_element.ensures.ready yes _ c.requires.room.ready).apart;
   moves = c.close_element.ensures.moves;
 }
 
@@ -23,18 +24,20 @@ pub returns-then-next-le63 : goal.returns-then-next-le63
 returns-then-next-le63 c = record {
   reads = record {
     value = λ _ context end s around h.
-        c.put_comment_at-behind.ensures.reads.value (omega (arith, c.if-behind-gt-MOST_BYTES.false)) context end s c.args.cursor.now _ refl refl h;
+        c.put_delimited-behind.ensures.value (omega (arith, c.if-behind-gt-MOST_BYTES.false)) context end s c.args.cursor.now _ refl refl h;
     other = λ no. absurd (cc no);
-    goes = record { source = refl; fine = c.put_comment_at-behind.ensures.reads.fine };
+    goes = record { source = refl; fine = c.put_delimited-behind.ensures.fine };
   };
-  ready = λ _. c.put_comment_at-behind.ensures.reads.ready (omega (arith, c.if-behind-gt-MOST_BYTES.false));
-  moves = λ _. c.put_comment_at-behind.ensures.reads.moves (omega (arith, c.if-behind-gt-MOST_BYTES.false));
+  ready = λ _. c.put_delimited-behind.ensures.ready (omega (arith, c.if-behind-gt-MOST_BYTES.false));
+  apart = λ _. c.put_delimited-behind.ensures.apart (omega (arith, c.if-behind-gt-MOST_BYTES.false));
+  moves = λ _. c.put_delimited-behind.ensures.moves (omega (arith, c.if-behind-gt-MOST_BYTES.false));
 }
 
 pub returns-then-behind-gt-MOST_BYTES : goal.returns-then-behind-gt-MOST_BYTES
 returns-then-behind-gt-MOST_BYTES c = record {
-  reads = steps_not _ c.args.cursor.now c.args.builder.now c.put_comment_at-behind.new.builder (keeps_same _ _ (c.put_comment_at-behind.ensures.other (omega (arith, c.if-behind-gt-MOST_BYTES.true)))) c.put_comment_at-behind.ensures.reads.fine;
+  reads = steps_not _ c.args.cursor.now c.args.builder.now c.put_delimited-behind.new.builder (keeps_same _ _ (c.put_delimited-behind.ensures.other (omega (arith, c.if-behind-gt-MOST_BYTES.true)))) c.put_delimited-behind.ensures.fine;
   ready = λ yes. absurd (cc yes);
+  apart = λ yes. absurd (cc yes);
   moves = λ yes. absurd (cc yes);
 }
 
@@ -49,7 +52,8 @@ returns-then-element_of_name c = record {
     other = λ no. absurd (cc no);
     goes = c.element_of_name.ensures.goes;
   };
-  ready = λ _. c.element_of_name.ensures.ready c.if-element_of_name.true;
+  ready = λ _ most h. (c.element_of_name.ensures.ready c.if-element_of_name.true most h).ready;
+  apart = λ _ _. (c.element_of_name.ensures.ready c.if-element_of_name.true _ c.requires.room.ready).apart;
   moves = λ _. c.element_of_name.ensures.moves c.if-element_of_name.true;
 }
 
@@ -80,8 +84,15 @@ returns c = record {
       let same = (c.element_of_name.ensures.other c.if-element_of_name.false).1 in
       let ready : IsReadyTo most c.element_of_name.new.builder = rw same h in
       elim c.if-bytes-near-lt58.branch [
-        | then-bytes-near-lt58 w ↦ rw (w.builder-is) (w.element_without_prefix-end.ensures.ready (omega (arith, c.if-end-gt-MOST_BYTES.false, w.end-is)) most ready)
-        | else-bytes-near-lt58 w ↦ rw (w.builder-is) (w.element_in_scope-end.ensures.ready (omega (arith, c.if-end-gt-MOST_BYTES.false, w.end-is)) most ready)
+        | then-bytes-near-lt58 w ↦ rw (w.builder-is) (w.element_without_prefix-end.ensures.ready (omega (arith, c.if-end-gt-MOST_BYTES.false, w.end-is)) most ready).ready
+        | else-bytes-near-lt58 w ↦ rw (w.builder-is) (w.element_in_scope-end.ensures.ready (omega (arith, c.if-end-gt-MOST_BYTES.false, w.end-is)) most ready).ready
+      ];
+  apart = λ _ _.
+      let same = (c.element_of_name.ensures.other c.if-element_of_name.false).1 in
+      let ready : IsReady 1 c.element_of_name.new.builder = rw same c.requires.room.ready in
+      elim c.if-bytes-near-lt58.branch [
+        | then-bytes-near-lt58 w ↦ rw (w.builder-is) (w.element_without_prefix-end.ensures.ready (omega (arith, c.if-end-gt-MOST_BYTES.false, w.end-is)) _ ready).apart
+        | else-bytes-near-lt58 w ↦ rw (w.builder-is) (w.element_in_scope-end.ensures.ready (omega (arith, c.if-end-gt-MOST_BYTES.false, w.end-is)) _ ready).apart
       ];
   moves = λ _. elim c.if-bytes-near-lt58.branch [
     | then-bytes-near-lt58 w ↦ rw w.end-is (w.element_without_prefix-end.ensures.moves (omega (arith, c.if-end-gt-MOST_BYTES.false, w.end-is)))
@@ -111,6 +122,7 @@ returns-then-end-gt-MOST_BYTES c = record {
         };
       };
   ready = λ yes. absurd (cc yes);
+  apart = λ yes. absurd (cc yes);
   moves = λ yes. absurd (cc yes);
 }
 

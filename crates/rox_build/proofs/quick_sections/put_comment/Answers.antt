@@ -4,7 +4,7 @@ use Rattle.rox_grammar.specs.Written.{Item, Comment}
 use Rattle.rox_theory.proofs.MarkupLemmas.{comment_sound}
 use Rattle.rox_builder.proofs.Stepping.{comment_is, item_stepped}
 use Rattle.rox_build.proofs.PlainReads.{fine_same}
-use Rattle.rox_build.proofs.quick_content.put_comment.Goals as goal
+use Rattle.rox_build.proofs.quick_sections.put_comment.Goals as goal
 
 pub returns : goal.returns
 returns c = record {

@@ -1,0 +1,88 @@
+//! Plain constructs with delimiters, read by the fast path: comments and CDATA sections (XML 1.0 sections 2.5, 2.7). Each is read out
+//! of line. The general step reads one that is not plain, from its first byte. It also reads processing instructions, whose rows
+//! require another table.
+
+ghost use Rattle.std.specs.Prelude.{◌≡◌};
+ghost use Rattle.rox_grammar.specs.declared.fault.Word.TheVariants as word;
+ghost use Rattle.rox_reading.specs.Machine as machine;
+ghost use Rattle.rox_reading.specs.Refusals.{lifted};
+ghost use Rattle.rox_builder.specs.Readiness.{IsApart, MayReadAt};
+ghost use Rattle.rox_build.specs.PlainOutcomes.{MayReadWord, ReadsIf, ReadsSection, any_context};
+
+use rox_builder::builder::Builder;
+use rox_bytes::runs::is_at;
+use rox_bytes::search::before_byte;
+use rox_grammar::fault::Word;
+use rox_rows::row::NodeKind;
+use rox_rows::storage::StringStorage;
+use rox_scan::cursor::Cursor;
+use rox_scan::markup::whole_comment;
+
+/// Returned in place of the offset after a construct that was not read.
+pub const NOT_READ: usize = usize::MAX;
+
+/// Reads a comment, from `<!--`, if it is valid. Returns whether it was read.
+#[inline(always)]
+fn put_comment<'input>(cursor: &mut Cursor<'input>, builder: &mut Builder<'input>) -> bool
+    requires { MayReadWord word.CommentStart cursor.old builder.old }
+    ensures { ReadsIf IsApart any_context (λ k src s. lifted (machine.comment_step k.limit src s))
+        cursor.old cursor.new builder.old builder.new result }
+{
+    let start = cursor.pos;
+    let Some(whole) = whole_comment(*cursor) else {
+        return false;
+    };
+    cursor.pos = whole.end;
+    let kind = NodeKind::Comment(StringStorage::Borrowed(whole.text));
+    builder.put_leaf(builder.parent(), start, cursor.pos, kind);
+    true
+}
+
+/// Reads the construct at `start`, if it is a valid CDATA section without CR, and is a text of its own: no text is open before it,
+/// and `<` is after it. Returns the offset after it, or `NOT_READ`: a cursor that is lent to a call would leave its registers.
+#[inline(never)]
+fn put_section_at<'input>(text: &'input str, start: usize, builder: &mut Builder<'input>) -> usize
+    requires { MayReadAt text.now start builder.old }
+    ensures { ReadsSection text.entry.now start result builder.old builder.new }
+{
+    let mut cursor = Cursor { text, pos: start };
+    if builder.is_text_open() {
+        return NOT_READ;
+    }
+    if !cursor.starts(Word::CDataStart) {
+        return NOT_READ;
+    }
+    let Ok(raw) = cursor.cdata() else {
+        return NOT_READ;
+    };
+    let bytes = raw.as_bytes();
+    if before_byte(bytes, b'\r') < bytes.len() {
+        return NOT_READ;
+    }
+    if !is_at(text, cursor.pos, b'<') {
+        return NOT_READ;
+    }
+    builder.put_text(start, cursor.pos, raw);
+    cursor.pos
+}
+
+/// Like `put_section_at`, but also reads a valid comment, which is tested for first.
+#[inline(never)]
+#[tactic(auto, unfolding(rox_reading::specs::Machine::step))]
+pub fn put_delimited<'input>(
+    text: &'input str,
+    start: usize,
+    builder: &mut Builder<'input>,
+) -> usize
+    requires { MayReadAt text.now start builder.old }
+    ensures { ReadsSection text.entry.now start result builder.old builder.new }
+{
+    let mut cursor = Cursor { text, pos: start };
+    if !cursor.starts(Word::CommentStart) {
+        return put_section_at(text, start, builder);
+    }
+    if !put_comment(&mut cursor, builder) {
+        return NOT_READ;
+    }
+    cursor.pos
+}
