@@ -11,3 +11,4 @@ pub mod Lifting
 pub mod BitLemmas
 pub mod SpacedLemmas
 pub mod StopLemmas
+pub mod DataLemmas

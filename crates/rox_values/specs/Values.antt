@@ -1,5 +1,5 @@
 -- How the texts and references in the code relate to what is read.
-use Rattle.std.specs.Prelude.{◌≡◌, ◌≢◌, ◌<◌, ◌≤◌, ◌^◌, ℕ, Bool, true, false, not, ◌==◌, ◌||◌, List, ◌++◌, Option, Some, None, Result, Ok, Err, IfOk, drop, length, min, slice_index, slice_range, if◌then◌else◌}
+use Rattle.std.specs.Prelude.{◌≡◌, ◌≢◌, ◌<◌, ◌≤◌, ◌-◌, ◌^◌, ℕ, Bool, true, false, not, ◌==◌, ◌||◌, List, ◌++◌, Option, Some, None, Result, Ok, Err, IfOk, drop, length, min, slice_index, slice_range, take, if◌then◌else◌}
 use Rattle.std.specs.List.{list_any}
 use Rattle.std.specs.Str.{IsCharBoundary}
 use Rattle.rox_grammar.specs.declared.fault.Fault.{Fault}
@@ -8,6 +8,7 @@ use Rattle.rox_grammar.specs.References.{bytes_end, digit_value, is_digit, is_he
 use Rattle.rox_reading.specs.Lexical.{Read, ◌>>=◌}
 use Rattle.rox_reading.specs.Refusals.{Refusal}
 use Rattle.rox_reading.specs.Values as reading
+use Rattle.rox_bytes.specs.ByteSets.{EndsSet, is_run_byte}
 use Rattle.rox_grammar.specs.Failures.{Fails}
 use Rattle.rox_scan.specs.declared.cursor.Cursor.{Cursor}
 use Rattle.rox_grammar.specs.declared.failure.Failure.{Failure}
@@ -127,6 +128,57 @@ pub record AppendsFrom (old new : List ℕ) (before after : Cursor) (result : Re
 pub record AppendsBitFrom (entities : Entities) (old new : List ℕ) (before after : Cursor) (result : Result (Option Cursor) Failure) (read : List Entity → List ℕ → ℕ → Read reading.Bit) : Type 0 where
   pub value : (es : List Entity) → AreDeclared es entities → AppendsBit old new after result (read es before.text.now before.pos)
   pub source : after.text ≡ before.text
+
+-- The byte `b` does not change character data and does not end it.
+unfoldable pub is_data_byte : ℕ → Bool
+is_data_byte b = not ((b == 38 || b == 13) || b == 60)
+
+-- An item of character data of the main text, at `i` and before `stop`, was appended up to `j`.
+pub record PutsOneDatum (src : List ℕ) (i stop : ℕ) (old new : List ℕ) (j : ℕ) : Type 0 where
+  pub value : (es : List Entity) → behind old (reading.data_bit_at true es src stop i) ≡ Ok (reading.bytes_of new, j)
+  pub onward : i < j
+  pub cut : IsCharBoundary src j
+
+-- The item at `i` was appended up to `j`, or nothing was if `j` is 0.
+pub record PutsDatum (src : List ℕ) (i stop : ℕ) (old new : List ℕ) (j : ℕ) : Type 0 where
+  pub put : 0 < j → PutsOneDatum src i stop old new j
+  pub refused : j ≡ 0 → new ≡ old
+
+-- The bytes of character data from `i` on that do not change it end at `j`, before `stop` or there.
+pub record EndsData (src : List ℕ) (i stop j : ℕ) : Type 0 where
+  pub set : EndsSet is_run_byte (take stop src) i j
+  pub onward : i < j
+  pub cut : IsCharBoundary src j
+
+-- What character data of the main text gives from `i` up to `j` was appended. Then the rest from `j` on gives what the data from
+-- `i` on gave. Each number of items is enough that is not less than that of the bytes.
+pub record PutsData (src : List ℕ) (i stop : ℕ) (old new : List ℕ) (j : ℕ) : Type 0 where
+  pub reads : (left : ℕ) × ((stop - j ≤ left) × ((es : List Entity)
+      → text_behind new (reading.data_part true es left src stop j) ≡ text_behind old (reading.data_part true es (stop - i) src stop i)))
+  pub onward : i ≤ j
+  pub cut : IsCharBoundary src j
+
+-- Two characters, or the ends of the text, meet at `i` and at `stop`.
+pub record HasOffsets (src : List ℕ) (i stop : ℕ) : Type 0 where
+  pub start : IsCharBoundary src i
+  pub until : IsCharBoundary src stop
+
+-- Character data may be from `i` up to `stop`.
+pub record HasData (src : List ℕ) (i stop : ℕ) : Type 0 where
+  pub start : IsCharBoundary src i
+  pub stop_cut : IsCharBoundary src stop
+  pub before : i < stop
+
+-- A CR is at `i`, in character data up to `stop`.
+pub record HasReturn (src : List ℕ) (i stop : ℕ) : Type 0 where
+  pub range : HasData src i stop
+  pub here : slice_index src i ≡ 13
+
+-- A byte of character data that does not change it is at `i`.
+pub record HasStretch (src : List ℕ) (i stop : ℕ) : Type 0 where
+  pub range : HasData src i stop
+  pub no_reference : slice_index src i ≢ 38
+  pub no_line_end : slice_index src i ≢ 13
 
 -- The byte `b` ends a slice of a value in a replacement text.
 abbrev pub ends_stretch : ℕ → Bool

@@ -1,21 +1,25 @@
 //! The parts of character data, with references and line ends replaced (XML 1.0 sections 2.4, 2.11 and 4.1).
 
-ghost use Rattle.std.specs.Prelude.{◌≡◌, ◌≢◌, ◌==◌, ◌||◌, ◌-◌, false, ◌<◌, ◌≤◌, slice_index, true};
+ghost use Rattle.std.specs.Prelude.{◌≡◌, ◌≢◌, ◌==◌, ◌||◌, ◌-◌, ℕ, false, ◌<◌, ◌≤◌, slice_index, true};
 ghost use Rattle.rox_grammar.specs.Search.{byte_from};
 ghost use Rattle.std.specs.String.{string_bytes};
 ghost use Rattle.std.specs.Str.{IsCharBoundary};
 ghost use Rattle.rox_reading.specs.Values as spec;
-ghost use Rattle.rox_bytes.specs.ScanResults.{Finds};
-ghost use Rattle.rox_values.specs.Values.{AppendsFrom, AppendsBitFrom, AppendsPartFrom, BeginsData, BeginsMainData, StopsAt};
+ghost use Rattle.rox_bytes.specs.ScanResults.{Finds, HasCharAt};
+ghost use Rattle.rox_values.specs.PlainBits.{BeginsReference, NamesText};
+ghost use Rattle.rox_values.specs.Values.{AppendsFrom, AppendsBitFrom, AppendsPartFrom, BeginsData, BeginsMainData, EndsData, HasData, HasOffsets, HasReturn, HasStretch, PutsData, PutsDatum, StopsAt, is_data_byte};
 
 use crate::context::Context;
 use crate::line_ends::line_end;
 use crate::reference::{Reference, found, read_reference};
-use rox_bytes::byte_set::skip_set;
+use rox_bytes::byte_set::{ByteSet, skip_set};
+use rox_bytes::nibbles::by_low;
+use rox_bytes::runs::is_at;
 use rox_bytes::search::byte_from;
 use rox_grammar::failure::Failure;
 use rox_scan::cursor::Cursor;
 use rox_scan::lookahead::RunByte;
+use std::simd::prelude::*;
 
 /// Appends the character of the reference at the cursor, in character data, or returns the replacement text that it names.
 #[inline(always)]
@@ -117,10 +121,199 @@ fn data_bit<'input>(
     Ok(None)
 }
 
-/// Appends the text of the character data from the cursor up to `stop` or the next reference to an entity. Returns the
-/// replacement text of that entity. In a replacement text line ends stay as they are.
+/// Appends the character that the reference at `at` gives. Returns the offset after the reference, or 0 if it names an entity, if it
+/// is a fault, or if memory is refused.
 #[inline(always)]
-pub fn data_part<'input>(
+fn put_reference(text: &str, at: usize, out: &mut String) -> usize
+    requires { BeginsReference text.now at }
+    ensures { (stop : ℕ) → PutsDatum text.now at stop (string_bytes out.old) (string_bytes out.new)
+        result }
+{
+    let mut cursor = Cursor::at(text, at);
+    let character = match read_reference(&mut cursor) {
+        Ok(Reference::Character(character)) => character,
+        Ok(Reference::Entity(_, _)) => return 0,
+        Err(_) => return 0,
+    };
+    if out.push(character).is_err() {
+        return 0;
+    }
+    cursor.pos
+}
+
+/// Appends a line feed for the CR at `at`, and for the LF after it if one is there before `stop`. Returns the offset after the line
+/// end, or 0 if memory is refused.
+#[inline(always)]
+fn put_line_end(text: &str, at: usize, stop: usize, out: &mut String) -> usize
+    requires { HasReturn text.now at stop }
+    ensures { PutsDatum text.now at stop (string_bytes out.old) (string_bytes out.new) result }
+{
+    if out.push('\n').is_err() {
+        return 0;
+    }
+    if is_at(&text[..stop], at + 1, b'\n') {
+        return at + 2;
+    }
+    at + 1
+}
+
+/// The bytes of character data that do not change it and do not end it: all except `&`, CR and `<`.
+struct DataByte;
+
+// The bytes that are not in the set, each at its low half.
+const DATA_ENDS: [u8; 16] = [1, 0, 0, 0, 0, 0, b'&', 0, 0, 0, 0, 0, b'<', b'\r', 0, 0];
+
+impl ByteSet for DataByte {
+    ghost test = { is_data_byte };
+
+    #[inline(always)]
+    #[tactic(auto, unfolding(crate::specs::Values::is_data_byte))]
+    fn has(byte: u8) -> bool {
+        !(((byte == b'&') | (byte == b'\r')) | (byte == b'<'))
+    }
+
+    #[inline(always)]
+    fn others(block: u8x16) -> u64 {
+        by_low(DATA_ENDS, block).simd_eq(block).to_bitmask()
+    }
+}
+
+/// Returns the offset of the first `&` or CR from `at` on and before `stop`, or `stop`. Most often a `<` is at `stop`, so the first
+/// search ends there, and needs no shorter steps for the last bytes before it.
+#[inline(always)]
+fn data_end(text: &str, at: usize, stop: usize) -> usize
+    requires { HasStretch text.now at stop }
+    ensures { EndsData text.now at stop result }
+{
+    let near = skip_set::<DataByte>(text, at);
+    if near >= stop {
+        return stop;
+    }
+    if text.as_bytes()[near] == b'<' {
+        return skip_set::<RunByte>(&text[..stop], at);
+    }
+    near
+}
+
+/// Appends the bytes of character data from `at` on up to the next `&` or CR. Returns the offset after them, or 0 if memory is
+/// refused.
+#[inline(always)]
+fn put_stretch(text: &str, at: usize, stop: usize, out: &mut String) -> usize
+    requires { HasStretch text.now at stop }
+    ensures { PutsDatum text.now at stop (string_bytes out.old) (string_bytes out.new) result }
+{
+    let end = data_end(text, at, stop);
+    if out.push_str(&text[at..end]).is_err() {
+        return 0;
+    }
+    end
+}
+
+/// Like `put_stretch`, but a character before a reference is appended by itself: a copy of one byte costs more. Such are the spaces
+/// between two references.
+#[inline(always)]
+fn put_plain(text: &str, at: usize, stop: usize, out: &mut String) -> usize
+    requires { HasStretch text.now at stop }
+    ensures { PutsDatum text.now at stop (string_bytes out.old) (string_bytes out.new) result }
+{
+    let here = text.as_bytes()[at];
+    if here < 128 && is_at(text, at + 1, b'&') {
+        if out.push(here as char).is_err() {
+            return 0;
+        }
+        return at + 1;
+    }
+    put_stretch(text, at, stop, out)
+}
+
+/// Appends what the item of character data at `at` gives. Returns the offset after the item, or 0 if it is a reference to an entity
+/// or a fault, or if memory is refused.
+#[inline(always)]
+fn put_datum(text: &str, at: usize, stop: usize, out: &mut String) -> usize
+    requires { HasData text.now at stop }
+    ensures { PutsDatum text.now at stop (string_bytes out.old) (string_bytes out.new) result }
+{
+    let here = text.as_bytes()[at];
+    if here == b'&' {
+        return put_reference(text, at, out);
+    }
+    if here == b'\r' {
+        return put_line_end(text, at, stop, out);
+    }
+    put_plain(text, at, stop, out)
+}
+
+/// Appends what the character data of the main text from `start` up to `stop` gives. Stops at a reference to an entity, at a fault,
+/// and where memory is refused. Returns the offset at which it stops, or the end. The function is out of line so that its variables
+/// stay in registers.
+#[inline(never)]
+fn put_data(text: &str, start: usize, stop: usize, out: &mut String) -> usize
+    requires { HasOffsets text.now start stop }
+    ensures { PutsData text.now start stop (string_bytes out.old) (string_bytes out.new) result }
+{
+    let mut at = start;
+    'bits: while at < stop {
+        let after = put_datum(text, at, stop, out);
+        if after == 0 {
+            return at;
+        }
+        at = after;
+    }
+    at
+}
+
+/// Returns the replacement text that the reference at `at` names, and the offset after the reference. `put_data` stopped there, so
+/// otherwise it is out of memory, unless the reference is a fault.
+#[inline(never)]
+#[tactic(auto, unfolding(rox_reading::specs::Values::data_bit_at, rox_reading::specs::Values::expansion_at))]
+fn named_text<'input>(
+    text: &'input str,
+    at: usize,
+    context: Context<'_, 'input>,
+) -> Result<(Cursor<'input>, usize), Failure>
+    requires { HasCharAt text.now at }
+    ensures { (stop : ℕ) → NamesText context.entry.entities.now text.entry.now at result
+        (λ es. spec.data_bit_at true es text.entry.now stop at) }
+{
+    if text.as_bytes()[at] != b'&' {
+        return Err(Failure::Memory);
+    }
+    let mut cursor = Cursor::at(text, at);
+    match read_reference(&mut cursor)? {
+        Reference::Character(_) => Err(Failure::Memory),
+        Reference::Entity(span, name) => {
+            let named = found(context, name, span, at)?;
+            Ok((named, cursor.pos))
+        }
+    }
+}
+
+/// Like `data_part`, but in the main text.
+#[inline(always)]
+fn main_part<'input>(
+    cursor: &mut Cursor<'input>,
+    stop: usize,
+    context: Context<'_, 'input>,
+    out: &mut String,
+) -> Result<Option<Cursor<'input>>, Failure>
+    requires { IsCharBoundary cursor.old.text.now stop }
+    ensures { AppendsPartFrom context.entry.entities.now (string_bytes out.old)
+        (string_bytes out.new) cursor.old cursor.new result
+        (λ es src at. spec.data_part true es (stop - at) src stop at) }
+{
+    let text = cursor.text;
+    let end = put_data(text, cursor.pos, stop, out);
+    if end >= stop {
+        return Ok(None);
+    }
+    let (named, after) = named_text(text, end, context)?;
+    cursor.pos = after;
+    Ok(Some(named))
+}
+
+/// Like `data_part`, but item by item, in any text.
+#[inline(never)]
+fn other_part<'input>(
     cursor: &mut Cursor<'input>,
     stop: usize,
     context: Context<'_, 'input>,
@@ -140,4 +333,24 @@ pub fn data_part<'input>(
         }
     }
     Ok(None)
+}
+
+/// Appends the text of the character data from the cursor up to `stop` or the next reference to an entity. Returns the
+/// replacement text of that entity. In a replacement text line ends stay as they are.
+#[inline(always)]
+pub fn data_part<'input>(
+    cursor: &mut Cursor<'input>,
+    stop: usize,
+    context: Context<'_, 'input>,
+    out: &mut String,
+) -> Result<Option<Cursor<'input>>, Failure>
+    requires { IsCharBoundary cursor.old.text.now stop }
+    ensures { AppendsPartFrom context.entry.entities.now (string_bytes out.old)
+        (string_bytes out.new) cursor.old cursor.new result
+        (λ es src at. spec.data_part context.entry.main es (stop - at) src stop at) }
+{
+    if context.main {
+        return main_part(cursor, stop, context, out);
+    }
+    other_part(cursor, stop, context, out)
 }

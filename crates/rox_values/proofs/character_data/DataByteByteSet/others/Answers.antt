@@ -1,0 +1,17 @@
+-- The mask is held against the definition at each of the 256 bytes, by computing.
+use Rattle.std.proofs.Common.{not, refl, arith}
+use Rattle.std.proofs.lemmas.Simd.{zip2_of_maps}
+use Rattle.rox_bytes.specs.Nibbles.{at_low}
+use Rattle.rox_values.specs.Values.{is_data_byte}
+use Rattle.rox_values.specs.declared.character_data.TheConstants.{DATA_ENDS}
+use Rattle.rox_bytes.proofs.TableLemmas.{agree_below}
+use Rattle.rox_bytes.proofs.LaneLemmas.{masked, map_same, equals}
+use Rattle.rox_values.proofs.character_data.DataByteByteSet.others.Goals as goal
+
+pub returns : goal.returns
+unfolding agree_below is_data_byte
+returns c =
+    let v = c.args.block in
+    let long = c.fits-block.0 in
+    masked _ (λ b. not (is_data_byte b)) v _ (omega (arith, long)) c.fits-block.1
+    (zip2_of_maps equals (at_low DATA_ENDS) (λ x. x) v c.by_low.ensures (map_same v)) refl
