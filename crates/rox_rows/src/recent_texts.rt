@@ -1,6 +1,6 @@
 //! Owned texts that repeat, such as the indentation of a text whose lines end with a carriage return and a line feed. A text
 //! shares its storage if it equals the last one of its length. A made value shares its storage if it equals the last one of its
-//! place (see `place_of`).
+//! place (see `place_of`), until most of the values have differed (see `MOST_MISSED`).
 
 ghost use Rattle.std.specs.Prelude.{◌≡◌, ◌<◌, vec_len, OnOk, IfOk, IfSome};
 ghost use Rattle.std.specs.Rc.{rc_str_bytes};
@@ -19,6 +19,12 @@ const LONG: usize = 64;
 /// not worth its cost.
 const FEW: u32 = 8;
 
+/// If `missed` gets this high, no more values are looked for or stored: most of those in the document differ.
+const MOST_MISSED: u32 = 512;
+
+/// The number of values without an equal stored one that one with an equal one makes up for.
+const MADE_UP: u32 = 8;
+
 /// Returns the place of a value shorter than `LONG` bytes, below `LONG`. It depends on the length and two bytes: most values that
 /// differ have different places.
 fn place_of(text: &str) -> usize {
@@ -28,6 +34,14 @@ fn place_of(text: &str) -> usize {
     }
     let middle = bytes[bytes.len() / 2] as usize;
     (bytes.len() + bytes[0] as usize * 3 + middle * 7) % LONG
+}
+
+/// Returns `text` as an owned text of its own storage.
+#[inline(always)]
+fn own<'input>(text: String) -> Result<StringStorage<'input>, AllocError>
+    ensures { IfOk result (IsOwnText (string_bytes text)) }
+{
+    Ok(StringStorage::Owned(RcStr::from_string(text)?))
 }
 
 /// Returns `text` as an owned text, which shares its storage with an equal stored one. The table in `recent` is allocated with
@@ -43,10 +57,7 @@ pub fn owned_value<'input>(
     if text.len() < LONG {
         return short_value(alloc, recent, text);
     }
-    let Ok(owned) = RcStr::from_string(text) else {
-        return None;
-    };
-    Some(StringStorage::Owned(owned))
+    own(text).ok()
 }
 
 /// Like `owned_value`, but for a value shorter than `LONG` bytes, which may share its storage.
@@ -77,6 +88,8 @@ pub struct Recent {
     texts: Vec<Option<RcStr>>,
     /// The number of texts passed over.
     passed: u32,
+    /// The number of values without an equal stored one that no other value made up for.
+    missed: u32,
 }
 
 impl Recent {
@@ -85,6 +98,7 @@ impl Recent {
         Recent {
             texts: Vec::new(alloc),
             passed: 0,
+            missed: 0,
         }
     }
 
@@ -139,10 +153,15 @@ impl Recent {
     fn share<'input>(&mut self, text: String) -> Result<StringStorage<'input>, AllocError>
         ensures { IfOk result (IsOwnText (string_bytes text)) }
     {
+        if self.missed >= MOST_MISSED {
+            return own(text);
+        }
         let place = place_of(text.as_str());
         if let Some(again) = self.again(place, text.as_str()) {
+            self.missed = self.missed.saturating_sub(MADE_UP);
             return Ok(StringStorage::Owned(again));
         }
+        self.missed += 1;
         let owned = RcStr::from_string(text)?;
         self.keep(&owned, place)?;
         Ok(StringStorage::Owned(owned))

@@ -3,6 +3,7 @@
 
 ghost use Rattle.std.specs.Prelude.{◌^◌, ◌≡◌, ◌<◌, ◌+◌, ◌-◌, ◌==◌, ◌||◌, IfSome, length, bytes_eq, false, []};
 ghost use Rattle.std.specs.Str.{IsCharBoundary};
+ghost use Rattle.rox_bytes.specs.ScanResults.{EndsNear as StartsNear};
 ghost use Rattle.rox_grammar.specs.Runs.{begins};
 ghost use Rattle.rox_grammar.specs.Failures.{name_view};
 ghost use Rattle.rox_grammar.specs.Written.{Name};
@@ -14,10 +15,10 @@ use crate::near_prefix::find_in_slot;
 use crate::quick_name::{NameAt, name_of_part, name_without_prefix, prefixed_name, some_place};
 use crate::quick_tag::one_space_end;
 use crate::quick_value::{
-    UnchangedValue, quote_after_equals, quote_before, quote_in_text, unchanged_value,
-    unchanged_value_end, value_in_window, value_start,
+    UnchangedValue, any_value_start, quote_after_equals, quote_before, quote_in_text,
+    unchanged_value, unchanged_value_end, value_in_window,
 };
-use rox_bytes::byte_set::{PartByte, ValueByte, part_end, skip_set};
+use rox_bytes::byte_set::{PartByte, ValueByte, near_part_end, part_end, skip_set};
 use rox_bytes::chars::NameStart;
 use rox_bytes::runs::{after_byte, begins, is_at};
 use rox_bytes::window::{WIDTH, Window};
@@ -51,22 +52,24 @@ pub const MOST_ATTRIBUTES: usize = 4294967294;
 /// The longest name, in bytes, that fits into a 16-byte window with `=` and a quote.
 const MOST_NAME: usize = 14;
 
-/// Returns the attribute that starts at `start`, however it is written, or `None` if none does. Its value must not depend on
-/// context, and it is owned if it needs a replacement. Also returns `None` if memory is refused, which sets `lacking`.
+/// Returns the attribute that starts at `start`, however it is written, or `None` if none does. Its first ASCII name bytes end at
+/// `near`. Its value must not depend on context, and it is owned if it needs a replacement. Also returns `None` if memory is
+/// refused, which sets `lacking`.
 #[inline(always)]
 fn any_attribute<'input>(
     alloc: Global,
     text: &'input str,
     start: usize,
+    near: usize,
     recent: &mut Option<Box<Recent>>,
     lacking: &mut bool,
 ) -> Option<UnresolvedAttribute<'input>>
-    requires { IsCharBoundary text.now start }
+    requires { StartsNear text.now start near }
     ensures { IfSome result (λ a. IsPlainAttribute text.entry.now start a) }
 {
-    let colon = part_end(text, start);
+    let colon = near_part_end(text, start, near);
     let name = name_of_part(text, start, colon)?;
-    let from = value_start(text, name.end);
+    let from = any_value_start(text, name.end);
     if from == 0 {
         return None;
     }
@@ -125,23 +128,33 @@ fn namespace_in(
     prefix_namespace(elements, scope, name.prefix, near)
 }
 
-/// Puts the attribute that starts at `start`, however it is written, after those of its tag, which `seen` records. Its value must
-/// not depend on context. Returns the offset after it, or 0 with the table unchanged. A declaration is not put.
+/// Puts the attribute that starts at `start`, however it is written, after those of its tag, which `seen` records. Its first ASCII
+/// name bytes end at `near`. Its value must not depend on context. Returns the offset after it, or 0 with the table unchanged. A
+/// declaration is not put.
 #[cold]
 #[inline(never)]
 fn put_any_attribute<'input>(
     text: &'input str,
     start: usize,
+    near: usize,
     elements: &mut ElementTables<'input>,
     scope: u32,
     seen: &mut SeenNames,
 ) -> usize
-    requires { MayPut text.now start elements.old scope seen.old }
+    requires { MayPutPart text.now start near elements.old scope seen.old }
     ensures { PutsPlain elements.old elements.new scope seen.old seen.new text.entry.now
         start result }
 {
     let alloc = *elements.attributes.items.allocator();
-    let Some(one) = any_attribute(alloc, text, start, &mut seen.values, &mut seen.lacking) else {
+    let read = any_attribute(
+        alloc,
+        text,
+        start,
+        near,
+        &mut seen.values,
+        &mut seen.lacking,
+    );
+    let Some(one) = read else {
         return 0;
     };
     if is_namespace_decl(one.name) {
@@ -233,7 +246,8 @@ fn put_named_attribute<'input>(
         return None;
     }
     if read.before >= UNUSUAL as usize {
-        return some_place(put_any_attribute(text, start, elements, scope, seen));
+        let near = skip_set::<PartByte>(text, start);
+        return some_place(put_any_attribute(text, start, near, elements, scope, seen));
     }
     let one = UsualAttribute {
         start: start as u32,
@@ -269,7 +283,7 @@ fn put_prefixed_attribute<'input>(
         start result }
 {
     if !is_at(text, part, b':') {
-        return put_any_attribute(text, start, elements, scope, seen);
+        return put_any_attribute(text, start, part, elements, scope, seen);
     }
     // The namespace is looked up first, while little else is in registers.
     let Some(namespace) = prefix_namespace(elements, scope, &text[start..part], &mut seen.near)
@@ -277,12 +291,12 @@ fn put_prefixed_attribute<'input>(
         return 0;
     };
     let Some(name) = prefixed_name(text, start, part) else {
-        return put_any_attribute(text, start, elements, scope, seen);
+        return put_any_attribute(text, start, part, elements, scope, seen);
     };
     let quote = quote_before(text, name.end + 2);
     let near = skip_set::<ValueByte>(text, name.end + 2);
     let Some(value) = unchanged_value(text, name.end + 2, quote, near) else {
-        return put_any_attribute(text, start, elements, scope, seen);
+        return put_any_attribute(text, start, part, elements, scope, seen);
     };
     let read = NamedAttribute {
         start,
@@ -318,7 +332,7 @@ fn put_long_attribute<'input>(
     let name = name_without_prefix(text, start, part);
     let near = skip_set::<ValueByte>(text, part + 2);
     let Some(value) = unchanged_value(text, part + 2, quote, near) else {
-        return put_any_attribute(text, start, elements, scope, seen);
+        return put_any_attribute(text, start, part, elements, scope, seen);
     };
     let namespace = AttributeNamespace::None;
     let read = NamedAttribute {
@@ -359,7 +373,7 @@ pub fn put_attribute<'input>(
     }
     let name = name_without_prefix(text, start, part);
     let Some(value) = value_in_window(text, window, count + 2, quote) else {
-        return some_place(put_any_attribute(text, start, elements, scope, seen));
+        return some_place(put_any_attribute(text, start, part, elements, scope, seen));
     };
     let namespace = AttributeNamespace::None;
     let read = NamedAttribute {

@@ -2,10 +2,13 @@
 
 ghost use Rattle.std.specs.Prelude.{◌≡◌, ◌<◌, ◌≤◌, ◌+◌, ◌-◌, ◌==◌, ◌||◌, IfSome, length, slice_range, true};
 ghost use Rattle.std.specs.Str.{IsCharBoundary};
-ghost use Rattle.rox_grammar.specs.Runs.{begins};
+ghost use Rattle.rox_grammar.specs.Chars.{is_space};
+ghost use Rattle.rox_grammar.specs.Runs.{begins, run_end};
+ghost use Rattle.rox_bytes.specs.ScanResults.{Finds};
 ghost use Rattle.rox_tags.specs.PlainParts.{SeesEnd, SeesStart};
 ghost use Rattle.rox_tags.specs.PlainTag.{BeginsValue, EndsVerbatim, HasPlainValue, HasQuoteBefore, IsQuoteAt, IsQuoteBehindEquals, IsValueStart, SeesValue};
 
+use crate::quick_tag::one_space_end;
 use rox_bytes::byte_set::{QuotedByte, ValueByte, skip_set};
 use rox_bytes::runs::{after_byte, begins, is_at};
 use rox_bytes::window::{WIDTH, Window};
@@ -93,27 +96,47 @@ fn quote_here(text: &str, at: usize) -> u8
     }
 }
 
+/// Returns the end of the white space that starts at `at`. Most often it is one space.
+#[inline(always)]
+fn near_space_end(text: &str, at: usize) -> usize
+    requires { IsCharBoundary text.now at }
+    ensures { Finds text.now at result (run_end is_space text.now at) }
+{
+    if at + 1 >= text.len() {
+        return space_end(Cursor { text, pos: at });
+    }
+    one_space_end(text, at)
+}
+
 /// Returns the start of the value of an attribute whose name ends at `at`, or 0 if no `=` and quote follow. White space is
 /// allowed around the `=`.
-#[cold]
 #[inline(never)]
-pub fn value_start(text: &str, at: usize) -> usize
+fn value_start(text: &str, at: usize) -> usize
     requires { IsCharBoundary text.now at }
     ensures { 0 < result → IsValueStart text.now at result }
 {
-    let equals = space_end(Cursor { text, pos: at });
+    let equals = near_space_end(text, at);
     if !is_at(text, equals, b'=') {
         return 0;
     }
-    let before = space_end(Cursor {
-        text,
-        pos: after_byte(text, equals, b'='),
-    });
+    let before = near_space_end(text, after_byte(text, equals, b'='));
     let quote = quote_here(text, before);
     if quote == 0 {
         return 0;
     }
     after_byte(text, before, quote)
+}
+
+/// Like `value_start`, but quicker if no white space is around the `=`.
+#[inline(always)]
+pub fn any_value_start(text: &str, at: usize) -> usize
+    requires { IsCharBoundary text.now at }
+    ensures { 0 < result → IsValueStart text.now at result }
+{
+    if quote_after_equals(text, at) != 0 {
+        return at + 2;
+    }
+    value_start(text, at)
 }
 
 /// Returns the quote after which a value starts at `start`.

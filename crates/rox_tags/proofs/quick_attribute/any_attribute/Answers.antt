@@ -6,10 +6,10 @@ use Rattle.rox_tags.proofs.quick_attribute.any_attribute.Goals as goal
 pub quote_before-quote-requires : goal.quote_before-quote-requires
 quote_before-quote-requires c =
     let src = c.args.text.now in
-    let v = c.value_start-from.ensures (omega arith) in
+    let v = c.any_value_start-from.ensures (omega arith) in
     let start = v.start in
     let within = v.within in
-    let place : c.value_start-from.result - 1 ≡ v.before = omega (arith, start) in
+    let place : c.any_value_start-from.result - 1 ≡ v.before = omega (arith, start) in
     record {
       some = omega arith;
       within = omega arith;
@@ -17,13 +17,13 @@ quote_before-quote-requires c =
     }
 
 pub any_value-requires : goal.any_value-requires
-any_value-requires c = record { cut = (c.value_start-from.ensures (omega arith)).cut; quote = c.quote_before-quote.ensures.quote }
+any_value-requires c = record { cut = (c.any_value_start-from.ensures (omega arith)).cut; quote = c.quote_before-quote.ensures.quote }
 
 pub returns : goal.returns
 returns c =
     let src = c.args.text.now in
-    let s = c.value_start-from.result in
-    let v = c.value_start-from.ensures (omega arith) in
+    let s = c.any_value_start-from.result in
+    let v = c.any_value_start-from.ensures (omega arith) in
     let q = c.quote_before-quote.result in
     let quoted = c.quote_before-quote.ensures in
     let n = c.in_ok-name.ensures in

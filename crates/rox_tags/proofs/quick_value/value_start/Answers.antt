@@ -6,8 +6,8 @@ use Rattle.rox_tags.proofs.quick_value.value_start.Goals as goal
 pub returns : goal.returns
 returns c = λ _.
     let src = c.args.text.now in
-    let e = c.space_end-equals in
-    let b = c.space_end-before in
+    let e = c.near_space_end-equals in
+    let b = c.near_space_end-before in
     let some : 0 < c.quote_here-quote.result = omega arith in
     let quoted = c.quote_here-quote.ensures some in
     let order1 = e.ensures.onward in
