@@ -7,3 +7,5 @@ pub mod ShortLemmas
 pub mod VerbatimLemmas
 pub mod LineLemmas
 pub mod WideLemmas
+pub mod MarkSearch
+pub mod NameRuns

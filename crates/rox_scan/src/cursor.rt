@@ -3,17 +3,17 @@
 ghost use Rattle.std.specs.Prelude.{◌≡◌, ◌==◌, ◌||◌, IfOk, ◌+◌, ◌<◌, ◌≤◌, true, length, slice_range, nat_le};
 ghost use Rattle.std.specs.Str.{IsCharBoundary, IsUtf8};
 ghost use Rattle.std.proofs.Props.{props};
-ghost use Rattle.rox_grammar.specs.Chars.{is_space};
+ghost use Rattle.rox_grammar.specs.Chars.{is_name_char, is_space};
 ghost use Rattle.rox_grammar.specs.Runs.{run_end};
 ghost use Rattle.rox_grammar.specs.Search as search;
 ghost use Rattle.rox_grammar.specs.ExpectedTexts.{expected_text};
 ghost use Rattle.rox_bytes.specs.ScanResults.{Finds};
 
 use crate::lookahead::chars_end;
-use memchr::memmem;
-use rox_bytes::byte_set::{ByteSet, SpaceByte, part_end, skip_set};
+use rox_bytes::byte_set::{ByteSet, PartByte, SpaceByte, part_end, skip_set};
 use rox_bytes::chars::{NameChar, NameStart};
 use rox_bytes::runs::{after_byte, begins, char_at, is_at, run_end};
+use rox_bytes::search::before_mark;
 use rox_grammar::fault::{Due, Expected, Fault, Word};
 use rox_grammar::name::QName;
 
@@ -34,6 +34,17 @@ const WIDEST: usize = 8;
 pub struct Quote {
     pub byte: u8,
     pub ghost is: { (byte == 39 || byte == 34) ≡ true },
+}
+
+/// Returns the end of the name characters from `start` on. Most are ASCII bytes other than the colon, which are passed sixteen at a
+/// time.
+#[inline(always)]
+fn name_end(text: &str, start: usize) -> usize
+    requires { IsCharBoundary text.now start }
+    ensures { Finds text.now start result (run_end is_name_char text.now start) }
+{
+    let near = skip_set::<PartByte>(text, start);
+    run_end::<NameChar>(text, near)
 }
 
 impl<'input> Cursor<'input> {
@@ -163,7 +174,7 @@ impl<'input> Cursor<'input> {
         if !begins::<NameStart>(self.text, start) {
             return Err(Fault::InvalidName(start));
         }
-        self.pos = run_end::<NameChar>(self.text, start);
+        self.pos = name_end(self.text, start);
         Ok(&self.text[start..self.pos])
     }
 
@@ -293,5 +304,5 @@ pub fn mark_from(from: Cursor<'_>, mark: Expected) -> usize
         (search.mark_from (expected_text mark) from.entry.text.now from.entry.pos) }
 {
     let rest = from.text[from.pos..].as_bytes();
-    from.pos + memmem::find(rest, mark.text()).unwrap_or(rest.len())
+    from.pos + before_mark(rest, mark.text())
 }
