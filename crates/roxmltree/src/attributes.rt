@@ -6,6 +6,7 @@ ghost use Rattle.rox_scopes.specs.NamespaceViews.{namespace_view};
 ghost use Rattle.rox_rows.specs.StoredAttributes.{data_of, place_bound};
 ghost use Rattle.roxmltree.specs.NamespaceBound.{namespace_bound};
 
+use crate::debug::write_list;
 use crate::names::{ExpandedName, NS_XML_URI, equal_names};
 use rox_rows::row::AttributeNamespace;
 use rox_rows::storage::StringStorage;
@@ -237,12 +238,12 @@ impl<'a, 'input> Attributes<'a, 'input> {
     /// Returns the first of these attributes that has this local name and no namespace.
     #[inline(always)]
     pub(crate) fn plain_named(
-        attributes: Attributes<'a, 'input>,
+        mut attributes: Attributes<'a, 'input>,
         local: &str,
     ) -> Option<Attribute<'a, 'input>>
         ensures { option_map attribute_of result ≡ named (None, local.now) attributes.entry }
     {
-        for attribute in attributes {
+        while let Some(attribute) = attributes.next() {
             if attribute.has_plain_name(local) {
                 return Some(attribute);
             }
@@ -254,12 +255,12 @@ impl<'a, 'input> Attributes<'a, 'input> {
     /// have no namespace.
     #[inline(never)]
     pub(crate) fn named(
-        attributes: Attributes<'a, 'input>,
+        mut attributes: Attributes<'a, 'input>,
         name: &ExpandedName<'_, '_>,
     ) -> Option<Attribute<'a, 'input>>
         ensures { option_map attribute_of result ≡ named (expanded name.now) attributes.entry }
     {
-        for attribute in attributes {
+        while let Some(attribute) = attributes.next() {
             if attribute.has_name(name) {
                 return Some(attribute);
             }
@@ -296,9 +297,7 @@ impl Clone for Attributes<'_, '_> {
 
 impl fmt::Debug for Attributes<'_, '_> {
     fn fmt<W: fmt::Write>(&self, f: &mut fmt::Formatter<W>) -> fmt::Result {
-        f.write_str("Attributes(")?;
-        f.debug_list().entries(self.copy()).finish()?;
-        f.write_str(")")
+        write_list(f, "Attributes(", self.copy())
     }
 }
 

@@ -126,10 +126,10 @@ impl<'a, 'input> AxisIter<'a, 'input> {
     ghost use Rattle.roxmltree.specs.NodeParts.{node_at};
 
     /// Returns whether none of these nodes lists a namespace.
-    fn list_none(nodes: AxisIter<'a, 'input>) -> bool
+    fn list_none(mut nodes: AxisIter<'a, 'input>) -> bool
         ensures { result ≡ list_all (λ s. none_of (listed_of (node_at s.0.tree s.1))) nodes.entry }
     {
-        for node in nodes {
+        while let Some(node) = nodes.next() {
             if !node.lists_none() {
                 return false;
             }

@@ -96,10 +96,10 @@ impl<'a, 'input> AxisIter<'a, 'input> {
 
     /// Returns the first element of these nodes, or `None` if there is none.
     #[inline(always)]
-    pub(crate) fn first_element(nodes: AxisIter<'a, 'input>) -> Option<Node<'a, 'input>>
+    pub(crate) fn first_element(mut nodes: AxisIter<'a, 'input>) -> Option<Node<'a, 'input>>
         ensures { option_map node_ref result ≡ nearest_element nodes.entry }
     {
-        for node in nodes {
+        while let Some(node) = nodes.next() {
             if node.is_element() {
                 return Some(node);
             }
@@ -342,10 +342,10 @@ impl<'a, 'input> Children<'a, 'input> {
 
     /// Returns the first element of these nodes, or `None` if there is none.
     #[inline]
-    pub(crate) fn first_element(nodes: Children<'a, 'input>) -> Option<Node<'a, 'input>>
+    pub(crate) fn first_element(mut nodes: Children<'a, 'input>) -> Option<Node<'a, 'input>>
         ensures { option_map node_ref result ≡ nearest_element nodes.entry }
     {
-        for node in nodes {
+        while let Some(node) = nodes.next() {
             if node.is_element() {
                 return Some(node);
             }

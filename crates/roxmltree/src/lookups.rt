@@ -167,7 +167,8 @@ impl<'a, 'input> Node<'a, 'input> {
         ensures { option_map attribute_of result
             ≡ named_locally local.now (attributes_of (item_of self.now)) }
     {
-        for attribute in self.attributes() {
+        let mut attributes = self.attributes();
+        while let Some(attribute) = attributes.next() {
             if equal_names(attribute.name(), local) {
                 return Some(attribute);
             }

@@ -264,7 +264,7 @@ impl fmt::Debug for ExpandedName<'_, '_> {
         let local = self.local;
         match self.uri {
             Some(uri) => write!(f, "{{{uri}}}{local}"),
-            None => write!(f, "{local}"),
+            None => f.write_str(local),
         }
     }
 }

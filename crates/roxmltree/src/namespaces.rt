@@ -3,6 +3,7 @@
 ghost use Rattle.std.specs.Prelude.{◌≡◌, length};
 ghost use Rattle.rox_scopes.specs.NamespaceViews.{namespace_view};
 
+use crate::debug::write_list;
 use rox_scopes::rope::{count, place_at};
 use rox_scopes::tables::{Namespace, Scope};
 use std::alloc::AllocError;
@@ -121,9 +122,7 @@ impl Clone for NamespaceIter<'_, '_> {
 
 impl fmt::Debug for NamespaceIter<'_, '_> {
     fn fmt<W: fmt::Write>(&self, f: &mut fmt::Formatter<W>) -> fmt::Result {
-        f.write_str("NamespaceIter(")?;
-        f.debug_list().entries(self.copy()).finish()?;
-        f.write_str(")")
+        write_list(f, "NamespaceIter(", self.copy())
     }
 }
 
