@@ -1,7 +1,9 @@
-//! What is asked again where a growth was refused, and what is asked once.
+//! What is asked again where a growth was refused, and what is asked once; paths and callers.
 
 mod again;
+mod callers;
 mod once;
+mod paths;
 
 use roxmltree::{Document, Error, Node, NodeId, TextPos};
 use std::fmt::Debug;

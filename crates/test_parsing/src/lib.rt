@@ -1,6 +1,6 @@
 //! What the library answers of texts, where a dump of theirs does not show it or is too long: the rows that one shows are in the
-//! folder `texts`. Texts that are made by code, limits, elements alone and exchanged, what errors print, and resolvers of external
-//! entities. The crate holds tests alone.
+//! folder `texts`. Texts that are made by code, what is searched for at each place of texts, limits, elements alone and exchanges,
+//! what errors print, positions, resolvers of external entities, and what tables do that no call shows. The crate holds tests alone.
 #![tactic(auto)]
 
 #[cfg(test)]

@@ -6,8 +6,11 @@ mod asking;
 mod generated;
 mod limits;
 mod messages;
+mod positions;
 mod resolvers;
+mod searches;
 mod slices;
+mod tables;
 
 use roxmltree::{Document, Error, Node, NodeId, ParsingOptions};
 use std::fmt::{Debug, Display};
@@ -15,7 +18,7 @@ use std::process::Abort;
 
 /// Wants a value to be this. Where it is not, what it is of is told with both.
 fn same<T: PartialEq + Debug + Drop>(rt: &impl Abort, of: &str, got: T, wanted: T) {
-    assert_eq!(rt; got, wanted, "{of}");
+    assert_eq!(rt; got, wanted, "{of:?}");
 }
 
 /// The document of a text that is read.
@@ -25,7 +28,12 @@ fn document_of<'input>(rt: &(impl Abort + AllocGlobal), text: &'input str) -> Do
 
 /// Why a text is refused.
 fn refusal_of(rt: &(impl Abort + AllocGlobal), text: &str) -> Error {
-    let error = Document::parse(rt.alloc(), text).expect_err(rt, text);
+    told(rt, text, Document::parse(rt.alloc(), text))
+}
+
+/// The error of an answer, which is not for want of memory.
+fn told(rt: &impl Abort, text: &str, answer: Result<Document<'_>, Error>) -> Error {
+    let error = answer.expect_err(rt, text);
     assert!(rt; error != Error::OutOfMemory, "out of memory: {text}");
     error
 }
@@ -37,9 +45,7 @@ fn declared<'input>(rt: &(impl Abort + AllocGlobal), text: &'input str) -> Docum
 
 /// Why a text that may have a document type declaration is refused.
 fn declared_refusal(rt: &(impl Abort + AllocGlobal), text: &str) -> Error {
-    let error = answer(rt, text).expect_err(rt, text);
-    assert!(rt; error != Error::OutOfMemory, "out of memory: {text}");
-    error
+    told(rt, text, answer(rt, text))
 }
 
 /// The answer for a text that may have a document type declaration.

@@ -21,7 +21,7 @@ fn answer<'input>(rt: &impl AllocGlobal, text: &'input str) -> Result<Document<'
 }
 
 /// The document of a text that is read.
-fn read<'input>(rt: &(impl Abort + AllocGlobal), text: &'input str) -> Document<'input> {
+pub(super) fn read<'input>(rt: &(impl Abort + AllocGlobal), text: &'input str) -> Document<'input> {
     answer(rt, text).expect(rt, text)
 }
 

@@ -7,7 +7,7 @@ use rox_uses::{
     last_with_id, levels, namespace_answers, read_records, records_at, resolve, source_of,
     with_copy,
 };
-use roxmltree::{ExpandedName, Node};
+use roxmltree::{Attribute, ExpandedName, Node};
 use std::process::Abort;
 
 #[test]
@@ -102,9 +102,19 @@ fn records_by_a_path(rt: HostRuntime) {
     same(&rt, "//row/", error, Some(wanted));
 }
 
-/// Wants a qualified name at a node to stand for this one.
-fn stands_for(rt: &impl Abort, node: Node<'_, '_>, name: &str, wanted: ExpandedName<'_, '_>) {
-    same(rt, name, resolve(node, name), Some(wanted));
+/// Wants a qualified name at a node to stand for this URI and local name, or for none.
+fn stands_for(
+    rt: &impl Abort,
+    node: Node<'_, '_>,
+    name: &str,
+    wanted: Option<(Option<&str>, &str)>,
+) {
+    same(rt, name, resolve(node, name).map(parts), wanted);
+}
+
+/// The URI and the local name of a name.
+fn parts<'a>(name: ExpandedName<'a, 'a>) -> (Option<&'a str>, &'a str) {
+    (name.namespace(), name.name())
 }
 
 #[test]
@@ -121,31 +131,44 @@ fn copies_in_the_place_of_others(rt: HostRuntime) {
 #[test]
 fn qualified_names(rt: HostRuntime) {
     let document = document_of(&rt, "<r xmlns:p='u' xmlns='v'><s xmlns:p='w'/></r>");
-    let (r, s) = (node_of(&rt, &document, 1), node_of(&rt, &document, 2));
-    stands_for(&rt, r, "p:T", ("u", "T").into());
-    stands_for(&rt, s, "p:T", ("w", "T").into());
-    stands_for(&rt, s, "T", ("v", "T").into());
-    stands_for(&rt, document.root(), "T", "T".into());
-    same(&rt, "q:T", resolve(s, "q:T"), None);
+    for (id, name, wanted) in &[
+        (1, "p:T", Some((Some("u"), "T"))),
+        (2, "p:T", Some((Some("w"), "T"))),
+        (2, "T", Some((Some("v"), "T"))),
+        (0, "T", Some((None, "T"))),
+        (2, "q:T", None),
+    ] {
+        stands_for(&rt, node_of(&rt, &document, *id), name, *wanted);
+    }
+}
+
+/// Wants an attribute `n:a` to have these answers.
+fn has_answers(rt: &impl Abort, attribute: Attribute<'_, '_>) {
+    let answers = attribute_answers(attribute);
+    same(rt, "start", answers.start, 15);
+    same(rt, "name_end", answers.name_end, 18);
+    same(rt, "value_start", answers.value_start, 20);
+    same(rt, "end", answers.end, 26);
+    same(rt, "namespace", answers.namespace, Some("u"));
+    same(rt, "name", answers.name, "a");
+    same(rt, "value", answers.value, "x<");
+    same(rt, "borrowed", answers.borrowed, false);
+}
+
+/// Wants the attributes and namespaces of an element to have these answers.
+fn have_answers(rt: &impl Abort, element: Node<'_, '_>) {
+    for attribute in element.attributes() {
+        has_answers(rt, attribute);
+    }
+    for namespace in element.namespaces() {
+        let answers = namespace_answers(namespace);
+        same(rt, "prefix", answers.name, Some("n"));
+        same(rt, "uri", answers.uri, "u");
+    }
 }
 
 #[test]
 fn answers_of_attributes_and_namespaces(rt: HostRuntime) {
     let document = document_of(&rt, "<r xmlns:n='u' n:a='x&lt;'/>");
-    for attribute in document.root_element().attributes() {
-        let answers = attribute_answers(attribute);
-        same(&rt, "start", answers.start, 15);
-        same(&rt, "name_end", answers.name_end, 18);
-        same(&rt, "value_start", answers.value_start, 20);
-        same(&rt, "end", answers.end, 26);
-        same(&rt, "namespace", answers.namespace, Some("u"));
-        same(&rt, "name", answers.name, "a");
-        same(&rt, "value", answers.value, "x<");
-        same(&rt, "borrowed", answers.borrowed, false);
-    }
-    for namespace in document.root_element().namespaces() {
-        let answers = namespace_answers(namespace);
-        same(&rt, "prefix", answers.name, Some("n"));
-        same(&rt, "uri", answers.uri, "u");
-    }
+    have_answers(&rt, document.root_element());
 }

@@ -5,7 +5,7 @@ ghost use Rattle.std.specs.Prelude.{◌<◌, IfOk};
 ghost use Rattle.rox_scopes.specs.Ropes.{IsRow};
 ghost use Rattle.rox_scopes.specs.Tables.{AreRows};
 
-use super::{prints, same};
+use super::same;
 use rox_rows::recent_texts::Recent;
 use rox_rows::storage::StringStorage;
 use rox_scopes::rope::{add, both, count, find, height, without};
@@ -95,20 +95,4 @@ fn texts_of_one_length_are_told_apart(rt: HostRuntime) {
         same(&rt, "again", again == line, true);
         same(&rt, "other", other.as_str(), "a b");
     }
-}
-
-#[test]
-fn texts_compare_by_bytes(rt: HostRuntime) {
-    let slice = StringStorage::Borrowed("text");
-    let owned = StringStorage::new_owned(rt.alloc(), "text").expect(&rt, "memory");
-    let copy = owned.clone().expect(&rt, "memory");
-    same(&rt, "owned", slice == owned, true);
-    same(&rt, "copy", copy == owned, true);
-    same(
-        &rt,
-        "other",
-        slice == StringStorage::Borrowed("texts"),
-        false,
-    );
-    prints(&rt, &copy, "text");
 }

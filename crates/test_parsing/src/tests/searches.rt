@@ -1,6 +1,6 @@
 //! What is searched for, at each place of texts of up to 130 bytes and nowhere in them. Their characters have one byte, or three.
 
-use super::{asked, document_of, refusal_of, same, told};
+use super::{answer, declared, document_of, refusal_of, same, told};
 use rox_path::{PathError, Step, parse_path};
 use roxmltree::{Document, Error, TextPos};
 use std::alloc::{AllocError, Global};
@@ -99,9 +99,8 @@ enum Place {
 fn read<'a>(document: &'a Document<'_>, place: Place) -> Option<&'a str> {
     let top = document.root().first_child()?;
     match place {
-        Place::Content => top.text(),
+        Place::Content | Place::Comment => top.text(),
         Place::Value => top.attribute("a".into()),
-        Place::Comment => top.text(),
         Place::Instruction => top.pi()?.value,
     }
 }
@@ -205,12 +204,17 @@ fn what_is_refused(rt: HostRuntime) {
 
 /// Wants the first child of a text's root to be this comment, and the text of its root element to be this.
 fn is_behind(rt: &(impl Abort + AllocGlobal), text: &str, comment: &str, opened: &str) {
-    let document = asked(rt, text).expect(rt, text);
+    let document = declared(rt, text);
+    has_comment(rt, &document, text, comment);
+    let found = document.root_element().text();
+    same(rt, text, found.unwrap_or(""), opened);
+}
+
+/// Wants the first child of a document's root to be this comment.
+fn has_comment(rt: &impl Abort, document: &Document<'_>, text: &str, comment: &str) {
     let first = document.root().first_child().expect(rt, "no comment");
     same(rt, text, first.is_comment(), true);
     same(rt, text, first.text(), Some(comment));
-    let found = document.root_element().text();
-    same(rt, text, found.unwrap_or(""), opened);
 }
 
 /// Wants a part of a document type declaration to end where what is sought stands, wherever it stands: a comment begins behind
@@ -324,7 +328,7 @@ fn nothing_is_found(rt: HostRuntime) {
 
 /// Wants an answer to be a refusal whose message begins so.
 fn is_told(rt: &(impl Abort + AllocGlobal), text: &str, wanted: &str) {
-    let error = told(rt, text, asked(rt, text));
+    let error = told(rt, text, answer(rt, text));
     let message = error.to_string(rt.alloc()).expect(rt, "memory");
     let start = message.as_str().get(..wanted.len());
     same(rt, text, start, Some(wanted));
