@@ -1,7 +1,7 @@
 //! Prints the name of each element of an XML text that comes on standard input, and its attributes.
 #![tactic(auto)]
 
-use roxmltree::{Document, Error};
+use roxmltree::{Document, Error, Node};
 use std::io;
 use std::io::Write;
 use std::process::ExitCode;
@@ -21,13 +21,20 @@ fn main(rt: HostRuntime) -> io::Result<ExitCode> {
 }
 
 fn print_elements<W: Write>(document: &Document<'_>, out: &mut W) -> io::Result<()> {
-    for node in document.descendants().filter(|node| node.is_element()) {
-        let name = node.tag_name().name();
-        writeln!(out, "{name}")?;
-        for attribute in node.attributes() {
-            let (name, value) = (attribute.name(), attribute.value());
-            writeln!(out, "    {name} = {value:?}")?;
+    for node in document.descendants() {
+        if node.is_element() {
+            print_element(node, out)?;
         }
+    }
+    Ok(())
+}
+
+fn print_element<W: Write>(element: Node<'_, '_>, out: &mut W) -> io::Result<()> {
+    let name = element.tag_name().name();
+    writeln!(out, "{name}")?;
+    for attribute in element.attributes() {
+        let (name, value) = (attribute.name(), attribute.value());
+        writeln!(out, "    {name} = {value:?}")?;
     }
     Ok(())
 }
