@@ -5,13 +5,13 @@ use super::iterators::{
     gives_attributes, gives_children, gives_descendants, gives_namespaces, position,
 };
 use super::names::is_named;
-use super::namespaces::{are_equal, finds_prefix, finds_uri};
+use super::namespaces::{are_equal_in_turn, finds_prefix, finds_uri};
+use super::order::{are_equal, compared};
 use super::{child_count, document_of, is_of_kind, node_of, number, same, same_at};
 use roxmltree::{AxisIter, Document, Error, Node, NodeType, PI, StringStorage, TextPos};
 use std::cmp::Ordering;
 use std::fmt;
 use std::fmt::{Debug, Write};
-use std::hash::{BuildHasher, BuildHasherDefault, FoldHasher};
 use std::process::Abort;
 
 /// A node of each kind, a text and a value that are no slices of it, and two namespaces.
@@ -57,8 +57,10 @@ fn each_call(rt: &impl Abort, document: &Document<'_>) {
     attributes_have(rt, r);
     attribute_has(rt, r);
     namespaces_have(rt, e);
-    namespaces_are_those_of_the_parent(rt, r, e);
+    lookups_find(rt, document);
+    are_equal_in_turn(rt, r, e, &[true, true]);
     both_ends(rt, document, r);
+    stays_inside(rt, e);
     both_ends_of_an_element(rt, r);
     nodes_are_compared(rt, r, e);
     all_is_printed(rt, document, r);
@@ -66,7 +68,8 @@ fn each_call(rt: &impl Abort, document: &Document<'_>) {
 
 fn document_has(rt: &impl Abort, document: &Document<'_>) {
     has_its_text_and_its_nodes(rt, document, TEXT, 2, 7);
-    finds(rt, document, &[(6, Some(6)), (7, None)]);
+    let ids = &[(0, Some(0)), (6, Some(6)), (7, None), (u32::MAX, None)];
+    finds(rt, document, ids);
     let position = document.text_pos_at(66);
     same(rt, "position", position, TextPos::new(1, 67));
 }
@@ -120,25 +123,33 @@ fn nodes_have_texts(rt: &impl Abort, document: &Document<'_>) {
     }
 }
 
+/// The id of a node that is there.
+fn id_of(node: Option<Node<'_, '_>>) -> Option<u32> {
+    match node {
+        Some(node) => Some(number(node)),
+        None => None,
+    }
+}
+
 /// The next node along each axis: `parent`, `prev_sibling`, `next_sibling`, `first_child`, `last_child`.
 fn nearest(node: Node<'_, '_>) -> [Option<u32>; 5] {
     [
-        node.parent().map(number),
-        node.prev_sibling().map(number),
-        node.next_sibling().map(number),
-        node.first_child().map(number),
-        node.last_child().map(number),
+        id_of(node.parent()),
+        id_of(node.prev_sibling()),
+        id_of(node.next_sibling()),
+        id_of(node.first_child()),
+        id_of(node.last_child()),
     ]
 }
 
 /// The next element along each of these axes.
 fn nearest_elements(node: Node<'_, '_>) -> [Option<u32>; 5] {
     [
-        node.parent_element().map(number),
-        node.prev_sibling_element().map(number),
-        node.next_sibling_element().map(number),
-        node.first_element_child().map(number),
-        node.last_element_child().map(number),
+        id_of(node.parent_element()),
+        id_of(node.prev_sibling_element()),
+        id_of(node.next_sibling_element()),
+        id_of(node.first_element_child()),
+        id_of(node.last_element_child()),
     ]
 }
 
@@ -171,12 +182,13 @@ fn has_children_and_siblings(rt: &impl Abort, r: Node<'_, '_>) {
 }
 
 /// Wants an axis to lead over these nodes, and then to stay at its end.
-pub(super) fn leads_over(rt: &impl Abort, mut nodes: AxisIter<'_, '_>, wanted: &[u32]) {
+fn leads_over(rt: &impl Abort, mut nodes: AxisIter<'_, '_>, wanted: &[u32]) {
     for id in wanted {
         same_at(rt, *id, nodes.next().map(number), Some(*id));
     }
-    same(rt, "end", nodes.next().map(number), None);
-    same(rt, "behind the end", nodes.next().map(number), None);
+    for _ in 0..2 {
+        same(rt, "end", nodes.next().map(number), None);
+    }
 }
 
 fn ways_lead(rt: &impl Abort, r: Node<'_, '_>, e: Node<'_, '_>) {
@@ -189,8 +201,8 @@ fn ways_lead(rt: &impl Abort, r: Node<'_, '_>, e: Node<'_, '_>) {
 
 /// Wants the attributes of an element to be in these namespaces.
 fn attributes_are_in(rt: &impl Abort, element: Node<'_, '_>, wanted: &[Option<&str>]) {
-    same(rt, "count", element.attributes().len(), wanted.len());
     let mut attributes = element.attributes();
+    same(rt, "count", attributes.len(), wanted.len());
     for uri in wanted {
         let attribute = attributes.next().expect(rt, "no attribute");
         same(rt, "URI", attribute.namespace(), *uri);
@@ -200,7 +212,9 @@ fn attributes_are_in(rt: &impl Abort, element: Node<'_, '_>, wanted: &[Option<&s
 fn attributes_have(rt: &impl Abort, r: Node<'_, '_>) {
     attributes_are_in(rt, r, &[None, Some("v")]);
     same(rt, "a", r.attribute("a".into()), Some("1"));
-    same(rt, "a", r.attribute_local("a").map(position), Some(33));
+    for (local, place) in &[("a", Some(33)), ("c", None)] {
+        same(rt, local, r.attribute_local(local).map(position), *place);
+    }
     same(rt, "b", r.has_attribute("b".into()), false);
 }
 
@@ -227,15 +241,22 @@ fn namespaces_have(rt: &impl Abort, e: Node<'_, '_>) {
         same(rt, "URI", namespace.uri(), *uri);
     }
     same(rt, "default", e.default_namespace(), Some("u"));
-    finds_uri(rt, e, Some("n"), Some("v"));
-    finds_prefix(rt, e, "v", Some("n"));
 }
 
-fn namespaces_are_those_of_the_parent(rt: &impl Abort, r: Node<'_, '_>, e: Node<'_, '_>) {
-    let mut inherited = e.namespaces();
-    for one in r.namespaces() {
-        let other = inherited.next().expect(rt, "no namespace");
-        are_equal(rt, one, other, true);
+/// The prefixes of which nodes, and what is found for them.
+static URIS: [(u32, Option<&str>, Option<&str>); 4] = [
+    (4, Some("n"), Some("v")),
+    (4, Some("p"), None),
+    (4, Some(""), None),
+    (0, Some("n"), None),
+];
+
+fn lookups_find(rt: &impl Abort, document: &Document<'_>) {
+    for (id, prefix, uri) in &URIS {
+        finds_uri(rt, node_of(rt, document, *id), *prefix, *uri);
+    }
+    for (id, uri, prefix) in &[(4, "v", Some("n")), (4, "w", None), (0, "v", None)] {
+        finds_prefix(rt, node_of(rt, document, *id), uri, *prefix);
     }
 }
 
@@ -243,8 +264,21 @@ fn both_ends(rt: &impl Abort, document: &Document<'_>, r: Node<'_, '_>) {
     let nodes = document.descendants().clone().expect(rt, "memory");
     gives_descendants(rt, nodes, 7, &[(Some(0), Some(6), 5)]);
     gives_descendants(rt, r.descendants(), 5, &[(Some(2), Some(6), 3)]);
-    let children = r.children().clone().expect(rt, "memory");
-    gives_children(rt, children, &[(Some(3), Some(6))]);
+    let children = r.children();
+    let in_turn = &[
+        (Some(3), Some(6)),
+        (Some(4), Some(5)),
+        (None, None),
+        (None, None),
+    ];
+    gives_children(rt, children.clone().expect(rt, "memory"), in_turn);
+    gives_children(rt, children, in_turn);
+}
+
+/// Wants the nodes of an element in the midst of others to be itself alone.
+fn stays_inside(rt: &impl Abort, e: Node<'_, '_>) {
+    let wanted = &[(Some(4), None, 0), (None, None, 0)];
+    gives_descendants(rt, e.descendants(), 1, wanted);
 }
 
 fn both_ends_of_an_element(rt: &impl Abort, r: Node<'_, '_>) {
@@ -257,12 +291,11 @@ fn both_ends_of_an_element(rt: &impl Abort, r: Node<'_, '_>) {
 }
 
 fn nodes_are_compared(rt: &impl Abort, r: Node<'_, '_>, e: Node<'_, '_>) {
-    same(rt, "equal", r == e, false);
-    same(rt, "less", r < e, true);
-    same(rt, "order", e.cmp(&r), Ordering::Greater);
-    let hasher = BuildHasherDefault::<FoldHasher>::default();
-    let parent = e.parent().expect(rt, "no parent");
-    same(rt, "hash", hasher.hash_one(parent), hasher.hash_one(r));
+    let before = (false, true, Ordering::Less);
+    same(rt, "before", compared(r, e), before);
+    let behind = (false, false, Ordering::Greater);
+    same(rt, "behind", compared(e, r), behind);
+    are_equal(rt, e.parent().expect(rt, "no parent"), r);
 }
 
 /// How many bytes were printed.

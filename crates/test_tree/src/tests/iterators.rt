@@ -1,10 +1,8 @@
-//! Iterators from both ends: what is left, how many, copies, and None again after the end.
+//! Iterators from both ends: what is left, copies, and None again after the end. Children and ancestors are among the calls, and how
+//! many nodes, attributes and namespaces each iterator has is in `texts/axes.txt`.
 
-use super::calls::leads_over;
-use super::{document_of, node_of, number, same, same_at};
-use roxmltree::{
-    Attribute, Attributes, Children, Descendants, Document, Namespace, NamespaceIter, Node,
-};
+use super::{document_of, node_of, number, same};
+use roxmltree::{Attribute, Attributes, Children, Descendants, Namespace, NamespaceIter};
 use std::process::Abort;
 
 /// Wants children to be given in turn from the front and from the back.
@@ -17,28 +15,6 @@ pub(super) fn gives_children(
         same(rt, "front", nodes.next().map(number), *front);
         same(rt, "back", nodes.next_back().map(number), *back);
     }
-}
-
-/// Wants children to be given in order, and then none.
-fn gives_children_in_order(rt: &impl Abort, mut nodes: Children<'_, '_>, wanted: &[Option<u32>]) {
-    for id in wanted {
-        same(rt, "in order", nodes.next().map(number), *id);
-    }
-}
-
-#[test]
-fn children_and_their_copies(rt: HostRuntime) {
-    let document = document_of(&rt, "<r>a<!--b-->c<?d?></r>");
-    let nodes = document.root_element().children();
-    let in_order = &[Some(2), Some(3), Some(4), Some(5), None, None];
-    gives_children_in_order(&rt, nodes.clone().expect(&rt, "memory"), in_order);
-    let in_turn = &[
-        (Some(2), Some(5)),
-        (Some(3), Some(4)),
-        (None, None),
-        (None, None),
-    ];
-    gives_children(&rt, nodes, in_turn);
 }
 
 /// Wants so many nodes to be given in turn from the front and from the back, with so many left after each turn.
@@ -70,23 +46,6 @@ fn descendants_and_their_copies(rt: HostRuntime) {
     ];
     gives_descendants(&rt, nodes.clone().expect(&rt, "memory"), 6, wanted);
     gives_descendants(&rt, nodes, 6, wanted);
-}
-
-#[test]
-fn descendants_of_a_node(rt: HostRuntime) {
-    let document = document_of(&rt, "<r><a><b/></a><c/></r>");
-    let mut nodes = node_of(&rt, &document, 2).descendants();
-    for wanted in &[Some(2), Some(3), None, None] {
-        same(&rt, "front", nodes.next().map(number), *wanted);
-    }
-}
-
-#[test]
-fn ancestors_and_their_copies(rt: HostRuntime) {
-    let document = document_of(&rt, "<r><a/></r>");
-    let nodes = document.root_element().ancestors();
-    leads_over(&rt, nodes.clone().expect(&rt, "memory"), &[1, 0]);
-    leads_over(&rt, nodes, &[1, 0]);
 }
 
 pub(super) fn position(attribute: Attribute<'_, '_>) -> usize {
@@ -157,44 +116,4 @@ fn namespaces_and_their_copies(rt: HostRuntime) {
     );
     let backs = &[(Some(b'q'), 1), (Some(b'p'), 0), (None, 0), (None, 0)];
     gives_namespaces(&rt, namespaces, 2, backs, None);
-}
-
-/// How many nodes each axis has from a node on: `children`, `descendants`, `ancestors`, `prev_siblings`, `next_siblings`,
-/// `first_children`, `last_children`.
-fn counts(node: Node<'_, '_>) -> [usize; 7] {
-    [
-        node.children().count(),
-        node.descendants().count(),
-        node.ancestors().count(),
-        node.prev_siblings().count(),
-        node.next_siblings().count(),
-        node.first_children().count(),
-        node.last_children().count(),
-    ]
-}
-
-const COUNTED: &str = "<!--c--><r xmlns='u' xmlns:n='v' a='1' b='2' n:c='3'><s/>t<e><f/></e></r>";
-
-#[test]
-fn counted(rt: HostRuntime) {
-    let document = document_of(&rt, COUNTED);
-    same(&rt, "nodes", document.descendants().count(), 7);
-    for (id, wanted) in &[
-        (0, [2, 7, 1, 1, 1, 2, 4]),
-        (2, [3, 5, 2, 2, 1, 2, 3]),
-        (4, [0, 1, 3, 2, 2, 1, 1]),
-        (5, [1, 2, 3, 3, 1, 2, 2]),
-    ] {
-        let node = node_of(&rt, &document, *id);
-        same_at(&rt, *id, counts(node), *wanted);
-    }
-    attributes_and_namespaces_are_counted(&rt, &document);
-}
-
-fn attributes_and_namespaces_are_counted(rt: &impl Abort, document: &Document<'_>) {
-    for (id, attributes, namespaces) in &[(0, 0, 0), (2, 3, 2), (4, 0, 0), (6, 0, 2)] {
-        let node = node_of(rt, document, *id);
-        same_at(rt, *id, node.attributes().count(), *attributes);
-        same_at(rt, *id, node.namespaces().count(), *namespaces);
-    }
 }

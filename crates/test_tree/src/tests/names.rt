@@ -1,7 +1,7 @@
-//! Names of elements and of attributes, with and without a namespace.
+//! Names of elements, with and without a namespace. Those of attributes are in `texts/attributes.txt`.
 
 use super::{document_of, node_of, same, same_at};
-use roxmltree::{Attribute, ExpandedName, NS_XML_URI, NS_XMLNS_URI, Node};
+use roxmltree::{ExpandedName, NS_XML_URI, NS_XMLNS_URI, Node};
 use std::process::Abort;
 
 /// The name of this URI, or without one.
@@ -58,56 +58,6 @@ fn other_nodes_have_no_name(rt: HostRuntime) {
     for id in [0, 1, 3] {
         has_no_name(&rt, node_of(&rt, &document, id));
     }
-}
-
-/// Wants an element to have this value for an attribute, or none.
-fn has(rt: &impl Abort, element: Node<'_, '_>, name: ExpandedName<'_, '_>, value: Option<&str>) {
-    same(rt, name.name(), element.attribute(name), value);
-}
-
-#[test]
-fn names_of_attributes(rt: HostRuntime) {
-    let document = document_of(&rt, "<e xmlns:n='' n:a='1' a='2'/>");
-    let element = document.root_element();
-    same(&rt, "count", element.attributes().len(), 2);
-    for (uri, name, value) in &[
-        (None, "a", Some("2")),
-        (Some(""), "a", Some("1")),
-        (None, "b", None),
-    ] {
-        has(&rt, element, named(*uri, name), *value);
-    }
-    same(&rt, "prefix", element.lookup_prefix(""), Some("n"));
-    local_names_of_attributes(&rt, element);
-}
-
-fn value<'a>(attribute: Attribute<'a, '_>) -> &'a str {
-    attribute.value()
-}
-
-/// Wants the first attribute of a local name to be found, and none where there is none.
-fn local_names_of_attributes(rt: &impl Abort, element: Node<'_, '_>) {
-    let first = element.attribute_local("a").map(value);
-    same(rt, "a", first, Some("1"));
-    same(rt, "b", element.attribute_local("b").is_none(), true);
-}
-
-#[test]
-fn a_prefix_is_no_part_of_a_name(rt: HostRuntime) {
-    let document = document_of(&rt, "<n1:e xmlns:n1='http://www.w3.org' n1:a  =   'b'/>");
-    let element = document.root_element();
-    let name = ExpandedName::from(("http://www.w3.org", "a"));
-    let found = element.attribute_node(name).expect(&rt, "no attribute");
-    same(&rt, "value", found.value(), "b");
-    same(&rt, "URI", found.namespace(), Some("http://www.w3.org"));
-    same(&rt, "in a namespace", element.has_attribute(name), true);
-    has_no_attribute(&rt, element, "a".into());
-}
-
-/// Wants an element to have no attribute of this name.
-fn has_no_attribute(rt: &impl Abort, element: Node<'_, '_>, name: ExpandedName<'_, '_>) {
-    same(rt, "node", element.attribute_node(name).is_none(), true);
-    same(rt, "has", element.has_attribute(name), false);
 }
 
 #[test]

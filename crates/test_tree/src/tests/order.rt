@@ -1,6 +1,6 @@
 //! Nodes compared, and hashed.
 
-use super::{document_of, node_of, refusal_of, same};
+use super::{document_of, node_of, number, refusal_of, same};
 use rox_laws::laws::{next_then_prev, order_agrees_with_equality, order_is_by_document};
 use roxmltree::{Document, Node, NodeId, ParsingOptions, TextPos};
 use std::cmp::Ordering;
@@ -14,20 +14,37 @@ fn keyed<'input>(rt: &(impl Abort + AllocGlobal), text: &'input str, key: u64) -
     Document::parse_with_options(rt.alloc(), text, options).expect(rt, text)
 }
 
-fn hash_of<T: Hash + Drop>(value: T) -> u64 {
+pub(super) fn hash_of<T: Hash + Drop>(value: T) -> u64 {
     BuildHasherDefault::<FoldHasher>::default().hash_one(value)
+}
+
+/// Whether a node equals another, whether it is before it, and their order.
+pub(super) fn compared(one: Node<'_, '_>, other: Node<'_, '_>) -> (bool, bool, Ordering) {
+    (one == other, one < other, one.cmp(&other))
+}
+
+/// The ids of nodes, which are sorted first.
+fn sorted(mut nodes: [Node<'_, '_>; 4]) -> [u32; 4] {
+    nodes.sort_unstable();
+    let [first, second, third, last] = nodes;
+    [number(first), number(second), number(third), number(last)]
 }
 
 #[test]
 fn nodes_are_grouped_by_document(rt: HostRuntime) {
     let text = "<r><a/></r>";
     let (one, two) = (keyed(&rt, text, 1), keyed(&rt, text, 2));
-    let (a, b) = (node_of(&rt, &one, 2), node_of(&rt, &two, 2));
-    let mut nodes = [b, one.root(), two.root(), a];
-    nodes.sort_unstable();
-    same(&rt, "sorted", nodes, [one.root(), a, two.root(), b]);
-    same(&rt, "less", a < two.root(), true);
-    same(&rt, "equal", a == b, false);
+    are_grouped(&rt, &one, &two);
+}
+
+/// Wants all nodes of a document to be before those of another.
+fn are_grouped(rt: &impl Abort, one: &Document<'_>, two: &Document<'_>) {
+    let (a, b) = (node_of(rt, one, 2), node_of(rt, two, 2));
+    let (root, behind) = (one.root(), two.root());
+    same(rt, "sorted", sorted([b, root, behind, a]), [0, 2, 0, 2]);
+    let before = (false, true, Ordering::Less);
+    same(rt, "a root behind", compared(a, behind), before);
+    same(rt, "the node behind", compared(a, b), before);
 }
 
 #[test]
@@ -35,10 +52,16 @@ fn nodes_of_one_key_are_equal_by_id(rt: HostRuntime) {
     let text = "<r><a/></r>";
     let (one, two) = (keyed(&rt, text, 0), keyed(&rt, text, 0));
     let (a, b) = (node_of(&rt, &one, 2), node_of(&rt, &two, 2));
-    same(&rt, "equal", a == b, true);
-    same(&rt, "hash", hash_of(a), hash_of(b));
-    same(&rt, "root is less", one.root() < b, true);
-    same(&rt, "root is equal", one.root() == b, false);
+    are_equal(&rt, a, b);
+    let before = (false, true, Ordering::Less);
+    same(&rt, "root", compared(one.root(), b), before);
+}
+
+/// Wants two nodes to be equal.
+pub(super) fn are_equal(rt: &impl Abort, one: Node<'_, '_>, other: Node<'_, '_>) {
+    let equal = (true, false, Ordering::Equal);
+    same(rt, "equal", compared(one, other), equal);
+    same(rt, "hash", hash_of(one), hash_of(other));
 }
 
 #[test]

@@ -20,6 +20,7 @@ fn storages(rt: HostRuntime) {
     same(&rt, "equal", borrowed == owned, true);
     let other = StringStorage::Borrowed("texts");
     same(&rt, "other", owned == other, false);
+    same(&rt, "other slice", borrowed == other, false);
     prints(&rt, &owned, "text");
     prints(&rt, &borrowed, "text");
 }
@@ -30,6 +31,7 @@ fn copies_of_storages(rt: HostRuntime) {
     let owned = StringStorage::new_owned(rt.alloc(), "text").expect(&rt, "memory");
     let copy = owned.clone().expect(&rt, "memory");
     same(&rt, "owned", is_owned(&copy), true);
+    same(&rt, "equal", copy == owned, true);
     let copy = borrowed.clone().expect(&rt, "memory");
     same(&rt, "equal", copy == owned, true);
 }
