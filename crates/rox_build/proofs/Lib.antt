@@ -1,5 +1,6 @@
 pub mod Declared
 pub mod LineRuns
+pub mod ChangedRuns
 pub mod Opening
 pub mod Looping
 pub mod Twice

@@ -79,7 +79,7 @@ line_part es src i j h =
     rw (n, lt-ltb i j (omega arith), first_bit es src i j h, rest_part es src i j (j - i - 2) h) refl
 
 -- its place is its end
-counted_at : (b : Bool) (u : State) (f : Fault) (j : ℕ) → at_place j u ≡ u → (lifted (if b then Ok u else Err f) >>= λ v. Ok (at_place j v)) ≡ lifted (if b then Ok u else Err f)
+pub counted_at : (b : Bool) (u : State) (f : Fault) (j : ℕ) → at_place j u ≡ u → (lifted (if b then Ok u else Err f) >>= λ v. Ok (at_place j v)) ≡ lifted (if b then Ok u else Err f)
 counted_at true u f j same = ap (λ (v : State). Ok v) same
 counted_at false u f j same = refl
 

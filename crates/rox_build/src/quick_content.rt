@@ -14,11 +14,12 @@ use rox_builder::builder::Builder;
 use rox_bytes::byte_set::{PartByte, find_other, near_part_end, part_end};
 use rox_bytes::runs::{after_byte, is_at};
 use rox_rows::row::NodeKind;
-use rox_scan::character_data::{line_run_end, text_end};
+use rox_scan::character_data::{changed_run_end, line_run_end, text_end};
 use rox_scan::cursor::Cursor;
 use rox_tags::quick_tag::{
     TagPlace, start_tag_in_scope, start_tag_of_name, start_tag_without_prefix,
 };
+use rox_values::character_data::changed_data;
 use std::alloc::Global;
 
 /// The length in bytes of the longest text whose offsets all fit rows.
@@ -32,8 +33,41 @@ fn stands_apart(cursor: &Cursor<'_>, builder: &Builder<'_>) -> bool
     is_at(cursor.text, cursor.pos, b'<') || !builder.is_text_open()
 }
 
-/// Reads the character data at `start` if it is CR LF followed only by bytes that need no replacement, up to a `<`. It is of the
-/// main text, where line ends are read as line feeds. Returns the offset after it, or `NOT_READ`.
+/// Reads the character data at `start`, up to the next `<`, if it refers to no entity but the predefined ones and needs a
+/// replacement: it has references or line ends other than LF. It is of the main text. Returns the offset after it, or `NOT_READ`.
+#[inline(never)]
+fn put_changed_data<'input>(
+    alloc: Global,
+    text: &'input str,
+    start: usize,
+    builder: &mut Builder<'input>,
+) -> usize
+    requires { MayReadRunAt text.now start builder.old }
+    ensures { ReadsRunAt (λ k. k.values.main ≡ true) text.entry.now start result builder.old builder.new }
+{
+    let Some(end) = changed_run_end(Cursor { text, pos: start }) else {
+        return NOT_READ;
+    };
+    let is_before_markup = is_at(text, end, b'<');
+    if !is_before_markup {
+        return NOT_READ;
+    }
+    if builder.buffers.scratch.reserve(end - start).is_err() {
+        builder.buffers.seen.lacking = true;
+        return NOT_READ;
+    }
+    if !changed_data(text, start, end, &mut builder.buffers.scratch) {
+        return NOT_READ;
+    }
+    if !builder.put_scratch(alloc, start, end) {
+        builder.buffers.seen.lacking = true;
+        return NOT_READ;
+    }
+    end
+}
+
+/// Like `put_changed_data`, but first tests whether the character data is CR LF followed only by bytes that need no replacement, as
+/// most is that gets here.
 #[inline(never)]
 fn put_line_end<'input>(
     alloc: Global,
@@ -45,7 +79,7 @@ fn put_line_end<'input>(
     ensures { ReadsRunAt (λ k. k.values.main ≡ true) text.entry.now start result builder.old builder.new }
 {
     let Some(end) = line_run_end(Cursor { text, pos: start }) else {
-        return NOT_READ;
+        return put_changed_data(alloc, text, start, builder);
     };
     if !is_at(text, end, b'<') {
         return NOT_READ;

@@ -398,4 +398,20 @@ impl<'input> Builder<'input> {
         self.pending = Pending::Written;
         true
     }
+
+    /// Like `put_owned`, but the character data gives the bytes of the buffer for values.
+    #[inline(always)]
+    pub fn put_scratch(&mut self, alloc: Global, start: usize, end: usize) -> bool
+        requires { MayPutText self.old start end }
+        ensures { PutsOwned self.old self.new result
+            (Text start end (string_bytes self.old.buffers.scratch) false) }
+    {
+        let Ok(owned) = self.recent.owned(alloc, self.buffers.scratch.as_str()) else {
+            return false;
+        };
+        let row = self.row(start, end, NodeKind::Text(owned));
+        self.nodes.put(row);
+        self.pending = Pending::Written;
+        true
+    }
 }

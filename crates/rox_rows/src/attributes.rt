@@ -196,8 +196,7 @@ impl<'input> AttributeTable<'input> {
     }
 
     /// Appends an attribute of any offsets if there is room for it and them. Otherwise returns false, with the table unchanged.
-    #[cold]
-    #[inline(never)]
+    #[inline(always)]
     pub fn put_unusual(&mut self, item: AttributeData<'input>, places: AttributePlaces) -> bool
         ensures { Puts ((item.entry, places) ∷ []) result (attribute_rows self.old)
             (attribute_rows self.new) }

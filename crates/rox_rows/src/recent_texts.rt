@@ -15,9 +15,8 @@ use std::rc::RcStr;
 /// Texts of this length in bytes, or longer, are not stored for sharing.
 const LONG: usize = 64;
 
-/// The number of texts passed over before one is stored. Most documents have few owned texts, for which the table of places is
-/// not worth its cost.
-const FEW: u32 = 8;
+/// The number of texts passed over before one is stored. A document that has one owned text does without the table of places.
+const FEW: u32 = 1;
 
 /// If `missed` gets this high, no more values are looked for or stored: most of those in the document differ.
 const MOST_MISSED: u32 = 512;

@@ -1,12 +1,13 @@
 -- Where the first mark is.
-use Rattle.std.proofs.Common.{◌≡◌, ℕ, suc, ◌+◌, ◌<◌, ◌≤◌, ◌==◌, List, [], ◌∷◌, length, drop, get_or, refl, inl, inr, arith, get_or-drop}
-use Rattle.std.specs.List.{starts_with}
+use Rattle.std.proofs.Common.{◌≡◌, ℕ, suc, ◌+◌, ◌<◌, ◌≤◌, ◌==◌, List, [], ◌∷◌, length, drop, get_or, true, refl, sym, inl, inr, arith, get_or-drop}
+use Rattle.std.specs.List.{position_or_len, starts_with}
 use Rattle.std.specs.Str.{IsCharBoundary}
 use Rattle.std.proofs.lemmas.Str.{IsCharBoundary-before_ascii, IsCharBoundary-end}
-use Rattle.std.proofs.lemmas.Bool.{cases_lt, cases_Bool, cond_both}
+use Rattle.std.proofs.lemmas.Bool.{cases_lt, cases_Bool, cond_both, eqb-false}
 use Rattle.std.proofs.lemmas.List.{length-drop}
+use Rattle.std.proofs.lemmas.List.Sums.{fails_before_first}
 use Rattle.rox_grammar.specs.Search.{stands, before_mark, mark_from}
-use Rattle.rox_bytes.proofs.MarkLemmas.{stands_reads}
+use Rattle.rox_bytes.proofs.MarkLemmas.{before_mark_is, not_from_first, stands_reads}
 use Rattle.rox_bytes.specs.ScanResults.{Finds}
 
 pub before_within : (mark hay : List ℕ) → before_mark mark hay ≤ length hay
@@ -40,3 +41,10 @@ mark_first mark src i n cut some ascii is =
         | inr past ↦ let end : i + n ≡ length src = omega (arith, cut.0) in rw end (IsCharBoundary-end src)
       ];
     }
+
+-- The mark that stands at the first byte that is its own is the first.
+pub near_first : (mark hay : List ℕ) (n : ℕ) → 0 < length mark → n ≡ position_or_len (λ c. c == get_or mark 0 0) hay → n ≤ length hay → starts_with ◌==◌ (drop n hay) mark ≡ true → before_mark mark hay ≡ n
+near_first mark hay n some is within here =
+    before_mark_is mark hay n within
+    (λ j below. not_from_first mark hay j some (eqb-false _ _ (fails_before_first (λ c. c == get_or mark 0 0) hay j 0 (omega (arith, is, below)))))
+    (λ more. here)

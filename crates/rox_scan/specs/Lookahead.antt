@@ -92,3 +92,11 @@ pub record IsLineRun (src : List ℕ) (i j : ℕ) : Type 0 where
   pub value : raw_character_data_at src i ≡ Ok (slice_range src i j, j)
   pub verbatim : is_verbatim (slice_range src i j) ≡ false
   pub cut : IsCharBoundary src j
+
+-- Character data from `i` up to `j` is valid and needs a replacement.
+pub record IsChangedRun (src : List ℕ) (i j : ℕ) : Type 0 where
+  pub some : i < j
+  pub within : j ≤ length src
+  pub value : raw_character_data_at src i ≡ Ok (slice_range src i j, j)
+  pub changes : is_verbatim (slice_range src i j) ≡ false
+  pub cut : IsCharBoundary src j

@@ -10,7 +10,7 @@ ghost use Rattle.rox_grammar.specs.Content as content;
 ghost use Rattle.rox_reading.specs.Values as spec;
 ghost use Rattle.rox_bytes.specs.ByteSets as near;
 ghost use Rattle.rox_scan.specs.Lookahead as longer;
-ghost use Rattle.rox_scan.specs.Lookahead.{EndsRun, IsLineRun, IsLookahead, IsStep, LooksAhead, SeesRun};
+ghost use Rattle.rox_scan.specs.Lookahead.{EndsRun, IsChangedRun, IsLineRun, IsLookahead, IsStep, LooksAhead, SeesRun};
 ghost use Rattle.rox_scan.specs.Views.{ReadsRun};
 ghost use Rattle.rox_bytes.specs.ScanResults.{HasCharAt, HasWideAt};
 
@@ -254,6 +254,21 @@ pub fn line_run_end(from: Cursor<'_>) -> Option<usize>
         return None;
     }
     Some(end)
+}
+
+/// Returns the end of the character data at `from` if it is valid and needs a replacement; otherwise `None`.
+#[inline(always)]
+pub fn changed_run_end(from: Cursor<'_>) -> Option<usize>
+    ensures { IfSome result (IsChangedRun from.entry.text.now from.entry.pos) }
+{
+    let look = scan_character_data(from);
+    if look.is_verbatim {
+        return None;
+    }
+    if !ends_character_data(from.text, look.end) {
+        return None;
+    }
+    Some(look.end)
 }
 
 /// Returns whether character data needs no replacement: it has no `&` and no CR.

@@ -10,10 +10,11 @@ ghost use Rattle.rox_grammar.specs.ExpectedTexts.{expected_text};
 ghost use Rattle.rox_bytes.specs.ScanResults.{Finds};
 
 use crate::lookahead::chars_end;
+use memchr::memmem;
 use rox_bytes::byte_set::{ByteSet, PartByte, SpaceByte, part_end, skip_set};
 use rox_bytes::chars::{NameChar, NameStart};
 use rox_bytes::runs::{after_byte, begins, char_at, is_at, run_end};
-use rox_bytes::search::before_mark;
+use rox_bytes::search::before_byte;
 use rox_grammar::fault::{Due, Expected, Fault, Word};
 use rox_grammar::name::QName;
 
@@ -296,13 +297,18 @@ pub fn space_end(from: Cursor<'_>) -> usize
     end
 }
 
-/// Returns the offset of the first `mark` from the cursor on, or the end. The time is linear in the length of the text, whatever
-/// it holds.
+/// Returns the offset of the first `mark` from the cursor on, or the end. Most often the first byte that is the mark's begins it.
+/// The time is linear in the length of the text, whatever it holds.
 #[inline]
 pub fn mark_from(from: Cursor<'_>, mark: Expected) -> usize
     ensures { Finds from.entry.text.now from.entry.pos result
         (search.mark_from (expected_text mark) from.entry.text.now from.entry.pos) }
 {
     let rest = from.text[from.pos..].as_bytes();
-    from.pos + before_mark(rest, mark.text())
+    let needle = mark.text();
+    let near = before_byte(rest, needle[0]);
+    if rest.split_at(near).1.starts_with(needle) {
+        return from.pos + near;
+    }
+    from.pos + memmem::find(rest, needle).unwrap_or(rest.len())
 }

@@ -1,5 +1,5 @@
 -- How the texts and references in the code relate to what is read.
-use Rattle.std.specs.Prelude.{◌≡◌, ◌≢◌, ◌<◌, ◌≤◌, ◌-◌, ◌^◌, ℕ, Bool, true, false, not, ◌==◌, ◌||◌, List, ◌++◌, Option, Some, None, Result, Ok, Err, IfOk, drop, length, min, slice_index, slice_range, take, if◌then◌else◌}
+use Rattle.std.specs.Prelude.{◌≡◌, ◌≢◌, ◌<◌, ◌≤◌, ◌-◌, ◌^◌, ℕ, Bool, true, false, not, ◌==◌, ◌||◌, List, [], ◌++◌, Option, Some, None, Result, Ok, Err, IfOk, drop, length, min, slice_index, slice_range, take, if◌then◌else◌}
 use Rattle.std.specs.List.{list_any}
 use Rattle.std.specs.Str.{IsCharBoundary}
 use Rattle.rox_grammar.specs.declared.fault.Fault.{Fault}
@@ -162,6 +162,11 @@ pub record PutsData (src : List ℕ) (i stop : ℕ) (old new : List ℕ) (j : �
 pub record HasOffsets (src : List ℕ) (i stop : ℕ) : Type 0 where
   pub start : IsCharBoundary src i
   pub until : IsCharBoundary src stop
+
+-- The character data of the main text from `i` up to `j` gives these bytes, whatever is declared, and at least one.
+pub record GivesData (src : List ℕ) (i j : ℕ) (bytes : List ℕ) : Type 0 where
+  pub value : (es : List Entity) → reading.data_part true es (j - i) src j i ≡ Ok (bytes, reading.at_end)
+  pub some : bytes ≢ []
 
 -- Character data may be from `i` up to `stop`.
 pub record HasData (src : List ℕ) (i stop : ℕ) : Type 0 where

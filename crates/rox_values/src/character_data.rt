@@ -7,7 +7,7 @@ ghost use Rattle.std.specs.Str.{IsCharBoundary};
 ghost use Rattle.rox_reading.specs.Values as spec;
 ghost use Rattle.rox_bytes.specs.ScanResults.{Finds, HasCharAt};
 ghost use Rattle.rox_values.specs.PlainBits.{BeginsReference, NamesText};
-ghost use Rattle.rox_values.specs.Values.{AppendsFrom, AppendsBitFrom, AppendsPartFrom, BeginsData, BeginsMainData, EndsData, HasData, HasOffsets, HasReturn, HasStretch, PutsData, PutsDatum, StopsAt, is_data_byte};
+ghost use Rattle.rox_values.specs.Values.{AppendsFrom, AppendsBitFrom, AppendsPartFrom, BeginsData, BeginsMainData, EndsData, GivesData, HasData, HasOffsets, HasReturn, HasStretch, PutsData, PutsDatum, StopsAt, is_data_byte};
 
 use crate::context::Context;
 use crate::line_ends::line_end;
@@ -353,4 +353,21 @@ pub fn data_part<'input>(
         return main_part(cursor, stop, context, out);
     }
     other_part(cursor, stop, context, out)
+}
+
+/// Puts what the character data of the main text from `start` up to `stop` gives into `out`, in place of what that has. Returns false
+/// if the data refers to an entity or has a fault, or if memory is refused.
+#[inline(always)]
+pub fn changed_data(text: &str, start: usize, stop: usize, out: &mut String) -> bool
+    requires { HasOffsets text.now start stop }
+    ensures { result ≡ true → GivesData text.now start stop (string_bytes out.new) }
+{
+    out.clear();
+    if put_data(text, start, stop, out) < stop {
+        return false;
+    }
+    if out.is_empty() {
+        return false;
+    }
+    true
 }

@@ -303,6 +303,13 @@ fn is_spaced(text: &str, start: usize, first: usize, stop: usize) -> bool
     next < stop && next - first < 16 && skip_set::<RunByte>(&text[..stop], first) >= stop
 }
 
+/// Returns whether the room of `count` bytes is too large for a text of `len` bytes: references can be far longer than the characters
+/// that they give. Allocators give hardly less than 24 bytes.
+#[inline(always)]
+fn is_roomy(len: usize, count: usize) -> bool {
+    count > 24 && len < count / 4 * 3
+}
+
 /// Returns the value of the text from `start` up to `stop`, or `None` if it depends on the kind of the text or on entities, or if
 /// memory is refused, which sets `lacking`. The first byte that changes it is at `first`. The function is out of line so that its
 /// variables stay in registers.
@@ -335,8 +342,7 @@ pub fn changed_value(
     if put_plain_bits(text, first, stop, TextKind::Either, &mut out) < stop {
         return None;
     }
-    // References can be far longer than the characters that they give.
-    if out.len() < count / 4 * 3 {
+    if is_roomy(out.len(), count) {
         out.shrink_to_fit();
     }
     Some(out)

@@ -4,7 +4,7 @@ use Rattle.rox_values.specs.declared.plain_bits.TextKind.TheVariants as kind_of
 use Rattle.rox_values.proofs.BitLemmas.{front_put, special_cut, tested_on, whole_value}
 use Rattle.rox_values.proofs.SpacedLemmas.{spaced_value, whole_runs}
 use Rattle.rox_values.proofs.plain_bits.changed_value.Goals as goal
-use Rattle.rox_values.proofs.plain_bits.changed_value.Goals.{then-len-count, else-len-count}
+use Rattle.rox_values.proofs.plain_bits.changed_value.Goals.{then-is_roomy, else-is_roomy}
 
 pub range-requires-2-clause-end_boundary : goal.range-requires-2-clause-end_boundary
 range-requires-2-clause-end_boundary c =
@@ -45,7 +45,7 @@ returns c = λ main es opener openings_left.
     let front : string_bytes c.push_str.new.self ≡ slice_range src i j = rw (c.in-Ok.ensures.bytes, c.range-2.ensures.value) at put in
     let f = front_put src (string_bytes c.push_str.new.self) c.args.stop i j c.utf8.text (record { start = c.requires.start; stop = c.requires.stop; tested = λ some. c.requires.chars }) c.requires.before c.requires.front front in
     let read = whole_value main es opener openings_left src (string_bytes c.push_str.new.self) _ c.args.stop i j c.put_plain_bits.result f c.put_plain_bits.ensures.puts (omega (arith, c.if-put_plain_bits-stop.false)) in
-    elim c.if-len-count.branch [
-      | then-len-count w ↦ rw (w.out-is, w.shrink_to_fit.ensures.bytes) read
-      | else-len-count w ↦ rw (w.out-is) read
+    elim c.if-is_roomy.branch [
+      | then-is_roomy w ↦ rw (w.out-is, w.shrink_to_fit.ensures.bytes) read
+      | else-is_roomy w ↦ rw (w.out-is) read
     ]

@@ -1,0 +1,59 @@
+use Rattle.std.proofs.Common.{◌≡◌, false, Ok, slice_range, refl, sym, ◌∙◌, arith}
+use Rattle.std.specs.String.{string_bytes}
+use Rattle.std.proofs.lemmas.Bool.{eqb-true}
+use Rattle.rox_reading.specs.Values.{ReadText}
+use Rattle.rox_builder.proofs.Stepping.{parted_run}
+use Rattle.rox_build.proofs.ChangedRuns.{changed_run}
+use Rattle.rox_build.proofs.PlainReads.{keeps_all, runs_not}
+use Rattle.rox_build.proofs.Twice.{text_stepped_at}
+use Rattle.rox_build.proofs.quick_content.put_changed_data.Goals as goal
+
+pub returns : goal.returns
+returns c =
+    let src = c.args.text.now in
+    let b = c.args.builder.now in
+    let i = c.args.start in
+    let j = c.in-Some.end in
+    let run = c.in-Some.ensures in
+    let kept = c.put_scratch.ensures.kept in
+    let yes = c.if-not-put_scratch.false in
+    let given = c.changed_data.ensures c.if-not-changed_data.false in
+    let bytes = string_bytes c.changed_data.new.out in
+    let short = c.requires.room.short in
+    record {
+      value = λ _ context end s here behind main start stop h.
+          let text : ReadText = record { value = bytes; borrowed = false } in
+          let from : i ≡ s.at = sym start ∙ h.here in
+          rw (parted_run context src s i j (slice_range src i j) from run.value run.changes, changed_run context src s i j bytes from main run.some run.within given)
+          (text_stepped_at context.limit end s here behind i j b c.put_scratch.new.self (Ok tt) text start stop h kept
+          (c.put_scratch.ensures.value yes end j s h.shows));
+      other = λ no. absurd (omega (arith, no, short, run.within));
+      cut = λ _. run.cut;
+      ready = λ _. c.put_scratch.ensures.ready yes;
+      moves = λ _. run.some;
+      tables = kept.tables;
+      opened = kept.opened;
+      rows = λ _. c.put_scratch.ensures.rows yes;
+      behind = λ _. eqb-true _ _ (sym c.is_at.ensures ∙ c.if-not-is_before_markup.false);
+    }
+
+pub returns-then-not-is_before_markup : goal.returns-then-not-is_before_markup
+returns-then-not-is_before_markup c = runs_not _ c.args.text.now c.args.start _ c.args.builder.now c.args.builder.now (omega arith) (keeps_all c.args.builder.now) refl refl
+
+pub returns-in_default : goal.returns-in_default
+returns-in_default c = runs_not _ c.args.text.now c.args.start _ c.args.builder.now c.args.builder.now (omega arith) (keeps_all c.args.builder.now) refl refl
+
+pub returns-then-not-put_scratch : goal.returns-then-not-put_scratch
+returns-then-not-put_scratch c =
+    let kept = c.put_scratch.ensures.kept in
+    let o = c.put_scratch.ensures.other c.if-not-put_scratch.true in
+    runs_not _ c.args.text.now c.args.start _ c.args.builder.now _ (omega arith)
+    (record { nodes = o.nodes; opened = o.opened; pending = o.pending; joined = o.joined; limit = o.limit; openings_left = o.openings_left; others = o.others; attributes = o.attributes }) kept.tables kept.opened
+
+pub put_scratch-requires : goal.put_scratch-requires
+put_scratch-requires c = record {
+  ready = c.requires.room.ready;
+  apart = c.requires.apart;
+  start = omega (arith, c.requires.room.short, c.requires.cut.0);
+  end = omega (arith, c.requires.room.short, c.in-Some.ensures.within);
+}
