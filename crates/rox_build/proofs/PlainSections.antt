@@ -5,7 +5,7 @@ use Rattle.rox_grammar.specs.declared.fault.Word.TheVariants as word
 use Rattle.rox_grammar.specs.FixedTexts.{word_text}
 use Rattle.rox_grammar.specs.Search.{stands}
 use Rattle.rox_bytes.proofs.MarkLemmas.{fails, stands_fits, stands_reads}
-use Rattle.rox_reading.specs.Machine.{Context, cdata_step, step}
+use Rattle.rox_reading.specs.Machine.{Context, cdata_step, instruction_step, step}
 use Rattle.rox_reading.specs.Refusals.{lifted}
 use Rattle.rox_reading.specs.State.{State}
 use Rattle.rox_builder.specs.BuilderState.{IsConsistent}
@@ -26,6 +26,19 @@ step_is_section context src s i e section =
     let z : s.at + 1 < length src = omega (arith, stands_fits mark src s.at (omega arith) l) in
     let k : leb (length src) (s.at + 1) ≡ false = lt-leb (length src) (s.at + 1) z in
     rw (x, k, y, other, l) refl
+
+-- `<?` starts a processing instruction.
+pub step_is_instruction : (context : Context) (src : List ℕ) (s : State) (i : ℕ) → i ≡ s.at → stands (word_text word.PIStart) src i ≡ true → step context src s ≡ lifted (instruction_step context.limit src s)
+unfolding step
+step_is_instruction context src s i e instruction =
+    let mark = word_text word.PIStart in
+    let l : stands mark src s.at ≡ true = subst (λ (n : ℕ). stands mark src n ≡ true) e instruction in
+    let none : s.at ≡ s.at + 0 = omega arith in
+    let x : slice_index src s.at ≡ 60 = ap (slice_index src) none ∙ stands_reads mark src s.at 0 l (omega arith) in
+    let y : slice_index src (s.at + 1) ≡ 63 = stands_reads mark src s.at 1 l (omega arith) in
+    let z : s.at + 1 < length src = omega (arith, stands_fits mark src s.at (omega arith) l) in
+    let k : leb (length src) (s.at + 1) ≡ false = lt-leb (length src) (s.at + 1) z in
+    rw (x, k, y, l) refl
 
 -- Nothing was read.
 pub section_not : (src : List ℕ) (i j : ℕ) (b : Builder) → 2 ^ 32 ≤ j → IsConsistent b.tables b.opened.items → ReadsSection src i j b b

@@ -13,7 +13,7 @@ use rox_builder::builder::Builder;
 use rox_bytes::runs::is_at;
 use rox_bytes::search::before_byte;
 use rox_grammar::fault::Word;
-use rox_rows::row::NodeKind;
+use rox_rows::row::{NodeKind, PI};
 use rox_rows::storage::StringStorage;
 use rox_scan::cursor::Cursor;
 use rox_scan::markup::whole_comment;
@@ -66,7 +66,49 @@ fn put_section_at<'input>(text: &'input str, start: usize, builder: &mut Builder
     cursor.pos
 }
 
-/// Like `put_section_at`, but also reads a valid comment, which is tested for first.
+/// Reads the construct at `start`, if it is a valid processing instruction, for which there is room. Returns the offset after it, or
+/// `NOT_READ`.
+#[inline(never)]
+fn put_instruction_at<'input>(
+    text: &'input str,
+    start: usize,
+    builder: &mut Builder<'input>,
+) -> usize
+    requires { MayReadAt text.now start builder.old }
+    ensures { ReadsSection text.entry.now start result builder.old builder.new }
+{
+    let mut cursor = Cursor { text, pos: start };
+    if !cursor.starts(Word::PIStart) {
+        return NOT_READ;
+    }
+    if !builder.nodes.has_room_for_instruction() {
+        return NOT_READ;
+    }
+    let Ok(read) = cursor.instruction() else {
+        return NOT_READ;
+    };
+    let (target, value) = (read.target, read.value);
+    builder.put_instruction(start, cursor.pos, PI { target, value });
+    cursor.pos
+}
+
+/// Like `put_section_at`, but also reads a valid processing instruction, which is tested for by its second byte.
+#[inline(always)]
+fn put_section_or_instruction<'input>(
+    text: &'input str,
+    start: usize,
+    builder: &mut Builder<'input>,
+) -> usize
+    requires { MayReadAt text.now start builder.old }
+    ensures { ReadsSection text.entry.now start result builder.old builder.new }
+{
+    if is_at(text, start + 1, b'?') {
+        return put_instruction_at(text, start, builder);
+    }
+    put_section_at(text, start, builder)
+}
+
+/// Like `put_section_at`, but also reads a valid comment, which is tested for first, or a valid processing instruction.
 #[inline(never)]
 #[tactic(auto, unfolding(rox_reading::specs::Machine::step))]
 pub fn put_delimited<'input>(
@@ -79,7 +121,7 @@ pub fn put_delimited<'input>(
 {
     let mut cursor = Cursor { text, pos: start };
     if !cursor.starts(Word::CommentStart) {
-        return put_section_at(text, start, builder);
+        return put_section_or_instruction(text, start, builder);
     }
     if !put_comment(&mut cursor, builder) {
         return NOT_READ;

@@ -14,7 +14,7 @@ use Rattle.rox_scopes.specs.Scopes.{PrefixesOnce}
 use Rattle.rox_rows.specs.StoredNodes.{IsSmallKind}
 use Rattle.rox_rows.specs.declared.row.NodeKind.{NodeKind}
 use Rattle.rox_rows.specs.declared.row.NodeKind.TheVariants as kind
-use Rattle.rox_builder.specs.BuilderState.{Adds, IsConsistent, IsReadyTo, KeepsOpen, KeepsState, KeepsTables, Represents, RepresentsFlushed, names_in}
+use Rattle.rox_builder.specs.BuilderState.{Adds, IsConsistent, IsReady, IsReadyTo, KeepsOpen, KeepsState, KeepsTables, Represents, RepresentsFlushed, names_in}
 use Rattle.rox_scopes.specs.TagScopes.{scope_in_tables}
 use Rattle.rox_builder.specs.Outcomes.{AddsNode, AddsText, OpensElement}
 use Rattle.rox_builder.specs.PendingText.{waiting}
@@ -96,6 +96,13 @@ pub record MayPutLeaf (b : Builder) (above i j : ℕ) (k : NodeKind) : Type 0 wh
   pub row : MayPutRow b above i
   pub end : j < 2 ^ 32
   pub small : IsSmallKind k
+
+-- There is room for the row of a processing instruction, from `i` up to `j`, and for its text.
+pub record MayPutInstruction (b : Builder) (i j : ℕ) : Type 0 where
+  pub ready : IsReady 1 b
+  pub start : i < 2 ^ 32
+  pub end : j < 2 ^ 32
+  pub more : vec_len b.nodes.instructions < vec_capacity b.nodes.instructions
 
 -- The node has its row.
 pub record PutsLeaf (old new : Builder) (i j : ℕ) (k : NodeKind) : Type 0 where

@@ -18,7 +18,7 @@ use rox_rows::attributes::AttributeTable;
 use rox_rows::growth::push_with_room;
 use rox_rows::node_table::NodeTable;
 use rox_rows::recent_texts::Recent;
-use rox_rows::row::{NodeData, NodeKind};
+use rox_rows::row::{NodeData, NodeKind, PI};
 use rox_scopes::bindings::PrefixBindings;
 use rox_scopes::namespace_table::NamespaceTable;
 use rox_scopes::tables::{ElementTables, Scope, Stretch};
@@ -105,7 +105,7 @@ impl<'input> Builder<'input> {
     ghost use Rattle.rox_reading.specs.Machine.{counted};
     ghost use Rattle.rox_builder.specs.BuilderState.{Represents, AreSound, IsReady, opened_in, last_row, tables_of};
     ghost use Rattle.rox_builder.specs.Outcomes.{AddsNode, OpensElement};
-    ghost use Rattle.rox_builder.specs.Putting.{Closes, IsInnermostScope, IsOfRoot, KeepsRows, MayHaveMore, MayPutClose, MayPutLeaf, MayPutOpen, PutsClose, PutsLeaf, PutsOpen};
+    ghost use Rattle.rox_builder.specs.Putting.{Closes, IsInnermostScope, IsOfRoot, KeepsRows, MayHaveMore, MayPutClose, MayPutInstruction, MayPutLeaf, MayPutOpen, PutsClose, PutsLeaf, PutsOpen};
     ghost use Rattle.rox_builder.specs.Readiness.{MayMakeRow};
     ghost use Rattle.rox_scopes.specs.Tables.{HoldsTree};
     ghost use Rattle.rox_grammar.specs.Tree.{document_tree};
@@ -361,6 +361,17 @@ impl<'input> Builder<'input> {
         self.settle();
         let row = self.row_below(parent, start, end, kind);
         self.nodes.put(row);
+    }
+
+    /// Like `put_leaf`, but puts a processing instruction, for which there is room in its own table too.
+    #[inline(always)]
+    pub fn put_instruction(&mut self, start: usize, end: usize, instruction: PI<'input>)
+        requires { MayPutInstruction self.old start end }
+        ensures { PutsLeaf self.old self.new start end (kind.PI instruction.entry) }
+    {
+        self.settle();
+        let row = self.row(start, end, NodeKind::Root);
+        self.nodes.put_instruction(row, instruction);
     }
 
     /// Opens an element at `start`, for which there is room. Its parent is the row `parent`, that of the innermost open element

@@ -27,6 +27,11 @@ pub record FitsSmallNode (row : NodeData) (t : NodeTable) : Type 0 where
   pub fits : FitsNode row t
   pub small : IsSmallKind row.kind
 
+-- There is room for the row of a processing instruction, and for its text.
+pub record FitsInstruction (row : NodeData) (t : NodeTable) : Type 0 where
+  pub fits : FitsNode row t
+  pub more : vec_len t.instructions < vec_capacity t.instructions
+
 -- The table has `count` nodes.
 pub record CountsNodes (t : NodeTable) (count : ℕ) : Type 0 where
   pub rows : count ≡ vec_len t.rows
@@ -52,6 +57,7 @@ pub record PushesNode (row : NodeData) (well : Bool) (old new : NodeTable) : Typ
 pub record TakesNodes (count : ℕ) (old new : NodeTable) : Type 0 where
   pub rows : node_rows new ≡ take count (node_rows old)
   pub len : count ≤ vec_len old.rows → vec_len new.rows ≡ count
+  pub capacity : vec_capacity new.rows ≡ vec_capacity old.rows
 
 -- The number of all rows, `count`, is written into the row of the root node.
 pub record EndsRoot (count : ℕ) (old new : NodeTable) : Type 0 where

@@ -141,6 +141,7 @@ pub record ChangesRow {A : Type 0} (row : ℕ) (change : A → A) (old new : Vec
 pub record TakesLast (last before : ℕ) (old new : Vec StoredNode Global) : Type 0 where
   pub rows : new.items ≡ take (vec_len old - 1) old.items
   pub count : 0 < vec_len old → vec_len new + 1 ≡ vec_len old
+  pub room : vec_capacity new ≡ vec_capacity old
   pub chain : is_chain 0 0 last old.items ≡ true → is_chain 0 0 before new.items ≡ true
 
 -- Upper halves of 0 are appended. There are then `rows_there`, and room for one more, unless memory ran out.
@@ -156,6 +157,13 @@ pub record StoresKind {E : Type 0} (last : ℕ) (k : NodeKind) (old new : List P
   pub same : (high : List HighPlaces) (rows : List StoredNode) → are_within (length old) rows ≡ true → whole_rows new high rows ≡ whole_rows old high rows
   pub more : length old ≤ length new
   pub none : IfErr result (λ e. new ≡ old)
+
+-- A processing instruction is stored, and appended to the list. Earlier rows keep their meaning.
+pub record PutsKind (pi : PI) (old new : List PI) (result : StoredKind) : Type 0 where
+  pub stored : (last : ℕ) → Stores new last (kind.PI pi) result
+  pub same : (high : List HighPlaces) (rows : List StoredNode) → are_within (length old) rows ≡ true → whole_rows new high rows ≡ whole_rows old high rows
+  pub more : length old ≤ length new
+  pub owns : owns result ≡ false
 
 -- The node kind that `KindRef` borrows.
 abbrev pub kind_of : KindRef → NodeKind

@@ -14,7 +14,7 @@ use crate::growth::{self, first_room, trim};
 use crate::row::{NodeData, NodeKind, PI};
 use crate::stored_node::{
     FIRST_HIGH, HighPlaces, KindRef, RowRef, StoredKind, StoredNode, high_half, kind_ref, low_half,
-    owns_text, small_kind, store_kind, whole_place,
+    owns_text, put_kind, small_kind, store_kind, whole_place,
 };
 use std::alloc::{AllocError, Global};
 
@@ -177,7 +177,7 @@ impl Drop for NodeTable<'_> {
 
 impl<'input> NodeTable<'input> {
     ghost use Rattle.rox_rows.specs.Rows.{node_rows};
-    ghost use Rattle.rox_rows.specs.NodeChanges.{CountsNodes, EndsNode, EndsRoot, EndsRow, FitsNode, FitsSmallNode, HasRoomForEnd, IsRootAlone, KeepsNodes, MakesNodeRoom, MayTakeLast, PushesNode, PutsNode, TakesNodes};
+    ghost use Rattle.rox_rows.specs.NodeChanges.{CountsNodes, EndsNode, EndsRoot, EndsRow, FitsInstruction, FitsNode, FitsSmallNode, HasRoomForEnd, IsRootAlone, KeepsNodes, MakesNodeRoom, MayTakeLast, PushesNode, PutsNode, TakesNodes};
 
     /// Returns a table with only the root node of a text of `bytes` bytes, and room for `room` rows. If that is refused and the
     /// table would not be small, it has room for `FEWEST_ROWS` (see `first_room`).
@@ -278,6 +278,32 @@ impl<'input> NodeTable<'input> {
         let owns = owns_text(&row.kind);
         let kind = small_kind(row.kind, self.last_owned);
         self.last_owned = last_with(self.last_owned, owns, self.rows.len());
+        self.rows.push_reserved(StoredNode {
+            start: row.start as u32,
+            end: row.end as u32,
+            parent: row.parent,
+            subtree_end: row.subtree_end,
+            kind,
+        });
+    }
+
+    /// Returns whether there is room for one more processing instruction, except for its row.
+    #[inline(always)]
+    pub fn has_room_for_instruction(&self) -> bool
+        ensures { result ≡ true
+            → vec_len self.now.instructions < vec_capacity self.now.instructions }
+    {
+        self.instructions.len() < self.instructions.capacity()
+    }
+
+    /// Like `put`, but for a processing instruction: it is `instruction` in place of the kind of `row`. There is room for it.
+    #[inline(always)]
+    pub fn put_instruction(&mut self, row: NodeData<'input>, instruction: PI<'input>)
+        requires { FitsInstruction row self.old }
+        ensures { PutsNode (record row.entry { kind = kind.PI instruction.entry }) self.old
+            self.new }
+    {
+        let kind = put_kind(&mut self.instructions, instruction);
         self.rows.push_reserved(StoredNode {
             start: row.start as u32,
             end: row.end as u32,

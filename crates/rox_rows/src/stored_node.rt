@@ -1,6 +1,6 @@
 //! A node as its table stores it.
 
-ghost use Rattle.std.specs.Prelude.{◌≡◌, ◌+◌, ◌*◌, ◌/◌, ◌^◌, ℕ, List, true, false, if◌then◌else◌};
+ghost use Rattle.std.specs.Prelude.{◌≡◌, ◌+◌, ◌*◌, ◌/◌, ◌^◌, ◌<◌, vec_len, vec_capacity, ℕ, List, true, false, if◌then◌else◌};
 ghost use Rattle.rox_rows.specs.Storage.{is_borrowed};
 ghost use Rattle.rox_rows.specs.StoredNodes as stored;
 ghost use Rattle.rox_rows.specs.declared.row.PI.{PI};
@@ -224,6 +224,21 @@ pub(crate) fn store_kind<'input>(
             Ok(StoredKind::Comment(previous, ManuallyDrop::new(text)))
         }
     }
+}
+
+/// Returns the stored kind of a processing instruction, which is appended to `instructions`. There is room for it.
+#[inline(always)]
+pub(crate) fn put_kind<'input>(
+    instructions: &mut Vec<PI<'input>>,
+    instruction: PI<'input>,
+) -> StoredKind<'input>
+    requires { vec_len instructions.old < vec_capacity instructions.old }
+    ensures { stored.PutsKind instruction.entry instructions.old.items instructions.new.items
+        result }
+{
+    let place = instructions.len();
+    instructions.push_reserved(instruction);
+    StoredKind::Instruction(place)
 }
 
 /// Returns the kind of a node from its stored kind and the table of processing instructions.

@@ -10,4 +10,4 @@ returns-in-Some c =
     let chain =
     chain_cut c.args.last c.freed.result c.args.rows.now.items c.pop.new.self.items c.in-Some.row
     (c.pop.ensures.items ∙ ap (λ (o : Option StoredNode). c.pop.new.self.items ++ option_to_list o) c.in-Some.is) c.freed.ensures in
-    record { rows = search rules; count = search rules; chain = chain }
+    record { rows = search rules; count = search rules; room = search rules; chain = chain }

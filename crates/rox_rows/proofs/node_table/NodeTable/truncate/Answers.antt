@@ -1,4 +1,4 @@
-use Rattle.std.proofs.Common.{rules, ◌≡◌, ◌-◌, List, take, vec_len, sym, ap, ◌∙◌, arith}
+use Rattle.std.proofs.Common.{rules, refl, ◌≡◌, ◌-◌, List, take, vec_len, sym, ap, ◌∙◌, arith}
 use Rattle.std.proofs.lemmas.List.{take_all}
 use Rattle.rox_rows.specs.Rows.{node_rows}
 use Rattle.rox_rows.specs.StoredNodes.{whole_rows}
@@ -40,10 +40,10 @@ returns c =
     ap (λ (hs : List HighPlaces). whole_rows pis hs c.take_last-self.new.rows.items) c.truncate.ensures.items
     ∙ ap (λ (rs : List StoredNode). whole_rows pis (take c.args.count t.high.items) rs) (c.take_last-self.ensures.rows ∙ ap (λ n. take n t.rows.items) at)
     ∙ whole-take pis c.args.count t.high.items t.rows.items in
-    record { rows = rows; len = search rules }
+    record { rows = rows; len = search rules; capacity = search rules }
 
 pub returns-then-len-count : goal.returns-then-len-count
 returns-then-len-count c =
     let t = c.args.self.now in
     let n = length_nodes t in
-    record { rows = sym (take_all c.args.count (node_rows t) (omega (arith, n, t.rows.ok.0, c.len.ensures, c.if-len-count.true))); len = search rules }
+    record { rows = sym (take_all c.args.count (node_rows t) (omega (arith, n, t.rows.ok.0, c.len.ensures, c.if-len-count.true))); len = search rules; capacity = refl }
