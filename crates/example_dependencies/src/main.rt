@@ -41,11 +41,17 @@ fn print_dependency<W: Write>(
     dependency: Node<'_, '_>,
     out: &mut W,
 ) -> Result<()> {
-    let group = value(alloc, project, dependency, "groupId", "-")?;
-    let name = value(alloc, project, dependency, "artifactId", "-")?;
-    let version = value(alloc, project, dependency, "version", "-")?;
-    let scope = value(alloc, project, dependency, "scope", "compile")?;
-    writeln!(out, "{group}:{name}:{version} {scope}")?;
+    // what comes before a value, its element, and what is printed if there is none
+    for (before, name, otherwise) in [
+        ("", "groupId", "-"),
+        (":", "artifactId", "-"),
+        (":", "version", "-"),
+        (" ", "scope", "compile"),
+    ] {
+        let value = value(alloc, project, dependency, name, otherwise)?;
+        write!(out, "{before}{value}")?;
+    }
+    writeln!(out)?;
     Ok(())
 }
 
