@@ -1,5 +1,6 @@
-//! Plain constructs of content, read by the fast path: character data that is a slice of the source, end tags, comments and start
-//! tags. Nothing fails here: the general step reads a construct that is not plain, or finds no room, from its first byte.
+//! Plain constructs of content, read by the fast path: character data without entities of the text, start and end tags, and what
+//! `quick_sections` reads. Nothing fails here: the general step reads a construct that is not plain, or finds no room, from its
+//! first byte.
 
 ghost use Rattle.std.specs.Prelude.{◌≡◌, true};
 ghost use Rattle.rox_reading.specs.Machine as machine;
@@ -34,7 +35,8 @@ fn stands_apart(cursor: &Cursor<'_>, builder: &Builder<'_>) -> bool
 }
 
 /// Reads the character data at `start`, up to the next `<`, if it refers to no entity but the predefined ones and needs a
-/// replacement: it has references or line ends other than LF. It is of the main text. Returns the offset after it, or `NOT_READ`.
+/// replacement: it has references or line ends other than LF. It is of the main text. Returns the offset after it, or `NOT_READ`. If
+/// some named an entity before, more will, so the general step reads it.
 #[inline(never)]
 fn put_changed_data<'input>(
     alloc: Global,
@@ -45,6 +47,9 @@ fn put_changed_data<'input>(
     requires { MayReadRunAt text.now start builder.old }
     ensures { ReadsRunAt (λ k. k.values.main ≡ true) text.entry.now start result builder.old builder.new }
 {
+    if builder.names_entities {
+        return NOT_READ;
+    }
     let Some(end) = changed_run_end(Cursor { text, pos: start }) else {
         return NOT_READ;
     };
@@ -57,6 +62,7 @@ fn put_changed_data<'input>(
         return NOT_READ;
     }
     if !changed_data(text, start, end, &mut builder.buffers.scratch) {
+        builder.names_entities = true;
         return NOT_READ;
     }
     if !builder.put_scratch(alloc, start, end) {
@@ -115,8 +121,8 @@ fn put_main_line_end<'input>(
     true
 }
 
-/// Reads character data, up to the next `<`, if it is a slice of the source, or a line end that `put_main_line_end` reads. No text
-/// is open that it would continue. Returns whether it was read.
+/// Reads character data, up to the next `<`, if it is a slice of the source, or what `put_main_line_end` reads. No text is open
+/// that it would continue. Returns whether it was read.
 #[inline(always)]
 fn put_character_data<'input>(
     alloc: Global,

@@ -1,6 +1,5 @@
-//! Plain constructs with delimiters, read by the fast path: comments and CDATA sections (XML 1.0 sections 2.5, 2.7). Each is read out
-//! of line. The general step reads one that is not plain, from its first byte. It also reads processing instructions, whose rows
-//! require another table.
+//! Plain constructs with delimiters, read by the fast path: comments, CDATA sections and processing instructions (XML 1.0 sections 2.5,
+//! 2.6, 2.7). Each is read out of line. The general step reads one that is not plain, or finds no room, from its first byte.
 
 ghost use Rattle.std.specs.Prelude.{◌≡◌};
 ghost use Rattle.rox_grammar.specs.declared.fault.Word.TheVariants as word;

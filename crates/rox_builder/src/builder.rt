@@ -42,6 +42,8 @@ pub struct Builder<'input> {
     pub nodes_limit: u32,
     /// How many replacement texts may still be opened inside the one that is read.
     pub openings_left: u32,
+    /// Whether the fast path met character data that is not for it, as it names an entity of the document.
+    pub names_entities: bool,
     pub ghost few: { vec_len nodes.rows + waiting pending < 2 ^ 32 },
     pub ghost counted: { vec_len nodes.rows + waiting pending ≤ max 1 nodes_limit },
     pub ghost shallow: { vec_len opened + written pending < vec_len nodes.rows },
@@ -148,6 +150,7 @@ impl<'input> Builder<'input> {
             recent: Recent::new(alloc),
             nodes_limit,
             openings_left: MOST_WITHIN,
+            names_entities: false,
         }
     }
 

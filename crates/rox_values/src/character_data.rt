@@ -5,8 +5,8 @@ ghost use Rattle.rox_grammar.specs.Search.{byte_from};
 ghost use Rattle.std.specs.String.{string_bytes};
 ghost use Rattle.std.specs.Str.{IsCharBoundary};
 ghost use Rattle.rox_reading.specs.Values as spec;
-ghost use Rattle.rox_bytes.specs.ScanResults.{Finds, HasCharAt};
-ghost use Rattle.rox_values.specs.PlainBits.{BeginsReference, NamesText};
+ghost use Rattle.rox_bytes.specs.ScanResults.{Finds};
+ghost use Rattle.rox_values.specs.PlainBits.{BeginsReference};
 ghost use Rattle.rox_values.specs.Values.{AppendsFrom, AppendsBitFrom, AppendsPartFrom, BeginsData, BeginsMainData, EndsData, GivesData, HasData, HasOffsets, HasReturn, HasStretch, PutsData, PutsDatum, StopsAt, is_data_byte};
 
 use crate::context::Context;
@@ -262,58 +262,10 @@ fn put_data(text: &str, start: usize, stop: usize, out: &mut String) -> usize
     at
 }
 
-/// Returns the replacement text that the reference at `at` names, and the offset after the reference. `put_data` stopped there, so
-/// otherwise it is out of memory, unless the reference is a fault.
-#[inline(never)]
-#[tactic(auto, unfolding(rox_reading::specs::Values::data_bit_at, rox_reading::specs::Values::expansion_at))]
-fn named_text<'input>(
-    text: &'input str,
-    at: usize,
-    context: Context<'_, 'input>,
-) -> Result<(Cursor<'input>, usize), Failure>
-    requires { HasCharAt text.now at }
-    ensures { (stop : ℕ) → NamesText context.entry.entities.now text.entry.now at result
-        (λ es. spec.data_bit_at true es text.entry.now stop at) }
-{
-    if text.as_bytes()[at] != b'&' {
-        return Err(Failure::Memory);
-    }
-    let mut cursor = Cursor::at(text, at);
-    match read_reference(&mut cursor)? {
-        Reference::Character(_) => Err(Failure::Memory),
-        Reference::Entity(span, name) => {
-            let named = found(context, name, span, at)?;
-            Ok((named, cursor.pos))
-        }
-    }
-}
-
-/// Like `data_part`, but in the main text.
+/// Appends the text of the character data from the cursor up to `stop` or the next reference to an entity. Returns the
+/// replacement text of that entity. In a replacement text line ends stay as they are.
 #[inline(always)]
-fn main_part<'input>(
-    cursor: &mut Cursor<'input>,
-    stop: usize,
-    context: Context<'_, 'input>,
-    out: &mut String,
-) -> Result<Option<Cursor<'input>>, Failure>
-    requires { IsCharBoundary cursor.old.text.now stop }
-    ensures { AppendsPartFrom context.entry.entities.now (string_bytes out.old)
-        (string_bytes out.new) cursor.old cursor.new result
-        (λ es src at. spec.data_part true es (stop - at) src stop at) }
-{
-    let text = cursor.text;
-    let end = put_data(text, cursor.pos, stop, out);
-    if end >= stop {
-        return Ok(None);
-    }
-    let (named, after) = named_text(text, end, context)?;
-    cursor.pos = after;
-    Ok(Some(named))
-}
-
-/// Like `data_part`, but item by item, in any text.
-#[inline(never)]
-fn other_part<'input>(
+pub fn data_part<'input>(
     cursor: &mut Cursor<'input>,
     stop: usize,
     context: Context<'_, 'input>,
@@ -333,26 +285,6 @@ fn other_part<'input>(
         }
     }
     Ok(None)
-}
-
-/// Appends the text of the character data from the cursor up to `stop` or the next reference to an entity. Returns the
-/// replacement text of that entity. In a replacement text line ends stay as they are.
-#[inline(always)]
-pub fn data_part<'input>(
-    cursor: &mut Cursor<'input>,
-    stop: usize,
-    context: Context<'_, 'input>,
-    out: &mut String,
-) -> Result<Option<Cursor<'input>>, Failure>
-    requires { IsCharBoundary cursor.old.text.now stop }
-    ensures { AppendsPartFrom context.entry.entities.now (string_bytes out.old)
-        (string_bytes out.new) cursor.old cursor.new result
-        (λ es src at. spec.data_part context.entry.main es (stop - at) src stop at) }
-{
-    if context.main {
-        return main_part(cursor, stop, context, out);
-    }
-    other_part(cursor, stop, context, out)
 }
 
 /// Puts what the character data of the main text from `start` up to `stop` gives into `out`, in place of what that has. Returns false

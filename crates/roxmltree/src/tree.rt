@@ -88,6 +88,7 @@ impl<'input> Document<'input> {
             recent: _,
             nodes_limit: _,
             openings_left: _,
+            names_entities: _,
         } = builder;
         let ElementTables {
             attributes,

@@ -57,3 +57,6 @@ put_scratch-requires c = record {
   start = omega (arith, c.requires.room.short, c.requires.cut.0);
   end = omega (arith, c.requires.room.short, c.in-Some.ensures.within);
 }
+
+pub returns-then-names_entities : goal.returns-then-names_entities
+returns-then-names_entities c = runs_not _ c.args.text.now c.args.start _ c.args.builder.now c.args.builder.now (omega arith) (keeps_all c.args.builder.now) refl refl

@@ -4,7 +4,7 @@ use Rattle.std.proofs.lemmas.Result.{err_from_is_err_and}
 use Rattle.rox_reading.specs.Values.{opening}
 use Rattle.rox_scan.specs.DoctypeViews.{replacement_view}
 use Rattle.rox_values.proofs.PartLemmas.{run_more, run_fails, run_done, run_out, run_opens}
-use Rattle.rox_values.proofs.character_data.other_part.Goals as goal
+use Rattle.rox_values.proofs.character_data.data_part.Goals as goal
 
 pub returns-then-cursor-stop : goal.returns-then-cursor-stop
 returns-then-cursor-stop c = record {

@@ -4,7 +4,7 @@ use Rattle.rox_grammar.specs.Entities.{Entity}
 use Rattle.rox_reading.specs.Values.{data_part}
 use Rattle.rox_values.specs.DeclaredEntities.{AreDeclared}
 use Rattle.rox_values.specs.Values.{text_behind}
-use Rattle.rox_values.proofs.character_data.other_part.Given as goal
+use Rattle.rox_values.proofs.character_data.data_part.Given as goal
 
 abbrev pub invariant-bits : goal.invariant-bits
 invariant-bits l = record {
