@@ -1,4 +1,4 @@
-use Rattle.std.proofs.Common.{◌<◌, ℕ, List, length, sym, subst, ap, ◌∙◌, arith}
+use Rattle.std.proofs.Common.{◌<◌, ℕ, List, length, sym, subst, ap, ◌∙◌}
 use Rattle.rox_bytes.proofs.MarkLemmas.{mark_found, word_first}
 use Rattle.rox_grammar.specs.ExpectedTexts.{expected_text}
 use Rattle.rox_grammar.specs.Search.{before_mark}

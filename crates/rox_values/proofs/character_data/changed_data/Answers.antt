@@ -1,4 +1,4 @@
-use Rattle.std.proofs.Common.{[], true, sym, ap, ◌∙◌, length, arith}
+use Rattle.std.proofs.Common.{true, sym, ap, ◌∙◌, length, arith}
 use Rattle.std.specs.String.{string_bytes}
 use Rattle.std.proofs.lemmas.Bool.{eqb-false}
 use Rattle.rox_values.proofs.PartLemmas.{nothing_front, run_done}
