@@ -38,7 +38,7 @@ step_is_instruction context src s i e instruction =
     let y : slice_index src (s.at + 1) ≡ 63 = stands_reads mark src s.at 1 l (omega arith) in
     let z : s.at + 1 < length src = omega (arith, stands_fits mark src s.at (omega arith) l) in
     let k : leb (length src) (s.at + 1) ≡ false = lt-leb (length src) (s.at + 1) z in
-    rw (x, k, y, l) refl
+    rw (x, k, y) refl
 
 -- Nothing was read.
 pub section_not : (src : List ℕ) (i j : ℕ) (b : Builder) → 2 ^ 32 ≤ j → IsConsistent b.tables b.opened.items → ReadsSection src i j b b

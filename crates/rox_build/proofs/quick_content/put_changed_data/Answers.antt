@@ -2,7 +2,8 @@ use Rattle.std.proofs.Common.{◌≡◌, false, Ok, slice_range, refl, sym, ◌�
 use Rattle.std.specs.String.{string_bytes}
 use Rattle.std.proofs.lemmas.Bool.{eqb-true}
 use Rattle.rox_reading.specs.Values.{ReadText}
-use Rattle.rox_builder.proofs.Stepping.{parted_run}
+use Rattle.rox_builder.specs.BuilderState.{KeepsOpen}
+use Rattle.rox_builder.proofs.Stepping.{parted_run, same_shows}
 use Rattle.rox_build.proofs.ChangedRuns.{changed_run}
 use Rattle.rox_build.proofs.PlainReads.{keeps_all, runs_not}
 use Rattle.rox_build.proofs.Twice.{text_stepped_at}
@@ -15,7 +16,9 @@ returns c =
     let i = c.args.start in
     let j = c.in-Some.end in
     let run = c.in-Some.ensures in
-    let kept = c.put_scratch.ensures.kept in
+    let k = c.put_scratch.ensures.kept in
+    let u = c.put_scratch.new.self in
+    let kept : KeepsOpen b u = record { opened = k.opened; tables = k.tables; limit = k.limit; openings_left = k.openings_left } in
     let yes = c.if-not-put_scratch.false in
     let given = c.changed_data.ensures c.if-not-changed_data.false in
     let bytes = string_bytes c.changed_data.new.out in
@@ -25,16 +28,16 @@ returns c =
           let text : ReadText = record { value = bytes; borrowed = false } in
           let from : i ≡ s.at = sym start ∙ h.here in
           rw (parted_run context src s i j (slice_range src i j) from run.value run.changes, changed_run context src s i j bytes from main run.some run.within given)
-          (text_stepped_at context.limit end s here behind i j b c.put_scratch.new.self (Ok tt) text start stop h kept
-          (c.put_scratch.ensures.value yes end j s h.shows));
+          (text_stepped_at context.limit end s here behind i j b u (Ok tt) text start stop h kept
+          (c.put_scratch.ensures.value yes end j s (same_shows end s.stack s.done b _ h.shows refl refl refl refl refl)));
       other = λ no. absurd (omega (arith, no, short, run.within));
       cut = λ _. run.cut;
-      ready = λ _. c.put_scratch.ensures.ready yes;
+      ready = λ _ most r. c.put_scratch.ensures.ready yes most (record { room = r.room; few = r.few; small = r.small; settled = r.settled });
       moves = λ _. run.some;
       tables = kept.tables;
       opened = kept.opened;
       rows = λ _. c.put_scratch.ensures.rows yes;
-      behind = λ _. eqb-true _ _ (sym c.is_at.ensures ∙ c.if-not-is_before_markup.false);
+      behind = λ _. eqb-true _ _ (sym c.is_at-is_before_markup.ensures ∙ c.if-not-is_before_markup.false);
     }
 
 pub returns-then-not-is_before_markup : goal.returns-then-not-is_before_markup
@@ -51,12 +54,9 @@ returns-then-not-put_scratch c =
     (record { nodes = o.nodes; opened = o.opened; pending = o.pending; joined = o.joined; limit = o.limit; openings_left = o.openings_left; others = o.others; attributes = o.attributes }) kept.tables kept.opened
 
 pub put_scratch-requires : goal.put_scratch-requires
-put_scratch-requires c = record {
-  ready = c.requires.room.ready;
+put_scratch-requires c = let r = c.requires.room.ready in record {
+  ready = record { room = r.room; few = r.few; small = r.small; settled = r.settled };
   apart = c.requires.apart;
   start = omega (arith, c.requires.room.short, c.requires.cut.0);
   end = omega (arith, c.requires.room.short, c.in-Some.ensures.within);
 }
-
-pub returns-then-names_entities : goal.returns-then-names_entities
-returns-then-names_entities c = runs_not _ c.args.text.now c.args.start _ c.args.builder.now c.args.builder.now (omega arith) (keeps_all c.args.builder.now) refl refl

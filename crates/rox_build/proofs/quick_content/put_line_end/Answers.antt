@@ -45,7 +45,7 @@ returns-then-not-put_owned c =
     (record { nodes = o.nodes; opened = o.opened; pending = o.pending; joined = o.joined; limit = o.limit; openings_left = o.openings_left; others = o.others; attributes = o.attributes }) kept.tables kept.opened
 
 pub returns-in_default : goal.returns-in_default
-returns-in_default c = runs_not _ c.args.text.now c.args.start _ c.args.builder.now c.args.builder.now (omega arith) (keeps_all c.args.builder.now) refl refl
+returns-in_default c = c.put_changed_data.ensures
 
 pub put_owned-requires : goal.put_owned-requires
 put_owned-requires c = record {

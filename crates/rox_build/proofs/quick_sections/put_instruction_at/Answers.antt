@@ -1,4 +1,4 @@
-use Rattle.std.proofs.Common.{◌≡◌, ◌≤◌, true, Ok, ℕ, length, refl, ap, sym, subst, ◌∙◌, arith}
+use Rattle.std.proofs.Common.{◌≡◌, ◌≤◌, true, Ok, ℕ, length, refl, ap, sym, ◌∙◌, arith}
 use Rattle.rox_grammar.specs.declared.fault.Word.TheVariants as word
 use Rattle.rox_grammar.specs.FixedTexts.{word_text}
 use Rattle.rox_grammar.specs.Search.{stands}
@@ -7,11 +7,10 @@ use Rattle.rox_grammar.specs.Written.{Item, PI}
 use Rattle.rox_reading.specs.Markup.{instruction_at}
 use Rattle.rox_scan.specs.Views.{instruction_view}
 use Rattle.rox_theory.proofs.MarkupLemmas.{instruction_sound}
-use Rattle.rox_builder.specs.BuilderState.{IsInState}
 use Rattle.rox_builder.proofs.Stepping.{instruction_is, item_stepped}
 use Rattle.rox_build.proofs.PlainReads.{fine_same}
 use Rattle.rox_build.proofs.PlainSections.{section_not, step_is_instruction}
-use Rattle.rox_build.proofs.Twice.{scans_there, stands_there}
+use Rattle.rox_build.proofs.Twice.{scans_there}
 use Rattle.rox_build.proofs.quick_sections.put_instruction_at.Goals as goal
 
 pub returns : goal.returns
@@ -40,7 +39,7 @@ returns c =
       cut = λ _. rw source at new.cut;
       ready = λ _ most h. (c.put_instruction.ensures.ready most h).ready;
       apart = λ _ _. (c.put_instruction.ensures.ready _ c.requires.room.ready).apart;
-      moves = λ _. (instruction_sound src c.utf8.text c.args.start j p opens read).3;
+      moves = λ _. (instruction_sound src c.utf8.text c.args.start j p opens read).4;
       fine = fine_same b u c.requires.room.fine adds.kept.tables adds.kept.opened;
     }
 
