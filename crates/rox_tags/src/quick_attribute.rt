@@ -177,6 +177,25 @@ fn put_any_attribute<'input>(
     }
 }
 
+/// Like `put_any_attribute`, but where the first ASCII bytes of its name end is looked for. The function is out of line, so that the
+/// loop over attributes is small enough to be in line.
+#[cold]
+#[inline(never)]
+fn put_attribute_anew<'input>(
+    text: &'input str,
+    start: usize,
+    elements: &mut ElementTables<'input>,
+    scope: u32,
+    seen: &mut SeenNames,
+) -> usize
+    requires { MayPut text.now start elements.old scope seen.old }
+    ensures { PutsPlain elements.old elements.new scope seen.old seen.new text.entry.now
+        start result }
+{
+    let near = skip_set::<PartByte>(text, start);
+    put_any_attribute(text, start, near, elements, scope, seen)
+}
+
 /// Returns the attribute or declaration after the white space at `at`, if it is written as most are. Then `=` and a quote follow
 /// right after its name, and its value needs no replacement.
 #[inline(always)]
@@ -246,8 +265,7 @@ fn put_named_attribute<'input>(
         return None;
     }
     if read.before >= UNUSUAL as usize {
-        let near = skip_set::<PartByte>(text, start);
-        return some_place(put_any_attribute(text, start, near, elements, scope, seen));
+        return some_place(put_attribute_anew(text, start, elements, scope, seen));
     }
     let one = UsualAttribute {
         start: start as u32,
