@@ -338,6 +338,10 @@ pub fn resolve<'input>(
         → Resolves namespaces.now ds taken.old.items (attribute_rows attributes.old)
         (attribute_rows attributes.new) result }
 {
+    // Many tags that come here have declarations alone.
+    if taken.is_empty() {
+        return Ok(());
+    }
     if taken.len() > MOST || taken.len() > FEW && are_alike(taken.as_slice()) {
         return resolve_many(alloc, namespaces, few, present, taken, attributes);
     }

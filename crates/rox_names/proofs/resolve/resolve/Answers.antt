@@ -1,4 +1,4 @@
-use Rattle.std.proofs.Common.{rules, ◌≡◌, ◌<◌, ◌≤◌, length, length-append, map, drop, sym, ap, ◌∙◌, subst, arith}
+use Rattle.std.proofs.Common.{rules, ◌≡◌, ◌<◌, ◌≤◌, length, length-append, map, drop, sym, ap, ◌∙◌, subst, arith, vec_len, eqb-true}
 use Rattle.std.proofs.lemmas.Result.{err_from_is_err_and}
 use Rattle.rox_rows.specs.Rows.{AttributeRow, attribute_rows, NamespaceWithin}
 use Rattle.rox_scopes.specs.NamespaceViews.{namespace_view}
@@ -91,3 +91,13 @@ tested_namespace-requires c = record {
       let l = c.loop-turn in
       all_column (λ d. HasNameOf l.seen.codes d) l.attributes c.deref.result.now l.seen.from c.deref.ensures.value l.invariant.seen;
 }
+
+pub returns-then-is_empty : goal.returns-then-is_empty
+returns-then-is_empty c = λ ds _.
+    let taken = c.args.taken.now in
+    let n = length c.args.namespaces.now in
+    let old = attribute_rows c.args.attributes.now in
+    let none = eqb-true (vec_len taken) 0 (sym c.is_empty.ensures ∙ c.if-is_empty.true) in
+    let ok = taken.ok.0 in
+    ends n (map namespace_view c.args.namespaces.now) ds taken.items old 0 taken.items old
+    (starts n taken.items old) (resolves_first (map namespace_view c.args.namespaces.now) ds taken.items old) (omega (arith, none, ok))
