@@ -1,8 +1,13 @@
 -- What a look answers that reads nothing.
-use Rattle.std.proofs.Common.{◌≡◌, ◌≤◌, ◌^◌, ℕ, List, false, refl, arith}
+use Rattle.std.proofs.Common.{◌≡◌, ◌≤◌, ◌^◌, ℕ, List, Result, false, refl, ap, ◌∙◌, arith}
 use Rattle.rox_reading.specs.Machine as machine
 use Rattle.rox_scan.specs.declared.cursor.Cursor.{Cursor}
-use Rattle.rox_builder.specs.BuilderState.{IsConsistent, KeepsState}
+use Rattle.rox_reading.specs.Refusals.{Refusal}
+use Rattle.rox_reading.specs.State.{State}
+use Rattle.rox_scopes.specs.declared.tables.ElementTables.{ElementTables}
+use Rattle.rox_builder.specs.BuilderState.{IsConsistent, IsReadyTo, KeepsState}
+use Rattle.rox_builder.specs.Outcomes.{ReadsAt}
+use Rattle.rox_builder.proofs.Stepping.{state_kept}
 use Rattle.rox_build.specs.PlainOutcomes.{ReadsRunAt, ReadsStep}
 use Rattle.rox_builder.specs.declared.builder.Builder.{Builder}
 
@@ -33,4 +38,30 @@ runs_not such src i j b u not_read kept tables opened = record {
   opened = opened;
   rows = λ less. absurd (omega (arith, less, not_read));
   behind = λ less. absurd (omega (arith, less, not_read));
+}
+
+keeps_on : (a b c : Builder) → KeepsState a b → KeepsState b c → KeepsState a c
+keeps_on a b c k l = record {
+  nodes = l.nodes ∙ k.nodes;
+  opened = l.opened ∙ k.opened;
+  pending = l.pending ∙ k.pending;
+  joined = l.joined ∙ k.joined;
+  limit = l.limit ∙ k.limit;
+  openings_left = l.openings_left ∙ k.openings_left;
+  others = l.others ∙ ap (λ (t : ElementTables). record t { attributes = c.tables.attributes }) k.others;
+  attributes = l.attributes ∙ k.attributes;
+}
+
+ready_kept : (most : ℕ) (b u : Builder) → KeepsState b u → IsReadyTo most b → IsReadyTo most u
+ready_kept most b u k h = record { room = rw k.nodes h.room; few = rw k.limit h.few; small = h.small; settled = rw k.pending h.settled }
+
+-- what is read where the builder holds equal rows
+pub reads_kept : (read : machine.Context → List ℕ → State → Result State Refusal) (src : List ℕ) (i j : ℕ) (b u after : Builder) → KeepsState b u → ReadsAt read src i j u after → ReadsAt read src i j b after
+reads_kept read src i j b u after k r = record {
+  value = λ less context end s here behind start stop h. r.value less context end s here behind start stop (state_kept context.limit end s here here b u h refl k);
+  other = λ no. keeps_on b u after k (r.other no);
+  cut = r.cut;
+  ready = λ less most h. r.ready less most (ready_kept most b u k h);
+  moves = r.moves;
+  fine = r.fine;
 }

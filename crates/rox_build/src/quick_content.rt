@@ -20,11 +20,15 @@ use rox_scan::cursor::Cursor;
 use rox_tags::quick_tag::{
     TagPlace, start_tag_in_scope, start_tag_of_name, start_tag_without_prefix,
 };
+use rox_tags::repeated_declaration::start_tag_repeating;
 use rox_values::character_data::changed_data;
 use std::alloc::Global;
 
 /// The length in bytes of the longest text whose offsets all fit rows.
 const MOST_BYTES: usize = 4294967295;
+
+/// The number of scopes of a document whose root element alone declares namespaces.
+const SCOPES_OF_ROOT: usize = 2;
 
 /// Returns true only if no text is open that character data at the cursor would continue.
 #[inline(always)]
@@ -243,6 +247,43 @@ fn element_in_scope<'input>(
     other.end
 }
 
+/// Like `element_in_scope`, but for a tag with one declaration alone, if an earlier one had it below the same namespaces.
+#[inline(never)]
+fn element_repeating<'input>(
+    text: &'input str,
+    start: usize,
+    builder: &mut Builder<'input>,
+    part: usize,
+) -> usize
+    requires { MayReadPart text.now start part builder.old }
+    ensures { ReadsAt machine.tag_step text.entry.now start result builder.old builder.new }
+{
+    if builder.tables.scopes.len() <= SCOPES_OF_ROOT || !builder.has_room_to_open() {
+        return NOT_READ;
+    }
+    let depth = builder.opened.len();
+    if depth == 0 {
+        return NOT_READ;
+    }
+    let above = &builder.opened[depth - 1];
+    let row = above.row;
+    let place = TagPlace { start, part };
+    let Some(repeated) = start_tag_repeating(text, place, &builder.tables, above) else {
+        return NOT_READ;
+    };
+    if repeated.tag.empty {
+        builder.put_leaf(
+            row,
+            start,
+            repeated.end,
+            NodeKind::Element(repeated.tag.element),
+        );
+        return repeated.end;
+    }
+    builder.put_open(row, text, start, &repeated.tag);
+    repeated.end
+}
+
 /// Like `element_in_scope`, but for a tag whose name is of ASCII bytes, has no prefix and ends at `near`. If the name of its parent
 /// has no prefix either, its namespace is the parent's, which is read after the attributes.
 #[inline(always)]
@@ -275,7 +316,7 @@ fn element_without_prefix<'input>(
         &mut builder.buffers.seen,
     ) else {
         builder.tables.attributes.truncate(from);
-        return NOT_READ;
+        return element_repeating(text, start, builder, near);
     };
     let row = parent.row;
     if read.tag.empty {
@@ -440,4 +481,43 @@ pub fn quick_markup_of_text<'input>(
         return false;
     }
     markup_of_text(cursor, builder, open_around)
+}
+
+/// Reads the start tag at the cursor as `element_repeating` does. Returns false if nothing was read.
+#[inline(never)]
+#[tactic(auto, unfolding(rox_reading::specs::Machine::step))]
+fn tag_repeating<'input>(cursor: &mut Cursor<'input>, builder: &mut Builder<'input>) -> bool
+    requires { MayReadPlain cursor.old builder.old }
+    ensures { ReadsStep any_context cursor.old cursor.new builder.old builder.new result }
+{
+    let bytes = cursor.text.as_bytes();
+    if cursor.pos + 1 >= bytes.len() || bytes[cursor.pos + 1] <= b'?' {
+        return false;
+    }
+    let text = cursor.text;
+    let start = cursor.pos;
+    let part = part_end(text, after_byte(text, start, b'<'));
+    let read_to = element_repeating(text, start, builder, part);
+    if read_to > MOST_BYTES {
+        return false;
+    }
+    cursor.pos = read_to;
+    true
+}
+
+/// Reads the start tag at the cursor, if it has one declaration alone, an earlier one had it below the same namespaces, and there
+/// is room. Returns false if nothing was read.
+#[inline(always)]
+pub fn quick_repeating<'input>(cursor: &mut Cursor<'input>, builder: &mut Builder<'input>) -> bool
+    requires { MayStep cursor.old builder.old }
+    ensures { ReadsStep any_context cursor.old cursor.new builder.old builder.new result }
+{
+    if builder.tables.scopes.len() <= SCOPES_OF_ROOT {
+        return false;
+    }
+    let bytes = cursor.text.as_bytes();
+    if bytes[cursor.pos] != b'<' || bytes.len() > MOST_BYTES || builder.rows_left() == 0 {
+        return false;
+    }
+    tag_repeating(cursor, builder)
 }

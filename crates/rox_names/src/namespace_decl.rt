@@ -100,7 +100,7 @@ impl<'input> UnresolvedAttribute<'input> {
 
     /// Tests the declaration. Fails for a prefix and URI that may not be declared.
     #[inline(always)]
-    fn test_uri(&self) -> Result<(), Fault>
+    pub fn test_uri(&self) -> Result<(), Fault>
         ensures { result ≡ spec.uri_tested (unresolved_view self.now) }
     {
         let uri = self.value.as_str();
@@ -112,7 +112,7 @@ impl<'input> UnresolvedAttribute<'input> {
 
     /// Returns the prefix that it declares, or `None` for the default.
     #[inline]
-    fn declared_prefix(&self) -> Option<&'input str>
+    pub fn declared_prefix(&self) -> Option<&'input str>
         ensures { prefix_view result ≡ (namespace_decl_of (unresolved_view self.now)).prefix }
     {
         if same_text(self.name.prefix, "xmlns") {

@@ -6,3 +6,4 @@ pub mod PlainTags
 pub mod TagAttributes
 pub mod OwnNames
 pub mod WholeTags
+pub mod Repeating

@@ -153,7 +153,7 @@ turn_item src i j n a held context cut known openings_left h within item =
 taken_other : (known : List NamespaceDecl) (a : Attribute) (held : TagSoFar) → is_namespace_decl a.name ≡ false → taken known a held ≡ Ok (record { own = held.own; attributes = held.attributes ++ a ∷ [] })
 taken_other known a held other = rw other refl
 
-taken_declared : (known : List NamespaceDecl) (a : Attribute) (held after : TagSoFar) → is_namespace_decl a.name ≡ true → declared known a held ≡ Ok after → taken known a held ≡ Ok after
+pub taken_declared : (known : List NamespaceDecl) (a : Attribute) (held after : TagSoFar) → is_namespace_decl a.name ≡ true → declared known a held ≡ Ok after → taken known a held ≡ Ok after
 taken_declared known a held after is h = rw is h
 
 turn_is : (src : List ℕ) (i j n : ℕ) (a : UnresolvedAttribute) (held after : TagSoFar) (context : Values) (cut : Fault) (known : List NamespaceDecl) (openings_left : ℕ) → IsPlainAttribute src j a
@@ -275,12 +275,12 @@ plain_declared namespaces next own after src start old i j now a g onward spaces
 
 -- ---- the end of the tag
 
-abbrev IsEnd : TagItem → Bool → Type 0
+abbrev pub IsEnd : TagItem → Bool → Type 0
 IsEnd (more raw) empty = ⊥
 IsEnd opened empty = empty ≡ false
 IsEnd closed empty = empty ≡ true
 
-end_is : (src : List ℕ) (i n j : ℕ) (item : TagItem) (empty : Bool) (held : TagSoFar) (context : Values) (cut : Fault) (known : List NamespaceDecl) (openings_left : ℕ) → i < length src → tag_item_at src i ≡ Ok (item, j)
+pub end_is : (src : List ℕ) (i n j : ℕ) (item : TagItem) (empty : Bool) (held : TagSoFar) (context : Values) (cut : Fault) (known : List NamespaceDecl) (openings_left : ℕ) → i < length src → tag_item_at src i ≡ Ok (item, j)
     → IsEnd item empty → attributes_at (suc n) context cut known src i openings_left held ≡ Ok (record { held = held; empty = empty; openings_left = openings_left }, j)
 unfolding attributes_at
 end_is src i n j (more raw) empty held context cut known openings_left within is h = absurd h

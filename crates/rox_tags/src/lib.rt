@@ -8,4 +8,5 @@ pub mod quick_attribute;
 pub mod quick_name;
 pub mod quick_tag;
 pub mod quick_value;
+pub mod repeated_declaration;
 pub mod tag;

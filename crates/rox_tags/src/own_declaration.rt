@@ -27,7 +27,7 @@ pub struct TagScope {
 
 /// Returns true only if `xmlns` is at `at`, and a byte follows it.
 #[inline(always)]
-fn may_declare(text: &str, at: usize) -> bool
+pub(crate) fn may_declare(text: &str, at: usize) -> bool
     ensures { result ≡ true → HasXmlns text.now at }
 {
     let bytes = text.as_bytes();

@@ -112,7 +112,7 @@ fn tag_end(text: &str, at: usize) -> Option<TagEnd>
 
 /// Returns the end of a start tag, if it is at `at` and the document has no more attributes than it may have.
 #[inline(always)]
-fn attributes_end(text: &str, at: usize, elements: &ElementTables<'_>) -> Option<TagEnd>
+pub(crate) fn attributes_end(text: &str, at: usize, elements: &ElementTables<'_>) -> Option<TagEnd>
     ensures { EndsAttributes text.now at elements.now result }
 {
     if elements.attributes.len() > MOST_ATTRIBUTES {

@@ -22,6 +22,7 @@ use Rattle.rox_build.proofs.Opening.{cut_back, grown_by, is_node, is_opening, fi
 use Rattle.std.proofs.lemmas.Str.{IsCharBoundary-after_ascii}
 use Rattle.rox_tags.proofs.PlainTags.{near_cut, near_ends}
 use Rattle.std.proofs.Common.{◌+◌}
+use Rattle.rox_build.proofs.PlainReads.{reads_kept}
 use Rattle.rox_build.proofs.quick_content.element_without_prefix.Goals as goal
 
 pub start_tag_without_prefix-requires : goal.start_tag_without_prefix-requires
@@ -190,13 +191,35 @@ returns-in_default c =
     let left : ElementTables = record put { attributes = c.truncate.new.self } in
     let grown = c.in_default.ensures.grown in
     let same = cut_back old put left grown.more c.len-from.result grown.others grown.rows c.len-from.ensures refl c.truncate.ensures in
+    reads_kept _ _ _ _ c.args.builder.now _ _ (record { nodes = refl; opened = refl; pending = refl; joined = refl; limit = refl; openings_left = refl; others = same.others; attributes = same.attributes })
+    c.element_repeating.ensures
+
+pub element_repeating-requires : goal.element_repeating-requires
+element_repeating-requires c =
+    let old = c.args.builder.now.tables in
+    let put = c.start_tag_without_prefix.new.elements in
+    let left : ElementTables = record put { attributes = c.truncate.new.self } in
+    let grown = c.in_default.ensures.grown in
+    let same = cut_back old put left grown.more c.len-from.result grown.others grown.rows c.len-from.ensures refl c.truncate.ensures in
     record {
-      value = λ less. absurd (omega arith);
-      other = λ _. record { nodes = refl; opened = refl; pending = refl; joined = refl; limit = refl; openings_left = refl; others = same.others; attributes = same.attributes };
-      cut = λ less. absurd (omega arith);
-      ready = λ less. absurd (omega arith);
-      moves = λ less. absurd (omega arith);
-      fine = fine_same old left c.args.builder.now.opened.items same c.requires.room.fine;
+      here = c.requires.here;
+      start = c.requires.start;
+      part =
+          let src = c.args.text.now in
+          let i = c.args.start in
+          let within = stands_within src i 60 c.requires.here (omega arith) in
+          record {
+            place = near_ends src (i + 1) c.args.near c.utf8.text c.requires.near;
+            onward = c.requires.near.ends.onward;
+            cut = near_cut src (i + 1) c.args.near c.utf8.text (IsCharBoundary-after_ascii src i c.utf8.text within (omega (arith, c.requires.here))) c.requires.near;
+          };
+      room =
+          let ready = c.requires.room.ready in
+          record {
+            short = c.requires.room.short;
+            ready = record { room = ready.room; few = ready.few; small = ready.small; settled = ready.settled };
+            fine = fine_same old left c.args.builder.now.opened.items same c.requires.room.fine;
+          };
     }
 
 pub returns-then-index : goal.returns-then-index

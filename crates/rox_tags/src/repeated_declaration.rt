@@ -1,0 +1,138 @@
+//! Start tags, below the root element, that have one declaration and no attributes, by the quick reader. They are read if one of
+//! the last scopes lists just that declaration and what the parent lists: elements that are siblings often declare the same. No
+//! table changes then.
+
+ghost use Rattle.std.specs.Prelude.{◌≡◌, IfSome, length, true};
+ghost use Rattle.rox_rows.specs.Storage.{storage_bytes};
+ghost use Rattle.rox_scopes.specs.Scopes.{ArePlaces, pair, prefix_view};
+ghost use Rattle.rox_scopes.specs.TagScopes.{scope_in_tables};
+ghost use Rattle.rox_names.specs.TagDeclarations.{unresolved_view};
+ghost use Rattle.rox_tags.specs.PlainParts.{MayReadPlainTag};
+ghost use Rattle.rox_tags.specs.PlainTag.{HasScope, IsPlainTag};
+ghost use Rattle.rox_tags.specs.Repeating.{AreOneMore, IsRepeated, Repeats};
+
+use crate::own_declaration::may_declare;
+use crate::quick_attribute::{byte_count, verbatim_attribute};
+use crate::quick_name::name_of_part;
+use crate::quick_tag::{PlainTag, TagPlace, attributes_end, namespace_in_scope};
+use crate::tag::element_of;
+use rox_bytes::runs::after_byte;
+use rox_names::namespace_decl::is_namespace_decl;
+use rox_names::open_element::OpenElement;
+use rox_names::start_tag::StartTag;
+use rox_names::unresolved_attribute::UnresolvedAttribute;
+use rox_rows::compare::same_text;
+use rox_scopes::scope::{few_places, is_declared, is_xml, same_prefix};
+use rox_scopes::tables::{ElementTables, Namespace};
+
+/// The number of scopes that are tried, from the last one on.
+const TRIED: usize = 8;
+
+/// Returns true only if these places are that of a namespace of this prefix and URI, and then `around`.
+#[inline(always)]
+fn are_one_more(
+    namespaces: &[Namespace<'_>],
+    places: &[u16],
+    prefix: Option<&str>,
+    uri: &str,
+    around: &[u16],
+) -> bool
+    requires { ArePlaces (length namespaces.now) places.now }
+    ensures { result ≡ true → AreOneMore namespaces.now places.now (pair (prefix_view prefix.entry) uri.now) around.now }
+{
+    if places.len() != around.len() + 1 {
+        return false;
+    }
+    let first = &namespaces[places[0] as usize];
+    if !same_prefix(first.name(), prefix) || !same_text(first.uri(), uri) {
+        return false;
+    }
+    &places[1..] == around
+}
+
+/// Returns one of the last scopes that lists the namespace of this prefix and URI, and then what the scope `above` lists. That
+/// does not list the prefix.
+fn repeated_scope(
+    elements: &ElementTables<'_>,
+    above: u32,
+    prefix: Option<&str>,
+    uri: &str,
+) -> Option<u32>
+    requires { HasScope elements.now above }
+    ensures { IfSome result (λ n. IsRepeated elements.now above (pair (prefix_view prefix.entry) uri.now) n) }
+{
+    let around = few_places(&elements.scopes, &elements.listed, above)?;
+    let namespaces = elements.namespaces.as_slice();
+    if is_declared(namespaces, around, prefix) {
+        return None;
+    }
+    let count = elements.scopes.len();
+    for turn in 0..TRIED {
+        if turn >= count || count - 1 - turn > u32::MAX as usize {
+            return None;
+        }
+        let scope = (count - 1 - turn) as u32;
+        if let Some(places) = few_places(&elements.scopes, &elements.listed, scope) {
+            if are_one_more(namespaces, places, prefix, uri, around) {
+                return Some(scope);
+            }
+        }
+    }
+    None
+}
+
+/// Returns the scope of a tag that has the declaration `one` alone, if it is in order and one of the last scopes is that of
+/// another such tag.
+#[inline(always)]
+fn scope_repeating<'input>(
+    elements: &ElementTables<'input>,
+    above: u32,
+    one: &UnresolvedAttribute<'input>,
+) -> Option<u32>
+    requires { HasScope elements.now above }
+    ensures { IfSome result (λ n. Repeats elements.now above (unresolved_view one.now) n) }
+{
+    if !is_namespace_decl(one.name) || one.test_uri().is_err() {
+        return None;
+    }
+    let prefix = one.declared_prefix();
+    if is_xml(prefix) {
+        return None;
+    }
+    repeated_scope(elements, above, prefix, one.value.as_str())
+}
+
+/// Reads the start tag at `place`, a child of `parent`, if it has one declaration alone, which another tag had below the same
+/// namespaces.
+#[inline(always)]
+pub fn start_tag_repeating<'input>(
+    text: &'input str,
+    place: TagPlace,
+    elements: &ElementTables<'input>,
+    parent: &OpenElement<'input>,
+) -> Option<PlainTag<'input>>
+    requires { MayReadPlainTag text.now place elements.now parent.now }
+    ensures { IfSome result (λ t. IsPlainTag elements.entry.now elements.entry.now
+        (scope_in_tables elements.entry.now parent.entry.now.scope) text.entry.now place.start t.end t.tag) }
+{
+    let small = byte_count(text);
+    let name_start = after_byte(text, place.start, b'<');
+    let name = name_of_part(text, name_start, place.part)?;
+    if !may_declare(text, name.end + 1) || same_text(name.name.prefix, "xmlns") {
+        return None;
+    }
+    let one = verbatim_attribute(text, name.end)?;
+    let close = attributes_end(text, one.end, elements)?;
+    let scope = scope_repeating(elements, parent.scope, &one)?;
+    let namespace = namespace_in_scope(elements, name.name, name_start, scope)?;
+    let from = elements.attributes.len();
+    let element = element_of(elements, name.name.local, from, scope, namespace);
+    let tag = StartTag {
+        name: name.name,
+        name_start,
+        name_end: name.end,
+        element,
+        empty: close.empty,
+    };
+    Some(PlainTag { tag, end: close.at })
+}
