@@ -1,7 +1,7 @@
 -- Start tags with one declaration alone, which an earlier tag had below the same namespaces.
-use Rattle.std.proofs.Common.{◌≡◌, ℕ, zero, suc, ◌+◌, ◌-◌, ◌<◌, ◌≤◌, ◌||◌, ◌==◌, not, filter, Bool, true, false, List, [], ◌∷◌, ◌++◌, Option, Some, length, map, take, drop, get_or, slice_index, bytes_eq, IsUtf8, refl, sym, ap, subst, ◌∙◌, arith, Ok}
+use Rattle.std.proofs.Common.{◌≡◌, ℕ, zero, suc, ◌+◌, ◌-◌, ◌<◌, ◌≤◌, ◌||◌, not, filter, Bool, true, false, List, [], ◌∷◌, ◌++◌, Some, length, map, take, drop, get_or, slice_index, bytes_eq, IsUtf8, refl, sym, ap, subst, ◌∙◌, arith, Ok}
 use Rattle.std.specs.Borrow.{Bor}
-use Rattle.std.specs.Option.{option_map, IfSome}
+use Rattle.std.specs.Option.{option_map}
 use Rattle.std.specs.Str.{IsCharBoundary}
 use Rattle.std.proofs.lemmas.Bool.{lt-leb}
 use Rattle.std.proofs.lemmas.Slice.Eq.{bytes_eq-Decides}
@@ -19,7 +19,7 @@ use Rattle.rox_grammar.specs.Written.{Attribute, NamespaceDecl, is_namespace_dec
 use Rattle.rox_reading.specs.Lexical.{◌>>=◌, qname_at}
 use Rattle.rox_reading.specs.Markup.{opened, closed}
 use Rattle.rox_reading.specs.Refusals.{lifted}
-use Rattle.rox_reading.specs.Tags.{TagSoFar, Values, attributes_at, names_tested, tag_tested, taken, uri_tested}
+use Rattle.rox_reading.specs.Tags.{TagSoFar, Values, attributes_at, tag_tested, taken, uri_tested}
 use Rattle.rox_rows.specs.Rows.{attribute_rows, namespace_at, numbered_place, scope_at}
 use Rattle.rox_scopes.specs.NamespaceViews.{namespace_view}
 use Rattle.rox_scopes.specs.Scopes.{ArePlaces, PrefixesOnce, entries, pair, places_in}

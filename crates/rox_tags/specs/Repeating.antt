@@ -1,5 +1,5 @@
 -- Start tags with one declaration alone, which an earlier tag had below the same namespaces.
-use Rattle.std.specs.Prelude.{◌≡◌, ℕ, ◌<◌, true, false, List, [], ◌∷◌, Ok, length, map}
+use Rattle.std.specs.Prelude.{◌≡◌, ℕ, ◌<◌, true, false, List, ◌∷◌, Ok, length, map}
 use Rattle.rox_grammar.specs.Counts.{has_pair}
 use Rattle.rox_grammar.specs.Tree.{is_declared, is_xml}
 use Rattle.rox_grammar.specs.Written.{Attribute, NamespaceDecl, is_namespace_decl, namespace_decl_of}

@@ -3,7 +3,6 @@ use Rattle.rox_grammar.specs.Written.{Element, NamespaceDecl}
 use Rattle.rox_grammar.specs.State.{scope_of}
 use Rattle.rox_reading.specs.Machine.{opened_by, cut_off_fault}
 use Rattle.rox_reading.specs.Refusals.{lifted}
-use Rattle.rox_scopes.specs.declared.tables.ElementTables.{ElementTables}
 use Rattle.rox_tags.specs.ElementRow.{Tagged}
 use Rattle.rox_builder.specs.BuilderState.{Adds, IsNode, ScansTo, opened_in}
 use Rattle.rox_builder.proofs.Showing.{split_at, innermost_row}

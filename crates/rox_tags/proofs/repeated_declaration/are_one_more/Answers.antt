@@ -1,4 +1,4 @@
-use Rattle.std.proofs.Common.{length, ◌+◌, sym, ◌∙◌}
+use Rattle.std.proofs.Common.{sym, ◌∙◌}
 use Rattle.std.proofs.lemmas.Slice.Eq.{bytes_eq-Decides}
 use Rattle.rox_scopes.specs.Scopes.{pair, prefix_view}
 use Rattle.rox_scopes.proofs.Pairs.{same_prefix-true}
