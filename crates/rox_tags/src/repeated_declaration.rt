@@ -3,7 +3,6 @@
 //! table changes then.
 
 ghost use Rattle.std.specs.Prelude.{◌≡◌, IfSome, length, true};
-ghost use Rattle.rox_rows.specs.Storage.{storage_bytes};
 ghost use Rattle.rox_scopes.specs.Scopes.{ArePlaces, pair, prefix_view};
 ghost use Rattle.rox_scopes.specs.TagScopes.{scope_in_tables};
 ghost use Rattle.rox_names.specs.TagDeclarations.{unresolved_view};
