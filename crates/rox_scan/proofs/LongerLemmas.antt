@@ -16,7 +16,7 @@ use Rattle.rox_reading.specs.Lexical.{has_mark, chars_up_to, text_to, string_at}
 use Rattle.rox_reading.specs.Markup.{raw_value_at, comment_at}
 use Rattle.rox_reading.specs.Values.{is_special}
 use Rattle.rox_bytes.specs.ByteSets.{is_char_byte, AllPass, EndsEased, is_value_byte, is_wide_value_byte, is_quoted_byte, is_text_byte, is_comment_byte, is_ascii_comment_byte}
-use Rattle.rox_scan.specs.Lookahead.{IsLookahead, ends_value, ends_run, changes_run, ends_comment, changes_comment}
+use Rattle.rox_scan.specs.Lookahead.{IsLookahead, ends_value, ends_run, changes_run, is_changed_text_byte, ends_comment, changes_comment}
 use Rattle.rox_bytes.proofs.NearLemmas.{near_chars, near_found, none_among, value_is_plain, value_cut, value_widens, wide_value_is_plain, wide_value_cut, quoted_is_plain, quoted_cut, text_is_plain, text_cut, comment_is_plain, comment_cut, ascii_comment_widens, ascii_comment_cut}
 use Rattle.rox_bytes.proofs.EasedLemmas.{eased_byte, eased_chars}
 use Rattle.rox_bytes.proofs.MarkLemmas.{before_mark_is, not_from_first, fails, stands_split, stands_from_split}
@@ -205,6 +205,35 @@ pub run_near : (src : List ℕ) (i e : ℕ) → IsUtf8 src → IsCharBoundary sr
 run_near src i e utf8 start le within all stops =
     near_looked is_text_byte changes_run (ends_run src) src i e utf8 start le (text_cut src e within stops) all text_is_plain run_same (λ k h. no_run_end src k (text_no_tag _ h) (text_no_bracket _ h))
 
+-- the same where something changes the data already
+changed_is_plain : (b : ℕ) → is_changed_text_byte b ≡ true → is_char_byte b ≡ true
+unfolding is_changed_text_byte is_text_byte
+changed_is_plain b h = grind (arith, nat_tests)
+
+changed_no_tag : (b : ℕ) → is_changed_text_byte b ≡ true → (b == 60) ≡ false
+unfolding is_changed_text_byte is_text_byte
+changed_no_tag b h = grind (arith, nat_tests)
+
+changed_no_bracket : (b : ℕ) → is_changed_text_byte b ≡ true → b ≢ 93
+unfolding is_changed_text_byte is_text_byte
+changed_no_bracket b h = grind (arith, nat_tests)
+
+changed_leads : (b : ℕ) → is_changed_text_byte b ≡ false → 128 ≤ b → 192 ≤ b
+unfolding is_changed_text_byte is_text_byte
+changed_leads b h wide = grind (arith, nat_tests)
+
+pub changed_run_near : (src : List ℕ) (i e : ℕ) → IsUtf8 src → IsCharBoundary src i → i ≤ e → e ≤ length src → AllPass is_changed_text_byte src i e → (e < length src → is_changed_text_byte (get_or src e 0) ≡ false)
+    → IsLookahead (ends_run src) changes_run src i e (not (list_any changes_run (slice_range src i e)))
+changed_run_near src i e utf8 start le within all stops =
+    let cut : IsCharBoundary src e = (within, λ more wide. changed_leads _ (stops more) wide) in
+    record {
+      onward = le;
+      cut = cut;
+      chars = near_chars is_changed_text_byte src i e utf8 start le cut all changed_is_plain;
+      apart = λ k low high. no_run_end src k (changed_no_tag _ (all k low high)) (changed_no_bracket _ (all k low high));
+      verbatim_is = refl;
+    }
+
 -- nothing is looked at
 pub run_none : (src : List ℕ) (i : ℕ) → IsUtf8 src → IsCharBoundary src i → IsLookahead (ends_run src) changes_run src i i true
 run_none src i utf8 start =
@@ -213,16 +242,29 @@ run_none src i utf8 start =
 pub wide_no_run_end : (src : List ℕ) (k : ℕ) → 128 ≤ get_or src k 0 → ends_run src k ≡ false
 wide_no_run_end src k wide = no_run_end src k (ne_eqb (get_or src k 0) 60 (λ h. absurd (omega arith))) (λ h. absurd (omega arith))
 
+-- a character behind what was looked at
+pub run_char : (src : List ℕ) (i j n : ℕ) (verbatim : Bool) → IsUtf8 src → IsCharBoundary src i → IsLookahead (ends_run src) changes_run src i j verbatim
+    → j < n → IsCharBoundary src n → AreChars src j n → ((k : ℕ) → j < k → k < n → 128 ≤ get_or src k 0) → ends_run src j ≡ false
+    → IsLookahead (ends_run src) changes_run src i n (verbatim && not (changes_run (get_or src j 0)))
+run_char src i j n verbatim utf8 start f some cut chars wide here =
+    looked_on changes_run (ends_run src) src i j n verbatim _ utf8 start f (char_looked changes_run (ends_run src) src j n some cut chars wide wide_run (wide_no_run_end src) here)
+
 pub run_on : (src : List ℕ) (i j n e : ℕ) (verbatim : Bool) → IsUtf8 src → IsCharBoundary src i → IsLookahead (ends_run src) changes_run src i j verbatim
     → j < n → IsCharBoundary src n → AreChars src j n → ((k : ℕ) → j < k → k < n → 128 ≤ get_or src k 0) → ends_run src j ≡ false
     → n ≤ e → e ≤ length src → AllPass is_text_byte src n e → (e < length src → is_text_byte (get_or src e 0) ≡ false)
     → IsLookahead (ends_run src) changes_run src i e (verbatim && not (changes_run (get_or src j 0)))
 run_on src i j n e verbatim utf8 start f some cut chars wide here le within all stops =
     let ends = ends_run src in
-    let one = char_looked changes_run ends src j n some cut chars wide wide_run (wide_no_run_end src) here in
-    let two = looked_on changes_run ends src i j n verbatim _ utf8 start f one in
+    let two = run_char src i j n verbatim utf8 start f some cut chars wide here in
     let three = looked_on changes_run ends src i n e _ true utf8 start two (run_near src n e utf8 cut le within all stops) in
     rw (and_true (verbatim && not (changes_run (get_or src j 0)))) at three
+
+-- what was looked at and the bytes behind it
+pub looked_more : (src : List ℕ) (i j k : ℕ) → IsUtf8 src → IsCharBoundary src i → IsLookahead (ends_run src) changes_run src i j true → IsLookahead (ends_run src) changes_run src j k true → IsLookahead (ends_run src) changes_run src i k true
+looked_more src i j k utf8 start f g = looked_on changes_run (ends_run src) src i j k true true utf8 start f g
+
+pub changed_more : (src : List ℕ) (i j k : ℕ) (b : Bool) → IsUtf8 src → IsCharBoundary src i → IsLookahead (ends_run src) changes_run src i j false → IsLookahead (ends_run src) changes_run src j k b → IsLookahead (ends_run src) changes_run src i k false
+changed_more src i j k b utf8 start f g = looked_on changes_run (ends_run src) src i j k false b utf8 start f g
 
 -- the same of a longer stretch, where characters that begin with 239 may stand
 eased_run_byte : (b : ℕ) → (is_text_byte b ≡ true) ⊎ (b ≡ 239) → changes_run b ≡ false

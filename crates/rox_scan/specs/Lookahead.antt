@@ -55,6 +55,14 @@ ends_run src k = (slice_index src k == 60) || stands (word_text word.CDataEnd) s
 abbrev pub changes_run : ℕ → Bool
 changes_run b = (b == 38) || (b == 13)
 
+-- The byte `b` is a text byte, or changes character data.
+unfoldable pub is_changed_text_byte : ℕ → Bool
+is_changed_text_byte b = is_text_byte b || changes_run b
+
+-- What is looked at up to `j` is valid up to `k` too, where it is as before whether it is changed.
+abbrev pub GoesOnLooking : List ℕ → ℕ → ℕ → Bool → Type 0
+GoesOnLooking src j k verbatim = (i : ℕ) → IsCharBoundary src i → IsLookahead (ends_run src) changes_run src i j verbatim → IsLookahead (ends_run src) changes_run src i k verbatim
+
 -- Character data from `i` up to `j` is valid and needs no replacement, and `<` is at `j`.
 pub record EndsRun (src : List ℕ) (i j : ℕ) : Type 0 where
   pub looked : IsLookahead (ends_run src) changes_run src i j true

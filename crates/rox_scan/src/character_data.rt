@@ -10,7 +10,7 @@ ghost use Rattle.rox_grammar.specs.Content as content;
 ghost use Rattle.rox_reading.specs.Values as spec;
 ghost use Rattle.rox_bytes.specs.ByteSets as near;
 ghost use Rattle.rox_scan.specs.Lookahead as longer;
-ghost use Rattle.rox_scan.specs.Lookahead.{EndsRun, IsChangedRun, IsLineRun, IsLookahead, IsStep, LooksAhead, SeesRun};
+ghost use Rattle.rox_scan.specs.Lookahead.{EndsRun, GoesOnLooking, IsChangedRun, IsLineRun, IsLookahead, IsStep, LooksAhead, SeesRun};
 ghost use Rattle.rox_scan.specs.Views.{ReadsRun};
 ghost use Rattle.rox_bytes.specs.ScanResults.{HasCharAt, HasWideAt};
 
@@ -78,6 +78,30 @@ impl ByteSet for AsciiTextByte {
     }
 }
 
+/// The bytes of `TextByte`, and those that change character data: `&` and CR.
+struct ChangedTextByte;
+
+// The controls of the set except CR, and the ASCII bytes above them that are not in it, each at its low half.
+const CHANGED_EXCEPTIONS: [u8; 16] = [1, 0, 0, 0, 0, 0, 0, 0, 0, b'\t', b'\n', 0, b'<', b']', 0, 0];
+
+impl ByteSet for ChangedTextByte {
+    ghost test = { longer.is_changed_text_byte };
+
+    #[inline(always)]
+    #[tactic(auto, unfolding(crate::specs::Lookahead::is_changed_text_byte))]
+    fn has(byte: u8) -> bool {
+        TextByte::has(byte) | changes_run(byte)
+    }
+
+    #[inline(always)]
+    fn others(block: u8x16) -> u64 {
+        let exceptions = by_low(CHANGED_EXCEPTIONS, block).simd_eq(block);
+        let controls = block.simd_lt(u8x16::splat(32)) ^ exceptions;
+        let others = controls ^ block.simd_eq(u8x16::splat(b'\r'));
+        (others | block.simd_eq(u8x16::splat(239))).to_bitmask()
+    }
+}
+
 /// Returns the offset of the `<` after the character data from `at` on, if it needs no replacement. Most often all its bytes are
 /// ASCII, for which the test is quicker.
 #[inline(always)]
@@ -130,6 +154,19 @@ fn changes_run(byte: u8) -> bool
     (byte == b'&') | (byte == b'\r')
 }
 
+/// Returns the end of the bytes from `at` on that need no test. Behind a byte that changes character data, no other such byte does.
+#[inline(always)]
+fn stretch_end(text: &str, at: usize, is_verbatim: bool) -> usize
+    requires { IsCharBoundary text.now at }
+    ensures looked { GoesOnLooking text.entry.now at result is_verbatim }
+    ensures onward { at ≤ result }
+{
+    if is_verbatim {
+        return skip_set::<TextByte>(text, at);
+    }
+    skip_set::<ChangedTextByte>(text, at)
+}
+
 /// Returns how far the character data from the cursor on is valid, up to a `<`, a `]]>` or the end.
 pub fn scan_character_data(from: Cursor<'_>) -> Lookahead
     ensures { LooksAhead (longer.ends_run from.entry.text.now) longer.changes_run
@@ -149,7 +186,7 @@ pub fn scan_character_data(from: Cursor<'_>) -> Lookahead
             break;
         }
         is_verbatim &= !changes_run(here);
-        end = skip_set::<TextByte>(text, next);
+        end = stretch_end(text, next, is_verbatim);
     }
     Lookahead { end, is_verbatim }
 }

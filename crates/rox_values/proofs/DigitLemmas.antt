@@ -1,12 +1,14 @@
 -- Digits, one after another.
-use Rattle.std.proofs.Common.{◌≡◌, ℕ, ◌+◌, ◌*◌, ◌<◌, ◌≤◌, min, Bool, true, false, List, [], ◌∷◌, ◌++◌, length, get_or, drop, arith, add-zero, add_assoc, refl, sym, inl, inr}
+use Rattle.std.proofs.Common.{◌≡◌, ℕ, ◌+◌, ◌*◌, ◌<◌, ◌≤◌, ◌&&◌, min, nat_lt, nat_eq, not, Bool, true, false, List, [], ◌∷◌, ◌++◌, length, get_or, drop, arith, add-zero, add_assoc, refl, sym, inl, inr}
 use Rattle.std.specs.List.{prefix_len, slice_range}
 use Rattle.std.proofs.lemmas.List.{drop_more, drop_all}
 use Rattle.std.proofs.lemmas.Bool.{cases_lt}
+use Rattle.std.proofs.lemmas.Bool.Decides.{nat_tests}
 use Rattle.std.proofs.lemmas.Grind.{fold-append}
 use Rattle.std.proofs.Math.Nat.{mul-le-mul_left, mul-le-mul_right}
 use Rattle.rox_grammar.specs.References.{bytes_end, number, digit_value}
 use Rattle.rox_reading.proofs.Stretches.{slice-more}
+use Rattle.rox_values.specs.Values.{base_of}
 
 pub bytes_on : (p : ℕ → Bool) (src : List ℕ) (i : ℕ) → i < length src → p (get_or src i 0) ≡ true → bytes_end p src (i + 1) ≡ bytes_end p src i
 unfolding bytes_end
@@ -42,3 +44,10 @@ pub one_more_digit : (base : ℕ) (src : List ℕ) (at e limit : ℕ) → 0 < ba
     → min (number base (slice_range src at (e + 1))) limit ≡ min (min (number base (slice_range src at e)) limit * base + digit_value (get_or src e 0)) limit
 one_more_digit base src at e limit some le lt =
     rw (slice-more src at e 0 le lt, number_append base (get_or src e 0) (slice_range src at e)) (sym (stopped base (number base (slice_range src at e)) (digit_value (get_or src e 0)) limit some))
+
+pub equal_below : (m n limit : ℕ) → m < limit → (nat_lt m limit && not (nat_eq m n)) ≡ false → m ≡ n
+equal_below m n limit below h = grind (arith, nat_tests)
+
+pub base_some : (hexadecimal : Bool) → 0 < base_of hexadecimal
+base_some true = omega arith
+base_some false = omega arith

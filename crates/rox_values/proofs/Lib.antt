@@ -1,4 +1,5 @@
 pub mod DigitLemmas
+pub mod NamedLemmas
 pub mod Naming
 pub mod ListedLemmas
 pub mod InnerBytes

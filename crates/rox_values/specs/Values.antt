@@ -1,5 +1,5 @@
 -- How the texts and references in the code relate to what is read.
-use Rattle.std.specs.Prelude.{◌≡◌, ◌≢◌, ◌<◌, ◌≤◌, ◌-◌, ◌^◌, ℕ, Bool, true, false, not, ◌==◌, ◌||◌, List, [], ◌++◌, Option, Some, None, Result, Ok, Err, IfOk, drop, length, min, slice_index, slice_range, take, if◌then◌else◌}
+use Rattle.std.specs.Prelude.{◌≡◌, ◌≢◌, ◌<◌, ◌≤◌, ◌-◌, ◌^◌, ℕ, Bool, true, false, not, ◌==◌, ◌||◌, List, [], ◌++◌, Option, Some, None, Result, Ok, Err, IfOk, drop, length, min, nat_lt, slice_index, slice_range, take, if◌then◌else◌}
 use Rattle.std.specs.List.{list_any}
 use Rattle.std.specs.Str.{IsCharBoundary}
 use Rattle.rox_grammar.specs.declared.fault.Fault.{Fault}
@@ -55,6 +55,18 @@ pub record ReadsReference (old new : Cursor) (result : Result Reference Fault) (
   pub onward : IfOk result (λ _. old.pos < new.pos)
   pub name : IfOk result (HasItsName old.text.now)
 
+-- A `&` is at `i`, and a `;` at `j` behind it.
+pub record IsBeforeSemicolon (src : List ℕ) (i j : ℕ) : Type 0 where
+  pub here : slice_index src i ≡ 38
+  pub behind : slice_index src j ≡ 59
+  pub onward : i < j
+
+-- The reference at `i`, up to `j`, has one of the predefined names, that of the character `c`.
+pub record NamesCharacter (src : List ℕ) (i c j : ℕ) : Type 0 where
+  pub value : reading.name_reference_at src i ≡ Ok (reading.character_of c, j)
+  pub onward : i < j
+  pub cut : IsCharBoundary src j
+
 -- A text, with what the buffer holds if it had to be changed.
 abbrev pub piece_view : TextValue → List ℕ → reading.ReadText
 piece_view (piece.Plain s) buffer = record { value = s.now; borrowed = true }
@@ -104,10 +116,10 @@ pub record BeginsMainData (text : List ℕ) (at stop : ℕ) : Type 0 where
   pub begins : BeginsData text at stop
   pub no_line_end : slice_index text at ≢ 13
 
--- The number that a digit means, which is small whatever the byte is.
-pub record IsDigitValue (byte number_of : ℕ) : Type 0 where
-  pub value : number_of ≡ digit_value byte
-  pub small : number_of < 256
+-- Whether the byte is a digit, and the number that it means if it is one.
+pub record TellsDigit (hexadecimal : Bool) (byte found : ℕ) : Type 0 where
+  pub is : is_digit_of hexadecimal byte ≡ nat_lt found (base_of hexadecimal)
+  pub value : found < base_of hexadecimal → found ≡ digit_value byte
 
 -- The offset `place` of a text is not before `at`.
 pub record IsOnward (text : List ℕ) (at place : ℕ) : Type 0 where

@@ -1,6 +1,6 @@
 //! References to characters and to entities, and the replacement text that one names (XML 1.0 sections 4.1 and 4.6).
 
-ghost use Rattle.std.specs.Prelude.{◌≡◌, ◌≤◌, ◌<◌, List, length, slice_index};
+ghost use Rattle.std.specs.Prelude.{◌≡◌, ◌≤◌, ◌<◌, IfSome, List, length, slice_index};
 ghost use Rattle.std.specs.Str.{IsCharBoundary};
 ghost use Rattle.rox_grammar.specs.Chars.{is_char, is_name_char};
 ghost use Rattle.rox_grammar.specs.Entities.{Entity, text_of};
@@ -9,7 +9,7 @@ ghost use Rattle.rox_grammar.specs.Runs as grammar;
 ghost use Rattle.rox_reading.specs.Values as reading;
 ghost use Rattle.rox_bytes.specs.ScanResults.{Finds};
 ghost use Rattle.rox_values.specs.DeclaredEntities.{AreDeclared};
-ghost use Rattle.rox_values.specs.Values.{AreDigits, FindsEntity, IsDigitValue, IsOnward, ReadsReference, base_of, is_digit_of};
+ghost use Rattle.rox_values.specs.Values.{AreDigits, FindsEntity, IsBeforeSemicolon, IsOnward, NamesCharacter, ReadsReference, TellsDigit, base_of, is_digit_of};
 
 use crate::context::Context;
 use rox_bytes::byte_set::{PartByte, skip_set};
@@ -34,32 +34,28 @@ struct Digits {
     number: u64,
 }
 
-/// Returns whether a byte is a digit, of base 16 or of base 10.
-#[inline(always)]
-fn is_digit(byte: u8, hexadecimal: bool) -> bool
-    ensures { result ≡ is_digit_of hexadecimal byte }
-{
-    let decimal = matches!(byte, b'0'..=b'9');
-    if hexadecimal {
-        decimal || matches!(byte, b'a'..=b'f' | b'A'..=b'F')
-    } else {
-        decimal
-    }
-}
+// At the index of each hexadecimal digit the character whose number is 64 and what the digit means, and else a `.`.
+static HEX_DIGITS: [u8; 256] = *b"\
+    ................................\
+    ................@ABCDEFGHI......\
+    .JKLMNO.........................\
+    .JKLMNO.........................\
+    ................................\
+    ................................\
+    ................................\
+    ................................";
 
-/// Returns the number that a digit means.
-#[inline]
-fn digit_value(byte: u8) -> u64
-    ensures { IsDigitValue byte result }
+/// Returns the number that a digit means, of base 16 or of base 10. If the byte is no digit, returns a number that is not below the
+/// base. A table takes no jumps that a processor would foretell badly.
+#[inline(always)]
+fn digit_of(byte: u8, hexadecimal: bool) -> u64
+    ensures { TellsDigit hexadecimal byte result }
 {
-    let value = if byte <= b'9' {
-        byte.saturating_sub(48)
-    } else if byte <= b'F' {
-        byte.saturating_sub(55)
+    if hexadecimal {
+        HEX_DIGITS[byte as usize].wrapping_sub(64) as u64
     } else {
-        byte.saturating_sub(87)
-    };
-    value as u64
+        byte.wrapping_sub(48) as u64
+    }
 }
 
 /// Returns the digits that start at `at`, if there are any.
@@ -73,8 +69,12 @@ fn read_digits(text: &str, at: usize, hexadecimal: bool) -> Digits
     let bytes = text.as_bytes();
     let mut end = at;
     let mut number: u64 = 0;
-    while end < bytes.len() && is_digit(bytes[end], hexadecimal) {
-        number = (number * base + digit_value(bytes[end])).min(TOO_LARGE);
+    while end < bytes.len() {
+        let digit = digit_of(bytes[end], hexadecimal);
+        if digit >= base {
+            break;
+        }
+        number = (number * base + digit).min(TOO_LARGE);
         end += 1;
     }
     Digits { end, number }
@@ -149,6 +149,38 @@ fn name_end(from: Cursor<'_>) -> usize
     run_end::<NameChar>(text, skip_set::<PartByte>(text, from.pos))
 }
 
+/// Returns the character of the reference from `at` up to the `;` at `end` if it has one of the five predefined names, and the offset
+/// after it.
+#[inline(always)]
+fn named_up_to(text: &str, at: usize, end: usize) -> Option<(char, usize)>
+    requires { IsBeforeSemicolon text.now at end }
+    ensures { IfSome result (λ x. NamesCharacter text.now at x.0 x.1) }
+{
+    match predefined(&text[at + 1..end]) {
+        Some(character) => Some((character, end + 1)),
+        None => None,
+    }
+}
+
+/// Returns the character of the reference at `at` to one of the five predefined names, and the offset after it. Most references to
+/// names are such, so these are told by their bytes first.
+#[inline(always)]
+fn named_character(text: &str, at: usize) -> Option<(char, usize)>
+    requires { slice_index text.now at ≡ 38 }
+    ensures { IfSome result (λ x. NamesCharacter text.now at x.0 x.1) }
+{
+    if is_at(text, at + 4, b';') {
+        return named_up_to(text, at, at + 4);
+    }
+    if is_at(text, at + 3, b';') {
+        return named_up_to(text, at, at + 3);
+    }
+    if is_at(text, at + 5, b';') {
+        return named_up_to(text, at, at + 5);
+    }
+    None
+}
+
 /// Reads the reference at the cursor to a name, from its `&` to its `;`.
 #[inline(always)]
 #[tactic(auto, unfolding(rox_reading::specs::Values::name_reference_at))]
@@ -159,6 +191,10 @@ fn name_reference<'input>(cursor: &mut Cursor<'input>) -> Result<Reference<'inpu
     let reference = cursor.pos;
     let text = cursor.text;
     let start = after_byte(text, reference, b'&');
+    if let Some((character, end)) = named_character(text, reference) {
+        cursor.pos = end;
+        return Ok(Reference::Character(character));
+    }
     if !begins::<NameStart>(text, start) {
         return Err(Fault::MalformedEntityReference(reference));
     }
