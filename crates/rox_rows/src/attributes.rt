@@ -253,6 +253,9 @@ impl<'input> AttributeTable<'input> {
                 value: item.value,
                 namespace: item.namespace,
             };
+            if self.unusual.len() < self.unusual.capacity() {
+                return self.put_unusual(unusual, places);
+            }
             return self.push_unusual(unusual, places).is_ok();
         };
         self.put_usual(item, places, before)

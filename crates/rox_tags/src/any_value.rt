@@ -128,6 +128,16 @@ fn shared_value<'input>(
     value
 }
 
+/// Returns whether a reference is at `at` to a name whose first letter no predefined name has. It names an entity, which the general
+/// reader opens.
+#[inline(always)]
+fn names_other(text: &str, at: usize) -> bool {
+    if !is_at(text, at, b'&') || at + 1 >= text.len() {
+        return false;
+    }
+    !matches!(text.as_bytes()[at + 1], b'#' | b'a' | b'g' | b'l' | b'q')
+}
+
 /// A value, and the offset at which it ends.
 #[derive(Drop)]
 pub struct AnyValue<'input> {
@@ -154,6 +164,10 @@ pub fn any_value<'input>(
     if ends.first >= end {
         let value = StringStorage::Borrowed(&text[start..end]);
         return Some(AnyValue { value, end });
+    }
+    // No memory is taken for a value that is given up.
+    if names_other(text, ends.first) {
+        return None;
     }
     let changed = changed_value(alloc, text, start, ends.first, end, lacking)?;
     let value = shared_value(alloc, recent, changed, lacking)?;
