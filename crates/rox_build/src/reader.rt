@@ -6,7 +6,9 @@ ghost use Rattle.rox_reading.specs.WholeText as whole;
 ghost use Rattle.rox_builder.specs.BuilderState.{IsConsistent, tables_of};
 ghost use Rattle.rox_rows.specs.Rows.{node_rows};
 ghost use Rattle.rox_rows.specs.declared.row.NodeKind.TheVariants as kind;
-ghost use Rattle.rox_builder.specs.Outcomes.{ScansAs};
+ghost use Rattle.rox_builder.specs.Outcomes.{ParsesAs, ScansAs};
+ghost use Rattle.rox_builder.specs.Readiness.{MayReadTag};
+ghost use Rattle.rox_reading.specs.Machine as machine;
 ghost use Rattle.rox_build.specs.Asking.{MayReadAsking};
 ghost use Rattle.rox_build.specs.Requests.{Allows, MayAsk};
 ghost use Rattle.rox_build.specs.Built.{Built, BuiltRefusal};
@@ -55,6 +57,25 @@ fn misc<'input>(
     Ok(())
 }
 
+/// Reads the start tag of the root element, from its `<`.
+#[inline(always)]
+fn root_start<'input>(
+    alloc: Global,
+    cursor: &mut Cursor<'input>,
+    builder: &mut Builder<'input>,
+    context: Context<'_, 'input>,
+) -> Result<(), ParseError<'input>>
+    requires { MayReadTag cursor.old builder.old }
+    ensures { ParsesAs machine.tag_step context.entry cursor.old cursor.new builder.old builder.new
+        result }
+{
+    match root_element(alloc, cursor, builder) {
+        RootLook::Read => Ok(()),
+        RootLook::NotRead => element(alloc, cursor, builder, context),
+        RootLook::Lacking => Err(ParseError::Memory),
+    }
+}
+
 /// Reads the root element and what follows it, if `<` is at the cursor. Returns whether `<` is there.
 #[inline(always)]
 fn body<'input>(
@@ -70,11 +91,7 @@ fn body<'input>(
         return Ok(false);
     }
     let context = Context::main_text(entities);
-    match root_element(alloc, cursor, builder) {
-        RootLook::Read => {}
-        RootLook::NotRead => element(alloc, cursor, builder, context)?,
-        RootLook::Lacking => return Err(ParseError::Memory),
-    }
+    root_start(alloc, cursor, builder, context)?;
     content(alloc, cursor, builder, context)?;
     misc(alloc, cursor, builder)?;
     Ok(true)

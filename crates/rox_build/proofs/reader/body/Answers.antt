@@ -1,22 +1,23 @@
-use Rattle.std.proofs.Common.{◌≡◌, ◌≤◌, ℕ, List, Ok, sym, ap, subst, ◌∙◌, length, slice_index, leb-true, rules, arith}
-use Rattle.std.proofs.lemmas.Grind.{common_steps}
+use Rattle.std.proofs.Common.{◌≡◌, ◌≤◌, ℕ, List, Ok, refl, sym, ap, subst, ◌∙◌, length, slice_index, leb-true}
+use Rattle.std.proofs.lemmas.Bool.{leb-false}
 use Rattle.std.proofs.lemmas.List.{get_or_past}
 use Rattle.std.proofs.lemmas.Result.{err_from_is_err_and}
 use Rattle.rox_reading.specs.Refusals.{lifted}
-use Rattle.rox_reading.specs.Machine.{main_text, drive, tag_step}
-use Rattle.rox_reading.specs.State.{State}
+use Rattle.rox_reading.specs.Machine.{main_text, drive}
 use Rattle.rox_reading.specs.WholeText.{misc}
 use Rattle.rox_values.specs.Refusals.{IsFailure, IsRefusal}
 use Rattle.rox_values.specs.DeclaredEntities.{AreDeclared}
 use Rattle.rox_values.specs.Contexts.{context_of}
 use Rattle.rox_values.specs.declared.context.Context.{Context}
-use Rattle.rox_builder.specs.BuilderState.{IsInState}
 use Rattle.rox_build.proofs.Wholes.{no_body, tag_fails_body, content_fails_body, misc_fails_body, a_body}
 use Rattle.rox_build.proofs.reader.body.Goals as goal
-use Rattle.rox_build.proofs.reader.body.Goals.{in-Read, in-NotRead+in_ok-element-in-NotRead, then-is_at_end-via-then-is_at_end, then-is_at_end-via-else-is_at_end+then-as_bytes-cursor-ne60}
+use Rattle.rox_build.proofs.reader.body.Goals.{then-is_at_end-via-then-is_at_end, then-is_at_end-via-else-is_at_end+then-as_bytes-cursor-ne60}
 
 nothing : (src : List ℕ) (i : ℕ) → length src ≤ i → slice_index src i ≡ 60 → ⊥
 nothing src i past is = let k = get_or_past src i 0 past in cc (k, is)
+
+less_than : (src xs : List ℕ) (i at : ℕ) → xs ≡ src → i ≡ at → slice_index xs i ≡ 60 → slice_index src at ≡ 60
+less_than src xs i at e here is = ap (λ (k : ℕ). slice_index src k) (sym here) ∙ ap (λ (ys : List ℕ). slice_index ys i) (sym e) ∙ is
 
 pub returns-then-is_at_end : goal.returns-then-is_at_end
 returns-then-is_at_end c = record {
@@ -27,32 +28,31 @@ returns-then-is_at_end c = record {
         | then-is_at_end-via-else-is_at_end+then-as_bytes-cursor-ne60 w ↦ λ is. w.if-as_bytes-cursor-ne60.true (ap (λ (xs : List ℕ). slice_index xs c.args.cursor.now.pos) w.as_bytes.ensures.value ∙ ap (λ (i : ℕ). slice_index src i) sees.here ∙ is)
       ] in
       (s, no_body limit es src s other, sees);
-  goes = first_of (search rules, grind (arith, common_steps));
+  goes = record { source = refl; fine = c.requires.fine };
 }
 
-pub returns-in_err-element-in-NotRead : goal.returns-in_err-element-in-NotRead
-returns-in_err-element-in-NotRead c = record {
+pub root_start-requires : goal.root_start-requires
+root_start-requires c = record {
+  there = leb-false _ _ (sym c.is_at_end.ensures ∙ c.if-is_at_end.false);
+  here = less_than c.args.cursor.now.text.now c.as_bytes.result.now c.args.cursor.now.pos c.args.cursor.now.pos c.as_bytes.ensures.value refl c.if-as_bytes-cursor-ne60.false;
+  fine = c.requires.fine;
+}
+
+pub returns-in_err-root_start : goal.returns-in_err-root_start
+returns-in_err-root_start c = record {
   value = λ limit end es s declared sees.
       let src = c.args.cursor.now.text.now in
       let w = context_of limit es c.main_text-context.result in
       let main : w ≡ main_text limit es = ap (context_of limit es) c.main_text-context.ensures in
       let held : AreDeclared es c.main_text-context.result.entities.now = subst (λ (h : Context). AreDeclared es h.entities.now) (sym c.main_text-context.ensures) declared in
-      let here : slice_index src s.at ≡ 60 = ap (λ (i : ℕ). slice_index src i) (sym sees.here) ∙ ap (λ (xs : List ℕ). slice_index xs c.args.cursor.now.pos) (sym c.as_bytes.ensures.value) ∙ c.if-as_bytes-cursor-ne60.false in
-      let same = c.root_element.ensures.same c.in-NotRead.is in
-      let refused = c.in_err-element-in-NotRead.ensures.value limit end es s held (rw same (c.root_element.ensures.other c.in-NotRead.is limit end s sees)) in
-      let fails : IsRefusal c.in_err-element-in-NotRead.field-0.0 (tag_step w src s) = rw same at refused in
+      let here = less_than src _ _ s.at c.as_bytes.ensures.value sees.here c.if-as_bytes-cursor-ne60.false in
       let q = err_from_is_err_and c.from_residual.result c.from_residual.ensures.1 in
-      rw (q.1, q.2) (tag_fails_body limit es w src s c.in_err-element-in-NotRead.field-0.0 main here fails);
+      rw (q.1, q.2) (tag_fails_body limit es w src s c.in_err-root_start.field-0.0 main here (c.in_err-root_start.ensures.value limit end es s held sees));
   goes = let p = err_from_is_err_and c.from_residual.result c.from_residual.ensures.1 in rw p.1 tt;
 }
 
 pub content-requires : goal.content-requires
-content-requires c = record {
-  fine = elim c.match-root_element.branch [
-    | in-Read w ↦ rw w.builder-is (c.root_element.ensures.goes (λ is. absurd (cc (is, w.in-Read.is)))).fine
-    | in-NotRead+in_ok-element-in-NotRead w ↦ rw w.builder-is w.in_ok-element-in-NotRead.ensures.goes.fine
-  ];
-}
+content-requires c = record { fine = c.in_ok-root_start.ensures.goes.fine }
 
 pub returns-in_err-content : goal.returns-in_err-content
 returns-in_err-content c = record {
@@ -61,24 +61,11 @@ returns-in_err-content c = record {
       let w = context_of limit es c.main_text-context.result in
       let main : w ≡ main_text limit es = ap (context_of limit es) c.main_text-context.ensures in
       let held : AreDeclared es c.main_text-context.result.entities.now = subst (λ (h : Context). AreDeclared es h.entities.now) (sym c.main_text-context.ensures) declared in
-      let here : slice_index src s.at ≡ 60 = ap (λ (i : ℕ). slice_index src i) (sym sees.here) ∙ ap (λ (xs : List ℕ). slice_index xs c.args.cursor.now.pos) (sym c.as_bytes.ensures.value) ∙ c.if-as_bytes-cursor-ne60.false in
-      let s1 : c.match-root_element.cursor.text.now ≡ src = elim c.match-root_element.branch [
-        | in-Read x ↦ rw x.cursor-is (ap (λ t. t.now) (c.root_element.ensures.goes (λ is. absurd (cc (is, x.in-Read.is)))).source)
-        | in-NotRead+in_ok-element-in-NotRead x ↦
-            let same = c.root_element.ensures.same x.in-NotRead.is in
-            rw x.cursor-is (ap (λ t. t.now) x.in_ok-element-in-NotRead.ensures.goes.source ∙ ap (λ d. d.text.now) same)
-      ] in
-      let tag = c.match-root_element in
-      let e1 : (t : State) × (tag_step w src s ≡ Ok t) × IsInState limit end t tag.cursor tag.builder = elim tag.branch [
-        | in-Read x ↦ rw (x.cursor-is, x.builder-is) (c.root_element.ensures.value x.in-Read.is w end s sees)
-        | in-NotRead+in_ok-element-in-NotRead x ↦
-            let same = c.root_element.ensures.same x.in-NotRead.is in
-            let shown = c.root_element.ensures.other x.in-NotRead.is limit end s sees in
-            let read = x.in_ok-element-in-NotRead.ensures.value limit end es s held (rw same shown) in
-            rw (x.cursor-is, x.builder-is) (rw same at read)
-      ] in
+      let here = less_than src _ _ s.at c.as_bytes.ensures.value sees.here c.if-as_bytes-cursor-ne60.false in
+      let s1 = ap (λ t. t.now) c.in_ok-root_start.ensures.goes.source in
+      let e1 = c.in_ok-root_start.ensures.value limit end es s held sees in
       let q = err_from_is_err_and c.from_residual-in_err-content.result c.from_residual-in_err-content.ensures.1 in
-      let fails : IsRefusal c.in_err-content.field-0.0 (drive w (length src) src e1.0) = rw s1 at (c.in_err-content.ensures.value limit end es e1.0 held e1.2) in
+      let fails : IsRefusal c.in_err-content.field-0.0 (drive w (length src) src e1.0) = subst (λ (x : List ℕ). IsRefusal c.in_err-content.field-0.0 (drive w (length x) x e1.0)) s1 (c.in_err-content.ensures.value limit end es e1.0 held e1.2) in
       rw (q.1, q.2) (content_fails_body limit es w src s e1.0 c.in_err-content.field-0.0 main here e1.1 fails);
   goes = let p = err_from_is_err_and c.from_residual-in_err-content.result c.from_residual-in_err-content.ensures.1 in rw p.1 tt;
 }
@@ -90,27 +77,14 @@ returns-in_err-misc c = record {
       let w = context_of limit es c.main_text-context.result in
       let main : w ≡ main_text limit es = ap (context_of limit es) c.main_text-context.ensures in
       let held : AreDeclared es c.main_text-context.result.entities.now = subst (λ (h : Context). AreDeclared es h.entities.now) (sym c.main_text-context.ensures) declared in
-      let here : slice_index src s.at ≡ 60 = ap (λ (i : ℕ). slice_index src i) (sym sees.here) ∙ ap (λ (xs : List ℕ). slice_index xs c.args.cursor.now.pos) (sym c.as_bytes.ensures.value) ∙ c.if-as_bytes-cursor-ne60.false in
-      let s1 : c.match-root_element.cursor.text.now ≡ src = elim c.match-root_element.branch [
-        | in-Read x ↦ rw x.cursor-is (ap (λ t. t.now) (c.root_element.ensures.goes (λ is. absurd (cc (is, x.in-Read.is)))).source)
-        | in-NotRead+in_ok-element-in-NotRead x ↦
-            let same = c.root_element.ensures.same x.in-NotRead.is in
-            rw x.cursor-is (ap (λ t. t.now) x.in_ok-element-in-NotRead.ensures.goes.source ∙ ap (λ d. d.text.now) same)
-      ] in
-      let tag = c.match-root_element in
-      let e1 : (t : State) × (tag_step w src s ≡ Ok t) × IsInState limit end t tag.cursor tag.builder = elim tag.branch [
-        | in-Read x ↦ rw (x.cursor-is, x.builder-is) (c.root_element.ensures.value x.in-Read.is w end s sees)
-        | in-NotRead+in_ok-element-in-NotRead x ↦
-            let same = c.root_element.ensures.same x.in-NotRead.is in
-            let shown = c.root_element.ensures.other x.in-NotRead.is limit end s sees in
-            let read = x.in_ok-element-in-NotRead.ensures.value limit end es s held (rw same shown) in
-            rw (x.cursor-is, x.builder-is) (rw same at read)
-      ] in
+      let here = less_than src _ _ s.at c.as_bytes.ensures.value sees.here c.if-as_bytes-cursor-ne60.false in
+      let s1 = ap (λ t. t.now) c.in_ok-root_start.ensures.goes.source in
+      let e1 = c.in_ok-root_start.ensures.value limit end es s held sees in
       let s2 = ap (λ t. t.now) c.in_ok-content.ensures.goes.source ∙ s1 in
       let e2 = c.in_ok-content.ensures.value limit end es e1.0 held e1.2 in
-      let inner : drive w (length src) src e1.0 ≡ Ok e2.0 = rw s1 at e2.1 in
+      let inner : drive w (length src) src e1.0 ≡ Ok e2.0 = subst (λ (x : List ℕ). drive w (length x) x e1.0 ≡ Ok e2.0) s1 e2.1 in
       let q = err_from_is_err_and c.from_residual-in_err-misc.result c.from_residual-in_err-misc.ensures.1 in
-      let fails : IsFailure c.in_err-misc.field-0.0 (lifted (misc limit (length src) src e2.0)) = rw s2 at (c.in_err-misc.ensures.value limit end e2.0 e2.2) in
+      let fails : IsFailure c.in_err-misc.field-0.0 (lifted (misc limit (length src) src e2.0)) = subst (λ (x : List ℕ). IsFailure c.in_err-misc.field-0.0 (lifted (misc limit (length x) x e2.0))) s2 (c.in_err-misc.ensures.value limit end e2.0 e2.2) in
       rw (q.1, q.2) (misc_fails_body limit es w src s e1.0 e2.0 c.in_err-misc.field-0.0 main here e1.1 inner fails);
   goes = let p = err_from_is_err_and c.from_residual-in_err-misc.result c.from_residual-in_err-misc.ensures.1 in rw p.1 tt;
 }
@@ -122,27 +96,14 @@ returns c = record {
       let w = context_of limit es c.main_text-context.result in
       let main : w ≡ main_text limit es = ap (context_of limit es) c.main_text-context.ensures in
       let held : AreDeclared es c.main_text-context.result.entities.now = subst (λ (h : Context). AreDeclared es h.entities.now) (sym c.main_text-context.ensures) declared in
-      let here : slice_index src s.at ≡ 60 = ap (λ (i : ℕ). slice_index src i) (sym sees.here) ∙ ap (λ (xs : List ℕ). slice_index xs c.args.cursor.now.pos) (sym c.as_bytes.ensures.value) ∙ c.if-as_bytes-cursor-ne60.false in
-      let s1 : c.match-root_element.cursor.text.now ≡ src = elim c.match-root_element.branch [
-        | in-Read x ↦ rw x.cursor-is (ap (λ t. t.now) (c.root_element.ensures.goes (λ is. absurd (cc (is, x.in-Read.is)))).source)
-        | in-NotRead+in_ok-element-in-NotRead x ↦
-            let same = c.root_element.ensures.same x.in-NotRead.is in
-            rw x.cursor-is (ap (λ t. t.now) x.in_ok-element-in-NotRead.ensures.goes.source ∙ ap (λ d. d.text.now) same)
-      ] in
-      let tag = c.match-root_element in
-      let e1 : (t : State) × (tag_step w src s ≡ Ok t) × IsInState limit end t tag.cursor tag.builder = elim tag.branch [
-        | in-Read x ↦ rw (x.cursor-is, x.builder-is) (c.root_element.ensures.value x.in-Read.is w end s sees)
-        | in-NotRead+in_ok-element-in-NotRead x ↦
-            let same = c.root_element.ensures.same x.in-NotRead.is in
-            let shown = c.root_element.ensures.other x.in-NotRead.is limit end s sees in
-            let read = x.in_ok-element-in-NotRead.ensures.value limit end es s held (rw same shown) in
-            rw (x.cursor-is, x.builder-is) (rw same at read)
-      ] in
+      let here = less_than src _ _ s.at c.as_bytes.ensures.value sees.here c.if-as_bytes-cursor-ne60.false in
+      let s1 = ap (λ t. t.now) c.in_ok-root_start.ensures.goes.source in
+      let e1 = c.in_ok-root_start.ensures.value limit end es s held sees in
       let s2 = ap (λ t. t.now) c.in_ok-content.ensures.goes.source ∙ s1 in
       let e2 = c.in_ok-content.ensures.value limit end es e1.0 held e1.2 in
-      let inner : drive w (length src) src e1.0 ≡ Ok e2.0 = rw s1 at e2.1 in
+      let inner : drive w (length src) src e1.0 ≡ Ok e2.0 = subst (λ (x : List ℕ). drive w (length x) x e1.0 ≡ Ok e2.0) s1 e2.1 in
       let e3 = c.in_ok-misc.ensures.value limit end e2.0 e2.2 in
-      let after : lifted (misc limit (length src) src e2.0) ≡ Ok e3.0 = rw s2 at e3.1 in
+      let after : lifted (misc limit (length src) src e2.0) ≡ Ok e3.0 = subst (λ (x : List ℕ). lifted (misc limit (length x) x e2.0) ≡ Ok e3.0) s2 e3.1 in
       (e3.0, a_body limit es w src s e1.0 e2.0 e3.0 main here e1.1 inner after, e3.2);
-  goes = first_of (search rules, grind (arith, common_steps));
+  goes = record { source = c.in_ok-misc.ensures.goes.source ∙ c.in_ok-content.ensures.goes.source ∙ c.in_ok-root_start.ensures.goes.source; fine = c.in_ok-misc.ensures.goes.fine };
 }
