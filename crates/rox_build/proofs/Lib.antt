@@ -1,3 +1,4 @@
+pub mod ParsedResults
 pub mod Declared
 pub mod LineRuns
 pub mod ChangedRuns

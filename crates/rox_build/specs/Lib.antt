@@ -1,4 +1,5 @@
 pub mod Requests
+pub mod ParsedResults
 pub mod OpenedTexts
 pub mod PlainSteps
 pub mod PlainOutcomes

@@ -13,6 +13,7 @@ ghost use Rattle.rox_builder.specs.BuilderState.{Represents};
 ghost use Rattle.rox_names.specs.OpenElements.{HasName};
 ghost use Rattle.rox_names.specs.SpelledNames.{bytes_view};
 ghost use Rattle.rox_builder.specs.Outcomes.{ParsesAs, ScansAs, ScansIn, ScansWithin, SpansOpen};
+ghost use Rattle.rox_build.specs.ParsedResults.{parsed_of};
 ghost use Rattle.rox_builder.specs.Readiness.{MayRead, MayReadDeclared, MayReadOpening, MayReadTag};
 
 use rox_builder::builder::Builder;
@@ -28,6 +29,17 @@ use rox_values::context::Context;
 use rox_values::parse_error::ParseError;
 use rox_values::text_value::cdata_text;
 use std::alloc::Global;
+
+/// Returns what a result is for a caller that opens entities.
+#[inline(always)]
+pub fn parsed<'input>(read: Result<(), Failure>) -> Result<(), ParseError<'input>>
+    ensures { result ≡ parsed_of read }
+{
+    match read {
+        Ok(()) => Ok(()),
+        Err(failure) => Err(ParseError::from(failure)),
+    }
+}
 
 /// Reads a comment, from `<!--`.
 pub fn comment<'input>(
@@ -145,11 +157,10 @@ pub fn element<'input>(
     let (tag, left) = start_tag(alloc, cursor, tables, buffers, around, context)?;
     builder.openings_left = left;
     if tag.empty {
-        builder.leaf(alloc, start, cursor.pos, NodeKind::Element(tag.element))?;
-        return Ok(());
+        let kind = NodeKind::Element(tag.element);
+        return parsed(builder.leaf(alloc, start, cursor.pos, kind));
     }
-    builder.open_element(alloc, cursor.text, start, &tag)?;
-    Ok(())
+    parsed(builder.open_element(alloc, cursor.text, start, &tag))
 }
 
 /// Returns the span of the local part of a name that ends at `end`.
@@ -249,13 +260,10 @@ pub fn markup<'input>(
     let bytes = cursor.text.as_bytes();
     let next = bytes[cursor.pos + 1];
     if next == b'!' {
-        comment_or_section(alloc, cursor, builder)?;
-        return Ok(());
+        return parsed(comment_or_section(alloc, cursor, builder));
     }
     if next == b'?' {
-        instruction(alloc, cursor, builder)?;
-        return Ok(());
+        return parsed(instruction(alloc, cursor, builder));
     }
-    element(alloc, cursor, builder, context)?;
-    Ok(())
+    element(alloc, cursor, builder, context)
 }

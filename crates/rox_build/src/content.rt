@@ -12,7 +12,7 @@ ghost use Rattle.rox_build.specs.OpenedTexts.{GivesPiece, JoinsWhole, OpensText,
 ghost use Rattle.rox_builder.specs.Outcomes.{MayStep, ParsesAs};
 ghost use Rattle.rox_builder.specs.Readiness.{MayReadTo};
 
-use crate::constructs::{end_tag, markup};
+use crate::constructs::{end_tag, markup, parsed};
 use crate::quick_content::{quick_constructs, quick_markup_of_text, quick_repeating};
 use rox_builder::builder::Builder;
 use rox_grammar::failure::Failure;
@@ -43,8 +43,7 @@ fn character_data_pieces<'input>(
     let start = cursor.pos;
     let raw = raw_character_data(cursor)?;
     if raw.is_verbatim {
-        builder.slice_piece(start, cursor.pos, raw.text)?;
-        return Ok(());
+        return parsed(builder.slice_piece(start, cursor.pos, raw.text));
     }
     let stop = cursor.pos;
     cursor.pos = start;
@@ -314,11 +313,9 @@ fn step<'input>(
     }
     let next = bytes[cursor.pos + 1];
     if next == b'/' {
-        end_tag(alloc, cursor, builder, context)?;
-        return Ok(());
+        return parsed(end_tag(alloc, cursor, builder, context));
     }
-    markup(alloc, cursor, builder, context)?;
-    Ok(())
+    markup(alloc, cursor, builder, context)
 }
 
 /// Reads content up to the end tag of the root element.

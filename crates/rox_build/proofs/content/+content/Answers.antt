@@ -1,19 +1,22 @@
-use Rattle.std.proofs.Common.{◌≡◌, ◌<◌, ◌≤◌, ◌+◌, ◌-◌, suc, ℕ, true, false, List, Ok, Err, length, slice_index, slice_range, refl, sym, ap, ◌∙◌, arith, rules}
+use Rattle.std.proofs.Common.{◌≡◌, ◌<◌, ◌≤◌, ◌+◌, ◌-◌, suc, ℕ, Bool, true, false, List, Ok, length, slice_index, slice_range, refl, sym, ap, ◌∙◌, arith, rules}
 use Rattle.std.proofs.lemmas.Grind.{common_steps}
 use Rattle.std.proofs.lemmas.Bool.{leb-true, leb-false}
 use Rattle.std.proofs.lemmas.Result.{err_from_is_err_and}
 use Rattle.rox_grammar.specs.Content.{is_verbatim}
-use Rattle.rox_reading.specs.State.{depth_of}
+use Rattle.rox_grammar.specs.Entities.{Entity, Replacement}
+use Rattle.rox_reading.specs.Machine.{opener}
+use Rattle.rox_reading.specs.State.{State, depth_of}
 use Rattle.rox_reading.specs.Values.{ReadText}
 use Rattle.rox_scan.specs.DoctypeViews.{replacement_view}
 use Rattle.rox_values.specs.Contexts.{context_of}
-use Rattle.rox_values.proofs.Lifting.{refused_too}
-use Rattle.rox_builder.proofs.Stepping.{state_kept, two_stand, step_is_run, step_is_markup, plain_run, parted_run, run_fails, text_stepped, same_shows}
+use Rattle.rox_builder.specs.BuilderState.{GoesOn}
+use Rattle.rox_builder.proofs.Stepping.{fine_open, state_kept, two_stand, step_is_run, step_is_markup, plain_run, parted_run, run_fails, text_stepped, same_shows}
 use Rattle.rox_scan.proofs.ShortLemmas.{longer_run}
 use Rattle.rox_builder.proofs.Parting.{rests_of, parting_ends, parting_on, parting_fails, parting_stops, parting_out}
 use Rattle.rox_builder.proofs.TextLooping.{opened_depth, text_on, text_fails, text_at_end, text_spent}
 use Rattle.rox_builder.proofs.TextOpening.{inner_state, outer_state, opens_err, opens_reads, opens_refuses, opener_at}
 use Rattle.rox_build.proofs.LineRuns.{line_run}
+use Rattle.rox_build.proofs.ParsedResults.{goes_too, parses_too, whatever_it_is}
 use Rattle.rox_build.proofs.content.+content.Goals as goal
 
 -- ---- character data
@@ -36,26 +39,12 @@ character_data_pieces-returns-then-raw t c = record {
       let plain : is_verbatim raw ≡ true = sym c.in_ok-raw.ensures.verbatim ∙ c.if-raw.true in
       let text : ReadText = record { value = raw; borrowed = true } in
       rw (plain_run (context_of limit es c.args.context) src s c.args.cursor.now.pos j raw h.here c.in_ok-raw.ensures.read.value plain)
-      (text_stepped limit end s c.args.cursor.now c.raw_character_data.new.cursor b c.slice_piece.new.self (Ok c.in_ok-slice_piece.field-0) text h c.slice_piece.ensures.kept.tables c.slice_piece.ensures.kept.limit c.slice_piece.ensures.kept.openings_left
-      (c.in_ok-slice_piece.ensures.value end j s h.shows));
-  goes = search rules;
-}
-
-pub character_data_pieces-returns-in_err-slice_piece : goal.character_data_pieces-returns-in_err-slice_piece
-character_data_pieces-returns-in_err-slice_piece t c = record {
-  value = λ limit end es s declared h.
-      let src = c.args.cursor.now.text.now in
-      let b = c.args.builder.now in
-      let raw = c.in_ok-raw.raw.text.now in
-      let j = c.raw_character_data.new.cursor.pos in
-      let plain : is_verbatim raw ≡ true = sym c.in_ok-raw.ensures.verbatim ∙ c.if-raw.true in
-      let text : ReadText = record { value = raw; borrowed = true } in
-      let p = err_from_is_err_and c.from_residual-in_err-slice_piece.result c.from_residual-in_err-slice_piece.ensures.1 in
-      rw (p.1, p.2, plain_run (context_of limit es c.args.context) src s c.args.cursor.now.pos j raw h.here c.in_ok-raw.ensures.read.value plain)
-      (refused_too c.in_err-slice_piece.field-0.0 _
-      (text_stepped limit end s c.args.cursor.now c.raw_character_data.new.cursor b c.slice_piece.new.self (Err c.in_err-slice_piece.field-0.0) text h c.slice_piece.ensures.kept.tables c.slice_piece.ensures.kept.limit c.slice_piece.ensures.kept.openings_left
-      (c.in_err-slice_piece.ensures.value end j s h.shows)));
-  goes = let p = err_from_is_err_and c.from_residual-in_err-slice_piece.result c.from_residual-in_err-slice_piece.ensures.1 in rw p.1 tt;
+      (parses_too limit end _ _ _ _ _ c.parsed.ensures
+      (text_stepped limit end s c.args.cursor.now c.raw_character_data.new.cursor b c.slice_piece.new.self c.slice_piece.result text h c.slice_piece.ensures.kept.tables c.slice_piece.ensures.kept.limit c.slice_piece.ensures.kept.openings_left
+      (c.slice_piece.ensures.value end j s h.shows)));
+  goes =
+      let on : GoesOn c.args.cursor.now c.raw_character_data.new.cursor c.slice_piece.new.self = record { source = c.in_ok-raw.ensures.read.source; fine = fine_open c.args.builder.now c.slice_piece.new.self c.slice_piece.ensures.kept c.requires.fine } in
+      whatever_it_is _ _ on;
 }
 
 pub character_data_pieces-returns : goal.character_data_pieces-returns
@@ -99,6 +88,9 @@ character_data-returns t c = record {
 }
 
 -- ---- its parts
+
+opened_place : (limit : ℕ) (es : List Entity) (depth_left : ℕ) (main : Bool) (t : Replacement) (after : ℕ) (s u : State) → opener limit es depth_left main t after s ≡ Ok u → after ≡ u.at
+opened_place limit es depth_left main t after s u is = sym (opener_at limit es depth_left main t after s u is)
 
 pub data_parts-returns-in_err-text : goal.data_parts-returns-in_err-text
 data_parts-returns-in_err-text t c = record {
@@ -160,7 +152,7 @@ data_parts-loop-turn-preserved t c = record {
       let after = c.part_piece.new.cursor.pos in
       let opened = c.in_ok-open_text-in-Some.ensures.value limit end es part.0 declared part.2 in
       parting_on context end src c.args.start c.args.stop _ n (length src - (c.loop-turn._turn + 1)) c.loop-turn.cursor c.part_piece.new.cursor c.loop-turn.builder c.open_text.new.builder part.0 opened.0 text after g one part.1 opened.1
-      (sym (opener_at limit es c.args.context.depth_left c.args.context.main text after part.0 opened.0 opened.1)) opened.2;
+      (opened_place limit es c.args.context.depth_left c.args.context.main text after part.0 opened.0 opened.1) opened.2;
 }
 
 pub data_parts-returns : goal.data_parts-returns
@@ -328,25 +320,12 @@ step-returns-then-bytes-cursor-ne60 t c = record {
   goes = search rules;
 }
 
-pub step-returns-in_err-end_tag : goal.step-returns-in_err-end_tag
-step-returns-in_err-end_tag t c = record {
-  value = λ limit end es s declared h.
-      let p = err_from_is_err_and c.from_residual.result c.from_residual.ensures.1 in
-      rw (
-        p.1,
-        p.2,
-        step_is_markup (context_of limit es c.args.context) c.args.cursor.now.text.now _ s c.args.cursor.now.pos 47 c.as_bytes-bytes.ensures.value h.here c.if-bytes-cursor-ne60.false c.if-cursor-bytes.false c.if-next-eq47.true (λ e. cc e),
-      )
-      (refused_too c.in_err-end_tag.field-0.0 _ (c.in_err-end_tag.ensures.value limit end es s h));
-  goes = let p = err_from_is_err_and c.from_residual.result c.from_residual.ensures.1 in rw p.1 tt;
-}
-
 pub step-returns-then-next-eq47 : goal.step-returns-then-next-eq47
 step-returns-then-next-eq47 t c = record {
   value = λ limit end es s declared h.
       rw (step_is_markup (context_of limit es c.args.context) c.args.cursor.now.text.now _ s c.args.cursor.now.pos 47 c.as_bytes-bytes.ensures.value h.here c.if-bytes-cursor-ne60.false c.if-cursor-bytes.false c.if-next-eq47.true (λ e. cc e))
-      (c.in_ok-end_tag.ensures.value limit end es s h);
-  goes = search rules;
+      (parses_too limit end _ _ _ _ _ c.parsed.ensures (c.end_tag.ensures.value limit end es s h));
+  goes = goes_too _ _ _ c.parsed.ensures c.end_tag.ensures.goes;
 }
 
 pub data_parts-part_piece-requires : goal.data_parts-part_piece-requires
