@@ -1,5 +1,5 @@
 -- Items of the internal subset: one turn of the code is one of the reading.
-use Rattle.std.proofs.Common.{◌≡◌, ℕ, suc, ◌+◌, ◌<◌, ◌≤◌, ◌==◌, Bool, true, false, List, [], ◌∷◌, ◌++◌, length, ltb, leb, eqb, refl, ap, ◌∙◌, subst, Result, Ok, Err}
+use Rattle.std.proofs.Common.{◌≡◌, ℕ, suc, ◌+◌, ◌<◌, ◌≤◌, ◌==◌, Bool, true, false, List, [], ◌∷◌, ◌++◌, length, ltb, leb, eqb, refl, sym, ap, ◌∙◌, subst, OnOk, Result, Ok, Err}
 use Rattle.std.specs.Prelude.{slice_index}
 use Rattle.std.proofs.lemmas.Bool.{ltb-true, ltb-false, leb-true, leb-false, eqb-true}
 use Rattle.rox_grammar.specs.declared.fault.Fault.{Fault}
@@ -25,6 +25,7 @@ use Rattle.rox_grammar.specs.declared.failure.Failure.{Failure}
 use Rattle.rox_grammar.specs.declared.failure.Failure.TheVariants as failure
 use Rattle.rox_scan.specs.DoctypeViews.{is_skipped_declaration, skipped_declaration_at, subset_end_at}
 use Rattle.rox_build.specs.Asking.{AreGiven, AskOutcome, IsEntityRead, IsDoctypeRead, IsSubsetSoFar, ItemOutcome}
+use Rattle.rox_build.specs.ParsedResults.{ended, parsed_of}
 use Rattle.rox_values.specs.DeclaredEntities.{AreDeclared}
 use Rattle.rox_values.specs.Refusals.{of_failure}
 use Rattle.rox_builder.specs.BuilderState.{IsInState, ScansTo}
@@ -58,13 +59,17 @@ same_fault : (f g : Fault) → ◌≡◌ {A = Result (Unit {0} × ℕ) Fault} (E
 same_fault f g h = cc
 
 -- how an item ended that no more is said of
-abbrev pub ended : Result (Unit {0}) ParseError → Result Bool ParseError
-ended (Ok x) = Ok false
-ended (Err e) = Err e
-
 abbrev pub ended_plainly : Result (Unit {0}) Failure → Result Bool ParseError
 ended_plainly (Ok x) = Ok false
 ended_plainly (Err e) = Err (of_failure e)
+
+pub ended_too : (P : Result Bool ParseError → Type 0) (r : Result (Unit {0}) Failure) (p : Result (Unit {0}) ParseError) (q : Result Bool ParseError) → p ≡ parsed_of r → q ≡ ended p → P (ended_plainly r) → P q
+ended_too P (Ok x) p q is then h = subst P (sym (then ∙ ap ended is)) h
+ended_too P (Err e) p q is then h = subst P (sym (then ∙ ap ended is)) h
+
+pub goes_ended : (G : Type 0) (p : Result (Unit {0}) ParseError) (q : Result Bool ParseError) → q ≡ ended p → OnOk p G → OnOk q G
+goes_ended G (Ok x) q is h = subst (λ r. OnOk r G) (sym is) h
+goes_ended G (Err e) q is h = subst (λ r. OnOk r G) (sym is) tt
 
 -- ---- a turn
 

@@ -12,9 +12,10 @@ ghost use Rattle.rox_build.specs.Asking.{AskOutcome, IsDefined};
 ghost use Rattle.rox_builder.specs.Outcomes.{MayStep};
 ghost use Rattle.rox_builder.specs.Readiness.{MayRead};
 ghost use Rattle.rox_build.specs.Asking.{MayAskHere, MayReadAsking};
+ghost use Rattle.rox_build.specs.ParsedResults.{ended};
 ghost use Rattle.rox_build.specs.TextParts.{ReadsDeclaration, ReadsEntity, ReadsItem};
 
-use crate::constructs::{comment, instruction};
+use crate::constructs::{comment, instruction, parsed};
 use crate::resolver::{EntityResolver, ask};
 use rox_builder::builder::Builder;
 use rox_bytes::runs::is_at;
@@ -87,6 +88,16 @@ fn entity<'input, R: EntityResolver<'input>>(
     Ok(())
 }
 
+/// Returns what `item` returns of an item that was read so, and does not end the declaration.
+fn ended<'input>(read: Result<(), ParseError<'input>>) -> Result<bool, ParseError<'input>>
+    ensures { result ≡ ended read.entry }
+{
+    match read {
+        Ok(()) => Ok(false),
+        Err(refused) => Err(refused),
+    }
+}
+
 /// Reads an item of the internal subset, after any white space, or the subset's end (XML 1.0 [28b] intSubset). Returns whether
 /// that is the end of the declaration, which starts at `start`.
 fn item<'input, R: EntityResolver<'input>>(
@@ -103,16 +114,13 @@ fn item<'input, R: EntityResolver<'input>>(
 {
     cursor.spaces();
     if cursor.starts(Word::EntityStart) {
-        entity(cursor, entities, resolver)?;
-        return Ok(false);
+        return ended(entity(cursor, entities, resolver));
     }
     if cursor.starts(Word::CommentStart) {
-        comment(alloc, cursor, builder)?;
-        return Ok(false);
+        return ended(parsed(comment(alloc, cursor, builder)));
     }
     if cursor.starts(Word::PIStart) {
-        instruction(alloc, cursor, builder)?;
-        return Ok(false);
+        return ended(parsed(instruction(alloc, cursor, builder)));
     }
     if cursor.is_skipped_declaration() {
         cursor.skip_declaration(start)?;
