@@ -83,8 +83,6 @@ pub begins_no_end : (p : ℕ → Bool) (src : List ℕ) (i : ℕ) → length src
 unfolding begins
 begins_no_end p src i past = rw (drop_all i src past, chars-nil)
 
-pub ruleset run_steps = (run_on, run_stops, run_on_ascii, run_stops_ascii, run_at_end, IsCharBoundary-after_ascii)
-
 pub ruleset space_steps = (space_on, space_stops, run_at_end, space_cut)
 
 pub ruleset begin_steps = (begins_at, begins_ascii, begins_no_end)

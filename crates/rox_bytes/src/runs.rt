@@ -22,7 +22,6 @@ pub fn char_at(text: &str, at: usize) -> char
 
 /// Returns the end of the run of characters that starts at `at`.
 #[inline(always)]
-#[tactic(auto, using(crate::proofs::RunLemmas::run_steps))]
 pub fn run_end<C: Class>(text: &str, at: usize) -> usize
     requires { IsCharBoundary text.now at }
     ensures { Finds text.now at result (run_end C.test text.now at) }
