@@ -1,4 +1,5 @@
-use Rattle.std.proofs.Common.{◌≡◌, ◌<◌, ◌≤◌, ◌+◌, ◌-◌, suc, ℕ, Bool, true, false, List, Ok, length, slice_index, slice_range, refl, sym, ap, ◌∙◌, arith, rules}
+use Rattle.std.proofs.Common.{◌≡◌, ◌<◌, ◌≤◌, ◌+◌, ◌-◌, suc, ℕ, Bool, true, false, List, Ok, length, slice_index, slice_range, refl, sym, ap, subst, ◌∙◌, arith, rules}
+use Rattle.std.specs.Str.{IsCharBoundary}
 use Rattle.std.proofs.lemmas.Grind.{common_steps}
 use Rattle.std.proofs.lemmas.Bool.{leb-true, leb-false}
 use Rattle.std.proofs.lemmas.Result.{err_from_is_err_and}
@@ -330,3 +331,18 @@ step-returns-then-next-eq47 t c = record {
 
 pub data_parts-part_piece-requires : goal.data_parts-part_piece-requires
 data_parts-part_piece-requires t c = record { stop = rw c.loop-turn.invariant.source c.requires.stop; fine = c.loop-turn.invariant.fine }
+
+pub open_other_text-invariant_of-builder : goal.open_other_text-invariant_of-builder
+open_other_text-invariant_of-builder t c = record { few = c.args.builder.now.few; counted = c.args.builder.now.counted; shallow = c.args.builder.now.shallow }
+
+pub open_other_text-invariant_of-builder-in-Ok : goal.open_other_text-invariant_of-builder-in-Ok
+open_other_text-invariant_of-builder-in-Ok t c = record { few = c.content_text.new.builder.few; counted = c.content_text.new.builder.counted; shallow = c.content_text.new.builder.shallow }
+
+pub character_data_pieces-invariant_of-cursor : goal.character_data_pieces-invariant_of-cursor
+character_data_pieces-invariant_of-cursor t c = record { utf8 = c.raw_character_data.new.cursor.utf8; cut = subst (λ (xs : List ℕ). IsCharBoundary xs c.args.cursor.now.pos) (sym (ap (λ t. t.now) c.in_ok-raw.ensures.read.source)) c.args.cursor.now.cut }
+
+pub data_parts-invariant_of-cursor : goal.data_parts-invariant_of-cursor
+data_parts-invariant_of-cursor t c = record { utf8 = c.part_piece.new.cursor.utf8; cut = subst (λ (xs : List ℕ). IsCharBoundary xs c.args.stop) (sym (ap (λ t. t.now) (c.in_ok-text.ensures.goes.source ∙ c.loop-turn.invariant.source))) c.requires.stop }
+
+pub data_parts-invariant_of-cursor-2 : goal.data_parts-invariant_of-cursor-2
+data_parts-invariant_of-cursor-2 t c = record { utf8 = c.loop-turn.cursor.utf8; cut = subst (λ (xs : List ℕ). IsCharBoundary xs c.args.stop) (sym (ap (λ t. t.now) c.loop-turn.invariant.source)) c.requires.stop }

@@ -44,3 +44,6 @@ returns c = record {
       (t.0, part_piece_is (context_of limit es c.args.context) src c.args.start c.args.stop s t.0 e.0 text next read e.2 some t.1, t.2);
   goes = first_of (search rules, grind (arith, common_steps));
 }
+
+pub invariant_of-builder : goal.invariant_of-builder
+invariant_of-builder c = record { few = c.args.builder.now.few; counted = c.args.builder.now.counted; shallow = c.args.builder.now.shallow }

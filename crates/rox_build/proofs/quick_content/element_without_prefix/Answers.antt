@@ -262,3 +262,15 @@ returns-then-depth-eq0 c = record {
   moves = λ less. absurd (omega arith);
   fine = c.requires.room.fine;
 }
+
+pub invariant_of-builder : goal.invariant_of-builder
+invariant_of-builder c = record { few = c.args.builder.now.few; counted = c.args.builder.now.counted; shallow = c.args.builder.now.shallow }
+
+pub invariant_of-builder-2 : goal.invariant_of-builder-2
+invariant_of-builder-2 c = record { few = c.args.builder.now.few; counted = c.args.builder.now.counted; shallow = c.args.builder.now.shallow }
+
+pub invariant_of-builder-in_default : goal.invariant_of-builder-in_default
+invariant_of-builder-in_default c = record { few = c.args.builder.now.few; counted = c.args.builder.now.counted; shallow = c.args.builder.now.shallow }
+
+pub invariant_of-builder-then-index : goal.invariant_of-builder-then-index
+invariant_of-builder-then-index c = record { few = c.args.builder.now.few; counted = c.args.builder.now.counted; shallow = c.args.builder.now.shallow }

@@ -1,4 +1,5 @@
-use Rattle.std.proofs.Common.{ℕ, List, ◌+◌, slice_index, ne_eqb, refl, ap, ◌∙◌, arith, rules}
+use Rattle.std.proofs.Common.{ℕ, List, ◌+◌, slice_index, ne_eqb, refl, sym, ap, subst, ◌∙◌, arith, rules}
+use Rattle.std.specs.Str.{IsCharBoundary}
 use Rattle.std.proofs.lemmas.Grind.{common_steps}
 use Rattle.rox_builder.proofs.Stepping.{step_is_markup}
 use Rattle.rox_build.proofs.PlainReads.{keeps_same}
@@ -62,3 +63,11 @@ element_in_scope-stop-requires c = record {
   part = first_of (search rules, grind (arith, common_steps));
   room = c.requires.room;
 }
+
+pub invariant_of-cursor : goal.invariant_of-cursor
+invariant_of-cursor c =
+    let cut : IsCharBoundary c.args.cursor.now.text.now c.if-next-le63.stop = elim c.if-next-le63.branch [
+      | then-next-le63 w ↦ subst (IsCharBoundary c.args.cursor.now.text.now) (sym w.stop-is) (w.put_delimited-stop.ensures.cut (omega (arith, c.if-stop-gt-MOST_BYTES.false, w.stop-is)))
+      | else-next-le63 w ↦ subst (IsCharBoundary c.args.cursor.now.text.now) (sym w.stop-is) (w.element_in_scope-stop.ensures.cut (omega (arith, c.if-stop-gt-MOST_BYTES.false, w.stop-is)))
+    ] in
+    record { utf8 = c.args.cursor.now.utf8; cut = cut }

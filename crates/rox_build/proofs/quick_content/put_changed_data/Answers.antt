@@ -60,3 +60,12 @@ put_scratch-requires c = let r = c.requires.room.ready in record {
   start = omega (arith, c.requires.room.short, c.requires.cut.0);
   end = omega (arith, c.requires.room.short, c.in-Some.ensures.within);
 }
+
+pub invariant_of-builder : goal.invariant_of-builder
+invariant_of-builder c = record { few = c.args.builder.now.few; counted = c.args.builder.now.counted; shallow = c.args.builder.now.shallow }
+
+pub invariant_of-builder-else-not-changed_data : goal.invariant_of-builder-else-not-changed_data
+invariant_of-builder-else-not-changed_data c = record { few = c.args.builder.now.few; counted = c.args.builder.now.counted; shallow = c.args.builder.now.shallow }
+
+pub invariant_of-builder-then-not-changed_data : goal.invariant_of-builder-then-not-changed_data
+invariant_of-builder-then-not-changed_data c = record { few = c.args.builder.now.few; counted = c.args.builder.now.counted; shallow = c.args.builder.now.shallow }

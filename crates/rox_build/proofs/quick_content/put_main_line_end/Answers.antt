@@ -30,3 +30,6 @@ returns-then-end-gt-MOST_BYTES c =
       rows = λ yes. absurd (cc yes);
       behind = λ yes. absurd (cc yes);
     }
+
+pub invariant_of-cursor : goal.invariant_of-cursor
+invariant_of-cursor c = record { utf8 = c.args.cursor.now.utf8; cut = c.put_line_end-end.ensures.cut (omega (arith, c.if-end-gt-MOST_BYTES.false)) }

@@ -1,4 +1,5 @@
-use Rattle.std.proofs.Common.{ℕ, List, ◌+◌, slice_index, ne_eqb, refl, ap, ◌∙◌, arith, rules}
+use Rattle.std.proofs.Common.{ℕ, List, ◌+◌, slice_index, ne_eqb, refl, sym, ap, subst, ◌∙◌, arith, rules}
+use Rattle.std.specs.Str.{IsCharBoundary}
 use Rattle.std.proofs.lemmas.Grind.{common_steps}
 use Rattle.rox_builder.specs.BuilderState.{IsInState, IsReady, IsReadyTo}
 use Rattle.rox_builder.proofs.Stepping.{step_is_markup}
@@ -149,3 +150,20 @@ element_in_scope-end-requires c = record {
     fine = c.element_of_name.ensures.goes.fine;
   };
 }
+
+pub invariant_of-cursor : goal.invariant_of-cursor
+invariant_of-cursor c = record {
+  utf8 = c.args.cursor.now.utf8;
+  cut = c.put_delimited-behind.ensures.cut (omega (arith, c.if-behind-gt-MOST_BYTES.false));
+}
+
+pub invariant_of-cursor-2 : goal.invariant_of-cursor-2
+invariant_of-cursor-2 c =
+    let cut : IsCharBoundary c.args.cursor.now.text.now c.if-bytes-near-lt58.end = elim c.if-bytes-near-lt58.branch [
+      | then-bytes-near-lt58 w ↦ subst (IsCharBoundary c.args.cursor.now.text.now) (sym w.end-is) (w.element_without_prefix-end.ensures.cut (omega (arith, c.if-end-gt-MOST_BYTES.false, w.end-is)))
+      | else-bytes-near-lt58 w ↦ subst (IsCharBoundary c.args.cursor.now.text.now) (sym w.end-is) (w.element_in_scope-end.ensures.cut (omega (arith, c.if-end-gt-MOST_BYTES.false, w.end-is)))
+    ] in
+    record {
+      utf8 = c.element_of_name.new.cursor.utf8;
+      cut = subst (λ (xs : List ℕ). IsCharBoundary xs c.if-bytes-near-lt58.end) (sym (ap (λ t. t.now) c.element_of_name.ensures.goes.source)) cut;
+    }
