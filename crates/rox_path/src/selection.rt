@@ -34,21 +34,21 @@ pub fn select<'a, 'input>(
         × (map node_ref nodes.items ≡ node_refs (document_of start.entry) ids)
         × Selects (tree_of start.entry) (id_of start.entry) (map step_of steps.now) ids) }
 {
-    laws(start);
-    let mut marks = start_alone(alloc, start)?;
+    laws(&start);
+    let mut marks = start_alone(alloc, &start)?;
     for step in steps {
         marks = match step {
-            Step::Child(name) => mark_children(alloc, start, &marks, *name)?,
-            Step::Descendant(name) => mark_descendants(alloc, start, &marks, *name)?,
+            Step::Child(name) => mark_children(alloc, &start, &marks, *name)?,
+            Step::Descendant(name) => mark_descendants(alloc, &start, &marks, *name)?,
         };
     }
-    marked_nodes(alloc, start, &marks)
+    marked_nodes(alloc, &start, &marks)
 }
 
 /// Returns a mark for `start`, and none for its descendants.
-fn start_alone(alloc: Global, start: Node<'_, '_>) -> Result<Vec<bool>, AllocError>
+fn start_alone(alloc: Global, start: &Node<'_, '_>) -> Result<Vec<bool>, AllocError>
     ensures { IfOk result
-        (λ marks. marks.items ≡ map (is_first (id_of start.entry)) (subtree_of start.entry)) }
+        (λ marks. marks.items ≡ map (is_first (id_of start.now)) (subtree_of start.now)) }
 {
     let mut marks = Vec::new(alloc);
     for node in start.descendants() {
@@ -60,18 +60,18 @@ fn start_alone(alloc: Global, start: Node<'_, '_>) -> Result<Vec<bool>, AllocErr
 /// Returns marks for the elements with this name whose parent is marked.
 fn mark_children(
     alloc: Global,
-    start: Node<'_, '_>,
+    start: &Node<'_, '_>,
     marks: &[bool],
     name: ExpandedName<'_, '_>,
 ) -> Result<Vec<bool>, AllocError>
     ensures { IfOk result
-        (λ next. next.items ≡ map (is_child (id_of start.entry) marks.now (expanded name.entry))
-        (subtree_of start.entry)) }
+        (λ next. next.items ≡ map (is_child (id_of start.now) marks.now (expanded name.entry))
+        (subtree_of start.now)) }
 {
     let mut next = Vec::new(alloc);
     for node in start.descendants() {
         let reached = match node.parent() {
-            Some(parent) => is_marked(start, marks, parent),
+            Some(parent) => is_marked(start, marks, &parent),
             None => false,
         };
         next.push(reached && node.has_tag_name(name))?;
@@ -82,21 +82,21 @@ fn mark_children(
 /// Returns marks for the elements with this name that have a marked ancestor.
 fn mark_descendants(
     alloc: Global,
-    start: Node<'_, '_>,
+    start: &Node<'_, '_>,
     marks: &[bool],
     name: ExpandedName<'_, '_>,
 ) -> Result<Vec<bool>, AllocError>
     ensures { IfOk result
         (λ next. next.items
-        ≡ map (is_descendant (id_of start.entry) marks.now (expanded name.entry))
-        (subtree_of start.entry)) }
+        ≡ map (is_descendant (id_of start.now) marks.now (expanded name.entry))
+        (subtree_of start.now)) }
 {
     laws(start);
     // for each node, whether an ancestor is marked
     let mut below = Vec::new(alloc);
     let mut next = Vec::new(alloc);
     for node in start.descendants() {
-        let reached = is_below(start, marks, &below, node);
+        let reached = is_below(start, marks, &below, &node);
         below.push(reached)?;
         next.push(reached && node.has_tag_name(name))?;
     }
@@ -104,13 +104,13 @@ fn mark_descendants(
 }
 
 /// Returns whether a node has a marked ancestor. `below` says so of each node before it.
-fn is_below(start: Node<'_, '_>, marks: &[bool], below: &[bool], node: Node<'_, '_>) -> bool
-    requires { MarksSoFar start marks.now below.now node }
-    ensures { result ≡ is_below (id_of start.entry) marks.now (node_ref node.entry) }
+fn is_below(start: &Node<'_, '_>, marks: &[bool], below: &[bool], node: &Node<'_, '_>) -> bool
+    requires { MarksSoFar start.now marks.now below.now node.now }
+    ensures { result ≡ is_below (id_of start.now) marks.now (node_ref node.now) }
 {
     laws(node);
     match node.parent() {
-        Some(parent) => is_marked(start, marks, parent) || is_marked(start, below, parent),
+        Some(parent) => is_marked(start, marks, &parent) || is_marked(start, below, &parent),
         None => false,
     }
 }
@@ -118,15 +118,15 @@ fn is_below(start: Node<'_, '_>, marks: &[bool], below: &[bool], node: Node<'_, 
 /// Returns the marked nodes, in document order.
 fn marked_nodes<'a, 'input>(
     alloc: Global,
-    start: Node<'a, 'input>,
+    start: &Node<'a, 'input>,
     marks: &[bool],
 ) -> Result<Vec<Node<'a, 'input>>, AllocError>
     ensures { IfOk result (λ nodes. map node_ref nodes.items
-        ≡ filter (is_marked_node (id_of start.entry) marks.now) (subtree_of start.entry)) }
+        ≡ filter (is_marked_node (id_of start.now) marks.now) (subtree_of start.now)) }
 {
     let mut nodes = Vec::new(alloc);
     for node in start.descendants() {
-        if is_marked(start, marks, node) {
+        if is_marked(start, marks, &node) {
             nodes.push(node)?;
         }
     }
@@ -134,8 +134,8 @@ fn marked_nodes<'a, 'input>(
 }
 
 /// Returns whether a node is marked. The first mark is that of `start`.
-fn is_marked(start: Node<'_, '_>, marks: &[bool], node: Node<'_, '_>) -> bool
-    ensures { result ≡ is_marked (id_of start.entry) marks.now (id_of node.entry) }
+fn is_marked(start: &Node<'_, '_>, marks: &[bool], node: &Node<'_, '_>) -> bool
+    ensures { result ≡ is_marked (id_of start.now) marks.now (id_of node.now) }
 {
     let first = start.id().get_usize();
     let id = node.id().get_usize();
@@ -143,8 +143,8 @@ fn is_marked(start: Node<'_, '_>, marks: &[bool], node: Node<'_, '_>) -> bool
 }
 
 /// States the laws of the tree that a node is in.
-fn laws(node: Node<'_, '_>)
-    ensures { Laws (tree_of node.entry) }
+fn laws(node: &Node<'_, '_>)
+    ensures { Laws (tree_of node.now) }
 {
     let document = node.document();
     ids_are_places(document);

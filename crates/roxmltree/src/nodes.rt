@@ -3,8 +3,7 @@
 ghost use Rattle.std.specs.Prelude.{◌≡◌, ℕ, ◌+◌, ◌^◌, ◌<◌, ◌≤◌, length, ◌∷◌, IsTrue, ◌↔◌, ◌≢◌, ◌⊎◌, reverse};
 ghost use Rattle.std.specs.Option.{option_map};
 ghost use Rattle.rox_grammar.specs.Forest.{size};
-ghost use Rattle.roxmltree.specs.NodeRows.{IsRowOf, views-prop, NamespaceWithin-prop, KindWithin-prop, EndsWithin-prop, IsRow-prop};
-ghost use Rattle.std.proofs.Props.{props};
+ghost use Rattle.roxmltree.specs.NodeRows.{IsRowOf, IsRowOf-prop};
 ghost use Rattle.roxmltree.specs.Places.{place, parent, children, first_child, last_child, next_sibling, prev_sibling};
 ghost use Rattle.roxmltree.specs.Climbing.{up_to};
 
@@ -120,7 +119,7 @@ pub struct Node<'a, 'input> {
     pub(crate) row: &'a StoredNode<'input>,
     pub(crate) id: NodeId,
     ghost in_tree: { id.0 < size document.now.tree },
-    ghost placed: { IsRowOf tables.now document.now.tree id.0 row.now } by { Prim.hlevel (views-prop, NamespaceWithin-prop, KindWithin-prop, EndsWithin-prop, IsRow-prop, props) },
+    ghost placed: { IsRowOf tables.now document.now.tree id.0 row.now } by { IsRowOf-prop tables.now document.now.tree id.0 row.now },
 }
 
 impl<'a, 'input> Node<'a, 'input> {
