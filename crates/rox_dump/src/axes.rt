@@ -10,7 +10,7 @@ use std::io::Write;
 
 /// Writes the second line of a node.
 pub fn write_axes<'a, W: Write>(node: Node<'a, 'a>, out: &mut Output<'_, W>) {
-    write_elements(node, out);
+    write_elements(&node, out);
     write_truth(" sib=", node.has_siblings(), out);
     write_truth(" kids=", node.has_children(), out);
     write_ids(" anc=", node.ancestors(), out);
@@ -25,7 +25,7 @@ pub fn write_axes<'a, W: Write>(node: Node<'a, 'a>, out: &mut Output<'_, W>) {
     out.text("\n");
 }
 
-fn write_elements<W: Write>(node: Node<'_, '_>, out: &mut Output<'_, W>) {
+fn write_elements<W: Write>(node: &Node<'_, '_>, out: &mut Output<'_, W>) {
     write_link("  pe=", node.parent_element(), out);
     write_link(" pse=", node.prev_sibling_element(), out);
     write_link(" nse=", node.next_sibling_element(), out);

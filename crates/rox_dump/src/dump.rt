@@ -70,7 +70,7 @@ fn write_document<W: Write>(
     write_number(nodes.len() as u64, &mut out);
     out.text("\n");
     for node in nodes {
-        write_lines(node, options, &mut out);
+        write_lines(&node, options, &mut out);
         if out.has_failed() {
             break;
         }
@@ -78,10 +78,10 @@ fn write_document<W: Write>(
     Ok(out.into_result()?)
 }
 
-fn write_lines<W: Write>(node: Node<'_, '_>, options: Options, out: &mut Output<'_, W>) {
+fn write_lines<W: Write>(node: &Node<'_, '_>, options: Options, out: &mut Output<'_, W>) {
     write_node(node, out);
     if options.axes {
-        write_axes(node, out);
+        write_axes(*node, out);
     }
     if options.lookups {
         write_lookups(node, out);

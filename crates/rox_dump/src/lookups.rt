@@ -9,17 +9,17 @@ use roxmltree::{Attribute, ExpandedName, NS_XML_URI, Node};
 use std::io::Write;
 
 /// Writes the line of a node's look-ups.
-pub fn write_lookups<W: Write>(node: Node<'_, '_>, out: &mut Output<'_, W>) {
+pub fn write_lookups<W: Write>(node: &Node<'_, '_>, out: &mut Output<'_, W>) {
     write_places(node, out);
     write_uris(node, out);
     write_prefixes(node, out);
     write_named(node, out);
     write_own_name(node, out);
-    write_backs(node, out);
+    write_backs(*node, out);
     out.text("\n");
 }
 
-fn write_places<W: Write>(node: Node<'_, '_>, out: &mut Output<'_, W>) {
+fn write_places<W: Write>(node: &Node<'_, '_>, out: &mut Output<'_, W>) {
     let (range, document) = (node.range(), node.document());
     out.text("  pos=");
     write_position(document.text_pos_at(range.start), out);
@@ -28,7 +28,7 @@ fn write_places<W: Write>(node: Node<'_, '_>, out: &mut Output<'_, W>) {
 }
 
 // The URIs of the default, of `xml` and of each prefix that is listed.
-fn write_uris<W: Write>(node: Node<'_, '_>, out: &mut Output<'_, W>) {
+fn write_uris<W: Write>(node: &Node<'_, '_>, out: &mut Output<'_, W>) {
     write_text(" default=", node.default_namespace(), out);
     write_uri(" uris=[", node, None, out);
     write_uri(" ", node, Some("xml"), out);
@@ -40,7 +40,7 @@ fn write_uris<W: Write>(node: Node<'_, '_>, out: &mut Output<'_, W>) {
 
 fn write_uri<W: Write>(
     gap: &str,
-    node: Node<'_, '_>,
+    node: &Node<'_, '_>,
     prefix: Option<&str>,
     out: &mut Output<'_, W>,
 ) {
@@ -49,7 +49,7 @@ fn write_uri<W: Write>(
 }
 
 // The prefixes of the URI of `xml`, of the empty one and of each that is listed.
-fn write_prefixes<W: Write>(node: Node<'_, '_>, out: &mut Output<'_, W>) {
+fn write_prefixes<W: Write>(node: &Node<'_, '_>, out: &mut Output<'_, W>) {
     write_prefix(" prefixes=[", node, NS_XML_URI, out);
     write_prefix(" ", node, "", out);
     for namespace in node.namespaces() {
@@ -58,17 +58,17 @@ fn write_prefixes<W: Write>(node: Node<'_, '_>, out: &mut Output<'_, W>) {
     out.text("]");
 }
 
-fn write_prefix<W: Write>(gap: &str, node: Node<'_, '_>, uri: &str, out: &mut Output<'_, W>) {
+fn write_prefix<W: Write>(gap: &str, node: &Node<'_, '_>, uri: &str, out: &mut Output<'_, W>) {
     write_text(gap, Some(uri), out);
     write_text("=", node.lookup_prefix(uri), out);
 }
 
 // What is found by the name of each attribute, and by its local name without namespace and alone.
-fn write_named<W: Write>(node: Node<'_, '_>, out: &mut Output<'_, W>) {
+fn write_named<W: Write>(node: &Node<'_, '_>, out: &mut Output<'_, W>) {
     out.text(" named=[");
     let mut is_first = true;
     for attribute in node.attributes() {
-        write_found(gap(is_first), node, attribute, out);
+        write_found(gap(is_first), node, &attribute, out);
         is_first = false;
     }
     out.text("]");
@@ -76,8 +76,8 @@ fn write_named<W: Write>(node: Node<'_, '_>, out: &mut Output<'_, W>) {
 
 fn write_found<W: Write>(
     gap: &str,
-    node: Node<'_, '_>,
-    attribute: Attribute<'_, '_>,
+    node: &Node<'_, '_>,
+    attribute: &Attribute<'_, '_>,
     out: &mut Output<'_, W>,
 ) {
     let local = attribute.name();
@@ -87,7 +87,7 @@ fn write_found<W: Write>(
     write_start(",", node.attribute_local(local), out);
 }
 
-fn name_of<'a, 'input>(attribute: Attribute<'a, 'input>) -> ExpandedName<'a, 'input> {
+fn name_of<'a, 'input>(attribute: &Attribute<'a, 'input>) -> ExpandedName<'a, 'input> {
     let local = attribute.name();
     if let Some(uri) = attribute.namespace() {
         return ExpandedName::from((uri, local));
@@ -109,7 +109,7 @@ fn write_start<W: Write>(
 }
 
 // Whether the node has its own name, and an attribute of it; and what is there by its local name alone.
-fn write_own_name<W: Write>(node: Node<'_, '_>, out: &mut Output<'_, W>) {
+fn write_own_name<W: Write>(node: &Node<'_, '_>, out: &mut Output<'_, W>) {
     let name = node.tag_name();
     let local = name.name();
     write_truth(" own=", node.has_tag_name(name), out);
@@ -120,13 +120,13 @@ fn write_own_name<W: Write>(node: Node<'_, '_>, out: &mut Output<'_, W>) {
 }
 
 fn write_backs<'a, W: Write>(node: Node<'a, 'a>, out: &mut Output<'_, W>) {
-    write_attributes_back(node, out);
-    write_prefixes_back(node, out);
+    write_attributes_back(&node, out);
+    write_prefixes_back(&node, out);
     write_ids(" order=", node.descendants(), out);
     write_ids(" order_back=", node.descendants().rev(), out);
 }
 
-fn write_attributes_back<W: Write>(node: Node<'_, '_>, out: &mut Output<'_, W>) {
+fn write_attributes_back<W: Write>(node: &Node<'_, '_>, out: &mut Output<'_, W>) {
     out.text(" attrs_back=[");
     let mut is_first = true;
     for attribute in node.attributes().rev() {
@@ -136,7 +136,7 @@ fn write_attributes_back<W: Write>(node: Node<'_, '_>, out: &mut Output<'_, W>) 
     out.text("]");
 }
 
-fn write_prefixes_back<W: Write>(node: Node<'_, '_>, out: &mut Output<'_, W>) {
+fn write_prefixes_back<W: Write>(node: &Node<'_, '_>, out: &mut Output<'_, W>) {
     out.text(" ns_back=[");
     let mut is_first = true;
     for namespace in node.namespaces().rev() {

@@ -7,7 +7,7 @@ use std::io::Write;
 use std::ops::Range;
 
 /// Writes the first line of a node.
-pub fn write_node<W: Write>(node: Node<'_, '_>, out: &mut Output<'_, W>) {
+pub fn write_node<W: Write>(node: &Node<'_, '_>, out: &mut Output<'_, W>) {
     write_number(node.id().get() as u64, out);
     out.text(kind_name(node.node_type()));
     write_links(node, out);
@@ -34,7 +34,7 @@ fn kind_name(kind: NodeType) -> &'static str {
     }
 }
 
-fn write_links<W: Write>(node: Node<'_, '_>, out: &mut Output<'_, W>) {
+fn write_links<W: Write>(node: &Node<'_, '_>, out: &mut Output<'_, W>) {
     write_link(" parent=", node.parent(), out);
     write_link(" prev=", node.prev_sibling(), out);
     write_link(" next=", node.next_sibling(), out);
@@ -64,18 +64,18 @@ fn write_range<W: Write>(label: &str, range: Range<usize>, out: &mut Output<'_, 
     write_number(range.end as u64, out);
 }
 
-fn write_element<W: Write>(node: Node<'_, '_>, out: &mut Output<'_, W>) {
+fn write_element<W: Write>(node: &Node<'_, '_>, out: &mut Output<'_, W>) {
     let name = node.tag_name();
     write_name(" tag=", name.namespace(), name.name(), out);
     write_attributes(node, out);
     write_namespaces(node, out);
 }
 
-fn write_attributes<W: Write>(node: Node<'_, '_>, out: &mut Output<'_, W>) {
+fn write_attributes<W: Write>(node: &Node<'_, '_>, out: &mut Output<'_, W>) {
     out.text(" attrs=[");
     let mut is_first = true;
     for attribute in node.attributes() {
-        write_attribute(gap(is_first), attribute, out);
+        write_attribute(gap(is_first), &attribute, out);
         is_first = false;
     }
     out.text("]");
@@ -86,7 +86,7 @@ pub fn gap(is_first: bool) -> &'static str {
     if is_first { "" } else { " " }
 }
 
-fn write_attribute<W: Write>(gap: &str, attribute: Attribute<'_, '_>, out: &mut Output<'_, W>) {
+fn write_attribute<W: Write>(gap: &str, attribute: &Attribute<'_, '_>, out: &mut Output<'_, W>) {
     write_name(gap, attribute.namespace(), attribute.name(), out);
     write_storage("=", attribute.value_storage(), out);
     write_range("@", attribute.range(), out);
@@ -94,7 +94,7 @@ fn write_attribute<W: Write>(gap: &str, attribute: Attribute<'_, '_>, out: &mut 
     write_range(",", attribute.range_value(), out);
 }
 
-fn write_namespaces<W: Write>(node: Node<'_, '_>, out: &mut Output<'_, W>) {
+fn write_namespaces<W: Write>(node: &Node<'_, '_>, out: &mut Output<'_, W>) {
     out.text(" ns=[");
     let mut is_first = true;
     for namespace in node.namespaces() {

@@ -14,7 +14,7 @@ pub struct Entry<'a> {
 /// Returns the attributes of a node, sorted by name. A name is a local name and, if there is a namespace, `@` and its URI.
 pub fn attribute_entries<'a>(
     alloc: Global,
-    node: Node<'a, '_>,
+    node: &Node<'a, '_>,
 ) -> Result<Vec<Entry<'a>>, AllocError> {
     let mut entries = Vec::new(alloc);
     for attribute in node.attributes() {
@@ -29,7 +29,7 @@ pub fn attribute_entries<'a>(
 /// Returns the namespaces that a node lists, sorted by prefix, with `None` for the default. An empty URI is shown as `""`.
 pub fn namespace_entries<'a>(
     alloc: Global,
-    node: Node<'a, '_>,
+    node: &Node<'a, '_>,
 ) -> Result<Vec<Entry<'a>>, AllocError> {
     let mut entries = Vec::new(alloc);
     for namespace in node.namespaces() {

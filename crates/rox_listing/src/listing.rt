@@ -32,7 +32,7 @@ pub fn write_elements<W: Write>(
     for element in elements {
         write_range(element.range(), &mut out);
         out.text(" ");
-        write_name(*element, &mut out);
+        write_name(element, &mut out);
         if out.has_failed() {
             break;
         }
@@ -50,7 +50,7 @@ fn write_nodes<W: Write>(
     for node in document.descendants() {
         if let Some(parent) = node.parent() {
             leave(&mut open, parent.id());
-            write_node(alloc, node, open.len(), out)?;
+            write_node(alloc, &node, open.len(), out)?;
             if node.has_children() {
                 open.push(node.id())?;
             }
@@ -73,7 +73,7 @@ fn leave(open: &mut Vec<NodeId>, parent: NodeId) {
 
 fn write_node<W: Write>(
     alloc: Global,
-    node: Node<'_, '_>,
+    node: &Node<'_, '_>,
     depth: usize,
     out: &mut Output<'_, W>,
 ) -> Result<(), AllocError> {
@@ -89,7 +89,7 @@ fn write_node<W: Write>(
 
 fn write_element<W: Write>(
     alloc: Global,
-    node: Node<'_, '_>,
+    node: &Node<'_, '_>,
     depth: usize,
     out: &mut Output<'_, W>,
 ) -> Result<(), AllocError> {
@@ -105,7 +105,7 @@ fn write_element<W: Write>(
     Ok(())
 }
 
-fn write_name<W: Write>(node: Node<'_, '_>, out: &mut Output<'_, W>) {
+fn write_name<W: Write>(node: &Node<'_, '_>, out: &mut Output<'_, W>) {
     let name = node.tag_name();
     let uri = name.namespace().unwrap_or("");
     out.text(name.name());
@@ -118,7 +118,7 @@ fn write_name<W: Write>(node: Node<'_, '_>, out: &mut Output<'_, W>) {
 
 fn write_attributes<W: Write>(
     alloc: Global,
-    node: Node<'_, '_>,
+    node: &Node<'_, '_>,
     depth: usize,
     out: &mut Output<'_, W>,
 ) -> Result<(), AllocError> {
@@ -133,7 +133,7 @@ fn write_attributes<W: Write>(
 
 fn write_namespaces<W: Write>(
     alloc: Global,
-    node: Node<'_, '_>,
+    node: &Node<'_, '_>,
     depth: usize,
     out: &mut Output<'_, W>,
 ) -> Result<(), AllocError> {
@@ -160,14 +160,14 @@ fn write_title<W: Write>(
     }
 }
 
-fn write_text<W: Write>(kind: &str, node: Node<'_, '_>, depth: usize, out: &mut Output<'_, W>) {
+fn write_text<W: Write>(kind: &str, node: &Node<'_, '_>, depth: usize, out: &mut Output<'_, W>) {
     let text = node.text().unwrap_or("");
     write_label(kind, depth, 1, out);
     write_quoted("", text, out);
 }
 
 // Writes a processing instruction, unless it is beside the root element: that is not listed.
-fn write_pi<W: Write>(node: Node<'_, '_>, depth: usize, out: &mut Output<'_, W>) {
+fn write_pi<W: Write>(node: &Node<'_, '_>, depth: usize, out: &mut Output<'_, W>) {
     if depth == 0 {
         return;
     }
