@@ -263,7 +263,6 @@ fn element_data<'input>(
 
 /// Reads a start tag, from its `<`, in the context `around`. The number returned is how many replacement texts may be opened
 /// after it.
-#[inline(always)]
 #[tactic(auto, unfolding(rox_reading::specs::Tags::tag_at))]
 pub fn start_tag<'input>(
     alloc: Global,
