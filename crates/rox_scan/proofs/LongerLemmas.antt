@@ -16,7 +16,7 @@ use Rattle.rox_reading.specs.Lexical.{has_mark, chars_up_to, text_to, string_at}
 use Rattle.rox_reading.specs.Markup.{raw_value_at, comment_at}
 use Rattle.rox_reading.specs.Values.{is_special}
 use Rattle.rox_bytes.specs.ByteSets.{is_char_byte, AllPass, EndsEased, is_value_byte, is_wide_value_byte, is_quoted_byte, is_text_byte, is_comment_byte, is_ascii_comment_byte}
-use Rattle.rox_scan.specs.Lookahead.{IsLookahead, ends_value, ends_run, changes_run, is_changed_text_byte, ends_comment, changes_comment}
+use Rattle.rox_scan.specs.Lookahead.{IsLookahead, ends_value, ends_run, changes_run, is_changed_text_byte, is_changed_value_byte, ends_comment, changes_comment}
 use Rattle.rox_bytes.proofs.NearLemmas.{near_chars, near_found, none_among, value_is_plain, value_cut, value_widens, wide_value_is_plain, wide_value_cut, quoted_is_plain, quoted_cut, text_is_plain, text_cut, comment_is_plain, comment_cut, ascii_comment_widens, ascii_comment_cut}
 use Rattle.rox_bytes.proofs.EasedLemmas.{eased_byte, eased_chars}
 use Rattle.rox_bytes.proofs.MarkLemmas.{before_mark_is, not_from_first, fails, stands_split, stands_from_split}
@@ -151,17 +151,44 @@ pub quoted_near : (src : List ℕ) (i e : ℕ) → IsUtf8 src → IsCharBoundary
 quoted_near src i e utf8 start le within all stops =
     near_looked is_quoted_byte is_special (ends_value 34 src) src i e utf8 start le (quoted_cut src e within stops) all quoted_is_plain quoted_same (λ k h. quoted_open _ h)
 
--- and a character behind them, and the bytes behind that
-pub value_on : (src : List ℕ) (quote i j n e : ℕ) (verbatim : Bool) → IsUtf8 src → (quote == 39 || quote == 34) ≡ true → IsCharBoundary src i → IsLookahead (ends_value quote src) is_special src i j verbatim
+-- the same where something changes the value already
+changed_value_is_plain : (b : ℕ) → is_changed_value_byte b ≡ true → is_char_byte b ≡ true
+unfolding is_changed_value_byte is_wide_value_byte is_value_byte
+changed_value_is_plain b h = grind (arith, nat_tests)
+
+changed_value_open : (quote b : ℕ) → (quote == 39 || quote == 34) ≡ true → is_changed_value_byte b ≡ true → (b == quote || b == 60) ≡ false
+unfolding is_changed_value_byte is_wide_value_byte is_value_byte
+changed_value_open quote b q h = grind (arith, nat_tests)
+
+changed_value_leads : (b : ℕ) → is_changed_value_byte b ≡ false → 128 ≤ b → 192 ≤ b
+unfolding is_changed_value_byte is_wide_value_byte is_value_byte
+changed_value_leads b h wide = grind (arith, nat_tests)
+
+pub changed_value_near : (src : List ℕ) (quote i e : ℕ) → IsUtf8 src → (quote == 39 || quote == 34) ≡ true → IsCharBoundary src i → i ≤ e → e ≤ length src → AllPass is_changed_value_byte src i e → (e < length src → is_changed_value_byte (get_or src e 0) ≡ false)
+    → IsLookahead (ends_value quote src) is_special src i e (not (list_any is_special (slice_range src i e)))
+changed_value_near src quote i e utf8 q start le within all stops =
+    let cut : IsCharBoundary src e = (within, λ more wide. changed_value_leads _ (stops more) wide) in
+    record {
+      onward = le;
+      cut = cut;
+      chars = near_chars is_changed_value_byte src i e utf8 start le cut all changed_value_is_plain;
+      apart = λ k low high. changed_value_open quote _ q (all k low high);
+      verbatim_is = refl;
+    }
+
+-- a value that was looked at, and the bytes behind it
+pub value_more : (src : List ℕ) (quote i j k : ℕ) → IsUtf8 src → IsCharBoundary src i → IsLookahead (ends_value quote src) is_special src i j true → IsLookahead (ends_value quote src) is_special src j k true → IsLookahead (ends_value quote src) is_special src i k true
+value_more src quote i j k utf8 start f g = looked_on is_special (ends_value quote src) src i j k true true utf8 start f g
+
+pub changed_value_more : (src : List ℕ) (quote i j k : ℕ) (b : Bool) → IsUtf8 src → IsCharBoundary src i → IsLookahead (ends_value quote src) is_special src i j false → IsLookahead (ends_value quote src) is_special src j k b → IsLookahead (ends_value quote src) is_special src i k false
+changed_value_more src quote i j k b utf8 start f g = looked_on is_special (ends_value quote src) src i j k false b utf8 start f g
+
+-- and a character behind them
+pub value_char : (src : List ℕ) (quote i j n : ℕ) (verbatim : Bool) → IsUtf8 src → (quote == 39 || quote == 34) ≡ true → IsCharBoundary src i → IsLookahead (ends_value quote src) is_special src i j verbatim
     → j < n → IsCharBoundary src n → AreChars src j n → ((k : ℕ) → j < k → k < n → 128 ≤ get_or src k 0) → ends_value quote src j ≡ false
-    → n ≤ e → e ≤ length src → AllPass is_wide_value_byte src n e → (e < length src → is_wide_value_byte (get_or src e 0) ≡ false)
-    → IsLookahead (ends_value quote src) is_special src i e (verbatim && not (is_special (get_or src j 0)))
-value_on src quote i j n e verbatim utf8 q start f some cut chars wide here le within all stops =
-    let ends = ends_value quote src in
-    let one = char_looked is_special ends src j n some cut chars wide wide_same (λ k h. wide_open quote _ q h) here in
-    let two = looked_on is_special ends src i j n verbatim _ utf8 start f one in
-    let three = looked_on is_special ends src i n e _ true utf8 start two (wide_value_near src quote n e utf8 q cut le within all stops) in
-    rw (and_true (verbatim && not (is_special (get_or src j 0)))) at three
+    → IsLookahead (ends_value quote src) is_special src i n (verbatim && not (is_special (get_or src j 0)))
+value_char src quote i j n verbatim utf8 q start f some cut chars wide here =
+    looked_on is_special (ends_value quote src) src i j n verbatim _ utf8 start f (char_looked is_special (ends_value quote src) src j n some cut chars wide wide_same (λ k h. wide_open quote _ q h) here)
 
 not_zero : (quote : ℕ) → (quote == 39 || quote == 34) ≡ true → 0 < quote
 not_zero quote q = grind (arith, nat_tests)

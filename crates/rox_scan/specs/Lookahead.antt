@@ -8,7 +8,7 @@ use Rattle.rox_grammar.specs.Search.{byte_from, stands}
 use Rattle.rox_grammar.specs.Chars.{is_char}
 use Rattle.rox_grammar.specs.Runs.{begins}
 use Rattle.rox_grammar.specs.Content.{is_verbatim}
-use Rattle.rox_bytes.specs.ByteSets.{StopsSet, is_text_byte}
+use Rattle.rox_bytes.specs.ByteSets.{StopsSet, is_text_byte, is_wide_value_byte}
 use Rattle.rox_reading.specs.Values.{is_special, raw_character_data_at}
 use Rattle.rox_grammar.specs.Constructs.{AreChars}
 use Rattle.rox_grammar.specs.FixedTexts.{double_dash}
@@ -42,10 +42,13 @@ pub record IsAfterChar (src : List ℕ) (i j : ℕ) : Type 0 where
 abbrev pub ends_value : ℕ → List ℕ → ℕ → Bool
 ends_value quote src k = (slice_index src k == quote) || (slice_index src k == 60)
 
--- A value is valid from `i` up to `j`. At `j` it ends, a `&` is there, the text ends, or the character there is not a Char.
-pub record LooksAtValue (quote : ℕ) (src : List ℕ) (i j : ℕ) (verbatim : Bool) : Type 0 where
-  pub looked : IsLookahead (ends_value quote src) is_special src i j verbatim
-  pub stops : j < length src → (ends_value quote src j || slice_index src j == 38) ≡ false → begins is_char src j ≡ false
+-- The byte `b` needs no replacement in a value, or changes it.
+unfoldable pub is_changed_value_byte : ℕ → Bool
+is_changed_value_byte b = is_wide_value_byte b || is_special b
+
+-- What is looked at up to `j` is valid up to `k` too, where it is as before whether it is changed.
+abbrev pub GoesOnInValue : ℕ → List ℕ → ℕ → ℕ → Bool → Type 0
+GoesOnInValue quote src j k verbatim = (i : ℕ) → IsCharBoundary src i → IsLookahead (ends_value quote src) is_special src i j verbatim → IsLookahead (ends_value quote src) is_special src i k verbatim
 
 -- Whether character data ends at the offset: a `<` or a `]]>` is there.
 abbrev pub ends_run : List ℕ → ℕ → Bool
@@ -59,7 +62,7 @@ changes_run b = (b == 38) || (b == 13)
 unfoldable pub is_changed_text_byte : ℕ → Bool
 is_changed_text_byte b = is_text_byte b || changes_run b
 
--- What is looked at up to `j` is valid up to `k` too, where it is as before whether it is changed.
+-- As in `GoesOnInValue`, in character data.
 abbrev pub GoesOnLooking : List ℕ → ℕ → ℕ → Bool → Type 0
 GoesOnLooking src j k verbatim = (i : ℕ) → IsCharBoundary src i → IsLookahead (ends_run src) changes_run src i j verbatim → IsLookahead (ends_run src) changes_run src i k verbatim
 

@@ -11,7 +11,7 @@ ghost use Rattle.rox_grammar.specs.Content as content;
 ghost use Rattle.rox_reading.specs.Values as reading;
 ghost use Rattle.rox_bytes.specs.ByteSets as near;
 ghost use Rattle.rox_scan.specs.Lookahead as longer;
-ghost use Rattle.rox_scan.specs.Lookahead.{EndsComment, IsAfterChar, IsLookahead, LooksAhead, LooksAtValue};
+ghost use Rattle.rox_scan.specs.Lookahead.{EndsComment, GoesOnInValue, IsAfterChar, IsLookahead, LooksAhead};
 ghost use Rattle.rox_bytes.specs.ScanResults.{Finds, HasCharAt, MayHaveMark};
 
 use crate::cursor::{Cursor, Quote};
@@ -140,11 +140,48 @@ impl ByteSet for RunByte {
     }
 }
 
-/// Returns how far the value from the cursor on is valid, up to its quote, a `<` or a `&`. It stops at a `&`, as a value with one
-/// reference often has many. A search for the quote is quicker then.
+/// The bytes of `WideValueByte`, and those that change a value: `&` and white space other than spaces.
+struct ChangedValueByte;
+
+// The controls of the set, and the bytes above them that are not in it except 239, each at its low half.
+const CHANGED_VALUE_EXCEPTIONS: [u8; 16] = [
+    1, 0, b'"', 0, 0, 0, 0, b'\'', 0, b'\t', b'\n', 0, b'<', b'\r', 0, 0,
+];
+
+impl ByteSet for ChangedValueByte {
+    ghost test = { longer.is_changed_value_byte };
+
+    #[inline(always)]
+    #[tactic(auto, unfolding(crate::specs::Lookahead::is_changed_value_byte))]
+    fn has(byte: u8) -> bool {
+        WideValueByte::has(byte) | is_special(byte)
+    }
+
+    #[inline(always)]
+    fn others(block: u8x16) -> u64 {
+        let exceptions = by_low(CHANGED_VALUE_EXCEPTIONS, block).simd_eq(block);
+        let controls = block.simd_lt(u8x16::splat(32)) ^ exceptions;
+        (controls | block.simd_eq(u8x16::splat(239))).to_bitmask()
+    }
+}
+
+/// Returns the end of the bytes from `at` on that need no test. Behind a byte that changes a value, no other such byte does.
+#[inline(always)]
+fn value_stretch_end(text: &str, at: usize, quote: Quote, is_verbatim: bool) -> usize
+    requires { IsCharBoundary text.now at }
+    ensures looked { GoesOnInValue quote.byte text.entry.now at result is_verbatim }
+    ensures onward { at ≤ result }
+{
+    if is_verbatim {
+        return skip_set::<WideValueByte>(text, at);
+    }
+    skip_set::<ChangedValueByte>(text, at)
+}
+
+/// Returns how far the value from the cursor on is valid, up to its quote or a `<`.
 pub fn scan_value(from: Cursor<'_>, quote: Quote) -> Lookahead
-    ensures { LooksAtValue quote.byte from.entry.text.now from.entry.pos result.end
-        result.is_verbatim }
+    ensures { LooksAhead (longer.ends_value quote.byte from.entry.text.now) reading.is_special
+        from.entry.text.now from.entry.pos result.end result.is_verbatim }
 {
     let text = from.text;
     let bytes = text.as_bytes();
@@ -152,7 +189,7 @@ pub fn scan_value(from: Cursor<'_>, quote: Quote) -> Lookahead
     let mut end = skip_set::<WideValueByte>(text, from.pos);
     while end < bytes.len() {
         let here = bytes[end];
-        if here == quote.byte || here == b'<' || here == b'&' {
+        if here == quote.byte || here == b'<' {
             break;
         }
         let next = after_char(text, end);
@@ -160,7 +197,7 @@ pub fn scan_value(from: Cursor<'_>, quote: Quote) -> Lookahead
             break;
         }
         is_verbatim &= !is_special(here);
-        end = skip_set::<WideValueByte>(text, next);
+        end = value_stretch_end(text, next, quote, is_verbatim);
     }
     Lookahead { end, is_verbatim }
 }

@@ -44,6 +44,9 @@ fn wide_value_end(text: &str, at: usize, quote: u8) -> usize
     if is_at(text, end, b'"') {
         return end;
     }
+    if changes(text, end) {
+        return 0;
+    }
     verbatim_value_end(text, at, quote)
 }
 
