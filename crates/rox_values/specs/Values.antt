@@ -162,8 +162,8 @@ pub record EndsData (src : List ℕ) (i stop j : ℕ) : Type 0 where
   pub onward : i < j
   pub cut : IsCharBoundary src j
 
--- What character data of the main text gives from `i` up to `j` was appended. Then the rest from `j` on gives what the data from
--- `i` on gave. Each number of items is enough that is not less than that of the bytes.
+-- What character data of the main text gives from `i` up to `j` was appended. So what is appended and the rest from `j` on give
+-- what the data from `i` on gave. `left` is how many items that rest may have.
 pub record PutsData (src : List ℕ) (i stop : ℕ) (old new : List ℕ) (j : ℕ) : Type 0 where
   pub reads : (left : ℕ) × ((stop - j ≤ left) × ((es : List Entity)
       → text_behind new (reading.data_part true es left src stop j) ≡ text_behind old (reading.data_part true es (stop - i) src stop i)))
