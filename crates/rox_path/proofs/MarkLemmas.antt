@@ -3,7 +3,6 @@ use Rattle.std.proofs.Common.{◌≡◌, ◌⊎◌, inl, inr, ℕ, zero, suc, �
 use Rattle.std.specs.List.{Contains, filter, list_any, range_with_len}
 use Rattle.std.specs.Option.{option_eq}
 use Rattle.std.proofs.lemmas.Bool.{cases_lt, and_parts, and_from, le-leb, leb-true, false≢true}
-use Rattle.std.proofs.lemmas.Bool.Decides.{Decides-eqb}
 use Rattle.std.proofs.lemmas.List.{get_or_past, take_more, map-append}
 use Rattle.std.proofs.lemmas.Slice.Eq.{bytes_eq-Decides}
 use Rattle.rox_grammar.specs.Forest.{Forest, size}
@@ -16,7 +15,7 @@ use Rattle.roxmltree.specs.NodeRef.{node_refs}
 use Rattle.rox_path.specs.Steps.{Expanded, PathStep, child, descendant, step_of}
 use Rattle.rox_path.specs.declared.steps.Step.{Step}
 use Rattle.rox_path.specs.Match.{IsElementOf, Match, at_start, by_child, by_descendant, Ascends, Selects}
-use Rattle.rox_path.specs.NodeMarks.{marks_by, is_first, is_marked, is_marked_node, is_one_marked, is_named, is_below, is_child, is_descendant, Laws}
+use Rattle.rox_path.specs.NodeMarks.{marks_by, is_marked, is_marked_node, is_one_marked, is_named, is_below, is_child, is_descendant, Laws}
 use Rattle.rox_path.proofs.Around.{above_around, stays_inside, parent_above, behind, in_front, in_cons, count_some}
 
 -- ---- marks as a list
@@ -173,13 +172,26 @@ pub record Shows (tree : Forest Node) (start : ℕ) (steps : List PathStep) (mar
   pub low : (id : ℕ) → Match tree start steps id → start ≤ id
   pub high : (id : ℕ) → Match tree start steps id → id < start + (place tree start).count
 
--- a start that is a node has a subtree that is not empty
-pub shows_start : (doc : DocumentView) (start : ℕ) → 0 < (place doc.tree start).count → Shows doc.tree start [] (marks_by (is_first start) doc start (place doc.tree start).count)
-shows_start doc start some =
-    let n = (place doc.tree start).count in
+-- at first only the start is marked
+only_first : (k : ℕ) → get_or (true ∷ []) k false ≡ true → k ≡ 0
+only_first zero e = refl
+only_first (suc k) e = absurd (false≢true e)
+
+first_marked : (start : ℕ) → is_marked start (true ∷ []) start ≡ true
+first_marked start =
+    let low = le-leb start start (omega arith) in
+    let here : start - start ≡ 0 = omega arith in
+    rw (low, here) refl
+
+pub start_shows : (doc : DocumentView) (start : ℕ) → start < size doc.tree → Shows doc.tree start [] (true ∷ [])
+start_shows doc start l =
+    let some = count_some doc.tree start l in
     record {
-      sound = λ id e. let same : id ≡ start = (Decides-eqb id start).0 (marked (is_first start) doc start n id e) in subst (λ (i : ℕ). Match doc.tree start [] i) (sym same) at_start;
-      complete = λ id m. let same = match_nothing doc.tree start [] id m refl in rw same (marked_inside (is_first start) doc start n start (omega arith) (omega arith) ∙ (Decides-eqb start start).1 refl);
+      sound = λ id e.
+          let parts = test_true (nat_le start id) (get_or (true ∷ []) (id - start) false) e in
+          let same : id ≡ start = omega (arith, leb-true start id parts.0, only_first (id - start) parts.1) in
+          subst (λ (i : ℕ). Match doc.tree start [] i) (sym same) at_start;
+      complete = λ id m. let same = match_nothing doc.tree start [] id m refl in rw same (first_marked start);
       low = λ id m. let same = match_nothing doc.tree start [] id m refl in omega arith;
       high = λ id m. let same = match_nothing doc.tree start [] id m refl in omega arith;
     }
@@ -349,12 +361,6 @@ next_place doc top n count s rest e =
     (r.0, rw (← a, ← b) r.1)
 
 -- ---- what the functions answer
-
-pub start_shows : (doc : DocumentView) (start : ℕ) (marks : List Bool) → Laws doc.tree → start < size doc.tree → marks ≡ map (is_first start) (node_refs doc (place doc.tree start).descendants) → Shows doc.tree start [] marks
-start_shows doc start marks laws l e =
-    let order = laws.in_order start l in
-    let by = e ∙ ap (λ (ids : List ℕ). map (is_first start) (node_refs doc ids)) order in
-    subst (λ (m : List Bool). Shows doc.tree start [] m) (sym by) (shows_start doc start (count_some doc.tree start l))
 
 pub child_shows : (doc : DocumentView) (start : ℕ) (steps : List PathStep) (name : Expanded) (marks next : List Bool) → Laws doc.tree → start < size doc.tree → Shows doc.tree start steps marks
     → next ≡ map (is_child start marks name) (node_refs doc (place doc.tree start).descendants) → Shows doc.tree start (steps ++ child name ∷ []) next

@@ -1,6 +1,6 @@
 -- Marks on the nodes of a subtree, in document order. The first mark is that of its top node, whose id is `first`. Only private
 -- functions use these definitions.
-use Rattle.std.specs.Prelude.{◌≡◌, ℕ, ◌+◌, ◌-◌, ◌<◌, ◌≤◌, ◌==◌, Bool, false, ◌&&◌, List, ◌∷◌, ◌++◌, map, Option, Some, None, length, nat_le, slice_index_or, if◌then◌else◌}
+use Rattle.std.specs.Prelude.{◌≡◌, ℕ, ◌+◌, ◌-◌, ◌<◌, ◌≤◌, Bool, false, ◌&&◌, List, ◌∷◌, ◌++◌, map, Option, Some, None, length, nat_le, slice_index_or, if◌then◌else◌}
 use Rattle.std.specs.List.{list_any, range_with_len}
 use Rattle.rox_grammar.specs.Forest.{Forest, size}
 use Rattle.rox_grammar.specs.Tree as grammar
@@ -19,10 +19,6 @@ subtree_of start = node_refs (document_of start) (place (tree_of start) (id_of s
 -- The marks that a test gives to `n` nodes, from the id `first` on.
 abbrev pub marks_by : (DocumentView × ℕ → Bool) → DocumentView → ℕ → ℕ → List Bool
 marks_by test document first n = map test (node_refs document (range_with_len first n))
-
--- Whether the node has the id `first`.
-abbrev pub is_first : ℕ → DocumentView × ℕ → Bool
-is_first first node_ref = node_ref.1 == first
 
 -- Whether the node with the id `id` is marked.
 abbrev pub is_marked : ℕ → List Bool → ℕ → Bool

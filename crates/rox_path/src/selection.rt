@@ -5,7 +5,7 @@ ghost use Rattle.roxmltree.specs.ExpandedNames.{expanded};
 ghost use Rattle.roxmltree.specs.NodeRef.{id_of, document_of, tree_of, node_ref, node_refs};
 ghost use Rattle.rox_path.specs.Steps.{step_of};
 ghost use Rattle.rox_path.specs.Match.{Selects};
-ghost use Rattle.rox_path.specs.NodeMarks.{subtree_of, is_first, is_marked, is_marked_node, is_child, is_below, is_descendant, Laws, MarksSoFar};
+ghost use Rattle.rox_path.specs.NodeMarks.{subtree_of, is_marked, is_marked_node, is_child, is_below, is_descendant, Laws, MarksSoFar};
 
 use crate::steps::Step;
 use roxmltree::laws::{
@@ -35,7 +35,9 @@ pub fn select<'a, 'input>(
         × Selects (tree_of start.entry) (id_of start.entry) (map step_of steps.now) ids) }
 {
     laws(&start);
-    let mut marks = start_alone(alloc, &start)?;
+    // a node without a mark is not marked
+    let mut marks = Vec::new(alloc);
+    marks.push(true)?;
     for step in steps {
         marks = match step {
             Step::Child(name) => mark_children(alloc, &start, &marks, *name)?,
@@ -43,18 +45,6 @@ pub fn select<'a, 'input>(
         };
     }
     marked_nodes(alloc, &start, &marks)
-}
-
-/// Returns a mark for `start`, and none for its descendants.
-fn start_alone(alloc: Global, start: &Node<'_, '_>) -> Result<Vec<bool>, AllocError>
-    ensures { IfOk result
-        (λ marks. marks.items ≡ map (is_first (id_of start.now)) (subtree_of start.now)) }
-{
-    let mut marks = Vec::new(alloc);
-    for node in start.descendants() {
-        marks.push(node.id() == start.id())?;
-    }
-    Ok(marks)
 }
 
 /// Returns marks for the elements with this name whose parent is marked.

@@ -1,4 +1,4 @@
-use Rattle.std.proofs.Common.{◌≡◌, Bool, List, map, take, ◌∙◌, sym, subst, ap, Vec, Global}
+use Rattle.std.proofs.Common.{◌≡◌, Bool, true, List, [], ◌∷◌, ◌++◌, map, take, ◌∙◌, sym, subst, ap, Vec, Global}
 use Rattle.std.specs.List.{filter}
 use Rattle.std.proofs.lemmas.Result.{IfOk-weaker}
 use Rattle.std.proofs.lemmas.List.{take_all}
@@ -11,7 +11,11 @@ use Rattle.rox_path.proofs.selection.select.Goals as goal
 use Rattle.rox_path.proofs.selection.select.Goals.{in-Child+in_ok-marks-in-Child, in-Descendant+in_ok-marks-in-Descendant}
 
 pub loop-step-init : goal.loop-step-init
-loop-step-init c = start_shows (document_of c.args.start) (id_of c.args.start) _ c.laws.ensures c.args.start.in_tree c.in_ok-marks.ensures
+loop-step-init c =
+    let doc = document_of c.args.start in
+    let top = id_of c.args.start in
+    let marks = c.in_ok-push.ensures.items ∙ ap (λ (m : List Bool). m ++ true ∷ []) c.new-marks.ensures.items in
+    subst (λ (m : List Bool). Shows doc.tree top [] m) (sym marks) (start_shows doc top c.args.start.in_tree)
 
 pub loop-step-preserved : goal.loop-step-preserved
 loop-step-preserved c =
