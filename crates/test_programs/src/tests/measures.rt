@@ -1,7 +1,7 @@
 //! What `benchmark` makes of figures, arguments, walks and turns. No test looks at a real clock.
 
 use super::{same, text_in, words};
-use rox_measures::arguments::{USAGE, read};
+use rox_measures::arguments::read;
 use rox_measures::clock;
 use rox_measures::fault::Fault;
 use rox_measures::figures::{best, median, megabytes_per_second, share};
@@ -100,33 +100,6 @@ fn reads_arguments(rt: HostRuntime) {
     asks_for(&rt, "./-a 0", "./-a", 0);
     asks_for(&rt, "7 12", "7", 12);
     asks_for(&rt, "a.xml 4294967295", "a.xml", 4_294_967_295);
-}
-
-/// Wants a line to be wrong.
-fn is_wrong(rt: &(impl Abort + AllocGlobal), line: &str) {
-    let command = read(&words(rt, line)).expect(rt, "memory");
-    same(rt, line, command.is_none(), true);
-}
-
-#[test]
-fn tells_wrong_arguments(rt: HostRuntime) {
-    for line in &[
-        "",
-        "-a",
-        "-a 1",
-        "a.xml -1",
-        "a.xml 1.5",
-        "a.xml s",
-        "a.xml 4294967296",
-        "a.xml 1 2",
-    ] {
-        is_wrong(&rt, line);
-    }
-}
-
-#[test]
-fn usage_names_file_and_seconds(rt: HostRuntime) {
-    same(&rt, "usage", USAGE, "usage: benchmark FILE [SECONDS]");
 }
 
 #[test]
