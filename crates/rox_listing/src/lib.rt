@@ -1,10 +1,6 @@
-//! The program `xmltree`: the command that its arguments give, and the listing of a tree or of the elements of a path.
+//! The lines of the program `xmltree`: those that list a tree, and those of some elements.
 #![tactic(auto)]
 
-pub mod arguments;
-pub mod entries;
-pub mod fault;
+mod entries;
 pub mod listing;
-pub mod options;
-pub mod output;
-pub mod run;
+mod output;

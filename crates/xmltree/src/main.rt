@@ -1,9 +1,13 @@
 //! Prints the tree of an XML document, or the elements of a path: `xmltree [--allow-dtd] [--path P] [FILE]`.
 #![tactic(auto)]
 
-use rox_listing::arguments::{USAGE, command};
-use rox_listing::options::Command;
-use rox_listing::run;
+mod arguments;
+mod fault;
+mod options;
+mod run;
+
+use crate::arguments::{USAGE, command};
+use crate::options::Command;
 use rox_programs::program_error::ProgramError;
 use std::env;
 use std::fs::File;

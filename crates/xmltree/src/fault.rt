@@ -28,7 +28,7 @@ impl fmt::Display for Fault {
 }
 
 impl From<PathError> for Fault {
-    ghost use Rattle.rox_listing.specs.Fault.{fault_of_path};
+    ghost use Rattle.xmltree.specs.Fault.{fault_of_path};
 
     ghost from_gives = { λ error fault. fault ≡ fault_of_path error };
 
@@ -41,7 +41,7 @@ impl From<PathError> for Fault {
 }
 
 impl From<ProgramError> for Fault {
-    ghost use Rattle.rox_listing.specs.declared.fault.Fault.TheVariants.{Program};
+    ghost use Rattle.xmltree.specs.declared.fault.Fault.TheVariants.{Program};
 
     ghost from_gives = { λ error fault. fault ≡ Program error };
 
@@ -51,7 +51,7 @@ impl From<ProgramError> for Fault {
 }
 
 impl Fault {
-    ghost use Rattle.rox_listing.specs.Fault.{status_of};
+    ghost use Rattle.xmltree.specs.Fault.{status_of};
 
     /// Returns the exit status. It is 2 for a bad path and for faults of input and output, 1 for a refused text and if memory
     /// runs out.

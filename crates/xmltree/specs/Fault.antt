@@ -3,8 +3,8 @@ use Rattle.rox_path.specs.declared.parse.PathError.{PathError}
 use Rattle.rox_path.specs.declared.parse.PathError.TheVariants as path
 use Rattle.rox_programs.specs.declared.program_error.ProgramError.TheVariants.{OutOfMemory}
 use Rattle.rox_programs.specs.ProgramError as program
-use Rattle.rox_listing.specs.declared.fault.Fault.{Fault}
-use Rattle.rox_listing.specs.declared.fault.Fault.TheVariants.{BadPath, Refused, Program}
+use Rattle.xmltree.specs.declared.fault.Fault.{Fault}
+use Rattle.xmltree.specs.declared.fault.Fault.TheVariants.{BadPath, Refused, Program}
 
 -- The exit status: 1 for a text that is refused, 2 for a bad path, and that of the program's error otherwise.
 abbrev pub status_of : Fault → ℕ

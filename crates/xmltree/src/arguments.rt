@@ -2,7 +2,7 @@
 
 ghost use Rattle.std.specs.Prelude.{◌≡◌, map, string_bytes, IfOk};
 ghost use Rattle.std.specs.Option.{option_map};
-ghost use Rattle.rox_listing.specs.Command.{meaning, command_of, command_behind, command_with};
+ghost use Rattle.xmltree.specs.Command.{meaning, command_of, command_behind, command_with};
 
 use crate::options::Command;
 use std::alloc::{AllocError, Global};
