@@ -349,3 +349,12 @@ near_local src i j utf8 cut h = record {
   part = record { place = near_ends src i j utf8 h; onward = h.ends.onward; cut = near_cut src i j utf8 cut h };
   stops = ne_eqb (slice_index src j) 58 h.no_colon;
 }
+
+-- bytes of which there are some
+pub filled_some : (xs : List ℕ) → bytes_eq xs [] ≡ false → 0 < length xs
+filled_some [] h = absurd (cc h)
+filled_some (x ∷ xs) h = omega arith
+
+pub some_filled : (xs : List ℕ) → 0 < length xs → bytes_eq xs [] ≡ false
+some_filled [] h = absurd (omega (arith, h))
+some_filled (x ∷ xs) h = refl

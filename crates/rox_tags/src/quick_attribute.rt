@@ -94,7 +94,8 @@ fn prefix_namespace(
     prefix: &str,
     near: &mut usize,
 ) -> Option<AttributeNamespace>
-    requires { HasScope elements.now scope }
+    requires scope { HasScope elements.now scope }
+    requires some { 0 < length prefix.now }
     ensures { (n : Name) → n.prefix ≡ prefix.entry.now → bytes_eq n.prefix [] ≡ false
         → IfSome result (λ s. IsAttributeNamespace elements.entry.now scope n s) }
 {

@@ -1,10 +1,10 @@
-use Rattle.std.proofs.Common.{◌≡◌, ◌<◌, ℕ, List, [], ◌∷◌, false, length, bytes_eq, slice_index, refl, ap, sym, ◌∙◌, arith, rules}
+use Rattle.std.proofs.Common.{◌≡◌, length, slice_index, ap, sym, ◌∙◌, arith, rules}
 use Rattle.std.proofs.lemmas.Grind.{common_steps}
 use Rattle.std.proofs.lemmas.Bool.{eqb-true}
 use Rattle.rox_grammar.specs.Failures.{name_view}
 use Rattle.rox_reading.proofs.Stretches.{range_length}
 use Rattle.rox_bytes.proofs.NearLemmas.{part_stops, part_cut}
-use Rattle.rox_tags.proofs.PlainTags.{ascii_begins, value_starts}
+use Rattle.rox_tags.proofs.PlainTags.{ascii_begins, some_filled, value_starts}
 use Rattle.rox_tags.proofs.quick_attribute.put_prefixed_attribute.Goals as goal
 
 pub prefixed_name-requires : goal.prefixed_name-requires
@@ -31,10 +31,21 @@ unchanged_value-requires c =
     let v = value_starts c.args.text.now c.in-Some-prefixed_name.name.end c.utf8.text named.inside named.equals named.quote in
     record { cut = v.cut; near = c.skip_set-near.ensures; quote = c.quote_before-quote.ensures.quote }
 
--- bytes of which there are some
-filled : (xs : List ℕ) → 0 < length xs → bytes_eq xs [] ≡ false
-filled [] some = absurd (omega (arith, some))
-filled (x ∷ xs) some = refl
+pub prefix_namespace-requires : goal.prefix_namespace-requires
+prefix_namespace-requires c = record {
+  scope = c.requires.put.holds.scope;
+  some =
+      let src = c.args.text.now in
+      let i = c.args.start in
+      let j = c.args.part in
+      let near = c.requires.part in
+      let here : slice_index src j ≡ 58 = eqb-true _ _ (sym c.is_at.ensures ∙ c.if-not-is_at.false) in
+      let first = c.requires.put.begins in
+      let apart : i ≡ j → ⊥ = λ same. absurd (let last = ap (slice_index src) same in omega (arith, last, here, first)) in
+      let onward = near.onward in
+      let size = ap length c.range.ensures.value ∙ range_length src i j onward near.within in
+      omega (arith, onward, apart, size);
+}
 
 pub put_named_attribute-requires : goal.put_named_attribute-requires
 put_named_attribute-requires c =
@@ -48,7 +59,7 @@ put_named_attribute-requires c =
     let apart : i ≡ j → ⊥ = λ same. absurd (let last = ap (slice_index src) same in omega (arith, last, here, first)) in
     let onward = near.onward in
     let size = ap length named.prefix ∙ range_length src i j onward near.within in
-    let some = filled c.in-Some-prefixed_name.name.name.prefix.now (omega (arith, onward, apart, size)) in
+    let some = some_filled c.in-Some-prefixed_name.name.name.prefix.now (omega (arith, onward, apart, size)) in
     record {
       put = first_of (search rules, grind (arith, common_steps));
       found = c.in-Some.ensures (name_view c.in-Some-prefixed_name.name.name) (named.prefix ∙ sym c.range.ensures.value) some;

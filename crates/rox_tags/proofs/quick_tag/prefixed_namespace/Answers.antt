@@ -5,13 +5,16 @@ use Rattle.rox_rows.proofs.Stable.{option_more}
 use Rattle.rox_scopes.specs.NamespaceViews.{namespace_view}
 use Rattle.rox_scopes.specs.TagScopes.{scope_in_tables}
 use Rattle.rox_names.proofs.NameTests.{element_some}
-use Rattle.rox_tags.proofs.PlainTags.{few_within, few_once, few_found}
+use Rattle.rox_tags.proofs.PlainTags.{few_within, few_once, few_found, filled_some}
 use Rattle.rox_tags.proofs.quick_tag.prefixed_namespace.Goals as goal
 
 pub find_in_slot-requires : goal.find_in_slot-requires
 find_in_slot-requires c = record {
-  within = few_within c.args.elements.now c.as_slice-namespaces.result.now c.deref.result.now c.deref-2.result.now c.in_ok-places.places.now c.args.scope c.as_slice-namespaces.ensures.value c.deref.ensures.value c.deref-2.ensures.value c.requires.scope.places c.in_ok-places.ensures.few;
-  once = few_once c.args.elements.now c.as_slice-namespaces.result.now c.deref.result.now c.deref-2.result.now c.in_ok-places.places.now c.args.scope c.as_slice-namespaces.ensures.value c.deref.ensures.value c.deref-2.ensures.value c.requires.scope.once c.in_ok-places.ensures.few;
+  once = record {
+    within = few_within c.args.elements.now c.as_slice-namespaces.result.now c.deref.result.now c.deref-2.result.now c.in_ok-places.places.now c.args.scope c.as_slice-namespaces.ensures.value c.deref.ensures.value c.deref-2.ensures.value c.requires.scope.places c.in_ok-places.ensures.few;
+    once = few_once c.args.elements.now c.as_slice-namespaces.result.now c.deref.result.now c.deref-2.result.now c.in_ok-places.places.now c.args.scope c.as_slice-namespaces.ensures.value c.deref.ensures.value c.deref-2.ensures.value c.requires.scope.once c.in_ok-places.ensures.few;
+  };
+  some = filled_some c.args.name.prefix.now c.requires.prefixed;
 }
 
 pub returns : goal.returns
