@@ -9,7 +9,7 @@ use Rattle.rox_reading.specs.Values.{ReadText}
 use Rattle.rox_reading.specs.State.{State, depth_of}
 use Rattle.rox_reading.specs.Machine.{Context, step, drive, with_item}
 use Rattle.rox_scan.specs.declared.cursor.Cursor.{Cursor}
-use Rattle.rox_builder.specs.BuilderState.{Adds, IsInState, IsReady, IsReadyTo, KeepsOpen, ScansTo}
+use Rattle.rox_builder.specs.BuilderState.{Adds, IsInState, IsReady, IsReadyTo, KeepsOpen, Represents, ScansTo}
 use Rattle.rox_build.specs.PlainSteps.{Steps, no_step, one_more, Reads}
 use Rattle.rox_bytes.proofs.RunLemmas.{stands_within}
 use Rattle.rox_builder.proofs.Stepping.{opened_deep, text_stepped}
@@ -59,12 +59,17 @@ pub reads_one : (context : Context) (end : ℕ) (src : List ℕ) (s : State) (c 
     → Reads context end 1 c b src s
 reads_one context end src s c b inner within (t, read, sees) = record { behind = t; steps = one_more 0 s t t inner within read (no_step t); sees = sees }
 
+-- a text opens and closes nothing
+pub inside_still : (end : ℕ) (s t : State) (b u : Builder) → Represents end s.stack s.done b → Represents end t.stack t.done u → u.opened ≡ b.opened → is_root s.stack ≡ false → is_root t.stack ≡ false
+inside_still end s t b u shows after opens inner =
+    let deep : depth_of s.stack ≡ depth_of t.stack = sym (opened_deep end s.stack s.done b shows) ∙ ap (λ os. length os.items) (sym opens) ∙ opened_deep end t.stack t.done u after in
+    still_inside s.stack t.stack deep inner
+
 -- a run opens and closes nothing, and `<` stands behind it
 run_behind : (context : Context) (end : ℕ) (src : List ℕ) (s t : State) (c d : Cursor) (b u : Builder) → IsInState context.limit end s c b → is_root s.stack ≡ false → u.opened ≡ b.opened
     → IsInState context.limit end t d u → slice_index src d.pos ≡ 60 → (is_root t.stack ≡ false) × (t.at < length src)
 run_behind context end src s t c d b u h inner opens sees here =
-    let deep : depth_of s.stack ≡ depth_of t.stack = sym (opened_deep end s.stack s.done b h.shows) ∙ ap (λ os. length os.items) (sym opens) ∙ opened_deep end t.stack t.done u sees.shows in
-    (still_inside s.stack t.stack deep inner, subst (λ (n : ℕ). n < length src) sees.here (stands_within src d.pos 60 here (omega arith)))
+    (inside_still end s t b u h.shows sees.shows opens inner, subst (λ (n : ℕ). n < length src) sees.here (stands_within src d.pos 60 here (omega arith)))
 
 steps_then : (context : Context) (src : List ℕ) (n m : ℕ) (s t u : State) → Steps context src n s t → Steps context src m t u → Steps context src (n + m) s u
 steps_then context src n m s t u (no_step _) more = let e : m ≡ 0 + m = omega arith in subst (λ (j : ℕ). Steps context src j s u) e more
@@ -113,3 +118,11 @@ pub drives_past : (context : Context) (end : ℕ) (src : List ℕ) (whole : Resu
 drives_past context end src whole turns k c d b u g utf8 x =
     let past = drive_past context src g.n k g.s x.behind utf8 x.steps g.enough in
     record { s = x.behind; sees = x.sees; n = past.0; same = sym past.1 ∙ g.same; enough = past.2; onward = omega (arith, g.onward, past.3) }
+
+-- and has moved on
+pub drives_beyond : (context : Context) (end : ℕ) (src : List ℕ) (whole : Result State Refusal) (turns k : ℕ) (c d : Cursor) (b u : Builder) (g : Driving context end src whole turns c b)
+    → IsUtf8 src → Reads context end k d u src g.s → (i : ℕ) → i ≡ g.s.at → i < d.pos
+    → Driving context end src whole (turns + 1) d u
+drives_beyond context end src whole turns k c d b u g utf8 x i stood less =
+    let past = drive_past context src g.n k g.s x.behind utf8 x.steps g.enough in
+    record { s = x.behind; sees = x.sees; n = past.0; same = sym past.1 ∙ g.same; enough = past.2; onward = omega (arith, g.onward, stood, less, x.sees.here) }

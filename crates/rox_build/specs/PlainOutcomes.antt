@@ -1,10 +1,12 @@
 -- What the fast path requires, and how it changes the cursor and the builder. It reads a construct only if that is plain.
-use Rattle.std.specs.Prelude.{◌≡◌, ◌≢◌, ℕ, ◌+◌, ◌<◌, ◌≤◌, ◌^◌, true, false, Bool, List, Result, Ok, length, slice_index, vec_len}
+use Rattle.std.specs.Prelude.{◌≡◌, ◌≢◌, ℕ, ◌+◌, ◌<◌, ◌≤◌, ◌^◌, true, false, Bool, List, IfOk, OnOk, Result, Ok, length, slice_index, vec_len}
 use Rattle.std.specs.Str.{IsCharBoundary}
+use Rattle.std.specs.declared.alloc.AllocError.{AllocError}
 use Rattle.rox_grammar.specs.Chars.{is_part_char}
 use Rattle.rox_grammar.specs.FixedTexts.{word_text}
 use Rattle.rox_grammar.specs.Runs.{run_end}
 use Rattle.rox_grammar.specs.Search.{stands}
+use Rattle.rox_grammar.specs.State.{is_root}
 use Rattle.rox_grammar.specs.declared.fault.Word.{Word}
 use Rattle.rox_reading.specs.Machine as machine
 use Rattle.rox_reading.specs.Refusals.{Refusal}
@@ -12,7 +14,7 @@ use Rattle.rox_reading.specs.State.{State}
 use Rattle.rox_bytes.specs.ByteSets.{StopsSet, is_part_byte}
 use Rattle.rox_bytes.specs.ScanResults.{Finds}
 use Rattle.rox_scan.specs.declared.cursor.Cursor.{Cursor}
-use Rattle.rox_builder.specs.BuilderState.{GoesOn, IsConsistent, IsInState, IsReady, IsReadyTo, KeepsState, ScansTo}
+use Rattle.rox_builder.specs.BuilderState.{GoesOn, IsConsistent, IsInState, IsReady, IsReadyTo, KeepsOpen, KeepsState, ScansTo}
 use Rattle.rox_builder.specs.PendingText.{waiting}
 use Rattle.rox_build.specs.PlainSteps.{Reads}
 use Rattle.rox_tags.specs.PlainParts.{EndsFirstPart}
@@ -157,6 +159,22 @@ pub record ReadsRows (around : ℕ) (main : Bool) (old new : Cursor) (b after : 
       → (n : ℕ) × Reads context end n new after old.text.now s
   pub moves : result ≡ true → old.pos < new.pos
   pub goes : GoesOn old new after
+
+-- Some constructs were read, in any context of a text. Or nothing was, and the builder holds equal rows.
+pub record ReadsSteps (old new : Cursor) (b after : Builder) (result : Result Bool AllocError) : Type 0 where
+  pub value : IfOk result (λ yes. yes ≡ true → (context : machine.Context) (end : ℕ) (s : State) → is_root s.stack ≡ false → IsInState context.limit end s old b
+      → (n : ℕ) × Reads context end n new after old.text.now s)
+  pub moves : IfOk result (λ yes. yes ≡ true → old.pos < new.pos)
+  pub other : IfOk result (λ yes. yes ≡ false → (new ≡ old) × KeepsState b after)
+  pub goes : OnOk result (GoesOn old new after)
+
+-- Character data was read, or nothing was.
+pub record JoinsRun (old new : Cursor) (b after : Builder) (result : Result (Unit {0}) AllocError) : Type 0 where
+  pub value : OnOk result ((context : machine.Context) (end : ℕ) (s : State) → is_root s.stack ≡ false → IsInState context.limit end s old b
+      → (n : ℕ) × Reads context end n new after old.text.now s)
+  pub onward : OnOk result (old.pos ≤ new.pos)
+  pub source : OnOk result (new.text ≡ old.text)
+  pub kept : KeepsOpen b after
 
 -- The markup at `i` was read, up to `j`, or nothing was. If it was read, `j` fits a row and is after `i`, the rows were put into
 -- the room that there was, and no text is open that character data at `j` would continue.

@@ -14,6 +14,7 @@ ghost use Rattle.rox_builder.specs.Readiness.{MayReadTo};
 
 use crate::constructs::{end_tag, markup, parsed};
 use crate::quick_content::{quick_constructs, quick_markup_of_text, quick_repeating};
+use crate::quick_sections::join_section;
 use rox_builder::builder::Builder;
 use rox_grammar::failure::Failure;
 use rox_grammar::fault::Fault;
@@ -357,6 +358,10 @@ pub fn content<'input>(
             return Err(ParseError::Memory);
         }
         if quick_repeating(cursor, builder) {
+            continue;
+        }
+        let joined = join_section(alloc, cursor, builder)?;
+        if joined {
             continue;
         }
         step(alloc, cursor, builder, context)?;

@@ -5,8 +5,10 @@ ghost use Rattle.std.specs.Prelude.{◌≡◌};
 ghost use Rattle.rox_grammar.specs.declared.fault.Word.TheVariants as word;
 ghost use Rattle.rox_reading.specs.Machine as machine;
 ghost use Rattle.rox_reading.specs.Refusals.{lifted};
+ghost use Rattle.rox_builder.specs.Outcomes.{MayStep};
 ghost use Rattle.rox_builder.specs.Readiness.{IsApart, MayReadAt};
-ghost use Rattle.rox_build.specs.PlainOutcomes.{MayReadWord, ReadsIf, ReadsSection, any_context};
+ghost use Rattle.rox_builder.specs.declared.pending.Pending.TheVariants as pending;
+ghost use Rattle.rox_build.specs.PlainOutcomes.{JoinsRun, MayReadWord, ReadsIf, ReadsSection, ReadsSteps, any_context};
 
 use rox_builder::builder::Builder;
 use rox_bytes::runs::is_at;
@@ -14,8 +16,11 @@ use rox_bytes::search::before_byte;
 use rox_grammar::fault::Word;
 use rox_rows::row::{NodeKind, PI};
 use rox_rows::storage::StringStorage;
+use rox_scan::character_data::text_end;
 use rox_scan::cursor::Cursor;
 use rox_scan::markup::whole_comment;
+use rox_values::text_value::cdata_text;
+use std::alloc::{AllocError, Global};
 
 /// Returned in place of the offset after a construct that was not read.
 pub const NOT_READ: usize = usize::MAX;
@@ -126,4 +131,56 @@ pub fn put_delimited<'input>(
         return NOT_READ;
     }
     cursor.pos
+}
+
+/// Joins the character data at the cursor, up to the next `<`, to the text that waits for its row, if it is a slice of the source.
+/// The only error is want of memory.
+#[inline(always)]
+fn join_run<'input>(
+    cursor: &mut Cursor<'input>,
+    builder: &mut Builder<'input>,
+) -> Result<(), AllocError>
+    requires { builder.old.pending ≡ pending.Joined }
+    ensures { JoinsRun cursor.old cursor.new builder.old builder.new result }
+{
+    let start = cursor.pos;
+    let text = cursor.text;
+    if is_at(text, start, b'<') {
+        return Ok(());
+    }
+    let Some(end) = text_end(text, start) else {
+        return Ok(());
+    };
+    cursor.pos = end;
+    builder.join_piece(start, end, &text[start..end])?;
+    Ok(())
+}
+
+/// Reads the CDATA section at the cursor, if one is there and it is valid, and the character data after it, if that is a slice of
+/// the source. Both join the text that may continue. Returns whether anything was read. The only error is want of memory.
+#[inline(never)]
+pub fn join_section<'input>(
+    alloc: Global,
+    cursor: &mut Cursor<'input>,
+    builder: &mut Builder<'input>,
+) -> Result<bool, AllocError>
+    requires { MayStep cursor.old builder.old }
+    ensures { ReadsSteps cursor.old cursor.new builder.old builder.new result }
+{
+    let mut here = *cursor;
+    if !here.starts(Word::CDataStart) {
+        return Ok(false);
+    }
+    let Ok(raw) = here.cdata() else {
+        return Ok(false);
+    };
+    let piece = cdata_text(raw, &mut builder.buffers.scratch)?;
+    let waits = builder.waiting_piece(cursor.pos, here.pos, piece)?;
+    if !waits {
+        return Ok(false);
+    }
+    join_run(&mut here, builder)?;
+    builder.end_run(alloc, here.text, here.pos)?;
+    *cursor = here;
+    Ok(true)
 }

@@ -70,6 +70,13 @@ pub record WaitsForMore (old new : Builder) (result : Result Bool AllocError) (i
   pub other : IfOk result (λ yes. yes ≡ false → new ≡ old)
   pub kept : KeepsOpen old new
 
+-- The piece joined the text that may continue, or waits for its row if there was none. Or the builder holds equal rows.
+pub record AddsWaiting (old new : Builder) (result : Result Bool AllocError) (item : Item) : Type 0 where
+  pub value : IfOk result (λ yes. yes ≡ true → HasAdded old new item)
+  pub waits : IfOk result (λ yes. yes ≡ true → new.pending ≡ pending.Joined)
+  pub other : IfOk result (λ yes. yes ≡ false → KeepsState old new)
+  pub kept : KeepsOpen old new
+
 -- The piece has its row, for which there was room, or the builder holds equal rows.
 pub record PutsOwned (old new : Builder) (result : Bool) (item : Item) : Type 0 where
   pub value : result ≡ true → HasAdded old new item

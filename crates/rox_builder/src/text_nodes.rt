@@ -1,6 +1,6 @@
 //! Text nodes: adjacent pieces of character data are one text, which waits for its row while it may continue.
 
-ghost use Rattle.std.specs.Prelude.{◌<◌, ◌≤◌, ◌+◌, ◌≡◌, [], ℕ, length, is_some, IfOk, OnOk};
+ghost use Rattle.std.specs.Prelude.{◌<◌, ◌≤◌, ◌+◌, ◌≡◌, [], ℕ, List, length, is_some, IfOk, OnOk};
 ghost use Rattle.rox_rows.specs.StoredNodes.{kind_of};
 ghost use Rattle.rox_rows.specs.declared.row.NodeKind.TheVariants as kind;
 ghost use Rattle.rox_builder.specs.TakenText.{MayTakeLast, TakesLast};
@@ -8,6 +8,7 @@ ghost use Rattle.rox_builder.specs.PendingText.{waiting, written, text_of, IsIts
 ghost use Rattle.rox_rows.specs.Storage.{storage_bytes, is_borrowed};
 ghost use Rattle.rox_builder.specs.declared.pending.Pending.TheVariants as pending;
 ghost use Rattle.std.specs.String.{string_bytes};
+ghost use Rattle.rox_values.specs.Values.{piece_view};
 
 use crate::builder::Builder;
 use crate::pending::{JoinedText, Pending};
@@ -26,6 +27,29 @@ use std::alloc::{AllocError, Global};
 struct TextRange {
     start: usize,
     end: usize,
+}
+
+/// Returns the text of a piece, where a changed one has the bytes `changed`.
+#[inline(always)]
+fn bytes_in<'a, 'input: 'a>(piece: TextValue<'input>, changed: &'a str) -> &'a str
+    ensures { result.now ≡ (piece_view piece.entry changed.entry.now).value }
+{
+    match piece {
+        TextValue::Plain(text) => text,
+        TextValue::Changed => changed,
+    }
+}
+
+/// Returns the slice of the source that a piece is, if it is one.
+#[inline(always)]
+fn slice_in<'input>(piece: TextValue<'input>) -> Option<&'input str>
+    ensures its { (changed : List ℕ) → IsItsSlice result (piece_view piece.entry changed).value }
+    ensures borrowed { (changed : List ℕ) → is_some result ≡ (piece_view piece.entry changed).borrowed }
+{
+    match piece {
+        TextValue::Plain(text) => Some(text),
+        TextValue::Changed => None,
+    }
 }
 
 /// Puts the text of a text node into the buffer `joined`, which is cleared first.
@@ -81,15 +105,14 @@ fn storage_of<'input>(
 }
 
 impl<'input> Builder<'input> {
-    ghost use Rattle.std.specs.Prelude.{List, ◌-◌, false, true, Ok};
+    ghost use Rattle.std.specs.Prelude.{◌-◌, false, true, Ok};
     ghost use Rattle.rox_grammar.specs.Written.{Text};
     ghost use Rattle.rox_reading.specs.State.{State};
     ghost use Rattle.rox_reading.specs.Machine.{with_piece};
     ghost use Rattle.rox_builder.specs.DataParts.{HasPart};
-    ghost use Rattle.rox_values.specs.Values.{piece_view};
     ghost use Rattle.rox_builder.specs.BuilderState.{Represents, Adds, KeepsOpen};
     ghost use Rattle.rox_builder.specs.Outcomes.{AddsText, Flushes};
-    ghost use Rattle.rox_builder.specs.Putting.{EndsRun, JoinsText, PutsOwned, PutsText, Settles, WaitsForMore};
+    ghost use Rattle.rox_builder.specs.Putting.{AddsWaiting, EndsRun, JoinsText, PutsOwned, PutsText, Settles, WaitsForMore};
     ghost use Rattle.rox_builder.specs.Readiness.{MayPutText};
 
     /// Writes the text that may continue, if there is one.
@@ -328,6 +351,48 @@ impl<'input> Builder<'input> {
             TextValue::Plain(text) => self.slice_piece(start, end, text),
             TextValue::Changed => self.scratch_piece(alloc, start, end),
         }
+    }
+
+    /// Adds a piece of text as `piece` does, but a text that it starts waits for its row. Returns false, with the builder unchanged,
+    /// if there are too many nodes. The only error is want of memory.
+    #[inline(always)]
+    pub fn waiting_piece(
+        &mut self,
+        start: usize,
+        end: usize,
+        piece: TextValue<'input>,
+    ) -> Result<bool, AllocError>
+        ensures { let text = piece_view piece.entry (string_bytes self.old.buffers.scratch) in
+            AddsWaiting self.old self.new result (Text start end text.value text.borrowed) }
+    {
+        match self.pending {
+            Pending::None => {
+                if self.nodes.len() >= self.nodes_limit as usize {
+                    return Ok(false);
+                }
+                let added = bytes_in(piece, self.buffers.scratch.as_str());
+                self.joined.text.clear();
+                self.joined.text.push_str(added)?;
+                self.joined.slice = slice_in(piece);
+                self.joined.start = start;
+                self.joined.end = end;
+                self.pending = Pending::Joined;
+            }
+            Pending::Written => {
+                let added = bytes_in(piece, self.buffers.scratch.as_str());
+                let range = join_last(&mut self.nodes, &mut self.joined.text, added)?;
+                self.joined.start = range.start;
+                self.joined.end = range.end;
+                self.joined.slice = None;
+                self.pending = Pending::Joined;
+            }
+            Pending::Joined => {
+                let added = bytes_in(piece, self.buffers.scratch.as_str());
+                self.joined.text.push_str(added)?;
+                self.joined.slice = None;
+            }
+        }
+        Ok(true)
     }
 
     /// Returns whether a text waits in the buffer for its row.
