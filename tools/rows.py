@@ -4,10 +4,12 @@ import re
 
 
 def repeated(line):
+    """The line, with each text between braces written as often as the number before it says."""
     return re.sub(r"\\\*(\d+)\{(.*?)\}", lambda found: found[2] * int(found[1]), line)
 
 
 def bytes_of(text):
+    """The bytes of a text with escapes."""
     parts = re.split(r"\\x([0-9a-f]{2})", repeated(text))
     return b"".join(bytes.fromhex(part) if at % 2 else part.encode() for at, part in enumerate(parts))
 

@@ -1,4 +1,4 @@
-//! The programs, as their libraries do what they do: what is printed and told, and the status. The crate holds tests alone.
+//! What no command shows of the programs. The crate holds tests alone.
 #![tactic(auto)]
 
 #[cfg(test)]
