@@ -3,16 +3,11 @@ pub mod Climbing
 pub mod NodeParts
 pub mod Stripped
 pub mod Kinds
-pub mod StoredText
 pub mod TreeCodes
 pub mod DocumentView
 pub mod DocumentCodes
 pub mod DocumentTables
 pub mod EachNode
-pub mod ExpandedNames
-pub mod NamespaceBound
-pub mod AttributeView
-pub mod ElementLists
 pub mod GivesNode
 pub mod Links
 pub mod NodeRows
@@ -49,3 +44,7 @@ pub use Rattle.rox_error.specs.Messages
 pub use Rattle.rox_rows.specs.Rows
 pub use Rattle.rox_rows.specs.Storage
 pub use Rattle.rox_scopes.specs.NamespaceViews
+pub use Rattle.rox_lists.specs.ExpandedNames
+pub use Rattle.rox_lists.specs.StoredText
+pub use Rattle.rox_lists.specs.AttributeView
+pub use Rattle.rox_lists.specs.ElementLists

@@ -6,6 +6,7 @@ use Rattle.std.proofs.lemmas.List.{append-nil}
 use Rattle.rox_grammar.specs.Forest.{Forest, Nil, Cons, size, join}
 use Rattle.rox_grammar.specs.Written.{NamespaceDecl}
 use Rattle.rox_grammar.specs.Tree.{Node, Attribute, Root, Element, Text, Comment, PI}
+use Rattle.rox_lists.specs.ListCodes.{namespace_decl_code, attribute_code}
 
 -- The first siblings with their descendants, `n` nodes in all.
 abbrev pub front : ℕ → Forest Node → Forest Node
@@ -59,36 +60,6 @@ unflattened-append (Cons i c r) nodes =
 -- The list of a forest is read as that forest.
 pub unflattened-flattened : (f : Forest Node) → unflattened (flattened f) ≡ f
 unflattened-flattened f = ap unflattened (sym (append-nil (flattened f))) ∙ unflattened-append f [] ∙ join-nil f
-
--- A declaration as a tuple. Attributes and nodes are stored as tuples too.
-abbrev pub namespace_decl_code : Coded NamespaceDecl
-namespace_decl_code =
-    code_by (Option (List ℕ) × List ℕ) (coded× (coded_option (coded_list coded_ℕ)) (coded_list coded_ℕ))
-    (λ d. (d.prefix, d.uri)) (λ p. record { prefix = p.0; uri = p.1 }) (λ _. refl)
-
-abbrev pub AttributeKey : Type 0
-AttributeKey = (ℕ × (ℕ × (ℕ × ℕ))) × (Option (List ℕ) × (List ℕ × (List ℕ × Bool)))
-
-abbrev pub attribute_key_code : Coded AttributeKey
-attribute_key_code =
-    coded× (coded× coded_ℕ (coded× coded_ℕ (coded× coded_ℕ coded_ℕ)))
-    (coded× (coded_option (coded_list coded_ℕ)) (coded× (coded_list coded_ℕ) (coded× (coded_list coded_ℕ) coded_bool)))
-
-abbrev pub attribute_code : Coded Attribute
-attribute_code =
-    code_by AttributeKey attribute_key_code
-    (λ a. ((a.start, (a.name_end, (a.value_start, a.end))), (a.namespace, (a.local, (a.value, a.borrowed)))))
-    (λ p. record {
-      start = p.0.0;
-      name_end = p.0.1.0;
-      value_start = p.0.1.1.0;
-      end = p.0.1.1.1;
-      namespace = p.1.0;
-      local = p.1.1.0;
-      value = p.1.1.1.0;
-      borrowed = p.1.1.1.1;
-    })
-    (λ _. refl)
 
 -- A node as a tuple: its kind, its range, a text, an optional text, its namespaces and attributes, and a mark.
 abbrev pub NodeKey : Type 0

@@ -1,27 +1,20 @@
 //! A read-only tree of an XML document, in document order. `Document::parse` returns the tree of a text.
 #![tactic(auto)]
 
-mod attributes;
 mod debug;
 mod exchange;
 mod iterators;
 pub mod laws;
 mod lookups;
-mod names;
-mod namespaces;
 mod node_content;
 mod nodes;
 mod options;
 mod order;
 mod parse;
 mod positions;
-mod scopes;
 mod tree;
 
-pub use crate::attributes::{Attribute, Attributes};
 pub use crate::iterators::{AxisIter, Children, Descendants};
-pub use crate::names::{ExpandedName, NS_XML_URI, NS_XMLNS_URI};
-pub use crate::namespaces::NamespaceIter;
 pub use crate::node_content::NodeType;
 pub use crate::nodes::{Node, NodeId, NodeIdTooLarge};
 pub use crate::options::ParsingOptions;
@@ -29,6 +22,9 @@ pub use crate::tree::Document;
 pub use rox_build::resolver::{EntityResolver, NoResolver, ResolveWith};
 pub use rox_error::message::Message;
 pub use rox_error::position::TextPos;
+pub use rox_lists::attributes::{Attribute, Attributes};
+pub use rox_lists::names::{ExpandedName, NS_XML_URI, NS_XMLNS_URI};
+pub use rox_lists::namespaces::NamespaceIter;
 pub use rox_rows::row::PI;
 pub use rox_rows::storage::StringStorage;
 pub use rox_scopes::tables::Namespace;

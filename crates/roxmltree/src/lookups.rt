@@ -5,14 +5,15 @@ ghost use Rattle.std.specs.Option.{option_map, is_some};
 ghost use Rattle.rox_grammar.specs.Tree.{uri_of};
 ghost use Rattle.rox_scopes.specs.NamespaceViews.{namespace_view};
 ghost use Rattle.roxmltree.specs.NodeParts.{is_element_node, local_of, namespace_of, listed_of, attributes_of};
-ghost use Rattle.roxmltree.specs.ExpandedNames.{expanded, same_expanded_name, named, named_locally, prefix_of, first_prefix};
-ghost use Rattle.roxmltree.specs.ElementLists.{attribute_of};
+ghost use Rattle.rox_lists.specs.ExpandedNames.{expanded, same_expanded_name, named, named_locally, prefix_of, first_prefix};
+ghost use Rattle.rox_lists.specs.ElementLists.{attribute_of};
 ghost use Rattle.roxmltree.specs.NodeRef.{item_of};
 
-use crate::attributes::{Attribute, Attributes};
-use crate::names::{ExpandedName, NS_XML_URI, equal_names};
-use crate::namespaces::NamespaceIter;
 use crate::nodes::Node;
+use rox_lists::attributes::{Attribute, Attributes};
+use rox_lists::names::{ExpandedName, NS_XML_URI, equal_names, name_of_parts};
+use rox_lists::namespaces::{NamespaceIter, all_of_scope, no_namespaces};
+use rox_lists::search::{named, plain_named};
 use rox_rows::stored_node::KindRef;
 
 impl<'a, 'input> Node<'a, 'input> {
@@ -21,7 +22,7 @@ impl<'a, 'input> Node<'a, 'input> {
     pub fn tag_name(&self) -> ExpandedName<'a, 'input>
         ensures { expanded result ≡ (namespace_of (item_of self.now), local_of (item_of self.now)) }
     {
-        ExpandedName::from_parts(self.name_namespace(), self.local_name())
+        name_of_parts(self.name_namespace(), self.local_name())
     }
 
     /// Returns the local name of an element, or the empty text for other nodes.
@@ -102,12 +103,12 @@ impl<'a, 'input> Node<'a, 'input> {
     {
         let tables = self.tables;
         let KindRef::Element(element) = tables.nodes.kind(self.row) else {
-            return NamespaceIter::empty();
+            return no_namespaces();
         };
         let scopes = tables.scopes.as_slice();
         let listed = tables.listed.as_slice();
         let namespaces = tables.namespaces.as_slice();
-        NamespaceIter::of_scope(scopes, listed, namespaces, element.scope)
+        all_of_scope(scopes, listed, namespaces, element.scope)
     }
 
     /// Returns the attribute with this expanded name, or `None` if there is none.
@@ -126,8 +127,8 @@ impl<'a, 'input> Node<'a, 'input> {
             ≡ named (expanded name.entry) (attributes_of (item_of self.now)) }
     {
         match name.namespace() {
-            None => Attributes::plain_named(self.attributes(), name.name()),
-            Some(_) => Attributes::named(self.attributes(), &name),
+            None => plain_named(self.attributes(), name.name()),
+            Some(_) => named(self.attributes(), &name),
         }
     }
 

@@ -7,14 +7,14 @@ ghost use Rattle.rox_grammar.specs.Tree.{uri_of};
 ghost use Rattle.rox_scopes.specs.NamespaceViews.{namespace_view};
 ghost use Rattle.roxmltree.specs.Places.{place, children};
 ghost use Rattle.roxmltree.specs.NodeParts.{node_at, is_element_node, is_text_node, start_of, end_of, content_of, namespace_of, listed_of, attributes_of};
-ghost use Rattle.roxmltree.specs.ExpandedNames.{first_prefix};
+ghost use Rattle.rox_lists.specs.ExpandedNames.{first_prefix};
 
-use crate::attributes::Attributes;
 use crate::iterators::Descendants;
-use crate::namespaces::NamespaceIter;
 use crate::nodes::{Node, NodeId};
-use crate::scopes::{first_in_scope, prefix_in_scope};
 use rox_builder::builder::Builder;
+use rox_lists::attributes::Attributes;
+use rox_lists::scopes::{first_in_scope, prefix_in_scope};
+use rox_lists::search::attributes_at;
 use rox_rows::row::namespace_place;
 use rox_rows::stored_node::{KindRef, RowRef, StoredNode};
 use rox_scopes::namespace_table::NamespaceTable;
@@ -316,15 +316,15 @@ impl<'a, 'input> Node<'a, 'input> {
         let tables = self.tables;
         // One comparison is enough for nodes that are not elements, which most nodes of many texts are.
         if !self.is_element() {
-            return Attributes::part(tables, 0, 0);
+            return attributes_at(tables, 0, 0);
         }
         match tables.nodes.kind(self.row) {
             KindRef::Element(element) => {
                 let from = element.attributes_from as usize;
                 let until = element.attributes_until as usize;
-                Attributes::part(tables, from, until)
+                attributes_at(tables, from, until)
             }
-            _ => Attributes::part(tables, 0, 0),
+            _ => attributes_at(tables, 0, 0),
         }
     }
 

@@ -1,7 +1,7 @@
 use Rattle.std.proofs.Common.{◌≡◌, length}
 use Rattle.roxmltree.specs.NodeParts.{node_at, attributes_of}
 use Rattle.roxmltree.specs.NodeRef.{id_of, tree_of}
-use Rattle.roxmltree.specs.ExpandedNames.{named_locally}
+use Rattle.rox_lists.specs.ExpandedNames.{named_locally}
 use Rattle.roxmltree.proofs.nodes.Node.attribute_local.Given as goal
 
 abbrev pub invariant-loop-attribute : goal.invariant-loop-attribute

@@ -1,7 +1,7 @@
 use Rattle.std.proofs.Common.{◌≡◌, ◌<◌, ℕ, Option, Some, ap, arith, subst, ◌∙◌, sym}
 use Rattle.rox_rows.specs.Rows.{OptionWithin}
 use Rattle.roxmltree.proofs.Parts.{row_namespace, row_no_namespace, element_within}
-use Rattle.roxmltree.proofs.Entries.{entry_uri}
+use Rattle.rox_lists.proofs.Entries.{entry_uri}
 use Rattle.rox_rows.specs.StoredNodes.{kind_of}
 use Rattle.rox_rows.proofs.StoredNodes.{lent_element}
 use Rattle.roxmltree.proofs.NodeRows.{row_here}

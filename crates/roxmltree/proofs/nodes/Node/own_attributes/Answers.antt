@@ -5,8 +5,8 @@ use Rattle.rox_rows.proofs.StoredNodes.{lent_element}
 use Rattle.roxmltree.proofs.NodeRows.{row_here}
 use Rattle.roxmltree.proofs.nodes.Node.own_attributes.Goals as goal
 
-pub part-requires-in-Element : goal.part-requires-in-Element
-part-requires-in-Element c =
+pub attributes_at-requires-in-Element : goal.attributes_at-requires-in-Element
+attributes_at-requires-in-Element c =
     let n = c.args.self.now in
     record {
       ordered = (element_within n.tables.now n.document.now.tree _ _ _ n.placed.holds n.in_tree (row_here n) (sym c.kind.ensures ∙ ap kind_of c.in-Element.is)).0;
@@ -14,8 +14,8 @@ part-requires-in-Element c =
       each = n.placed.holds.sound.attributes;
     }
 
-pub part-requires : goal.part-requires
-part-requires c =
+pub attributes_at-requires : goal.attributes_at-requires
+attributes_at-requires c =
     let n = c.args.self.now in
     record {
       ordered = omega arith;
@@ -23,8 +23,8 @@ part-requires c =
       each = n.placed.holds.sound.attributes;
     }
 
-pub part-requires-in_default : goal.part-requires-in_default
-part-requires-in_default c =
+pub attributes_at-requires-in_default : goal.attributes_at-requires-in_default
+attributes_at-requires-in_default c =
     let n = c.args.self.now in
     record {
       ordered = omega arith;
@@ -35,9 +35,9 @@ part-requires-in_default c =
 pub returns-in-Element : goal.returns-in-Element
 returns-in-Element c =
     let n = c.args.self.now in
-    rw c.part-in-Element.ensures (row_attributes n.tables.now n.document.now.tree _ _ _ n.placed.holds n.in_tree (row_here n) (sym c.kind.ensures ∙ ap kind_of c.in-Element.is))
+    rw c.attributes_at-in-Element.ensures (row_attributes n.tables.now n.document.now.tree _ _ _ n.placed.holds n.in_tree (row_here n) (sym c.kind.ensures ∙ ap kind_of c.in-Element.is))
 
 pub returns-in_default : goal.returns-in_default
 returns-in_default c =
     let n = c.args.self.now in
-    rw c.part-in_default.ensures (row_no_attributes n.tables.now n.document.now.tree _ _ n.placed.holds n.in_tree (row_here n) (λ e h. c.in_default.not-Element e (lent_element _ e (c.kind.ensures ∙ h))))
+    rw c.attributes_at-in_default.ensures (row_no_attributes n.tables.now n.document.now.tree _ _ n.placed.holds n.in_tree (row_here n) (λ e h. c.in_default.not-Element e (lent_element _ e (c.kind.ensures ∙ h))))

@@ -1,0 +1,6 @@
+pub mod Fronts
+pub mod Entries
+pub mod AttributeRows
+pub mod Ends
+pub mod ListedFirst
+pub mod PrefixFirst

@@ -1,0 +1,27 @@
+use Rattle.std.proofs.Common.{◌<◌, ◌-◌, [], ◌∷◌, ◌++◌, length, map, ap, sym, ◌∙◌, arith}
+use Rattle.std.specs.List.{slice_range}
+use Rattle.std.proofs.lemmas.List.{map-append}
+use Rattle.rox_rows.specs.Rows.{namespace_at}
+use Rattle.rox_scopes.specs.NamespaceViews.{namespace_view}
+use Rattle.rox_scopes.specs.Scopes.{places_in}
+use Rattle.rox_lists.proofs.Entries.{entry_is}
+use Rattle.rox_lists.proofs.Ends.{last_of}
+use Rattle.rox_lists.proofs.namespaces.NamespaceIterDoubleEndedIterator.next_back.Goals as goal
+
+pub bounds-namespaces-place : goal.bounds-namespaces-place
+bounds-namespaces-place c = c.place_at-place.ensures.place _ c.self.invariant.each
+
+pub returns-clause-steps : goal.returns-clause-steps
+returns-clause-steps c =
+    let d = c.self.inside in
+    let v = c.self.invariant in
+    let namespaces = d.namespaces.now in
+    let places = places_in d.listed.now d.scopes.now d.scope in
+    let f = namespace_at (map namespace_view namespaces) in
+    let rest = slice_range places d.from (d.until - 1) in
+    let place = c.place_at-place.result in
+    let l : place < length namespaces = c.place_at-place.ensures.place _ v.each in
+    sym c.self.view_is
+    ∙ ap (map f) (last_of places d.from d.until 0 (omega arith) v.within)
+    ∙ map-append f rest (_ ∷ [])
+    ∙ ap (λ x. map f rest ++ x ∷ []) (ap f (sym c.place_at-place.ensures.value) ∙ sym (entry_is namespaces place c.index-namespaces-place.result l c.index-namespaces-place.is))
