@@ -5,10 +5,10 @@ ghost use Rattle.std.specs.Option.{option_map};
 ghost use Rattle.rox_rows.specs.Rows.{attribute, attribute_rows};
 ghost use Rattle.rox_scopes.specs.NamespaceViews.{namespace_view};
 ghost use Rattle.rox_lists.specs.ElementLists.{attribute_of, IsAttributeStretch};
-ghost use Rattle.rox_lists.specs.ExpandedNames.{expanded, named};
+ghost use Rattle.rox_lists.specs.ExpandedNames.{expanded, named, named_locally};
 
 use crate::attributes::{Attribute, Attributes};
-use crate::names::ExpandedName;
+use crate::names::{ExpandedName, equal_names};
 use rox_scopes::tables::Tables;
 
 /// Returns the attributes at the indices `from..until` of those of all elements.
@@ -54,6 +54,22 @@ pub fn named<'a, 'input>(
 {
     while let Some(attribute) = attributes.next() {
         if attribute.has_name(name) {
+            return Some(attribute);
+        }
+    }
+    None
+}
+
+/// Returns the first of these attributes that has this local name, whatever its namespace.
+#[inline]
+pub fn named_locally<'a, 'input>(
+    mut attributes: Attributes<'a, 'input>,
+    local: &str,
+) -> Option<Attribute<'a, 'input>>
+    ensures { option_map attribute_of result ≡ named_locally local.now attributes.entry }
+{
+    while let Some(attribute) = attributes.next() {
+        if equal_names(attribute.name(), local) {
             return Some(attribute);
         }
     }

@@ -1,16 +1,17 @@
 -- Children come after their parent, and subtrees are made of those of the children.
-use Rattle.std.proofs.Common.{◌≡◌, ℕ, ◌+◌, ◌<◌, ◌≤◌, refl, sym, subst, arith}
+use Rattle.std.proofs.Common.{◌≡◌, ℕ, ◌+◌, ◌<◌, ◌≤◌, List, [], ◌∷◌, ◌++◌, length, refl, sym, ap, ◌∙◌, subst, arith}
 use Rattle.std.specs.Prelude.{All}
-use Rattle.std.specs.List.{AllByRecursion}
+use Rattle.std.specs.List.{AllByRecursion, flat_map}
 use Rattle.std.proofs.lemmas.List.Elements.{All-from_recursion}
 use Rattle.rox_grammar.specs.Forest.{Forest, Nil, Cons, size}
 use Rattle.rox_grammar.specs.Tree.{Node}
 use Rattle.roxmltree.specs.DocumentView.{DocumentView}
 use Rattle.roxmltree.specs.NodeRef.{node_refs}
-use Rattle.roxmltree.specs.Places.{ids, Place, place, children}
+use Rattle.roxmltree.specs.Places.{ids, all_ids, Place, preorder, place, children}
 use Rattle.roxmltree.specs.ChildrenLeft.{between}
 use Rattle.roxmltree.specs.LaterNodes.{IsLater}
-use Rattle.roxmltree.proofs.Preorder.{here, length-preorder, place_is}
+use Rattle.roxmltree.proofs.Preorder.{at, Sits, Here, here, length-preorder, place_is}
+use Rattle.roxmltree.proofs.Siblings.{descendants_is}
 use Rattle.roxmltree.proofs.Stretches.{children_left}
 
 later_ids : (d : DocumentView) (i b : ℕ) (f : Forest Node) → i < b → b + size f ≤ size d.tree → AllByRecursion (IsLater (d, i)) (node_refs d (ids b f))

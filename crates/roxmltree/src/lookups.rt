@@ -13,7 +13,7 @@ use crate::nodes::Node;
 use rox_lists::attributes::{Attribute, Attributes};
 use rox_lists::names::{ExpandedName, NS_XML_URI, equal_names, name_of_parts};
 use rox_lists::namespaces::{NamespaceIter, all_of_scope, no_namespaces};
-use rox_lists::search::{named, plain_named};
+use rox_lists::search::{named, named_locally, plain_named};
 use rox_rows::stored_node::KindRef;
 
 impl<'a, 'input> Node<'a, 'input> {
@@ -168,13 +168,7 @@ impl<'a, 'input> Node<'a, 'input> {
         ensures { option_map attribute_of result
             ≡ named_locally local.now (attributes_of (item_of self.now)) }
     {
-        let mut attributes = self.attributes();
-        while let Some(attribute) = attributes.next() {
-            if equal_names(attribute.name(), local) {
-                return Some(attribute);
-            }
-        }
-        None
+        named_locally(self.attributes(), local)
     }
 
     /// Returns the URI that is listed for the default namespace: `Some("")` if `xmlns=''` undeclares it. Returns `None` if none
