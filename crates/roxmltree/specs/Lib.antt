@@ -48,3 +48,5 @@ pub use Rattle.rox_lists.specs.ExpandedNames
 pub use Rattle.rox_lists.specs.StoredText
 pub use Rattle.rox_lists.specs.AttributeView
 pub use Rattle.rox_lists.specs.ElementLists
+pub use Rattle.rox_lists.specs.declared.names.ExpandedName
+pub use Rattle.rox_lists.specs.declared.attributes.Attribute
