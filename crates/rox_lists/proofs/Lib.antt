@@ -1,4 +1,3 @@
-pub mod Fronts
 pub mod Entries
 pub mod AttributeRows
 pub mod Ends

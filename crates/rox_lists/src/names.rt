@@ -1,12 +1,14 @@
 //! Names with their namespaces (Namespaces in XML 1.0 section 2.1).
 
-ghost use Rattle.std.specs.Prelude.{◌≡◌, ◌≤◌, ◌+◌, length, Some, None, bytes_eq, slice_range};
-ghost use Rattle.std.specs.Int.{w64, from_le_bytes, to_le_bytes};
+ghost use Rattle.std.specs.Prelude.{◌≡◌, ◌≤◌, length, Some, None, bytes_eq};
 ghost use Rattle.std.specs.Option.{option_map, option_eq};
 ghost use Rattle.rox_rows.specs.Words.{HasLength};
 ghost use Rattle.rox_lists.specs.ExpandedNames.{expanded, same_expanded_name};
 
-use rox_rows::compare::{Pair, WORD, same_bytes, same_words};
+use rox_rows::compare::{
+    LONG_WORD, Pair, STRETCH, WORD, same_bytes, same_long_word, same_long_words, same_sixteen,
+    same_sixteens, same_words,
+};
 use std::fmt;
 
 /// The URI of the prefix `xml`.
@@ -18,67 +20,8 @@ pub const NS_XMLNS_URI: &str = "http://www.w3.org/2000/xmlns/";
 /// The length in bytes from which on two names are compared out of line.
 const LONG: usize = 17;
 
-/// The number of bytes in a long word.
-const LONG_WORD: usize = 8;
-
-/// The number of bytes in two long words.
-const STRETCH: usize = 16;
-
 /// The number of bytes in a long word and a word.
 const FRONT: usize = 12;
-
-/// Returns the eight bytes from `at` on as one long word, the lowest byte first.
-#[inline(always)]
-fn long_word_at(bytes: &[u8], at: usize) -> u64
-    requires { at + 8 ≤ length bytes.now }
-    ensures value { result ≡ from_le_bytes w64 (slice_range bytes.now at (at + 8)) }
-    ensures back { to_le_bytes w64 result ≡ slice_range bytes.now at (at + 8) }
-{
-    u64::from_le_bytes([
-        bytes[at],
-        bytes[at + 1],
-        bytes[at + 2],
-        bytes[at + 3],
-        bytes[at + 4],
-        bytes[at + 5],
-        bytes[at + 6],
-        bytes[at + 7],
-    ])
-}
-
-/// Returns whether both slices have the same eight bytes from `at` on.
-#[inline(always)]
-fn same_long_word(pair: Pair<'_, '_>, at: usize) -> bool
-    requires { at + 8 ≤ length pair.one.now }
-    ensures { result
-        ≡ bytes_eq (slice_range pair.entry.one.now at (at + 8))
-        (slice_range pair.entry.other.now at (at + 8)) }
-{
-    long_word_at(pair.one, at) == long_word_at(pair.other, at)
-}
-
-/// Returns whether two slices of eight to sixteen bytes are equal: their first eight bytes are, and their last eight.
-#[inline(always)]
-fn same_long_words(pair: Pair<'_, '_>) -> bool
-    requires { HasLength 8 16 pair.one.now }
-    ensures { result ≡ bytes_eq pair.entry.one.now pair.entry.other.now }
-{
-    let last = pair.one.len() - LONG_WORD;
-    same_long_word(pair, 0) && same_long_word(pair, last)
-}
-
-/// Returns whether both slices have the same sixteen bytes from `at` on.
-#[inline(always)]
-fn same_stretch(pair: Pair<'_, '_>, at: usize) -> bool
-    requires { at + 16 ≤ length pair.one.now }
-    ensures { result
-        ≡ bytes_eq (slice_range pair.entry.one.now at (at + 16))
-        (slice_range pair.entry.other.now at (at + 16)) }
-{
-    let one = &pair.one[at..at + STRETCH];
-    let other = &pair.other[at..at + STRETCH];
-    same_long_words(Pair { one, other })
-}
 
 /// Returns whether two slices of at least sixteen bytes are equal. Most URIs have at most 32 bytes, so their first sixteen are
 /// compared, and their last sixteen. It is out of line, so that loops over many names stay short.
@@ -90,8 +33,7 @@ fn equal_long(pair: Pair<'_, '_>) -> bool
     if pair.one.len() > 2 * STRETCH {
         return pair.one == pair.other;
     }
-    let last = pair.one.len() - STRETCH;
-    same_stretch(pair, 0) && same_stretch(pair, last)
+    same_sixteens(pair)
 }
 
 /// Like `equal_long`, but makes no call if the last eight bytes differ.
@@ -149,7 +91,7 @@ fn same_short_uris(pair: Pair<'_, '_>) -> bool
     let one = &pair.one[0..FRONT];
     let other = &pair.other[0..FRONT];
     let last = pair.one.len() - STRETCH;
-    same_front(Pair { one, other }) && same_stretch(pair, last)
+    same_front(Pair { one, other }) && same_sixteen(pair, last)
 }
 
 /// Returns whether two URIs are equal. URIs of the most common lengths are compared without a call.

@@ -10,10 +10,10 @@ pub const LONG: usize = 16;
 pub const WORD: usize = 4;
 
 /// The number of bytes in a long word.
-const LONG_WORD: usize = 8;
+pub const LONG_WORD: usize = 8;
 
 /// The number of bytes in two long words.
-const STRETCH: usize = 16;
+pub const STRETCH: usize = 16;
 
 /// Returns the four bytes from `at` on as one word, the lowest byte first.
 #[inline(always)]
@@ -73,7 +73,7 @@ fn long_word_at(bytes: &[u8], at: usize) -> u64
 
 /// Returns whether both slices have the same eight bytes from `at` on.
 #[inline(always)]
-fn same_long_word(pair: Pair<'_, '_>, at: usize) -> bool
+pub fn same_long_word(pair: Pair<'_, '_>, at: usize) -> bool
     requires { at + 8 ≤ length pair.one.now }
     ensures { result
         ≡ bytes_eq (slice_range pair.entry.one.now at (at + 8))
@@ -84,7 +84,7 @@ fn same_long_word(pair: Pair<'_, '_>, at: usize) -> bool
 
 /// Returns whether two slices of eight to sixteen bytes are equal: their first eight bytes are, and their last eight.
 #[inline(always)]
-fn same_long_words(pair: Pair<'_, '_>) -> bool
+pub fn same_long_words(pair: Pair<'_, '_>) -> bool
     requires { HasLength 8 16 pair.one.now }
     ensures { result ≡ bytes_eq pair.entry.one.now pair.entry.other.now }
 {
@@ -94,7 +94,7 @@ fn same_long_words(pair: Pair<'_, '_>) -> bool
 
 /// Returns whether both slices have the same sixteen bytes from `at` on.
 #[inline(always)]
-fn same_sixteen(pair: Pair<'_, '_>, at: usize) -> bool
+pub fn same_sixteen(pair: Pair<'_, '_>, at: usize) -> bool
     requires { at + 16 ≤ length pair.one.now }
     ensures { result
         ≡ bytes_eq (slice_range pair.entry.one.now at (at + 16))
@@ -107,7 +107,7 @@ fn same_sixteen(pair: Pair<'_, '_>, at: usize) -> bool
 
 /// Returns whether two slices of sixteen to thirty-two bytes are equal: their first sixteen bytes are, and their last sixteen.
 #[inline(always)]
-fn same_sixteens(pair: Pair<'_, '_>) -> bool
+pub fn same_sixteens(pair: Pair<'_, '_>) -> bool
     requires { HasLength 16 32 pair.one.now }
     ensures { result ≡ bytes_eq pair.entry.one.now pair.entry.other.now }
 {
