@@ -18,14 +18,14 @@ use Rattle.rox_grammar.specs.Due.{DueItem, a_name, a_qname, a_byte, a_text, char
 use Rattle.rox_faults.proofs.DueForms.{a_space}
 use Rattle.rox_grammar.specs.Due as due
 use Rattle.rox_grammar.specs.Faults.{InMisc, comment_lacks, double_dashes, a_declaration, instruction_lacks}
+use Rattle.rox_grammar.proofs.AtPlace.{run_at_end, space_ascii}
 use Rattle.rox_theory.proofs.Productions.{comment_parts, pi_parts}
 use Rattle.rox_theory.proofs.FirstMarks.{comment_ends}
 use Rattle.rox_theory.proofs.Basics.{within, run_end_le}
-use Rattle.rox_theory.proofs.NameLemmas.{run_past}
 use Rattle.rox_theory.proofs.CharLemmas.{begins_byte, some_run}
 use Rattle.rox_faults.proofs.NameSpans.{run_cut}
 use Rattle.rox_theory.proofs.DeclarationLemmas.{stands_reads, stands_fits}
-use Rattle.rox_theory.proofs.Places.{space_ascii, stands_two}
+use Rattle.rox_theory.proofs.Places.{stands_two}
 use Rattle.rox_theory.proofs.Constructions.{comment_bytes, instruction_bytes}
 use Rattle.rox_theory.proofs.FailedReadings.{chars_refuse}
 use Rattle.rox_faults.proofs.FaultRows.{mark_cut, behind}
@@ -64,7 +64,7 @@ module _ (src : List ℕ) (utf8 : IsUtf8 src) where
   pub space_stands : (p : ℕ) (f : Fault) → IsCharBoundary src p → p < spaces_end src p → IsMissing src p a_space f → ⊥
   space_stands p f cut some (none_of _ inside none) =
       true≢false (sym (begins_byte is_space (λ c h. space_ascii c h) src p utf8 cut (some_run is_space src p some)) ∙ none)
-  space_stands p f cut some (none_left _ past) = let e = run_past is_space src p past in absurd (omega arith)
+  space_stands p f cut some (none_left _ past) = let e = run_at_end is_space src p past in absurd (omega arith)
 
   -- Chars.
   pub chars_stand : (i e : ℕ) (f : Fault) → IsCharBoundary src i → IsCharBoundary src e → AreChars src i e → IsMissing src i (chars_to e) f → ⊥

@@ -16,13 +16,13 @@ use Rattle.rox_grammar.specs.Constructs as constructs
 use Rattle.rox_grammar.specs.Due.{DueItem, a_byte, a_text, chars_to, IsMissing, none_left, DueInPair, its_name, equals, opening, its_value, closing, value_end, DueInXmlDecl, its_version, in_pair, behind_pair, behind_standalone, none_of}
 use Rattle.rox_faults.proofs.DueForms.{a_quote, a_space, quote_is}
 use Rattle.rox_grammar.specs.Due as due
+use Rattle.rox_grammar.proofs.AtPlace.{space_ascii}
 use Rattle.rox_reading.specs.Lexical.{qname_at}
 use Rattle.rox_reading.specs.Markup.{pair_at, pair_if}
 use Rattle.rox_theory.proofs.Basics.{within}
 use Rattle.rox_theory.proofs.NameLemmas.{qname_complete}
 use Rattle.rox_faults.proofs.NameSpans.{cut_behind}
 use Rattle.rox_theory.proofs.CharLemmas.{begins_byte, some_run}
-use Rattle.rox_theory.proofs.Places.{space_ascii}
 use Rattle.rox_theory.proofs.LiteralLemmas.{quote_ascii, literal_closes, literal_complete}
 use Rattle.rox_theory.proofs.DeclarationLemmas.{IsFollowed, pair_complete, pair_cut, pair_if_complete}
 use Rattle.rox_theory.proofs.FailedReadings.{ok_one}

@@ -39,8 +39,9 @@ use Rattle.rox_theory.proofs.DeclarationLemmas.{stands_reads}
 use Rattle.rox_theory.proofs.LiteralLemmas.{from_bound, from_here}
 use Rattle.rox_theory.proofs.ReferenceLemmas.{IsRead, is_character, is_entity, reference_sound, character_complete, name_complete}
 use Rattle.rox_theory.proofs.CharLemmas.{run_some, begins_byte}
-use Rattle.rox_theory.proofs.StretchLemmas.{slice_cons, slice_length}
+use Rattle.rox_theory.proofs.StretchLemmas.{slice_cons}
 use Rattle.rox_reading.specs.Machine.{name_span}
+use Rattle.rox_reading.proofs.Stretches.{range_length}
 use Rattle.rox_theory.proofs.FailedReadings.{bind_err, no_fault, chars_fails, byte_fails, string_fails, qname_fails}
 
 -- The first place from `i` on where the fixed text is, or the end.
@@ -250,7 +251,7 @@ slice_split src (suc d) i k j to le inside =
 -- The span of a local part holds it.
 pub local_holds : (src : List ℕ) (name : Name) (k n : ℕ) → name.local ≡ slice src k n → k ≤ n → n ≤ length src → SpanIs src (local_span name n) name.local
 local_holds src name k n is le inside =
-    let long : length (slice src k n) ≡ n - k = slice_length src k n le inside in
+    let long : length (slice src k n) ≡ n - k = range_length src k n le inside in
     let e : n - length name.local ≡ k = rw is (omega arith) in
     ap (λ (i : ℕ). slice src i n) e ∙ sym is
 

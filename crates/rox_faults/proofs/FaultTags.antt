@@ -45,7 +45,6 @@ use Rattle.rox_theory.proofs.Basics.{ok_same, bind_ok, chosen, within, run_end_l
 use Rattle.rox_theory.proofs.NameLemmas.{slice_nil, qname_sound}
 use Rattle.rox_faults.proofs.NameSpans.{run_cut, cut_behind, qname_text}
 use Rattle.rox_theory.proofs.CharLemmas.{space_some}
-use Rattle.rox_theory.proofs.StretchLemmas.{slice_length}
 use Rattle.rox_theory.proofs.LiteralLemmas.{from_le, from_bound, from_here, quote_sound, quote_ascii, literal_closes, literal_plain}
 use Rattle.rox_theory.specs.Openers.{AreTexts, AgreesValue}
 use Rattle.rox_theory.proofs.AttributeLemmas.{literal_stop, turn_sound, attribute_sound, attribute_le}
@@ -57,6 +56,7 @@ use Rattle.rox_faults.proofs.FaultPoints.{Refuses}
 use Rattle.rox_faults.proofs.FaultValues.{InPart, value_fails}
 use Rattle.rox_faults.proofs.StateCounts.{attributes_are, pairs_there, pairs_counted, more_pairs_there}
 use Rattle.rox_grammar.specs.Content.{attribute}
+use Rattle.rox_reading.proofs.Stretches.{range_length}
 
 -- A quote that is required.
 pub quote_fails : (src : List ℕ) (i : ℕ) (f : Fault) → quote_at src i ≡ Err f → IsMissing src i a_quote f
@@ -86,7 +86,7 @@ name_holds src i n name utf8 cut' (prefixed _ k _ front colon is last) =
     let inside = qname_inside src i n _ utf8 cut' (prefixed i k n front colon is last) in
     let le = run_end_le is_part_char src i in let l = (ncname_parts front).longest in
     let le' = run_end_le is_part_char src (k + 1) in let l' = (ncname_parts is).longest in
-    let long : length (slice src i k) ≡ k - i = slice_length src i k (omega arith) (omega arith) in
+    let long : length (slice src i k) ≡ k - i = range_length src i k (omega arith) (omega arith) in
     let z : i + length (slice src i k) ≡ k = omega arith in
     (ap (slice src i) z, local_holds src (record { prefix = slice src i k; local = slice src (k + 1) n }) (k + 1) n refl (omega arith) inside)
 

@@ -47,7 +47,7 @@ use Rattle.rox_theory.proofs.NameLemmas.{chars_here, qname_sound}
 use Rattle.rox_faults.proofs.NameSpans.{run_cut, cut_behind}
 use Rattle.rox_theory.proofs.LiteralLemmas.{from_le, quote_sound, quote_ascii}
 use Rattle.rox_theory.proofs.DeclarationLemmas.{pair_sound, pair_if_sound, pair_if_ends, last_at}
-use Rattle.rox_theory.proofs.Places.{over_spaces, space_ascii, space_within}
+use Rattle.rox_theory.proofs.Places.{over_spaces, space_within}
 use Rattle.rox_theory.proofs.Constructions.{comment_bytes, instruction_bytes}
 use Rattle.rox_theory.proofs.Standing.{IsValidState}
 use Rattle.rox_theory.specs.ValidState.{state}
@@ -70,6 +70,7 @@ use Rattle.rox_faults.proofs.FaultPoints.{Refuses, refuses_here, From, fine_fits
 use Rattle.rox_faults.proofs.FaultPlaces.{Here, tag_fails, tag_taken, tagged_takes, tag_goes, takes_cut, takes_opened, drive_fails}
 use Rattle.rox_grammar.specs.Document as document
 use Rattle.rox_grammar.specs.Content as content
+use Rattle.rox_grammar.proofs.AtPlace.{space_ascii}
 
 -- After white space stands none.
 pub no_more_space : (src : List ℕ) (i : ℕ) → IsUtf8 src → IsCharBoundary src i → is_space (byte src (spaces_end src i)) ≡ false

@@ -1,43 +1,15 @@
 -- The number of different pairs, counted one by one.
-use Rattle.std.proofs.Common.{◌≡◌, ℕ, ◌+◌, ◌≤◌, ◌||◌, Bool, true, false, cond, List, [], ◌∷◌, ◌++◌, length, Option, None, Some, refl, sym, ap, ◌∙◌, arith, inl, inr, length-append}
-use Rattle.std.specs.Prelude.{bytes_eq}
+use Rattle.std.proofs.Common.{◌≡◌, ℕ, ◌+◌, ◌≤◌, ◌||◌, Bool, true, false, cond, List, [], ◌∷◌, ◌++◌, length, refl, sym, ap, ◌∙◌, arith, inl, inr, length-append}
 use Rattle.std.specs.List.{list_any}
-use Rattle.std.proofs.lemmas.Bool.{cases_Bool, and_parts}
-use Rattle.std.proofs.lemmas.Slice.Eq.{bytes_eq-Decides}
+use Rattle.std.proofs.lemmas.Bool.{cases_Bool, or_parts}
+use mathlib.Core.Bool.{or-false, or-true}
 use Rattle.rox_grammar.specs.Forest.{Forest, size}
 use Rattle.rox_grammar.specs.Written.{NamespaceDecl, Item}
-use Rattle.rox_grammar.specs.Tree.{same_prefix}
 use Rattle.rox_grammar.specs.Document.{attributes_in, pairs_in, same_pair, distinct_count, most_attributes, most_pairs, IsWithinLimits}
 use Rattle.rox_grammar.specs.Counts.{has_pair, with_new, distinct_pairs}
+use Rattle.rox_grammar.proofs.PairLemmas.{same_pair-true, has_last}
 
 -- ---- how many differ
-
-prefix_is : (p q : Option (List ℕ)) → same_prefix p q ≡ true → p ≡ q
-prefix_is None None is = refl
-prefix_is None (Some q) is = cc is
-prefix_is (Some p) None is = cc is
-prefix_is (Some p) (Some q) is = ap Some ((bytes_eq-Decides p q).0 is)
-
--- Equal by the test is equal.
-pair_is : (d e : NamespaceDecl) → same_pair d e ≡ true → d ≡ e
-pair_is d e is =
-    let both = and_parts (same_prefix d.prefix e.prefix) (bytes_eq d.uri e.uri) is in
-    let p = prefix_is d.prefix e.prefix both.0 in
-    let u = (bytes_eq-Decides d.uri e.uri).0 both.1 in
-    ap (λ (x : Option (List ℕ)). record { prefix = x; uri = d.uri }) p ∙ ap (λ (x : List ℕ). record { prefix = e.prefix; uri = x }) u
-
--- A pair at the end.
-has_last : (ds : List NamespaceDecl) (e x : NamespaceDecl) → has_pair (ds ++ e ∷ []) x ≡ (has_pair ds x || same_pair e x)
-has_last [] e x = elim (same_pair e x) as (λ b. (b || false) ≡ b) [ true ↦ refl | false ↦ refl ]
-has_last (d ∷ ds) e x = elim (same_pair d x) as (λ b. (b || has_pair (ds ++ e ∷ []) x) ≡ ((b || has_pair ds x) || same_pair e x)) [ true ↦ refl | false ↦ has_last ds e x ]
-
-or_false : (b : Bool) → (b || false) ≡ b
-or_false true = refl
-or_false false = refl
-
-or_true : (b : Bool) → (b || true) ≡ true
-or_true true = refl
-or_true false = refl
 
 -- How many of the second differ, and are not among the first.
 counted : List NamespaceDecl → List NamespaceDecl → ℕ
@@ -49,14 +21,10 @@ counted_apart : (known : List NamespaceDecl) (e : NamespaceDecl) (ds : List Name
 unfolding counted
 counted_apart known e [] none = refl
 counted_apart known e (d ∷ ds) none =
-    let n = or_none (same_pair e d) (list_any (same_pair e) ds) none in
-    let same : has_pair (known ++ e ∷ []) d ≡ has_pair known d = has_last known e d ∙ ap (λ (b : Bool). has_pair known d || b) n.0 ∙ or_false (has_pair known d) in
+    let n = or_parts (same_pair e d) (list_any (same_pair e) ds) none in
+    let same : has_pair (known ++ e ∷ []) d ≡ has_pair known d = has_last known e d ∙ ap (λ (b : Bool). has_pair known d || b) n.0 ∙ or-false (has_pair known d) in
     let rest = counted_apart known e ds n.1 in
     rw (same, rest) refl
-  where
-    or_none : (a b : Bool) → (a || b) ≡ false → (a ≡ false) × (b ≡ false)
-    or_none true b h = cc h
-    or_none false b h = (refl, h)
 
 -- One more is known that is among them.
 counted_again : (known : List NamespaceDecl) (e : NamespaceDecl) (ds : List NamespaceDecl) → has_pair known e ≡ false → list_any (same_pair e) ds ≡ true
@@ -66,8 +34,8 @@ counted_again known e [] new some = cc some
 counted_again known e (d ∷ ds) new some =
     elim (cases_Bool (same_pair e d)) as (λ q. 1 + counted (known ++ e ∷ []) (d ∷ ds) ≡ counted known (d ∷ ds)) [
       | inl is ↦ (
-          let same : d ≡ e = sym (pair_is e d is) in
-          let there : has_pair (known ++ e ∷ []) d ≡ true = has_last known e d ∙ ap (λ (b : Bool). has_pair known d || b) is ∙ or_true (has_pair known d) in
+          let same : d ≡ e = sym (same_pair-true e d is) in
+          let there : has_pair (known ++ e ∷ []) d ≡ true = has_last known e d ∙ ap (λ (b : Bool). has_pair known d || b) is ∙ or-true (has_pair known d) in
           let absent : has_pair known d ≡ false = ap (has_pair known) same ∙ new in
           elim (cases_Bool (list_any (same_pair d) ds)) as (λ q. 1 + counted (known ++ e ∷ []) (d ∷ ds) ≡ counted known (d ∷ ds)) [
             | inl again ↦ (
@@ -79,7 +47,7 @@ counted_again known e (d ∷ ds) new some =
           ])
       | inr other ↦ (
           let some' : list_any (same_pair e) ds ≡ true = ap (λ (b : Bool). b || list_any (same_pair e) ds) (sym other) ∙ some in
-          let same : has_pair (known ++ e ∷ []) d ≡ has_pair known d = has_last known e d ∙ ap (λ (b : Bool). has_pair known d || b) other ∙ or_false (has_pair known d) in
+          let same : has_pair (known ++ e ∷ []) d ≡ has_pair known d = has_last known e d ∙ ap (λ (b : Bool). has_pair known d || b) other ∙ or-false (has_pair known d) in
           rw same (one_more (has_pair known d || list_any (same_pair d) ds) (counted (known ++ e ∷ []) ds) (counted known ds) (counted_again known e ds new some')))
     ]
   where

@@ -1,3 +1,5 @@
+pub mod PairLemmas
+pub mod AtPlace
 pub mod CountForms
 pub mod NamesApart
 pub mod TagParts

@@ -1,6 +1,7 @@
 -- The names of a tag, one after the others: what loops over declarations and attributes know.
-use Rattle.std.proofs.Common.{◌≡◌, true, false, ◌||◌, ◌&&◌, Bool, List, [], ◌∷◌, ◌++◌, refl}
+use Rattle.std.proofs.Common.{◌≡◌, true, false, ◌||◌, Bool, List, [], ◌∷◌, ◌++◌, refl}
 use Rattle.std.specs.List.{list_any, list_all, IsDistinct, AllByRecursion}
+use Rattle.std.proofs.lemmas.Bool.{or_parts, and_parts}
 use Rattle.rox_grammar.specs.Written.{Attribute, NamespaceDecl}
 use Rattle.rox_grammar.specs.Tree.{same_prefix}
 use Rattle.rox_grammar.specs.WellNamed.{may_declare, AreDeclarable, is_known, same_expanded, AreDistinct}
@@ -22,10 +23,6 @@ DistinctBehind scope before as' = FineBehind (λ a. is_known scope a.name) (λ a
 abbrev AnyLike : {A : Type 0} → (A → A → Bool) → List A → List A → Bool
 AnyLike same before xs = list_any (λ e. list_any (same e) xs) before
 
-neither : (a b : Bool) → (a || b) ≡ false → (a ≡ false) × (b ≡ false)
-neither true b h = (h, elim b as (λ b. b ≡ false) [ true ↦ h | false ↦ refl ])
-neither false b h = (refl, h)
-
 like_none : {A : Type 0} (same : A → A → Bool) (before : List A) → AnyLike same before [] ≡ false
 like_none same [] = refl
 like_none same (b ∷ before) = like_none same before
@@ -35,16 +32,16 @@ like_first : {A : Type 0} (same : A → A → Bool) (before : List A) (x : A) (x
     → AnyLike same before (x ∷ xs) ≡ false
 like_first same [] x xs one more = refl
 like_first same (b ∷ before) x xs one more =
-    let o = neither (same b x) (list_any (λ e. same e x) before) one in
-    let m = neither (list_any (same b) xs) (AnyLike same before xs) more in
+    let o = or_parts (same b x) (list_any (λ e. same e x) before) one in
+    let m = or_parts (list_any (same b) xs) (AnyLike same before xs) more in
     rw (o.0, m.0) (like_first same before x xs o.1 m.1)
 
 first_like : {A : Type 0} (same : A → A → Bool) (before : List A) (x : A) (xs : List A) → AnyLike same before (x ∷ xs) ≡ false
     → (list_any (λ e. same e x) before ≡ false) × (AnyLike same before xs ≡ false)
 first_like same [] x xs h = (refl, refl)
 first_like same (b ∷ before) x xs h =
-    let o = neither (same b x || list_any (same b) xs) (AnyLike same before (x ∷ xs)) h in
-    let i = neither (same b x) (list_any (same b) xs) o.0 in
+    let o = or_parts (same b x || list_any (same b) xs) (AnyLike same before (x ∷ xs)) h in
+    let i = or_parts (same b x) (list_any (same b) xs) o.0 in
     let r = first_like same before x xs o.1 in
     (rw i.0 r.0, rw i.1 r.1)
 
@@ -53,24 +50,20 @@ like_more : {A : Type 0} (same : A → A → Bool) (before : List A) (x : A) (xs
     → AnyLike same (before ++ x ∷ []) xs ≡ false
 like_more same [] x xs h one = rw one refl
 like_more same (b ∷ before) x xs h one =
-    let m = neither (list_any (same b) xs) (AnyLike same before xs) h in
+    let m = or_parts (list_any (same b) xs) (AnyLike same before xs) h in
     rw m.0 (like_more same before x xs m.1 one)
 
 more_like : {A : Type 0} (same : A → A → Bool) (before : List A) (x : A) (xs : List A) → AnyLike same (before ++ x ∷ []) xs ≡ false
     → (AnyLike same before xs ≡ false) × (list_any (same x) xs ≡ false)
-more_like same [] x xs h = (refl, (neither (list_any (same x) xs) false h).0)
+more_like same [] x xs h = (refl, (or_parts (list_any (same x) xs) false h).0)
 more_like same (b ∷ before) x xs h =
-    let m = neither (list_any (same b) xs) (AnyLike same (before ++ x ∷ []) xs) h in
+    let m = or_parts (list_any (same b) xs) (AnyLike same (before ++ x ∷ []) xs) h in
     let r = more_like same before x xs m.1 in
     (rw m.0 r.0, r.1)
 
-both_true : (a b : Bool) → (a && b) ≡ true → (a ≡ true) × (b ≡ true)
-both_true true b h = (refl, h)
-both_true false b h = (h, elim b as (λ b. b ≡ true) [ true ↦ refl | false ↦ h ])
-
 none_is : {A : Type 0} (p : A → Bool) (xs : List A) → list_any p xs ≡ false → AllByRecursion (λ x. p x ≡ false) xs
 none_is p [] h = tt
-none_is p (x ∷ xs) h = let n = neither (p x) (list_any p xs) h in (n.0, none_is p xs n.1)
+none_is p (x ∷ xs) h = let n = or_parts (p x) (list_any p xs) h in (n.0, none_is p xs n.1)
 
 is_none : {A : Type 0} (p : A → Bool) (xs : List A) → AllByRecursion (λ x. p x ≡ false) xs → list_any p xs ≡ false
 is_none p [] h = refl
@@ -81,7 +74,7 @@ module _ {A : Type 0} (p : A → Bool) (same : A → A → Bool) where
   unfolding IsDistinct
   behind before [] all none apart = tt
   behind before (x ∷ xs) all none (one, apart) =
-      let a = both_true (p x) (list_all p xs) all in
+      let a = and_parts (p x) (list_all p xs) all in
       let n = first_like same before x xs none in
       (a.0, n.0, behind (before ++ x ∷ []) xs a.1 (like_more same before x xs n.1 (is_none (same x) xs one)) apart)
 

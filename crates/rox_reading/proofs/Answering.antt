@@ -167,8 +167,3 @@ pub continued : (run : List Reply → Asks Dtd) (first asked : List Asked) (limi
     → Answered (λ rs. subset limit i n src (left_with rs d)) asked e → Answered run (first ++ asked) e
 continued run first asked limit i n src d e on h more =
     ap run (replies_then first asked more) ∙ on (replies_of asked ++ more) ∙ ap (λ (r : Asks Dtd). having_asked first r) (h more)
-
-pub continued_stops : (run : List Reply → Asks Dtd) (first asked : List Asked) (limit i n : ℕ) (src : List ℕ) (d : Dtd) (e : Refusal) → Continues run first limit i n src d
-    → Stops (λ rs. subset limit i n src (left_with rs d)) asked e → Stops run (first ++ asked) e
-continued_stops run first asked limit i n src d e on h more =
-    ap run (replies_then first asked (with_refusal e more)) ∙ on (replies_of asked ++ with_refusal e more) ∙ ap (λ (r : Asks Dtd). having_asked first r) (h more)

@@ -1,8 +1,10 @@
 -- Stretches of a source.
-use Rattle.std.proofs.Common.{◌≡◌, ℕ, ◌+◌, ◌-◌, ◌<◌, ◌≤◌, List, [], ◌∷◌, ◌++◌, length, take, drop, get_or, slice_range, refl, ap, ◌∙◌, arith, length-drop}
+use Rattle.std.proofs.Common.{◌≡◌, ℕ, true, ◌+◌, ◌-◌, ◌<◌, ◌≤◌, List, [], ◌∷◌, ◌++◌, length, take, drop, get_or, slice_range, refl, ap, ◌∙◌, arith, length-drop}
 use Rattle.std.proofs.Math.Seq.{take-append-add}
 use Rattle.std.proofs.lemmas.List.{length-take, get_or-drop, take_more, take_all}
 use Rattle.std.proofs.lemmas.List.Folds.{drop_split}
+use Rattle.std.proofs.lemmas.Bool.Decides.{nat_tests}
+use Rattle.rox_reading.specs.Values.{is_special}
 
 -- How long a stretch is.
 pub range_length : (src : List ℕ) (i j : ℕ) → i ≤ j → j ≤ length src → length (slice_range src i j) ≡ j - i
@@ -28,3 +30,7 @@ slice-more xs i j d le lt =
 -- A stretch up to the end.
 pub slice-rest : {A : Type 0} (xs : List A) (i : ℕ) → slice_range xs i (length xs) ≡ drop i xs
 slice-rest xs i = take_all (length xs - i) (drop i xs) (rw length-drop (omega arith))
+
+-- A byte that ends a stretch of a value is ASCII.
+pub special_ascii : (b : ℕ) → is_special b ≡ true → b < 128
+special_ascii b h = grind (arith, nat_tests)

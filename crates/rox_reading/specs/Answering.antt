@@ -1,5 +1,5 @@
 -- The result of a reading that asks for external entities, whatever replies follow those that it takes.
-use Rattle.std.specs.Prelude.{◌≡◌, ℕ, List, ◌∷◌, ◌++◌, Ok, Err}
+use Rattle.std.specs.Prelude.{◌≡◌, ℕ, List, ◌++◌, Ok, Err}
 use Rattle.rox_grammar.specs.Doctype.{Asked}
 use Rattle.rox_reading.specs.Refusals.{Refusal, here, there, refused}
 use Rattle.rox_reading.specs.Doctype.{Reply, Asks, Dtd, replies_of, subset}

@@ -25,6 +25,7 @@ use Rattle.rox_theory.specs.ParseParts.{MayHaveDoctype, doctype, no_doctype}
 use Rattle.rox_grammar.specs.WellNamed.{ItemWellNamed}
 use Rattle.rox_reading.specs.Markup.{comment_at, Instruction, instruction_at, xml_decl_at}
 use Rattle.rox_grammar.specs.State.{root}
+use Rattle.rox_grammar.proofs.AtPlace.{run_at_end}
 use Rattle.rox_reading.specs.State.{State}
 use Rattle.rox_reading.specs.Machine.{with_item, comment_step, instruction_step}
 use Rattle.rox_reading.specs.Doctype.{Reply, replies_of, AreTextReplies, Asks, Dtd}
@@ -36,7 +37,7 @@ use Rattle.rox_theory.specs.Openers.{AreTexts}
 use Rattle.rox_theory.proofs.Productions.{comment_parts, pi_parts, end_parts}
 use Rattle.rox_theory.proofs.Basics.{within as byte_within, ok_same, bind_ok, chosen}
 use Rattle.rox_theory.proofs.Constructions.{name_byte, comment_bytes, instruction_bytes, doctype_bytes, IsNameByte}
-use Rattle.rox_theory.proofs.NameLemmas.{run_stops, run_past}
+use Rattle.rox_theory.proofs.NameLemmas.{run_stops}
 use Rattle.rox_theory.proofs.DeclarationLemmas.{stands_reads, declaration_opens, declaration_sound, declaration_complete}
 use Rattle.rox_theory.proofs.Places.{over_spaces, spaces_on, space_within}
 use Rattle.rox_theory.proofs.CharTexts.{run_cut}
@@ -127,7 +128,7 @@ element_stops main O src i j b c one is = from_tag (begins one is)
 pub end_stops : (src : List ℕ) → Stops src (length src)
 end_stops src =
     record {
-      no_space = run_past is_space src (length src) (omega arith);
+      no_space = run_at_end is_space src (length src) (omega arith);
       no_comment = false_from_ne_true _ (λ h. let b = comment_bytes src (length src) h in omega arith);
       no_instruction = false_from_ne_true _ (λ h. let b = instruction_bytes src (length src) h in omega arith);
     }

@@ -20,13 +20,15 @@ use Rattle.rox_theory.specs.ParseParts.{MayHaveDoctype, doctype, no_doctype}
 use Rattle.rox_grammar.specs.Expansion.{longest}
 use Rattle.rox_theory.specs.ItemSize.{most_bytes, bytes_in, IsBounded}
 use Rattle.rox_theory.proofs.Productions.{reference_parts}
-use Rattle.rox_theory.proofs.Onward.{run_onward, reference_onward, value_char, part_bytes, qname_onward, eq_onward, tag_end_onward, end_onward, section_onward, byte_onward}
+use Rattle.rox_theory.proofs.Onward.{reference_onward, value_char, part_bytes, qname_onward, eq_onward, tag_end_onward, end_onward, section_onward}
 use Rattle.rox_theory.proofs.Following.{few_opened, few_opened_in_value}
 use Rattle.rox_theory.proofs.Weights.{piece_most, section_most, misc_most, counts_weigh, more_times}
 use Rattle.rox_theory.proofs.Measures.{Measure, most_of, fewer, by_bytes, by_count, count_in}
 use Rattle.rox_theory.proofs.DoctypeParts.{passed_end}
 use Rattle.rox_theory.proofs.ParseParts.{parts}
 use Rattle.rox_grammar.specs.Content.{attribute}
+use Rattle.rox_theory.proofs.Basics.{run_end_le}
+use Rattle.rox_theory.proofs.LiteralLemmas.{from_le}
 
 -- ---- the main text
 
@@ -188,10 +190,10 @@ module _ (of : Forest Item → ℕ) (is_measure : Measure of) (O : Inclusion) (w
 -- ---- where the parts of a document type declaration end
 
 quoted_onward : (src : List ℕ) (i e j : ℕ) → IsQuoted src i e j → i ≤ j
-quoted_onward src i e j is = let h = byte_onward (λ c. c == byte src i) src (i + 1) in omega (arith, h, is.1, is.3)
+quoted_onward src i e j is = let h = from_le (λ c. c == byte src i) src (i + 1) in omega (arith, h, is.1, is.3)
 
 name_onward : (src : List ℕ) (i j : ℕ) → IsName src i j → i ≤ j
-name_onward src i j is = let h = run_onward is_name_char src i in omega (arith, h, is.longest)
+name_onward src i j is = let h = run_end_le is_name_char src i in omega (arith, h, is.longest)
 
 external_onward : (src : List ℕ) (i j : ℕ) (request : _) → IsExternalID src i request j → i ≤ j
 external_onward src i j request (system _ s e _ opens before quoted) = let h = quoted_onward src s e j quoted in omega (arith, h, before.0)
@@ -202,10 +204,10 @@ external_onward src i j request (public _ p d k s e _ opens before one between q
 
 notation_onward : (src : List ℕ) (parameter : Bool) (i j : ℕ) → MayHaveNotation src parameter i j → i ≤ j
 notation_onward src parameter i j (notation _ s _ opens before name) =
-    let h = run_onward is_space src i in
+    let h = run_end_le is_space src i in
     let g = name_onward src s j name in
     omega (arith, h, g, before.0)
-notation_onward src parameter i j (no_notation _ none) = run_onward is_space src i
+notation_onward src parameter i j (no_notation _ none) = run_end_le is_space src i
 notation_onward src parameter i j (of_parameter _) = omega arith
 
 definition_onward : (src : List ℕ) (parameter : Bool) (i j : ℕ) (asked : List Asked) (text : _) → IsDefinition src parameter i j asked text → i ≤ j
@@ -224,18 +226,18 @@ declaration_onward src i j asked declared (entity_declaration parameter n m d e 
     let p = kind_onward src k parameter n kind in
     let q = name_onward src n m name in
     let r = definition_onward src parameter d e asked text definition in
-    let s = run_onward is_space src e in
+    let s = run_end_le is_space src e in
     omega (arith, before.0, p, q, behind.0, r, s)
 
 passed_onward : (src : List ℕ) (i : ℕ) → i ≤ passed_end src i
-passed_onward src i = let h = byte_onward (λ c. c == 62) src i in omega (arith, h)
+passed_onward src i = let h = from_le (λ c. c == 62) src i in omega (arith, h)
 
 begins_onward : (src : List ℕ) (i s : ℕ) → BeginsDoctype src i s → i ≤ s
 begins_onward src i s (doctype_begins n m x _ before name may) =
     let q = name_onward src n m name in
-    let a = run_onward is_space src m in
+    let a = run_end_le is_space src m in
     let y = may_onward (spaces_end src m) x may in
-    let b = run_onward is_space src x in
+    let b = run_end_le is_space src x in
     omega (arith, before.0, q, a, y, b)
   where
     may_onward : (i j : ℕ) → MayHaveExternalID src i j → i ≤ j
@@ -305,7 +307,7 @@ module _ (of : Forest Item → ℕ) (is_measure : Measure of) where
   doctype_itself src i j items asked es (with_subset _ s k _ _ _ begins here is close end) =
       let b = begins_onward src i s begins in
       let h = all_subset src (s + 1) k items asked es is in
-      let g = run_onward is_space src (k + 1) in
+      let g = run_end_le is_space src (k + 1) in
       omega (arith, b, h, g)
 
   all_doctype : (src : List ℕ) (i j : ℕ) (dtd : Bool) (items : Forest Item) (asked : List Asked) (es : List Entity) → MayHaveDoctype src i j dtd items asked es → of items + i ≤ j

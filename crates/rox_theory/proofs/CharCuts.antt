@@ -1,25 +1,24 @@
 -- Where stretches of Chars are joined and cut, and the Chars of references.
-use Rattle.std.proofs.Common.{◌≡◌, ℕ, zero, suc, ◌+◌, ◌-◌, ◌<◌, ◌≤◌, ◌==◌, Bool, true, ◌||◌, ◌&&◌, leb, ltb, List, [], ◌∷◌, ◌++◌, length, take, drop, refl, sym, ap, ◌∙◌, subst, arith, inl, inr, ◌⊎◌, length-append}
+use Rattle.std.proofs.Common.{◌≡◌, ℕ, zero, suc, ◌+◌, ◌-◌, ◌<◌, ◌≤◌, ◌==◌, Bool, true, ◌||◌, ◌&&◌, leb, ltb, List, [], ◌∷◌, length, take, drop, refl, sym, ap, ◌∙◌, subst, arith, inl, inr, ◌⊎◌, length-append}
 use Rattle.std.specs.Char.{encode_utf8}
 use Rattle.std.specs.List.{list_all, list_any}
 use Rattle.std.specs.Str.{chars, IsUtf8, IsCharBoundary}
 use Rattle.std.proofs.Math.Utf8.{encodes}
-use Rattle.std.proofs.Math.Seq.{take-append-add}
 use Rattle.std.proofs.lemmas.Bool.{and_parts, and_from, and_left, and_right, or_cases, or_right, leb-true, ltb-true, le-leb, lt-leb, not_from_false}
 use Rattle.std.proofs.lemmas.Bool.Decides.{nat_tests}
 use Rattle.std.proofs.lemmas.List.{drop-take}
-use Rattle.std.proofs.lemmas.List.Folds.{drop_split}
 use Rattle.std.proofs.lemmas.Str.{encodes-chars, length-encode}
 use Rattle.rox_grammar.specs.Chars.{is_between, is_char, name_start_ranges, name_more_ranges, is_name_start, is_name_char}
 use Rattle.rox_grammar.specs.Runs.{run_end, passing}
 use Rattle.rox_grammar.specs.Names.{byte, slice}
 use Rattle.rox_grammar.specs.Constructs.{AreChars}
 use Rattle.rox_grammar.specs.References.{is_digit, is_hex_digit, IsNumber, IsReference, IsCharacter, decimal, hexadecimal, named}
+use Rattle.rox_reading.proofs.Stretches.{range_parts, range_length}
 use Rattle.rox_theory.proofs.ReferenceStarts.{hash_bytes, hex_bytes}
 use Rattle.rox_theory.proofs.Productions.{number_parts, reference_parts}
 use Rattle.rox_theory.proofs.Basics.{within}
 use Rattle.rox_theory.proofs.NameLemmas.{slice_nil}
-use Rattle.rox_theory.proofs.StretchLemmas.{slice_length, slice_cons}
+use Rattle.rox_theory.proofs.StretchLemmas.{slice_cons}
 use Rattle.rox_theory.proofs.ReferenceLemmas.{bytes_pass, reference_opens}
 use Rattle.rox_theory.proofs.CharTexts.{IsCharText, no_text, texts_joined, byte_text, chars_between, chars_within, cut_behind, run_of_chars}
 
@@ -37,21 +36,14 @@ unfolding run_end
 text_chars src i j le inside text =
     let e : i + (j - i) ≡ j = omega arith in
     let front : drop i (take j src) ≡ slice src i j = ap (λ (m : ℕ). drop i (take m src)) (sym e) ∙ drop-take i (j - i) src in
-    let long = slice_length src i j le inside in
+    let long = range_length src i j le inside in
     let all = all_passing is_char (chars (slice src i j)) text.all in
     let spelled = ap length (encodes-chars (slice src i j) text.utf8) in
     rw front (omega arith)
 
--- A slice in two parts.
-pub slice_parts : (src : List ℕ) (a b c : ℕ) → a ≤ b → b ≤ c → c ≤ length src → slice src a c ≡ slice src a b ++ slice src b c
-slice_parts src a b c le le' inside =
-    let long = slice_length src a b le (omega arith) in
-    let e : c - a ≡ length (slice src a b) + (c - b) = omega arith in
-    ap (take (c - a)) (drop_split src a b le) ∙ ap (λ (n : ℕ). take n (slice src a b ++ drop b src)) e ∙ take-append-add (slice src a b) (drop b src) (c - b)
-
 -- Two stretches in a row are one.
 pub stretches_joined : (src : List ℕ) (i j k : ℕ) → i ≤ j → j ≤ k → k ≤ length src → IsCharText (slice src i j) → IsCharText (slice src j k) → IsCharText (slice src i k)
-stretches_joined src i j k le le' inside a b = subst (λ (v : List ℕ). IsCharText v) (sym (slice_parts src i j k le le' inside)) (texts_joined (slice src i j) (slice src j k) a b)
+stretches_joined src i j k le le' inside a b = subst (λ (v : List ℕ). IsCharText v) (sym (range_parts src i j k le le' inside)) (texts_joined (slice src i j) (slice src j k) a b)
 
 pub chars_joined : (src : List ℕ) (i j k : ℕ) → IsUtf8 src → IsCharBoundary src i → IsCharBoundary src j → IsCharBoundary src k → i ≤ j → j ≤ k → AreChars src i j → AreChars src j k → AreChars src i k
 chars_joined src i j k utf8 a b c le le' f g =

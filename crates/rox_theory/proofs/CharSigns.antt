@@ -18,6 +18,7 @@ use Rattle.rox_grammar.specs.References.{number, character, predefined, IsNumber
 use Rattle.rox_grammar.specs.Runs.{first_passes}
 use Rattle.rox_grammar.specs.Content.{is_literal, Inclusion, DataByte, literal, data_bytes_of, literals, line_ends, piece, Part, part_ends, as_written, from_reference, last_part, then_entity, value_bytes, Value, value_ends, line_end, white, other, a_character, an_entity}
 use Rattle.rox_grammar.specs.RunParts.{Parts}
+use Rattle.rox_reading.proofs.Stretches.{range_parts}
 use Rattle.rox_theory.specs.CharItems.{ItemsChars}
 use Rattle.rox_theory.proofs.Productions.{number_parts, reference_parts}
 use Rattle.rox_theory.proofs.Basics.{chosen}
@@ -25,8 +26,9 @@ use Rattle.rox_theory.proofs.NameLemmas.{slice_nil}
 use Rattle.rox_theory.proofs.StretchLemmas.{slice_cons}
 use Rattle.rox_theory.proofs.ReferenceLemmas.{reference_opens, character_opens}
 use Rattle.rox_theory.proofs.CharTexts.{no_text, texts_joined, char_text, byte_text, cut_at, cut_behind, chars_within}
-use Rattle.rox_theory.proofs.CharCuts.{slice_parts, name_char}
+use Rattle.rox_theory.proofs.CharCuts.{name_char}
 use Rattle.rox_theory.proofs.Onward.{part_bytes, reference_onward}
+use Rattle.rox_theory.proofs.PartLemmas.{kept_ends}
 
 -- Each character of a part of a name is a Char.
 pub part_char : (c : ℕ) → is_part_char c ≡ true → is_char c ≡ true
@@ -126,16 +128,11 @@ chars_front (c ∷ cs) ss s h rest =
           rw stay (texts_joined (encode_utf8 c) (line_ends all) (char_text c s'.0 h'.0) more))
     ])
 
--- What was kept stays.
-kept_stay : (bs : List ℕ) (ss : List DataByte) → line_ends (data_bytes_of true bs ++ ss) ≡ bs ++ line_ends ss
-kept_stay [] ss = refl
-kept_stay (b ∷ bs) ss = ap (λ (r : List ℕ). b ∷ r) (kept_stay bs ss)
-
 -- A text in front, literal or kept.
 pub text_front : (main : Bool) (v : List ℕ) (ss : List DataByte) → IsCharText v → SignChars ss → SignChars (data_bytes_of main v ++ ss)
 text_front false v ss h rest =
     subst (λ (w : List ℕ). SignChars (literals w ++ ss)) (encodes-chars v h.utf8) (chars_front (chars v) ss (scalars-chars v h.utf8) h.all rest)
-text_front true v ss h rest = subst (λ (w : List ℕ). IsCharText w) (sym (kept_stay v ss)) (texts_joined v (line_ends ss) h rest)
+text_front true v ss h rest = subst (λ (w : List ℕ). IsCharText w) (sym (kept_ends v ss)) (texts_joined v (line_ends ss) h rest)
 
 -- The text of a part.
 pub piece_items : (i j : ℕ) (borrowed : Bool) (ss : List DataByte) → SignChars ss → ItemsChars (piece i j borrowed ss)
@@ -164,7 +161,7 @@ module _ (src : List ℕ) (utf8 : IsUtf8 src) (start stop : ℕ) (first : IsChar
   -- One byte more.
   grown : (k i : ℕ) → k ≤ i → i < stop → slice src k (i + 1) ≡ slice src k i ++ (byte src i ∷ [])
   grown k i on within =
-      slice_parts src k i (i + 1) on (omega arith) (omega (arith, last.0))
+      range_parts src k i (i + 1) on (omega arith) (omega (arith, last.0))
       ∙ ap (λ (r : List ℕ). slice src k i ++ r) (slice_cons src i (i + 1) (omega arith) (omega (arith, last.0)) ∙ ap (λ (r : List ℕ). byte src i ∷ r) (slice_nil src (i + 1)))
 
   -- The signs of a part, with what is in front of it.

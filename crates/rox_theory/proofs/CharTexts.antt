@@ -4,18 +4,18 @@ use Rattle.std.specs.Char.{encode_utf8}
 use Rattle.std.specs.List.{list_all}
 use Rattle.std.specs.Str.{chars, IsUtf8, IsCharBoundary}
 use Rattle.std.proofs.Math.Utf8.{encodes, scalar, scalars, low_scalar}
-use Rattle.std.proofs.Math.Seq.{take-append-add, take-append_seam, drop-append_seam}
+use Rattle.std.proofs.Math.Seq.{take-append_seam, drop-append_seam}
 use Rattle.std.proofs.lemmas.Bool.{and_parts, and_from, cases_Bool}
 use Rattle.std.proofs.lemmas.List.{append-nil, drop-take, drop-drop}
-use Rattle.std.proofs.lemmas.List.Folds.{list_all-append, drop_split}
+use Rattle.std.proofs.lemmas.List.Folds.{list_all-append}
 use Rattle.std.proofs.lemmas.Str.{chars-nil, chars-encodes, chars-append, encodes-chars, scalars-chars, encode_ascii, IsUtf8-nil, IsUtf8-append, IsUtf8-between, IsUtf8-drop, IsCharBoundary-from_drop, IsCharBoundary-before_ascii, IsCharBoundary-after_ascii, length-encode, len_utf8_bounds}
 use Rattle.rox_grammar.specs.Chars.{is_char}
 use Rattle.rox_grammar.specs.Runs.{run_end, passing}
 use Rattle.rox_grammar.specs.Names.{byte, slice}
 use Rattle.rox_grammar.specs.Constructs.{AreChars}
 use Rattle.rox_theory.proofs.Basics.{within}
-use Rattle.rox_theory.proofs.StretchLemmas.{slice_length}
 pub use Rattle.rox_grammar.specs.CharText.{IsCharText}
+use Rattle.rox_reading.proofs.Stretches.{range_parts, range_length}
 
 -- ---- joined and cut
 
@@ -80,26 +80,19 @@ chars_between src i j utf8 from to h =
     let e : i + (j - i) ≡ j = omega arith in
     let front : drop i (take j src) ≡ slice src i j = ap (λ (m : ℕ). drop i (take m src)) (sym e) ∙ drop-take i (j - i) src in
     let text = IsUtf8-between src i j utf8 le from to in
-    let long = slice_length src i j le to.0 in
+    let long = range_length src i j le to.0 in
     let h' : i + passing is_char (chars (slice src i j)) ≡ j = rw front at h in
     let spelled = ap length (encodes-chars (slice src i j) text) in
     record { utf8 = text; all = all_pass is_char (chars (slice src i j)) (omega arith) }
-
--- A stretch in two parts.
-slice_split : (src : List ℕ) (a b c : ℕ) → a ≤ b → b ≤ c → c ≤ length src → slice src a c ≡ slice src a b ++ slice src b c
-slice_split src a b c le le' inside =
-    let long = slice_length src a b le (omega arith) in
-    let e : c - a ≡ length (slice src a b) + (c - b) = omega arith in
-    ap (take (c - a)) (drop_split src a b le) ∙ ap (λ (n : ℕ). take n (slice src a b ++ drop b src)) e ∙ take-append-add (slice src a b) (drop b src) (c - b)
 
 -- And what is between two such places within it.
 pub chars_within : (src : List ℕ) (from to i j : ℕ) → IsUtf8 src → IsCharBoundary src from → IsCharBoundary src to → AreChars src from to
     → from ≤ i → i ≤ j → j ≤ to → IsCharBoundary src i → IsCharBoundary src j → IsCharText (slice src i j)
 chars_within src from to i j utf8 first last h a b c cut cut' =
     let whole = chars_between src from to utf8 first last h in
-    let split = slice_split src from i to a (omega arith) last.0 in
+    let split = range_parts src from i to a (omega arith) last.0 in
     let rest = (text_cut (slice src from i) (slice src i to) (IsUtf8-between src from i utf8 a first cut) (IsUtf8-between src i to utf8 (omega arith) cut last) (subst (λ (v : List ℕ). IsCharText v) split whole)).1 in
-    let split' = slice_split src i j to b c last.0 in
+    let split' = range_parts src i j to b c last.0 in
     (text_cut (slice src i j) (slice src j to) (IsUtf8-between src i j utf8 b cut cut') (IsUtf8-between src j to utf8 c cut' last) (subst (λ (v : List ℕ). IsCharText v) split' rest)).0
 
 -- ---- runs of characters that pass

@@ -12,16 +12,17 @@ use Rattle.rox_grammar.specs.Names.{byte, slice, spaces_end, IsName}
 use Rattle.rox_grammar.specs.Entities.{Replacement}
 use Rattle.rox_grammar.specs.Doctype.{Request, IsQuoted, IsSpace, IsExternalID, system, public, MayHaveNotation, notation, no_notation, of_parameter, IsKind, BeginsEntity, entity_begins, MayHaveExternalID, external_id, no_external_id, BeginsDoctype, doctype_begins}
 use Rattle.rox_grammar.specs.Doctype as grammar
+use Rattle.rox_grammar.proofs.AtPlace.{run_at_end}
 use Rattle.rox_reading.specs.Lexical.{byte_at, space_at, quote_at, name_at}
 use Rattle.rox_reading.specs.Doctype.{quoted_at, system_at, public_at, external_id_at, name_or_end_at, notation_at, Definition, inner, outer, definition_at, EntityHead, kind_at, entity_head_at, external_id_if, doctype_head_at}
+use Rattle.rox_reading.proofs.Stretches.{range_length}
 use Rattle.rox_theory.proofs.Basics.{ok_same, bind_ok, chosen, within, byte_sound, byte_complete, run_end_le}
-use Rattle.rox_theory.proofs.NameLemmas.{name_sound, name_complete, run_past}
+use Rattle.rox_theory.proofs.NameLemmas.{name_sound, name_complete}
 use Rattle.rox_theory.proofs.CharLemmas.{space_some, some_run, begins_byte, space_ascii}
 use Rattle.rox_theory.proofs.LiteralLemmas.{from_le, from_here, quote_sound, quote_complete, quote_ascii}
 use Rattle.rox_theory.proofs.DeclarationLemmas.{stands_reads, stands_fits}
 use Rattle.rox_theory.proofs.CharTexts.{cut_behind, run_cut}
 use Rattle.rox_theory.proofs.Places.{begins_within}
-use Rattle.rox_theory.proofs.StretchLemmas.{slice_length}
 use Rattle.rox_theory.proofs.DoctypeParts.{BeginsParts, begins_parts, CutsNotation, cuts_name}
 
 -- ---- white space
@@ -42,7 +43,7 @@ unfolding space_at
 space_complete src i j utf8 cut s =
     let all = s.1 in
     let some : i < spaces_end src i = omega (arith, s.0) in
-    let inside : i < length src = elim (cases_lt i (length src)) as (λ s. i < length src) [ inl l ↦ l | inr past ↦ absurd (omega (arith, run_past is_space src i past)) ] in
+    let inside : i < length src = elim (cases_lt i (length src)) as (λ s. i < length src) [ inl l ↦ l | inr past ↦ absurd (omega (arith, run_at_end is_space src i past)) ] in
     let k = lt-leb (length src) i inside in
     let is : is_space (byte src i) ≡ true = begins_byte is_space (λ c h. omega (arith, space_ascii c h)) src i utf8 cut (some_run is_space src i some) in
     rw (k, is, ← all) refl
@@ -230,7 +231,7 @@ definition_sound parameter src i x h =
     let e = quoted_end src i in
     let s = quoted_sound src i q quoted in
     let le = quoted_le src i e q.1 s.0 in
-    let long : length q.0 ≡ e - (i + 1) = ap length s.1 ∙ slice_length src (i + 1) e le.0 (omega (arith, s.0.2)) in
+    let long : length q.0 ≡ e - (i + 1) = ap length s.1 ∙ range_length src (i + 1) e le.0 (omega (arith, s.0.2)) in
     let to : i + 1 + length q.0 ≡ e = omega (arith, le.0) in
     let t_is : ◌≡◌ {A = Replacement} (record { source = take (i + 1 + length q.0) src; start = i + 1 }) (record { source = take e src; start = i + 1 }) = rw to refl in
     subst (λ (x : Definition × ℕ). Defines src parameter i x.0 x.1) (ok_same _ _ h) (e, s.0, t_is)))
@@ -249,7 +250,7 @@ inner_complete parameter src i e j q =
     let test : (byte src i == 34 || byte src i == 39) ≡ true = elim q.0 as (λ _. (byte src i == 34 || byte src i == 39) ≡ true) [ inl a ↦ or_right _ _ (eq-eqb _ _ a) | inr b ↦ or_left _ _ (eq-eqb _ _ b) ] in
     let r = quoted_complete src i e j q in
     let le = quoted_le src i e j q in
-    let long = slice_length src (i + 1) e le.0 (omega (arith, q.2)) in
+    let long = range_length src (i + 1) e le.0 (omega (arith, q.2)) in
     let to : i + 1 + length (slice src (i + 1) e) ≡ e = omega (arith, le.0) in
     rw (k, test, r, to) refl
 
@@ -374,10 +375,6 @@ if_complete src i j utf8 (external_id _ _ request is) =
     let r = external_complete src i request j utf8 is in
     rw (w, r) refl
 if_complete src i j utf8 (no_external_id _ a b) = rw (a, b) refl
-
-if_cut : (src : List ℕ) (i j : ℕ) → IsUtf8 src → IsCharBoundary src i → MayHaveExternalID src i j → IsCharBoundary src j × (i ≤ j)
-if_cut src i j utf8 cut (external_id _ _ request is) = let c = external_cut src i request j utf8 is in (c.0, omega (arith, c.1))
-if_cut src i j utf8 cut (no_external_id _ a b) = (cut, omega arith)
 
 -- Past the end there is none.
 if_past : (src : List ℕ) (i j : ℕ) → IsUtf8 src → length src ≤ i → MayHaveExternalID src i j → i ≤ j

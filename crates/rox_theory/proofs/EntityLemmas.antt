@@ -9,7 +9,7 @@ use Rattle.rox_grammar.specs.Names.{byte, slice, spaces_end}
 use Rattle.rox_grammar.specs.FixedTexts.{at}
 use Rattle.rox_grammar.specs.TextStart.{after_bom, MayHaveXmlDecl, declared, not_declared}
 use Rattle.rox_grammar.specs.Entities.{Replacement, Entity}
-use Rattle.rox_grammar.specs.Doctype.{Request, Asked, IsExternalID, MayHaveNotation, notation, no_notation, of_parameter, GivesReplacement, nothing, the_rest, IsDefinition, internal, external, BeginsEntity, AsksAt, external_entity, entry, IsEntityDeclaration, entity_declaration}
+use Rattle.rox_grammar.specs.Doctype.{Request, Asked, MayHaveNotation, notation, no_notation, of_parameter, GivesReplacement, nothing, the_rest, IsDefinition, internal, external, BeginsEntity, AsksAt, external_entity, entry, IsEntityDeclaration, entity_declaration}
 use Rattle.rox_reading.specs.Lexical.{byte_at}
 use Rattle.rox_reading.specs.Markup.{xml_decl_at}
 use Rattle.rox_reading.specs.Refusals.{Refusal, here, there, refused}
@@ -100,7 +100,8 @@ fault_outcome src d asked (here f) is h = h
 fault_outcome src d asked (there source f) is h = h
 fault_outcome src d asked (refused request p message) is h = absurd is
 
-next_text : (rs : List Reply) → AreTextReplies rs → IsTextReply (next_reply rs) × AreTextReplies (other_replies rs)
+-- The next reply and the others are text.
+pub next_text : (rs : List Reply) → AreTextReplies rs → IsTextReply (next_reply rs) × AreTextReplies (other_replies rs)
 next_text [] h = (tt, tt)
 next_text (r ∷ rs) h = h
 

@@ -10,12 +10,12 @@ use Rattle.rox_grammar.specs.declared.fault.Word.TheVariants as word
 use Rattle.rox_grammar.specs.Search.{stands, before_mark, mark_from, byte_from}
 use Rattle.rox_grammar.specs.Names.{byte, slice}
 use Rattle.rox_reading.specs.Lexical.{has_mark}
+use Rattle.rox_reading.proofs.Stretches.{range_length}
 use Rattle.rox_theory.proofs.Productions.{two_dashes_begin}
 use Rattle.rox_theory.proofs.DeclarationLemmas.{stands_reads, stands_fits}
 use Rattle.rox_theory.proofs.Places.{stands_two}
 use Rattle.rox_theory.proofs.Basics.{mark_from_le}
 use Rattle.rox_theory.proofs.LiteralLemmas.{from_here}
-use Rattle.rox_theory.proofs.StretchLemmas.{slice_length}
 
 -- ---- in a list
 
@@ -27,7 +27,7 @@ no_front mark n hay none =
     let longer : hay ≡ mark ++ (drop (length mark) (take n hay) ++ drop n hay) = sym (take-append-drop n hay) ∙ ap (λ (l : List ℕ). l ++ drop n hay) begins ∙ append_assoc mark (drop (length mark) (take n hay)) (drop n hay) in
     false≢true (sym none ∙ (starts_is Decides-eqb hay mark _ refl).1 _ longer))
 
-starts_take : (mark : List ℕ) (n : ℕ) (xs : List ℕ) → length mark ≤ n → starts_with ◌==◌ (take n xs) mark ≡ starts_with ◌==◌ xs mark
+pub starts_take : (mark : List ℕ) (n : ℕ) (xs : List ℕ) → length mark ≤ n → starts_with ◌==◌ (take n xs) mark ≡ starts_with ◌==◌ xs mark
 starts_take mark n xs fits = rw (take-take (length mark) n xs fits) refl
 
 -- The first one is there.
@@ -142,7 +142,7 @@ pub two_dashes : (src : List ℕ) (i e : ℕ) → i ≤ e → e ≤ length src �
     → (has_mark double_dash (slice src i e) || byte (slice src i e) (length (slice src i e) - 1) == 45) ≡ true
 two_dashes src i e le within before =
     let k = mark_from double_dash src i in
-    let long = slice_length src i e le within in
+    let long = range_length src i e le within in
     elim (cases_lt (k + 1) e) as (λ s. (has_mark double_dash (slice src i e) || byte (slice src i e) (length (slice src i e) - 1) == 45) ≡ true) [
       | inl inside ↦ or_left (has_mark double_dash (slice src i e)) (byte (slice src i e) (length (slice src i e) - 1) == 45) (mark_inside double_dash src i e (omega arith) within (omega arith))
       | inr last ↦ (

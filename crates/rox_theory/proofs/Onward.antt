@@ -6,9 +6,7 @@ use Rattle.std.proofs.lemmas.Bool.{cond_both}
 use Rattle.std.specs.Prelude.{◌≡◌, ◌==◌, ◌||◌, ℕ, zero, suc, ◌+◌, ◌-◌, ◌<◌, ◌≤◌, Bool, true, false, List, [], ◌∷◌, Option, Some, None, length, take, drop, if◌then◌else◌, bytes_eq, refl}
 use Rattle.std.specs.Char.{encode_utf8}
 use Rattle.rox_grammar.specs.Written.{Item}
-use Rattle.rox_grammar.specs.Runs.{run_end}
 use Rattle.rox_grammar.specs.Chars.{is_name_char, is_part_char, is_space}
-use Rattle.rox_grammar.specs.Search.{byte_from, mark_from}
 use Rattle.rox_grammar.specs.declared.fault.Word.TheVariants as word
 use Rattle.rox_grammar.specs.FixedTexts.{word_text, double_dash}
 use Rattle.rox_grammar.specs.Names.{slice, spaces_end, IsQName, unprefixed, prefixed, colon_first}
@@ -17,15 +15,12 @@ use Rattle.rox_grammar.specs.References.{IsReference, IsCharacter, decimal, hexa
 use Rattle.rox_grammar.specs.Runs.{first_passes}
 use Rattle.rox_grammar.specs.Content.{DataByte, is_literal, data_bytes_of, line_ends, value_bytes, Part, part_ends, as_written, from_reference, TagEnds, opened, closed, IsMisc, comment, instruction}
 use Rattle.rox_theory.proofs.Productions.{ncname_parts, number_parts, reference_parts, comment_parts, pi_parts, cdata_parts, end_parts}
+use Rattle.rox_theory.proofs.Basics.{run_end_le, mark_from_le}
 
 -- ---- characters
 
 pub encode_most : (c : ℕ) → length (encode_utf8 c) ≤ 4
 encode_most c = rw (length-encode c) ((len_utf8_bounds c).1)
-
-pub run_onward : (p : ℕ → Bool) (src : List ℕ) (i : ℕ) → i ≤ run_end p src i
-unfolding run_end
-run_onward p src i = omega arith
 
 -- ---- line ends
 
@@ -65,7 +60,7 @@ names_small name =
     (pick_small (bytes_eq name (97 ∷ 112 ∷ 111 ∷ 115 ∷ [])) 39 None (omega arith) (omega arith)))))
 
 pub reference_onward : (src : List ℕ) (i n j : ℕ) → IsReference src i n j → i + 2 ≤ j
-reference_onward src i n j is = let h = run_onward is_name_char src (i + 1) in omega (arith, h, (reference_parts is).name.longest, (reference_parts is).next)
+reference_onward src i n j is = let h = run_end_le is_name_char src (i + 1) in omega (arith, h, (reference_parts is).name.longest, (reference_parts is).next)
 
 pub char_bytes : (src : List ℕ) (i c n : ℕ) → IsCharacter src i c n → length (encode_utf8 c) + i ≤ n
 char_bytes src i c n (decimal opens is) = let h = encode_most c in omega (arith, h, (number_parts is).some, (number_parts is).next)
@@ -103,44 +98,36 @@ part_bytes main src j i ss (from_reference _ n c more is within rest) =
 -- ---- places go forward
 
 pub qname_onward : (src : List ℕ) (i j : ℕ) (name : _) → IsQName src i name j → i ≤ j
-qname_onward src i j name (unprefixed _ _ is colon) = let h = run_onward is_part_char src i in omega (arith, h, (ncname_parts is).longest)
+qname_onward src i j name (unprefixed _ _ is colon) = let h = run_end_le is_part_char src i in omega (arith, h, (ncname_parts is).longest)
 qname_onward src i j name (prefixed _ k _ one colon is more) =
-    let h = run_onward is_part_char src i in
-    let g = run_onward is_part_char src (k + 1) in
+    let h = run_end_le is_part_char src i in
+    let g = run_end_le is_part_char src (k + 1) in
     omega (arith, h, g, (ncname_parts one).longest, (ncname_parts is).longest)
-qname_onward src i j name (colon_first _ _ here is more) = let h = run_onward is_part_char src (i + 1) in omega (arith, h, (ncname_parts is).longest)
+qname_onward src i j name (colon_first _ _ here is more) = let h = run_end_le is_part_char src (i + 1) in omega (arith, h, (ncname_parts is).longest)
 
 pub eq_onward : (src : List ℕ) (i j : ℕ) → IsEq src i j → i ≤ j
 eq_onward src i j is =
-    let h = run_onward is_space src i in
-    let g = run_onward is_space src (spaces_end src i + 1) in
+    let h = run_end_le is_space src i in
+    let g = run_end_le is_space src (spaces_end src i + 1) in
     omega (arith, h, g, is.1)
 
 pub tag_end_onward : (src : List ℕ) (i : ℕ) (is_empty : Bool) (j : ℕ) → TagEnds src i is_empty j → i ≤ j
-tag_end_onward src i is_empty j (opened _ here) = let h = run_onward is_space src i in omega (arith, h)
-tag_end_onward src i is_empty j (closed _ here there) = let h = run_onward is_space src i in omega (arith, h)
+tag_end_onward src i is_empty j (opened _ here) = let h = run_end_le is_space src i in omega (arith, h)
+tag_end_onward src i is_empty j (closed _ here there) = let h = run_end_le is_space src i in omega (arith, h)
 
 pub end_onward : (src : List ℕ) (i : ℕ) (name : _) (n j : ℕ) → IsEnd src i name n j → i ≤ j
 end_onward src i name n j is =
     let h = qname_onward src (i + 2) n name (end_parts is).is_name in
-    let g = run_onward is_space src n in
+    let g = run_end_le is_space src n in
     omega (arith, h, g, (end_parts is).next)
 
-pub mark_onward : (mark src : List ℕ) (i : ℕ) → i ≤ mark_from mark src i
-unfolding mark_from
-mark_onward mark src i = omega arith
-
 pub misc_onward : (src : List ℕ) (i j : ℕ) (item : Item) → IsMisc src i j item → i + 1 ≤ j
-misc_onward src i j item (comment _ e _ is) = let h = mark_onward double_dash src (i + 4) in omega (arith, h, (comment_parts is).dashes, (comment_parts is).next)
+misc_onward src i j item (comment _ e _ is) = let h = mark_from_le double_dash src (i + 4) in omega (arith, h, (comment_parts is).dashes, (comment_parts is).next)
 misc_onward src i j item (instruction _ n e _ is) =
-    let a = run_onward is_name_char src (i + 2) in
-    let b = run_onward is_space src n in
-    let h = mark_onward (word_text word.PIEnd) src (spaces_end src n) in
+    let a = run_end_le is_name_char src (i + 2) in
+    let b = run_end_le is_space src n in
+    let h = mark_from_le (word_text word.PIEnd) src (spaces_end src n) in
     omega (arith, a, b, h, (pi_parts is).target.longest, (pi_parts is).end, (pi_parts is).next)
 
 pub section_onward : (src : List ℕ) (i e j : ℕ) → IsCData src i e j → (i + 9 ≤ e) × (j ≡ e + 3)
-section_onward src i e j is = let h = mark_onward (word_text word.CDataEnd) src (i + 9) in (omega (arith, h, (cdata_parts is).end), (cdata_parts is).next)
-
-pub byte_onward : (p : ℕ → Bool) (src : List ℕ) (i : ℕ) → i ≤ byte_from p src i
-unfolding byte_from
-byte_onward p src i = omega arith
+section_onward src i e j is = let h = mark_from_le (word_text word.CDataEnd) src (i + 9) in (omega (arith, h, (cdata_parts is).end), (cdata_parts is).next)

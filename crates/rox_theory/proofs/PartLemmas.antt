@@ -25,7 +25,7 @@ pub encode_some : (c : ℕ) → 0 < length (encode_utf8 c)
 encode_some c = omega (arith, length-encode c, len_utf8_bounds c)
 
 -- What comes from a reference is kept.
-kept_ends : (bs : List ℕ) (ss : List DataByte) → line_ends (data_bytes_of true bs ++ ss) ≡ bs ++ line_ends ss
+pub kept_ends : (bs : List ℕ) (ss : List DataByte) → line_ends (data_bytes_of true bs ++ ss) ≡ bs ++ line_ends ss
 kept_ends [] ss = refl
 kept_ends (b ∷ bs) ss = ap (λ (r : List ℕ). b ∷ r) (kept_ends bs ss)
 

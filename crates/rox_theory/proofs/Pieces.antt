@@ -18,10 +18,10 @@ use Rattle.rox_theory.specs.ParseParts.{MayHaveDoctype, doctype, no_doctype}
 use Rattle.rox_theory.proofs.Productions.{cdata_parts}
 use Rattle.rox_theory.proofs.Basics.{mark_from_le}
 use Rattle.rox_theory.proofs.DeclarationLemmas.{stands_fits}
-use Rattle.rox_theory.proofs.StretchLemmas.{slice_length}
 use Rattle.rox_theory.specs.Pieces.{Piece, written_in, Writes, parts_pieces, element_pieces, content_pieces, writes, document_pieces, pieces_of, merged, IsSourceIn, IsEmptySection, EmptyAreSections, OnlySectionsAreEmpty}
 use Rattle.rox_theory.proofs.ParseParts.{prolog_parts}
 use Rattle.rox_reading.proofs.Forests.{join_assoc}
+use Rattle.rox_reading.proofs.Stretches.{range_length}
 
 -- ---- what has no byte
 
@@ -45,7 +45,7 @@ pub empty_section : (src : List ℕ) (i e j : ℕ) → IsCData src i e j → sli
 empty_section src i e j is none =
     let fits = stands_fits (word_text word.CDataEnd) src e (omega arith) (cdata_parts is).closes in
     let from = mark_from_le (word_text word.CDataEnd) src (i + 9) in
-    let long : length (slice src (i + 9) e) ≡ e - (i + 9) = slice_length src (i + 9) e (omega (arith, (cdata_parts is).end)) (omega (arith, fits)) in
+    let long : length (slice src (i + 9) e) ≡ e - (i + 9) = range_length src (i + 9) e (omega (arith, (cdata_parts is).end)) (omega (arith, fits)) in
     let zero : length (slice src (i + 9) e) ≡ 0 = rw none refl in
     let here : e ≡ i + 9 = omega (arith, (cdata_parts is).end) in
     record { section = subst (λ (k : ℕ). IsCData src i k j) here is; long = omega (arith, (cdata_parts is).next) }

@@ -22,12 +22,13 @@ use Rattle.rox_grammar.specs.State.{Open}
 use Rattle.rox_reading.specs.State.{State}
 use Rattle.rox_reading.specs.Machine.{Context, with_item, with_piece, at_place, after_part, data_parts, character_data_step}
 use Rattle.rox_reading.proofs.Forests.{join-nil, join_assoc}
+use Rattle.rox_reading.proofs.Stretches.{range_length}
 use Rattle.rox_theory.specs.Openers.{IsStop}
 use Rattle.rox_theory.proofs.Productions.{char_data_parts}
 use Rattle.rox_theory.proofs.Basics.{ok_same, bind_ok, bind_lifted, bind_lifted_only, chosen, chars_sound, chars_complete}
 use Rattle.rox_theory.proofs.FirstMarks.{mark_behind, unmarked_run}
 use Rattle.rox_theory.proofs.LiteralLemmas.{from_le, from_bound, from_here}
-use Rattle.rox_theory.proofs.StretchLemmas.{slice_none, slice_length}
+use Rattle.rox_theory.proofs.StretchLemmas.{slice_none}
 use Rattle.rox_theory.proofs.ReferenceLemmas.{character_opens, reference_opens}
 use Rattle.rox_theory.proofs.PartLemmas.{ordinary, Texts, literal_ends, stretch_on, stretch_off, nothing_from, no_texts, texts_line_ends, part_le, Ends, ends_run, ends_entity, run_part_sound, run_part_complete}
 use Rattle.rox_theory.proofs.Standing.{IsValidState}
@@ -311,7 +312,7 @@ module _ (context : Context) (O : Inclusion) (agrees : AgreesContent context.val
       let s = stretch_on context.values.entities src utf8 j inside.0 inside.1 context.values.main j (j - i) i j [] (omega arith) (omega arith) inside.0 (λ k from below. plain_bytes i j k inside.0 plain from below)
       (nothing_from context.values.entities src utf8 j inside.0 inside.1 context.values.main j) in
       let text : line_ends s.0 ≡ slice src i j = sym (texts_line_ends context.values.main (slice src i j ++ []) s.0 s.2) ∙ ap (part_text context.values.main) (append-nil (slice src i j)) ∙ plain_text context.values.main (slice src i j) plain in
-      let long = slice_length src i j (omega arith) inside.0 in
+      let long = range_length src i j (omega arith) inside.0 in
       let e : piece i j (is_verbatim (slice src i j)) s.0 ≡ leaf (Text i j (slice src i j) true) = ap (λ (f : Bool). piece i j f s.0) plain ∙ piece_whole i j true s.0 (slice src i j) text (omega arith) in
       subst (λ (f : Forest Item). Parts context.values.main O src i j i b b f) e (last_part i b s.0 s.1)
 
@@ -324,7 +325,7 @@ module _ (context : Context) (O : Inclusion) (agrees : AgreesContent context.val
       let none = empty_part context.values.main j j o.0 (omega arith) o.1 in
       let text' = o.2 [] (subst (Texts context.values.main []) (sym none) (no_texts context.values.entities src utf8 j inside.0 inside.1 context.values.main)) in
       let text : line_ends ss ≡ slice src i j = sym (texts_line_ends context.values.main (slice src i j ++ []) ss text') ∙ ap (part_text context.values.main) (append-nil (slice src i j)) ∙ plain_text context.values.main (slice src i j) plain in
-      let long = slice_length src i j (omega arith) inside.0 in
+      let long = range_length src i j (omega arith) inside.0 in
       (ap (λ (f : Bool). piece i j f ss) plain ∙ piece_whole i j true ss (slice src i j) text (omega arith), refl)
     where
       empty_part : (main : Bool) (p k : ℕ) (ss : List DataByte) → p ≤ k → Part main src p k ss → ss ≡ []

@@ -1,44 +1,25 @@
 -- What holds of a state all along: its names and its limits, and how they grow.
-use Rattle.std.proofs.Common.{◌≡◌, ℕ, ◌+◌, ◌≤◌, Bool, true, false, cond, List, [], ◌∷◌, ◌++◌, length, refl, ap, ◌∙◌, arith, append_assoc}
-use Rattle.std.proofs.lemmas.List.{append-nil, length-append}
-use Rattle.std.proofs.lemmas.Bool.{cond_both}
+use Rattle.std.proofs.Common.{◌≡◌, ℕ, ◌+◌, ◌≤◌, List, [], ◌++◌, length, refl, ap, ◌∙◌, arith, append_assoc}
+use Rattle.std.proofs.lemmas.List.{append-nil}
 use Rattle.rox_grammar.specs.Forest.{Forest, Nil, Cons, join, size}
 use Rattle.rox_grammar.specs.Written.{Tag, Item, Element, NamespaceDecl, merge}
 use Rattle.rox_grammar.specs.Tree.{scope_in, listed}
 use Rattle.rox_grammar.specs.WellNamed.{ItemWellNamed, AreWellNamed}
-use Rattle.rox_grammar.specs.Counts.{own_pairs, pairs, own_attributes, attribute_count, has_pair, with_new, distinct_pairs}
+use Rattle.rox_grammar.specs.Counts.{own_pairs, pairs, own_attributes, attribute_count, with_new, distinct_pairs}
 use Rattle.rox_grammar.specs.State.{Open, root, inside, scope_of, nodes_so_far, attributes_so_far, pairs_so_far}
+use Rattle.rox_grammar.proofs.PairLemmas.{with_new-more, with_new-append}
 use Rattle.rox_reading.proofs.Forests.{size-join, merge-item, merge-more, pairs-join, attribute_count-join, named-join, named-left, named-right}
 pub use Rattle.rox_theory.specs.ValidState.{AreNamed, IsValidState}
 
 -- ---- pairs
 
--- A function may be applied in both cases.
-in_both : {X Y : Type 0} (f : X → Y) (b : Bool) (x y : X) (v w : Y) → v ≡ f x → w ≡ f y → cond b v w ≡ f (cond b x y)
-in_both f true x y v w h k = h
-in_both f false x y v w h k = k
-
--- Those of two lists, one after the other.
-with_new-append : (ds es fs : List NamespaceDecl) → with_new ds (es ++ fs) ≡ with_new (with_new ds es) fs
-with_new-append ds [] fs = refl
-with_new-append ds (e ∷ es) fs =
-    in_both (λ (xs : List NamespaceDecl). with_new xs fs) (has_pair ds e) (with_new ds es) (with_new (ds ++ e ∷ []) es) _ _ (with_new-append ds es fs) (with_new-append (ds ++ e ∷ []) es fs)
-
 -- More of them, one after the other.
 pub distinct-append : (ds es : List NamespaceDecl) → distinct_pairs (ds ++ es) ≡ with_new (distinct_pairs ds) es
 distinct-append ds es = with_new-append [] ds es
 
--- There are never fewer.
-with_new-grows : (ds es : List NamespaceDecl) → length ds ≤ length (with_new ds es)
-with_new-grows ds [] = omega arith
-with_new-grows ds (e ∷ es) =
-    let more = with_new-grows (ds ++ e ∷ []) es in
-    cond_both (has_pair ds e) (with_new ds es) (with_new (ds ++ e ∷ []) es) (λ (xs : List NamespaceDecl). length ds ≤ length xs)
-    (λ there. with_new-grows ds es) (λ new. omega (arith, length-append ds (e ∷ [])))
-
 -- More pairs never make fewer.
 pub distinct-grows : (ds es : List NamespaceDecl) → length (distinct_pairs ds) ≤ length (distinct_pairs (ds ++ es))
-distinct-grows ds es = rw distinct-append (with_new-grows (distinct_pairs ds) es)
+distinct-grows ds es = rw distinct-append (with_new-more (distinct_pairs ds) es)
 
 -- ---- one more item, with what is below it
 
