@@ -22,9 +22,9 @@ use Rattle.rox_theory.proofs.Around.{element_ends, ends_cut}
 use Rattle.rox_theory.specs.WithoutDoctype.{ParseWithout}
 use Rattle.rox_theory.proofs.Without.{parse_with}
 use Rattle.rox_grammar.specs.Exchange.{Move, shifted, HasTree}
+use Rattle.rox_grammar.proofs.AtPlace.{stands_reads}
 use Rattle.rox_exchange.specs.Local.{Follows, Fronts, moved_items}
 use Rattle.rox_exchange.proofs.Order.{element_lt}
-use Rattle.rox_exchange.proofs.Fronts.{stands_reads}
 use Rattle.rox_exchange.proofs.MovesContent.{element_moves}
 use Rattle.rox_exchange.proofs.CutsContent.{element_cut}
 use Rattle.rox_exchange.proofs.MovedItems.{moved_named, moved_resolved}

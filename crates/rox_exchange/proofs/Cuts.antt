@@ -9,27 +9,23 @@ use Rattle.std.specs.Str.{chars, IsUtf8, IsCharBoundary, encode_utf8_all}
 use Rattle.std.proofs.lemmas.Str.{chars-append, encodes-chars, length-encode, IsUtf8-drop}
 use Rattle.std.proofs.lemmas.List.{drop-append-le}
 use Rattle.std.proofs.Common.{length-append}
-use Rattle.rox_grammar.specs.Chars.{is_name_start, is_name_char}
-use Rattle.rox_grammar.specs.Runs.{run_end, begins, passing, first_passes}
+use Rattle.rox_grammar.specs.Chars.{is_name_char}
+use Rattle.rox_grammar.specs.Runs.{run_end, passing}
 use Rattle.rox_grammar.specs.Chars.{is_char}
 use Rattle.rox_grammar.specs.FixedTexts.{word_text}
 use Rattle.rox_grammar.specs.declared.fault.Word.TheVariants as word
-use Rattle.rox_grammar.specs.Names.{byte, slice, IsName}
+use Rattle.rox_grammar.specs.Names.{byte, slice}
 use Rattle.rox_grammar.specs.Constructs.{AreChars, IsComment, IsAttValue}
 use Rattle.rox_grammar.specs.FixedTexts.{double_dash}
 use Rattle.rox_grammar.specs.Content.{IsCharacterData, character_data}
 use Rattle.rox_reading.specs.Lexical.{has_mark}
 use Rattle.rox_theory.proofs.Productions.{comment_parts, comment_made, char_data_parts}
-use Rattle.rox_theory.proofs.FirstMarks.{mark_behind, unmarked_run}
+use Rattle.rox_theory.proofs.FirstMarks.{mark_behind, unmarked_run, starts_take}
 use Rattle.rox_theory.proofs.RunLemmas.{run_inside}
 
 -- Two lists with one front agree byte by byte.
 pub heads : (n x y : ℕ) (xs ys : List ℕ) → take (suc n) (x ∷ xs) ≡ take (suc n) (y ∷ ys) → (x ≡ y) × (take n xs ≡ take n ys)
 heads n x y xs ys h = (cc, cc)
-
--- A mark that begins a list begins its front.
-pub starts_take : (mark : List ℕ) (n : ℕ) (xs : List ℕ) → length mark ≤ n → starts_with ◌==◌ (take n xs) mark ≡ starts_with ◌==◌ xs mark
-starts_take mark n xs fits = rw (take-take (length mark) n xs fits) refl
 
 -- A mark that begins both.
 pub starts_cut : (mark : List ℕ) (n : ℕ) (xs ys : List ℕ) → take n xs ≡ take n ys → length mark ≤ n → starts_with ◌==◌ xs mark ≡ starts_with ◌==◌ ys mark
@@ -193,28 +189,3 @@ run_end_front p front back i utf8 cut below =
     let n : length (encode_utf8_all (chars (drop i front))) ≡ length front - i = ap length spelled ∙ length-drop i front in
     let some : passing p (chars (drop i front) ++ chars back) < length (encode_utf8_all (chars (drop i front))) = subst (λ (cs : List ℕ). passing p cs < length (encode_utf8_all (chars (drop i front)))) both (omega arith) in
     ap (λ (cs : List ℕ). i + passing p cs) both ∙ ap (λ (k : ℕ). i + k) (passing_front p (chars (drop i front)) (chars back) some)
-
--- A run goes forwards.
-forwards : (src : List ℕ) (i : ℕ) → i ≤ run_end is_name_char src i
-unfolding run_end
-forwards src i = omega arith
-
--- So a name that ends before the end of a text is a name in the text alone.
-pub name_front : (front back : List ℕ) (i j : ℕ) → IsUtf8 front → IsCharBoundary front i → j < length front → IsName (front ++ back) i j → IsName front i j
-unfolding begins
-name_front front back i j utf8 cut below is =
-    let below' : run_end is_name_char (front ++ back) i < length front = subst (λ (k : ℕ). k < length front) is.longest below in
-    let le : i ≤ run_end is_name_char (front ++ back) i = forwards (front ++ back) i in
-    let rest = IsUtf8-drop front i utf8 cut in
-    let both : chars (drop i (front ++ back)) ≡ chars (drop i front) ++ chars back = ap chars (drop-append-le i front back cut.0) ∙ chars-append (drop i front) back rest in
-    record {
-      starts = first_front (chars (drop i front)) (chars back) (omega arith) (encodes-chars (drop i front) rest) (subst (λ (cs : List ℕ). first_passes is_name_start cs ≡ true) both is.starts);
-      longest = is.longest ∙ run_end_front is_name_char front back i utf8 cut below';
-    }
-  where
-    -- The first character is in front.
-    first_front : (cs ds : List ℕ) → i < length front → encode_utf8_all cs ≡ drop i front → first_passes is_name_start (cs ++ ds) ≡ true → first_passes is_name_start cs ≡ true
-    first_front [] ds inside is' h =
-        let n : 0 ≡ length front - i = ap length is' ∙ length-drop i front in
-        absurd (omega arith)
-    first_front (c ∷ cs) ds inside is' h = h

@@ -14,8 +14,9 @@ use Rattle.rox_exchange.specs.Local.{Fronts}
 use Rattle.rox_exchange.proofs.Cuts.{slice_cut, comment_cut, run_cut}
 use Rattle.rox_exchange.proofs.CutsLexical.{pi_cut, cdata_cut, end_cut}
 use Rattle.rox_exchange.proofs.CutsTags.{part_cut, tag_cut}
-use Rattle.rox_exchange.proofs.Order.{run_le, comment_le, cdata_le, pi_le, end_lt, content_le}
+use Rattle.rox_exchange.proofs.Order.{comment_le, cdata_le, pi_le, end_lt, content_le}
 use Rattle.rox_theory.proofs.Productions.{comment_parts, pi_parts, cdata_parts, char_data_parts}
+use Rattle.rox_theory.proofs.Basics.{run_end_le}
 
 module _ (src to : List ℕ) (m : ℕ) (f : Fronts src to m) where
   -- The parts of a run.
@@ -35,7 +36,7 @@ module _ (src to : List ℕ) (m : ℕ) (f : Fronts src to m) where
       let le = pi_le src i n e j is in
       let le0 = le.0 in
       let le1 = le.1 in
-      let le2 = run_le is_space src n in
+      let le2 = run_end_le is_space src n in
       let p = pi_cut src to m f i n e j fits is in
       subst (λ (bs : List ℕ). IsMisc to i j (PI i j bs (none_if_empty (slice src (spaces_end src n) e)))) (sym (slice_cut src to m f.same (i + 2) n le0 (omega arith)))
       (subst (λ (bs : List ℕ). IsMisc to i j (PI i j (slice to (i + 2) n) (none_if_empty bs))) (sym (slice_cut src to m f.same (spaces_end src n) e le1 (omega arith) ∙ ap (λ (x : ℕ). slice to x e) p.1))

@@ -11,14 +11,15 @@ use Rattle.rox_grammar.specs.Chars.{is_space}
 use Rattle.rox_grammar.specs.Written.{Name}
 use Rattle.rox_grammar.specs.Names.{byte, spaces_end}
 use Rattle.rox_grammar.specs.Constructs.{IsPair, MayBePair, is_pair, no_pair, version, encoding, standalone, IsXmlDecl, xml_decl}
-use Rattle.rox_theory.proofs.Basics.{within as byte_within}
+use Rattle.rox_grammar.proofs.AtPlace.{stands_reads}
+use Rattle.rox_theory.proofs.Basics.{within as byte_within, run_end_le}
 use Rattle.rox_theory.proofs.DeclarationLemmas.{IsFollowed}
 use Rattle.rox_exchange.specs.Local.{Fronts}
 use Rattle.rox_exchange.proofs.Cuts.{heads, fronts, stands_cut}
 use Rattle.rox_exchange.proofs.CutsLexical.{space_cut}
 use Rattle.rox_exchange.proofs.CutsTags.{pair_cut}
-use Rattle.rox_exchange.proofs.Fronts.{stands_reads, behind}
-use Rattle.rox_exchange.proofs.Order.{run_le, qname_le, eq_lt, literal_lt}
+use Rattle.rox_exchange.proofs.Fronts.{behind}
+use Rattle.rox_exchange.proofs.Order.{qname_le, eq_lt, literal_lt}
 
 -- The byte is none of these.
 abbrev pub IsMissing : ℕ → List ℕ → Type 0
@@ -69,7 +70,7 @@ module _ (src to : List ℕ) (m : ℕ) (f : Fronts src to m) where
       omega (arith, qname_le src i name n is_name, eq_lt src n v eq, literal_lt src v e j literal)
 
   may_le : (w : Word) (i j : ℕ) → MayBePair (word_text w) src i j → i ≤ j
-  may_le w i j (is_pair name n v e k here is gap) = omega (arith, pair_lt i n v e k name is, run_le is_space src k)
+  may_le w i j (is_pair name n v e k here is gap) = omega (arith, pair_lt i n v e k name is, run_end_le is_space src k)
   may_le w i j (no_pair none) = omega arith
 
   -- Where `>` is at q, and white space or the end of the declaration is left before it.
@@ -82,7 +83,7 @@ module _ (src to : List ℕ) (m : ℕ) (f : Fronts src to m) where
     may_cut : (w : Word) (i j : ℕ) → IsMissing 62 (word_text w) → IsCharBoundary (take m src) i → j + 1 ≤ q → MayBePair (word_text w) src i j → MayBePair (word_text w) to i j × IsCharBoundary (take m src) j
     may_cut w i j lacks cut le (is_pair name n v e k here is gap) =
         let lt = pair_lt i n v e k name is in
-        let on = run_le is_space src k in
+        let on = run_end_le is_space src k in
         let p = pair_cut src to m f i n v e k name cut (omega arith) is in
         let s = space_cut src to m f k (spaces_end src k) p.1 (omega arith) refl in
         let g = gap_cut k on le s.0 gap in
@@ -96,7 +97,7 @@ module _ (src to : List ℕ) (m : ℕ) (f : Fronts src to m) where
       let le_v = may_le word.Version (spaces_end src (i + 5)) v first in
       let le_e = may_le word.Encoding v e second in
       let le_s = may_le word.Standalone e p third in
-      let sp = run_le is_space src (i + 5) in
+      let sp = run_end_le is_space src (i + 5) in
       let q = p + 1 in
       let is_end : byte src q ≡ 62 = stands_reads (word_text word.PIEnd) src p 1 closes (omega arith) in
       let inside : q < length src = byte_within src q (λ z. omega arith) in

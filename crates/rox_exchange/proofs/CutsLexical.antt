@@ -11,11 +11,13 @@ use Rattle.rox_grammar.specs.Written.{Name}
 use Rattle.rox_grammar.specs.Names.{byte, slice, spaces_end, IsName, IsNCName, IsQName, unprefixed, prefixed, colon_first}
 use Rattle.rox_grammar.specs.References.{is_digit, is_hex_digit, number, character, predefined, IsNumber, IsReference, IsCharacter, decimal, hexadecimal, named}
 use Rattle.rox_grammar.specs.Constructs.{AreChars, IsPI, IsCData, IsEq, IsEnd}
+use Rattle.rox_grammar.proofs.AtPlace.{stands_reads}
 use Rattle.rox_exchange.specs.Local.{Fronts}
 use Rattle.rox_exchange.proofs.Cuts.{byte_cut, stands_cut, mark_from_cut, chars_cut, slice_cut}
-use Rattle.rox_exchange.proofs.Fronts.{stands_reads, behind, run_cuts, begins_cut, bytes_end_cut}
-use Rattle.rox_exchange.proofs.Order.{run_le, name_le, ncname_le, qname_le, cdata_le, pi_le, reference_lt}
+use Rattle.rox_exchange.proofs.Fronts.{behind, run_cuts, begins_cut, bytes_end_cut}
+use Rattle.rox_exchange.proofs.Order.{name_le, ncname_le, qname_le, cdata_le, pi_le, reference_lt}
 use Rattle.rox_theory.proofs.Productions.{ncname_parts, ncname_made, number_parts, number_made, reference_parts, reference_made, pi_parts, pi_made, cdata_parts, cdata_made, end_parts, end_made}
+use Rattle.rox_theory.proofs.Basics.{run_end_le}
 
 module _ (src to : List ℕ) (m : ℕ) (f : Fronts src to m) where
   -- White space.
@@ -70,7 +72,7 @@ module _ (src to : List ℕ) (m : ℕ) (f : Fronts src to m) where
   pub eq_cut : (i j : ℕ) → IsCharBoundary (take m src) i → j < m → IsEq src i j → IsEq to i j
   eq_cut i j cut below is =
       let next = is.1 in
-      let le = run_le is_space src (spaces_end src i + 1) in
+      let le = run_end_le is_space src (spaces_end src i + 1) in
       let s = space_cut i (spaces_end src i) cut (omega arith) refl in
       let r = space_cut (spaces_end src i + 1) j (behind src to m f 61 (spaces_end src i) (omega arith) is.0 (omega arith)) below is.1 in
       (ap (byte to) (sym s.0) ∙ has_byte 61 (spaces_end src i) (omega arith) is.0, r.0 ∙ ap (λ (x : ℕ). spaces_end to (x + 1)) s.0)
@@ -155,7 +157,7 @@ module _ (src to : List ℕ) (m : ℕ) (f : Fronts src to m) where
       let le = pi_le src i n e j is in
       let le0 = le.0 in
       let le1 = le.1 in
-      let le2 = run_le is_space src n in
+      let le2 = run_end_le is_space src n in
       let question = stands_reads (word_text word.PIStart) src i 1 (pi_parts is).opens (omega arith) in
       let close = stands_reads (word_text word.PIEnd) src e 0 (pi_parts is).closes (omega arith) in
       let z : e + 0 ≡ e = omega arith in
@@ -193,7 +195,7 @@ module _ (src to : List ℕ) (m : ℕ) (f : Fronts src to m) where
   end_cut i name n j fits is =
       let next = (end_parts is).next in
       let le = qname_le src (i + 2) name n (end_parts is).is_name in
-      let le' = run_le is_space src n in
+      let le' = run_end_le is_space src n in
       let slash = stands_reads (word_text word.EndTagStart) src i 1 (end_parts is).opens (omega arith) in
       let one : i + 1 + 1 ≡ i + 2 = omega arith in
       let t = qname_cut (i + 2) name n (subst (IsCharBoundary (take m src)) one (behind src to m f 47 (i + 1) (omega arith) slash (omega arith))) (omega arith) (end_parts is).is_name in

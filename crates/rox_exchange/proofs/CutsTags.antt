@@ -10,11 +10,13 @@ use Rattle.rox_grammar.specs.Constructs.{IsAttValue, IsPair}
 use Rattle.rox_grammar.specs.Content.{Inclusion, DataByte, literal, Part, part_ends, as_written, from_reference, Value, value_ends, line_end, white, other, a_character, an_entity, is_verbatim_value, IsAttribute, attribute, Attributes, no_more, one_more, TagEnds, opened, closed, IsTag, start_tag}
 use Rattle.rox_exchange.specs.Local.{Fronts}
 use Rattle.rox_exchange.proofs.Cuts.{byte_cut, slice_cut, literal_cut}
-use Rattle.rox_exchange.proofs.Fronts.{from_here, behind}
+use Rattle.rox_exchange.proofs.Fronts.{behind}
 use Rattle.rox_exchange.proofs.CutsLexical.{space_cut, has_byte, has_other, qname_cut, eq_cut, reference_cut, reference_same, character_cut}
-use Rattle.rox_exchange.proofs.Order.{run_le, qname_le, eq_lt, literal_lt, attribute_lt, attributes_le, tag_ends_lt}
+use Rattle.rox_exchange.proofs.Order.{qname_le, eq_lt, literal_lt, attribute_lt, attributes_le, tag_ends_lt}
 use Rattle.rox_grammar.specs.Constructs.{IsPair}
 use Rattle.rox_grammar.specs.Content.{attribute}
+use Rattle.rox_theory.proofs.Basics.{run_end_le}
+use Rattle.rox_theory.proofs.LiteralLemmas.{from_here}
 
 module _ (src to : List ℕ) (m : ℕ) (f : Fronts src to m) where
   -- A part.
@@ -123,7 +125,7 @@ module _ (src to : List ℕ) (m : ℕ) (f : Fronts src to m) where
       let le = qname_le src (i + 1) name n is_name in
       let le' = attributes_le src main Includes n last b c written list in
       let lt = tag_ends_lt src last is_empty j end in
-      let lt' = run_le is_space src last in
+      let lt' = run_end_le is_space src last in
       let q = qname_cut src to m f (i + 1) name n (behind src to m f 60 i (omega arith) begin (omega arith)) (omega arith) is_name in
       let a = attributes_cut main Includes n last b c written q.1 (omega arith) list in
       start_tag n last name written (has_byte src to m f 60 i (omega arith) begin) q.0 a.0 (tag_ends_cut last is_empty j a.1 fits end)

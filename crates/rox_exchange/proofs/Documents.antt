@@ -14,6 +14,7 @@ use Rattle.rox_grammar.specs.TextStart.{after_bom, MayHaveXmlDecl, declared, not
 use Rattle.rox_grammar.specs.Entities.{no_entities}
 use Rattle.rox_grammar.specs.Document.{Misc, no_misc, space, an_item}
 use Rattle.rox_grammar.specs.Exchange.{Move, moved, replaced}
+use Rattle.rox_grammar.proofs.AtPlace.{stands_reads}
 use Rattle.rox_theory.specs.WithoutDoctype.{ParseWithout}
 use Rattle.rox_exchange.specs.Local.{Fronts, moved_items}
 use Rattle.rox_exchange.specs.ElementWith.{ElementWith, exchanged_items}
@@ -21,7 +22,6 @@ use Rattle.rox_exchange.specs.SourceKinds.{StandsInEach}
 use Rattle.rox_exchange.specs.SelfContained.{is_contained}
 use Rattle.rox_exchange.proofs.Order.{element_lt}
 use Rattle.rox_exchange.proofs.Follows.{from}
-use Rattle.rox_exchange.proofs.Fronts.{stands_reads}
 use Rattle.rox_exchange.proofs.Cuts.{stands_cut}
 use Rattle.rox_exchange.proofs.CutsDeclaration.{IsMissing, word_cut, declaration_cut}
 use Rattle.rox_exchange.proofs.MovedItems.{moved_named}

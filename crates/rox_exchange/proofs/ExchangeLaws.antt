@@ -1,5 +1,5 @@
 -- Exchanges keep elements self-contained, may be taken back, and commute.
-use Rattle.std.proofs.Common.{◌≡◌, ℕ, zero, suc, ◌+◌, ◌-◌, ◌<◌, ◌≤◌, ◌&&◌, true, List, [], ◌++◌, length, take, drop, lt-ltb, le-ltb, refl, sym, ap, ◌∙◌, subst, arith, inl, inr, length-drop, length-take, length-append, take-append-drop}
+use Rattle.std.proofs.Common.{◌≡◌, ℕ, zero, suc, ◌+◌, ◌-◌, ◌<◌, ◌≤◌, ◌&&◌, true, List, [], ◌++◌, length, take, drop, lt-ltb, le-ltb, refl, sym, ap, ◌∙◌, subst, arith, inl, inr, length-take, length-append, take-append-drop}
 use Rattle.std.specs.Str.{IsUtf8}
 use Rattle.std.proofs.lemmas.Bool.{cases_lt}
 use Rattle.std.proofs.lemmas.List.{append_assoc, drop-drop}
@@ -13,6 +13,7 @@ use Rattle.rox_grammar.specs.Names.{slice}
 use Rattle.rox_grammar.specs.Exchange.{Move, moved, moved_node, shifted, subtree, exchanged, lists_none, none_of, self_contained, row_start, row_end, start_at, end_at, replaced, HasTree, change, with_other, text_with}
 use Rattle.rox_exchange.specs.ExchangeLaws.{AreSeparate, id_after, StaysContained, GoesBack, Commutes}
 use Rattle.std.proofs.lemmas.Bool.{and_parts}
+use Rattle.rox_reading.proofs.Stretches.{range_length}
 use Rattle.rox_theory.proofs.Without.{parse_without}
 use Rattle.rox_exchange.proofs.Named.{none_listed}
 use Rattle.rox_exchange.proofs.Ordered.{Ordered}
@@ -246,9 +247,6 @@ rejoin t i j le =
     let e : j ≡ i + (j - i) = omega arith in
     ap (λ (k : ℕ). slice t i j ++ drop k t) e ∙ ap (λ (d : List ℕ). slice t i j ++ d) (sym (drop-drop (j - i) i t)) ∙ take-append-drop (j - i) (drop i t)
 
-slice_long : (t : List ℕ) (i j : ℕ) → i ≤ j → j ≤ length t → length (slice t i j) ≡ j - i
-slice_long t i j le inside = omega (arith, length-take (j - i) (drop i t), length-drop i t)
-
 assoc_three : (x y z w : List ℕ) → (x ++ (y ++ z)) ++ w ≡ x ++ (y ++ (z ++ w))
 assoc_three x y z w = append_assoc x (y ++ z) w ∙ ap (λ (l : List ℕ). x ++ l) (append_assoc y z w)
 
@@ -262,9 +260,9 @@ two_places t one two s e s' e' n le mid le' inside long =
     let y' = slice t s' e' in
     let v = drop e' t in
     let lx : length x ≡ s = omega (arith, length-take s t) in
-    let ly : length y ≡ e - s = slice_long t s e le (omega arith) in
-    let lm : length m ≡ s' - e = slice_long t e s' mid (omega arith) in
-    let ly' : length y' ≡ e' - s' = slice_long t s' e' le' inside in
+    let ly : length y ≡ e - s = range_length t s e le (omega arith) in
+    let lm : length m ≡ s' - e = range_length t e s' mid (omega arith) in
+    let ly' : length y' ≡ e' - s' = range_length t s' e' le' inside in
     let whole_t : t ≡ x ++ (y ++ (m ++ (y' ++ v))) =
     sym (ap (λ (l : List ℕ). x ++ (y ++ (m ++ l))) (rejoin t s' e' le') ∙ ap (λ (l : List ℕ). x ++ (y ++ l)) (rejoin t e s' mid) ∙ ap (λ (l : List ℕ). x ++ l) (rejoin t s e le) ∙ take-append-drop s t) in
     let left : replaced t s e one ≡ (x ++ (one ++ m)) ++ (y' ++ v) =
@@ -320,7 +318,7 @@ module _ (text : List ℕ) (f : Forest Node) (id : ℕ) (other_text : List ℕ) 
       let lt' : start_at other at < end_at other at = cut'.0 in
       let new = slice other_text (start_at other at) (end_at other at) in
       let lx : length (take s text) ≡ s = omega (arith, length-take s text) in
-      let ln : length new ≡ end_at other at - start_at other at = slice_long other_text (start_at other at) (end_at other at) (omega arith) inside' in
+      let ln : length new ≡ end_at other at - start_at other at = range_length other_text (start_at other at) (end_at other at) (omega arith) inside' in
       replace_mid (take s text) new (drop e text) (slice text s e) (start_at (with_other f id other at) id) (end_at (with_other f id other at) id) (starts_there ∙ sym lx) (ends_there ∙ omega arith)
       ∙ ap (λ (l : List ℕ). take s text ++ l) (rejoin text s e (omega arith)) ∙ take-append-drop s text
 
@@ -384,7 +382,7 @@ module _ (text : List ℕ) (f : Forest Node) (i : ℕ) (one_text : List ℕ) (on
       let stops : end_at (with_other f i one a) (id_after f i one a j) ≡ moved m e' = ap row_end j_there ∙ r.1 in
       ap (λ (k : ℕ). replaced (replaced text s e put_one) k (end_at (with_other f i one a) (id_after f i one a j)) put_two) starts
       ∙ ap (λ (k : ℕ). replaced (replaced text s e put_one) (moved m s') k put_two) stops
-      ∙ two_places text put_one put_two s e s' e' (end_at one a - start_at one a) (omega arith) in_order (omega arith) inside (slice_long one_text (start_at one a) (end_at one a) (omega arith) inside_a)
+      ∙ two_places text put_one put_two s e s' e' (end_at one a - start_at one a) (omega arith) in_order (omega arith) inside (range_length one_text (start_at one a) (end_at one a) (omega arith) inside_a)
       ∙ sym (ap (λ (g : Forest Node). replaced (replaced text s' e' put_two) (row_start g) (row_end g) put_one) i_there)
 
   pub commutes_behind : Commutes f text i one one_text a j two two_text b

@@ -123,7 +123,3 @@ module _ (m : Move) (src to : List ℕ) where
 -- The other way.
 pub back : (m : Move) (src to : List ℕ) (i k : ℕ) → Follows m src i to k → Follows (record { add = m.sub; sub = m.add }) to k src i
 back m src to i k f = let at = f.at in record { same = sym f.same; at = omega arith }
-
--- There and back.
-pub back_lands : (m : Move) (src to : List ℕ) (i k j : ℕ) → i ≤ j → Follows m src i to k → moved (record { add = m.sub; sub = m.add }) (moved m j) ≡ j
-back_lands m src to i k j le f = let at = f.at in omega arith

@@ -1,59 +1,19 @@
 -- What is in a source is in each that has the same bytes up to its end: runs of characters, and where characters begin.
-use Rattle.std.proofs.Common.{◌≡◌, ℕ, zero, suc, ◌+◌, ◌-◌, ◌<◌, Bool, true, false, not, List, [], ◌∷◌, ◌++◌, length, take, drop, get_or, refl, sym, ap, ◌∙◌, subst, arith, inl, inr, add-zero, length-drop, length-take, length-append, get_or-drop, take-append-drop}
+use Rattle.std.proofs.Common.{◌≡◌, ℕ, zero, suc, ◌+◌, ◌-◌, ◌<◌, Bool, true, false, List, [], ◌∷◌, ◌++◌, length, take, drop, refl, sym, ap, ◌∙◌, subst, arith, inl, inr, length-drop, length-take, length-append, take-append-drop}
 use Rattle.std.specs.List.{prefix_len}
 use Rattle.std.specs.Char.{encode_utf8, len_utf8}
 use Rattle.std.specs.Str.{chars, IsUtf8, IsCharBoundary, encode_utf8_all}
-use Rattle.std.proofs.lemmas.Bool.{cases_Bool, not-false}
-use Rattle.std.proofs.lemmas.List.{drop-drop, get_or-take, drop-append-le}
-use Rattle.std.proofs.lemmas.List.Prefix.{at_reads}
-use Rattle.std.proofs.lemmas.List.Sums.{prefix_len_stops}
-use Rattle.std.proofs.lemmas.Slice.Eq.{starts_is}
-use Rattle.std.proofs.lemmas.Bool.Decides.{Decides-eqb}
-use Rattle.std.proofs.lemmas.Str.{chars-append, chars-encodes, encodes-chars, length-encode, IsUtf8-drop, IsCharBoundary-past_char, IsCharBoundary-after_ascii}
-use Rattle.std.proofs.Math.Seq.{drop-append_seam}
-use Rattle.rox_grammar.specs.Search.{stands, byte_from}
+use Rattle.std.proofs.lemmas.Bool.{cases_Bool}
+use Rattle.std.proofs.lemmas.List.{get_or-take, drop-append-le}
+use Rattle.std.proofs.lemmas.Str.{chars-append, encodes-chars, length-encode, IsUtf8-drop, IsCharBoundary-after_ascii}
 use Rattle.rox_grammar.specs.Runs.{run_end, begins, passing, first_passes}
 use Rattle.rox_grammar.specs.Names.{byte}
 use Rattle.rox_grammar.specs.References.{bytes_end}
+use Rattle.rox_theory.proofs.CharTexts.{run_cut}
 use Rattle.rox_exchange.specs.Local.{Fronts}
 use Rattle.rox_exchange.proofs.Cuts.{heads, fronts, run_end_front}
 
 -- ---- of one source
-
--- After the characters that pass another begins.
-boundary_in : (p : ℕ → Bool) (src cs : List ℕ) (i : ℕ) → IsUtf8 src → IsCharBoundary src i → drop i src ≡ encode_utf8_all cs → IsCharBoundary src (i + passing p cs)
-boundary_in p src [] i utf8 cut is = rw (add-zero i) cut
-boundary_in p src (c ∷ cs) i utf8 cut is =
-    elim (cases_Bool (p c)) as (λ s. IsCharBoundary src (i + passing p (c ∷ cs))) [
-      | inl passes ↦ (
-          let next = IsCharBoundary-past_char src (encode_utf8_all cs) i c cut.0 (IsUtf8-drop src i utf8 cut) is in
-          let past : drop (len_utf8 c) (encode_utf8 c ++ encode_utf8_all cs) ≡ encode_utf8_all cs =
-          rw (← length-encode c) (drop-append_seam (encode_utf8 c) (encode_utf8_all cs)) in
-          let rest : drop (i + len_utf8 c) src ≡ encode_utf8_all cs = sym (drop-drop (len_utf8 c) i src) ∙ ap (drop (len_utf8 c)) is ∙ past in
-          let e : i + len_utf8 c + passing p cs ≡ i + passing p (c ∷ cs) = rw passes (omega arith) in
-          subst (IsCharBoundary src) e (boundary_in p src cs (i + len_utf8 c) utf8 next rest))
-      | inr fails ↦ rw (fails, add-zero i) cut
-    ]
-
--- A run that begins where a character does ends so.
-run_boundary : (p : ℕ → Bool) (src : List ℕ) (i : ℕ) → IsUtf8 src → IsCharBoundary src i → IsCharBoundary src (run_end p src i)
-unfolding run_end
-run_boundary p src i utf8 cut =
-    let spelled = IsUtf8-drop src i utf8 cut in
-    let all : chars (drop i src) ≡ spelled.0 = ap chars (sym spelled.1.1) ∙ chars-encodes spelled.0 spelled.1.0 in
-    rw all (boundary_in p src spelled.0 i utf8 cut (sym spelled.1.1))
-
--- The byte that was looked for passes.
-pub from_here : (p : ℕ → Bool) (src : List ℕ) (i : ℕ) → byte_from p src i < length src → p (byte src (byte_from p src i)) ≡ true
-unfolding byte_from
-from_here p src i below =
-    let q = prefix_len_stops (λ c. not (p c)) (drop i src) 0 (rw length-drop (omega arith)) in
-    not-false _ (rw get_or-drop at q)
-
--- Where a mark is, each of its bytes stands.
-pub stands_reads : (mark src : List ℕ) (i j : ℕ) → stands mark src i ≡ true → j < length mark → byte src (i + j) ≡ get_or mark j 0
-unfolding stands
-stands_reads mark src i j h within = at_reads 0 src mark i _ ((starts_is Decides-eqb (drop i src) mark true (sym h)).0 refl) j within
 
 -- Characters that pass and one that does not, with others after them.
 passing_more : (p : ℕ → Bool) (cs ds : List ℕ) → passing p cs < length (encode_utf8_all cs) → passing p (cs ++ ds) ≡ passing p cs
@@ -118,13 +78,6 @@ module _ (src to : List ℕ) (m : ℕ) (f : Fronts src to m) where
   long : length (take m src) ≡ m
   long = let inside = f.inside in omega (arith, length-take m src)
 
-  -- It is the other's too.
-  pub front_back : Fronts to src m
-  front_back =
-      let inside = f.inside in
-      let n : length (take m src) ≡ length (take m to) = ap length f.same in
-      record { same = sym f.same; inside = omega (arith, length-take m src, length-take m to); utf8 = subst IsUtf8 f.same f.utf8 }
-
   split_src : take m src ++ drop m src ≡ src
   split_src = take-append-drop m src
 
@@ -147,7 +100,7 @@ module _ (src to : List ℕ) (m : ℕ) (f : Fronts src to m) where
       let one : run_end p (take m src ++ drop m src) i ≡ run_end p (take m src) i = run_end_front p (take m src) (drop m src) i f.utf8 cut (omega arith) in
       let two : run_end p (take m src ++ drop m to) i ≡ run_end p (take m src) i = run_end_more p (take m src) (drop m to) i f.utf8 cut (omega arith) in
       let at : run_end p (take m src) i ≡ e = sym one ∙ whole in
-      (sym at ∙ sym two ∙ ap (λ (bs : List ℕ). run_end p bs i) split_to, subst (IsCharBoundary (take m src)) at (run_boundary p (take m src) i f.utf8 cut))
+      (sym at ∙ sym two ∙ ap (λ (bs : List ℕ). run_end p bs i) split_to, subst (IsCharBoundary (take m src)) at (run_cut p (take m src) i f.utf8 cut))
 
   -- Its first character.
   pub begins_cut : (p : ℕ → Bool) (i : ℕ) → IsCharBoundary (take m src) i → i < m → begins p src i ≡ begins p to i

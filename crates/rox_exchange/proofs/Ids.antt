@@ -7,6 +7,7 @@ use Rattle.rox_grammar.specs.Tree as tree
 use Rattle.rox_grammar.specs.Tree.{Node, listed, node_in, resolved}
 use Rattle.rox_grammar.specs.WellNamed.{AreWellNamed}
 use Rattle.rox_grammar.specs.Exchange.{Move, moved, shifted, stretched, subtree, exchanged, none_of, self_contained}
+use Rattle.rox_reading.proofs.Forests.{resolved-join}
 use Rattle.rox_exchange.specs.Local.{moved_items}
 use Rattle.rox_exchange.specs.ElementWith.{exchanged_items}
 use Rattle.rox_exchange.specs.SourceKinds.{StandsInEach, first, below, beside}
@@ -14,11 +15,6 @@ use Rattle.rox_exchange.specs.SelfContained.{is_contained}
 use Rattle.rox_exchange.proofs.MovedItems.{moved_resolved}
 use Rattle.rox_exchange.proofs.Named.{none_listed}
 use Rattle.rox_exchange.proofs.Ordered.{Ordered, ordered_le}
-
--- Rows one after the other.
-resolved_join : (above : List NamespaceDecl) (f g : Forest Item) → resolved above (join f g) ≡ join (resolved above f) (resolved above g)
-resolved_join above Nil g = refl
-resolved_join above (Cons item children rest) g = ap (Cons (node_in (tree.scope_in above item) item) (resolved (tree.scope_in above item) children)) (resolved_join above rest g)
 
 -- The node of an id in a row whose parent lists nothing: the element, which is between two places, and what has to be known of it.
 pub record Found (i j : ℕ) (f : Forest Item) (id : ℕ) : Type 0 where
@@ -47,7 +43,7 @@ found_first i j a z t children rest (le, lt, low, next) =
       alone = refl;
       contained = rw same refl;
       named = λ (own, under, others). (own, under, tt);
-      exchange = λ mv one. rw same (resolved_join [] one (moved_items mv rest) ∙ ap (join (resolved [] one)) (moved_resolved mv [] rest));
+      exchange = λ mv one. rw same (resolved-join [] one (moved_items mv rest) ∙ ap (join (resolved [] one)) (moved_resolved mv [] rest));
     }
 
 -- One of those below the first, which lists nothing.

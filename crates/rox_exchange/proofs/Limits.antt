@@ -1,38 +1,18 @@
 -- An element of a document has no more than the document: nodes, attributes, distinct pairs of a prefix and a URI.
-use Rattle.std.proofs.Common.{◌≡◌, ℕ, ◌≤◌, ◌||◌, Bool, true, false, List, [], ◌∷◌, ◌++◌, length, Option, None, Some, refl, sym, ap, ◌∙◌, arith, inl, inr, length-append, append_assoc}
-use Rattle.std.specs.Prelude.{bytes_eq}
-use Rattle.std.proofs.lemmas.Bool.{cases_Bool, and_parts}
+use Rattle.std.proofs.Common.{◌≡◌, ℕ, ◌≤◌, ◌||◌, Bool, true, false, List, [], ◌∷◌, ◌++◌, length, sym, ap, ◌∙◌, arith, inl, inr, length-append, append_assoc}
+use Rattle.std.proofs.lemmas.Bool.{cases_Bool}
 use Rattle.std.proofs.lemmas.List.{append-nil}
-use Rattle.std.proofs.lemmas.Slice.Eq.{bytes_eq-Decides}
+use mathlib.Core.Bool.{or_comm}
 use Rattle.rox_grammar.specs.Forest.{Forest, Nil, Cons, size}
 use Rattle.rox_grammar.specs.Written.{NamespaceDecl, Tag, Item, Element}
-use Rattle.rox_grammar.specs.Tree.{same_prefix}
 use Rattle.rox_grammar.proofs.CountForms.{limits_counted, counts_limited}
 use Rattle.rox_grammar.specs.Document.{same_pair, IsWithinLimits}
 use Rattle.rox_grammar.specs.Counts.{own_pairs, pairs, attribute_count, has_pair, with_new, distinct_pairs}
+use Rattle.rox_grammar.proofs.PairLemmas.{same_pair-true, has_last}
 use Rattle.rox_theory.proofs.Standing.{distinct-append, distinct-grows}
 use Rattle.rox_exchange.specs.SourceKinds.{StandsInEach, first, below, beside}
 
 -- ---- pairs
-
-same_none_is : (p q : Option (List ℕ)) → same_prefix p q ≡ true → p ≡ q
-same_none_is None None is = refl
-same_none_is None (Some q) is = cc is
-same_none_is (Some p) None is = cc is
-same_none_is (Some p) (Some q) is = ap Some ((bytes_eq-Decides p q).0 is)
-
--- Equal by the test is equal.
-same_is : (d e : NamespaceDecl) → same_pair d e ≡ true → d ≡ e
-same_is d e is =
-    let both = and_parts (same_prefix d.prefix e.prefix) (bytes_eq d.uri e.uri) is in
-    let p = same_none_is d.prefix e.prefix both.0 in
-    let u = (bytes_eq-Decides d.uri e.uri).0 both.1 in
-    ap (λ (x : Option (List ℕ)). record { prefix = x; uri = d.uri }) p ∙ ap (λ (x : List ℕ). record { prefix = e.prefix; uri = x }) u
-
--- A pair at the end.
-has_snoc : (ds : List NamespaceDecl) (e x : NamespaceDecl) → has_pair (ds ++ e ∷ []) x ≡ (has_pair ds x || same_pair e x)
-has_snoc [] e x = elim (same_pair e x) as (λ b. (b || false) ≡ b) [ true ↦ refl | false ↦ refl ]
-has_snoc (d ∷ ds) e x = elim (same_pair d x) as (λ b. (b || has_pair (ds ++ e ∷ []) x) ≡ ((b || has_pair ds x) || same_pair e x)) [ true ↦ refl | false ↦ has_snoc ds e x ]
 
 -- Lists that hold the same pairs, and as many, are joined by as many.
 as_many : (ds bs es : List NamespaceDecl) → length ds ≡ length bs → ((x : NamespaceDecl) → has_pair ds x ≡ has_pair bs x) → length (with_new ds es) ≡ length (with_new bs es)
@@ -43,26 +23,20 @@ as_many ds bs (e ∷ es) long same =
       | inr new ↦ (
           let new' : has_pair bs e ≡ false = sym (same e) ∙ new in
           rw (new, new') (as_many (ds ++ e ∷ []) (bs ++ e ∷ []) es (omega (arith, length-append ds (e ∷ []), length-append bs (e ∷ [])))
-          (λ x. has_snoc ds e x ∙ ap (λ (b : Bool). b || same_pair e x) (same x) ∙ sym (has_snoc bs e x))))
+          (λ x. has_last ds e x ∙ ap (λ (b : Bool). b || same_pair e x) (same x) ∙ sym (has_last bs e x))))
     ]
-
-or_swap : (a b : Bool) → (a || b) ≡ (b || a)
-or_swap true true = refl
-or_swap true false = refl
-or_swap false true = refl
-or_swap false false = refl
 
 -- With one pair more there are no fewer.
 one_more : (d : NamespaceDecl) (ds es : List NamespaceDecl) → length (with_new ds es) ≤ length (with_new (d ∷ ds) es)
 one_more d ds [] = omega arith
 one_more d ds (e ∷ es) =
     elim (cases_Bool (has_pair ds e)) as (λ q. length (with_new ds (e ∷ es)) ≤ length (with_new (d ∷ ds) (e ∷ es))) [
-      | inl there ↦ rw (there, or_swap (same_pair d e) true) (one_more d ds es)
+      | inl there ↦ rw (there, or_comm (same_pair d e) true) (one_more d ds es)
       | inr new ↦ elim (cases_Bool (same_pair d e)) as (λ q. length (with_new ds (e ∷ es)) ≤ length (with_new (d ∷ ds) (e ∷ es))) [
         | inl same ↦ (
-            let q = same_is d e same in
+            let q = same_pair-true d e same in
             let n = as_many (ds ++ e ∷ []) (d ∷ ds) es (omega (arith, length-append ds (e ∷ [])))
-            (λ x. has_snoc ds e x ∙ or_swap (has_pair ds x) (same_pair e x) ∙ ap (λ (c : NamespaceDecl). same_pair c x || has_pair ds x) (sym q)) in
+            (λ x. has_last ds e x ∙ or_comm (has_pair ds x) (same_pair e x) ∙ ap (λ (c : NamespaceDecl). same_pair c x || has_pair ds x) (sym q)) in
             rw (new, same) (omega (arith, n)))
         | inr other ↦ rw (new, other) (one_more d (ds ++ e ∷ []) es)
       ]

@@ -14,15 +14,16 @@ use Rattle.rox_grammar.specs.Content.{IsCharacterData, character_data}
 use Rattle.rox_grammar.specs.Exchange.{Move, moved}
 use Rattle.rox_exchange.specs.Local.{Follows}
 use Rattle.rox_exchange.proofs.Follows.{on, from, byte_moves, rest_moves, stands_moves, mark_moves, byte_from_moves, bytes_end_moves, run_end_moves, begins_moves, chars_move, markup_moves, slice_moves}
-use Rattle.rox_exchange.proofs.Order.{run_le, ncname_le, qname_le, literal_lt, comment_le, cdata_le, pi_le, reference_lt}
+use Rattle.rox_exchange.proofs.Order.{ncname_le, qname_le, literal_lt, comment_le, cdata_le, pi_le, reference_lt}
 use Rattle.rox_theory.proofs.Productions.{ncname_parts, ncname_made, number_parts, number_made, reference_parts, reference_made, comment_parts, comment_made, pi_parts, pi_made, cdata_parts, cdata_made, end_parts, end_made, char_data_parts}
+use Rattle.rox_theory.proofs.Basics.{run_end_le}
 
 module _ (m : Move) (src to : List ℕ) where
   -- White space.
   pub space_end : (i k : ℕ) → Follows m src i to k → Follows m src (spaces_end src i) to (spaces_end to k)
   space_end i k f =
       subst (λ (x : ℕ). Follows m src (spaces_end src i) to x) (run_end_moves m src to is_space i k (spaces_end src i) f refl)
-      (from m src to i k (spaces_end src i) (run_le is_space src i) f)
+      (from m src to i k (spaces_end src i) (run_end_le is_space src i) f)
 
   -- A byte that a place has, and one that it has not.
   pub byte_is : (b i k : ℕ) → Follows m src i to k → byte src i ≡ b → byte to k ≡ b
@@ -147,7 +148,7 @@ module _ (m : Move) (src to : List ℕ) where
       let le1 = le.1 in
       let g = from m src to i k n (omega arith) f in
       let s = space_end n (moved m n) g in
-      let long = run_le is_space src n in
+      let long = run_end_le is_space src n in
       pi_made (record {
         opens = sym (stands_moves m src to (word_text word.PIStart) i k f) ∙ (pi_parts is).opens;
         no_declaration = sym (stands_moves m src to (word_text word.XmlDeclStart) i k f) ∙ (pi_parts is).no_declaration;

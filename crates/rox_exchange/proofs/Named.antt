@@ -1,20 +1,16 @@
 -- Names stay well named where an element above which nothing is listed is exchanged for one whose names are declared within it.
 use Rattle.std.proofs.Common.{◌≡◌, ℕ, ◌==◌, ◌&&◌, true, List, [], ◌∷◌, nat_lt, refl, sym, subst, inl, inr}
 use Rattle.std.proofs.lemmas.Bool.{cases_Bool, and_parts}
-use Rattle.rox_grammar.specs.Forest.{Forest, Nil, Cons, join}
+use Rattle.rox_grammar.specs.Forest.{Forest, Nil, Cons}
 use Rattle.rox_grammar.specs.Written.{NamespaceDecl, Item, Element, Text, Comment, PI}
 use Rattle.rox_grammar.specs.Tree.{listed}
 use Rattle.rox_grammar.specs.WellNamed.{AreWellNamed}
 use Rattle.rox_grammar.specs.Exchange.{Move, none_of}
+use Rattle.rox_reading.proofs.Forests.{named-join}
 use Rattle.rox_exchange.specs.Local.{moved_items}
 use Rattle.rox_exchange.specs.ElementWith.{exchanged_items}
 use Rattle.rox_exchange.proofs.MovedItems.{moved_named}
 use Rattle.rox_exchange.specs.SelfContained.{is_contained}
-
--- Rows one after the other.
-pub named_join : (above : List NamespaceDecl) (f g : Forest Item) → AreWellNamed above f → AreWellNamed above g → AreWellNamed above (join f g)
-named_join above Nil g is more = more
-named_join above (Cons item children rest) g (own, below, beside) more = (own, below, named_join above rest g beside more)
 
 pub none_listed : (ds : List NamespaceDecl) → none_of ds ≡ true → ds ≡ []
 none_listed [] is = refl
@@ -25,7 +21,7 @@ module _ (mv : Move) (one : Forest Item) (s : ℕ) (new : AreWellNamed [] one) w
   named_exchanged Nil within is = is
   named_exchanged (Cons (Element a z t) children rest) within (own, below, beside) =
       elim (cases_Bool (a == s)) as (λ q. AreWellNamed [] (exchanged_items mv one s (Cons (Element a z t) children rest))) [
-        | inl same ↦ rw same (named_join [] one (moved_items mv rest) new (moved_named mv [] rest beside))
+        | inl same ↦ rw same (named-join [] one (moved_items mv rest) new (moved_named mv [] rest beside))
         | inr other ↦ elim (cases_Bool (nat_lt s z)) as (λ q. AreWellNamed [] (exchanged_items mv one s (Cons (Element a z t) children rest))) [
           | inl inside ↦ (
               let both : (none_of (listed [] t.declarations) && is_contained s children) ≡ true = rw (other, inside) at within in

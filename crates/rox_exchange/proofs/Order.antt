@@ -4,26 +4,22 @@ use Rattle.rox_grammar.specs.Content.{attribute}
 use Rattle.rox_grammar.specs.Chars.{is_char, is_space, is_name_char, is_part_char}
 use Rattle.rox_grammar.specs.Forest.{Forest}
 use Rattle.rox_grammar.specs.Written.{Name, Attribute, Tag, Item}
-use Rattle.rox_grammar.specs.Runs.{run_end}
 use Rattle.rox_grammar.specs.Names.{spaces_end, IsName, IsNCName, IsQName, unprefixed, prefixed, colon_first}
 use Rattle.rox_grammar.specs.References.{IsReference, IsCharacter, decimal, hexadecimal, named}
 use Rattle.rox_grammar.specs.Constructs.{AreChars, IsComment, IsPI, IsCData, IsEq, IsAttValue, IsEnd}
 use Rattle.rox_grammar.specs.Content.{Inclusion, IsAttribute, Attributes, no_more, one_more, TagEnds, opened, closed, IsTag, IsMisc, comment, instruction, IsElement, empty, nest, Content, ends, run, cdata, misc, node, attribute, start_tag}
 use Rattle.rox_theory.proofs.Productions.{ncname_parts, number_parts, reference_parts, comment_parts, pi_parts, cdata_parts, end_parts, char_data_parts}
-
-pub run_le : (p : ℕ → Bool) (src : List ℕ) (i : ℕ) → i ≤ run_end p src i
-unfolding run_end
-run_le p src i = omega arith
+use Rattle.rox_theory.proofs.Basics.{run_end_le}
 
 module _ (src : List ℕ) where
   pub chars_le : (i j : ℕ) → AreChars src i j → i ≤ j
-  chars_le i j is = omega (arith, run_le is_char (take j src) i)
+  chars_le i j is = omega (arith, run_end_le is_char (take j src) i)
 
   pub name_le : (i j : ℕ) → IsName src i j → i ≤ j
-  name_le i j is = let l = is.longest in omega (arith, run_le is_name_char src i)
+  name_le i j is = let l = is.longest in omega (arith, run_end_le is_name_char src i)
 
   pub ncname_le : (i j : ℕ) → IsNCName src i j → i ≤ j
-  ncname_le i j is = let l = (ncname_parts is).longest in omega (arith, run_le is_part_char src i)
+  ncname_le i j is = let l = (ncname_parts is).longest in omega (arith, run_end_le is_part_char src i)
 
   pub qname_le : (i : ℕ) (name : Name) (j : ℕ) → IsQName src i name j → i ≤ j
   qname_le i name j (unprefixed _ _ n last) = ncname_le i j n
@@ -31,7 +27,7 @@ module _ (src : List ℕ) where
   qname_le i name j (colon_first _ _ colon n last) = omega (arith, ncname_le (i + 1) j n)
 
   pub eq_lt : (i j : ℕ) → IsEq src i j → i < j
-  eq_lt i j is = let l = is.1 in omega (arith, run_le is_space src i, run_le is_space src (spaces_end src i + 1))
+  eq_lt i j is = let l = is.1 in omega (arith, run_end_le is_space src i, run_end_le is_space src (spaces_end src i + 1))
 
   pub literal_lt : (i e j : ℕ) → IsAttValue src i e j → i < e
   literal_lt i e j is = omega (arith, chars_le (i + 1) e is.1)
@@ -74,18 +70,18 @@ module _ (src : List ℕ) where
         qname_le (i + 1) name n is_name,
         attributes_le main Includes n last b c written list,
         tag_ends_lt last is_empty j end,
-        run_le is_space src last,
+        run_end_le is_space src last,
       )
 
   pub end_lt : (i : ℕ) (name : Name) (n j : ℕ) → IsEnd src i name n j → i < j
-  end_lt i name n j is = let next = (end_parts is).next in omega (arith, qname_le (i + 2) name n (end_parts is).is_name, run_le is_space src n)
+  end_lt i name n j is = let next = (end_parts is).next in omega (arith, qname_le (i + 2) name n (end_parts is).is_name, run_end_le is_space src n)
 
   pub misc_lt : (i j : ℕ) (item : Item) → IsMisc src i j item → i < j
   misc_lt i j item (comment _ e _ is) = let next = (comment_parts is).next in omega (arith, comment_le i e j is)
   misc_lt i j item (instruction _ n e _ is) =
       let next = (pi_parts is).next in
       let le = pi_le i n e j is in
-      omega (arith, le.0, le.1, run_le is_space src n)
+      omega (arith, le.0, le.1, run_end_le is_space src n)
 
   mutual
     pub content_le : (main : Bool) (Includes : Inclusion) (i j b c : ℕ) (items : Forest Item) → Content main Includes src i j b c items → i ≤ j

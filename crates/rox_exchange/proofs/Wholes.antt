@@ -62,12 +62,6 @@ module _ (text : List ℕ) (tree : Forest Node) (id : ℕ) (utf8 : IsUtf8 text) 
       let inside = w.inside in
       ap (λ (f : Forest Node). subtree f id) w.shown ∙ ap (subtree (document_tree (length text) w.tops)) w.is_below ∙ rw inside w.found.alone
 
-  pub start_is : start_at tree id ≡ w.found.start
-  start_is = ap row_start subtree_is
-
-  pub end_is : end_at tree id ≡ w.found.end
-  end_is = ap row_end subtree_is
-
   pub element_is : IsElement true no_entities text w.found.start w.found.end 255 255 own
   element_is =
       let p = w.parse in

@@ -1,13 +1,11 @@
 -- An element inside an element, and another in its place: what is proved of `reparse` and of `exchange`.
-use Rattle.std.specs.Prelude.{◌≡◌, ℕ, ◌-◌, ◌==◌, true, false, List, nat_lt, IsUtf8, if◌then◌else◌}
+use Rattle.std.specs.Prelude.{ℕ, ◌==◌, true, false, List, nat_lt, if◌then◌else◌}
 use Rattle.rox_grammar.specs.Forest.{Forest, Nil, Cons, join}
 use Rattle.rox_grammar.specs.Written.{Tag, Item, Element, Text, Comment, PI, merge}
-use Rattle.rox_grammar.specs.Tree.{Node, Root}
-use Rattle.rox_grammar.specs.Names.{slice}
 use Rattle.rox_grammar.specs.Constructs.{IsEnd}
 use Rattle.rox_grammar.specs.Content.{IsTag, Content}
 use Rattle.rox_grammar.specs.Entities.{no_entities}
-use Rattle.rox_grammar.specs.Exchange.{Move, moved, shifted, subtree, start_at, end_at, self_contained, HasTree, with_other, replaced}
+use Rattle.rox_grammar.specs.Exchange.{Move, moved}
 use Rattle.rox_exchange.specs.Local.{moved_items}
 
 mutual
@@ -34,19 +32,3 @@ exchanged_items m one s (Cons (Element a z t) children rest) =
 exchanged_items m one s (Cons (Text a z v borrowed) children rest) = Cons (Text a z v borrowed) children (exchanged_items m one s rest)
 exchanged_items m one s (Cons (Comment a z v) children rest) = Cons (Comment a z v) children (exchanged_items m one s rest)
 exchanged_items m one s (Cons (PI a z v o) children rest) = Cons (PI a z v o) children (exchanged_items m one s rest)
-
--- ---- What is proved.
-
--- The slice of a self-contained node is a document, whatever the limits are. Its tree is a root node with that node, moved to the
--- start of the text.
-abbrev pub Reparses : List ℕ → Forest Node → ℕ → Type 0
-Reparses text tree id = IsUtf8 text → HasTree text tree → self_contained tree id ≡ true
-    → HasTree (slice text (start_at tree id) (end_at tree id))
-    (Cons (Root (end_at tree id - start_at tree id)) (shifted (record { add = 0; sub = start_at tree id }) (subtree tree id)) Nil)
-
--- A self-contained node may be replaced by a self-contained node of another document. The new text is a document, and its tree is
--- the exchanged one.
-abbrev pub Exchanges : List ℕ → Forest Node → ℕ → List ℕ → Forest Node → ℕ → Type 0
-Exchanges text tree id other_text other at = IsUtf8 text → HasTree text tree → self_contained tree id ≡ true
-    → IsUtf8 other_text → HasTree other_text other → self_contained other at ≡ true
-    → HasTree (replaced text (start_at tree id) (end_at tree id) (slice other_text (start_at other at) (end_at other at))) (with_other tree id other at)

@@ -18,7 +18,7 @@ use Rattle.rox_grammar.specs.Entities.{Replacement, Entity}
 use Rattle.rox_grammar.specs.Doctype.{Request, Asked, IsQuoted, IsSpace, IsExternalID, system, public, MayHaveNotation, notation, no_notation, GivesReplacement, nothing, the_rest, IsDefinition, internal, external, BeginsEntity, Subset, MayHaveExternalID, external_id, no_external_id, BeginsDoctype, IsDoctype, no_subset, with_subset, SubsetTo, subset_to}
 use Rattle.rox_grammar.specs.Doctype as dtd
 use Rattle.rox_grammar.specs.Due.{DueItem, a_byte, a_name, IsMissing, none_left, DueInXmlDecl, DueInLiteral, DueInExternalID, DueInEntity, DueInDoctype, none_of}
-use Rattle.rox_faults.proofs.DueForms.{a_space, a_quote, a_definition, subset_or_end, doctype_end, quote_is, quote_defines, letter_defines, subset_or_end_is, end_is}
+use Rattle.rox_faults.proofs.DueForms.{a_space, a_quote, a_definition, subset_or_end, doctype_end, quote_defines, letter_defines, subset_or_end_is, end_is}
 use Rattle.rox_grammar.specs.Due as due
 use Rattle.rox_grammar.specs.Faults.{in_one, one_too_many}
 use Rattle.rox_grammar.specs.FaultsWithDoctype.{InDoctype, head_lacks, no_name, not_passed, in_entity, entity_open, entity_cut, in_answer, end_lacks, unknown, no_root, in_subset, in_miscs}
@@ -32,15 +32,10 @@ use Rattle.rox_theory.proofs.LiteralLemmas.{quote_ascii}
 use Rattle.rox_theory.proofs.DoctypeParts.{begins_parts, DeclarationParts, declaration_parts, CutsNotation, cuts_name, asks_parts, doctype_parts}
 use Rattle.rox_theory.proofs.DoctypeLemmas.{quoted_closes, quoted_cut, word_cut, six_cut, external_cut, external_byte, HeadCuts, head_cuts}
 use Rattle.rox_faults.proofs.FaultApart.{name_stands, byte_stands, space_stands, misc_begins, misc_apart}
-use Rattle.rox_faults.proofs.FaultPairs.{declaration_apart}
+use Rattle.rox_faults.proofs.FaultPairs.{declaration_apart, quote_stands}
 use Rattle.rox_faults.proofs.FaultMisc.{one_item}
 use Rattle.rox_faults.proofs.SubsetFronts.{OpensItem, misc_opens, item_less, entity_less, passed_less, space_once, quoted_once, quoted_no_external, kind_once, external_once, begins_once, doctype_once, definition_end, item_there, passed_there, entity_there, nothing_there, Front, subset_front}
 use Rattle.rox_faults.proofs.FaultLimits.{IsOver, nodes_over}
-
--- A quote that is required and is there.
-quote_stands : (src : List ℕ) (i : ℕ) (f : Fault) → (byte src i ≡ 39) ⊎ (byte src i ≡ 34) → IsMissing src i a_quote f → ⊥
-quote_stands src i f is (none_of _ below none) = true≢false (sym (quote_is (byte src i) is) ∙ none)
-quote_stands src i f is (none_left _ past) = let some = (quote_ascii (byte src i) is) in let l = within src i (λ z. omega arith) in absurd (omega arith)
 
 -- The text of an answer that gives one has no fault in its declaration.
 gives_apart : (answer : List ℕ) (given : Option (List ℕ)) (text : Option Replacement) (q : ℕ) (t : DueItem) (f : Fault) → Some answer ≡ given → GivesReplacement given text → at word.XmlDeclStart answer (after_bom answer) ≡ true

@@ -1,28 +1,24 @@
 -- The same for a name, Eq and a literal, and for the declaration.
-use Rattle.std.proofs.Common.{◌≡◌, ℕ, ◌+◌, ◌<◌, ◌⊎◌, Bool, true, List, length, refl, sym, ap, ◌∙◌, subst, arith, inl, inr, false}
+use Rattle.std.proofs.Common.{◌≡◌, ℕ, ◌+◌, ◌<◌, ◌⊎◌, true, List, length, refl, sym, ap, ◌∙◌, subst, arith, inl, inr, false}
 use Rattle.std.specs.Str.{IsUtf8, IsCharBoundary}
 use Rattle.std.proofs.lemmas.Bool.{true≢false}
 use Rattle.rox_grammar.specs.declared.fault.Fault.{Fault}
 use Rattle.rox_grammar.specs.declared.fault.Word.{Word}
 use Rattle.rox_grammar.specs.declared.fault.Word.TheVariants as word
 use Rattle.rox_grammar.specs.declared.fault.Expected.TheVariants as expected
-use Rattle.rox_grammar.specs.Chars.{is_space}
 use Rattle.rox_grammar.specs.Written.{Name}
 use Rattle.rox_grammar.specs.Names.{byte, spaces_end, IsQName}
 use Rattle.rox_grammar.specs.FixedTexts.{word_text, at}
 use Rattle.rox_grammar.specs.Search.{stands}
 use Rattle.rox_grammar.specs.Constructs.{AreChars, IsEq, IsAttValue, IsPair, MayBePair, is_pair, no_pair, DeclarationTo, version, encoding, standalone, IsXmlDecl, xml_decl}
-use Rattle.rox_grammar.specs.Constructs as constructs
 use Rattle.rox_grammar.specs.Due.{DueItem, a_byte, a_text, chars_to, IsMissing, none_left, DueInPair, its_name, equals, opening, its_value, closing, value_end, DueInXmlDecl, its_version, in_pair, behind_pair, behind_standalone, none_of}
 use Rattle.rox_faults.proofs.DueForms.{a_quote, a_space, quote_is}
 use Rattle.rox_grammar.specs.Due as due
-use Rattle.rox_grammar.proofs.AtPlace.{space_ascii}
 use Rattle.rox_reading.specs.Lexical.{qname_at}
 use Rattle.rox_reading.specs.Markup.{pair_at, pair_if}
 use Rattle.rox_theory.proofs.Basics.{within}
 use Rattle.rox_theory.proofs.NameLemmas.{qname_complete}
 use Rattle.rox_faults.proofs.NameSpans.{cut_behind}
-use Rattle.rox_theory.proofs.CharLemmas.{begins_byte, some_run}
 use Rattle.rox_theory.proofs.LiteralLemmas.{quote_ascii, literal_closes, literal_complete}
 use Rattle.rox_theory.proofs.DeclarationLemmas.{IsFollowed, pair_complete, pair_cut, pair_if_complete}
 use Rattle.rox_theory.proofs.FailedReadings.{ok_one}
@@ -36,10 +32,9 @@ one_qname src i m n x y a b =
     (ap (λ (p : Name × ℕ). p.0) e, ap (λ (p : Name × ℕ). p.1) e)
 
 -- A quote that is required and is there.
-quote_stands : (src : List ℕ) (q : ℕ) (f : Fault) → (byte src q ≡ 39) ⊎ (byte src q ≡ 34) → IsMissing src q a_quote f → ⊥
-quote_stands src q f is (none_of _ inside none) = true≢false (sym (quote_is (byte src q) is) ∙ none)
-quote_stands src q f (inl is) (none_left _ past) = let l = within src q (λ z. omega arith) in absurd (omega arith)
-quote_stands src q f (inr is) (none_left _ past) = let l = within src q (λ z. omega arith) in absurd (omega arith)
+pub quote_stands : (src : List ℕ) (i : ℕ) (f : Fault) → (byte src i ≡ 39) ⊎ (byte src i ≡ 34) → IsMissing src i a_quote f → ⊥
+quote_stands src i f is (none_of _ below none) = true≢false (sym (quote_is (byte src i) is) ∙ none)
+quote_stands src i f is (none_left _ past) = let some = quote_ascii (byte src i) is in let l = within src i (λ z. omega arith) in absurd (omega arith)
 
 -- Where the value begins.
 pub eq_one : (src : List ℕ) (m n v w : ℕ) → m ≡ n → IsEq src m v → IsEq src n w → v ≡ w

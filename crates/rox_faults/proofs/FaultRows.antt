@@ -1,10 +1,10 @@
 -- Each construct that fails: what is required in it, and is not there.
-use Rattle.std.proofs.Common.{◌≡◌, ◌≢◌, ℕ, zero, suc, ◌+◌, ◌-◌, ◌^◌, ◌<◌, ◌≤◌, ◌⊎◌, ◌==◌, ◌||◌, Bool, true, false, eqb, leb, List, [], ◌∷◌, ◌++◌, length, drop, get_or, refl, sym, ap, ◌∙◌, subst, arith, inl, inr, length-drop, get_or-drop}
+use Rattle.std.proofs.Common.{◌≡◌, ℕ, zero, suc, ◌+◌, ◌-◌, ◌^◌, ◌<◌, ◌≤◌, ◌⊎◌, ◌==◌, ◌||◌, Bool, true, false, eqb, leb, List, [], ◌∷◌, ◌++◌, length, drop, get_or, refl, sym, ap, ◌∙◌, subst, arith, inl, inr, length-drop, get_or-drop}
 use Rattle.std.specs.Prelude.{Err, Option, Some, None, bytes_eq}
 use Rattle.std.specs.List.{starts_with}
-use Rattle.std.specs.Str.{chars, IsUtf8, IsCharBoundary}
+use Rattle.std.specs.Str.{IsUtf8, IsCharBoundary}
 use Rattle.std.proofs.lemmas.Str.{IsCharBoundary-before_ascii, IsCharBoundary-end}
-use Rattle.std.proofs.lemmas.Bool.{cases_lt, cases_Bool, eqb-true, cond_both, false_from_ne_true}
+use Rattle.std.proofs.lemmas.Bool.{cases_lt, cases_Bool, eqb-true, cond_both}
 use Rattle.rox_grammar.specs.declared.fault.Fault.{Fault}
 use Rattle.rox_grammar.specs.declared.fault.Span.{Span}
 use Rattle.rox_grammar.specs.declared.fault.Word.{Word}
@@ -15,7 +15,7 @@ use Rattle.rox_grammar.specs.declared.fault.Fault.TheVariants as fault
 use Rattle.rox_grammar.specs.FixedTexts.{word_text, at}
 use Rattle.rox_grammar.specs.ExpectedTexts.{expected_text}
 use Rattle.rox_grammar.specs.Chars.{is_space, is_char, is_part_char, is_name_start, is_name_char}
-use Rattle.rox_grammar.specs.Runs.{run_end, begins, first_passes}
+use Rattle.rox_grammar.specs.Runs.{run_end, begins}
 use Rattle.rox_grammar.specs.Search.{stands, before_mark, mark_from, byte_from}
 use Rattle.rox_grammar.specs.Written.{Name}
 use Rattle.rox_grammar.specs.NameParts.{local_span}
@@ -38,7 +38,7 @@ use Rattle.rox_faults.proofs.NameSpans.{run_cut, cut_behind, qname_text}
 use Rattle.rox_theory.proofs.DeclarationLemmas.{stands_reads}
 use Rattle.rox_theory.proofs.LiteralLemmas.{from_bound, from_here}
 use Rattle.rox_theory.proofs.ReferenceLemmas.{IsRead, is_character, is_entity, reference_sound, character_complete, name_complete}
-use Rattle.rox_theory.proofs.CharLemmas.{run_some, begins_byte}
+use Rattle.rox_theory.proofs.CharLemmas.{part_some}
 use Rattle.rox_theory.proofs.StretchLemmas.{slice_cons}
 use Rattle.rox_reading.specs.Machine.{name_span}
 use Rattle.rox_reading.proofs.Stretches.{range_length}
@@ -258,20 +258,6 @@ local_holds src name k n is le inside =
 -- A name ends in the source.
 pub qname_inside : (src : List ℕ) (i n : ℕ) (name : Name) → IsUtf8 src → IsCharBoundary src i → IsQName src i name n → n ≤ length src
 qname_inside src i n name utf8 cut is = (qname_text src i name n utf8 cut is).3.0
-
--- What begins a name and is not a colon begins a part of it.
-part_first : (cs : List ℕ) → first_passes is_name_start cs ≡ true → first_passes (λ c. c == 58) cs ≡ false → first_passes is_part_char cs ≡ true
-unfolding is_part_char is_name_char
-part_first [] starts other = cc starts
-part_first (c ∷ cs) starts other = rw (starts, other) refl
-
--- So a part has a byte.
-part_some : (src : List ℕ) (i : ℕ) → IsUtf8 src → IsCharBoundary src i → begins is_name_start src i ≡ true → byte src i ≢ 58 → i < run_end is_part_char src i
-unfolding begins
-part_some src i utf8 cut starts no_colon =
-    let other : first_passes (λ c. c == 58) (chars (drop i src)) ≡ false =
-    false_from_ne_true _ (λ h. no_colon (eqb-true _ _ (begins_byte (λ c. c == 58) (λ c is. omega (arith, eqb-true c 58 is)) src i utf8 cut h))) in
-    run_some is_part_char src i (part_first (chars (drop i src)) starts other)
 
 -- The span of a name holds it as it is written.
 pub spells : (src : List ℕ) (i n : ℕ) (name : Name) → IsUtf8 src → IsCharBoundary src i → IsQName src i name n → SpanIs src (name_span name i n) (spelled name)

@@ -4,7 +4,7 @@ use Rattle.std.specs.Prelude.{Result, Ok, Err, Option, Some, None, slice_index, 
 use Rattle.std.specs.List.{list_any}
 use Rattle.std.specs.Str.{IsUtf8, IsCharBoundary}
 use Rattle.std.proofs.lemmas.Str.{IsCharBoundary-after_ascii}
-use Rattle.std.proofs.lemmas.Bool.{cond_both, eqb-true, leb-false}
+use Rattle.std.proofs.lemmas.Bool.{cond_both, eqb-true, leb-false, not-false}
 use Rattle.rox_grammar.specs.declared.fault.Fault.{Fault}
 use Rattle.rox_grammar.specs.declared.fault.Word.{Word}
 use Rattle.rox_grammar.specs.declared.fault.Expected.{Expected}
@@ -60,11 +60,6 @@ rests_le src bottom stack (above start tag before up text more) = let le = rests
 rests_same : (src : List ℕ) (bottom stack : Open) → Rests src bottom stack → depth_of stack ≡ depth_of bottom → stack ≡ bottom
 rests_same src bottom stack rests same = refl
 rests_same src bottom stack (above start tag before up text more) same = let le = rests_le src bottom up more in absurd (omega arith)
-
--- What does not fail holds.
-not_fails : (b : Bool) → not b ≡ false → b ≡ true
-not_fails true h = refl
-not_fails false h = sym h
 
 -- ---- small steps, whose faults have no names
 
@@ -431,7 +426,7 @@ module _ (src : List ℕ) (bottom : Open) where
         (λ h. told_cond src _ (at word.CDataStart src s.at) _ _ (λ h. told_lifted src StateNamed (cdata_step context.limit src s) (cdata_step_spans context.limit s named)) (λ h. record { tells = tt })))
         (λ h. told_cond src _ (byte src (s.at + 1) == 63) _ _ (λ h. told_lifted src StateNamed (instruction_step context.limit src s) (instruction_step_spans context.limit s named))
         (λ h. told_cond src _ (byte src (s.at + 1) == 47) _ _ (λ slash. told_lifted src StateNamed (end_step context src s) (end_step_spans s (eqb-true _ _ slash) named))
-        (λ h. tag_step_told s (eqb-true _ _ (not_fails _ opens')) named)))))
+        (λ h. tag_step_told s (eqb-true _ _ (not-false _ opens')) named)))))
 
     -- Content up to the end tag of the root element.
     drive_told : (n : ℕ) (s : State) → StateNamed s → Told State src StateNamed (drive context n src s)

@@ -1,5 +1,5 @@
 -- A document type declaration that fails, or is cut off by the end of the text: which of its rows stands, and what was asked until then.
-use Rattle.std.proofs.Common.{◌≡◌, ◌≢◌, ℕ, zero, suc, ◌+◌, ◌-◌, ◌<◌, ◌≤◌, ◌⊎◌, max, ◌==◌, ◌||◌, true, false, nat_lt, nat_le, List, [], ◌∷◌, ◌++◌, length, refl, sym, ap, ◌∙◌, subst, arith, inl, inr, append_assoc}
+use Rattle.std.proofs.Common.{◌≡◌, ◌≢◌, ℕ, zero, suc, ◌+◌, ◌-◌, ◌<◌, ◌≤◌, ◌⊎◌, max, ◌==◌, ◌||◌, true, false, nat_lt, nat_le, List, [], ◌++◌, length, refl, sym, ap, ◌∙◌, subst, arith, inl, inr, append_assoc}
 use Rattle.std.specs.Prelude.{Result, Ok, Err, Option, Some, None}
 use Rattle.std.specs.Str.{IsUtf8, IsCharBoundary}
 use Rattle.std.proofs.lemmas.List.{append-nil}
@@ -46,7 +46,7 @@ use Rattle.rox_theory.proofs.Leaves.{item_read, fine_there}
 use Rattle.rox_theory.proofs.Around.{ends_cut, misc_ends, misc_moves, misc_plain, comment_is, instruction_is}
 use Rattle.rox_theory.proofs.DoctypeParts.{declaration_parts, notation_past, asks_at, IsPassedOver, passed_first}
 use Rattle.rox_theory.proofs.DoctypeLemmas.{head_sound, definition_sound, doctype_head_sound, space_sound, name_or_end, if_sound}
-use Rattle.rox_theory.proofs.EntityLemmas.{either, answer_sound, EntityRead, EntityOutcome, entity_outcome, entity_moves}
+use Rattle.rox_theory.proofs.EntityLemmas.{either, answer_sound, EntityRead, EntityOutcome, entity_outcome, entity_moves, next_text}
 use Rattle.rox_theory.proofs.Subsets.{passed_moves}
 use Rattle.rox_theory.proofs.FailedReadings.{bind_err, no_fault, byte_fails}
 use Rattle.rox_faults.proofs.FaultRows.{comment_fails, instruction_fails}
@@ -96,11 +96,6 @@ answer_fails (Some t) e utf8 h =
 byte_past : (b : ℕ) (src : List ℕ) (i : ℕ) (f : Fault) → length src ≤ i → byte_at b src i ≡ Err f → fault.UnexpectedEndOfStream ≡ f
 unfolding byte_at
 byte_past b src i f past h = chosen (nat_le (length src) i) _ _ _ h (λ out h. cc) (λ inside h. absurd (omega (arith, leb-false _ _ inside)))
-
--- The next reply and the others are text.
-reply_texts : (rs : List Reply) → AreTextReplies rs → IsTextReply (next_reply rs) × AreTextReplies (other_replies rs)
-reply_texts [] texts = (tt, tt)
-reply_texts (r ∷ rs) texts = texts
 
 -- Items of two rows, one after the other.
 pub subset_then : (src : List ℕ) (i j k : ℕ) (xs ys : Forest Item) (a b : List Asked) (es fs : List Entity) → Subset src i j xs a es → Subset src j k ys b fs → Subset src i k (join xs ys) (a ++ b) (es ++ fs)
@@ -165,7 +160,7 @@ module _ (src : List ℕ) (utf8 : IsUtf8 src) (limit most : ℕ) (less : limit �
     outer_fails head request j answer text f is_head is replied' read ill =
         let begun = head_sound src d.state.at head opens is_head in
         let s = definition_sound head.0.parameter src head.1 (outer request, j) is in
-        let text_is : IsTextReply (Ok answer) = subst IsTextReply replied' (reply_texts d.replies texts).0 in
+        let text_is : IsTextReply (Ok answer) = subst IsTextReply replied' (next_text d.replies texts).0 in
         let gives = answer_sound answer text text_is read in
         elim s.2 as (λ _. In (asked0 ++ once request answer) src f) [
           | inl may ↦ in_subset d.state.at items asked0 _ _ _ to fits (entity_open begun.0 begun.1 head.1 j head.0.parameter (once request answer) text f begun.2 (external head.1 s.0 j request answer text s.1 may gives) (byte_fails 62 src (spaces_end src j) f ill))
@@ -181,7 +176,7 @@ module _ (src : List ℕ) (utf8 : IsUtf8 src) (limit most : ℕ) (less : limit �
     answer_stands head request j answer e is_head is replied' ill =
         let begun = head_sound src d.state.at head opens is_head in
         let s = definition_sound head.0.parameter src head.1 (outer request, j) is in
-        let text_is : IsTextReply (Ok answer) = subst IsTextReply replied' (reply_texts d.replies texts).0 in
+        let text_is : IsTextReply (Ok answer) = subst IsTextReply replied' (next_text d.replies texts).0 in
         let w = answer_fails answer e text_is ill in
         let t = w.0 in
         let f = w.1 in

@@ -1,46 +1,20 @@
 -- Names that are read, as spans of the source.
-use Rattle.std.proofs.Common.{◌≡◌, ℕ, ◌+◌, ◌-◌, ◌<◌, ◌≤◌, Bool, true, false, cond, List, [], ◌∷◌, ◌++◌, length, drop, refl, sym, ap, ◌∙◌, subst, arith, inl, inr, add-zero, length-drop, length-take}
+use Rattle.std.proofs.Common.{◌≡◌, ℕ, ◌+◌, ◌-◌, ◌<◌, ◌≤◌, true, false, cond, List, [], length, refl, sym, subst, arith}
 use Rattle.std.specs.Prelude.{Ok, bytes_eq}
-use Rattle.std.specs.Char.{encode_utf8, len_utf8}
-use Rattle.std.specs.Str.{chars, IsUtf8, IsCharBoundary, encode_utf8_all}
-use Rattle.std.proofs.lemmas.Str.{chars-encodes, length-encode, IsUtf8-drop, IsCharBoundary-past_char, IsCharBoundary-after_ascii}
-use Rattle.std.proofs.lemmas.List.{drop-drop}
-use Rattle.std.proofs.Math.Seq.{drop-append_seam}
-use Rattle.std.proofs.lemmas.Bool.{cases_Bool}
+use Rattle.std.specs.Str.{IsUtf8, IsCharBoundary}
+use Rattle.std.proofs.lemmas.Str.{IsCharBoundary-after_ascii}
 use Rattle.rox_grammar.specs.Spans.{IsTextSpan}
 use Rattle.rox_grammar.specs.Chars.{is_part_char}
-use Rattle.rox_grammar.specs.Runs.{run_end, passing}
 use Rattle.rox_grammar.specs.Written.{Name}
 use Rattle.rox_grammar.specs.NameParts.{local_span, prefix_span}
 use Rattle.rox_grammar.specs.Names.{byte, slice, IsQName, unprefixed, prefixed, colon_first}
 use Rattle.rox_reading.specs.Lexical.{qname_at}
 use Rattle.rox_reading.specs.Machine.{name_span}
+use Rattle.rox_reading.proofs.Stretches.{range_length}
 use Rattle.rox_theory.proofs.Productions.{ncname_parts}
 use Rattle.rox_theory.proofs.Basics.{within, run_end_le}
+pub use Rattle.rox_theory.proofs.CharTexts.{run_cut}
 use Rattle.rox_theory.proofs.NameLemmas.{qname_sound}
-
--- After the characters that pass another begins.
-run_cut_in : (p : ℕ → Bool) (src cs : List ℕ) (i : ℕ) → IsUtf8 src → IsCharBoundary src i → drop i src ≡ encode_utf8_all cs → IsCharBoundary src (i + passing p cs)
-run_cut_in p src [] i utf8 cut is = rw (add-zero i) cut
-run_cut_in p src (c ∷ cs) i utf8 cut is =
-    elim (cases_Bool (p c)) as (λ s. IsCharBoundary src (i + passing p (c ∷ cs))) [
-      | inl passes ↦ (
-          let next = IsCharBoundary-past_char src (encode_utf8_all cs) i c cut.0 (IsUtf8-drop src i utf8 cut) is in
-          let past : drop (len_utf8 c) (encode_utf8 c ++ encode_utf8_all cs) ≡ encode_utf8_all cs =
-          rw (← length-encode c) (drop-append_seam (encode_utf8 c) (encode_utf8_all cs)) in
-          let rest : drop (i + len_utf8 c) src ≡ encode_utf8_all cs = sym (drop-drop (len_utf8 c) i src) ∙ ap (drop (len_utf8 c)) is ∙ past in
-          let e : i + len_utf8 c + passing p cs ≡ i + passing p (c ∷ cs) = rw passes (omega arith) in
-          subst (IsCharBoundary src) e (run_cut_in p src cs (i + len_utf8 c) utf8 next rest))
-      | inr fails ↦ rw (fails, add-zero i) cut
-    ]
-
--- A run that begins where a character does ends so.
-pub run_cut : (p : ℕ → Bool) (src : List ℕ) (i : ℕ) → IsUtf8 src → IsCharBoundary src i → IsCharBoundary src (run_end p src i)
-unfolding run_end
-run_cut p src i utf8 cut =
-    let spelled = IsUtf8-drop src i utf8 cut in
-    let all : chars (drop i src) ≡ spelled.0 = ap chars (sym spelled.1.1) ∙ chars-encodes spelled.0 spelled.1.0 in
-    rw all (run_cut_in p src spelled.0 i utf8 cut (sym spelled.1.1))
 
 -- A character begins after a byte that is ASCII and not 0.
 pub cut_behind : (src : List ℕ) (i b : ℕ) → IsUtf8 src → byte src i ≡ b → 0 < b → b < 128 → IsCharBoundary src (i + 1)
@@ -50,21 +24,17 @@ cut_behind src i b utf8 is some ascii = IsCharBoundary-after_ascii src i utf8 (w
 pub text_span : (src : List ℕ) (i j : ℕ) → i ≤ j → IsCharBoundary src i → IsCharBoundary src j → IsTextSpan src (record { start = i; end = j })
 text_span src i j le start end = (le, start, end)
 
--- How long a slice is.
-slice_long : (src : List ℕ) (i j : ℕ) → i ≤ j → j ≤ length src → length (slice src i j) ≡ j - i
-slice_long src i j from inside = omega (arith, length-take (j - i) (drop i src), length-drop i src)
-
 -- A local part that is a slice.
 local_is : (src : List ℕ) (name : Name) (i j : ℕ) → name.local ≡ slice src i j → i ≤ j → IsCharBoundary src i → IsCharBoundary src j → IsTextSpan src (local_span name j)
 local_is src name i j is le start end =
-    let l = slice_long src i j le end.0 in
+    let l = range_length src i j le end.0 in
     let e : i ≡ j - length name.local = rw is (omega arith) in
     text_span src (j - length name.local) j (omega arith) (subst (IsCharBoundary src) e start) end
 
 -- A prefix that is a slice.
 prefix_is : (src : List ℕ) (name : Name) (i j : ℕ) → name.prefix ≡ slice src i j → i ≤ j → IsCharBoundary src i → IsCharBoundary src j → IsTextSpan src (prefix_span name i)
 prefix_is src name i j is le start end =
-    let l = slice_long src i j le end.0 in
+    let l = range_length src i j le end.0 in
     let e : j ≡ i + length name.prefix = rw is (omega arith) in
     text_span src i (i + length name.prefix) (omega arith) start (subst (IsCharBoundary src) e end)
 

@@ -55,10 +55,6 @@ spanned_by src P (Err f) fault gives = record { holds = fault f refl }
 pub spanned_fault : {A : Type 0} (src : List ℕ) (P : A → Type 0) (r : Result A Fault) (f : Fault) → Spanned A src P r → r ≡ Err f → NamesText src f
 spanned_fault src P r f h e = subst (SpanIs src P) e h.holds
 
--- What it gives.
-pub spanned_gives : {A : Type 0} (src : List ℕ) (P : A → Type 0) (r : Result A Fault) (x : A) → Spanned A src P r → r ≡ Ok x → P x
-spanned_gives src P r x h e = subst (SpanIs src P) e h.holds
-
 -- ---- the same of what may open entities: the names of a refusal are texts of the source that it counts in
 
 abbrev pub IsTold : List ℕ → Refusal → Type 0
@@ -105,10 +101,6 @@ told_elsewhere src source P (Err (refused request at message)) h = record { tell
 -- The refusal that it is.
 pub told_refusal : {A : Type 0} (src : List ℕ) (P : A → Type 0) (r : Result A Refusal) (e : Refusal) → Told A src P r → r ≡ Err e → IsTold src e
 told_refusal src P r e h is = subst (Tells src P) is h.tells
-
--- What it gives.
-pub told_gives : {A : Type 0} (src : List ℕ) (P : A → Type 0) (r : Result A Refusal) (x : A) → Told A src P r → r ≡ Ok x → P x
-told_gives src P r x h is = subst (Tells src P) is h.tells
 
 -- Chars up to a place: the fault has no name.
 pub chars_spans : (src : List ℕ) (end i : ℕ) → FaultSpanned src (chars_up_to end src i)
@@ -162,10 +154,6 @@ module _ (src : List ℕ) (utf8 : IsUtf8 src) where
       spanned_cond src _ (byte src (i + 1) == 35) _ _
       (λ h. spanned_cond src _ (byte src (i + 2) == 120) _ _ (λ h. number_spans 16 is_hex_digit i (i + 3)) (λ h. number_spans 10 is_digit i (i + 2)))
       (λ h. name_reference_spans i amp)
-
-  -- An entity that is referred to has a name in the source.
-  pub reference_spans : (i j : ℕ) (span : Span) → byte src i ≡ 38 → reference_at src i ≡ Ok (entity_at span, j) → IsTextSpan src span
-  reference_spans i j span amp h = spanned_gives src (λ (r : Reference × ℕ). RefersTo src r.0) (reference_at src i) (entity_at span, j) (reference_spanned i amp) h
 
   -- A replacement text is text.
   abbrev pub IsSource : Bit → Type 0
