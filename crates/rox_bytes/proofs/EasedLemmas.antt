@@ -4,10 +4,11 @@ use Rattle.std.specs.Char.{encode_utf8}
 use Rattle.std.specs.Simd.Lanes.{sel_l, top, zip2}
 use Rattle.std.specs.Str.{chars, IsCharBoundary}
 use Rattle.std.proofs.Math.Utf8.{encodes}
-use Rattle.std.proofs.lemmas.Bool.{and_parts, and_from, cases_Bool, cases_eq, cases_lt, eqb-true, false≢true}
+use Rattle.std.proofs.lemmas.Bool.{and_parts, and_from, cases_Bool, cases_eq, cases_lt, eqb-true, false≢true, or_right}
 use Rattle.std.proofs.lemmas.Bool.Decides.{nat_tests}
 use Rattle.std.proofs.lemmas.List.{length-take, get_or-take, drop_more, drop_all, get_or_past}
 use Rattle.std.proofs.lemmas.Str.{encode_ascii, length-encode, encodes-chars, IsUtf8-drop, IsUtf8-take}
+use mathlib.Core.Bool.{and-false, or-true}
 use Rattle.rox_grammar.specs.Chars.{is_char}
 use Rattle.rox_grammar.specs.Runs.{passing, run_end}
 use Rattle.rox_bytes.specs.ByteSets.{eased, is_char_byte, leads_char, passes_eased}
@@ -42,24 +43,13 @@ get_eased [] k less = absurd (omega (arith, less))
 get_eased (b ∷ bs) zero less = refl
 get_eased (b ∷ bs) (suc k) less = get_eased bs k (omega (arith, less))
 
-and_none : (b : Bool) → (b && false) ≡ false
-and_none true = refl
-and_none false = refl
-
-or_all : (b : Bool) → (b || true) ≡ true
-or_all true = refl
-or_all false = refl
-
-or_given : (a b : Bool) → b ≡ true → (a || b) ≡ true
-or_given a b h = ap (λ (x : Bool). a || x) h ∙ or_all a
-
 pass_by : (p : ℕ → Bool) (b : ℕ) (e f : Bool) → p (cond (e && f) 255 b) ≡ true → (p b || (e && f)) ≡ true
-pass_by p b true true h = or_all (p b)
+pass_by p b true true h = or-true (p b)
 pass_by p b true false h = rw h refl
 pass_by p b false f h = rw h refl
 
 stop_by : (p : ℕ → Bool) (b : ℕ) (e f : Bool) → p (cond (e && f) 255 b) ≡ false → (p b && not e) ≡ false
-stop_by p b true f h = and_none (p b)
+stop_by p b true f h = and-false (p b)
 stop_by p b false f h = rw h refl
 
 -- what passes among the eased bytes
@@ -126,8 +116,8 @@ fair_here p b m n are h next =
       | inr fails ↦ (
           let lead : leads_char b m ≡ true = rw fails at h in
           elim next [
-            | inl same ↦ ap (λ (k : ℕ). is_char_byte b || leads_char b k) same ∙ or_given (is_char_byte b) (leads_char b m) lead
-            | inr none ↦ ap (λ (k : ℕ). is_char_byte b || leads_char b k) none ∙ or_given (is_char_byte b) (leads_char b 0) (and_from _ _ (and_parts (b == 239) (not (m == 191)) lead).0 refl)
+            | inl same ↦ ap (λ (k : ℕ). is_char_byte b || leads_char b k) same ∙ or_right (is_char_byte b) (leads_char b m) lead
+            | inr none ↦ ap (λ (k : ℕ). is_char_byte b || leads_char b k) none ∙ or_right (is_char_byte b) (leads_char b 0) (and_from _ _ (and_parts (b == 239) (not (m == 191)) lead).0 refl)
           ])
     ]
 
@@ -147,7 +137,8 @@ all_fair p src i e (suc n) same within all are =
     let rest = all_fair p src (i + 1) e n (omega arith) within (λ k low high. all k (omega arith) high) are in
     rw (drop_more (take e src) i 0 (omega (arith, long)), read) (and_from _ _ here rest)
 
-cut_before : (src : List ℕ) (i e : ℕ) → i ≤ e → e ≤ length src → IsCharBoundary src i → IsCharBoundary (take e src) i
+-- a place before the end of a front is one between characters of the front
+pub cut_before : (src : List ℕ) (i e : ℕ) → i ≤ e → e ≤ length src → IsCharBoundary src i → IsCharBoundary (take e src) i
 cut_before src i e le within cut =
     let long = length-take e src in
     (omega (arith, long), λ more wide. let read = get_or-take e src i 0 (omega (arith, long)) in rw read (cut.1 (omega (arith, long)) (rw read at wide)))

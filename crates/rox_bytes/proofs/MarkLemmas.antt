@@ -3,7 +3,8 @@ use Rattle.std.proofs.Common.{◌≡◌, ℕ, zero, suc, ◌+◌, ◌<◌, ◌�
 use Rattle.std.specs.List.{starts_with, position_or_len}
 use Rattle.std.specs.Str.{IsUtf8, IsCharBoundary}
 use Rattle.std.proofs.lemmas.Str.{IsCharBoundary-after_ascii, IsCharBoundary-before_ascii, IsCharBoundary-end}
-use Rattle.std.proofs.lemmas.Bool.{cases_lt, le-ltb}
+pub use Rattle.std.proofs.lemmas.Bool.{false_from_ne_true as fails}
+use Rattle.std.proofs.lemmas.Bool.{cases_lt}
 use Rattle.std.proofs.lemmas.Bool.Decides.{Decides-eqb}
 use Rattle.std.proofs.lemmas.List.{length-drop}
 use Rattle.std.proofs.lemmas.List.Sums.{position_or_len_is}
@@ -15,23 +16,12 @@ use Rattle.rox_grammar.specs.Search.{stands, before_mark, mark_from}
 use Rattle.rox_grammar.specs.declared.fault.Expected.{Expected}
 use Rattle.rox_grammar.specs.declared.fault.Expected.TheVariants as expected
 use Rattle.rox_grammar.specs.ExpectedTexts.{expected_text}
+pub use Rattle.rox_grammar.proofs.AtPlace.{stands_split, stands_reads, stands_fits}
 use Rattle.rox_bytes.specs.ScanResults.{Finds}
-use Rattle.rox_reading.specs.Lexical.{has_mark}
-
-pub fails : (b : Bool) → (b ≡ true → ⊥) → b ≡ false
-fails true h = absurd (h refl)
-fails false h = refl
-
-pub stands_split : (mark src : List ℕ) (i : ℕ) → stands mark src i ≡ true → drop i src ≡ mark ++ drop (length mark) (drop i src)
-unfolding stands
-stands_split mark src i h = (starts_is Decides-eqb (drop i src) mark true (sym h)).0 refl
 
 pub stands_from_split : (mark src rest : List ℕ) (i : ℕ) → drop i src ≡ mark ++ rest → stands mark src i ≡ true
 unfolding stands
 stands_from_split mark src rest i h = (starts_is Decides-eqb (drop i src) mark _ refl).1 rest h
-
-pub stands_reads : (mark src : List ℕ) (i j : ℕ) → stands mark src i ≡ true → j < length mark → get_or src (i + j) 0 ≡ get_or mark j 0
-stands_reads mark src i j h within = at_reads 0 src mark i _ (stands_split mark src i h) j within
 
 -- a text that is short, or differs in the second byte, does not begin with the mark
 pub differs_early : (mark rest : List ℕ) → 1 < length mark → (1 < length rest → get_or rest 1 0 ≡ get_or mark 1 0 → ⊥) → starts_with ◌==◌ rest mark ≡ false
@@ -40,11 +30,6 @@ differs_early mark rest some apart =
     let split = (starts_is Decides-eqb rest mark true (sym h)).0 refl in
     let fits = front_fits rest mark _ split in
     apart (omega (arith, fits)) (at_reads 0 rest mark 0 _ split 1 some))
-
-pub stands_fits : (mark src : List ℕ) (i : ℕ) → 0 < length mark → stands mark src i ≡ true → i + length mark ≤ length src
-stands_fits mark src i some h =
-    let fits = front_fits (drop i src) mark _ (stands_split mark src i h) in
-    omega (arith, fits, length-drop i src)
 
 -- after a fixed text whose last byte is ASCII
 pub stands_cut : (mark src : List ℕ) (i n : ℕ) → length mark ≡ n + 1 → IsUtf8 src → get_or mark n 0 < 128 → stands mark src i ≡ true → IsCharBoundary src (i + length mark)
@@ -122,12 +107,6 @@ stands_front_cut mark src i n within utf8 ascii h =
     let fits = stands_fits mark src i (omega arith) h in
     let read = stands_reads mark src i n h within in
     rw (← add_assoc i n 1) (IsCharBoundary-after_ascii src (i + n) utf8 (omega arith) (omega arith))
-
--- where the first byte of the mark does not stand, no mark does
-pub no_mark : (mark hay : List ℕ) → 0 < length mark → ((j : ℕ) → j < length hay → get_or hay j 0 ≡ get_or mark 0 0 → ⊥) → has_mark mark hay ≡ false
-no_mark mark hay some apart =
-    let all = before_mark_is mark hay (length hay) (omega arith) (λ j below. not_from_first mark hay j some (apart j below)) (λ more. absurd (omega arith)) in
-    rw all (le-ltb (length hay) (length hay) (omega arith))
 
 -- a fixed text begins with an ASCII byte
 pub word_first : (w : Expected) → (0 < length (expected_text w)) × (get_or (expected_text w) 0 0 < 128)

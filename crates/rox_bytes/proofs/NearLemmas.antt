@@ -11,12 +11,14 @@ use Rattle.rox_grammar.specs.Chars.{is_char, is_name_start, is_name_char, is_par
 use Rattle.rox_grammar.specs.Content.{is_verbatim_value}
 use Rattle.rox_grammar.specs.Runs.{run_end, begins}
 use Rattle.rox_grammar.specs.Search.{byte_from}
+use Rattle.rox_grammar.proofs.AtPlace.{run_at_end, space_ascii}
 use Rattle.rox_reading.specs.Lexical.{chars_up_to}
 use Rattle.rox_reading.specs.Markup.{raw_value_at}
 use Rattle.rox_reading.specs.Values.{is_special}
 use Rattle.rox_bytes.specs.ByteSets.{is_char_byte, AllPass, is_value_byte, is_wide_value_byte, is_quoted_byte, is_text_byte, is_comment_byte, is_ascii_comment_byte, is_part_byte, is_run_byte, is_stretch_byte}
-use Rattle.rox_bytes.proofs.RunLemmas.{begins_ascii, run_on_ascii, run_stops_ascii, run_at_end, space_on, space_stops}
+use Rattle.rox_bytes.proofs.RunLemmas.{begins_ascii, run_on_ascii, run_stops_ascii, space_on, space_stops}
 use Rattle.rox_bytes.proofs.PlainLemmas.{plain_run}
+use Rattle.rox_bytes.proofs.EasedLemmas.{cut_before}
 
 pub value_is_plain : (b : ℕ) → is_value_byte b ≡ true → is_char_byte b ≡ true
 unfolding is_value_byte
@@ -150,11 +152,8 @@ part_begins src i e utf8 more within all letter =
     begins_ascii is_name_start src i utf8 (omega (arith, more, within)) (part_ascii _ here) ∙ part_starts _ here letter
 
 -- white space is ASCII, so a place behind it is one between characters
-space_below : (b : ℕ) → is_space b ≡ true → b < 128
-space_below b h = grind (arith, nat_tests)
-
 pub spaces_cut : (src : List ℕ) (i e : ℕ) → IsUtf8 src → IsCharBoundary src i → i ≤ e → e ≤ length src → AllPass is_space src i e → IsCharBoundary src e
-spaces_cut src i e utf8 cut le within all = ascii_cut is_space src i e utf8 cut le within all space_below
+spaces_cut src i e utf8 cut le within all = ascii_cut is_space src i e utf8 cut le within all space_ascii
 
 spaces_from : (src : List ℕ) (i e n : ℕ) → i + n ≡ e → e ≤ length src → IsUtf8 src → AllPass is_space src i e → run_end is_space src e ≡ run_end is_space src i
 spaces_from src i e zero same within utf8 all = let at : e ≡ i = omega arith in rw at refl
@@ -178,11 +177,6 @@ all_plain p src i e (suc n) same within all are =
     let long = length-take e src in
     let read : get_or (take e src) i 0 ≡ get_or src i 0 = get_or-take e src i 0 (omega (arith, long)) in
     rw (drop_more (take e src) i 0 (omega (arith, long)), read, are _ (all i (omega arith) (omega arith))) (all_plain p src (i + 1) e n (omega arith) within (λ k low high. all k (omega arith) high) are)
-
-cut_before : (src : List ℕ) (i e : ℕ) → i ≤ e → e ≤ length src → IsCharBoundary src i → IsCharBoundary (take e src) i
-cut_before src i e le within cut =
-    let long = length-take e src in
-    (omega (arith, long), λ more wide. let read = get_or-take e src i 0 (omega (arith, long)) in rw read (cut.1 (omega (arith, long)) (rw read at wide)))
 
 -- plain bytes are of Chars
 pub near_chars : (p : ℕ → Bool) (src : List ℕ) (i e : ℕ) → IsUtf8 src → IsCharBoundary src i → i ≤ e → IsCharBoundary src e → AllPass p src i e → ((b : ℕ) → p b ≡ true → is_char_byte b ≡ true) → run_end is_char (take e src) i ≡ e
@@ -226,17 +220,6 @@ stretch_plain b h = grind (arith, nat_tests)
 pub stretch_special : (b : ℕ) → is_stretch_byte b ≡ false → is_special b ≡ true
 unfolding is_stretch_byte
 stretch_special b h = grind (arith, nat_tests)
-
-special_ascii : (b : ℕ) → is_special b ≡ true → b < 128
-special_ascii b h = grind (arith, nat_tests)
-
--- a stretch ends at the first special byte
-pub stretch_ends : (src : List ℕ) (i e : ℕ) → i ≤ e → e ≤ length src → AllPass is_stretch_byte src i e → (e < length src → is_stretch_byte (get_or src e 0) ≡ false) → byte_from is_special src i ≡ e
-stretch_ends src i e le within all stops = near_found is_stretch_byte is_special src i e le within all stretch_plain (λ more. stretch_special _ (stops more))
-
--- which begins a character
-pub stretch_cut : (src : List ℕ) (e : ℕ) → e ≤ length src → (e < length src → is_stretch_byte (get_or src e 0) ≡ false) → IsCharBoundary src e
-stretch_cut src e within stops = (within, λ more wide. let ascii : get_or src e 0 < 128 = special_ascii (get_or src e 0) (stretch_special (get_or src e 0) (stops more)) in absurd (omega (arith, ascii, wide)))
 
 run_plain : (b : ℕ) → is_run_byte b ≡ true → (b == 38 || b == 13) ≡ false
 unfolding is_run_byte
@@ -284,10 +267,3 @@ short_value src i e quote utf8 start q le cut all here =
 pub near_plain : (src : List ℕ) (i e : ℕ) → i ≤ e → e ≤ length src → AllPass is_value_byte src i e → is_verbatim_value (slice_range src i e) ≡ true
 near_plain src i e le within all =
     ap not (none_among is_value_byte (λ b. b == 38 || (b == 9 || (b == 10 || b == 13))) src i e (e - i) (omega arith) within all value_plain)
-
--- a byte of such a slice passes
-pub read_among : (p : ℕ → Bool) (src : List ℕ) (i e j : ℕ) → e ≤ length src → AllPass p src i e → j < length (slice_range src i e) → p (get_or (slice_range src i e) j 0) ≡ true
-read_among p src i e j within all below =
-    let long = length-take (e - i) (drop i src) in
-    let at : get_or (slice_range src i e) j 0 ≡ get_or src (i + j) 0 = get_or-take (e - i) (drop i src) j 0 (omega (arith, long)) ∙ get_or-drop i src j 0 in
-    rw at (all (i + j) (omega arith) (omega (arith, long)))

@@ -11,7 +11,7 @@ use Rattle.rox_grammar.specs.Chars.{is_space}
 use Rattle.rox_grammar.specs.Runs.{passing, run_end, begins, StandsAt}
 use Rattle.std.specs.Prelude.{slice_index}
 use Rattle.rox_grammar.specs.Search.{stands}
-use Rattle.rox_reading.specs.Doctype.{subset}
+use Rattle.rox_grammar.proofs.AtPlace.{run_at_end, space_ascii}
 
 pub chars_at : (src : List ℕ) (i c : ℕ) → IsUtf8 src → IsCharBoundary src i → StandsAt c src i → chars (drop i src) ≡ c ∷ chars (drop (i + len_utf8 c) src)
 chars_at src i c utf8 cut stands = chars_past_char (drop i src) (drop (i + len_utf8 c) src) c (IsUtf8-drop src i utf8 cut) stands
@@ -37,14 +37,6 @@ run_on_ascii p src i utf8 within ascii passes =
 pub run_stops_ascii : (p : ℕ → Bool) (src : List ℕ) (i : ℕ) → IsUtf8 src → i < length src → get_or src i 0 < 128 → p (get_or src i 0) ≡ false → run_end p src i ≡ i
 run_stops_ascii p src i utf8 within ascii fails =
     run_stops p src i (get_or src i 0) utf8 (IsCharBoundary-before_ascii src i within ascii) (stands_ascii src i within ascii) fails
-
-pub run_at_end : (p : ℕ → Bool) (src : List ℕ) (i : ℕ) → length src ≤ i → run_end p src i ≡ i
-unfolding run_end
-run_at_end p src i past = rw (drop_all i src past, chars-nil) (add-zero i)
-
--- white space is ASCII
-space_ascii : (b : ℕ) → is_space b ≡ true → b < 128
-space_ascii b h = grind (arith, nat_tests)
 
 wide_is_none : (c : ℕ) → 128 ≤ c → is_space c ≡ false
 wide_is_none c wide = grind (arith, nat_tests)

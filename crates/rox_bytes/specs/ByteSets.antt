@@ -4,7 +4,6 @@ use Rattle.rox_grammar.specs.Chars.{is_part_char}
 use Rattle.std.specs.Prelude.{◌≡◌, ◌+◌, ◌≤◌, ◌<◌, ℕ, Bool, true, false, not, ◌&&◌, ◌||◌, ◌==◌, nat_le, nat_lt, bit_xor, cond, List, [], ◌∷◌, length, slice_index}
 use Rattle.rox_grammar.specs.declared.fault.Word.{Word}
 use Rattle.rox_grammar.specs.FixedTexts.{word_text}
-use Rattle.rox_reading.specs.Refusals.{there}
 use Rattle.std.specs.List.{list_all}
 
 -- The byte `b` with its highest bit flipped: bytes past ASCII are less than controls then.

@@ -8,7 +8,7 @@ use Rattle.std.proofs.lemmas.List.{take_all, take-append-le, length-map, drop-ma
 use Rattle.std.specs.Mem.{manually_drop_value}
 use Rattle.rox_rows.specs.Storage.{storage_bytes, is_borrowed}
 use Rattle.rox_rows.specs.UsualPlaces.{usual_places}
-use Rattle.rox_rows.specs.StoredAttributes.{data_of, places_in, row_in, place_bound, unusual_count, AreNumbered, own_place, owned_places}
+use Rattle.rox_rows.specs.StoredAttributes.{data_of, places_in, row_in, unusual_count, AreNumbered, own_place, owned_places}
 use Rattle.rox_rows.specs.declared.row.AttributeData.{AttributeData}
 use Rattle.rox_rows.specs.declared.row.AttributePlaces.{AttributePlaces}
 use Rattle.rox_rows.specs.declared.stored_attribute.StoredAttribute.{StoredAttribute}
@@ -107,18 +107,6 @@ numbered_take n (suc k) (x ∷ xs) h = (h.0, numbered_take ((if x.before == 255 
 within : (b : Bool) (p n c k : ℕ) → b ≡ true → p ≡ n → ((if b then 1 else 0) + c) + n ≤ k → p < k
 within true p n c k e h l = omega (arith, h, l)
 within false p n c k e h l = cc e
-
--- a row's places are in the table
-pub place_within : (n : ℕ) (xs : List StoredAttribute) (i : ℕ) (r : StoredAttribute) → AreNumbered n xs → i < length xs → r ≡ get_or xs i r → place_bound r ≤ unusual_count xs + n
-place_within n [] i r h l is = absurd (omega arith)
-place_within n (x ∷ xs) zero r h l is = subst (λ (y : StoredAttribute). place_bound y ≤ unusual_count (x ∷ xs) + n) (sym is) (first (x.before == 255) x.place n (unusual_count xs) h.0)
-  where
-    first : (b : Bool) (p n c : ℕ) → (b ≡ true → p ≡ n) → (if b then p + 1 else 0) ≤ ((if b then 1 else 0) + c) + n
-    first true p n c h = let e = h refl in omega (arith, e)
-    first false p n c h = omega arith
-place_within n (x ∷ xs) (suc i) r h l is =
-    let one : ℕ = if x.before == 255 then 1 else 0 in
-    let rest = place_within (one + n) xs i r h.1 (omega arith) is in omega (arith, rest)
 
 -- ---- rows over another table of places, which is the same as far as theirs go
 

@@ -109,13 +109,13 @@ lines-append as' moreA namespaces moreN ls moreL rows ha h =
 
 -- ---- what a row names stays in the tables
 
+pub option_more : (n m : ℕ) (o : Option ℕ) → n ≤ m → OptionWithin n o → OptionWithin m o
+option_more n m None le within = tt
+option_more n m (Some i) le within = omega arith
+
 pub kind_more : (a n l a' n' l' : ℕ) (k : NodeKind) → a ≤ a' → n ≤ n' → l ≤ l' → KindWithin a n l k → KindWithin a' n' l' k
 kind_more a n l a' n' l' kind.Root x y z h = tt
 kind_more a n l a' n' l' (kind.Element e) x y z (p, q, r, o) = (p, omega arith, omega arith, option_more n n' (numbered_place e.namespace) y o)
-  where
-    option_more : (n n' : ℕ) (o : Option ℕ) → n ≤ n' → OptionWithin n o → OptionWithin n' o
-    option_more n n' None y h = tt
-    option_more n n' (Some i) y h = omega arith
 kind_more a n l a' n' l' (kind.Text v) x y z h = tt
 kind_more a n l a' n' l' (kind.Comment t) x y z h = h
 kind_more a n l a' n' l' (kind.PI p) x y z h = tt
@@ -124,7 +124,3 @@ pub namespace_more : (n n' : ℕ) (a : AttributeNamespace) → n ≤ n' → Name
 namespace_more n n' space.None y h = tt
 namespace_more n n' space.Xml y h = tt
 namespace_more n n' (space.Listed i) y h = omega arith
-
-pub option_more : (n m : ℕ) (o : Option ℕ) → n ≤ m → OptionWithin n o → OptionWithin m o
-option_more n m None le within = tt
-option_more n m (Some i) le within = omega arith

@@ -4,7 +4,7 @@ use Rattle.std.specs.declared.mem.ManuallyDrop.{ManuallyDrop}
 use Rattle.rox_rows.specs.declared.storage.StringStorage.{StringStorage}
 use Rattle.std.proofs.Common.{◌≡◌, ℕ, zero, suc, ◌+◌, ◌*◌, ◌/◌, ◌^◌, ◌<◌, ◌≤◌, ◌==◌, ◌&&◌, if◌then◌else◌, Bool, true, false, List, [], ◌∷◌, ◌++◌, length, take, set, get_or, vec_len, length-append, refl, sym, ap, ◌∙◌, arith}
 use Rattle.std.proofs.lemmas.List.Folds.{list_all-append}
-use Rattle.std.proofs.lemmas.Bool.{ltb-true, lt-ltb, eqb-true, eq-eqb}
+use Rattle.std.proofs.lemmas.Bool.{ltb-true, lt-ltb, eqb-true, eq-eqb, and_parts}
 use Rattle.std.proofs.lemmas.List.{take_all, take_more}
 use Rattle.rox_rows.specs.declared.row.PI.{PI}
 use Rattle.rox_rows.specs.declared.row.NodeKind.{NodeKind}
@@ -130,19 +130,11 @@ kind-more pis p (stored.Text n a) w = refl
 kind-more pis p (stored.Comment n a) w = refl
 kind-more pis p (stored.Instruction i) w = instruction-more pis p i (ltb-true i (length pis) w)
 
-pub and-first : (a b : Bool) → (a && b) ≡ true → a ≡ true
-and-first true b h = refl
-and-first false b h = h
-
-pub and-second : (a b : Bool) → (a && b) ≡ true → b ≡ true
-and-second true b h = h
-and-second false b h = absurd (cc h)
-
 pub head-within : (n : ℕ) (x : StoredNode) (rows : List StoredNode) → are_within n (x ∷ rows) ≡ true → is_kind_within n x.kind ≡ true
-head-within n x rows w = and-first (is_kind_within n x.kind) (are_within n rows) w
+head-within n x rows w = (and_parts (is_kind_within n x.kind) (are_within n rows) w).0
 
 pub tail-within : (n : ℕ) (x : StoredNode) (rows : List StoredNode) → are_within n (x ∷ rows) ≡ true → are_within n rows ≡ true
-tail-within n x rows w = and-second (is_kind_within n x.kind) (are_within n rows) w
+tail-within n x rows w = (and_parts (is_kind_within n x.kind) (are_within n rows) w).1
 
 pub whole-more : (pis : List PI) (p : PI) (high : List HighPlaces) (rows : List StoredNode) → are_within (length pis) rows ≡ true
     → whole_rows (pis ++ p ∷ []) high rows ≡ whole_rows pis high rows
@@ -199,9 +191,9 @@ pub chain_push : (count last end : ℕ) (rows : List StoredNode) (r : StoredNode
     → is_chain count last (last_with (length rows + count) end r.kind) (rows ++ r ∷ []) ≡ true
 chain_push count last end [] r h l = one_chained count (0 + count) last end r (omega arith) h l
 chain_push count last end (x ∷ rows) r h l =
-    let rest = and-second (is_linked last x.kind) (is_chain (count + 1) (last_with count last x.kind) end rows) h in
+    let rest = (and_parts (is_linked last x.kind) (is_chain (count + 1) (last_with count last x.kind) end rows) h).1 in
     let n : length rows + (count + 1) ≡ suc (length rows) + count = omega arith in
-    rw (and-first (is_linked last x.kind) (is_chain (count + 1) (last_with count last x.kind) end rows) h)
+    rw (and_parts (is_linked last x.kind) (is_chain (count + 1) (last_with count last x.kind) end rows) h).0
     (ap (λ (m : ℕ). is_chain (count + 1) (last_with count last x.kind) (last_with m end r.kind) (rows ++ r ∷ [])) (sym n) ∙ chain_push (count + 1) (last_with count last x.kind) end rows r rest l)
 
 one_unchained : (count last end : ℕ) (r : StoredNode) → (is_linked last r.kind && last_with count last r.kind == end) ≡ true
@@ -210,7 +202,7 @@ one_unchained count last end r h = cases (owns r.kind) h
   where
     cases : (b : Bool) → ((if b then previous r.kind == last else true) && (if b then count + 1 else last) == end) ≡ true
         → last == (if b then previous r.kind else end) ≡ true
-    cases true h = eq-eqb last (previous r.kind) (sym (eqb-true (previous r.kind) last (and-first (previous r.kind == last) (count + 1 == end) h)))
+    cases true h = eq-eqb last (previous r.kind) (sym (eqb-true (previous r.kind) last (and_parts (previous r.kind == last) (count + 1 == end) h).0))
     cases false h = h
 
 -- without the last row
@@ -219,7 +211,7 @@ pub chain_pop : (count last end : ℕ) (rows : List StoredNode) (r : StoredNode)
 chain_pop count last end [] r h = one_unchained count last end r h
 chain_pop count last end (x ∷ rows) r h =
     let all = is_chain (count + 1) (last_with count last x.kind) end (rows ++ r ∷ []) in
-    rw (and-first (is_linked last x.kind) all h) (chain_pop (count + 1) (last_with count last x.kind) end rows r (and-second (is_linked last x.kind) all h))
+    rw (and_parts (is_linked last x.kind) all h).0 (chain_pop (count + 1) (last_with count last x.kind) end rows r (and_parts (is_linked last x.kind) all h).1)
 
 -- a row changed, but for what it is
 pub chain_end : (count last end : ℕ) (rows : List StoredNode) (i low m : ℕ) (r : StoredNode) → is_chain count last end rows ≡ true
@@ -228,7 +220,7 @@ chain_end count last end [] i low m r h = h
 chain_end count last end (x ∷ rows) zero low m r h = h
 chain_end count last end (x ∷ rows) (suc i) low m r h =
     let rest = is_chain (count + 1) (last_with count last x.kind) end rows in
-    rw (and-first (is_linked last x.kind) rest h) (chain_end (count + 1) (last_with count last x.kind) end rows i low m r (and-second (is_linked last x.kind) rest h))
+    rw (and_parts (is_linked last x.kind) rest h).0 (chain_end (count + 1) (last_with count last x.kind) end rows i low m r (and_parts (is_linked last x.kind) rest h).1)
 
 pub chain_root : (count last end : ℕ) (rows : List StoredNode) (m : ℕ) (r : StoredNode) → is_chain count last end rows ≡ true
     → is_chain count last end (set rows 0 (record (get_or rows 0 r) { subtree_end = m })) ≡ true

@@ -4,8 +4,9 @@ use Rattle.std.specs.Char.{len_utf8}
 use Rattle.std.specs.Str.{IsCharBoundary, IsUtf8}
 use Rattle.std.proofs.lemmas.Str.{IsCharBoundary-after_ascii}
 use Rattle.rox_grammar.specs.Runs.{run_end, StandsAt}
+use Rattle.rox_grammar.proofs.AtPlace.{run_at_end}
 use Rattle.rox_bytes.specs.ScanResults.{Finds}
-use Rattle.rox_bytes.proofs.RunLemmas.{run_on, run_on_ascii, run_stops, run_stops_ascii, run_at_end}
+use Rattle.rox_bytes.proofs.RunLemmas.{run_on, run_on_ascii, run_stops, run_stops_ascii}
 use Rattle.rox_bytes.proofs.runs.run_end.Goals as goal
 
 abbrev Onward : (ℕ → Bool) → List ℕ → (at i : ℕ) → Type 0
