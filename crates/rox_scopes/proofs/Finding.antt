@@ -24,14 +24,6 @@ few_not (scope.Back s ∷ ss) zero lt h = refl
 few_not (scope.Concat b ∷ ss) zero lt h = refl
 few_not (x ∷ ss) (suc i) lt h = few_not ss i (omega arith) h
 
--- and one that is
-pub few_is : (scopes : List Scope) (i : ℕ) (s : Stretch) → i < length scopes → get_or scopes i no_row ≡ scope.Few s → is_few_at scopes i ≡ true
-few_is [] i s lt h = absurd (omega arith)
-few_is (scope.Few x ∷ ss) zero s lt h = refl
-few_is (scope.Back x ∷ ss) zero s lt h = cc h
-few_is (scope.Concat b ∷ ss) zero s lt h = cc h
-few_is (x ∷ ss) (suc i) s lt h = few_is ss i s (omega arith) h
-
 -- nothing is to be known of few
 pub present_few : (t : ElementTables) (scope : ℕ) → is_few_at t.scopes.items scope ≡ true → HasBindingsOf t scope
 unfolding HasBindingsOf

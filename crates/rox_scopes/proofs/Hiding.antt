@@ -1,6 +1,8 @@
 -- Lists that have each prefix once, and what is left of them where one is hidden.
 use Rattle.std.proofs.Common.{◌≡◌, ℕ, zero, suc, ◌+◌, ◌<◌, ◌&&◌, ◌||◌, not, filter, Bool, true, false, List, [], ◌∷◌, ◌++◌, Option, Some, if◌then◌else◌, length, get_or, refl, sym, ap, ◌∙◌, arith}
 use Rattle.std.proofs.lemmas.List.Folds.{list_any-append}
+use mathlib.Core.Bool.{or-false}
+use Rattle.std.proofs.lemmas.Bool.{or_parts, or_right}
 use Rattle.rox_grammar.specs.Written.{NamespaceDecl}
 use Rattle.rox_grammar.specs.Tree.{same_prefix, is_declared, is_xml, uri_of}
 use Rattle.rox_grammar.specs.FixedTexts.{word_text}
@@ -10,10 +12,6 @@ use Rattle.rox_scopes.specs.Scopes.{entries, others, PrefixesOnce, unlisted}
 use Rattle.rox_scopes.proofs.Leaves.{cut}
 use Rattle.rox_scopes.proofs.Listing.{same_prefix-sym}
 use Rattle.rox_scopes.proofs.Pairs.{same_prefix-true, same_prefix-refl}
-
-or_parts : (a b : Bool) → (a || b) ≡ false → (a ≡ false) × (b ≡ false)
-or_parts true b h = cc h
-or_parts false b h = (refl, h)
 
 -- nothing is left out where the prefix is not declared
 pub unlisted_none : (p : Option (List ℕ)) (ds : List NamespaceDecl) → is_declared p ds ≡ false → unlisted p ds ≡ ds
@@ -74,15 +72,6 @@ once_more (e ∷ ds) d (m, h) n =
     let o = or_parts (same_prefix e.prefix d.prefix) (is_declared d.prefix ds) n in
     (list_any-append (λ x. same_prefix x.prefix e.prefix) ds (d ∷ []) ∙ rw (m, same_prefix-sym d.prefix e.prefix, o.0) refl, once_more ds d h o.1)
 
--- what is hidden one after another
-or_swap : (a b c : Bool) → ((a || b) || c) ≡ ((b || c) || a)
-or_swap true true c = refl
-or_swap true false true = refl
-or_swap true false false = refl
-or_swap false true c = refl
-or_swap false false true = refl
-or_swap false false false = refl
-
 filter_both : (f g h : NamespaceDecl → Bool) (ds : List NamespaceDecl) → ((d : NamespaceDecl) → h d ≡ (f d && g d)) → filter f (filter g ds) ≡ filter h ds
 filter_both f g h [] e = refl
 filter_both f g h (d ∷ ds) e = one (g d) (f d) refl refl (filter_both f g h ds e)
@@ -92,10 +81,6 @@ filter_both f g h (d ∷ ds) e = one (g d) (f d) refl refl (filter_both f g h ds
     one true false x y r = rw (x, y, e d, x, y) r
     one false true x y r = rw (x, e d, x, y) r
     one false false x y r = rw (x, e d, x, y) r
-
-or_none : (b : Bool) → (b || false) ≡ b
-or_none true = refl
-or_none false = refl
 
 not_both : (a s : Bool) → not (a || s) ≡ (not s && not a)
 not_both true true = refl
@@ -107,9 +92,9 @@ not_both false false = refl
 pub others_more : (own : List NamespaceDecl) (d : NamespaceDecl) (ds : List NamespaceDecl) → unlisted d.prefix (others own false ds) ≡ others (own ++ d ∷ []) false ds
 others_more own d ds =
     filter_both (λ e. not (same_prefix e.prefix d.prefix)) (λ e. not (is_declared e.prefix own || (false && is_xml e.prefix))) (λ e. not (is_declared e.prefix (own ++ d ∷ []) || (false && is_xml e.prefix))) ds
-    (λ e. ap not (or_none (is_declared e.prefix (own ++ d ∷ [])) ∙ list_any-append (λ x. same_prefix x.prefix e.prefix) own (d ∷ [])
-    ∙ ap (λ b. is_declared e.prefix own || b) (or_none (same_prefix d.prefix e.prefix) ∙ same_prefix-sym d.prefix e.prefix))
-    ∙ not_both (is_declared e.prefix own) (same_prefix e.prefix d.prefix) ∙ ap (λ b. not (same_prefix e.prefix d.prefix) && not b) (sym (or_none (is_declared e.prefix own))))
+    (λ e. ap not (or-false (is_declared e.prefix (own ++ d ∷ [])) ∙ list_any-append (λ x. same_prefix x.prefix e.prefix) own (d ∷ [])
+    ∙ ap (λ b. is_declared e.prefix own || b) (or-false (same_prefix d.prefix e.prefix) ∙ same_prefix-sym d.prefix e.prefix))
+    ∙ not_both (is_declared e.prefix own) (same_prefix e.prefix d.prefix) ∙ ap (λ b. not (same_prefix e.prefix d.prefix) && not b) (sym (or-false (is_declared e.prefix own))))
 
 pub others_none : (ds : List NamespaceDecl) → others [] false ds ≡ ds
 others_none [] = refl
@@ -126,7 +111,7 @@ absent_others own xml p ds h = filtered_none (λ d. not (is_declared d.prefix ow
 pub others_xml : (own ds : List NamespaceDecl) → unlisted (Some (word_text Xml)) (others own false ds) ≡ others own true ds
 others_xml own ds =
     filter_both (λ e. not (is_xml e.prefix)) (λ e. not (is_declared e.prefix own || (false && is_xml e.prefix))) (λ e. not (is_declared e.prefix own || (true && is_xml e.prefix))) ds
-    (λ e. not_both (is_declared e.prefix own) (is_xml e.prefix) ∙ ap (λ b. not (is_xml e.prefix) && not b) (sym (or_none (is_declared e.prefix own))))
+    (λ e. not_both (is_declared e.prefix own) (is_xml e.prefix) ∙ ap (λ b. not (is_xml e.prefix) && not b) (sym (or-false (is_declared e.prefix own))))
 
 -- what is declared is not among the others
 others_own : (own : List NamespaceDecl) (xml : Bool) (p : Option (List ℕ)) (ds : List NamespaceDecl) → is_declared p own ≡ true → is_declared p (others own xml ds) ≡ false
@@ -148,12 +133,8 @@ once_append [] ys h k apart = k
 once_append (x ∷ xs) ys (n, h) k apart =
     let here : is_declared x.prefix ys ≡ false = apart x.prefix (rw (same_prefix-refl x.prefix) refl) in (
       list_any-append (λ d. same_prefix d.prefix x.prefix) xs ys ∙ rw (n, here) refl,
-      once_append xs ys h k (λ p s. apart p (either (same_prefix x.prefix p) (is_declared p xs) s)),
+      once_append xs ys h k (λ p s. apart p (or_right (same_prefix x.prefix p) (is_declared p xs) s)),
     )
-  where
-    either : (a b : Bool) → b ≡ true → (a || b) ≡ true
-    either true b e = refl
-    either false b e = e
 
 -- what an element lists that declares each prefix once
 pub once_both : (own : List NamespaceDecl) (xml : Bool) (ds : List NamespaceDecl) → PrefixesOnce own → PrefixesOnce ds → PrefixesOnce (own ++ others own xml ds)

@@ -1,5 +1,5 @@
 -- A table of pairs and a map of their places: what is found in it, and what stays of it as the table grows.
-use Rattle.std.proofs.Common.{◌≡◌, ℕ, suc, ◌<◌, ◌||◌, Bool, true, false, cond, List, [], ◌∷◌, ◌++◌, length, length-append, map, take, drop, zero, ◌+◌, ◌≤◌, refl, sym, ap, ◌∙◌, subst, arith, Option, Some, None, Result, Ok, Err, IfOk, OnOk, ◌⊎◌, inl, inr}
+use Rattle.std.proofs.Common.{◌≡◌, ℕ, suc, ◌<◌, Bool, true, false, cond, List, [], ◌∷◌, ◌++◌, length, length-append, map, take, drop, zero, ◌+◌, ◌≤◌, refl, sym, ap, ◌∙◌, subst, arith, Option, Some, None, Result, Ok, Err, IfOk, OnOk, ◌⊎◌, inl, inr}
 use Rattle.std.specs.Option.{option_map, IfSome, IfNone, option_cmp}
 use Rattle.std.specs.Map.{lookup}
 use Rattle.std.specs.Result.{is_ok}
@@ -10,17 +10,17 @@ use Rattle.std.specs.Ordering.{is_eq, match_ordering, nat_cmp}
 use Rattle.std.specs.Cmp.{both_tied}
 use Rattle.std.specs.Cmp.Lexicographic.{slice_cmp, texts_ties}
 use Rattle.std.proofs.lemmas.List.{length-map, length-drop, map-append, take-map, drop_all, drop-append-le}
-use Rattle.std.proofs.lemmas.Bool.{cases_lt}
+use Rattle.std.proofs.lemmas.Bool.{cases_lt, or_right, or_parts}
 use Rattle.rox_grammar.specs.Written.{NamespaceDecl}
 use Rattle.rox_grammar.specs.Tree.{same_prefix}
 use Rattle.rox_grammar.specs.Document.{same_pair}
 use Rattle.rox_grammar.specs.Counts.{has_pair}
+use Rattle.rox_grammar.proofs.PairLemmas.{same_pair-true}
 use Rattle.rox_scopes.specs.declared.namespace_table.Key.{Key}
 use Rattle.rox_scopes.specs.declared.tables.Namespace.{Namespace}
 use Rattle.rox_rows.specs.Rows.{namespace_at}
 use Rattle.rox_scopes.specs.NamespaceViews.{namespace_view}
 use Rattle.rox_scopes.specs.PairIndex.{pair_cmp, key_cmp, few_pairs, place_of, place_behind, place_among}
-use Rattle.rox_scopes.proofs.Pairs.{same_pair-true}
 
 -- ---- the order
 
@@ -34,14 +34,6 @@ pair_ties : (d e : NamespaceDecl) → same_pair d e ≡ is_eq (pair_cmp d e)
 pair_ties d e = both_tied _ _ _ (slice_cmp nat_cmp d.uri e.uri) (prefix_ties d.prefix e.prefix) (texts_ties d.uri e.uri)
 
 -- ---- the places of a table
-
-or_right : (a b : Bool) → b ≡ true → (a || b) ≡ true
-or_right true b h = refl
-or_right false b h = h
-
-neither : (a b : Bool) → (a || b) ≡ false → (a ≡ false) × (b ≡ false)
-neither false b h = (refl, h)
-neither true b h = cc h
 
 placed : (namespaces : List NamespaceDecl) (d : NamespaceDecl) → IfSome (place_of namespaces d) (λ i. (i < length namespaces) × (namespace_at namespaces i ≡ d) × (has_pair namespaces d ≡ true))
 placed [] d = tt
@@ -76,7 +68,7 @@ unplaced_row rows d e = subst (λ (o : Option ℕ). IfNone o (has_pair (map name
 
 absent_place : (namespaces : List NamespaceDecl) (d : NamespaceDecl) → has_pair namespaces d ≡ false → place_of namespaces d ≡ None
 absent_place [] d h = refl
-absent_place (n ∷ namespaces) d h = let (one, rest) = neither (same_pair n d) (has_pair namespaces d) h in rw (one, absent_place namespaces d rest) refl
+absent_place (n ∷ namespaces) d h = let (one, rest) = or_parts (same_pair n d) (has_pair namespaces d) h in rw (one, absent_place namespaces d rest) refl
 
 -- ---- the first few of a table, and those behind them
 
@@ -178,7 +170,7 @@ place_push [] e d h = refl
 place_push (n ∷ namespaces) e d h = by (same_pair n d) refl (same_pair e d) refl (place_push namespaces e d)
   where
     parts : (same_pair n e ≡ false) × (has_pair namespaces e ≡ false)
-    parts = neither (same_pair n e) (has_pair namespaces e) h
+    parts = or_parts (same_pair n e) (has_pair namespaces e) h
 
     by : (a : Bool) → same_pair n d ≡ a → (b : Bool) → same_pair e d ≡ b → (has_pair namespaces e ≡ false → place_of (namespaces ++ e ∷ []) d ≡ cond (same_pair e d) (Some (length namespaces)) (place_of namespaces d))
         → cond a (Some 0) (option_map suc (place_of (namespaces ++ e ∷ []) d)) ≡ cond b (Some (suc (length namespaces))) (cond a (Some 0) (option_map suc (place_of namespaces d)))
@@ -232,7 +224,7 @@ was_ok (Err y) e h = cc e
 absent_behind : (k : ℕ) (namespaces : List NamespaceDecl) (d : NamespaceDecl) → has_pair namespaces d ≡ false → has_pair (drop k namespaces) d ≡ false
 absent_behind zero namespaces d h = h
 absent_behind (suc k) [] d h = refl
-absent_behind (suc k) (n ∷ namespaces) d h = absent_behind k namespaces d (neither (same_pair n d) (has_pair namespaces d) h).1
+absent_behind (suc k) (n ∷ namespaces) d h = absent_behind k namespaces d (or_parts (same_pair n d) (has_pair namespaces d) h).1
 
 -- the map of a table with one more behind the first few
 pub found_more : (rows : List Namespace) (row : Namespace) (es : List (Key × ℕ)) (k : Key) → few_pairs ≤ length rows → ((d : NamespaceDecl) → place_among es d ≡ place_behind (map namespace_view rows) d)

@@ -1,7 +1,7 @@
 -- The loop that lists what an element inherits.
-use Rattle.std.proofs.Common.{◌≡◌, ℕ, zero, suc, ◌+◌, ◌-◌, ◌<◌, ◌≤◌, ◌&&◌, ◌||◌, not, Bool, true, false, List, [], ◌∷◌, ◌++◌, length, map, drop, get_or, refl, sym, ap, ◌∙◌, arith, append_assoc}
+use Rattle.std.proofs.Common.{◌≡◌, ℕ, ◌+◌, ◌-◌, ◌<◌, ◌≤◌, ◌&&◌, ◌||◌, not, Bool, true, false, List, [], ◌∷◌, ◌++◌, length, map, drop, get_or, refl, sym, ap, ◌∙◌, arith, append_assoc}
 use Rattle.std.specs.List.{slice_range}
-use Rattle.std.proofs.lemmas.List.{map-append, append-nil}
+use Rattle.std.proofs.lemmas.List.{map-append, append-nil, get_or_default, get_or_append_left}
 use Rattle.std.proofs.lemmas.List.Elements.{filter-append}
 use Rattle.rox_grammar.specs.Written.{NamespaceDecl}
 use Rattle.rox_grammar.specs.Tree.{is_declared, is_xml}
@@ -19,11 +19,6 @@ pub record Inherited (rows : List Namespace) (old : List ℕ) (own : ℕ) (xml :
   pub now_is : now ≡ old ++ more
   pub places : ArePlaces (length rows) more
   pub same : entries (map namespace_view rows) more ≡ others (entries (map namespace_view rows) (drop own old)) xml (entries (map namespace_view rows) (slice_range old from turn))
-
-pub get_or-front : {A : Type 0} (xs ys : List A) (k : ℕ) (d : A) → k < length xs → get_or (xs ++ ys) k d ≡ get_or xs k d
-get_or-front [] ys k d h = absurd (omega arith)
-get_or-front (x ∷ xs) ys zero d h = refl
-get_or-front (x ∷ xs) ys (suc k) d h = get_or-front xs ys k d (omega arith)
 
 pub begins : (rows : List Namespace) (old : List ℕ) (own : ℕ) (xml : Bool) (from end : ℕ) → end ≡ length old → Inherited rows old own xml from from end old
 begins rows old own xml from end e =
@@ -80,11 +75,6 @@ skips rows old own xml from turn end place now h le lt is mine' =
       same = h.same ∙ sym (step rows old own xml from turn le lt ∙ ap (λ xs. others mine xml (entries namespaces (slice_range old from turn)) ++ xs) none ∙ append-nil _);
     }
 
-get_or-any : {A : Type 0} (xs : List A) (k : ℕ) (d e : A) → k < length xs → get_or xs k d ≡ get_or xs k e
-get_or-any [] k d e h = absurd (omega arith)
-get_or-any (x ∷ xs) zero d e h = refl
-get_or-any (x ∷ xs) (suc k) d e h = get_or-any xs k d e (omega arith)
-
 -- what a turn of the loop looks at, and what its test says
 pub looked : (rows : List Namespace) (old : List ℕ) (own : ℕ) (xml : Bool) (from turn end place : ℕ) (now seen : List ℕ) (item : Namespace) (r : Bool)
     → Inherited rows old own xml from turn end now → ArePlaces (length rows) old → own ≤ length old → turn < length old → seen ≡ now → place ≡ get_or now turn place
@@ -93,7 +83,7 @@ pub looked : (rows : List Namespace) (old : List ℕ) (own : ℕ) (xml : Bool) (
     × (r ≡ (is_declared (namespace_at (map namespace_view rows) place).prefix (entries (map namespace_view rows) (drop own old)) || (xml && is_xml (namespace_at (map namespace_view rows) place).prefix)))
 looked rows old own xml from turn end place now seen item r h ok within lt same is test =
     let namespaces = map namespace_view rows in
-    let p : place ≡ get_or old turn 0 = is ∙ ap (λ xs. get_or xs turn place) h.now_is ∙ get_or-front old h.more turn place lt ∙ get_or-any old turn place 0 lt in
+    let p : place ≡ get_or old turn 0 = is ∙ ap (λ xs. get_or xs turn place) h.now_is ∙ get_or_append_left old h.more place turn lt ∙ get_or_default old turn place 0 lt in
     let here : place < length rows = rw p (place_at (length rows) old turn 0 ok lt) in
     let e : namespace_at namespaces place ≡ namespace_view (get_or rows place item) = namespace_at-get rows place item here in
     let mine : slice_range seen own end ≡ drop own old =

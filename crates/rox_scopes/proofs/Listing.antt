@@ -1,12 +1,13 @@
 -- What an element lists, from what its tag declares.
-use Rattle.std.proofs.Common.{◌≡◌, ℕ, ◌≤◌, ◌&&◌, ◌||◌, not, Bool, true, false, cond, List, [], ◌∷◌, ◌++◌, length, filter, refl, sym, ap, ◌∙◌, arith, length-append, Option, Some, None}
+use Rattle.std.proofs.Common.{◌≡◌, ℕ, ◌&&◌, ◌||◌, not, Bool, true, false, cond, List, [], ◌∷◌, ◌++◌, filter, refl, sym, ap, ◌∙◌, Option, Some, append-nil, append_assoc}
 use Rattle.std.specs.List.{list_any}
-use Rattle.std.proofs.lemmas.Slice.Eq.{bytes_eq-Decides}
+use mathlib.Core.Bool.{or_assoc, false≢true}
 use Rattle.rox_grammar.specs.Written.{NamespaceDecl}
 use Rattle.rox_grammar.specs.Tree.{same_prefix, is_declared, listed, is_xml, listable_of}
 use Rattle.rox_grammar.specs.Counts.{has_pair, with_new}
+pub use Rattle.rox_grammar.proofs.PairLemmas.{with_new-append}
 use Rattle.rox_scopes.specs.Scopes.{others}
-use Rattle.rox_scopes.proofs.Pairs.{same_prefix-true}
+use Rattle.rox_scopes.proofs.Pairs.{same_prefix-true, same_prefix-refl}
 
 -- `xml` is among the declared prefixes
 abbrev pub declares_xml : List NamespaceDecl → Bool
@@ -18,33 +19,14 @@ same_prefix-sym p q = both (same_prefix p q) (same_prefix q p) refl refl
     both : (a b : Bool) → same_prefix p q ≡ a → same_prefix q p ≡ b → same_prefix p q ≡ same_prefix q p
     both true true h k = h ∙ sym k
     both false false h k = h ∙ sym k
-    both true false h k = absurd_of (sym k ∙ ap (λ x. same_prefix x p) (sym (same_prefix-true p q h)) ∙ same p)
-      where
-        absurd_of : false ≡ true → same_prefix p q ≡ same_prefix q p
-        absurd_of e = cc e
-
-        same : (p : Option (List ℕ)) → same_prefix p p ≡ true
-        same None = refl
-        same (Some x) = (bytes_eq-Decides x x).1 refl
-    both false true h k = absurd_of (sym h ∙ ap (λ x. same_prefix x q) (sym (same_prefix-true q p k)) ∙ same q)
-      where
-        absurd_of : false ≡ true → same_prefix p q ≡ same_prefix q p
-        absurd_of e = cc e
-
-        same : (p : Option (List ℕ)) → same_prefix p p ≡ true
-        same None = refl
-        same (Some x) = (bytes_eq-Decides x x).1 refl
+    both true false h k = absurd (false≢true (sym k ∙ ap (λ x. same_prefix x p) (sym (same_prefix-true p q h)) ∙ same_prefix-refl p))
+    both false true h k = absurd (false≢true (sym h ∙ ap (λ x. same_prefix x q) (sym (same_prefix-true q p k)) ∙ same_prefix-refl q))
 
 -- a prefix is declared among those that are listed, or is `xml`
 pub is_declared-own : (own : List NamespaceDecl) (p : Option (List ℕ)) → is_declared p own ≡ (is_declared p (listable_of own) || (declares_xml own && is_xml p))
 is_declared-own [] p = refl
 is_declared-own (d ∷ ds) p = by_cases (is_xml d.prefix) refl (is_declared-own ds p)
   where
-    or_comm : (a b c : Bool) → (a || (b || c)) ≡ (b || (a || c))
-    or_comm true true c = refl
-    or_comm true false c = refl
-    or_comm false b c = refl
-
     or_absorb : (a b c : Bool) → (a || (b || (c && a))) ≡ (b || a)
     or_absorb true true c = refl
     or_absorb true false c = refl
@@ -52,17 +34,13 @@ is_declared-own (d ∷ ds) p = by_cases (is_xml d.prefix) refl (is_declared-own 
     or_absorb false false true = refl
     or_absorb false false false = refl
 
-    or_assoc : (a b c : Bool) → (a || (b || c)) ≡ ((a || b) || c)
-    or_assoc true b c = refl
-    or_assoc false b c = refl
-
     by_cases : (x : Bool) → is_xml d.prefix ≡ x → is_declared p ds ≡ (is_declared p (listable_of ds) || (declares_xml ds && is_xml p))
         → is_declared p (d ∷ ds) ≡ (is_declared p (listable_of (d ∷ ds)) || (declares_xml (d ∷ ds) && is_xml p))
     by_cases true e h =
         let is : d.prefix ≡ Some _ = same_prefix-true d.prefix _ e in
         let same : same_prefix d.prefix p ≡ is_xml p = same_prefix-sym d.prefix p ∙ ap (same_prefix p) is in
         rw (e, same, h) (or_absorb (is_xml p) (is_declared p (listable_of ds)) (declares_xml ds))
-    by_cases false e h = rw (e, h) (or_assoc (same_prefix d.prefix p) (is_declared p (listable_of ds)) (declares_xml ds && is_xml p))
+    by_cases false e h = rw (e, h) (sym (or_assoc (same_prefix d.prefix p) (is_declared p (listable_of ds)) (declares_xml ds && is_xml p)))
 
 filter_same : (f g : NamespaceDecl → Bool) (ds : List NamespaceDecl) → ((d : NamespaceDecl) → f d ≡ g d) → filter f ds ≡ filter g ds
 filter_same f g [] e = refl
@@ -84,38 +62,12 @@ listed-none above = filter_all above
 
 -- ---- the table of pairs
 
-pub with_new-append : (ds xs ys : List NamespaceDecl) → with_new ds (xs ++ ys) ≡ with_new (with_new ds xs) ys
-with_new-append ds [] ys = refl
-with_new-append ds (x ∷ xs) ys = by_cases (has_pair ds x) (with_new-append ds xs ys) (with_new-append (ds ++ x ∷ []) xs ys)
-  where
-    by_cases : (b : Bool) → with_new ds (xs ++ ys) ≡ with_new (with_new ds xs) ys → with_new (ds ++ x ∷ []) (xs ++ ys) ≡ with_new (with_new (ds ++ x ∷ []) xs) ys
-        → cond b (with_new ds (xs ++ ys)) (with_new (ds ++ x ∷ []) (xs ++ ys)) ≡ with_new (cond b (with_new ds xs) (with_new (ds ++ x ∷ []) xs)) ys
-    by_cases true h k = h
-    by_cases false h k = k
-
-pub with_new-more : (ds xs : List NamespaceDecl) → length ds ≤ length (with_new ds xs)
-with_new-more ds [] = omega arith
-with_new-more ds (x ∷ xs) = by_cases (has_pair ds x) (with_new-more ds xs) (with_new-more (ds ++ x ∷ []) xs)
-  where
-    by_cases : (b : Bool) → length ds ≤ length (with_new ds xs) → length (ds ++ x ∷ []) ≤ length (with_new (ds ++ x ∷ []) xs)
-        → length ds ≤ length (cond b (with_new ds xs) (with_new (ds ++ x ∷ []) xs))
-    by_cases true h k = h
-    by_cases false h k = omega (arith, length-append ds (x ∷ []))
-
 -- the table stays in front
 pub with_new-front : (ds xs : List NamespaceDecl) → (more : List NamespaceDecl) × (with_new ds xs ≡ ds ++ more)
-with_new-front ds [] = ([], sym (append_nil ds))
-  where
-    append_nil : (ds : List NamespaceDecl) → ds ++ [] ≡ ds
-    append_nil [] = refl
-    append_nil (d ∷ ds) = ap (λ xs. d ∷ xs) (append_nil ds)
+with_new-front ds [] = ([], sym (append-nil ds))
 with_new-front ds (x ∷ xs) = by_cases (has_pair ds x) (with_new-front ds xs) (with_new-front (ds ++ x ∷ []) xs)
   where
-    assoc : (ds more : List NamespaceDecl) → (ds ++ x ∷ []) ++ more ≡ ds ++ (x ∷ more)
-    assoc [] more = refl
-    assoc (d ∷ ds) more = ap (λ xs. d ∷ xs) (assoc ds more)
-
     by_cases : (b : Bool) → (more : List NamespaceDecl) × (with_new ds xs ≡ ds ++ more) → (more : List NamespaceDecl) × (with_new (ds ++ x ∷ []) xs ≡ (ds ++ x ∷ []) ++ more)
         → (more : List NamespaceDecl) × (cond b (with_new ds xs) (with_new (ds ++ x ∷ []) xs) ≡ ds ++ more)
     by_cases true h k = h
-    by_cases false h (more, k) = (x ∷ more, k ∙ assoc ds more)
+    by_cases false h (more, k) = (x ∷ more, k ∙ append_assoc ds (x ∷ []) more)

@@ -1,29 +1,14 @@
 -- The table of pairs.
-use Rattle.std.proofs.Common.{◌≡◌, ℕ, zero, suc, ◌+◌, ◌<◌, ◌||◌, not, Bor, Bool, true, false, cond, List, [], ◌∷◌, ◌++◌, length, map, take, drop, get_or, add-one, drop-cons, is_some, refl, sym, ap, ◌∙◌, arith, Option, Some, None}
-use Rattle.std.proofs.lemmas.Bool.{and_parts}
-use Rattle.std.proofs.lemmas.Slice.Eq.{bytes_eq-Decides}
+use Rattle.std.proofs.Common.{◌≡◌, ℕ, zero, suc, ◌+◌, ◌<◌, ◌||◌, not, Bor, Bool, true, false, cond, List, [], ◌∷◌, ◌++◌, length, map, take, drop, get_or, add-one, drop-cons, is_some, refl, sym, ap, ◌∙◌, arith, Option, Some, None, inl, inr}
+use Rattle.std.proofs.lemmas.Bool.{cases_Bool}
 use Rattle.std.proofs.lemmas.List.{take_more, map-append, take-append-drop}
 use Rattle.rox_grammar.specs.Written.{NamespaceDecl}
 use Rattle.rox_grammar.specs.Tree.{same_prefix, is_declared, uri_of}
-use Rattle.rox_grammar.specs.Document.{same_pair}
+pub use Rattle.rox_grammar.proofs.PairLemmas.{same_prefix-true, same_prefix-refl}
 use Rattle.rox_scopes.specs.declared.tables.Namespace.{Namespace}
 use Rattle.rox_rows.specs.Rows.{namespace_at}
 use Rattle.rox_scopes.specs.NamespaceViews.{namespace_view}
 use Rattle.rox_scopes.specs.Scopes.{prefix_view, entries, ArePlaces}
-
-chosen : {X P : Type 0} (b : Bool) (x y z : X) → cond b x y ≡ z → (b ≡ true → x ≡ z → P) → (b ≡ false → y ≡ z → P) → P
-chosen true x y z h holds fails = holds refl h
-chosen false x y z h holds fails = fails refl h
-
-pub same_prefix-true : (p q : Option (List ℕ)) → same_prefix p q ≡ true → p ≡ q
-same_prefix-true None None h = refl
-same_prefix-true None (Some q) h = cc h
-same_prefix-true (Some p) None h = cc h
-same_prefix-true (Some p) (Some q) h = ap Some ((bytes_eq-Decides p q).0 h)
-
-pub same_prefix-refl : (p : Option (List ℕ)) → same_prefix p p ≡ true
-same_prefix-refl None = refl
-same_prefix-refl (Some p) = (bytes_eq-Decides p p).1 refl
 
 -- a prefix is the default if it is none
 pub none_same : (p : Option (Bor (List ℕ))) (b : Bool) → is_some p ≡ not b → same_prefix (prefix_view p) None ≡ b
@@ -31,13 +16,6 @@ none_same None true h = refl
 none_same None false h = cc h
 none_same (Some p) true h = cc h
 none_same (Some p) false h = refl
-
-pub same_pair-true : (d e : NamespaceDecl) → same_pair d e ≡ true → d ≡ e
-same_pair-true d e h =
-    let both = and_parts _ _ h in
-    let p = same_prefix-true d.prefix e.prefix both.0 in
-    let u = (bytes_eq-Decides d.uri e.uri).0 both.1 in
-    ap (λ (p : Option (List ℕ)). let x : NamespaceDecl = record { prefix = p; uri = d.uri } in x) p ∙ ap (λ (u : List ℕ). let x : NamespaceDecl = record { prefix = e.prefix; uri = u } in x) u
 
 -- the entry of a row of the table
 pub namespace_at-get : (rows : List Namespace) (i : ℕ) (d : Namespace) → i < length rows → namespace_at (map namespace_view rows) i ≡ namespace_view (get_or rows i d)
@@ -54,7 +32,8 @@ place_at n (p ∷ ps) (suc k) d (a, h) lt = place_at n ps k d h (omega arith)
 
 pub uri_of-append : (xs ys : List NamespaceDecl) (p : Option (List ℕ)) → uri_of xs p ≡ None → uri_of (xs ++ ys) p ≡ uri_of ys p
 uri_of-append [] ys p h = refl
-uri_of-append (x ∷ xs) ys p h = chosen (same_prefix x.prefix p) _ _ _ h (λ t h. cc h) (λ f h. rw f (uri_of-append xs ys p h))
+uri_of-append (x ∷ xs) ys p h =
+    elim (cases_Bool (same_prefix x.prefix p)) [ | inl here ↦ cc (rw here at h) | inr other ↦ rw other (uri_of-append xs ys p (rw other at h)) ]
 
 -- the first of those from i on, where those before have another prefix
 pub uri_here : (namespaces : List NamespaceDecl) (places : List ℕ) (i d : ℕ) (p : Option (List ℕ)) → i < length places → uri_of (entries namespaces (take i places)) p ≡ None

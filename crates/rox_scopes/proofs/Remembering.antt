@@ -10,6 +10,7 @@ use Rattle.std.specs.BTreeMap.{is_at}
 use Rattle.std.specs.BTreeSet.{insert_key}
 use Rattle.std.proofs.lemmas.List.{map-append, take_more}
 use Rattle.std.proofs.lemmas.List.Folds.{list_any-append}
+use mathlib.Core.Bool.{or_comm, or_assoc, or-false}
 use Rattle.rox_grammar.specs.Written.{NamespaceDecl}
 use Rattle.rox_grammar.specs.Tree.{same_prefix, is_declared}
 use Rattle.rox_scopes.specs.declared.tables.Namespace.{Namespace}
@@ -38,16 +39,6 @@ pub has_is : (ks : List Key) (k : Key) → has_prefix (prefix_view k) ks ≡ lis
 has_is [] k = refl
 has_is (x ∷ xs) k = rw (same_prefix-sym (prefix_view x) (prefix_view k), prefix_ties k x, has_is xs k) refl
 
-pub or_swap : (a b : Bool) → (a || b) ≡ (b || a)
-or_swap true true = refl
-or_swap true false = refl
-or_swap false true = refl
-or_swap false false = refl
-
-pub or_assoc : (a b c : Bool) → (a || (b || c)) ≡ ((a || b) || c)
-or_assoc true b c = refl
-or_assoc false b c = refl
-
 or_absorbs : (a b : Bool) → (a || b) ≡ ((a || b) || a)
 or_absorbs true b = refl
 or_absorbs false true = refl
@@ -56,15 +47,15 @@ or_absorbs false false = refl
 with_key : (xs : List Key) (x k : Key) (p : Option (List ℕ)) (o : Ordering) → o ≡ key_cmp k x
     → has_prefix p (insert_key key_cmp xs k) ≡ (has_prefix p xs || same_prefix (prefix_view k) p)
     → has_prefix p (match_ordering o (k ∷ x ∷ xs) (x ∷ xs) (x ∷ insert_key key_cmp xs k)) ≡ (has_prefix p (x ∷ xs) || same_prefix (prefix_view k) p)
-with_key xs x k p Less is more = or_swap (same_prefix (prefix_view k) p) _
+with_key xs x k p Less is more = or_comm (same_prefix (prefix_view k) p) _
 with_key xs x k p Equal is more =
     let same : prefix_view k ≡ prefix_view x = same_prefix-true (prefix_view k) (prefix_view x) (prefix_ties k x ∙ ap is_eq (sym is)) in
     or_absorbs (same_prefix (prefix_view x) p) (has_prefix p xs) ∙ ap (λ q. has_prefix p (x ∷ xs) || same_prefix q p) (sym same)
-with_key xs x k p Greater is more = ap (λ b. same_prefix (prefix_view x) p || b) more ∙ or_assoc (same_prefix (prefix_view x) p) _ _
+with_key xs x k p Greater is more = ap (λ b. same_prefix (prefix_view x) p || b) more ∙ sym (or_assoc (same_prefix (prefix_view x) p) _ _)
 
 -- a set with one more
 pub has_inserted : (ks : List Key) (k : Key) (p : Option (List ℕ)) → has_prefix p (insert_key key_cmp ks k) ≡ (has_prefix p ks || same_prefix (prefix_view k) p)
-has_inserted [] k p = or_swap (same_prefix (prefix_view k) p) false
+has_inserted [] k p = or_comm (same_prefix (prefix_view k) p) false
 has_inserted (x ∷ xs) k p = with_key xs x k p (key_cmp k x) refl (has_inserted xs k p)
 
 -- few are not kept
@@ -90,11 +81,7 @@ pub declared_push : (namespaces : List NamespaceDecl) (places : List ℕ) (place
     → is_declared p (entries namespaces (places ++ place ∷ [])) ≡ (is_declared p (entries namespaces places) || same_prefix (namespace_at namespaces place).prefix p)
 declared_push namespaces places place p =
     ap (is_declared p) (map-append (namespace_at namespaces) places (place ∷ [])) ∙ list_any-append (λ d. same_prefix d.prefix p) (entries namespaces places) (namespace_at namespaces place ∷ [])
-    ∙ ap (λ b. is_declared p (entries namespaces places) || b) (or_last (same_prefix (namespace_at namespaces place).prefix p))
-  where
-    or_last : (b : Bool) → (b || false) ≡ b
-    or_last true = refl
-    or_last false = refl
+    ∙ ap (λ b. is_declared p (entries namespaces places) || b) (or-false (same_prefix (namespace_at namespaces place).prefix p))
 
 -- the places up to this one, and this one
 pub declared_next : (rows : List Namespace) (places : List ℕ) (i : ℕ) (item : Namespace) (p : Option (List ℕ)) (old now next : Bool) → ArePlaces (length rows) places → i < length places
@@ -109,7 +96,7 @@ declared_next rows places i item p old now next ok lt before more =
     let all : is_declared p (entries namespaces (take (i + 1) places)) ≡ (is_declared p (entries namespaces (take i places)) || one) =
     ap (λ xs. is_declared p (entries namespaces xs)) (take_more places i 0 lt) ∙ declared_push namespaces (take i places) place p
     ∙ ap (λ (d : NamespaceDecl). is_declared p (entries namespaces (take i places)) || same_prefix d.prefix p) e in
-    more ∙ ap (λ b. b || one) before ∙ sym (or_assoc old _ one) ∙ ap (λ b. old || b) (sym all)
+    more ∙ ap (λ b. b || one) before ∙ or_assoc old _ one ∙ ap (λ b. old || b) (sym all)
 
 -- a set with one more of many
 pub remembers_more : (namespaces : List NamespaceDecl) (before own : List ℕ) (place : ℕ) (prefix : Option (List ℕ)) (old keys : List Key)

@@ -4,7 +4,7 @@ use Rattle.std.specs.List.{AllByRecursion, slice_range}
 use Rattle.std.proofs.lemmas.Grind.{reverse_onto}
 use Rattle.std.proofs.Math.Nat.{eq-or-lt_of_le}
 use Rattle.std.proofs.Math.Seq.{get_or-append_seam}
-use Rattle.std.proofs.lemmas.List.{append-nil, length-map, length-reverse, map-append, take-append-drop, take-append-le, get_or_append_left}
+use Rattle.std.proofs.lemmas.List.{append-nil, length-map, length-reverse, map-append, take-append-drop, take-append-le, get_or_append_left, get_or_default}
 use Rattle.rox_grammar.specs.Written.{NamespaceDecl}
 use Rattle.rox_reading.proofs.Stretches.{range_length}
 use Rattle.rox_scopes.specs.declared.tables.Concat.{Concat}
@@ -132,19 +132,14 @@ row_is ls scopes i s t rows h e is = subst (RowIs ls scopes i) is (record { list
 pub row_ends : (n : ℕ) (scopes : List Scope) (i : ℕ) (s t : Scope) → AreScopes n scopes → i < length scopes → s ≡ get_or scopes i s → s ≡ t → EndsWithin n t
 row_ends n scopes i s t h lt e is = subst (EndsWithin n) is (ends_at n scopes i s h.within lt e)
 
-get_or-any : (xs : List Scope) (k : ℕ) (d e : Scope) → k < length xs → get_or xs k d ≡ get_or xs k e
-get_or-any [] k d e h = absurd (omega arith)
-get_or-any (x ∷ xs) zero d e h = refl
-get_or-any (x ∷ xs) (suc k) d e h = get_or-any xs k d e (omega arith)
-
 abbrev pub no_row : Scope
 no_row = scope.Few (record { from = 0; until = 0 })
 
 pub row_found : (ls : List ℕ) (scopes : List Scope) (i : ℕ) (t : Scope) → AreRows scopes → i < length scopes → get_or scopes i no_row ≡ t → RowIs ls scopes i t
-row_found ls scopes i t rows h is = row_is ls scopes i (get_or scopes i no_row) t rows h (get_or-any scopes i no_row (get_or scopes i no_row) h) is
+row_found ls scopes i t rows h is = row_is ls scopes i (get_or scopes i no_row) t rows h (get_or_default scopes i no_row (get_or scopes i no_row) h) is
 
 pub ends_found : (n : ℕ) (scopes : List Scope) (i : ℕ) (t : Scope) → AreScopes n scopes → i < length scopes → get_or scopes i no_row ≡ t → EndsWithin n t
-ends_found n scopes i t h lt is = row_ends n scopes i (get_or scopes i no_row) t h lt (get_or-any scopes i no_row (get_or scopes i no_row) lt) is
+ends_found n scopes i t h lt is = row_ends n scopes i (get_or scopes i no_row) t h lt (get_or_default scopes i no_row (get_or scopes i no_row) lt) is
 
 -- how many a row lists
 count_one : (ls : List ℕ) (scopes : List Scope) (i : ℕ) (s : Scope) → AreScopes (length ls) scopes → i < length scopes → s ≡ get_or scopes i s
@@ -168,7 +163,7 @@ count_places ls scopes i h lt = below (i + 1) i (omega arith) lt
     below : (n i : ℕ) → i < n → i < length scopes → count_at scopes i ≡ length (places_in ls scopes i)
     below zero i less lt = absurd (omega arith)
     below (suc n) i less lt =
-        count_one ls scopes i (get_or scopes i no_row) h lt (get_or-any scopes i no_row (get_or scopes i no_row) lt) (λ j l. below n j (omega arith) (omega arith))
+        count_one ls scopes i (get_or scopes i no_row) h lt (get_or_default scopes i no_row (get_or scopes i no_row) lt) (λ j l. below n j (omega arith) (omega arith))
 
 -- ---- a row more
 

@@ -2,7 +2,7 @@
 use Rattle.std.proofs.Common.{◌≡◌, ℕ, ◌+◌, ◌-◌, ◌<◌, ◌≤◌, List, [], ◌∷◌, ◌++◌, length, take, drop, reverse, get_or, refl, sym, ap, subst, ◌∙◌, arith, length-append, length-drop, get_or-drop, append_assoc}
 use Rattle.std.specs.List.{slice_range}
 use Rattle.std.proofs.Math.Seq.{drop-append_seam}
-use Rattle.std.proofs.lemmas.List.{append-nil, map-append, drop-append-le, take_all, take_more, get_or-reverse, length-reverse, reverse-reverse}
+use Rattle.std.proofs.lemmas.List.{append-nil, map-append, drop-append-le, take_all, take_more, get_or-reverse, length-reverse, reverse-reverse, get_or_append_left}
 use Rattle.rox_grammar.specs.Written.{NamespaceDecl}
 use Rattle.rox_scopes.specs.declared.tables.Scope.{Scope}
 use Rattle.rox_scopes.specs.declared.tables.Scope.TheVariants as scope
@@ -13,7 +13,6 @@ use Rattle.rox_scopes.specs.Scopes.{entries, places_in, ArePlaces}
 use Rattle.rox_scopes.specs.Ropes.{IsRope, IsListed}
 use Rattle.rox_rows.proofs.Stable.{all_append, all_drop}
 use Rattle.rox_reading.proofs.Stretches.{slice-rest}
-use Rattle.rox_scopes.proofs.Inherits.{get_or-front}
 use Rattle.rox_scopes.proofs.Ropes.{all_reverse, scopes_more, scopes_push, pushed_places}
 
 -- ---- what is listed once more, in reverse order
@@ -35,7 +34,7 @@ turn_more old from turn end place d now next h le lt is push =
     let at : from + (length rest - 1 - turn) ≡ end - 1 - turn = omega arith in
     let one : get_or (reverse rest) turn d ≡ get_or old (end - 1 - turn) d =
     get_or-reverse rest turn d k ∙ (rw get_or-drop refl) ∙ ap (λ j. get_or old j d) at in
-    let same : place ≡ get_or (reverse rest) turn d = is ∙ ap (λ xs. get_or xs (end - 1 - turn) d) h.now_is ∙ get_or-front old (take turn (reverse rest)) (end - 1 - turn) d low ∙ sym one in
+    let same : place ≡ get_or (reverse rest) turn d = is ∙ ap (λ xs. get_or xs (end - 1 - turn) d) h.now_is ∙ get_or_append_left old (take turn (reverse rest)) d (end - 1 - turn) low ∙ sym one in
     record {
       end_is = e;
       now_is = push ∙ ap (λ xs. xs ++ place ∷ []) h.now_is ∙ append_assoc old (take turn (reverse rest)) (place ∷ [])
