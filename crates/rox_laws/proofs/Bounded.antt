@@ -1,5 +1,5 @@
 -- The nodes of a tree say as much as the items that they are of.
-use Rattle.std.proofs.Common.{◌≡◌, ◌+◌, ◌*◌, ◌≤◌, ◌==◌, ℕ, Bool, List, [], ◌∷◌, length, map, refl, arith}
+use Rattle.std.proofs.Common.{◌≡◌, ◌*◌, ◌≤◌, ◌==◌, ℕ, Bool, List, [], ◌∷◌, length, map, refl, arith}
 use Rattle.std.specs.Prelude.{max, count_by, sum_by, Option, Some, None, Ok, IfSome}
 use Rattle.std.proofs.lemmas.Nat.{mul-le}
 use Rattle.std.proofs.lemmas.List.{length-map}

@@ -12,7 +12,6 @@ use Rattle.rox_grammar.specs.Entities.{Replacement, Entity, text_of}
 use Rattle.rox_grammar.specs.Doctype.{Request, Asked, GivesReplacement, IsDefinition, entry, Subset, IsDoctype}
 use Rattle.rox_grammar.specs.Doctype as doctype
 use Rattle.rox_theory.specs.ParseParts.{MayHaveDoctype, PrologParts}
-use Rattle.rox_grammar.specs.Document as document
 use Rattle.rox_grammar.specs.State.{State}
 use Rattle.rox_grammar.specs.ContentPoints.{ContentPoint, ValuePart}
 use Rattle.rox_grammar.specs.ContentPoints as places

@@ -3,6 +3,7 @@ use Rattle.std.proofs.Common.{◌≡◌, ℕ, ◌||◌, Bool, true, false, not, 
 use Rattle.std.specs.List.{list_any, list_all, IsDistinct}
 use Rattle.std.proofs.lemmas.List.{append-nil, map-append}
 use Rattle.std.proofs.lemmas.List.Folds.{list_any-append}
+use Rattle.std.proofs.lemmas.Bool.{or_parts, not-true}
 use Rattle.rox_grammar.specs.declared.fault.Word.TheVariants.{Xml}
 use Rattle.rox_grammar.specs.FixedTexts.{word_text}
 use Rattle.rox_grammar.specs.Forest.{Forest, Nil, Cons}
@@ -53,14 +54,9 @@ module _ {A : Type 0} (same : A → A → Bool) where
 
 -- ---- prefixes and names
 
--- neither of two tests
-neither : (x y : Bool) → (x || y) ≡ false → (x ≡ false) × (y ≡ false)
-neither false y h = (refl, h)
-neither true y h = let e : ⊥ = cc h in absurd e
-
 -- a prefix that is not declared here and in one more
 split : (p : Option (List ℕ)) (b : List NamespaceDecl) (d : NamespaceDecl) → is_declared p (b ++ d ∷ []) ≡ false → (is_declared p b ≡ false) × (is_declared p (d ∷ []) ≡ false)
-split p b d h = neither _ _ (sym (list_any-append (λ (d : NamespaceDecl). same_prefix d.prefix p) b (d ∷ [])) ∙ h)
+split p b d h = or_parts _ _ (sym (list_any-append (λ (d : NamespaceDecl). same_prefix d.prefix p) b (d ∷ [])) ∙ h)
 
 both : (p : Option (List ℕ)) (b : List NamespaceDecl) (d : NamespaceDecl) → is_declared p b ≡ false → is_declared p (d ∷ []) ≡ false → is_declared p (b ++ d ∷ []) ≡ false
 both p b d x y = list_any-append (λ (d : NamespaceDecl). same_prefix d.prefix p) b (d ∷ []) ∙ (ap (λ (z : Bool). z || is_declared p (d ∷ [])) x ∙ y)
@@ -69,7 +65,7 @@ both p b d x y = list_any-append (λ (d : NamespaceDecl). same_prefix d.prefix p
 pub some_none : (p : Option (List ℕ)) (q : NamespaceDecl → Bool) (ds : List NamespaceDecl) → is_declared p ds ≡ false → is_declared p (filter q ds) ≡ false
 some_none p q [] h = h
 some_none p q (d ∷ ds) h =
-    let n = neither (same_prefix d.prefix p) (is_declared p ds) h in
+    let n = or_parts (same_prefix d.prefix p) (is_declared p ds) h in
     by_test (q d) refl n.0 (some_none p q ds n.1)
   where
     by_test : (x : Bool) → q d ≡ x → same_prefix d.prefix p ≡ false → is_declared p (filter q ds) ≡ false → is_declared p (filter q (d ∷ ds)) ≡ false
@@ -101,10 +97,6 @@ declares_once : (b ds : List NamespaceDecl) → DeclarableBehind b ds → Prefix
 declares_once b [] h = tt
 declares_once b (d ∷ ds) h = (h.1, declares_once (b ++ d ∷ []) ds h.2)
 
-not_true : (x : Bool) → not x ≡ true → x ≡ false
-not_true true h = sym h
-not_true false h = refl
-
 -- and so has what its element lists
 listed_once : (above own : List NamespaceDecl) → PrefixesOnce [] above → DeclarableBehind [] own → PrefixesOnce [] (listed above own)
 listed_once above own h k =
@@ -112,7 +104,7 @@ listed_once above own h k =
     let other : NamespaceDecl → Bool = λ (d : NamespaceDecl). not (is_declared d.prefix own) in
     let front : PrefixesOnce [] (filter kept own) = some_once [] kept [] [] own (λ p o m. m) (λ d e. refl) (declares_once [] own k) in
     let back : PrefixesOnce (filter kept own) (filter other above) =
-    some_once own other [] (filter kept own) above (λ p o m. some_none p kept own o) (λ d e. not_true (is_declared d.prefix own) e) h in
+    some_once own other [] (filter kept own) above (λ p o m. some_none p kept own o) (λ d e. not-true (is_declared d.prefix own) e) h in
     once_append [] (filter kept own) (filter other above) front back
 
 -- a test of what becomes of each

@@ -3,7 +3,7 @@ use Rattle.std.proofs.Common.{◌≡◌, ℕ, ◌+◌, ◌<◌, ◌≤◌, List,
 use Rattle.std.proofs.lemmas.Bool.{cases_lt, cases_eq}
 use Rattle.rox_grammar.specs.Forest.{Forest, Nil, Cons, size}
 use Rattle.rox_grammar.specs.Tree.{Node}
-use Rattle.roxmltree.specs.Places.{ids, Place, places, preorder, place, first, parent, next_sibling}
+use Rattle.roxmltree.specs.Places.{ids, Place, preorder, place, first, parent, next_sibling}
 use Rattle.roxmltree.specs.NodeParts.{node_at, start_of, end_of}
 use Rattle.rox_laws.specs.RangeLaws.{RangesNested}
 use Rattle.roxmltree.proofs.Preorder.{at, Sits}

@@ -1,7 +1,7 @@
 -- A text of a document is empty only where all its pieces are empty CDATA sections.
-use Rattle.std.proofs.Common.{◌≡◌, ◌≢◌, ℕ, ◌+◌, ◌-◌, ◌<◌, ◌==◌, Bool, true, false, List, [], ◌∷◌, ◌++◌, length, refl, sym, ◌∙◌, subst, inl, inr, arith}
+use Rattle.std.proofs.Common.{◌≡◌, ◌≢◌, ℕ, ◌+◌, ◌<◌, Bool, true, false, List, [], ◌∷◌, ◌++◌, length, refl, sym, ◌∙◌, subst, arith}
 use Rattle.std.specs.Char.{encode_utf8}
-use Rattle.std.proofs.lemmas.Bool.{false_from_ne_true, cases_Bool}
+use Rattle.std.proofs.lemmas.Bool.{false_from_ne_true}
 use Rattle.rox_grammar.specs.declared.fault.Word.TheVariants as word
 use Rattle.rox_grammar.specs.FixedTexts.{word_text, at}
 use Rattle.rox_grammar.specs.Forest.{Forest, Nil, Cons, join}
@@ -10,7 +10,7 @@ use Rattle.rox_grammar.specs.Tree.{Node, node_in}
 use Rattle.rox_grammar.specs.Names.{byte, slice}
 use Rattle.rox_grammar.specs.Constructs.{IsCData, IsEnd}
 use Rattle.rox_grammar.specs.References.{entity_reference}
-use Rattle.rox_grammar.specs.Content.{DataByte, literal, kept, is_literal, data_bytes_of, literals, line_ends, piece, Part, part_ends, as_written, from_reference, last_part, then_entity, IsTag, start_tag, IsMisc, comment, instruction, IsElement, empty, nest, Content, ends, run, cdata, misc, node}
+use Rattle.rox_grammar.specs.Content.{DataByte, data_bytes_of, piece, Part, part_ends, as_written, from_reference, last_part, then_entity, IsTag, start_tag, IsMisc, comment, instruction, IsElement, empty, nest, Content, ends, run, cdata, misc, node}
 use Rattle.rox_grammar.specs.RunParts.{Parts}
 use Rattle.rox_grammar.specs.Document.{Misc, no_misc, space, an_item, ParseOf, IsTreeOf}
 use Rattle.rox_theory.proofs.Productions.{comment_parts, pi_parts, end_parts, char_data_parts}

@@ -1,5 +1,5 @@
 -- A node lies in the subtree of each node above it, and what lies below a node of a subtree lies in the subtree.
-use Rattle.std.proofs.Common.{◌≡◌, ◌⊎◌, inl, inr, ⊎_elim, ℕ, zero, suc, ◌+◌, ◌-◌, ◌<◌, ◌≤◌, List, [], ◌∷◌, ◌++◌, Some, length, get_or, refl, sym, ap, ◌∙◌, subst, arith, length-append}
+use Rattle.std.proofs.Common.{◌≡◌, ◌⊎◌, inl, inr, ⊎_elim, ℕ, zero, suc, ◌+◌, ◌-◌, ◌<◌, ◌≤◌, List, [], ◌∷◌, ◌++◌, Some, length, get_or, refl, sym, ap, ◌∙◌, subst, arith}
 use Rattle.std.specs.List.{Contains}
 use Rattle.std.proofs.lemmas.Bool.{cases_lt, cases_eq}
 use Rattle.std.proofs.lemmas.List.{get_or_append_left, get_or-append-add, get_or_past}
@@ -8,11 +8,7 @@ use Rattle.rox_grammar.specs.Forest.{Forest, Nil, Cons, size}
 use Rattle.rox_grammar.specs.Tree.{Node}
 use Rattle.roxmltree.specs.Places.{Place, places, nowhere, preorder, place, first, parent}
 use Rattle.rox_path.specs.NodeMarks.{Laws}
-
-length-places : (up left : List ℕ) (b : ℕ) (f : Forest Node) → length (places up left b f) ≡ size f
-length-places up left b Nil = refl
-length-places up left b (Cons x c r) =
-    omega (arith, length-append (places (b ∷ up) [] (b + 1) c) (places up (b ∷ left) (b + (1 + size c)) r), length-places (b ∷ up) [] (b + 1) c, length-places up (b ∷ left) (b + (1 + size c)) r)
+use Rattle.roxmltree.proofs.Preorder.{length-places}
 
 abbrev at : List Place → ℕ → Place
 at ps k = get_or ps k nowhere

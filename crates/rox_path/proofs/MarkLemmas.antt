@@ -1,8 +1,8 @@
 -- Marks on the nodes of a subtree, and the nodes that steps lead to.
-use Rattle.std.proofs.Common.{◌≡◌, ◌⊎◌, inl, inr, ℕ, zero, suc, ◌+◌, ◌-◌, ◌<◌, ◌≤◌, Bool, true, false, cond, ◌&&◌, ◌||◌, nat_le, List, [], ◌∷◌, ◌++◌, map, Option, Some, None, length, get_or, refl, sym, ap, ◌∙◌, subst, arith, length-append, bytes_eq, take, append_assoc}
+use Rattle.std.proofs.Common.{◌≡◌, inl, inr, ℕ, zero, suc, ◌+◌, ◌-◌, ◌<◌, ◌≤◌, Bool, true, false, cond, ◌&&◌, ◌||◌, nat_le, List, [], ◌∷◌, ◌++◌, map, Option, Some, None, length, get_or, refl, sym, ap, ◌∙◌, subst, arith, length-append, bytes_eq, take, append_assoc}
 use Rattle.std.specs.List.{Contains, filter, list_any, range_with_len}
 use Rattle.std.specs.Option.{option_eq}
-use Rattle.std.proofs.lemmas.Bool.{cases_lt, and_parts, and_from, le-leb, leb-true, false≢true}
+use Rattle.std.proofs.lemmas.Bool.{cases_lt, and_parts, and_from, le-leb, leb-true, false≢true, cases_Bool, or_right}
 use Rattle.std.proofs.lemmas.List.{get_or_past, take_more, map-append}
 use Rattle.std.proofs.lemmas.Slice.Eq.{bytes_eq-Decides}
 use Rattle.rox_grammar.specs.Forest.{Forest, size}
@@ -96,21 +96,13 @@ has_name doc id name is =
     (and_from (bytes_eq (local_of node) name.1) (option_eq bytes_eq (namespace_of node) name.0) ((bytes_eq-Decides (local_of node) name.1).1 is.local) (rw e (equal_option name.0)))
 
 -- ---- one of a list is marked
-either : (b : Bool) → (b ≡ true) ⊎ (b ≡ false)
-either true = inl refl
-either false = inr refl
-
 one_of : (p : ℕ → Bool) (xs : List ℕ) → list_any p xs ≡ true → (a : ℕ) × Contains xs a × (p a ≡ true)
 one_of p [] e = absurd (false≢true e)
 one_of p (x ∷ xs) e =
-    elim (either (p x)) [
+    elim (cases_Bool (p x)) [
       | inl t ↦ (x, in_front x xs, t)
       | inr f ↦ let r = one_of p xs (rw f at e) in (r.0, behind x r.0 xs r.1, r.2)
     ]
-
-or_right : (a b : Bool) → b ≡ true → (a || b) ≡ true
-or_right true b e = refl
-or_right false b e = e
 
 any_of : (p : ℕ → Bool) (xs : List ℕ) (a : ℕ) → Contains xs a → p a ≡ true → list_any p xs ≡ true
 any_of p [] a h e = absurd (omega (arith, h.1))
@@ -306,7 +298,7 @@ range_low a (suc n) x (suc k, l, e) = omega (arith, range_low (a + 1) n x (k, om
 kept : (p : ℕ → Bool) (xs : List ℕ) (x : ℕ) → Contains (filter p xs) x → Contains xs x × (p x ≡ true)
 kept p [] x h = absurd (omega (arith, h.1))
 kept p (y ∷ xs) x h =
-    elim (either (p y)) [
+    elim (cases_Bool (p y)) [
       | inl t ↦
           elim (in_cons y x (filter p xs) (rw t at h)) [
             | inl same ↦ rw same (in_front y xs, t)

@@ -1,6 +1,6 @@
 -- Paths as they are written: steps one after the other, and that no path passes a place that none goes on from.
 use Rattle.std.proofs.Common.{◌≡◌, ◌≢◌, ◌⊎◌, inr, ℕ, ◌+◌, ◌<◌, ◌==◌, ◌||◌, Bool, true, false, List, [], ◌∷◌, ◌++◌, length, drop, get_or, Option, Some, None, unwrap_or, refl, sym, ap, ◌∙◌, subst, arith, get_or-drop, append_assoc, ⊎_elim, map}
-use Rattle.std.proofs.lemmas.Bool.{cases_lt}
+use Rattle.std.proofs.lemmas.Bool.{cases_lt, false_from_ne_true}
 use Rattle.std.proofs.lemmas.List.{get_or_past, map-append}
 use Rattle.std.proofs.lemmas.List.Sums.{position_or_len_is}
 use Rattle.std.specs.List.{position_or_len}
@@ -166,13 +166,9 @@ pub ill_step : (text : List ℕ) (i k : ℕ) (e : PathError) → StepsTo text i 
 ill_step text i k (BadPath j) to due h is = let same : j ≡ k = cc in bad_step i k to due (rw same at h)
 ill_step text i k OutOfMemory to due h is = cc
 
-fails : (b : Bool) → (b ≡ true → ⊥) → b ≡ false
-fails true h = absurd (h refl)
-fails false h = refl
-
 -- what a search for a byte finds
 pub first_byte_found : (p : ℕ → Bool) (hay : List ℕ) (r : Option ℕ) → IsFirstByte p hay r → position_or_len p hay ≡ unwrap_or r (length hay)
 first_byte_found p hay None h =
-    position_or_len_is p hay (length hay) 0 (omega arith) (λ j below. fails (p (get_or hay j 0)) (h j (omega arith) below)) (λ more. absurd (omega arith))
+    position_or_len_is p hay (length hay) 0 (omega arith) (λ j below. false_from_ne_true (p (get_or hay j 0)) (h j (omega arith) below)) (λ more. absurd (omega arith))
 first_byte_found p hay (Some k) h =
-    position_or_len_is p hay k 0 (omega (arith, h.0.high)) (λ j below. fails (p (get_or hay j 0)) (h.0.before j (omega arith) below)) (λ more. h.1)
+    position_or_len_is p hay k 0 (omega (arith, h.0.high)) (λ j below. false_from_ne_true (p (get_or hay j 0)) (h.0.before j (omega arith) below)) (λ more. h.1)
