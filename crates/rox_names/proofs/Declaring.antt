@@ -5,6 +5,8 @@ use Rattle.std.specs.Result.{is_ok}
 use Rattle.std.proofs.lemmas.List.{append-nil, map-append, length-map, drop-append-le}
 use Rattle.std.proofs.lemmas.List.Elements.{filter-append}
 use Rattle.std.proofs.lemmas.List.Folds.{list_any-append}
+use mathlib.Core.Bool.{or-true, or-false}
+use Rattle.std.proofs.lemmas.Bool.{or_parts, or_right}
 use Rattle.rox_grammar.specs.declared.fault.Fault.{Fault}
 use Rattle.rox_grammar.specs.declared.fault.Fault.TheVariants as fault
 use Rattle.rox_grammar.specs.Written.{Attribute, NamespaceDecl, namespace_decl_of}
@@ -16,6 +18,7 @@ use Rattle.rox_reading.specs.Tags.{TagSoFar, uri_tested, declared}
 use Rattle.rox_grammar.specs.Failures.{Fails}
 use Rattle.rox_grammar.specs.declared.failure.Failure.{Failure}
 use Rattle.rox_grammar.specs.declared.failure.Failure.TheVariants as failure
+use Rattle.rox_grammar.proofs.PairLemmas.{with_new-more, with_new-append}
 use Rattle.rox_scopes.specs.declared.tables.Namespace.{Namespace}
 use Rattle.rox_rows.specs.Rows.{namespace_at}
 use Rattle.rox_scopes.specs.Tables.{lists_of, AreScopes}
@@ -28,7 +31,7 @@ use Rattle.rox_scopes.specs.Bindings.{AreBindingsOf}
 use Rattle.rox_scopes.specs.declared.bindings.PrefixBindings.{PrefixBindings}
 use Rattle.rox_scopes.proofs.Presenting.{keeps_grown}
 use Rattle.rox_scopes.proofs.Remembering.{Key, remembers_same}
-use Rattle.rox_scopes.proofs.Listing.{with_new-append, with_new-more, with_new-front, listed-others, is_declared-own}
+use Rattle.rox_scopes.proofs.Listing.{with_new-front, listed-others, is_declared-own}
 use Rattle.rox_scopes.proofs.Hiding.{once_more}
 use Rattle.rox_reading.proofs.Stretches.{slice-rest}
 use Rattle.rox_rows.proofs.Stable.{all_append, all_drop, all_weaker, map_same, namespace_at-append}
@@ -67,19 +70,7 @@ listable-other : (d : NamespaceDecl) → is_xml d.prefix ≡ false → listable_
 listable-other d h = rw h refl
 
 xml-push : (own : List NamespaceDecl) (d : NamespaceDecl) (b : Bool) → is_xml d.prefix ≡ b → declares_xml (own ++ d ∷ []) ≡ (declares_xml own || b)
-xml-push own d b h = list_any-append (λ d. is_xml d.prefix) own (d ∷ []) ∙ ap (λ x. declares_xml own || x) (ap (λ b. b || false) h ∙ or_no b)
-  where
-    or_no : (b : Bool) → (b || false) ≡ b
-    or_no true = refl
-    or_no false = refl
-
-or_yes : (b : Bool) → true ≡ (b || true)
-or_yes true = refl
-or_yes false = refl
-
-or_same : (b : Bool) → b ≡ (b || false)
-or_same true = refl
-or_same false = refl
+xml-push own d b h = list_any-append (λ d. is_xml d.prefix) own (d ∷ []) ∙ ap (λ x. declares_xml own || x) (ap (λ b. b || false) h ∙ or-false b)
 
 -- the declaration of `xml`
 pub declares_prefix_xml : (known : List NamespaceDecl) (before : List ℕ) (namespaces : List NamespaceDecl) (listed : List ℕ) (xml : Bool) (a : Attribute) (h : TagSoFar) → Declares known before namespaces listed xml h.own
@@ -94,7 +85,7 @@ declares_prefix_xml known before namespaces listed xml a h d uri new is =
       record {
         names_are = sym pairs;
         few = d.few;
-        xml_is = or_yes (declares_xml h.own) ∙ sym (xml-push h.own one true is);
+        xml_is = sym (or-true (declares_xml h.own)) ∙ sym (xml-push h.own one true is);
         mine = d.mine;
         listed_are = d.listed_are;
         places = d.places;
@@ -122,7 +113,7 @@ declares_other known before namespaces next listed after xml a h place d uri new
       record {
         names_are = sym pairs;
         few = few;
-        xml_is = d.xml_is ∙ or_same (declares_xml h.own) ∙ sym (xml-push h.own one false is);
+        xml_is = d.xml_is ∙ sym (or-false (declares_xml h.own)) ∙ sym (xml-push h.own one false is);
         mine = d.mine ++ place ∷ [];
         listed_are = push ∙ ap (λ xs. xs ++ place ∷ []) d.listed_are ∙ append_assoc before d.mine (place ∷ []);
         places = all_append (λ i. i < length next) d.mine (place ∷ []) (all_weaker (λ i. i < length namespaces) (λ i. i < length next) d.mine (λ i h. omega arith) d.places) (here, tt);
@@ -155,11 +146,6 @@ pub own_declares : (namespaces : List NamespaceDecl) (own : List ℕ) (p : Optio
     → found ≡ (is_declared p (entries namespaces own) || (xml && is_xml p)) → xml ≡ declares_xml ds → entries namespaces own ≡ listable_of ds → found ≡ is_declared p ds
 own_declares namespaces own p xml ds found is xml_is own_is =
     is ∙ ap (λ xs. is_declared p xs || (xml && is_xml p)) own_is ∙ ap (λ b. is_declared p (listable_of ds) || (b && is_xml p)) xml_is ∙ sym (is_declared-own ds p)
-
--- nothing that is listed is that prefix's
-pub none_own : (a b : Bool) → (a || b) ≡ false → a ≡ false
-none_own true b h = cc h
-none_own false b h = refl
 
 pub fails_by : {X Y : Type 0} (e : Failure) (r : Result X Failure) (read : Result Y Fault) → r ≡ Err e → ((f : Fault) → r ≡ Err (failure.Fault f) → read ≡ Err f) → Fails e read
 fails_by failure.Memory r read is go = tt
@@ -253,19 +239,11 @@ pub declared_at : (rows : List Namespace) (i : ℕ) (d : Namespace) (p : Option 
 declared_at [] i d p lt same = absurd (omega arith)
 declared_at (r ∷ rows) zero d p lt same = rw same refl
 declared_at (r ∷ rows) (suc i) d p lt same = or_right (same_prefix (namespace_view r).prefix p) _ (declared_at rows i d p (omega arith) same)
-  where
-    or_right : (a b : Bool) → b ≡ true → (a || b) ≡ true
-    or_right true b h = refl
-    or_right false b h = h
-
-none_or : (a b : Bool) → (a || b) ≡ false → b ≡ false
-none_or true b h = cc h
-none_or false b h = h
 
 -- its pair is new
 absent_pair : (ds : List NamespaceDecl) (d : NamespaceDecl) → is_declared d.prefix ds ≡ false → has_pair ds d ≡ false
 absent_pair [] d h = refl
-absent_pair (e ∷ ds) d h = rw (none_own (same_prefix e.prefix d.prefix) _ h, absent_pair ds d (none_or (same_prefix e.prefix d.prefix) _ h)) refl
+absent_pair (e ∷ ds) d h = rw ((or_parts (same_prefix e.prefix d.prefix) _ h).0, absent_pair ds d (or_parts (same_prefix e.prefix d.prefix) _ h).1) refl
 
 pub absent_row : (rows : List Namespace) (d : NamespaceDecl) → is_declared d.prefix (map namespace_view rows) ≡ false → has_pair (map namespace_view rows) d ≡ false
 absent_row rows d h = absent_pair (map namespace_view rows) d h
@@ -277,8 +255,8 @@ absent_listed ds (i ∷ places) p h (lt, ok) = rw (at ds i h lt, absent_listed d
   where
     at : (es : List NamespaceDecl) (k : ℕ) → is_declared p es ≡ false → k < length es → same_prefix (namespace_at es k).prefix p ≡ false
     at [] k h lt = absurd (omega arith)
-    at (e ∷ es) zero h lt = none_own (same_prefix e.prefix p) _ h
-    at (e ∷ es) (suc k) h lt = at es k (none_or (same_prefix e.prefix p) _ h) (omega arith)
+    at (e ∷ es) zero h lt = (or_parts (same_prefix e.prefix p) _ h).0
+    at (e ∷ es) (suc k) h lt = at es k (or_parts (same_prefix e.prefix p) _ h).1 (omega arith)
 
 -- the table with a pair that is new
 pub with_absent : (ds : List NamespaceDecl) (d : NamespaceDecl) → has_pair ds d ≡ false → ds ++ d ∷ [] ≡ with_new ds (d ∷ [])

@@ -1,12 +1,11 @@
 -- A name that was read is read again wherever the same bytes stand before `>`.
-use Rattle.std.proofs.Common.{◌≡◌, ℕ, ◌+◌, ◌-◌, ◌<◌, ◌≤◌, ◌==◌, Bool, true, false, List, [], ◌∷◌, ◌++◌, Ok, length, take, drop, get_or, slice_index, slice_range, refl, sym, ap, ◌∙◌, subst, arith, inl, inr, add-zero, length-drop, length-append, get_or-drop, take-append-drop}
+use Rattle.std.proofs.Common.{◌≡◌, ℕ, ◌+◌, ◌-◌, ◌<◌, ◌≤◌, Bool, false, List, [], ◌∷◌, ◌++◌, Ok, length, take, drop, get_or, slice_index, slice_range, refl, sym, ap, ◌∙◌, subst, arith, inl, inr, add-zero, length-drop, length-append, get_or-drop, take-append-drop}
 use Rattle.std.specs.Prelude.{bytes_eq}
 use Rattle.std.specs.Char.{encode_utf8, len_utf8}
 use Rattle.std.specs.Str.{chars, IsUtf8, IsCharBoundary, encode_utf8_all}
-use Rattle.std.proofs.lemmas.Bool.{cases_Bool, eqb-true, false_from_ne_true}
+use Rattle.std.proofs.lemmas.Bool.{cases_Bool}
 use Rattle.std.proofs.lemmas.List.{drop-drop, drop-take, take-take, length-take, get_or-take}
-use Rattle.std.proofs.lemmas.Str.{chars-append, chars-encodes, encodes-chars, length-encode, len_utf8_bounds, IsUtf8-drop, IsUtf8-take, IsCharBoundary-past_char, IsCharBoundary-after_ascii}
-use Rattle.std.proofs.Math.Seq.{drop-append_seam}
+use Rattle.std.proofs.lemmas.Str.{chars-append, encodes-chars, length-encode, len_utf8_bounds, IsUtf8-drop, IsUtf8-take, IsCharBoundary-after_ascii}
 use Rattle.rox_grammar.specs.Chars.{is_name_start, is_name_char, is_part_char}
 use Rattle.rox_grammar.specs.Names.{IsNCName, IsQName, unprefixed, prefixed, colon_first}
 use Rattle.rox_grammar.specs.Runs.{run_end, begins, passing, first_passes}
@@ -21,8 +20,9 @@ use Rattle.rox_reading.specs.Lexical.{qname_at}
 use Rattle.rox_reading.specs.Tags.{Values, TagRead, tag_at, attributes_at, tag_tested}
 use Rattle.rox_theory.proofs.Productions.{ncname_parts, ncname_made}
 use Rattle.rox_theory.proofs.Basics.{ok_same, bind_ok, bind_lifted, chosen}
-use Rattle.rox_theory.proofs.CharLemmas.{begins_byte, run_some}
+use Rattle.rox_theory.proofs.CharLemmas.{part_some}
 use Rattle.rox_theory.proofs.NameLemmas.{qname_sound, qname_complete, qname_le}
+use Rattle.rox_theory.proofs.CharTexts.{run_cut}
 use Rattle.rox_bytes.proofs.RunLemmas.{run_stops_ascii, stands_within}
 use Rattle.rox_names.specs.OpenElements.{name_length, HasName, IsOpened, open_name}
 use Rattle.rox_names.specs.SpelledNames.{is_prefixed}
@@ -31,49 +31,12 @@ use Rattle.rox_names.specs.declared.start_tag.StartTag.{StartTag}
 
 -- ---- of one source
 
--- behind the characters that pass another begins
-boundary_in : (p : ℕ → Bool) (src cs : List ℕ) (i : ℕ) → IsUtf8 src → IsCharBoundary src i → drop i src ≡ encode_utf8_all cs → IsCharBoundary src (i + passing p cs)
-boundary_in p src [] i utf8 cut is = rw (add-zero i) cut
-boundary_in p src (c ∷ cs) i utf8 cut is =
-    elim (cases_Bool (p c)) as (λ s. IsCharBoundary src (i + passing p (c ∷ cs))) [
-      | inl passes ↦ (
-          let next = IsCharBoundary-past_char src (encode_utf8_all cs) i c cut.0 (IsUtf8-drop src i utf8 cut) is in
-          let past : drop (len_utf8 c) (encode_utf8 c ++ encode_utf8_all cs) ≡ encode_utf8_all cs =
-          rw (← length-encode c) (drop-append_seam (encode_utf8 c) (encode_utf8_all cs)) in
-          let rest : drop (i + len_utf8 c) src ≡ encode_utf8_all cs = sym (drop-drop (len_utf8 c) i src) ∙ ap (drop (len_utf8 c)) is ∙ past in
-          let e : i + len_utf8 c + passing p cs ≡ i + passing p (c ∷ cs) = rw passes (omega arith) in
-          subst (IsCharBoundary src) e (boundary_in p src cs (i + len_utf8 c) utf8 next rest))
-      | inr fails ↦ rw (fails, add-zero i) cut
-    ]
-
--- a run that begins where a character does ends so
-run_boundary : (p : ℕ → Bool) (src : List ℕ) (i : ℕ) → IsUtf8 src → IsCharBoundary src i → IsCharBoundary src (run_end p src i)
-unfolding run_end
-run_boundary p src i utf8 cut =
-    let spelled = IsUtf8-drop src i utf8 cut in
-    let all : chars (drop i src) ≡ spelled.0 = ap chars (sym spelled.1.1) ∙ chars-encodes spelled.0 spelled.1.0 in
-    rw all (boundary_in p src spelled.0 i utf8 cut (sym spelled.1.1))
-
 -- what stands between two such places is a text
 between : (src : List ℕ) (i n : ℕ) → IsUtf8 src → IsCharBoundary src i → IsCharBoundary src (i + n) → IsUtf8 (take n (drop i src))
 between src i n utf8 cut end =
     let long = length-drop i src in
     IsUtf8-take (drop i src) n (IsUtf8-drop src i utf8 cut)
     (omega (arith, end.0, long), λ more wide. let read = get_or-drop i src n 0 in rw read (end.1 (omega (arith, long)) (rw read at wide)))
-
--- what begins a name and is no colon begins a part of it
-part_first : (cs : List ℕ) → first_passes is_name_start cs ≡ true → first_passes (λ c. c == 58) cs ≡ false → first_passes is_part_char cs ≡ true
-unfolding is_part_char is_name_char
-part_first [] starts other = cc starts
-part_first (c ∷ cs) starts other = rw (starts, other) refl
-
--- so a part has a byte
-part_some : (src : List ℕ) (i : ℕ) → IsUtf8 src → IsCharBoundary src i → begins is_name_start src i ≡ true → (slice_index src i ≡ 58 → ⊥) → i < run_end is_part_char src i
-unfolding begins
-part_some src i utf8 cut starts no_colon =
-    let other : first_passes (λ c. c == 58) (chars (drop i src)) ≡ false =
-    false_from_ne_true _ (λ h. no_colon (eqb-true _ _ (begins_byte (λ c. c == 58) (λ c is. omega (arith, eqb-true c 58 is)) src i utf8 cut h))) in
-    run_some is_part_char src i (part_first (chars (drop i src)) starts other)
 
 -- ---- of two
 
@@ -114,7 +77,7 @@ run_same : (p : ℕ → Bool) (src dst : List ℕ) (i j n : ℕ) → IsUtf8 src 
     → j + n < length dst → slice_index dst (j + n) < 128 → p (slice_index dst (j + n)) ≡ false → run_end p dst j ≡ j + n
 unfolding run_end
 run_same p src dst i j n us ud cut is same within ascii fails =
-    let there : IsCharBoundary src (i + n) = subst (IsCharBoundary src) is (run_boundary p src i us cut) in
+    let there : IsCharBoundary src (i + n) = subst (IsCharBoundary src) is (run_cut p src i us cut) in
     let w = take n (drop i src) in
     let text = between src i n us cut there in
     let long : length w ≡ n = (let l = length-take n (drop i src) in let m = length-drop i src in let t = there.0 in omega arith) in
@@ -150,7 +113,7 @@ part_same : (src dst : List ℕ) (i j n e b : ℕ) → IsUtf8 src → IsUtf8 dst
 part_same src dst i j n e b us ud cut is at same stop some ascii fails =
     let long = (ncname_parts is).longest in
     let run : run_end is_part_char src i ≡ i + n = sym long ∙ at in
-    let there : IsCharBoundary src (i + n) = subst (IsCharBoundary src) run (run_boundary is_part_char src i us cut) in
+    let there : IsCharBoundary src (i + n) = subst (IsCharBoundary src) run (run_cut is_part_char src i us cut) in
     let more = part_some src i us cut (ncname_parts is).starts (ncname_parts is).no_colon in
     let first : slice_index src (i + 0) ≡ slice_index dst (j + 0) = one_of src dst i j n 0 same (omega arith) in
     let first' : slice_index src i ≡ slice_index dst j = rw (add-zero i, add-zero j) at first in
@@ -174,9 +137,9 @@ behind_colon src k utf8 colon = IsCharBoundary-after_ascii src k utf8 (stands_wi
 
 -- a name ends in the source
 pub name_inside : (src : List ℕ) (i : ℕ) (name : Name) (e : ℕ) → IsUtf8 src → IsCharBoundary src i → IsQName src i name e → e ≤ length src
-name_inside src i name e utf8 cut (unprefixed _ _ part last) = rw (ncname_parts part).longest (run_boundary is_part_char src i utf8 cut).0
-name_inside src i name e utf8 cut (prefixed _ k _ front colon part last) = rw (ncname_parts part).longest (run_boundary is_part_char src (k + 1) utf8 (behind_colon src k utf8 colon)).0
-name_inside src i name e utf8 cut (colon_first _ _ colon part last) = rw (ncname_parts part).longest (run_boundary is_part_char src (i + 1) utf8 (behind_colon src i utf8 colon)).0
+name_inside src i name e utf8 cut (unprefixed _ _ part last) = rw (ncname_parts part).longest (run_cut is_part_char src i utf8 cut).0
+name_inside src i name e utf8 cut (prefixed _ k _ front colon part last) = rw (ncname_parts part).longest (run_cut is_part_char src (k + 1) utf8 (behind_colon src k utf8 colon)).0
+name_inside src i name e utf8 cut (colon_first _ _ colon part last) = rw (ncname_parts part).longest (run_cut is_part_char src (i + 1) utf8 (behind_colon src i utf8 colon)).0
 
 slice_same : (src dst : List ℕ) (i j n a b k e m f : ℕ) → take n (drop i src) ≡ take n (drop j dst) → a + b ≤ n → k ≡ i + a → e ≡ k + b → m ≡ j + a → f ≡ m + b → slice_range dst m f ≡ slice_range src k e
 slice_same src dst i j n a b k e m f same le ka eb ma fb =

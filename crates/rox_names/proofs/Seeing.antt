@@ -1,5 +1,5 @@
 -- A set of expanded names.
-use Rattle.std.proofs.Common.{◌≡◌, ℕ, ◌||◌, ◌&&◌, Bool, true, false, List, [], ◌∷◌, refl, sym, ap, ◌∙◌, Option, Some, None, Bor, bytes_eq}
+use Rattle.std.proofs.Common.{◌≡◌, ℕ, ◌||◌, ◌&&◌, Bool, false, List, [], ◌∷◌, refl, sym, ap, ◌∙◌, Option, Some, None, Bor, bytes_eq}
 use Rattle.std.specs.List.{list_any}
 use Rattle.std.specs.declared.cmp.Ordering.{Ordering}
 use Rattle.std.specs.declared.cmp.Ordering.TheVariants.{Less, Equal, Greater}
@@ -18,22 +18,13 @@ use Rattle.std.proofs.Math.ListN.{drop_of_length-le}
 use Rattle.std.proofs.Math.Seq.{drop-append_seam}
 use Rattle.std.proofs.lemmas.List.{append_assoc, map-append}
 use Rattle.std.proofs.lemmas.List.Folds.{list_any-append}
+use mathlib.Core.Bool.{and_comm, or_comm, or_assoc}
+use Rattle.std.proofs.lemmas.Bool.{or_parts}
 use Rattle.rox_grammar.specs.Written.{NamespaceDecl}
 use Rattle.rox_rows.specs.Rows.{attribute_uri, AttributeRow}
 use Rattle.rox_names.specs.ResolvedNames.{has_expanded}
 use Rattle.rox_rows.specs.declared.row.AttributeNamespace.{AttributeNamespace}
 use Rattle.rox_rows.specs.declared.row.AttributeData.{AttributeData}
-use Rattle.rox_scopes.proofs.Remembering.{or_swap, or_assoc}
-
-or_no : (a b : Bool) → (a || b) ≡ false → b ≡ false
-or_no false b h = h
-or_no true b h = cc h
-
-and_swap : (a b : Bool) → (a && b) ≡ (b && a)
-and_swap true true = refl
-and_swap true false = refl
-and_swap false true = refl
-and_swap false false = refl
 
 -- the order of keys
 abbrev pub key_cmp : Key → Key → Ordering
@@ -49,7 +40,7 @@ key_ties : (k x : Key) → is_key k.0.now (prefix_view k.1) x ≡ is_at (key_cmp
 key_ties k x =
     ap (λ b. b && bytes_eq x.0.now k.0.now) (same_prefix-sym (prefix_view x.1) (prefix_view k.1))
     ∙ ap (λ b. same_prefix (prefix_view k.1) (prefix_view x.1) && b) (same_prefix-sym (Some x.0.now) (Some k.0.now))
-    ∙ and_swap (same_prefix (prefix_view k.1) (prefix_view x.1)) (bytes_eq k.0.now x.0.now) ∙ both_tied _ _ _ _ (texts_ties k.0.now x.0.now) (uri_ties k.1 x.1)
+    ∙ and_comm (same_prefix (prefix_view k.1) (prefix_view x.1)) (bytes_eq k.0.now x.0.now) ∙ both_tied _ _ _ _ (texts_ties k.0.now x.0.now) (uri_ties k.1 x.1)
 
 -- whether a set has a key
 pub has_is : (ks : List Key) (k : Key) → has_key k.0.now (prefix_view k.1) ks ≡ list_any (is_at (key_cmp k)) ks
@@ -59,19 +50,15 @@ has_is (x ∷ xs) k = rw (key_ties k x, has_is xs k) refl
 one_more : {K : Type 0} (cmp : K → K → Ordering) (P : K → Bool) (xs : List K) (x k : K) (o : Ordering) → o ≡ cmp k x → is_eq (cmp k x) ≡ false
     → list_any P (insert_key cmp xs k) ≡ (list_any P xs || P k)
     → list_any P (match_ordering o (k ∷ x ∷ xs) (x ∷ xs) (x ∷ insert_key cmp xs k)) ≡ ((P x || list_any P xs) || P k)
-one_more cmp P xs x k Less is apart more = or_swap (P k) _
+one_more cmp P xs x k Less is apart more = or_comm (P k) _
 one_more cmp P xs x k Equal is apart more = cc (ap is_eq is, apart)
-one_more cmp P xs x k Greater is apart more = ap (λ b. P x || b) more ∙ or_assoc (P x) _ _
-
-no_first : (a b : Bool) → (a || b) ≡ false → a ≡ false
-no_first false b h = refl
-no_first true b h = cc h
+one_more cmp P xs x k Greater is apart more = ap (λ b. P x || b) more ∙ sym (or_assoc (P x) _ _)
 
 -- what some key of a set passes that has one more
 pub any_inserted : {K : Type 0} (cmp : K → K → Ordering) (P : K → Bool) (ks : List K) (k : K) → list_any (is_at (cmp k)) ks ≡ false
     → list_any P (insert_key cmp ks k) ≡ (list_any P ks || P k)
-any_inserted cmp P [] k h = or_swap (P k) false
-any_inserted cmp P (x ∷ xs) k h = one_more cmp P xs x k (cmp k x) refl (no_first _ _ h) (any_inserted cmp P xs k (or_no _ _ h))
+any_inserted cmp P [] k h = or_comm (P k) false
+any_inserted cmp P (x ∷ xs) k h = one_more cmp P xs x k (cmp k x) refl (or_parts _ _ h).0 (any_inserted cmp P xs k (or_parts _ _ h).1)
 
 -- no attribute, no key
 pub sees_none : (namespaces : List NamespaceDecl) (keys : List Key) → keys ≡ [] → HasExpandedNames namespaces keys []
@@ -93,7 +80,7 @@ unfolding HasExpandedNames
 sees_more namespaces keys more done a k h grown uri local = λ l u.
     let test : AttributeData → Bool = λ b. same_prefix (attribute_uri namespaces b.namespace) u && bytes_eq b.local.now l in
     grown l u ∙ ap (λ b. b || is_key l u k) (h l u)
-    ∙ ap (λ b. list_any test done || b) (ap (λ v. same_prefix v u && bytes_eq k.0.now l) uri ∙ ap (λ v. same_prefix (attribute_uri namespaces a.namespace) u && bytes_eq v l) local ∙ sym (or_swap (test a) false ∙ refl))
+    ∙ ap (λ b. list_any test done || b) (ap (λ v. same_prefix v u && bytes_eq k.0.now l) uri ∙ ap (λ v. same_prefix (attribute_uri namespaces a.namespace) u && bytes_eq v l) local ∙ sym (or_comm (test a) false ∙ refl))
     ∙ sym (list_any-append test done (a ∷ []))
 
 -- ---- the rows behind those of other tags

@@ -1,7 +1,7 @@
 -- Which codes of names were seen.
-use Rattle.std.proofs.Common.{◌≡◌, ℕ, ◌+◌, ◌<◌, ◌≤◌, ◌∷◌, ◌++◌, [], List, Bool, true, false, length, length-append, map, set, get_or, drop, bytes_eq, ◌&&◌, ◌*◌, ◌/◌, ◌%◌, ◌^◌, eqb, refl, sym, ap, ◌∙◌, subst, inl, inr, arith}
+use Rattle.std.proofs.Common.{◌≡◌, ℕ, ◌+◌, ◌<◌, ◌≤◌, ◌∷◌, ◌++◌, [], List, Bool, true, false, length, length-append, map, set, get_or, drop, bytes_eq, ◌*◌, ◌/◌, ◌%◌, ◌^◌, eqb, refl, sym, ap, ◌∙◌, subst, inl, inr, arith}
 use Rattle.std.specs.List.{AllByRecursion, list_any}
-use Rattle.std.proofs.lemmas.Bool.{cases_eq}
+use Rattle.std.proofs.lemmas.Bool.{cases_eq, and_right}
 use Rattle.std.specs.Int.{bit_at, w64}
 use Rattle.std.specs.Int.Bits.{bit_and, bit_or}
 use Rattle.std.proofs.lemmas.Nat.Bits.{shr_and_one, bit_at_set_same, bit_at_set_other}
@@ -59,17 +59,13 @@ other_code : (codes : List ℕ) (xs ys : List ℕ) → HasCode codes (name_code 
 other_code codes xs ys has fresh false is = refl
 other_code codes xs ys has fresh true is = absurd (fresh (subst (λ zs. HasCode codes (name_code zs)) ((bytes_eq-Decides xs ys).0 is) has))
 
-neither : (a b : Bool) → b ≡ false → (a && b) ≡ false
-neither true b h = h
-neither false b h = refl
-
 -- so none has it
 pub none_has : (namespaces : List NamespaceDecl) (s : AttributeNamespace) (local : List ℕ) (codes : List ℕ) (done : List StoredAttribute)
     → AllByRecursion (λ a. HasNameOf codes (data_of a)) done → (HasCode codes (name_code local) → ⊥)
     → list_any (λ a. has_expanded namespaces s local (data_of a)) done ≡ false
 none_has namespaces s local codes [] h fresh = refl
 none_has namespaces s local codes (a ∷ rest) h fresh =
-    let other = neither (same_prefix (attribute_uri namespaces (data_of a).namespace) (attribute_uri namespaces s)) _ (other_code codes a.local.now local h.0 fresh _ refl) in
+    let other = and_right (same_prefix (attribute_uri namespaces (data_of a).namespace) (attribute_uri namespaces s)) _ (other_code codes a.local.now local h.0 fresh _ refl) in
     rw other (none_has namespaces s local codes rest h.1 fresh)
 
 -- one more of them is in the table
@@ -153,7 +149,7 @@ pub none_rows : (namespaces : List NamespaceDecl) (s : AttributeNamespace) (loca
     → list_any (λ (r : AttributeRow). has_expanded namespaces s local r.0) rows ≡ false
 none_rows namespaces s local codes [] h fresh = refl
 none_rows namespaces s local codes (a ∷ rest) h fresh =
-    let other = neither (same_prefix (attribute_uri namespaces a.0.namespace) (attribute_uri namespaces s)) _ (other_code codes a.0.local.now local h.0 fresh _ refl) in
+    let other = and_right (same_prefix (attribute_uri namespaces a.0.namespace) (attribute_uri namespaces s)) _ (other_code codes a.0.local.now local h.0 fresh _ refl) in
     rw other (none_rows namespaces s local codes rest h.1 fresh)
 
 -- the same were seen

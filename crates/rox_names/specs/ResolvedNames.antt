@@ -1,5 +1,5 @@
 -- The names of a tag in a scope, one by one.
-use Rattle.std.specs.Prelude.{◌≡◌, ◌≤◌, ◌<◌, ◌+◌, ◌^◌, ◌&&◌, ◌∷◌, ◌++◌, [], ℕ, Bool, true, false, List, Option, Result, Ok, Err, bytes_eq, drop, length, map}
+use Rattle.std.specs.Prelude.{◌≡◌, ◌&&◌, ◌∷◌, ◌++◌, [], ℕ, Bool, true, false, List, Option, Result, Ok, Err, bytes_eq, drop, length, map}
 use Rattle.std.specs.List.{AllByRecursion, list_any}
 use Rattle.rox_grammar.specs.declared.failure.Failure.{Failure}
 use Rattle.rox_grammar.specs.declared.fault.Fault.{Fault}
@@ -18,7 +18,6 @@ use Rattle.rox_names.specs.declared.unresolved_attribute.UnresolvedAttribute.{Un
 use Rattle.rox_names.specs.declared.unresolved_attribute.UsualAttribute.{UsualAttribute}
 use Rattle.rox_rows.specs.declared.storage.StringStorage.TheVariants.{Borrowed}
 use Rattle.rox_rows.specs.UsualPlaces.{usual_places}
-use Rattle.rox_rows.specs.Storage.{storage_bytes}
 use Rattle.rox_rows.specs.declared.row.AttributeNamespace.{AttributeNamespace}
 use Rattle.rox_rows.specs.declared.row.AttributeData.{AttributeData}
 
@@ -64,13 +63,6 @@ Resolves table scope taken old new (Err e) = Fails e (names_tested scope [] (map
 pub record AddsNew (namespaces : List NamespaceDecl) (from : ℕ) (old new : List AttributeRow) (row : AttributeRow) : Type 0 where
   pub rows : new ≡ old ++ row ∷ []
   pub first : list_any (λ r. has_expanded namespaces row.0.namespace row.0.local.now r.0) (drop from old) ≡ false
-
--- An attribute ends at an offset of 32 bits. Its value is after its name, with at least two bytes between them.
-pub record StandsInOrder (one : UnresolvedAttribute) : Type 0 where
-  pub short : one.end < 2 ^ 32
-  pub local : one.start + length one.name.local.now ≤ one.name_end
-  pub value : one.end ≡ one.value_start + length (storage_bytes one.value) + 1
-  pub onward : one.name_end + 2 ≤ one.value_start
 
 -- An attribute is appended with its namespace. The rows of its tag begin at `from`.
 pub record AddsResolved (namespaces : List NamespaceDecl) (few : Option (List ℕ)) (present : PrefixBindings) (from : ℕ) (old new : List AttributeRow) (one : UnresolvedAttribute) : Type 0 where

@@ -11,6 +11,7 @@ use Rattle.rox_grammar.specs.Document.{most_pairs}
 use Rattle.rox_grammar.specs.Counts.{with_new}
 use Rattle.rox_reading.specs.Tags.{uri_tested, declared}
 use Rattle.std.specs.List.{slice_range}
+use Rattle.std.proofs.lemmas.Bool.{or_parts}
 use Rattle.rox_rows.specs.Rows.{namespace_at}
 use Rattle.rox_scopes.specs.NamespaceViews.{namespace_view}
 use Rattle.rox_scopes.specs.Scopes.{entries, prefix_view, pair}
@@ -19,7 +20,7 @@ use Rattle.rox_rows.specs.Storage.{storage_bytes}
 use Rattle.rox_scopes.specs.PrefixSet.{IsPrefixSet}
 use Rattle.rox_reading.proofs.Stretches.{slice-rest}
 use Rattle.rox_rows.proofs.Stable.{all_slice}
-use Rattle.rox_names.proofs.Declaring.{uri_refused, declared_again, declared_many, declares_prefix_xml, declares_other, own_listed, own_declares, none_own, fails_by, many_pairs, kept_after, lists_after, places_after, remembers_after, once_after}
+use Rattle.rox_names.proofs.Declaring.{uri_refused, declared_again, declared_many, declares_prefix_xml, declares_other, own_listed, own_declares, fails_by, many_pairs, kept_after, lists_after, places_after, remembers_after, once_after}
 use Rattle.rox_names.proofs.namespace_decl.declare_namespace.Goals as goal
 
 pub is_own-requires : goal.is_own-requires
@@ -139,7 +140,7 @@ returns c = record {
         let absent : is_declared one.prefix (entries (map namespace_view old) (drop c.args.own listed)) ≡ false =
         ap (λ xs. is_declared one.prefix (entries (map namespace_view old) xs)) (sym own_is)
         ∙ ap (λ ns. is_declared one.prefix (entries ns (slice_range seen c.args.own (length seen)))) (sym (ap (map namespace_view) c.as_slice.ensures.value))
-        ∙ none_own _ _ (sym c.is_own.ensures ∙ c.if-is_own.false) in
+        ∙ (or_parts _ _ (sym c.is_own.ensures ∙ c.if-is_own.false)).0 in
         once_after old c.place.new.self.items.items listed c.push_with_room.new.to.items one c.in_ok-place.place c.args.own c.in_ok-place.ensures.placed.table c.in_ok-push_with_room.ensures.items c.requires.own c.requires.places
         c.in_ok-place.ensures.placed.there.1 absent c.requires.once;
   };
