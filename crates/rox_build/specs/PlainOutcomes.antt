@@ -17,7 +17,6 @@ use Rattle.rox_scan.specs.declared.cursor.Cursor.{Cursor}
 use Rattle.rox_builder.specs.BuilderState.{GoesOn, IsConsistent, IsInState, IsReady, IsReadyTo, KeepsOpen, KeepsState, ScansTo}
 use Rattle.rox_builder.specs.PendingText.{waiting}
 use Rattle.rox_build.specs.PlainSteps.{Reads}
-use Rattle.rox_tags.specs.PlainParts.{EndsFirstPart}
 use Rattle.rox_tags.specs.PlainTag.{EndsNear}
 use Rattle.rox_builder.specs.Readiness.{HasRoom}
 use Rattle.rox_builder.specs.declared.builder.Builder.{Builder}
@@ -60,22 +59,6 @@ pub record MayReadPart (src : List ℕ) (i j : ℕ) (b : Builder) : Type 0 where
   pub here : slice_index src i ≡ 60
   pub start : IsCharBoundary src i
   pub part : Finds src (i + 1) j (run_end is_part_char src (i + 1))
-  pub room : HasRoom src b
-
--- A start tag may be at `i`, the first ASCII bytes of its name end at `j`, and there is room for its row.
-pub record MayReadParts (src : List ℕ) (i j : ℕ) (b : Builder) : Type 0 where
-  pub here : slice_index src i ≡ 60
-  pub start : IsCharBoundary src i
-  pub near : StopsSet is_part_byte src (i + 1) j
-  pub letter : 63 < slice_index src (i + 1)
-  pub room : HasRoom src b
-
--- A start tag may be at `i`, and there is room for its row. The prefix of its name ends at the colon at `j`.
-pub record MayReadPrefixed (src : List ℕ) (i j : ℕ) (b : Builder) : Type 0 where
-  pub here : slice_index src i ≡ 60
-  pub start : IsCharBoundary src i
-  pub first : EndsFirstPart src (i + 1) j 58
-  pub some : i + 1 < j
   pub room : HasRoom src b
 
 -- There is room for `rows` rows, if any are required, and what the builder holds is consistent.

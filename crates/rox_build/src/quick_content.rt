@@ -6,7 +6,7 @@ ghost use Rattle.std.specs.Prelude.{◌≡◌, true};
 ghost use Rattle.rox_reading.specs.Machine as machine;
 ghost use Rattle.rox_reading.specs.Refusals.{lifted};
 ghost use Rattle.rox_builder.specs.Outcomes.{MayStep, ReadsAt};
-ghost use Rattle.rox_build.specs.PlainOutcomes.{MayReadBare, MayReadEnd, MayReadNear, MayReadPart, MayReadParts, MayReadPlain, MayReadPrefixed, MayReadRows, MayReadRun, MayReadRunAt, ReadsIf, ReadsMarkup, ReadsRows, ReadsRun, ReadsRunAt, ReadsStep, StandsApart, any_context};
+ghost use Rattle.rox_build.specs.PlainOutcomes.{MayReadBare, MayReadEnd, MayReadNear, MayReadPart, MayReadPlain, MayReadRows, MayReadRun, MayReadRunAt, ReadsIf, ReadsMarkup, ReadsRows, ReadsRun, ReadsRunAt, ReadsStep, StandsApart, any_context};
 ghost use Rattle.rox_builder.specs.Readiness.{IsApart};
 
 use crate::quick_sections::{NOT_READ, put_delimited};
@@ -18,8 +18,7 @@ use rox_rows::row::NodeKind;
 use rox_scan::character_data::{changed_run_end, line_run_end, text_end};
 use rox_scan::cursor::Cursor;
 use rox_tags::quick_tag::{
-    TagPlace, start_tag_in_scope, start_tag_of_name, start_tag_with_prefix,
-    start_tag_without_prefix,
+    TagPlace, start_tag_in_scope, start_tag_of_name, start_tag_without_prefix,
 };
 use rox_tags::repeated_declaration::start_tag_repeating;
 use rox_values::character_data::changed_data;
@@ -328,64 +327,6 @@ fn element_without_prefix<'input>(
     read.end
 }
 
-/// Like `element_in_scope`, but for a tag whose name has a prefix of ASCII bytes, up to the colon at `colon`.
-#[inline(never)]
-fn element_with_prefix<'input>(
-    text: &'input str,
-    start: usize,
-    builder: &mut Builder<'input>,
-    colon: usize,
-) -> usize
-    requires { MayReadPrefixed text.now start colon builder.old }
-    ensures { ReadsAt machine.tag_step text.entry.now start result builder.old builder.new }
-{
-    if !builder.has_room_to_open() {
-        return NOT_READ;
-    }
-    let depth = builder.opened.len();
-    if depth == 0 {
-        return NOT_READ;
-    }
-    let outer = &builder.opened[depth - 1];
-    let before = builder.tables.attributes.len();
-    let place = TagPlace { start, part: colon };
-    let Some(named) = start_tag_with_prefix(
-        text,
-        place,
-        &mut builder.tables,
-        outer,
-        &mut builder.buffers.seen,
-    ) else {
-        builder.tables.attributes.truncate(before);
-        return NOT_READ;
-    };
-    let row = outer.row;
-    if named.tag.empty {
-        builder.put_leaf(row, start, named.end, NodeKind::Element(named.tag.element));
-        return named.end;
-    }
-    builder.put_open(row, text, start, &named.tag);
-    named.end
-}
-
-/// Like `element_in_scope`, but the first ASCII bytes of the name end at `near`. Most often a colon is there, behind a prefix.
-#[inline(always)]
-fn element_of_parts<'input>(
-    text: &'input str,
-    start: usize,
-    builder: &mut Builder<'input>,
-    near: usize,
-) -> usize
-    requires { MayReadParts text.now start near builder.old }
-    ensures { ReadsAt machine.tag_step text.entry.now start result builder.old builder.new }
-{
-    if text.as_bytes()[near] == b':' {
-        return element_with_prefix(text, start, builder, near);
-    }
-    let name = after_byte(text, start, b'<');
-    element_in_scope(text, start, builder, near_part_end(text, name, near))
-}
-
 /// Reads what `<` starts, if it is plain and finds room. Returns false if nothing was read.
 #[inline(always)]
 #[tactic(auto, unfolding(rox_reading::specs::Machine::step))]
@@ -427,7 +368,7 @@ fn quick_markup<'input>(
     let end = if bytes[near] < b':' {
         element_without_prefix(text, start, builder, near)
     } else {
-        element_of_parts(text, start, builder, near)
+        element_in_scope(text, start, builder, near_part_end(text, name, near))
     };
     if end > MOST_BYTES {
         return false;

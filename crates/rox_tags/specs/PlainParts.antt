@@ -51,11 +51,6 @@ pub record IsLocalPart (src : List ℕ) (i j : ℕ) : Type 0 where
   pub part : Finds src i j (run_end is_part_char src i)
   pub stops : (slice_index src j == 58) ≡ false
 
--- A name starts at `i` and ends at `k`, and its prefix ends at the colon at `j`.
-pub record AreTwoParts (src : List ℕ) (i j k : ℕ) : Type 0 where
-  pub first : EndsFirstPart src i j 58
-  pub local : IsLocalPart src (j + 1) k
-
 -- The name `n`, which has one part, was read from `i` up to `j`.
 pub record IsWholeName (src : List ℕ) (i j : ℕ) (n : NameAt) : Type 0 where
   pub value : qname_at src i ≡ Ok (name_view n.name, n.end)
@@ -127,14 +122,6 @@ pub record MayNamePrefixed (t : ElementTables) (n : ℕ) (name : Name) : Type 0 
   pub few : length t.namespaces.items.items ≤ most_pairs
   pub prefixed : bytes_eq name.prefix [] ≡ false
 
--- The name `name` has a prefix, and may be resolved in the scope of the open element `o`.
-pub record MayNameByPrefix (t : ElementTables) (o : OpenElement) (name : Name) : Type 0 where
-  pub scope : HasScope t o.scope
-  pub few : length t.namespaces.items.items ≤ most_pairs
-  pub parent : IsNamespaceOf t o.scope (open_name o) (numbered_place o.namespace)
-  pub named : MayHavePrefix o name.prefix
-  pub prefixed : bytes_eq name.prefix [] ≡ false
-
 -- The name `name` at `i` may be resolved in the scope of the open element `o`.
 pub record MayNameBelow (t : ElementTables) (o : OpenElement) (name : Name) (i : ℕ) : Type 0 where
   pub scope : HasScope t o.scope
@@ -161,12 +148,6 @@ pub record MayReadNearTag (src : List ℕ) (p : TagPlace) (t : ElementTables) (o
 pub record MayReadPlainTag (src : List ℕ) (p : TagPlace) (t : ElementTables) (o : OpenElement) : Type 0 where
   pub here : MayOpenAt src p.start t o
   pub part : Finds src (p.start + 1) p.part (run_end is_part_char src (p.start + 1))
-
--- A start tag may be at `p`, with a name whose prefix ends at the colon at `p.part`. Its parent is `o`.
-pub record MayReadPrefixedTag (src : List ℕ) (p : TagPlace) (t : ElementTables) (o : OpenElement) : Type 0 where
-  pub here : MayOpenAt src p.start t o
-  pub first : EndsFirstPart src (p.start + 1) p.part 58
-  pub some : p.start + 1 < p.part
 
 -- If an end is returned, `/>` is at `i`.
 pub record EndsEmpty (src : List ℕ) (i : ℕ) (result : Option TagEnd) : Type 0 where

@@ -1,12 +1,11 @@
 //! Names by the quick reader, which reads only valid ones and reports no fault (Namespaces in XML section 4).
 
-ghost use Rattle.std.specs.Prelude.{◌≡◌, ◌<◌, ◌+◌, ◌-◌, ◌==◌, slice_range, ◌||◌, Ok, IfSome, true, false, []};
+ghost use Rattle.std.specs.Prelude.{◌≡◌, ◌<◌, ◌-◌, ◌==◌, ◌||◌, Ok, IfSome, true, false, []};
 ghost use Rattle.std.specs.Str.{IsCharBoundary};
 ghost use Rattle.rox_grammar.specs.Runs.{begins};
 ghost use Rattle.rox_reading.specs.Lexical.{qname_at};
 ghost use Rattle.rox_bytes.specs.ByteSets.{EndsSet, is_part_byte};
-ghost use Rattle.rox_grammar.specs.Failures.{name_view};
-ghost use Rattle.rox_tags.specs.PlainParts.{AreTwoParts, EndsFirstPart, EndsNearPart, EndsPart, IsLocalPart, IsPrefixedName, IsSomePlace, IsWholeName};
+ghost use Rattle.rox_tags.specs.PlainParts.{EndsFirstPart, EndsNearPart, EndsPart, IsLocalPart, IsPrefixedName, IsSomePlace, IsWholeName};
 ghost use Rattle.rox_tags.specs.PlainTag.{EndsNear, IsPlainName};
 
 use crate::quick_value::quote_after_equals;
@@ -74,7 +73,7 @@ fn far_local_end(text: &str, local: usize) -> usize
 
 /// Returns the end of the local part that starts at `local`, or `None` if none does. Most local parts are of ASCII bytes.
 #[inline(always)]
-pub fn local_end(text: &str, local: usize) -> Option<usize>
+fn local_end(text: &str, local: usize) -> Option<usize>
     requires { IsCharBoundary text.now local }
     ensures { IfSome result (λ j. IsLocalPart text.now local j) }
 {
@@ -83,24 +82,6 @@ pub fn local_end(text: &str, local: usize) -> Option<usize>
         return Some(near);
     }
     some_place(far_local_end(text, local))
-}
-
-/// Returns the name from `start` up to `end`, whose prefix ends at the colon at `colon`.
-#[inline(always)]
-#[tactic(auto, unfolding(rox_reading::specs::Lexical::qname_at))]
-pub fn two_parts<'input>(text: &'input str, start: usize, colon: usize, end: usize) -> QName<'input>
-    requires { AreTwoParts text.now start colon end }
-    ensures value { qname_at text.entry.now start ≡ Ok (name_view result, end) }
-    ensures parts { name_view result ≡ record {
-      prefix = slice_range text.entry.now start colon;
-      local = slice_range text.entry.now (colon + 1) end;
-    } }
-{
-    let behind = after_byte(text, colon, b':');
-    QName {
-        prefix: &text[start..colon],
-        local: &text[behind..end],
-    }
 }
 
 /// Returns the name that starts at `start` and whose prefix ends at the colon at `colon`. Returns `None` if no local part

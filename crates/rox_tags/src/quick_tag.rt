@@ -6,14 +6,14 @@ ghost use Rattle.rox_grammar.specs.Chars.{is_space};
 ghost use Rattle.rox_grammar.specs.Runs.{run_end, begins};
 ghost use Rattle.rox_grammar.specs.Failures.{name_view};
 ghost use Rattle.rox_bytes.specs.ScanResults.{Finds};
-ghost use Rattle.rox_tags.specs.PlainParts.{EndsEmpty, EndsTag, FindsElementNamespace, IsNextItem, MayNameBelow, MayNameByPrefix, MayNameIn, MayNamePrefixed, MayReadBareTag, MayReadNearTag, MayReadPlainTag, MayReadPrefixedTag};
+ghost use Rattle.rox_tags.specs.PlainParts.{EndsEmpty, EndsTag, FindsElementNamespace, IsNextItem, MayNameBelow, MayNameIn, MayNamePrefixed, MayReadBareTag, MayReadNearTag, MayReadPlainTag};
 ghost use Rattle.rox_tags.specs.PlainTag.{IsBareTag, IsBeforeLast, ReadsTag};
 ghost use Rattle.rox_tags.specs.TagAttributes.{EndsAttributes, MayReadAttributes, ReadsAttributes};
 
 use crate::near_prefix::find_in_slot;
 use crate::own_declaration::{TagScope, declares_at, put_declaration};
 use crate::quick_attribute::{MOST_ATTRIBUTES, byte_count, put_attribute};
-use crate::quick_name::{ascii_name, local_end, name_of_part, two_parts};
+use crate::quick_name::{ascii_name, name_of_part};
 use crate::tag::element_of;
 use rox_bytes::runs::{after_byte, begins, is_at};
 use rox_grammar::name::QName;
@@ -247,25 +247,6 @@ fn prefixed_namespace(
     Some(namespace_number(Some(place)))
 }
 
-/// Like `prefixed_namespace`, but for a tag below `parent`. Most names have the prefix of the parent's, and so its namespace.
-#[inline(always)]
-fn namespace_of_prefix(
-    elements: &ElementTables<'_>,
-    name: QName<'_>,
-    parent: &OpenElement<'_>,
-    near: &mut usize,
-) -> Option<u16>
-    requires { MayNameByPrefix elements.now parent.now (name_view name) }
-    ensures { FindsElementNamespace elements.entry.now parent.entry.now.scope
-        (name_view name.entry) result }
-{
-    let above = parent.namespace;
-    if above != 0 && has_prefix(parent, name.prefix) {
-        return Some(above);
-    }
-    prefixed_namespace(elements, name, parent.scope, near)
-}
-
 /// Like `namespace_in_scope`, but in the scope of the parent. Most names have no prefix, like the parent's, or its prefix. Their
 /// namespace is that of the parent.
 #[inline(always)]
@@ -280,13 +261,17 @@ fn tag_namespace(
     ensures { FindsElementNamespace elements.entry.now parent.entry.now.scope
         (name_view name.entry) result }
 {
+    let above = parent.namespace;
     if name.prefix.is_empty() {
         if !parent.prefixed {
-            return Some(parent.namespace);
+            return Some(above);
         }
         return namespace_in_scope(elements, name, at, parent.scope);
     }
-    namespace_of_prefix(elements, name, parent, near)
+    if above != 0 && has_prefix(parent, name.prefix) {
+        return Some(above);
+    }
+    prefixed_namespace(elements, name, parent.scope, near)
 }
 
 /// The offset at which a start tag starts, and that at which the first part of its name ends.
@@ -332,47 +317,6 @@ pub fn start_tag_in_scope<'input>(
         empty: end.empty,
     };
     Some(PlainTag { tag, end: end.at })
-}
-
-/// Like `start_tag_in_scope`, but for a tag whose name has a prefix, up to the colon at `place.part`.
-#[inline(always)]
-pub fn start_tag_with_prefix<'input>(
-    text: &'input str,
-    place: TagPlace,
-    elements: &mut ElementTables<'input>,
-    parent: &OpenElement<'input>,
-    seen: &mut SeenNames,
-) -> Option<PlainTag<'input>>
-    requires { MayReadPrefixedTag text.now place elements.old parent.now }
-    ensures { ReadsTag elements.old elements.new parent.entry.now text.entry.now place.start
-        result }
-{
-    let small = byte_count(text);
-    let begin = after_byte(text, place.start, b'<');
-    let local_at = after_byte(text, place.part, b':');
-    let stop = local_end(text, local_at)?;
-    let read = two_parts(text, begin, place.part, stop);
-    if same_text(read.prefix, "xmlns") {
-        return None;
-    }
-    let namespace = namespace_of_prefix(elements, read, parent, &mut seen.near)?;
-    let held = elements.attributes.len();
-    let scope = TagScope {
-        scope: parent.scope,
-        declares: false,
-    };
-    let close = tag_attributes_if_any(text, stop, elements, scope, seen)?;
-    // To slice the name again takes fewer instructions than to keep its parts meanwhile.
-    let name = two_parts(text, begin, place.part, stop);
-    let element = element_of(elements, name.local, held, parent.scope, namespace);
-    let tag = StartTag {
-        name,
-        name_start: begin,
-        name_end: stop,
-        element,
-        empty: close.empty,
-    };
-    Some(PlainTag { tag, end: close.at })
 }
 
 /// Like `start_tag_in_scope`, but neither the name of the tag nor that of `above` has a prefix. The tag's name is of ASCII bytes.
