@@ -16,7 +16,7 @@ use Rattle.rox_reading.specs.Lexical.{has_mark, chars_up_to, text_to, string_at}
 use Rattle.rox_reading.specs.Markup.{raw_value_at, comment_at}
 use Rattle.rox_reading.specs.Values.{is_special}
 use Rattle.rox_bytes.specs.ByteSets.{is_char_byte, AllPass, EndsEased, is_value_byte, is_wide_value_byte, is_quoted_byte, is_text_byte, is_comment_byte, is_ascii_comment_byte}
-use Rattle.rox_scan.specs.Lookahead.{IsLookahead, ends_value, ends_run, changes_run, is_changed_text_byte, is_changed_value_byte, ends_comment, changes_comment}
+use Rattle.rox_scan.specs.Lookahead.{IsLookahead, ends_value, ends_run, changes_run, is_changed_text_byte, is_changed_value_byte, ends_comment, none_changes}
 use Rattle.rox_bytes.proofs.NearLemmas.{near_chars, near_found, none_among, value_is_plain, value_cut, value_widens, wide_value_is_plain, wide_value_cut, quoted_is_plain, quoted_cut, text_is_plain, text_cut, comment_is_plain, comment_cut, ascii_comment_widens, ascii_comment_cut}
 use Rattle.rox_bytes.proofs.EasedLemmas.{eased_byte, eased_chars}
 use Rattle.rox_bytes.proofs.MarkLemmas.{before_mark_is, not_from_first, fails, stands_split, stands_from_split}
@@ -152,15 +152,15 @@ quoted_near src i e utf8 start le within all stops =
     near_looked is_quoted_byte is_special (ends_value 34 src) src i e utf8 start le (quoted_cut src e within stops) all quoted_is_plain quoted_same (λ k h. quoted_open _ h)
 
 -- the same where something changes the value already
-changed_value_is_plain : (b : ℕ) → is_changed_value_byte b ≡ true → is_char_byte b ≡ true
+pub changed_value_is_plain : (b : ℕ) → is_changed_value_byte b ≡ true → is_char_byte b ≡ true
 unfolding is_changed_value_byte is_wide_value_byte is_value_byte
 changed_value_is_plain b h = grind (arith, nat_tests)
 
-changed_value_open : (quote b : ℕ) → (quote == 39 || quote == 34) ≡ true → is_changed_value_byte b ≡ true → (b == quote || b == 60) ≡ false
+pub changed_value_open : (quote b : ℕ) → (quote == 39 || quote == 34) ≡ true → is_changed_value_byte b ≡ true → (b == quote || b == 60) ≡ false
 unfolding is_changed_value_byte is_wide_value_byte is_value_byte
 changed_value_open quote b q h = grind (arith, nat_tests)
 
-changed_value_leads : (b : ℕ) → is_changed_value_byte b ≡ false → 128 ≤ b → 192 ≤ b
+pub changed_value_leads : (b : ℕ) → is_changed_value_byte b ≡ false → 128 ≤ b → 192 ≤ b
 unfolding is_changed_value_byte is_wide_value_byte is_value_byte
 changed_value_leads b h wide = grind (arith, nat_tests)
 
@@ -351,33 +351,33 @@ unfolding is_comment_byte
 comment_no_dash b h is = grind (arith, nat_tests)
 
 pub comment_near : (src : List ℕ) (i e : ℕ) → IsUtf8 src → IsCharBoundary src i → i ≤ e → e ≤ length src → AllPass is_comment_byte src i e → (e < length src → is_comment_byte (get_or src e 0) ≡ false)
-    → IsLookahead (ends_comment src) changes_comment src i e true
+    → IsLookahead (ends_comment src) none_changes src i e true
 comment_near src i e utf8 start le within all stops =
-    near_looked is_comment_byte changes_comment (ends_comment src) src i e utf8 start le (comment_cut src e within stops) all comment_is_plain (λ b h. refl) (λ k h. apart_from double_dash src k (omega arith) (comment_no_dash _ h))
+    near_looked is_comment_byte none_changes (ends_comment src) src i e utf8 start le (comment_cut src e within stops) all comment_is_plain (λ b h. refl) (λ k h. apart_from double_dash src k (omega arith) (comment_no_dash _ h))
 
 -- the same of ASCII bytes
 pub ascii_comment_near : (src : List ℕ) (i e : ℕ) → IsUtf8 src → IsCharBoundary src i → i ≤ e → e ≤ length src → AllPass is_ascii_comment_byte src i e
-    → IsLookahead (ends_comment src) changes_comment src i e true
+    → IsLookahead (ends_comment src) none_changes src i e true
 ascii_comment_near src i e utf8 start le within all =
-    near_looked is_ascii_comment_byte changes_comment (ends_comment src) src i e utf8 start le (ascii_comment_cut src i e utf8 start le within all) all (λ b h. comment_is_plain b (ascii_comment_widens b h)) (λ b h. refl)
+    near_looked is_ascii_comment_byte none_changes (ends_comment src) src i e utf8 start le (ascii_comment_cut src i e utf8 start le within all) all (λ b h. comment_is_plain b (ascii_comment_widens b h)) (λ b h. refl)
     (λ k h. apart_from double_dash src k (omega arith) (comment_no_dash _ (ascii_comment_widens _ h)))
 
-pub comment_on : (src : List ℕ) (i j n e : ℕ) → IsUtf8 src → IsCharBoundary src i → IsLookahead (ends_comment src) changes_comment src i j true
+pub comment_on : (src : List ℕ) (i j n e : ℕ) → IsUtf8 src → IsCharBoundary src i → IsLookahead (ends_comment src) none_changes src i j true
     → j < n → IsCharBoundary src n → AreChars src j n → ((k : ℕ) → j < k → k < n → 128 ≤ get_or src k 0) → ends_comment src j ≡ false
     → n ≤ e → e ≤ length src → AllPass is_comment_byte src n e → (e < length src → is_comment_byte (get_or src e 0) ≡ false)
-    → IsLookahead (ends_comment src) changes_comment src i e true
+    → IsLookahead (ends_comment src) none_changes src i e true
 comment_on src i j n e utf8 start f some cut chars wide here le within all stops =
     let ends = ends_comment src in
-    let one = char_looked changes_comment ends src j n some cut chars wide (λ b h. refl) (λ k h. apart_from double_dash src k (omega arith) (λ is. absurd (omega arith))) here in
-    let two = looked_on changes_comment ends src i j n true true utf8 start f one in
-    looked_on changes_comment ends src i n e true true utf8 start two (comment_near src n e utf8 cut le within all stops)
+    let one = char_looked none_changes ends src j n some cut chars wide (λ b h. refl) (λ k h. apart_from double_dash src k (omega arith) (λ is. absurd (omega arith))) here in
+    let two = looked_on none_changes ends src i j n true true utf8 start f one in
+    looked_on none_changes ends src i n e true true utf8 start two (comment_near src n e utf8 cut le within all stops)
 
 -- two dashes begin where `-->` does
 front_dashes : (src : List ℕ) (k : ℕ) → stands (word_text word.CommentEnd) src k ≡ true → stands double_dash src k ≡ true
 front_dashes src k h = stands_from_split double_dash src _ k (stands_split (word_text word.CommentEnd) src k h)
 
 -- the first `-->`
-first_mark : (src : List ℕ) (s e : ℕ) → IsLookahead (ends_comment src) changes_comment src s e true → stands (word_text word.CommentEnd) src e ≡ true → mark_from (word_text word.CommentEnd) src s ≡ e
+first_mark : (src : List ℕ) (s e : ℕ) → IsLookahead (ends_comment src) none_changes src s e true → stands (word_text word.CommentEnd) src e ≡ true → mark_from (word_text word.CommentEnd) src s ≡ e
 unfolding mark_from stands
 first_mark src s e f here =
     let at : s + (e - s) ≡ e = omega (arith, f.onward) in
@@ -401,7 +401,7 @@ two_dashes src k e next first closes =
     stands_from_split double_dash src (45 ∷ 62 ∷ drop 3 (drop (k + 1) src)) k (drop_more src k 0 within ∙ ap (λ (b : ℕ). b ∷ drop (k + 1) src) first ∙ ap (λ (l : List ℕ). 45 ∷ l) rest)
 
 -- no dash is the last of a text that two dashes stand behind, none of which begin in it
-no_last : (src : List ℕ) (i e : ℕ) → IsLookahead (ends_comment src) changes_comment src i e true → stands (word_text word.CommentEnd) src e ≡ true → (get_or (slice_range src i e) (length (slice_range src i e) - 1) 0 == 45) ≡ false
+no_last : (src : List ℕ) (i e : ℕ) → IsLookahead (ends_comment src) none_changes src i e true → stands (word_text word.CommentEnd) src e ≡ true → (get_or (slice_range src i e) (length (slice_range src i e) - 1) 0 == 45) ≡ false
 no_last src i e f closes =
     let text = slice_range src i e in
     let long = range_length src i e f.onward f.cut.0 in
@@ -411,7 +411,7 @@ no_last src i e f closes =
     ]
 
 -- what a comment is read as whose end stands behind it
-pub looked_comment : (src : List ℕ) (i s e : ℕ) → s ≡ i + 4 → IsLookahead (ends_comment src) changes_comment src s e true → stands (word_text word.CommentEnd) src e ≡ true → comment_at src i ≡ Ok (slice_range src s e, e + 3)
+pub looked_comment : (src : List ℕ) (i s e : ℕ) → s ≡ i + 4 → IsLookahead (ends_comment src) none_changes src s e true → stands (word_text word.CommentEnd) src e ≡ true → comment_at src i ≡ Ok (slice_range src s e, e + 3)
 unfolding comment_at text_to chars_up_to string_at
 looked_comment src i s e start f here =
     let end = first_mark src s e f here in

@@ -80,13 +80,13 @@ pub record SeesRun (src : List ℕ) (i j : ℕ) : Type 0 where
 abbrev pub ends_comment : List ℕ → ℕ → Bool
 ends_comment src k = stands double_dash src k
 
--- Whether the byte changes a comment, which none does.
-abbrev pub changes_comment : ℕ → Bool
-changes_comment b = false
+-- No byte counts as a change.
+abbrev pub none_changes : ℕ → Bool
+none_changes b = false
 
 -- The text of a comment is valid from `i` up to `j`, where its `-->` is.
 pub record EndsComment (src : List ℕ) (i j : ℕ) : Type 0 where
-  pub looked : IsLookahead (ends_comment src) changes_comment src i j true
+  pub looked : IsLookahead (ends_comment src) none_changes src i j true
   pub here : stands (word_text word.CommentEnd) src j ≡ true
 
 -- The bytes from `i` up to `j` are a CR, a LF, and bytes other than `&` and CR.

@@ -141,7 +141,7 @@ impl ByteSet for RunByte {
 }
 
 /// The bytes of `WideValueByte`, and those that change a value: `&` and white space other than spaces.
-struct ChangedValueByte;
+pub struct ChangedValueByte;
 
 // The controls of the set, and the bytes above them that are not in it except 239, each at its low half.
 const CHANGED_VALUE_EXCEPTIONS: [u8; 16] = [
@@ -204,7 +204,7 @@ pub fn scan_value(from: Cursor<'_>, quote: Quote) -> Lookahead
 
 /// Returns how far the text of a comment from the cursor on is valid, up to two dashes or the end.
 pub fn comment_end(from: Cursor<'_>) -> usize
-    ensures { LooksAhead (longer.ends_comment from.entry.text.now) longer.changes_comment
+    ensures { LooksAhead (longer.ends_comment from.entry.text.now) longer.none_changes
         from.entry.text.now from.entry.pos result true }
 {
     let text = from.text;
@@ -241,7 +241,7 @@ fn far_comment_end(text: &str, at: usize) -> usize
 /// Returns the end of the ASCII bytes of a comment from the cursor on that need no other test.
 #[inline(always)]
 fn ascii_comment_end(from: Cursor<'_>) -> usize
-    ensures { IsLookahead (longer.ends_comment from.entry.text.now) longer.changes_comment
+    ensures { IsLookahead (longer.ends_comment from.entry.text.now) longer.none_changes
         from.entry.text.now from.entry.pos result true }
 {
     skip_set::<AsciiCommentByte>(from.text, from.pos)

@@ -11,27 +11,14 @@ use Rattle.rox_grammar.specs.Content.{is_verbatim_value}
 use Rattle.rox_grammar.specs.Entities.{Entity}
 use Rattle.rox_grammar.specs.Constructs.{AreChars}
 use Rattle.rox_bytes.specs.ByteSets.{AllPass, EndsSet, is_char_byte, is_stretch_byte, is_value_byte, is_wide_value_byte}
-use Rattle.rox_scan.specs.Lookahead.{IsLookahead, ends_value}
-use Rattle.rox_scan.proofs.LongerLemmas.{near_looked, char_looked, looked_on, wide_open}
+use Rattle.rox_scan.specs.Lookahead.{IsLookahead, ends_value, is_changed_value_byte, none_changes}
+use Rattle.rox_scan.proofs.LongerLemmas.{near_looked, char_looked, looked_on, wide_open, changed_value_is_plain, changed_value_open, changed_value_leads}
 use Rattle.rox_bytes.proofs.NearLemmas.{value_is_plain, value_cut, value_apart, none_among, stretch_plain}
 use Rattle.rox_tags.specs.PlainTag.{EndsVerbatim}
-use Rattle.rox_tags.specs.SpacedBytes.{is_spaced_byte, none_changes}
-
-spaced_is_plain : (b : ℕ) → is_spaced_byte b ≡ true → is_char_byte b ≡ true
-unfolding is_spaced_byte is_wide_value_byte is_value_byte
-spaced_is_plain b h = grind (arith, nat_tests)
-
-spaced_open : (quote b : ℕ) → (quote == 39 || quote == 34) ≡ true → is_spaced_byte b ≡ true → (b == quote || b == 60) ≡ false
-unfolding is_spaced_byte is_wide_value_byte is_value_byte
-spaced_open quote b q h = grind (arith, nat_tests)
-
-spaced_leads : (b : ℕ) → is_spaced_byte b ≡ false → 128 ≤ b → 192 ≤ b
-unfolding is_spaced_byte is_wide_value_byte is_value_byte
-spaced_leads b h wide = grind (arith, nat_tests)
 
 -- where the bytes end a character begins
-spaced_cut : (src : List ℕ) (e : ℕ) → e ≤ length src → (e < length src → is_spaced_byte (get_or src e 0) ≡ false) → IsCharBoundary src e
-spaced_cut src e within stops = (within, λ more wide. spaced_leads _ (stops more) wide)
+spaced_cut : (src : List ℕ) (e : ℕ) → e ≤ length src → (e < length src → is_changed_value_byte (get_or src e 0) ≡ false) → IsCharBoundary src e
+spaced_cut src e within stops = (within, λ more wide. changed_value_leads _ (stops more) wide)
 
 -- a special byte among them changes them
 changed_among : (src : List ℕ) (i k e : ℕ) → i ≤ k → k < e → e ≤ length src → is_special (get_or src k 0) ≡ true → list_any is_special (slice_range src i e) ≡ true
@@ -42,15 +29,15 @@ changed_among src i k e le more within here =
     list_any_at is_special (slice_range src i e) (k - i) 0 (omega (arith, long)) (ap is_special read ∙ here)
 
 -- bytes of the set from i on
-pub spaced_near : (src : List ℕ) (quote i e : ℕ) → IsUtf8 src → (quote == 39 || quote == 34) ≡ true → IsCharBoundary src i → i ≤ e → e ≤ length src → AllPass is_spaced_byte src i e
-    → (e < length src → is_spaced_byte (get_or src e 0) ≡ false) → IsLookahead (ends_value quote src) none_changes src i e true
+pub spaced_near : (src : List ℕ) (quote i e : ℕ) → IsUtf8 src → (quote == 39 || quote == 34) ≡ true → IsCharBoundary src i → i ≤ e → e ≤ length src → AllPass is_changed_value_byte src i e
+    → (e < length src → is_changed_value_byte (get_or src e 0) ≡ false) → IsLookahead (ends_value quote src) none_changes src i e true
 spaced_near src quote i e utf8 q start le within all stops =
-    near_looked is_spaced_byte none_changes (ends_value quote src) src i e utf8 start le (spaced_cut src e within stops) all spaced_is_plain (λ b h. refl) (λ n h. spaced_open quote _ q h)
+    near_looked is_changed_value_byte none_changes (ends_value quote src) src i e utf8 start le (spaced_cut src e within stops) all changed_value_is_plain (λ b h. refl) (λ n h. changed_value_open quote _ q h)
 
 -- and a character behind them, and the bytes behind that
 pub spaced_on : (src : List ℕ) (quote i j n e : ℕ) → IsUtf8 src → (quote == 39 || quote == 34) ≡ true → IsCharBoundary src i → IsLookahead (ends_value quote src) none_changes src i j true
     → j < n → IsCharBoundary src n → AreChars src j n → ((k : ℕ) → j < k → k < n → 128 ≤ get_or src k 0) → ends_value quote src j ≡ false
-    → n ≤ e → e ≤ length src → AllPass is_spaced_byte src n e → (e < length src → is_spaced_byte (get_or src e 0) ≡ false) → IsLookahead (ends_value quote src) none_changes src i e true
+    → n ≤ e → e ≤ length src → AllPass is_changed_value_byte src n e → (e < length src → is_changed_value_byte (get_or src e 0) ≡ false) → IsLookahead (ends_value quote src) none_changes src i e true
 spaced_on src quote i j n e utf8 q start f some cut chars wide here le within all stops =
     let ends = ends_value quote src in
     let one = char_looked none_changes ends src j n some cut chars wide (λ b h. refl) (λ k h. wide_open quote _ q h) here in

@@ -1,7 +1,6 @@
 -- The bytes of a value that has a reference, or white space other than spaces.
 use Rattle.std.specs.Prelude.{◌≡◌, ◌==◌, ◌≤◌, ◌<◌, ℕ, Bool, List, Option, Ok, IfSome, true, false, ◌||◌, slice_index, slice_range}
 use Rattle.std.specs.Str.{IsCharBoundary}
-use Rattle.rox_bytes.specs.ByteSets.{is_wide_value_byte}
 use Rattle.rox_grammar.specs.Entities.{Entity}
 use Rattle.rox_reading.specs.Markup.{raw_value_at}
 use Rattle.rox_reading.specs.Values.{ValueInclusion, is_special, value_at}
@@ -11,14 +10,6 @@ use Rattle.rox_values.specs.PlainBits.{HasChange}
 use Rattle.rox_tags.specs.PlainTag.{EndsVerbatim}
 use Rattle.rox_tags.specs.declared.any_value.AnyValue.{AnyValue}
 use Rattle.rox_tags.specs.declared.any_value.ValueEnds.{ValueEnds}
-
--- The byte `b` needs no replacement, or changes a value.
-unfoldable pub is_spaced_byte : ℕ → Bool
-is_spaced_byte b = is_wide_value_byte b || is_special b
-
--- No byte counts as a change.
-abbrev pub none_changes : ℕ → Bool
-none_changes b = false
 
 -- The value at `i`, after the quote `q`, ends at `e.end`. It needs a replacement if its first change, at `e.first`, is before that.
 pub record FindsEnds (src : List ℕ) (i q : ℕ) (result : Option ValueEnds) : Type 0 where

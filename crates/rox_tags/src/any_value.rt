@@ -7,44 +7,17 @@ ghost use Rattle.std.specs.String.{string_bytes};
 ghost use Rattle.rox_bytes.specs.ByteSets.{EndsSet, is_stretch_byte};
 ghost use Rattle.rox_rows.specs.Storage.{IsOwnText};
 ghost use Rattle.rox_scan.specs.Lookahead as longer;
-ghost use Rattle.rox_scan.specs.Lookahead.{IsLookahead};
-ghost use Rattle.rox_tags.specs.SpacedBytes.{FindsEnds, IsAnyValue, is_spaced_byte, none_changes};
+ghost use Rattle.rox_scan.specs.Lookahead.{IsLookahead, none_changes};
+ghost use Rattle.rox_tags.specs.SpacedBytes.{FindsEnds, IsAnyValue};
 ghost use Rattle.rox_tags.specs.PlainTag.{BeginsValue};
 
-use rox_bytes::byte_set::{ByteSet, ValueByte, WideValueByte, skip_set};
-use rox_bytes::nibbles::by_low;
+use rox_bytes::byte_set::{ValueByte, skip_set};
 use rox_bytes::runs::is_at;
 use rox_rows::recent_texts::{Recent, owned_value};
 use rox_rows::storage::StringStorage;
-use rox_scan::lookahead::{StretchByte, after_char, changes, is_special};
+use rox_scan::lookahead::{ChangedValueByte, StretchByte, after_char, changes};
 use rox_values::plain_bits::changed_value;
 use std::alloc::Global;
-use std::simd::prelude::*;
-
-/// The bytes of a value that need no replacement, white space, and `&`.
-struct SpacedByte;
-
-// The controls of the set, and the bytes above them that are not in it except 239, each at its low half.
-const SPACED_EXCEPTIONS: [u8; 16] = [
-    1, 0, b'"', 0, 0, 0, 0, b'\'', 0, b'\t', b'\n', 0, b'<', b'\r', 0, 0,
-];
-
-impl ByteSet for SpacedByte {
-    ghost test = { is_spaced_byte };
-
-    #[inline(always)]
-    #[tactic(auto, unfolding(crate::specs::SpacedBytes::is_spaced_byte))]
-    fn has(byte: u8) -> bool {
-        WideValueByte::has(byte) | is_special(byte)
-    }
-
-    #[inline(always)]
-    fn others(block: u8x16) -> u64 {
-        let exceptions = by_low(SPACED_EXCEPTIONS, block).simd_eq(block);
-        let controls = block.simd_lt(u8x16::splat(32)) ^ exceptions;
-        (controls | block.simd_eq(u8x16::splat(239))).to_bitmask()
-    }
-}
 
 /// Returns the end of the Chars from `start` on that are neither `quote` nor `<`.
 #[inline(always)]
@@ -54,7 +27,7 @@ fn changed_end(text: &str, start: usize, quote: u8) -> usize
         result true }
 {
     let bytes = text.as_bytes();
-    let mut end = skip_set::<SpacedByte>(text, start);
+    let mut end = skip_set::<ChangedValueByte>(text, start);
     while end < bytes.len() {
         let here = bytes[end];
         if here == quote || here == b'<' {
@@ -64,7 +37,7 @@ fn changed_end(text: &str, start: usize, quote: u8) -> usize
         if next == end {
             break;
         }
-        end = skip_set::<SpacedByte>(text, next);
+        end = skip_set::<ChangedValueByte>(text, next);
     }
     end
 }

@@ -1,6 +1,5 @@
 use Rattle.std.proofs.Common.{◌-◌, length, true}
-use Rattle.rox_scan.specs.Lookahead.{IsLookahead, ends_value}
-use Rattle.rox_tags.specs.SpacedBytes.{none_changes}
+use Rattle.rox_scan.specs.Lookahead.{IsLookahead, ends_value, none_changes}
 use Rattle.rox_tags.proofs.any_value.changed_end.Given as goal
 
 abbrev pub invariant-loop-end : goal.invariant-loop-end
