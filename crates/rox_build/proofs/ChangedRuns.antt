@@ -1,5 +1,5 @@
 -- A run that is read by its items alone.
-use Rattle.std.proofs.Common.{◌≡◌, ◌<◌, ◌≤◌, ◌-◌, suc, ℕ, true, false, List, [], ◌∷◌, Ok, length, refl, sym, ap, ◌∙◌, arith, subst}
+use Rattle.std.proofs.Common.{◌≡◌, ◌<◌, ◌≤◌, ◌-◌, suc, ℕ, true, false, List, [], ◌∷◌, Ok, length, refl, sym, arith, subst}
 use Rattle.rox_grammar.specs.Written.{Text}
 use Rattle.rox_reading.specs.State.{State}
 use Rattle.rox_reading.specs.Refusals.{lifted}

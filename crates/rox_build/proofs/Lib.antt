@@ -14,5 +14,6 @@ pub mod RootTags
 pub mod RootElements
 pub mod SameBytes
 pub mod Closing
+pub mod PlainElements
 pub mod Rooted
 pub mod Documents

@@ -5,9 +5,9 @@ use Rattle.rox_scan.specs.declared.cursor.Cursor.{Cursor}
 use Rattle.rox_reading.specs.Refusals.{Refusal}
 use Rattle.rox_reading.specs.State.{State}
 use Rattle.rox_scopes.specs.declared.tables.ElementTables.{ElementTables}
-use Rattle.rox_builder.specs.BuilderState.{IsConsistent, IsReadyTo, KeepsState}
+use Rattle.rox_builder.specs.BuilderState.{HoldsState, IsConsistent, IsReadyTo, KeepsState}
 use Rattle.rox_builder.specs.Outcomes.{ReadsAt}
-use Rattle.rox_builder.proofs.Stepping.{state_kept}
+use Rattle.rox_builder.proofs.Stepping.{same_shows, state_kept}
 use Rattle.rox_build.specs.PlainOutcomes.{ReadsRunAt, ReadsStep}
 use Rattle.rox_builder.specs.declared.builder.Builder.{Builder}
 
@@ -19,6 +19,16 @@ steps_not such c b u kept fine = record {
   value = λ yes. absurd (cc yes);
   other = λ _. (refl, kept);
   goes = record { source = refl; fine = fine };
+}
+
+-- what equal rows hold
+pub kept_rests : (limit end : ℕ) (s : State) (b u : Builder) → KeepsState b u → u.tables ≡ b.tables → HoldsState limit end s b → HoldsState limit end s u
+kept_rests limit end s b u k tables h = record {
+  limit_is = k.limit ∙ h.limit_is;
+  shows = same_shows end s.stack s.done b u h.shows k.nodes tables k.opened k.pending k.joined;
+  namespaces = rw tables h.namespaces;
+  attributes = rw tables h.attributes;
+  openings_left_is = k.openings_left ∙ h.openings_left_is;
 }
 
 pub fine_same : (b u : Builder) → IsConsistent b.tables b.opened.items → u.tables ≡ b.tables → u.opened ≡ b.opened → IsConsistent u.tables u.opened.items
@@ -38,6 +48,16 @@ runs_not such src i j b u not_read kept tables opened = record {
   opened = opened;
   rows = λ less. absurd (omega (arith, less, not_read));
   behind = λ less. absurd (omega (arith, less, not_read));
+}
+
+pub reads_not : (read : machine.Context → List ℕ → State → Result State Refusal) (src : List ℕ) (i j : ℕ) (b u : Builder) → 2 ^ 32 ≤ j → KeepsState b u → IsConsistent u.tables u.opened.items → ReadsAt read src i j b u
+reads_not read src i j b u not_read kept fine = record {
+  value = λ less. absurd (omega (arith, less, not_read));
+  other = λ _. kept;
+  cut = λ less. absurd (omega (arith, less, not_read));
+  ready = λ less. absurd (omega (arith, less, not_read));
+  moves = λ less. absurd (omega (arith, less, not_read));
+  fine = fine;
 }
 
 keeps_on : (a b c : Builder) → KeepsState a b → KeepsState b c → KeepsState a c

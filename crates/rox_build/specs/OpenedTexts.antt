@@ -27,11 +27,11 @@ pub record GivesPiece (context : Context) (start stop : ℕ) (old new : Cursor) 
       → GivesDataPart limit end result new after (next_part (context_of limit es context) old.text.now start stop s)
   pub goes : OnOk result (GoesOn old new after)
 
--- A replacement text that is character data joined the waiting text, or the builder is unchanged.
+-- A replacement text that is character data joined the text that may continue, or the builder holds equal rows.
 pub record JoinsWhole (context : Context) (text : Cursor) (old new : Builder) (result : Result Bool AllocError) : Type 0 where
   pub value : IfOk result (λ yes. yes ≡ true → (limit end after : ℕ) (es : List Entity) (s : State) → HoldsState limit end s old
       → ParsesToHeld limit end (Ok tt) new (machine.opener limit es context.depth_left context.main (replacement_view text) after s))
-  pub other : IfOk result (λ yes. yes ≡ false → new ≡ old)
+  pub other : IfOk result (λ yes. yes ≡ false → (limit end : ℕ) (s : State) → HoldsState limit end s old → HoldsState limit end s new)
   pub tables : new.tables ≡ old.tables
   pub opened : new.opened ≡ old.opened
 

@@ -26,6 +26,7 @@ use rox_values::character_data::data_part;
 use rox_values::context::Context;
 use rox_values::line_ends::line_feeds;
 use rox_values::parse_error::ParseError;
+use rox_values::text_value::TextValue;
 use std::alloc::{AllocError, Global};
 
 /// Reads the pieces of character data, up to the next `<` or the end.
@@ -44,7 +45,8 @@ fn character_data_pieces<'input>(
     let start = cursor.pos;
     let raw = raw_character_data(cursor)?;
     if raw.is_verbatim {
-        return parsed(builder.slice_piece(start, cursor.pos, raw.text));
+        let piece = TextValue::Plain(raw.text);
+        return parsed(builder.piece(alloc, start, cursor.pos, piece));
     }
     let stop = cursor.pos;
     cursor.pos = start;
@@ -139,7 +141,7 @@ fn other_part_piece<'input>(
     if builder.buffers.scratch.is_empty() {
         return Ok(next);
     }
-    builder.scratch_piece(alloc, start, stop)?;
+    builder.piece(alloc, start, stop, TextValue::Changed)?;
     Ok(next)
 }
 
@@ -167,8 +169,8 @@ fn part_piece<'input>(
     other_part_piece(alloc, cursor, builder, context, start, stop)
 }
 
-/// Joins a replacement text that is plain character data, named in the main text, to the waiting text. If no text may continue,
-/// the replacement text itself waits for its row. Returns false, with the builder unchanged, if it does neither.
+/// Joins a replacement text that is plain character data, named in the main text, to the text that may continue. If none may, the
+/// replacement text itself waits for its row. Returns false, with the builder unchanged, if it does neither.
 #[inline(always)]
 fn joins<'input>(
     builder: &mut Builder<'input>,
@@ -191,14 +193,7 @@ fn joins<'input>(
     if !is_plain_to_end(text) {
         return Ok(false);
     }
-    if builder.is_joining() {
-        builder.join_piece(start, end, &source[start..end])?;
-        return Ok(true);
-    }
-    if builder.is_text_open() {
-        return Ok(false);
-    }
-    builder.wait_for_more(start, end, &source[start..end])
+    builder.waiting_piece(start, end, TextValue::Plain(&source[start..end]))
 }
 
 /// Reads a replacement text in content. Its reference ends at `after`.

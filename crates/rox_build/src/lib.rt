@@ -5,6 +5,8 @@ pub mod constructs;
 pub mod content;
 pub mod dtd;
 pub mod quick_content;
+pub mod quick_data;
+pub mod quick_elements;
 pub mod quick_root;
 pub mod quick_sections;
 pub mod reader;

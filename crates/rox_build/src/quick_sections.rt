@@ -19,11 +19,14 @@ use rox_rows::storage::StringStorage;
 use rox_scan::character_data::text_end;
 use rox_scan::cursor::Cursor;
 use rox_scan::markup::whole_comment;
-use rox_values::text_value::cdata_text;
+use rox_values::text_value::{TextValue, cdata_text};
 use std::alloc::{AllocError, Global};
 
 /// Returned in place of the offset after a construct that was not read.
 pub const NOT_READ: usize = usize::MAX;
+
+/// The length in bytes of the longest text whose offsets all fit rows.
+pub const MOST_BYTES: usize = 4294967295;
 
 /// Reads a comment, from `<!--`, if it is valid. Returns whether it was read.
 #[inline(always)]
@@ -66,7 +69,7 @@ fn put_section_at<'input>(text: &'input str, start: usize, builder: &mut Builder
     if !is_at(text, cursor.pos, b'<') {
         return NOT_READ;
     }
-    builder.put_text(start, cursor.pos, raw);
+    builder.put_text(start, cursor.pos, StringStorage::Borrowed(raw));
     cursor.pos
 }
 
@@ -152,7 +155,7 @@ fn join_run<'input>(
         return Ok(());
     };
     cursor.pos = end;
-    builder.join_piece(start, end, &text[start..end])?;
+    builder.join_piece(TextValue::Plain(&text[start..end]))?;
     Ok(())
 }
 

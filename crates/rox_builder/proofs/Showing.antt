@@ -25,7 +25,7 @@ use Rattle.rox_rows.specs.declared.row.NodeData.{NodeData}
 use Rattle.rox_scopes.specs.declared.tables.ElementTables.{ElementTables}
 use Rattle.rox_builder.specs.declared.pending.Pending.{Pending}
 use Rattle.rox_builder.specs.declared.pending.JoinedText.{JoinedText}
-use Rattle.rox_builder.specs.PendingText.{IsItsSlice}
+use Rattle.rox_values.specs.Values.{IsItsSlice}
 use Rattle.std.specs.Borrow.{Bor}
 use Rattle.std.specs.Prelude.{Option, None, is_some}
 use Rattle.rox_builder.specs.declared.pending.Pending.TheVariants as pending

@@ -23,7 +23,8 @@ use Rattle.rox_values.specs.Refusals.{IsFailure, IsRefusal}
 use Rattle.rox_values.specs.Values.{next_view}
 use Rattle.rox_values.specs.declared.parse_error.ParseError.{ParseError}
 use Rattle.rox_builder.specs.OpenRows.{top, so_far}
-use Rattle.rox_builder.specs.PendingText.{waiting, IsItsSlice}
+use Rattle.rox_builder.specs.PendingText.{waiting}
+use Rattle.rox_values.specs.Values.{IsItsSlice}
 use Rattle.rox_scopes.specs.TagScopes.{HasBindings, lists_in}
 use Rattle.rox_rows.specs.declared.row.NodeKind.{NodeKind}
 use Rattle.rox_rows.specs.declared.row.NodeData.{NodeData}

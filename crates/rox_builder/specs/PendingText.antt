@@ -1,6 +1,5 @@
 -- The text that may continue.
-use Rattle.std.specs.Prelude.{◌≡◌, ℕ, List, [], Option, Some, None}
-use Rattle.std.specs.Borrow.{Bor}
+use Rattle.std.specs.Prelude.{ℕ, List, []}
 use Rattle.rox_rows.specs.Storage.{storage_bytes}
 use Rattle.rox_rows.specs.declared.row.NodeKind.{NodeKind}
 use Rattle.rox_rows.specs.declared.row.NodeKind.TheVariants as kind
@@ -32,8 +31,3 @@ abbrev pub text_before : Pending → List ℕ → List ℕ
 text_before pending.None bytes = []
 text_before pending.Written bytes = []
 text_before pending.Joined bytes = bytes
-
--- If the text is a slice of a source, its bytes are `bytes`.
-abbrev pub IsItsSlice : Option (Bor (List ℕ)) → List ℕ → Type 0
-IsItsSlice None bytes = Unit {0}
-IsItsSlice (Some slice) bytes = slice.now ≡ bytes

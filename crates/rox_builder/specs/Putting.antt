@@ -3,12 +3,13 @@ use Rattle.std.specs.Prelude.{◌≡◌, ℕ, ◌+◌, ◌-◌, ◌∷◌, [], �
 use Rattle.std.specs.declared.alloc.AllocError.{AllocError}
 use Rattle.rox_grammar.specs.Forest.{Forest, Nil, Cons, join}
 use Rattle.rox_grammar.specs.State.{Open, inside, root, scope_of}
-use Rattle.rox_grammar.specs.Written.{Element, Item, Tag, merge}
+use Rattle.rox_grammar.specs.Written.{Element, Item, Tag, Text, merge}
 use Rattle.rox_grammar.specs.declared.failure.Failure.{Failure}
 use Rattle.rox_grammar.specs.declared.failure.Failure.TheVariants as failure
 use Rattle.rox_grammar.specs.declared.fault.Fault.TheVariants as fault
 use Rattle.rox_reading.specs.Machine.{with_item}
 use Rattle.rox_reading.specs.State.{State}
+use Rattle.rox_reading.specs.Values.{ReadText}
 use Rattle.rox_rows.specs.Rows.{attribute_rows, node_rows}
 use Rattle.rox_scopes.specs.Scopes.{PrefixesOnce}
 use Rattle.rox_rows.specs.StoredNodes.{IsSmallKind}
@@ -59,15 +60,10 @@ pub record KeepsRows (old new : Builder) : Type 0 where
 abbrev pub HasAdded : Builder → Builder → Item → Type 0
 HasAdded old new item = (total at : ℕ) (s : State) → Represents total s.stack s.done old → Adds total (Ok tt) new (with_item old.nodes_limit s at item)
 
--- The piece joined the text that waits.
-pub record JoinsText (old new : Builder) (result : Result (Unit {0}) AllocError) (item : Item) : Type 0 where
-  pub value : OnOk result (HasAdded old new item)
-  pub kept : KeepsOpen old new
-
--- The piece waits for its row, or the builder is unchanged.
-pub record WaitsForMore (old new : Builder) (result : Result Bool AllocError) (item : Item) : Type 0 where
-  pub value : IfOk result (λ yes. yes ≡ true → HasAdded old new item)
-  pub other : IfOk result (λ yes. yes ≡ false → new ≡ old)
+-- The piece joined the text that may continue, which waits for its row.
+pub record JoinsText (old new : Builder) (result : Result (Unit {0}) AllocError) (piece : ReadText) : Type 0 where
+  pub value : OnOk result ((start end : ℕ) → HasAdded old new (Text start end piece.value piece.borrowed))
+  pub waits : OnOk result (new.pending ≡ pending.Joined)
   pub kept : KeepsOpen old new
 
 -- The piece joined the text that may continue, or waits for its row if there was none. Or the builder holds equal rows.
@@ -75,14 +71,6 @@ pub record AddsWaiting (old new : Builder) (result : Result Bool AllocError) (it
   pub value : IfOk result (λ yes. yes ≡ true → HasAdded old new item)
   pub waits : IfOk result (λ yes. yes ≡ true → new.pending ≡ pending.Joined)
   pub other : IfOk result (λ yes. yes ≡ false → KeepsState old new)
-  pub kept : KeepsOpen old new
-
--- The piece has its row, for which there was room, or the builder holds equal rows.
-pub record PutsOwned (old new : Builder) (result : Bool) (item : Item) : Type 0 where
-  pub value : result ≡ true → HasAdded old new item
-  pub other : result ≡ false → KeepsState old new
-  pub rows : result ≡ true → vec_len new.nodes.rows ≡ vec_len old.nodes.rows + 1
-  pub ready : result ≡ true → (most : ℕ) → IsReadyTo most old → IsReadyTo most new
   pub kept : KeepsOpen old new
 
 -- The piece has its row, for which there was room.

@@ -1,14 +1,14 @@
 //! Text nodes: adjacent pieces of character data are one text, which waits for its row while it may continue.
 
-ghost use Rattle.std.specs.Prelude.{◌<◌, ◌≤◌, ◌+◌, ◌≡◌, [], ℕ, List, length, is_some, IfOk, OnOk};
+ghost use Rattle.std.specs.Prelude.{◌<◌, ◌≤◌, ◌+◌, ◌≡◌, ◌≢◌, [], ℕ, List, length, is_some, IfOk, OnOk};
 ghost use Rattle.rox_rows.specs.StoredNodes.{kind_of};
 ghost use Rattle.rox_rows.specs.declared.row.NodeKind.TheVariants as kind;
 ghost use Rattle.rox_builder.specs.TakenText.{MayTakeLast, TakesLast};
-ghost use Rattle.rox_builder.specs.PendingText.{waiting, written, text_of, IsItsSlice};
+ghost use Rattle.rox_builder.specs.PendingText.{waiting, written, text_of};
 ghost use Rattle.rox_rows.specs.Storage.{storage_bytes, is_borrowed};
 ghost use Rattle.rox_builder.specs.declared.pending.Pending.TheVariants as pending;
 ghost use Rattle.std.specs.String.{string_bytes};
-ghost use Rattle.rox_values.specs.Values.{piece_view};
+ghost use Rattle.rox_values.specs.Values.{IsItsSlice, piece_view};
 
 use crate::builder::Builder;
 use crate::pending::{JoinedText, Pending};
@@ -27,29 +27,6 @@ use std::alloc::{AllocError, Global};
 struct TextRange {
     start: usize,
     end: usize,
-}
-
-/// Returns the text of a piece, where a changed one has the bytes `changed`.
-#[inline(always)]
-fn bytes_in<'a, 'input: 'a>(piece: TextValue<'input>, changed: &'a str) -> &'a str
-    ensures { result.now ≡ (piece_view piece.entry changed.entry.now).value }
-{
-    match piece {
-        TextValue::Plain(text) => text,
-        TextValue::Changed => changed,
-    }
-}
-
-/// Returns the slice of the source that a piece is, if it is one.
-#[inline(always)]
-fn slice_in<'input>(piece: TextValue<'input>) -> Option<&'input str>
-    ensures its { (changed : List ℕ) → IsItsSlice result (piece_view piece.entry changed).value }
-    ensures borrowed { (changed : List ℕ) → is_some result ≡ (piece_view piece.entry changed).borrowed }
-{
-    match piece {
-        TextValue::Plain(text) => Some(text),
-        TextValue::Changed => None,
-    }
 }
 
 /// Puts the text of a text node into the buffer `joined`, which is cleared first.
@@ -87,20 +64,20 @@ fn join_last(
     Ok(range)
 }
 
-/// Returns the storage of the text that waits for its row.
+/// Returns the storage of the text `text`, which is the slice `slice` of the source if there is one.
 #[inline(always)]
 fn storage_of<'input>(
     alloc: Global,
     recent: &mut Recent,
-    joined: &JoinedText<'input>,
+    slice: Option<&'input str>,
+    text: &str,
 ) -> Result<StringStorage<'input>, AllocError>
-    ensures borrowed { IfOk result (λ t. is_borrowed t ≡ is_some joined.now.slice) }
-    ensures bytes { IsItsSlice joined.now.slice (string_bytes joined.now.text)
-        → IfOk result (λ t. storage_bytes t ≡ string_bytes joined.now.text) }
+    ensures borrowed { IfOk result (λ t. is_borrowed t ≡ is_some slice.entry) }
+    ensures bytes { IsItsSlice slice.entry text.now → IfOk result (λ t. storage_bytes t ≡ text.now) }
 {
-    match joined.slice {
+    match slice {
         Some(slice) => Ok(StringStorage::Borrowed(slice)),
-        None => recent.owned(alloc, joined.text.as_str()),
+        None => recent.owned(alloc, text),
     }
 }
 
@@ -112,7 +89,7 @@ impl<'input> Builder<'input> {
     ghost use Rattle.rox_builder.specs.DataParts.{HasPart};
     ghost use Rattle.rox_builder.specs.BuilderState.{Represents, Adds, KeepsOpen};
     ghost use Rattle.rox_builder.specs.Outcomes.{AddsText, Flushes};
-    ghost use Rattle.rox_builder.specs.Putting.{AddsWaiting, EndsRun, JoinsText, PutsOwned, PutsText, Settles, WaitsForMore};
+    ghost use Rattle.rox_builder.specs.Putting.{AddsWaiting, EndsRun, JoinsText, PutsText, Settles};
     ghost use Rattle.rox_builder.specs.Readiness.{MayPutText};
 
     /// Writes the text that may continue, if there is one.
@@ -139,7 +116,8 @@ impl<'input> Builder<'input> {
         requires { self.old.pending ≡ pending.Joined }
         ensures { Flushes self.old self.new result }
     {
-        let text = storage_of(alloc, &mut self.recent, &self.joined)?;
+        let joined = &self.joined;
+        let text = storage_of(alloc, &mut self.recent, joined.slice, joined.text.as_str())?;
         let row = self.row(self.joined.start, self.joined.end, NodeKind::Text(text));
         self.pending = Pending::None;
         self.nodes.push(row)?;
@@ -164,134 +142,23 @@ impl<'input> Builder<'input> {
         Ok(())
     }
 
-    /// Adds a piece of text that is a slice of the source. The only fault is that there are too many nodes.
+    /// Joins a piece of text to the text that may continue, which then waits for its row.
     #[inline(always)]
-    pub fn slice_piece(
-        &mut self,
-        start: usize,
-        end: usize,
-        text: &'input str,
-    ) -> Result<(), Failure>
-        ensures { AddsText self.old self.new result (Text start end text.now true) }
+    pub fn join_piece(&mut self, piece: TextValue<'input>) -> Result<(), AllocError>
+        requires { self.old.pending ≢ pending.None }
+        ensures { JoinsText self.old self.new result (piece_view piece.entry (string_bytes self.old.buffers.scratch)) }
     {
-        match self.pending {
-            Pending::None => {
-                self.room()?;
-                let row = self.row(start, end, NodeKind::Text(StringStorage::Borrowed(text)));
-                self.nodes.push(row)?;
-                self.pending = Pending::Written;
-            }
-            Pending::Written => {
-                let range = join_last(&mut self.nodes, &mut self.joined.text, text)?;
-                self.joined.start = range.start;
-                self.joined.end = range.end;
-                self.joined.slice = None;
-                self.pending = Pending::Joined;
-            }
-            Pending::Joined => {
-                self.joined.text.push_str(text)?;
-                self.joined.slice = None;
-            }
+        let text = piece.text_in(self.buffers.scratch.as_str());
+        if let Pending::Joined = self.pending {
+            self.joined.text.push_str(text)?;
+            self.joined.slice = None;
+            return Ok(());
         }
-        Ok(())
-    }
-
-    /// Like `slice_piece`, but a text waits for its row, and the piece joins it.
-    #[inline(always)]
-    pub fn join_piece(&mut self, start: usize, end: usize, piece: &str) -> Result<(), AllocError>
-        requires { self.old.pending ≡ pending.Joined }
-        ensures { JoinsText self.old self.new result (Text start end piece.now true) }
-    {
-        self.joined.text.push_str(piece)?;
+        let range = join_last(&mut self.nodes, &mut self.joined.text, text)?;
+        self.joined.start = range.start;
+        self.joined.end = range.end;
         self.joined.slice = None;
-        Ok(())
-    }
-
-    /// Like `slice_piece`, but no text may continue, and the piece waits for its row. Returns false, with the builder unchanged,
-    /// if there are too many nodes.
-    #[inline(always)]
-    pub fn wait_for_more(
-        &mut self,
-        start: usize,
-        end: usize,
-        slice: &'input str,
-    ) -> Result<bool, AllocError>
-        requires { self.old.pending ≡ pending.None }
-        ensures { WaitsForMore self.old self.new result (Text start end slice.now true) }
-    {
-        if self.nodes.len() >= self.nodes_limit as usize {
-            return Ok(false);
-        }
-        self.joined.text.clear();
-        self.joined.text.push_str(slice)?;
-        self.joined.slice = Some(slice);
-        self.joined.start = start;
-        self.joined.end = end;
         self.pending = Pending::Joined;
-        Ok(true)
-    }
-
-    /// Adds a piece of text with the bytes `changed`, which counts as owned, as the source is longer there. The only fault is
-    /// that there are too many nodes.
-    #[inline(always)]
-    pub fn owned_piece(
-        &mut self,
-        alloc: Global,
-        start: usize,
-        end: usize,
-        changed: &str,
-    ) -> Result<(), Failure>
-        ensures { AddsText self.old self.new result (Text start end changed.now false) }
-    {
-        match self.pending {
-            Pending::None => {
-                self.room()?;
-                let owned = self.recent.owned(alloc, changed)?;
-                let row = self.row(start, end, NodeKind::Text(owned));
-                self.nodes.push(row)?;
-                self.pending = Pending::Written;
-            }
-            Pending::Written => {
-                let range = join_last(&mut self.nodes, &mut self.joined.text, changed)?;
-                self.joined.start = range.start;
-                self.joined.end = range.end;
-                self.joined.slice = None;
-                self.pending = Pending::Joined;
-            }
-            Pending::Joined => {
-                self.joined.text.push_str(changed)?;
-                self.joined.slice = None;
-            }
-        }
-        Ok(())
-    }
-
-    /// Adds a piece of text that is in the buffer for values. The only fault is that there are too many nodes.
-    pub fn scratch_piece(&mut self, alloc: Global, start: usize, end: usize) -> Result<(), Failure>
-        ensures { AddsText self.old self.new result
-            (Text start end (string_bytes self.old.buffers.scratch) false) }
-    {
-        match self.pending {
-            Pending::None => {
-                self.room()?;
-                let owned = self.recent.owned(alloc, self.buffers.scratch.as_str())?;
-                let row = self.row(start, end, NodeKind::Text(owned));
-                self.nodes.push(row)?;
-                self.pending = Pending::Written;
-            }
-            Pending::Written => {
-                let text = self.buffers.scratch.as_str();
-                let range = join_last(&mut self.nodes, &mut self.joined.text, text)?;
-                self.joined.start = range.start;
-                self.joined.end = range.end;
-                self.joined.slice = None;
-                self.pending = Pending::Joined;
-            }
-            Pending::Joined => {
-                self.joined.text.push_str(self.buffers.scratch.as_str())?;
-                self.joined.slice = None;
-            }
-        }
         Ok(())
     }
 
@@ -347,10 +214,17 @@ impl<'input> Builder<'input> {
         ensures { let text = piece_view piece.entry (string_bytes self.old.buffers.scratch) in
             AddsText self.old self.new result (Text start end text.value text.borrowed) }
     {
-        match piece {
-            TextValue::Plain(text) => self.slice_piece(start, end, text),
-            TextValue::Changed => self.scratch_piece(alloc, start, end),
+        if self.is_text_open() {
+            self.join_piece(piece)?;
+            return Ok(());
         }
+        self.room()?;
+        let text = piece.text_in(self.buffers.scratch.as_str());
+        let stored = storage_of(alloc, &mut self.recent, piece.slice(), text)?;
+        let row = self.row(start, end, NodeKind::Text(stored));
+        self.nodes.push(row)?;
+        self.pending = Pending::Written;
+        Ok(())
     }
 
     /// Adds a piece of text as `piece` does, but a text that it starts waits for its row. Returns false, with the builder unchanged,
@@ -365,39 +239,26 @@ impl<'input> Builder<'input> {
         ensures { let text = piece_view piece.entry (string_bytes self.old.buffers.scratch) in
             AddsWaiting self.old self.new result (Text start end text.value text.borrowed) }
     {
-        match self.pending {
-            Pending::None => {
-                if self.nodes.len() >= self.nodes_limit as usize {
-                    return Ok(false);
-                }
-                let added = bytes_in(piece, self.buffers.scratch.as_str());
-                self.joined.text.clear();
-                self.joined.text.push_str(added)?;
-                self.joined.slice = slice_in(piece);
-                self.joined.start = start;
-                self.joined.end = end;
-                self.pending = Pending::Joined;
-            }
-            Pending::Written => {
-                let added = bytes_in(piece, self.buffers.scratch.as_str());
-                let range = join_last(&mut self.nodes, &mut self.joined.text, added)?;
-                self.joined.start = range.start;
-                self.joined.end = range.end;
-                self.joined.slice = None;
-                self.pending = Pending::Joined;
-            }
-            Pending::Joined => {
-                let added = bytes_in(piece, self.buffers.scratch.as_str());
-                self.joined.text.push_str(added)?;
-                self.joined.slice = None;
-            }
+        if self.is_text_open() {
+            self.join_piece(piece)?;
+            return Ok(true);
         }
+        if self.nodes.len() >= self.nodes_limit as usize {
+            return Ok(false);
+        }
+        let text = piece.text_in(self.buffers.scratch.as_str());
+        self.joined.text.clear();
+        self.joined.text.push_str(text)?;
+        self.joined.slice = piece.slice();
+        self.joined.start = start;
+        self.joined.end = end;
+        self.pending = Pending::Joined;
         Ok(true)
     }
 
     /// Returns whether a text waits in the buffer for its row.
     #[inline(always)]
-    pub fn is_joining(&self) -> bool
+    pub(crate) fn is_joining(&self) -> bool
         ensures { result ≡ true → self.now.pending ≡ pending.Joined }
     {
         match self.pending {
@@ -420,7 +281,8 @@ impl<'input> Builder<'input> {
     /// Returns whether a text may continue.
     #[inline(always)]
     pub fn is_text_open(&self) -> bool
-        ensures { result ≡ false → self.now.pending ≡ pending.None }
+        ensures yes { result ≡ true → self.now.pending ≢ pending.None }
+        ensures no { result ≡ false → self.now.pending ≡ pending.None }
     {
         match self.pending {
             Pending::None => false,
@@ -437,46 +299,14 @@ impl<'input> Builder<'input> {
         self.pending = Pending::None;
     }
 
-    /// Puts a text that is a slice of the source. No text may continue, and there is room for its row.
+    /// Puts a text. No text may continue, and there is room for its row.
     #[inline(always)]
-    pub fn put_text(&mut self, start: usize, end: usize, text: &'input str)
+    pub fn put_text(&mut self, start: usize, end: usize, text: StringStorage<'input>)
         requires { MayPutText self.old start end }
-        ensures { PutsText self.old self.new (Text start end text.now true) }
+        ensures { PutsText self.old self.new (Text start end (storage_bytes text.entry) (is_borrowed text.entry)) }
     {
-        let row = self.row(start, end, NodeKind::Text(StringStorage::Borrowed(text)));
+        let row = self.row(start, end, NodeKind::Text(text));
         self.nodes.put(row);
         self.pending = Pending::Written;
-    }
-
-    /// Like `put_text`, but for a text with the bytes `changed`, which counts as owned. Returns false, with the builder
-    /// unchanged, if memory is refused.
-    #[inline(always)]
-    pub fn put_owned(&mut self, alloc: Global, start: usize, end: usize, changed: &str) -> bool
-        requires { MayPutText self.old start end }
-        ensures { PutsOwned self.old self.new result (Text start end changed.now false) }
-    {
-        let Ok(owned) = self.recent.owned(alloc, changed) else {
-            return false;
-        };
-        let row = self.row(start, end, NodeKind::Text(owned));
-        self.nodes.put(row);
-        self.pending = Pending::Written;
-        true
-    }
-
-    /// Like `put_owned`, but the character data gives the bytes of the buffer for values.
-    #[inline(always)]
-    pub fn put_scratch(&mut self, alloc: Global, start: usize, end: usize) -> bool
-        requires { MayPutText self.old start end }
-        ensures { PutsOwned self.old self.new result
-            (Text start end (string_bytes self.old.buffers.scratch) false) }
-    {
-        let Ok(owned) = self.recent.owned(alloc, self.buffers.scratch.as_str()) else {
-            return false;
-        };
-        let row = self.row(start, end, NodeKind::Text(owned));
-        self.nodes.put(row);
-        self.pending = Pending::Written;
-        true
     }
 }

@@ -1,5 +1,6 @@
 -- How the texts and references in the code relate to what is read.
 use Rattle.std.specs.Prelude.{◌≡◌, ◌≢◌, ◌<◌, ◌≤◌, ◌-◌, ◌^◌, ℕ, Bool, true, false, not, ◌==◌, ◌||◌, List, [], ◌++◌, Option, Some, None, Result, Ok, Err, IfOk, drop, length, min, nat_lt, slice_index, slice_range, take, if◌then◌else◌}
+use Rattle.std.specs.Borrow.{Bor}
 use Rattle.std.specs.List.{list_any}
 use Rattle.std.specs.Str.{IsCharBoundary}
 use Rattle.rox_grammar.specs.declared.fault.Fault.{Fault}
@@ -71,6 +72,11 @@ pub record NamesCharacter (src : List ℕ) (i c j : ℕ) : Type 0 where
 abbrev pub piece_view : TextValue → List ℕ → reading.ReadText
 piece_view (piece.Plain s) buffer = record { value = s.now; borrowed = true }
 piece_view piece.Changed buffer = record { value = buffer; borrowed = false }
+
+-- If the text is a slice of a source, its bytes are `bytes`.
+abbrev pub IsItsSlice : Option (Bor (List ℕ)) → List ℕ → Type 0
+IsItsSlice None bytes = Unit {0}
+IsItsSlice (Some slice) bytes = slice.now ≡ bytes
 
 -- What an item gives, after the bytes `front`.
 abbrev pub bit_behind : List ℕ → reading.Bit → reading.Bit

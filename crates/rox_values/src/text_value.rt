@@ -1,9 +1,9 @@
 //! A text that was read: a slice of the source, or a changed text if line ends, references or white space change it. The text of
 //! a CDATA section is read as one of these (XML 1.0 sections 2.7 and 2.11).
 
-ghost use Rattle.std.specs.Prelude.{◌≡◌, IfOk};
+ghost use Rattle.std.specs.Prelude.{◌≡◌, ℕ, IfOk, List, is_some};
 ghost use Rattle.std.specs.String.{string_bytes};
-ghost use Rattle.rox_values.specs.Values.{piece_view, section_text};
+ghost use Rattle.rox_values.specs.Values.{IsItsSlice, piece_view, section_text};
 
 use crate::line_ends::line_feeds;
 use rox_bytes::search::before_byte;
@@ -14,6 +14,33 @@ use std::alloc::AllocError;
 pub enum TextValue<'input> {
     Plain(&'input str),
     Changed,
+}
+
+impl<'input> TextValue<'input> {
+    /// Returns the text, where a changed one has the bytes `changed`.
+    #[inline(always)]
+    pub fn text_in<'a>(self, changed: &'a str) -> &'a str
+    where
+        'input: 'a,
+        ensures { result.now ≡ (piece_view self.entry changed.entry.now).value }
+    {
+        match self {
+            TextValue::Plain(text) => text,
+            TextValue::Changed => changed,
+        }
+    }
+
+    /// Returns the slice of the source that the text is, if it is one.
+    #[inline(always)]
+    pub fn slice(self) -> Option<&'input str>
+        ensures its { (changed : List ℕ) → IsItsSlice result (piece_view self.entry changed).value }
+        ensures borrowed { (changed : List ℕ) → is_some result ≡ (piece_view self.entry changed).borrowed }
+    {
+        match self {
+            TextValue::Plain(text) => Some(text),
+            TextValue::Changed => None,
+        }
+    }
 }
 
 /// Returns the text of a CDATA section (XML 1.0 sections 2.7 and 2.11). It is a slice of the source if it has no CR. Otherwise it

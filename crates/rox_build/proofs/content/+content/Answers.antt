@@ -1,4 +1,4 @@
-use Rattle.std.proofs.Common.{◌≡◌, ◌<◌, ◌≤◌, ◌+◌, ◌-◌, suc, ℕ, Bool, true, false, List, Ok, length, slice_index, slice_range, refl, sym, ap, subst, ◌∙◌, arith, rules}
+use Rattle.std.proofs.Common.{◌≡◌, ◌<◌, ◌≤◌, ◌+◌, ◌-◌, suc, ℕ, Bool, true, false, List, Ok, length, slice_index, refl, sym, ap, subst, ◌∙◌, arith, rules}
 use Rattle.std.specs.Str.{IsCharBoundary}
 use Rattle.std.proofs.lemmas.Grind.{common_steps}
 use Rattle.std.proofs.lemmas.Bool.{leb-true, leb-false}
@@ -12,11 +12,9 @@ use Rattle.rox_scan.specs.DoctypeViews.{replacement_view}
 use Rattle.rox_values.specs.Contexts.{context_of}
 use Rattle.rox_builder.specs.BuilderState.{GoesOn}
 use Rattle.rox_builder.proofs.Stepping.{fine_open, state_kept, two_stand, step_is_run, step_is_markup, plain_run, parted_run, run_fails, text_stepped, same_shows}
-use Rattle.rox_scan.proofs.ShortLemmas.{longer_run}
 use Rattle.rox_builder.proofs.Parting.{rests_of, parting_ends, parting_on, parting_fails, parting_stops, parting_out}
 use Rattle.rox_builder.proofs.TextLooping.{opened_depth, text_on, text_fails, text_at_end, text_spent}
 use Rattle.rox_builder.proofs.TextOpening.{inner_state, outer_state, opens_err, opens_reads, opens_refuses, opener_at}
-use Rattle.rox_build.proofs.LineRuns.{line_run}
 use Rattle.rox_build.proofs.ParsedResults.{goes_too, parses_too, whatever_it_is}
 use Rattle.rox_build.proofs.content.+content.Goals as goal
 
@@ -41,10 +39,10 @@ character_data_pieces-returns-then-raw t c = record {
       let text : ReadText = record { value = raw; borrowed = true } in
       rw (plain_run (context_of limit es c.args.context) src s c.args.cursor.now.pos j raw h.here c.in_ok-raw.ensures.read.value plain)
       (parses_too limit end _ _ _ _ _ c.parsed.ensures
-      (text_stepped limit end s c.args.cursor.now c.raw_character_data.new.cursor b c.slice_piece.new.self c.slice_piece.result text h c.slice_piece.ensures.kept.tables c.slice_piece.ensures.kept.limit c.slice_piece.ensures.kept.openings_left
-      (c.slice_piece.ensures.value end j s h.shows)));
+      (text_stepped limit end s c.args.cursor.now c.raw_character_data.new.cursor b c.piece.new.self c.piece.result text h c.piece.ensures.kept.tables c.piece.ensures.kept.limit c.piece.ensures.kept.openings_left
+      (c.piece.ensures.value end j s h.shows)));
   goes =
-      let on : GoesOn c.args.cursor.now c.raw_character_data.new.cursor c.slice_piece.new.self = record { source = c.in_ok-raw.ensures.read.source; fine = fine_open c.args.builder.now c.slice_piece.new.self c.slice_piece.ensures.kept c.requires.fine } in
+      let on : GoesOn c.args.cursor.now c.raw_character_data.new.cursor c.piece.new.self = record { source = c.in_ok-raw.ensures.read.source; fine = fine_open c.args.builder.now c.piece.new.self c.piece.ensures.kept c.requires.fine } in
       whatever_it_is _ _ on;
 }
 
@@ -177,7 +175,7 @@ open_text-returns-then-joined t c = record {
 pub open_text-returns : goal.open_text-returns
 open_text-returns t c = record {
   value = λ limit end es s declared h.
-      c.open_other_text.ensures.value limit end es s declared (rw (c.in_ok-joined.ensures.other c.if-joined.false) h);
+      c.open_other_text.ensures.value limit end es s declared (c.in_ok-joined.ensures.other c.if-joined.false limit end s h);
   fine = c.open_other_text.ensures.fine;
 }
 

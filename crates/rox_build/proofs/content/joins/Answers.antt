@@ -6,6 +6,7 @@ use Rattle.rox_grammar.specs.Content.{is_verbatim}
 use Rattle.rox_scan.specs.DoctypeViews.{replacement_view}
 use Rattle.rox_scan.proofs.ShortLemmas.{longer_run}
 use Rattle.rox_builder.proofs.Joining.{nothing_opened, run_opened}
+use Rattle.rox_build.proofs.PlainReads.{kept_rests}
 use Rattle.rox_build.proofs.content.joins.Goals as goal
 
 if_ok : {A E : Type 0} {P Q : A → Type 0} (r : Result A E) → IfOk r P → ((a : A) → P a → Q a) → IfOk r Q
@@ -30,36 +31,19 @@ read_to_end src i look =
     let k = eq-eqb n n refl in
     (longer_run src i n true look (rw k refl), sym look.verbatim_is)
 
-pub returns-then-is_joining : goal.returns-then-is_joining
-returns-then-is_joining c = record {
-  value = λ yes limit end after es s h.
-      let src = c.args.text.text.now in
-      let i = c.args.text.pos in
-      let n = length src in
-      let more : i < n = omega (arith, c.if-start-end.false) in
-      let read = read_to_end src i (c.if-not-is_plain_to_end.ensures refl) in
-      run_opened limit end es c.args.context.depth_left c.args.context.main (replacement_view c.args.text) after s c.args.builder.now _ c.if-not-context.false c.if-context-eq0.false h
-      c.join_piece.ensures.kept.tables c.join_piece.ensures.kept.limit c.join_piece.ensures.kept.openings_left
-      (rw c.range.ensures.value at (c.in_ok-join_piece.ensures.value end n s h.shows)) more
-      (λ is. c.if-as_bytes-start-eq60.false (ap (λ xs. slice_index xs i) c.as_bytes.ensures.value ∙ is)) read.0 read.1;
-  other = λ no. absurd (cc no);
-  tables = c.join_piece.ensures.kept.tables;
-  opened = c.join_piece.ensures.kept.opened;
-}
-
 pub returns : goal.returns
 returns c = record {
-  value = if_ok c.wait_for_more.result c.wait_for_more.ensures.value (λ yes adds is limit end after es s h.
+  value = if_ok c.waiting_piece.result c.waiting_piece.ensures.value (λ yes adds is limit end after es s h.
       let src = c.args.text.text.now in
       let i = c.args.text.pos in
       let n = length src in
       let more : i < n = omega (arith, c.if-start-end.false) in
       let read = read_to_end src i (c.if-not-is_plain_to_end.ensures refl) in
       run_opened limit end es c.args.context.depth_left c.args.context.main (replacement_view c.args.text) after s c.args.builder.now _ c.if-not-context.false c.if-context-eq0.false h
-      c.wait_for_more.ensures.kept.tables c.wait_for_more.ensures.kept.limit c.wait_for_more.ensures.kept.openings_left
-      (rw c.range-2.ensures.value at (adds is end n s h.shows)) more
+      c.waiting_piece.ensures.kept.tables c.waiting_piece.ensures.kept.limit c.waiting_piece.ensures.kept.openings_left
+      (rw c.range.ensures.value at (adds is end n s h.shows)) more
       (λ is. c.if-as_bytes-start-eq60.false (ap (λ xs. slice_index xs i) c.as_bytes.ensures.value ∙ is)) read.0 read.1);
-  other = c.wait_for_more.ensures.other;
-  tables = c.wait_for_more.ensures.kept.tables;
-  opened = c.wait_for_more.ensures.kept.opened;
+  other = if_ok c.waiting_piece.result c.waiting_piece.ensures.other (λ yes kept no limit end s h. kept_rests limit end s c.args.builder.now c.waiting_piece.new.self (kept no) c.waiting_piece.ensures.kept.tables h);
+  tables = c.waiting_piece.ensures.kept.tables;
+  opened = c.waiting_piece.ensures.kept.opened;
 }

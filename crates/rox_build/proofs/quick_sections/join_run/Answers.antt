@@ -39,7 +39,7 @@ returns c = record {
         1,
         reads_one context end src s _ c.join_piece.new.self inner within
             (rw (step_is_run context src src s i refl h.here other, plain_run context src s i e (slice_range src i e) h.here r.0 r.1)
-            (text_stepped context.limit end s cursor _ b c.join_piece.new.self (Ok tt) text h c.join_piece.ensures.kept.tables c.join_piece.ensures.kept.limit c.join_piece.ensures.kept.openings_left (rw c.range.ensures.value at (c.in_ok-join_piece.ensures.value end e s h.shows)))),
+            (text_stepped context.limit end s cursor _ b c.join_piece.new.self (Ok tt) text h c.join_piece.ensures.kept.tables c.join_piece.ensures.kept.limit c.join_piece.ensures.kept.openings_left (rw c.range.ensures.value at (c.in_ok-join_piece.ensures.value i e end e s h.shows)))),
       );
   onward = c.in-Some.ensures.looked.onward;
   source = refl;

@@ -70,7 +70,7 @@ put_text-requires c =
     let within : new.pos ≤ length c.args.text.now = rw source at new.cut.0 in
     record {
       ready = c.requires.room.ready;
-      apart = c.is_text_open.ensures c.if-is_text_open.false;
+      apart = c.is_text_open.ensures.no c.if-is_text_open.false;
       start = omega (arith, c.requires.room.short, c.requires.cut.0);
       end = omega (arith, c.requires.room.short, within);
     }

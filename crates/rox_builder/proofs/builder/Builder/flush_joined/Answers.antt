@@ -19,7 +19,8 @@ pub returns : goal.returns
 returns c = record {
   ok = λ end stack done sh.
       let b = c.args.self.now in
-      let v = c.in_ok-text.ensures.bytes (joined_is end stack done b sh c.requires).1 in
+      let held = c.as_str.ensures.value in
+      let v = c.in_ok-text.ensures.bytes (rw held (joined_is end stack done b sh c.requires).1) ∙ held in
       let o = c.in_ok-text.ensures.borrowed in
       let k : NodeKind = kind.Text c.in_ok-text.text in
       let is : node (attribute_rows b.tables.attributes) (names_in b.tables) (lists_in b.tables) b.joined.start b.joined.end k ≡ node_in (scope_of stack) (Text b.joined.start b.joined.end (string_bytes b.joined.text) (is_some b.joined.slice)) = rw (v, o) refl in

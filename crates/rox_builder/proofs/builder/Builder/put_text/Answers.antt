@@ -1,4 +1,4 @@
-use Rattle.std.proofs.Common.{◌++◌, ◌∷◌, [], true, refl, ap, ◌∙◌, List, ℕ, arith, rules}
+use Rattle.std.proofs.Common.{◌++◌, ◌∷◌, [], Bool, refl, ap, ◌∙◌, List, ℕ, arith, rules}
 use Rattle.std.proofs.lemmas.Grind.{common_steps}
 use Rattle.rox_grammar.specs.Forest.{join}
 use Rattle.rox_grammar.specs.Written.{Text, leaf}
@@ -6,7 +6,7 @@ use Rattle.rox_reading.specs.State.{State}
 use Rattle.rox_rows.specs.declared.row.NodeData.{NodeData}
 use Rattle.rox_rows.specs.declared.row.NodeKind.{NodeKind}
 use Rattle.rox_rows.specs.declared.row.NodeKind.TheVariants as kind
-use Rattle.rox_rows.specs.declared.storage.StringStorage.TheVariants as storage
+use Rattle.rox_rows.specs.Storage.{storage_bytes, is_borrowed}
 use Rattle.rox_builder.proofs.Showing.{piece_first, first_count}
 use Rattle.rox_theory.proofs.Leaves.{fits_counted}
 use Rattle.rox_rows.specs.Rows.{node_rows}
@@ -21,14 +21,15 @@ returns c = record {
   adds = record {
     value = λ total at s sh.
         let b = c.args.self.now in
-        let v : List ℕ = c.args.text.now in
-        let t : State = record { at = at; done = join s.done (leaf (Text c.args.start c.args.end v true)); stack = s.stack; openings_left = s.openings_left } in
-        let n = first_count total s.stack s.done b c.args.start c.args.end v true sh c.requires.apart in
+        let v : List ℕ = storage_bytes c.args.text in
+        let p : Bool = is_borrowed c.args.text in
+        let t : State = record { at = at; done = join s.done (leaf (Text c.args.start c.args.end v p)); stack = s.stack; openings_left = s.openings_left } in
+        let n = first_count total s.stack s.done b c.args.start c.args.end v p sh c.requires.apart in
         let few = c.requires.ready.few in
         let len = count_nodes b.nodes in
-        let k : NodeKind = kind.Text (storage.Borrowed c.args.text) in
+        let k : NodeKind = kind.Text c.args.text in
         let rows = c.put.ensures.rows ∙ ap (λ (r : NodeData). (node_rows b.nodes) ++ r ∷ []) c.row-row.ensures in
-        (t, fits_counted b.nodes_limit t (omega arith), piece_first total s.stack s.done b _ c.args.start c.args.end v true k sh c.requires.apart refl tt rows refl refl refl);
+        (t, fits_counted b.nodes_limit t (omega arith), piece_first total s.stack s.done b _ c.args.start c.args.end v p k sh c.requires.apart refl tt rows refl refl refl);
     kept = record { opened = refl; tables = refl; limit = refl; openings_left = refl };
   };
   rows = first_of (search rules, grind (arith, common_steps));

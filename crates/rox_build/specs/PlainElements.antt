@@ -1,0 +1,23 @@
+-- How the row of an element is put whose start tag the fast path read.
+use Rattle.std.specs.Prelude.{◌≡◌, ℕ, ◌-◌, ◌<◌, ◌^◌, true, false, List, vec_len, vec_capacity}
+use Rattle.rox_rows.specs.declared.row.NodeKind.TheVariants as kind
+use Rattle.rox_names.specs.SpelledNames.{SpellsName, wide_name}
+use Rattle.rox_tags.specs.declared.quick_tag.PlainTag.{PlainTag}
+use Rattle.rox_builder.specs.Putting.{PutsLeaf, PutsOpen}
+use Rattle.rox_builder.specs.Readiness.{MayPutRow}
+use Rattle.rox_builder.specs.declared.builder.Builder.{Builder}
+
+-- There is room for the row of the element whose start tag `t` starts at `i`, and for one more open element. The parent has the
+-- row `above`.
+pub record MayPutElement (src : List ℕ) (i : ℕ) (b : Builder) (above : ℕ) (t : PlainTag) : Type 0 where
+  pub row : MayPutRow b above i
+  pub depth : vec_len b.opened < vec_capacity b.opened
+  pub named : SpellsName src t.tag
+  pub narrow : t.tag.name_end - t.tag.name_start < wide_name
+  pub end : t.end < 2 ^ 32
+
+-- The element has its row, and is open unless its tag `t` is empty. The tag ends at `j`.
+pub record PutsElement (src : List ℕ) (i : ℕ) (old new : Builder) (t : PlainTag) (j : ℕ) : Type 0 where
+  pub end : j ≡ t.end
+  pub leaf : t.tag.empty ≡ true → PutsLeaf old new i t.end (kind.Element t.tag.element)
+  pub opens : t.tag.empty ≡ false → PutsOpen old new src i t.tag
