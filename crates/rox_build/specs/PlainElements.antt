@@ -1,19 +1,13 @@
 -- How the row of an element is put whose start tag the fast path read.
-use Rattle.std.specs.Prelude.{◌≡◌, ℕ, ◌-◌, ◌<◌, ◌^◌, true, false, List, vec_len, vec_capacity}
+use Rattle.std.specs.Prelude.{◌≡◌, ℕ, ◌<◌, ◌^◌, true, false, List}
 use Rattle.rox_rows.specs.declared.row.NodeKind.TheVariants as kind
-use Rattle.rox_names.specs.SpelledNames.{SpellsName, wide_name}
 use Rattle.rox_tags.specs.declared.quick_tag.PlainTag.{PlainTag}
-use Rattle.rox_builder.specs.Putting.{PutsLeaf, PutsOpen}
-use Rattle.rox_builder.specs.Readiness.{MayPutRow}
+use Rattle.rox_builder.specs.Putting.{MayPutOpen, PutsLeaf, PutsOpen}
 use Rattle.rox_builder.specs.declared.builder.Builder.{Builder}
 
--- There is room for the row of the element whose start tag `t` starts at `i`, and for one more open element. The parent has the
--- row `above`.
+-- There is room for the element whose start tag `t` starts at `i`. Its parent has the row `above`.
 pub record MayPutElement (src : List ℕ) (i : ℕ) (b : Builder) (above : ℕ) (t : PlainTag) : Type 0 where
-  pub row : MayPutRow b above i
-  pub depth : vec_len b.opened < vec_capacity b.opened
-  pub named : SpellsName src t.tag
-  pub narrow : t.tag.name_end - t.tag.name_start < wide_name
+  pub opens : MayPutOpen b above src i t.tag
   pub end : t.end < 2 ^ 32
 
 -- The element has its row, and is open unless its tag `t` is empty. The tag ends at `j`.

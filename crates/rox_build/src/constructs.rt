@@ -28,7 +28,6 @@ use rox_tags::tag::{TagContext, start_tag};
 use rox_values::context::Context;
 use rox_values::parse_error::ParseError;
 use rox_values::text_value::cdata_text;
-use std::alloc::Global;
 
 /// Returns what a result is for a caller that opens entities.
 #[inline(always)]
@@ -43,7 +42,6 @@ pub fn parsed<'input>(read: Result<(), Failure>) -> Result<(), ParseError<'input
 
 /// Reads a comment, from `<!--`.
 pub fn comment<'input>(
-    alloc: Global,
     cursor: &mut Cursor<'input>,
     builder: &mut Builder<'input>,
 ) -> Result<(), Failure>
@@ -54,7 +52,6 @@ pub fn comment<'input>(
     let start = cursor.pos;
     let text = cursor.comment()?;
     builder.leaf(
-        alloc,
         start,
         cursor.pos,
         NodeKind::Comment(StringStorage::Borrowed(text)),
@@ -63,7 +60,6 @@ pub fn comment<'input>(
 
 /// Reads a processing instruction, from `<?`.
 pub fn instruction<'input>(
-    alloc: Global,
     cursor: &mut Cursor<'input>,
     builder: &mut Builder<'input>,
 ) -> Result<(), Failure>
@@ -74,7 +70,6 @@ pub fn instruction<'input>(
     let start = cursor.pos;
     let pi = cursor.instruction()?;
     builder.leaf(
-        alloc,
         start,
         cursor.pos,
         NodeKind::PI(PI {
@@ -85,11 +80,7 @@ pub fn instruction<'input>(
 }
 
 /// Reads a CDATA section, from `<![CDATA[`.
-fn cdata<'input>(
-    alloc: Global,
-    cursor: &mut Cursor<'input>,
-    builder: &mut Builder<'input>,
-) -> Result<(), Failure>
+fn cdata<'input>(cursor: &mut Cursor<'input>, builder: &mut Builder<'input>) -> Result<(), Failure>
     requires { MayRead word.CDataStart cursor.old builder.old }
     ensures { ScansAs (λ limit src s. lifted (machine.cdata_step limit src s)) cursor.old
         cursor.new builder.old builder.new result }
@@ -97,13 +88,12 @@ fn cdata<'input>(
     let start = cursor.pos;
     let raw = cursor.cdata()?;
     let piece = cdata_text(raw, &mut builder.buffers.scratch)?;
-    builder.piece(alloc, start, cursor.pos, piece)
+    builder.piece(start, cursor.pos, piece)
 }
 
 /// Reads the construct that `<!` starts: a comment or a CDATA section.
 #[tactic(auto, unfolding(rox_reading::specs::Machine::step))]
 fn comment_or_section<'input>(
-    alloc: Global,
     cursor: &mut Cursor<'input>,
     builder: &mut Builder<'input>,
 ) -> Result<(), Failure>
@@ -111,10 +101,10 @@ fn comment_or_section<'input>(
     ensures { ScansIn machine.step cursor.old cursor.new builder.old builder.new result }
 {
     if cursor.starts(Word::CommentStart) {
-        return comment(alloc, cursor, builder);
+        return comment(cursor, builder);
     }
     if cursor.starts(Word::CDataStart) {
-        return cdata(alloc, cursor, builder);
+        return cdata(cursor, builder);
     }
     Err(Failure::Fault(Fault::UnknownToken(cursor.pos)))
 }
@@ -135,7 +125,6 @@ fn cut_off_fault(builder: &Builder<'_>, context: Context<'_, '_>) -> Fault
 
 /// Reads a start tag, from its `<`.
 pub fn element<'input>(
-    alloc: Global,
     cursor: &mut Cursor<'input>,
     builder: &mut Builder<'input>,
     context: Context<'_, 'input>,
@@ -154,13 +143,13 @@ pub fn element<'input>(
         openings_left,
     };
     let (tables, buffers) = (&mut builder.tables, &mut builder.buffers);
-    let (tag, left) = start_tag(alloc, cursor, tables, buffers, around, context)?;
+    let (tag, left) = start_tag(cursor, tables, buffers, around, context)?;
     builder.openings_left = left;
     if tag.empty {
         let kind = NodeKind::Element(tag.element);
-        return parsed(builder.leaf(alloc, start, cursor.pos, kind));
+        return parsed(builder.leaf(start, cursor.pos, kind));
     }
-    parsed(builder.open_element(alloc, cursor.text, start, &tag))
+    parsed(builder.open_element(cursor.text, start, &tag))
 }
 
 /// Returns the span of the local part of a name that ends at `end`.
@@ -216,7 +205,6 @@ fn same_qname(one: NameBytes<'_>, other: NameBytes<'_>) -> bool
 /// Reads an end tag, from `</`.
 #[inline(always)]
 pub fn end_tag<'input>(
-    alloc: Global,
     cursor: &mut Cursor<'input>,
     builder: &mut Builder<'input>,
     context: Context<'_, 'input>,
@@ -240,7 +228,7 @@ pub fn end_tag<'input>(
         let found = name_span(closed, start + 2, tag.name_end);
         return Err(Failure::Fault(Fault::UnexpectedCloseTag(expected, found, start)));
     }
-    builder.close(alloc, cursor.pos)?;
+    builder.close(cursor.pos)?;
     Ok(())
 }
 
@@ -248,7 +236,6 @@ pub fn end_tag<'input>(
 #[tactic(auto, unfolding(rox_reading::specs::Machine::step))]
 #[inline(always)]
 pub fn markup<'input>(
-    alloc: Global,
     cursor: &mut Cursor<'input>,
     builder: &mut Builder<'input>,
     context: Context<'_, 'input>,
@@ -260,10 +247,10 @@ pub fn markup<'input>(
     let bytes = cursor.text.as_bytes();
     let next = bytes[cursor.pos + 1];
     if next == b'!' {
-        return parsed(comment_or_section(alloc, cursor, builder));
+        return parsed(comment_or_section(cursor, builder));
     }
     if next == b'?' {
-        return parsed(instruction(alloc, cursor, builder));
+        return parsed(instruction(cursor, builder));
     }
-    element(alloc, cursor, builder, context)
+    element(cursor, builder, context)
 }

@@ -27,13 +27,12 @@ use rox_values::context::Context;
 use rox_values::line_ends::line_feeds;
 use rox_values::parse_error::ParseError;
 use rox_values::text_value::TextValue;
-use std::alloc::{AllocError, Global};
+use std::alloc::AllocError;
 
 /// Reads the pieces of character data, up to the next `<` or the end.
 #[cycle(content)]
 #[inline(always)]
 fn character_data_pieces<'input>(
-    alloc: Global,
     cursor: &mut Cursor<'input>,
     builder: &mut Builder<'input>,
     context: Context<'_, 'input>,
@@ -46,18 +45,17 @@ fn character_data_pieces<'input>(
     let raw = raw_character_data(cursor)?;
     if raw.is_verbatim {
         let piece = TextValue::Plain(raw.text);
-        return parsed(builder.piece(alloc, start, cursor.pos, piece));
+        return parsed(builder.piece(start, cursor.pos, piece));
     }
     let stop = cursor.pos;
     cursor.pos = start;
-    data_parts(alloc, cursor, builder, context, start, stop)
+    data_parts(cursor, builder, context, start, stop)
 }
 
 /// Reads character data, up to the next `<` or the end, and then writes a waiting text to its row if nothing can continue it.
 #[cycle(content)]
 #[inline(never)]
 fn character_data<'input>(
-    alloc: Global,
     cursor: &mut Cursor<'input>,
     builder: &mut Builder<'input>,
     context: Context<'_, 'input>,
@@ -66,8 +64,8 @@ fn character_data<'input>(
     ensures { ParsesAs machine.character_data_step context.entry cursor.old cursor.new builder.old
         builder.new result }
 {
-    character_data_pieces(alloc, cursor, builder, context)?;
-    builder.end_run(alloc, cursor.text, cursor.pos)?;
+    character_data_pieces(cursor, builder, context)?;
+    builder.end_run(cursor.text, cursor.pos)?;
     Ok(())
 }
 
@@ -75,7 +73,6 @@ fn character_data<'input>(
 /// starts at `start`.
 #[cycle(content)]
 fn data_parts<'input>(
-    alloc: Global,
     cursor: &mut Cursor<'input>,
     builder: &mut Builder<'input>,
     context: Context<'_, 'input>,
@@ -87,8 +84,8 @@ fn data_parts<'input>(
         cursor.old cursor.new builder.old builder.new result }
 {
     for _turn in 0..cursor.text.len() {
-        match part_piece(alloc, cursor, builder, context, start, stop)? {
-            Some(text) => open_text(alloc, cursor.pos, builder, context, text)?,
+        match part_piece(cursor, builder, context, start, stop)? {
+            Some(text) => open_text(cursor.pos, builder, context, text)?,
             None => {
                 cursor.pos = stop;
                 return Ok(());
@@ -126,7 +123,6 @@ fn part<'input>(
 /// `stop` or at a reference to an entity, whose replacement text is returned.
 #[inline(never)]
 fn other_part_piece<'input>(
-    alloc: Global,
     cursor: &mut Cursor<'input>,
     builder: &mut Builder<'input>,
     context: Context<'_, 'input>,
@@ -141,7 +137,7 @@ fn other_part_piece<'input>(
     if builder.buffers.scratch.is_empty() {
         return Ok(next);
     }
-    builder.piece(alloc, start, stop, TextValue::Changed)?;
+    builder.piece(start, stop, TextValue::Changed)?;
     Ok(next)
 }
 
@@ -149,7 +145,6 @@ fn other_part_piece<'input>(
 /// text that has its row may continue.
 #[inline(always)]
 fn part_piece<'input>(
-    alloc: Global,
     cursor: &mut Cursor<'input>,
     builder: &mut Builder<'input>,
     context: Context<'_, 'input>,
@@ -166,7 +161,7 @@ fn part_piece<'input>(
         builder.end_part(before, start, stop)?;
         return Ok(next);
     }
-    other_part_piece(alloc, cursor, builder, context, start, stop)
+    other_part_piece(cursor, builder, context, start, stop)
 }
 
 /// Joins a replacement text that is plain character data, named in the main text, to the text that may continue. If none may, the
@@ -200,7 +195,6 @@ fn joins<'input>(
 #[cycle(content)]
 #[inline(always)]
 fn open_text<'input>(
-    alloc: Global,
     after: usize,
     builder: &mut Builder<'input>,
     context: Context<'_, 'input>,
@@ -213,7 +207,7 @@ fn open_text<'input>(
     if joined {
         return Ok(());
     }
-    open_other_text(alloc, after, builder, context, text)
+    open_other_text(after, builder, context, text)
 }
 
 /// Like `open_text`, but reads any text, construct by construct.
@@ -221,7 +215,6 @@ fn open_text<'input>(
 #[cold]
 #[inline(never)]
 fn open_other_text<'input>(
-    alloc: Global,
     after: usize,
     builder: &mut Builder<'input>,
     context: Context<'_, 'input>,
@@ -233,7 +226,7 @@ fn open_other_text<'input>(
     let before = builder.openings_left;
     let (within, inner) = context.opened(after, before, builder.opened.len())?;
     builder.openings_left = inner;
-    match content_text(alloc, builder, within, text) {
+    match content_text(builder, within, text) {
         Ok(()) => {
             builder.openings_left = context.left_behind(before, builder.openings_left);
             Ok(())
@@ -245,7 +238,6 @@ fn open_other_text<'input>(
 /// Reads the content of a replacement text, up to its end.
 #[cycle(content)]
 fn content_text<'input>(
-    alloc: Global,
     builder: &mut Builder<'input>,
     context: Context<'_, 'input>,
     text: Cursor<'input>,
@@ -265,7 +257,7 @@ fn content_text<'input>(
         if builder.buffers.seen.lacking {
             return Err(ParseError::Memory);
         }
-        step(alloc, &mut cursor, builder, context)?;
+        step(&mut cursor, builder, context)?;
     }
     text_end(builder, context)
 }
@@ -291,7 +283,6 @@ fn text_end<'input>(
 #[cycle(content)]
 #[inline(never)]
 fn step<'input>(
-    alloc: Global,
     cursor: &mut Cursor<'input>,
     builder: &mut Builder<'input>,
     context: Context<'_, 'input>,
@@ -302,22 +293,21 @@ fn step<'input>(
 {
     let bytes = cursor.text.as_bytes();
     if bytes[cursor.pos] != b'<' {
-        return character_data(alloc, cursor, builder, context);
+        return character_data(cursor, builder, context);
     }
     if cursor.pos + 1 >= bytes.len() {
         return Err(ParseError::Fault(Fault::UnknownToken(cursor.pos)));
     }
     let next = bytes[cursor.pos + 1];
     if next == b'/' {
-        return parsed(end_tag(alloc, cursor, builder, context));
+        return parsed(end_tag(cursor, builder, context));
     }
-    markup(alloc, cursor, builder, context)
+    markup(cursor, builder, context)
 }
 
 /// Reads content up to the end tag of the root element.
 #[inline(always)]
 pub fn content<'input>(
-    alloc: Global,
     cursor: &mut Cursor<'input>,
     builder: &mut Builder<'input>,
     context: Context<'_, 'input>,
@@ -329,14 +319,7 @@ pub fn content<'input>(
     // Each turn but the last reads at least one byte.
     for _turn in 0..cursor.text.len() {
         let rows = builder.rows_left();
-        let read = quick_constructs(
-            alloc,
-            cursor,
-            builder,
-            context.open_around,
-            context.main,
-            rows,
-        );
+        let read = quick_constructs(cursor, builder, context.open_around, context.main, rows);
         if builder.is_at_root() {
             return Ok(());
         }
@@ -355,11 +338,11 @@ pub fn content<'input>(
         if quick_repeating(cursor, builder) {
             continue;
         }
-        let joined = join_section(alloc, cursor, builder)?;
+        let joined = join_section(cursor, builder)?;
         if joined {
             continue;
         }
-        step(alloc, cursor, builder, context)?;
+        step(cursor, builder, context)?;
     }
     if builder.is_at_root() {
         Ok(())

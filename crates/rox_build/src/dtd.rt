@@ -25,7 +25,6 @@ use rox_scan::doctype::{Definition, ExternalId};
 use rox_scan::source::replacement_in;
 use rox_values::entities::Entities;
 use rox_values::parse_error::ParseError;
-use std::alloc::Global;
 
 /// Returns the replacement text that the resolver gives for an external entity, if it gives one. The request is at `at`.
 fn answer_for<'input, R: EntityResolver<'input>>(
@@ -101,7 +100,6 @@ fn ended<'input>(read: Result<(), ParseError<'input>>) -> Result<bool, ParseErro
 /// Reads an item of the internal subset, after any white space, or the subset's end (XML 1.0 [28b] intSubset). Returns whether
 /// that is the end of the declaration, which starts at `start`.
 fn item<'input, R: EntityResolver<'input>>(
-    alloc: Global,
     cursor: &mut Cursor<'input>,
     builder: &mut Builder<'input>,
     entities: &mut Entities<'input>,
@@ -117,10 +115,10 @@ fn item<'input, R: EntityResolver<'input>>(
         return ended(entity(cursor, entities, resolver));
     }
     if cursor.starts(Word::CommentStart) {
-        return ended(parsed(comment(alloc, cursor, builder)));
+        return ended(parsed(comment(cursor, builder)));
     }
     if cursor.starts(Word::PIStart) {
-        return ended(parsed(instruction(alloc, cursor, builder)));
+        return ended(parsed(instruction(cursor, builder)));
     }
     if cursor.is_skipped_declaration() {
         cursor.skip_declaration(start)?;
@@ -136,7 +134,6 @@ fn item<'input, R: EntityResolver<'input>>(
 /// Reads the internal subset, from after its `[` to the end of the declaration, which starts at `start`. It reports no fault if
 /// the text ends right after `[` or an item. What must follow the declaration is missing then.
 fn subset<'input, R: EntityResolver<'input>>(
-    alloc: Global,
     cursor: &mut Cursor<'input>,
     builder: &mut Builder<'input>,
     entities: &mut Entities<'input>,
@@ -152,7 +149,7 @@ fn subset<'input, R: EntityResolver<'input>>(
         if cursor.is_at_end() {
             return Ok(());
         }
-        if item(alloc, cursor, builder, entities, resolver, start)? {
+        if item(cursor, builder, entities, resolver, start)? {
             return Ok(());
         }
     }
@@ -161,7 +158,6 @@ fn subset<'input, R: EntityResolver<'input>>(
 
 /// Reads a document type declaration, from `<!DOCTYPE` (XML 1.0 [28] doctypedecl).
 pub fn document_type<'input, R: EntityResolver<'input>>(
-    alloc: Global,
     cursor: &mut Cursor<'input>,
     builder: &mut Builder<'input>,
     entities: &mut Entities<'input>,
@@ -177,7 +173,7 @@ pub fn document_type<'input, R: EntityResolver<'input>>(
     cursor.doctype_head()?;
     if is_at(cursor.text, cursor.pos, b'[') {
         cursor.advance();
-        return subset(alloc, cursor, builder, entities, resolver, start);
+        return subset(cursor, builder, entities, resolver, start);
     }
     if cursor.is_at_end() {
         return Err(ParseError::Fault(Fault::UnexpectedEndOfStream));

@@ -15,7 +15,6 @@ use rox_builder::builder::Builder;
 use rox_bytes::byte_set::{PartByte, find_other, near_part_end, part_end};
 use rox_bytes::runs::{after_byte, is_at};
 use rox_scan::cursor::Cursor;
-use std::alloc::Global;
 
 /// Returns true only if no text is open that character data at the cursor would continue.
 #[inline(always)]
@@ -79,7 +78,6 @@ fn quick_markup<'input>(
 /// `rows` rows are left. Returns whether any was read.
 #[inline(always)]
 pub fn quick_constructs<'input>(
-    alloc: Global,
     cursor: &mut Cursor<'input>,
     builder: &mut Builder<'input>,
     open_around: usize,
@@ -109,7 +107,7 @@ pub fn quick_constructs<'input>(
             break;
         }
         if bytes[here.pos] != b'<' {
-            if !put_character_data(alloc, &mut here, builder, main) {
+            if !put_character_data(&mut here, builder, main) {
                 break;
             }
         }

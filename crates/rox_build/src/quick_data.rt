@@ -10,18 +10,12 @@ use rox_rows::storage::StringStorage;
 use rox_scan::character_data::{changed_run_end, line_run_end, text_end};
 use rox_scan::cursor::Cursor;
 use rox_values::character_data::changed_data;
-use std::alloc::Global;
 
 /// Reads the character data at `start`, up to the next `<`, if it refers to no entity but the predefined ones and needs a
 /// replacement: it has references or line ends other than LF. It is of the main text. Returns the offset after it, or `NOT_READ`. If
 /// some named an entity before, more will, so the general step reads it.
 #[inline(never)]
-fn put_changed_data<'input>(
-    alloc: Global,
-    text: &'input str,
-    start: usize,
-    builder: &mut Builder<'input>,
-) -> usize
+fn put_changed_data<'input>(text: &'input str, start: usize, builder: &mut Builder<'input>) -> usize
     requires { MayReadRunAt text.now start builder.old }
     ensures { ReadsRunAt (λ k. k.values.main ≡ true) text.entry.now start result builder.old builder.new }
 {
@@ -43,6 +37,7 @@ fn put_changed_data<'input>(
         builder.names_entities = true;
         return NOT_READ;
     }
+    let alloc = builder.alloc();
     let changed = builder.buffers.scratch.as_str();
     let Ok(owned) = builder.recent.owned(alloc, changed) else {
         builder.buffers.seen.lacking = true;
@@ -55,21 +50,17 @@ fn put_changed_data<'input>(
 /// Like `put_changed_data`, but first tests whether the character data is CR LF followed only by bytes that need no replacement, as
 /// most is that gets here.
 #[inline(never)]
-fn put_line_end<'input>(
-    alloc: Global,
-    text: &'input str,
-    start: usize,
-    builder: &mut Builder<'input>,
-) -> usize
+fn put_line_end<'input>(text: &'input str, start: usize, builder: &mut Builder<'input>) -> usize
     requires { MayReadRunAt text.now start builder.old }
     ensures { ReadsRunAt (λ k. k.values.main ≡ true) text.entry.now start result builder.old builder.new }
 {
     let Some(end) = line_run_end(Cursor { text, pos: start }) else {
-        return put_changed_data(alloc, text, start, builder);
+        return put_changed_data(text, start, builder);
     };
     if !is_at(text, end, b'<') {
         return NOT_READ;
     }
+    let alloc = builder.alloc();
     let Ok(owned) = builder.recent.owned(alloc, &text[start + 1..end]) else {
         builder.buffers.seen.lacking = true;
         return NOT_READ;
@@ -82,7 +73,6 @@ fn put_line_end<'input>(
 /// cursor is tested out of line: a byte that is tested after a search would take the register of the text.
 #[inline(always)]
 fn put_main_line_end<'input>(
-    alloc: Global,
     cursor: &mut Cursor<'input>,
     builder: &mut Builder<'input>,
     main: bool,
@@ -94,7 +84,7 @@ fn put_main_line_end<'input>(
     if !main {
         return false;
     }
-    let end = put_line_end(alloc, cursor.text, cursor.pos, builder);
+    let end = put_line_end(cursor.text, cursor.pos, builder);
     if end > MOST_BYTES {
         return false;
     }
@@ -106,7 +96,6 @@ fn put_main_line_end<'input>(
 /// that it would continue. Returns whether it was read.
 #[inline(always)]
 pub fn put_character_data<'input>(
-    alloc: Global,
     cursor: &mut Cursor<'input>,
     builder: &mut Builder<'input>,
     main: bool,
@@ -118,7 +107,7 @@ pub fn put_character_data<'input>(
     let start = cursor.pos;
     let text = cursor.text;
     let Some(end) = text_end(text, start) else {
-        return put_main_line_end(alloc, cursor, builder, main);
+        return put_main_line_end(cursor, builder, main);
     };
     cursor.pos = end;
     builder.put_text(start, end, StringStorage::Borrowed(&text[start..end]));

@@ -15,8 +15,9 @@ use rox_builder::builder::Builder;
 use rox_bytes::runs::after_byte;
 use rox_rows::row::NodeKind;
 use rox_scan::cursor::Cursor;
+use rox_tags::quick_name::NamePlace;
 use rox_tags::quick_tag::{
-    PlainTag, TagPlace, start_tag_in_scope, start_tag_of_name, start_tag_without_prefix,
+    PlainTag, start_tag_in_scope, start_tag_of_name, start_tag_without_prefix,
 };
 use rox_tags::repeated_declaration::start_tag_repeating;
 
@@ -127,7 +128,7 @@ pub fn element_in_scope<'input>(
     let held = builder.tables.attributes.len();
     let Some(other) = start_tag_in_scope(
         text,
-        TagPlace { start, part },
+        NamePlace { start, part },
         &mut builder.tables,
         above,
         &mut builder.buffers.seen,
@@ -158,7 +159,7 @@ pub fn element_repeating<'input>(
     }
     let above = &builder.opened[depth - 1];
     let row = above.row;
-    let place = TagPlace { start, part };
+    let place = NamePlace { start, part };
     let Some(repeated) = start_tag_repeating(text, place, &builder.tables, above) else {
         return NOT_READ;
     };
@@ -191,7 +192,7 @@ pub fn element_without_prefix<'input>(
     let from = builder.tables.attributes.len();
     let Some(read) = start_tag_without_prefix(
         text,
-        TagPlace { start, part: near },
+        NamePlace { start, part: near },
         &mut builder.tables,
         parent,
         &mut builder.buffers.seen,

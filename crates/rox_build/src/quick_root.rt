@@ -22,7 +22,7 @@ use rox_tags::own_declaration::{OWN, TagScope};
 use rox_tags::quick_name::name_of_part;
 use rox_tags::quick_tag::{PlainTag, namespace_in_scope, tag_attributes};
 use rox_tags::tag::element_of;
-use std::alloc::{AllocError, Global};
+use std::alloc::AllocError;
 
 /// The row of the root node.
 const ROOT: u32 = 0;
@@ -96,9 +96,10 @@ fn begin_root(elements: &mut ElementTables<'_>) -> Result<(), AllocError>
 /// Resets the scopes to that of the root node, with nothing declared.
 #[cold]
 #[inline(never)]
-fn begin_scopes(alloc: Global, elements: &mut ElementTables<'_>) -> Result<(), AllocError>
+fn begin_scopes(elements: &mut ElementTables<'_>) -> Result<(), AllocError>
     ensures { BeginsScopes elements.old elements.new result }
 {
+    let alloc = *elements.scopes.allocator();
     elements.listed.clear();
     elements.scopes.clear();
     elements.present = PrefixBindings::new(alloc);
@@ -112,7 +113,6 @@ fn begin_scopes(alloc: Global, elements: &mut ElementTables<'_>) -> Result<(), A
 /// tables hold what they held.
 #[inline(always)]
 fn first_tag<'input>(
-    alloc: Global,
     text: &'input str,
     start: usize,
     elements: &mut ElementTables<'input>,
@@ -135,8 +135,8 @@ fn first_tag<'input>(
         return Err(AllocError);
     }
     elements.attributes.truncate(attributes);
-    elements.namespaces = NamespaceTable::new(alloc);
-    begin_scopes(alloc, elements)?;
+    elements.namespaces = NamespaceTable::new(*elements.scopes.allocator());
+    begin_scopes(elements)?;
     Ok(None)
 }
 
@@ -154,11 +154,7 @@ pub enum RootLook {
 /// Reads the start tag of the root element, from its `<`, if it is plain and its row finds room. Otherwise the tables hold what
 /// they held, unless memory was refused.
 #[inline(never)]
-pub fn root_element<'input>(
-    alloc: Global,
-    cursor: &mut Cursor<'input>,
-    builder: &mut Builder<'input>,
-) -> RootLook
+pub fn root_element<'input>(cursor: &mut Cursor<'input>, builder: &mut Builder<'input>) -> RootLook
     requires { MayReadTag cursor.old builder.old }
     ensures { ReadsRootElement cursor.old cursor.new builder.old builder.new result }
 {
@@ -167,7 +163,7 @@ pub fn root_element<'input>(
     }
     let (text, start) = (cursor.text, cursor.pos);
     let (tables, seen) = (&mut builder.tables, &mut builder.buffers.seen);
-    let Ok(look) = first_tag(alloc, text, start, tables, seen) else {
+    let Ok(look) = first_tag(text, start, tables, seen) else {
         return RootLook::Lacking;
     };
     let Some(read) = look else {

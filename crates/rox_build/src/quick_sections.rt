@@ -20,7 +20,7 @@ use rox_scan::character_data::text_end;
 use rox_scan::cursor::Cursor;
 use rox_scan::markup::whole_comment;
 use rox_values::text_value::{TextValue, cdata_text};
-use std::alloc::{AllocError, Global};
+use std::alloc::AllocError;
 
 /// Returned in place of the offset after a construct that was not read.
 pub const NOT_READ: usize = usize::MAX;
@@ -163,7 +163,6 @@ fn join_run<'input>(
 /// the source. Both join the text that may continue. Returns whether anything was read. The only error is want of memory.
 #[inline(never)]
 pub fn join_section<'input>(
-    alloc: Global,
     cursor: &mut Cursor<'input>,
     builder: &mut Builder<'input>,
 ) -> Result<bool, AllocError>
@@ -183,7 +182,7 @@ pub fn join_section<'input>(
         return Ok(false);
     }
     join_run(&mut here, builder)?;
-    builder.end_run(alloc, here.text, here.pos)?;
+    builder.end_run(here.text, here.pos)?;
     *cursor = here;
     Ok(true)
 }

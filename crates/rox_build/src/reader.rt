@@ -35,11 +35,7 @@ use std::alloc::{AllocError, Global};
 
 /// Reads comments, processing instructions and white space.
 #[inline(always)]
-fn misc<'input>(
-    alloc: Global,
-    cursor: &mut Cursor<'input>,
-    builder: &mut Builder<'input>,
-) -> Result<(), Failure>
+fn misc<'input>(cursor: &mut Cursor<'input>, builder: &mut Builder<'input>) -> Result<(), Failure>
     requires fine { IsConsistent builder.old.tables builder.old.opened.items }
     ensures { ScansAs (λ limit src s. lifted (whole.misc limit (length src) src s)) cursor.old
         cursor.new builder.old builder.new result }
@@ -47,9 +43,9 @@ fn misc<'input>(
     for _turn in 0..cursor.text.len() {
         cursor.spaces();
         if cursor.starts(Word::CommentStart) {
-            comment(alloc, cursor, builder)?;
+            comment(cursor, builder)?;
         } else if cursor.starts(Word::PIStart) {
-            instruction(alloc, cursor, builder)?;
+            instruction(cursor, builder)?;
         } else {
             return Ok(());
         }
@@ -60,7 +56,6 @@ fn misc<'input>(
 /// Reads the start tag of the root element, from its `<`.
 #[inline(always)]
 fn root_start<'input>(
-    alloc: Global,
     cursor: &mut Cursor<'input>,
     builder: &mut Builder<'input>,
     context: Context<'_, 'input>,
@@ -69,9 +64,9 @@ fn root_start<'input>(
     ensures { ParsesAs machine.tag_step context.entry cursor.old cursor.new builder.old builder.new
         result }
 {
-    match root_element(alloc, cursor, builder) {
+    match root_element(cursor, builder) {
         RootLook::Read => Ok(()),
-        RootLook::NotRead => element(alloc, cursor, builder, context),
+        RootLook::NotRead => element(cursor, builder, context),
         RootLook::Lacking => Err(ParseError::Memory),
     }
 }
@@ -79,7 +74,6 @@ fn root_start<'input>(
 /// Reads the root element and what follows it, if `<` is at the cursor. Returns whether `<` is there.
 #[inline(always)]
 fn body<'input>(
-    alloc: Global,
     cursor: &mut Cursor<'input>,
     builder: &mut Builder<'input>,
     entities: &Entities<'input>,
@@ -91,15 +85,14 @@ fn body<'input>(
         return Ok(false);
     }
     let context = Context::main_text(entities);
-    root_start(alloc, cursor, builder, context)?;
-    content(alloc, cursor, builder, context)?;
-    misc(alloc, cursor, builder)?;
+    root_start(cursor, builder, context)?;
+    content(cursor, builder, context)?;
+    misc(cursor, builder)?;
     Ok(true)
 }
 
 /// Reads the XML declaration, if it is at the cursor, and the comments, processing instructions and white space after it.
 fn prolog_start<'input>(
-    alloc: Global,
     cursor: &mut Cursor<'input>,
     builder: &mut Builder<'input>,
 ) -> Result<(), Failure>
@@ -107,13 +100,12 @@ fn prolog_start<'input>(
     ensures { ReadsStart cursor.old cursor.new builder.old builder.new result }
 {
     cursor.xml_decl_if()?;
-    misc(alloc, cursor, builder)
+    misc(cursor, builder)
 }
 
 /// Reads the document type declaration, if it is at the cursor, and the comments, processing instructions and white space after
 /// it. Returns whether it is there.
 fn doctype<'input, R: EntityResolver<'input>>(
-    alloc: Global,
     cursor: &mut Cursor<'input>,
     builder: &mut Builder<'input>,
     entities: &mut Entities<'input>,
@@ -130,15 +122,14 @@ fn doctype<'input, R: EntityResolver<'input>>(
     if !allow {
         return Err(ParseError::Fault(Fault::DtdDetected));
     }
-    document_type(alloc, cursor, builder, entities, resolver)?;
-    misc(alloc, cursor, builder)?;
+    document_type(cursor, builder, entities, resolver)?;
+    misc(cursor, builder)?;
     Ok(true)
 }
 
 /// Reads the root element and what follows it, up to the end of the text.
 #[inline(always)]
 fn rest<'input>(
-    alloc: Global,
     cursor: &mut Cursor<'input>,
     builder: &mut Builder<'input>,
     entities: &Entities<'input>,
@@ -146,7 +137,7 @@ fn rest<'input>(
     requires fine { IsConsistent builder.old.tables builder.old.opened.items }
     ensures { ReadsRest entities.now cursor.old cursor.new builder.old builder.new result }
 {
-    let some = body(alloc, cursor, builder, entities)?;
+    let some = body(cursor, builder, entities)?;
     if !cursor.is_at_end() {
         return Err(ParseError::Fault(Fault::UnknownToken(cursor.pos)));
     }
@@ -170,9 +161,9 @@ fn document<'input, R: EntityResolver<'input>>(
         result }
 {
     let mut entities: Entities<'input> = Entities::new(alloc);
-    prolog_start(alloc, cursor, builder)?;
-    let dtd = doctype(alloc, cursor, builder, &mut entities, allow, resolver)?;
-    rest(alloc, cursor, builder, &entities)?;
+    prolog_start(cursor, builder)?;
+    let dtd = doctype(cursor, builder, &mut entities, allow, resolver)?;
+    rest(cursor, builder, &entities)?;
     Ok(dtd)
 }
 
@@ -224,6 +215,6 @@ pub fn build<'input, R: EntityResolver<'input>>(
 {
     let mut cursor: Cursor<'input> = start_of(text);
     let dtd = document(alloc, &mut cursor, builder, allow, resolver)?;
-    builder.end(alloc)?;
+    builder.end()?;
     Ok(dtd)
 }

@@ -154,6 +154,12 @@ impl<'input> Builder<'input> {
         }
     }
 
+    /// Returns the allocator of the tables.
+    #[inline(always)]
+    pub fn alloc(&self) -> Global {
+        *self.opened.allocator()
+    }
+
     /// Returns whether no element is open.
     #[inline]
     pub fn is_at_root(&self) -> bool
@@ -264,16 +270,10 @@ impl<'input> Builder<'input> {
 
     /// Appends a node that is not a text and has no descendants. The only fault is that there are too many nodes.
     #[inline(always)]
-    pub fn leaf(
-        &mut self,
-        alloc: Global,
-        start: usize,
-        end: usize,
-        kind: NodeKind<'input>,
-    ) -> Result<(), Failure>
+    pub fn leaf(&mut self, start: usize, end: usize, kind: NodeKind<'input>) -> Result<(), Failure>
         ensures { AddsNode self.old self.new result start end kind.entry }
     {
-        self.flush(alloc)?;
+        self.flush()?;
         self.room()?;
         let row = self.row(start, end, kind);
         self.nodes.push(row)?;
@@ -284,7 +284,6 @@ impl<'input> Builder<'input> {
     #[inline(always)]
     pub fn open_element(
         &mut self,
-        alloc: Global,
         text: &'input str,
         start: usize,
         tag: &StartTag<'input>,
@@ -292,7 +291,7 @@ impl<'input> Builder<'input> {
         requires { SpellsName text.now tag.now }
         ensures { OpensElement self.old self.new result text.now start tag.now }
     {
-        self.flush(alloc)?;
+        self.flush()?;
         self.room()?;
         let row = self.nodes.len() as u32;
         let mut opening = self.row(start, 0, NodeKind::Element(tag.element));
@@ -313,10 +312,10 @@ impl<'input> Builder<'input> {
 
     /// Closes the innermost open element at `end`.
     #[inline(always)]
-    pub fn close(&mut self, alloc: Global, end: usize) -> Result<(), AllocError>
+    pub fn close(&mut self, end: usize) -> Result<(), AllocError>
         ensures { Closes self.old self.new result end }
     {
-        self.flush(alloc)?;
+        self.flush()?;
         if let Some(element) = self.opened.pop() {
             self.nodes.end_row(element.row, end)?;
         }
@@ -414,12 +413,12 @@ impl<'input> Builder<'input> {
 
     /// Ends the text: writes the text node that waits, ends the row of the root node, and frees unused room.
     #[inline(always)]
-    pub fn end(&mut self, alloc: Global) -> Result<(), AllocError>
+    pub fn end(&mut self) -> Result<(), AllocError>
         ensures ok { OnOk result ((end : ℕ) (done : Forest Item)
             → Represents end root done self.old → AreSound self.old.tables
             → HoldsTree (tables_of self.new) (document_tree end (merge done))) }
     {
-        self.flush(alloc)?;
+        self.flush()?;
         let count = self.nodes.len() as u32;
         self.nodes.end_root(count);
         self.nodes.trim();

@@ -94,7 +94,7 @@ impl<'input> Builder<'input> {
 
     /// Writes the text that may continue, if there is one.
     #[inline(always)]
-    pub(crate) fn flush(&mut self, alloc: Global) -> Result<(), AllocError>
+    pub(crate) fn flush(&mut self) -> Result<(), AllocError>
         ensures { Flushes self.old self.new result }
     {
         match self.pending {
@@ -104,7 +104,7 @@ impl<'input> Builder<'input> {
                 Ok(())
             }
             Pending::Joined => {
-                self.flush_joined(alloc)?;
+                self.flush_joined()?;
                 Ok(())
             }
         }
@@ -112,10 +112,11 @@ impl<'input> Builder<'input> {
 
     /// Writes the text in the buffer.
     #[inline(never)]
-    fn flush_joined(&mut self, alloc: Global) -> Result<(), AllocError>
+    fn flush_joined(&mut self) -> Result<(), AllocError>
         requires { self.old.pending ≡ pending.Joined }
         ensures { Flushes self.old self.new result }
     {
+        let alloc = self.alloc();
         let joined = &self.joined;
         let text = storage_of(alloc, &mut self.recent, joined.slice, joined.text.as_str())?;
         let row = self.row(self.joined.start, self.joined.end, NodeKind::Text(text));
@@ -126,7 +127,7 @@ impl<'input> Builder<'input> {
 
     /// Ends character data at `at`: a text that waits gets its row, if no text can continue there.
     #[inline(always)]
-    pub fn end_run(&mut self, alloc: Global, text: &str, at: usize) -> Result<(), AllocError>
+    pub fn end_run(&mut self, text: &str, at: usize) -> Result<(), AllocError>
         requires { at ≤ length text.now }
         ensures { EndsRun self.old self.new result }
     {
@@ -137,7 +138,7 @@ impl<'input> Builder<'input> {
         if !is_at(text, at, b'<') || is_at(text, at + 1, b'!') {
             return Ok(());
         }
-        self.flush_joined(alloc)?;
+        self.flush_joined()?;
         self.pending = Pending::Written;
         Ok(())
     }
@@ -206,7 +207,6 @@ impl<'input> Builder<'input> {
     #[inline(always)]
     pub fn piece(
         &mut self,
-        alloc: Global,
         start: usize,
         end: usize,
         piece: TextValue<'input>,
@@ -219,6 +219,7 @@ impl<'input> Builder<'input> {
             return Ok(());
         }
         self.room()?;
+        let alloc = self.alloc();
         let text = piece.text_in(self.buffers.scratch.as_str());
         let stored = storage_of(alloc, &mut self.recent, piece.slice(), text)?;
         let row = self.row(start, end, NodeKind::Text(stored));

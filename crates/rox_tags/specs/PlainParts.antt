@@ -27,7 +27,7 @@ use Rattle.rox_tags.specs.declared.quick_attribute.NamedAttribute.{NamedAttribut
 use Rattle.rox_tags.specs.declared.quick_tag.NextItem.{NextItem}
 use Rattle.rox_tags.specs.declared.quick_name.NameAt.{NameAt}
 use Rattle.rox_tags.specs.declared.quick_tag.TagEnd.{TagEnd}
-use Rattle.rox_tags.specs.declared.quick_tag.TagPlace.{TagPlace}
+use Rattle.rox_tags.specs.declared.quick_name.NamePlace.{NamePlace}
 
 -- A name starts at `i`, and its first part ends at `j`, before the byte `b`.
 pub record EndsFirstPart (src : List ℕ) (i j b : ℕ) : Type 0 where
@@ -74,10 +74,10 @@ pub record SeesEnd (src : List ℕ) (i q j : ℕ) : Type 0 where
   pub sees : SeesValue src i q j
   pub within : j < length src
 
--- An attribute that starts at `i` may be put, and its first ASCII name bytes end at `j`.
-pub record MayPutPart (src : List ℕ) (i j : ℕ) (t : ElementTables) (n : ℕ) (s : SeenNames) : Type 0 where
-  pub put : MayPut src i t n s
-  pub part : EndsSet is_part_byte src i j
+-- The attribute at `p` may be put, and its first ASCII name bytes end at `p.part`.
+pub record MayPutPart (src : List ℕ) (p : NamePlace) (t : ElementTables) (n : ℕ) (s : SeenNames) : Type 0 where
+  pub put : MayPut src p.start t n s
+  pub part : EndsSet is_part_byte src p.start p.part
 
 -- `s` is the namespace of an attribute named `name` in the scope `n`, and its prefix is known.
 pub record IsAttributeNamespace (t : ElementTables) (n : ℕ) (name : Name) (s : AttributeNamespace) : Type 0 where
@@ -86,10 +86,10 @@ pub record IsAttributeNamespace (t : ElementTables) (n : ℕ) (name : Name) (s :
       → attribute_uri (map namespace_view t.namespaces.items.items) s ≡ tree.attribute_namespace ds name
   pub known : (ds : List NamespaceDecl) → FindsBinding (map namespace_view t.namespaces.items.items) (few_in t n) t.present ds → is_known ds name ≡ true
 
--- The attribute `a`, whose namespace is `namespace`, may be put after those that `s` records. Its name and value were read.
-pub record MayPutNamed (src : List ℕ) (a : NamedAttribute) (t : ElementTables) (n : ℕ) (namespace : AttributeNamespace) (s : SeenNames) : Type 0 where
+-- The attribute `a` may be put after those that `s` records. Its name and value were read.
+pub record MayPutNamed (src : List ℕ) (a : NamedAttribute) (t : ElementTables) (n : ℕ) (s : SeenNames) : Type 0 where
   pub put : MayPut src a.start t n s
-  pub found : IsAttributeNamespace t n (name_view a.name.name) namespace
+  pub found : IsAttributeNamespace t n (name_view a.name.name) a.namespace
   pub named : IsAttributeName src a.start a.name
   pub local : a.start + a.before + length a.name.name.local.now ≡ a.name.end
   pub value : HasPlainValue src (a.name.end + 2) (slice_index src (a.name.end + 1)) a.value.end a.value.text.now
@@ -139,13 +139,13 @@ pub record MayReadBareTag (src : List ℕ) (i j : ℕ) (t : ElementTables) (o : 
   pub few_attributes : length (attribute_rows t.attributes) ≤ most_attributes
 
 -- A start tag may be at `p`, with a name of ASCII bytes without prefix. The name of its parent `o` has no prefix either.
-pub record MayReadNearTag (src : List ℕ) (p : TagPlace) (t : ElementTables) (o : OpenElement) : Type 0 where
+pub record MayReadNearTag (src : List ℕ) (p : NamePlace) (t : ElementTables) (o : OpenElement) : Type 0 where
   pub here : MayOpenAt src p.start t o
   pub near : EndsNear src (p.start + 1) p.part
   pub bare : o.prefixed ≡ false
 
 -- A start tag may be at `p`, with a name whose first part ends at `p.part`. Its parent is `o`.
-pub record MayReadPlainTag (src : List ℕ) (p : TagPlace) (t : ElementTables) (o : OpenElement) : Type 0 where
+pub record MayReadPlainTag (src : List ℕ) (p : NamePlace) (t : ElementTables) (o : OpenElement) : Type 0 where
   pub here : MayOpenAt src p.start t o
   pub part : Finds src (p.start + 1) p.part (run_end is_part_char src (p.start + 1))
 

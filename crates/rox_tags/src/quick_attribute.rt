@@ -12,7 +12,9 @@ ghost use Rattle.rox_tags.specs.PlainTag.{HasScope, IsNearAttribute, IsPlainAttr
 
 use crate::any_value::any_value;
 use crate::near_prefix::find_in_slot;
-use crate::quick_name::{NameAt, name_of_part, name_without_prefix, prefixed_name, some_place};
+use crate::quick_name::{
+    NameAt, NamePlace, name_of_part, name_without_prefix, prefixed_name, some_place,
+};
 use crate::quick_tag::one_space_end;
 use crate::quick_value::{
     UnchangedValue, any_value_start, quote_after_equals, quote_before, quote_in_text,
@@ -52,22 +54,21 @@ pub const MOST_ATTRIBUTES: usize = 4294967294;
 /// The longest name, in bytes, that fits into a 16-byte window with `=` and a quote.
 const MOST_NAME: usize = 14;
 
-/// Returns the attribute that starts at `start`, however it is written, or `None` if none does. Its first ASCII name bytes end at
-/// `near`. Its value must not depend on context, and it is owned if it needs a replacement. Also returns `None` if memory is
-/// refused, which sets `lacking`.
+/// Returns the attribute at `place`, however it is written, or `None` if there is none. Its value must not depend on context, and
+/// it is owned if it needs a replacement. Also returns `None` if memory is refused, which sets `lacking`.
 #[inline(always)]
 fn any_attribute<'input>(
     alloc: Global,
     text: &'input str,
-    start: usize,
-    near: usize,
+    place: NamePlace,
     recent: &mut Option<Box<Recent>>,
     lacking: &mut bool,
 ) -> Option<UnresolvedAttribute<'input>>
-    requires { StartsNear text.now start near }
-    ensures { IfSome result (λ a. IsPlainAttribute text.entry.now start a) }
+    requires { StartsNear text.now place.start place.part }
+    ensures { IfSome result (λ a. IsPlainAttribute text.entry.now place.start a) }
 {
-    let colon = near_part_end(text, start, near);
+    let start = place.start;
+    let colon = near_part_end(text, start, place.part);
     let name = name_of_part(text, start, colon)?;
     let from = any_value_start(text, name.end);
     if from == 0 {
@@ -129,32 +130,23 @@ fn namespace_in(
     prefix_namespace(elements, scope, name.prefix, near)
 }
 
-/// Puts the attribute that starts at `start`, however it is written, after those of its tag, which `seen` records. Its first ASCII
-/// name bytes end at `near`. Its value must not depend on context. Returns the offset after it, or 0 with the table unchanged. A
-/// declaration is not put.
+/// Puts the attribute at `place`, however it is written, after those of its tag, which `seen` records. Its value must not depend on
+/// context. Returns the offset after it, or 0 with the table unchanged. A declaration is not put.
 #[cold]
 #[inline(never)]
 fn put_any_attribute<'input>(
     text: &'input str,
-    start: usize,
-    near: usize,
+    place: NamePlace,
     elements: &mut ElementTables<'input>,
     scope: u32,
     seen: &mut SeenNames,
 ) -> usize
-    requires { MayPutPart text.now start near elements.old scope seen.old }
+    requires { MayPutPart text.now place elements.old scope seen.old }
     ensures { PutsPlain elements.old elements.new scope seen.old seen.new text.entry.now
-        start result }
+        place.start result }
 {
     let alloc = *elements.attributes.items.allocator();
-    let read = any_attribute(
-        alloc,
-        text,
-        start,
-        near,
-        &mut seen.values,
-        &mut seen.lacking,
-    );
+    let read = any_attribute(alloc, text, place, &mut seen.values, &mut seen.lacking);
     let Some(one) = read else {
         return 0;
     };
@@ -193,8 +185,8 @@ fn put_attribute_anew<'input>(
     ensures { PutsPlain elements.old elements.new scope seen.old seen.new text.entry.now
         start result }
 {
-    let near = skip_set::<PartByte>(text, start);
-    put_any_attribute(text, start, near, elements, scope, seen)
+    let part = skip_set::<PartByte>(text, start);
+    put_any_attribute(text, NamePlace { start, part }, elements, scope, seen)
 }
 
 /// Returns the attribute or declaration after the white space at `at`, if it is written as most are. Then `=` and a quote follow
@@ -235,28 +227,28 @@ pub fn verbatim_attribute<'input>(
     })
 }
 
-/// An attribute whose name and value were read, with `=` and a quote right after its name.
+/// An attribute whose name and value were read, with `=` and a quote right after its name, and whose namespace is known.
 #[derive(Clone, Copy)]
 pub struct NamedAttribute<'input> {
     pub start: usize,
     /// The number of bytes of its name before the local part: the prefix and the colon.
     pub before: usize,
     pub name: NameAt<'input>,
+    pub namespace: AttributeNamespace,
     pub value: UnchangedValue<'input>,
 }
 
-/// Puts the attribute `read`, whose namespace is `namespace`, after those of its tag, which `seen` records. Returns the offset
-/// after it, or `None` with the table unchanged. A declaration is not put. Most attributes are usual and take no call.
+/// Puts the attribute `read` after those of its tag, which `seen` records. Returns the offset after it, or `None` with the table
+/// unchanged. A declaration is not put. Most attributes are usual and take no call.
 #[inline(always)]
 fn put_named_attribute<'input>(
     text: &'input str,
     read: NamedAttribute<'input>,
     elements: &mut ElementTables<'input>,
     scope: u32,
-    namespace: AttributeNamespace,
     seen: &mut SeenNames,
 ) -> Option<usize>
-    requires { MayPutNamed text.now read elements.old scope namespace seen.old }
+    requires { MayPutNamed text.now read elements.old scope seen.old }
     ensures { PutsSome elements.old elements.new scope seen.old seen.new text.entry.now
         read.entry.start result }
 {
@@ -278,7 +270,7 @@ fn put_named_attribute<'input>(
         &elements.namespaces,
         &mut elements.attributes,
         seen,
-        namespace,
+        read.namespace,
         one,
     ) {
         return None;
@@ -286,23 +278,23 @@ fn put_named_attribute<'input>(
     Some(after_byte(text, read.value.end, quote))
 }
 
-/// Like `put_attribute`, but for attributes whose first bytes, up to `part`, are not followed by `=` and a quote. Most often
-/// these bytes are the prefix. Returns 0 where that returns `None`.
+/// Like `put_attribute`, but for the attribute at `place`, if its first ASCII name bytes are not followed by `=` and a quote. Most
+/// often these bytes are the prefix. Returns 0 where that returns `None`.
 #[inline(never)]
 fn put_prefixed_attribute<'input>(
     text: &'input str,
-    start: usize,
-    part: usize,
+    place: NamePlace,
     elements: &mut ElementTables<'input>,
     scope: u32,
     seen: &mut SeenNames,
 ) -> usize
-    requires { MayPutPart text.now start part elements.old scope seen.old }
+    requires { MayPutPart text.now place elements.old scope seen.old }
     ensures { PutsPlain elements.old elements.new scope seen.old seen.new text.entry.now
-        start result }
+        place.start result }
 {
+    let NamePlace { start, part } = place;
     if !is_at(text, part, b':') {
-        return put_any_attribute(text, start, part, elements, scope, seen);
+        return put_any_attribute(text, place, elements, scope, seen);
     }
     // The namespace is looked up first, while little else is in registers.
     let Some(namespace) = prefix_namespace(elements, scope, &text[start..part], &mut seen.near)
@@ -310,20 +302,21 @@ fn put_prefixed_attribute<'input>(
         return 0;
     };
     let Some(name) = prefixed_name(text, start, part) else {
-        return put_any_attribute(text, start, part, elements, scope, seen);
+        return put_any_attribute(text, place, elements, scope, seen);
     };
     let quote = quote_before(text, name.end + 2);
     let near = skip_set::<ValueByte>(text, name.end + 2);
     let Some(value) = unchanged_value(text, name.end + 2, quote, near) else {
-        return put_any_attribute(text, start, part, elements, scope, seen);
+        return put_any_attribute(text, place, elements, scope, seen);
     };
     let read = NamedAttribute {
         start,
         before: part + 1 - start,
         name,
+        namespace,
         value,
     };
-    let Some(behind) = put_named_attribute(text, read, elements, scope, namespace, seen) else {
+    let Some(behind) = put_named_attribute(text, read, elements, scope, seen) else {
         return 0;
     };
     behind
@@ -344,23 +337,24 @@ fn put_long_attribute<'input>(
         start result }
 {
     let part = skip_set::<PartByte>(text, start);
+    let place = NamePlace { start, part };
     let quote = quote_after_equals(text, part);
     if quote == 0 {
-        return put_prefixed_attribute(text, start, part, elements, scope, seen);
+        return put_prefixed_attribute(text, place, elements, scope, seen);
     }
     let name = name_without_prefix(text, start, part);
     let near = skip_set::<ValueByte>(text, part + 2);
     let Some(value) = unchanged_value(text, part + 2, quote, near) else {
-        return put_any_attribute(text, start, part, elements, scope, seen);
+        return put_any_attribute(text, place, elements, scope, seen);
     };
-    let namespace = AttributeNamespace::None;
     let read = NamedAttribute {
         start,
         before: 0,
         name,
+        namespace: AttributeNamespace::None,
         value,
     };
-    put_named_attribute(text, read, elements, scope, namespace, seen).unwrap_or(0)
+    put_named_attribute(text, read, elements, scope, seen).unwrap_or(0)
 }
 
 /// Puts the attribute that starts at `start` after those of its tag, which `seen` records. Returns the offset after it, or `None`
@@ -386,20 +380,21 @@ pub fn put_attribute<'input>(
         return some_place(put_long_attribute(text, start, elements, scope, seen));
     }
     let part = start + count;
+    let place = NamePlace { start, part };
     let quote = quote_in_text(text, part);
     if quote == 0 {
-        return some_place(put_prefixed_attribute(text, start, part, elements, scope, seen));
+        return some_place(put_prefixed_attribute(text, place, elements, scope, seen));
     }
     let name = name_without_prefix(text, start, part);
     let Some(value) = value_in_window(text, window, count + 2, quote) else {
-        return some_place(put_any_attribute(text, start, part, elements, scope, seen));
+        return some_place(put_any_attribute(text, place, elements, scope, seen));
     };
-    let namespace = AttributeNamespace::None;
     let read = NamedAttribute {
         start,
         before: 0,
         name,
+        namespace: AttributeNamespace::None,
         value,
     };
-    put_named_attribute(text, read, elements, scope, namespace, seen)
+    put_named_attribute(text, read, elements, scope, seen)
 }

@@ -14,6 +14,14 @@ use rox_bytes::chars::NameStart;
 use rox_bytes::runs::{after_byte, begins, is_at};
 use rox_grammar::name::QName;
 
+/// The offset at which a start tag or an attribute starts, and that at which the first part of its name ends, or the first ASCII
+/// bytes of that part.
+#[derive(Clone, Copy)]
+pub struct NamePlace {
+    pub start: usize,
+    pub part: usize,
+}
+
 /// A name, and the offset at which it ends.
 #[derive(Clone, Copy)]
 pub struct NameAt<'input> {

@@ -13,7 +13,7 @@ ghost use Rattle.rox_tags.specs.TagAttributes.{EndsAttributes, MayReadAttributes
 use crate::near_prefix::find_in_slot;
 use crate::own_declaration::{TagScope, declares_at, put_declaration};
 use crate::quick_attribute::{MOST_ATTRIBUTES, byte_count, put_attribute};
-use crate::quick_name::{ascii_name, name_of_part};
+use crate::quick_name::{NamePlace, ascii_name, name_of_part};
 use crate::tag::element_of;
 use rox_bytes::runs::{after_byte, begins, is_at};
 use rox_grammar::name::QName;
@@ -274,19 +274,12 @@ fn tag_namespace(
     prefixed_namespace(elements, name, parent.scope, near)
 }
 
-/// The offset at which a start tag starts, and that at which the first part of its name ends.
-#[derive(Clone, Copy)]
-pub struct TagPlace {
-    pub start: usize,
-    pub part: usize,
-}
-
 /// Reads the start tag at `place`, a child of `parent`, if it is plain and finds room. Its attributes are in the table then. If
 /// `None` is returned, the table may have some of them too.
 #[inline(always)]
 pub fn start_tag_in_scope<'input>(
     text: &'input str,
-    place: TagPlace,
+    place: NamePlace,
     elements: &mut ElementTables<'input>,
     parent: &OpenElement<'input>,
     seen: &mut SeenNames,
@@ -323,7 +316,7 @@ pub fn start_tag_in_scope<'input>(
 #[inline(always)]
 pub fn start_tag_without_prefix<'input>(
     text: &'input str,
-    place: TagPlace,
+    place: NamePlace,
     elements: &mut ElementTables<'input>,
     above: &OpenElement<'input>,
     seen: &mut SeenNames,

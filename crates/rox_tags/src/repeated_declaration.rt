@@ -12,8 +12,8 @@ ghost use Rattle.rox_tags.specs.Repeating.{AreOneMore, IsRepeated, Repeats};
 
 use crate::own_declaration::may_declare;
 use crate::quick_attribute::{byte_count, verbatim_attribute};
-use crate::quick_name::name_of_part;
-use crate::quick_tag::{PlainTag, TagPlace, attributes_end, namespace_in_scope};
+use crate::quick_name::{NamePlace, name_of_part};
+use crate::quick_tag::{PlainTag, attributes_end, namespace_in_scope};
 use crate::tag::element_of;
 use rox_bytes::runs::after_byte;
 use rox_names::namespace_decl::is_namespace_decl;
@@ -106,7 +106,7 @@ fn scope_repeating<'input>(
 #[inline(always)]
 pub fn start_tag_repeating<'input>(
     text: &'input str,
-    place: TagPlace,
+    place: NamePlace,
     elements: &ElementTables<'input>,
     parent: &OpenElement<'input>,
 ) -> Option<PlainTag<'input>>

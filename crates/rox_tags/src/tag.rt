@@ -170,7 +170,6 @@ fn add_attribute<'input>(
 #[inline(always)]
 #[tactic(auto, unfolding(rox_reading::specs::Tags::attributes_at))]
 fn attributes<'input>(
-    alloc: Global,
     cursor: &mut Cursor<'input>,
     elements: &mut ElementTables<'input>,
     buffers: &mut Buffers<'input>,
@@ -181,6 +180,7 @@ fn attributes<'input>(
     ensures { ReadsAttributes context.entry tag cursor.old cursor.new elements.old elements.new
         buffers.old buffers.new result }
 {
+    let alloc = *elements.attributes.items.allocator();
     let mut xml = false;
     let mut openings_left = tag.openings_left;
     let count = byte_count(cursor.text);
@@ -226,7 +226,6 @@ pub fn element_of<'input>(
 /// name is at `at`.
 #[inline(always)]
 fn element_data<'input>(
-    alloc: Global,
     elements: &mut ElementTables<'input>,
     taken: &mut Vec<UnresolvedAttribute<'input>>,
     name: QName<'input>,
@@ -237,6 +236,7 @@ fn element_data<'input>(
     ensures { MakesElement elements.old elements.new scope at (name_view name.entry)
         (map unresolved_view taken.old.items) result }
 {
+    let alloc = *elements.attributes.items.allocator();
     let from = elements.attributes.len();
     if taken.len() > MOST_ATTRIBUTES - from {
         return Err(Failure::Fault(Fault::AttributesLimitReached));
@@ -265,7 +265,6 @@ fn element_data<'input>(
 /// after it.
 #[tactic(auto, unfolding(rox_reading::specs::Tags::tag_at))]
 pub fn start_tag<'input>(
-    alloc: Global,
     cursor: &mut Cursor<'input>,
     elements: &mut ElementTables<'input>,
     buffers: &mut Buffers<'input>,
@@ -291,10 +290,10 @@ pub fn start_tag<'input>(
         openings_left: around.openings_left,
     };
     buffers.taken.clear();
-    let (xml, empty, openings_left) = attributes(alloc, cursor, elements, buffers, open, context)?;
+    let (xml, empty, openings_left) = attributes(cursor, elements, buffers, open, context)?;
     let declared = OwnDeclarations { from: own, xml };
     let scope = scope_of_tag(elements, &buffers.prefix_set, around.above, declared)?;
-    let element = element_data(alloc, elements, &mut buffers.taken, name, name_start, scope)?;
+    let element = element_data(elements, &mut buffers.taken, name, name_start, scope)?;
     let tag = StartTag {
         name,
         name_start,

@@ -5,7 +5,7 @@ use Rattle.rox_builder.specs.BuilderState.{GoesOn, IsReadyTo}
 use Rattle.rox_builder.proofs.Stepping.{step_is_run, state_kept}
 use Rattle.rox_build.proofs.Twice.{Between, ready_within, reads_none, reads_run, reads_markup, reads_kept}
 use Rattle.rox_build.proofs.quick_content.quick_constructs.Goals as goal
-use Rattle.rox_build.proofs.quick_content.quick_constructs.Goals.{else-loop-alloc-test, then-loop-alloc-test+then-is_at_root, then-loop-alloc-test+else-is_at_root+then-here-bytes, then-loop-alloc-test+else-is_at_root+else-here-bytes+then-bytes-here-ne60+then-not-put_character_data, then-loop-alloc-test+else-is_at_root+else-here-bytes+then-not-quick_markup, then-bytes-here-ne60+else-not-put_character_data, else-bytes-here-ne60}
+use Rattle.rox_build.proofs.quick_content.quick_constructs.Goals.{else-loop-builder-test, then-loop-builder-test+then-is_at_root, then-loop-builder-test+else-is_at_root+then-here-bytes, then-loop-builder-test+else-is_at_root+else-here-bytes+then-bytes-here-ne60+then-not-put_character_data, then-loop-builder-test+else-is_at_root+else-here-bytes+then-not-quick_markup, then-bytes-here-ne60+else-not-put_character_data, else-bytes-here-ne60}
 
 pub returns-then-cursor-gt-MOST_BYTES : goal.returns-then-cursor-gt-MOST_BYTES
 returns-then-cursor-gt-MOST_BYTES c = record {
@@ -21,8 +21,8 @@ returns-then-not-stands_apart c = record {
   goes = record { source = refl; fine = c.requires.fine };
 }
 
-pub loop-alloc-init : goal.loop-alloc-init
-loop-alloc-init c = record {
+pub loop-builder-init : goal.loop-builder-init
+loop-builder-init c = record {
   source = refl;
   fine = c.requires.fine;
   ready = λ some. subst (λ (n : ℕ). IsReadyTo (n + c.args.rows) c.args.builder.now) (sym c.len.ensures.rows) (c.requires.ready (omega (arith, some, c.len.ensures.rows)));
@@ -33,71 +33,71 @@ loop-alloc-init c = record {
 pub put_character_data-requires : goal.put_character_data-requires
 put_character_data-requires c =
     let most = c.len.result + c.args.rows in
-    let some : vec_len c.loop-alloc.builder.nodes.rows + 1 < most = omega (arith, c.loop-alloc-test.true, c.len-in-loop-alloc.ensures.rows) in
+    let some : vec_len c.loop-builder.builder.nodes.rows + 1 < most = omega (arith, c.loop-builder-test.true, c.len-in-loop-builder.ensures.rows) in
     let short : length c.args.cursor.now.text.now < 2 ^ 32 = omega (arith, c.if-cursor-gt-MOST_BYTES.false) in
-    let here : slice_index c.loop-alloc.here.text.now c.loop-alloc.here.pos ≢ 60 = λ e. c.if-bytes-here-ne60.true (ap (λ (xs : List ℕ). slice_index xs c.loop-alloc.here.pos) c.as_bytes-bytes.ensures.value ∙ e) in
+    let here : slice_index c.loop-builder.here.text.now c.loop-builder.here.pos ≢ 60 = λ e. c.if-bytes-here-ne60.true (ap (λ (xs : List ℕ). slice_index xs c.loop-builder.here.pos) c.as_bytes-bytes.ensures.value ∙ e) in
     record {
       here = here;
       room = record {
-        short = rw (c.loop-alloc.invariant.source) short;
-        ready = ready_within most 1 c.loop-alloc.builder (omega (arith, some)) (c.loop-alloc.invariant.ready some);
-        fine = c.loop-alloc.invariant.fine;
+        short = rw (c.loop-builder.invariant.source) short;
+        ready = ready_within most 1 c.loop-builder.builder (omega (arith, some)) (c.loop-builder.invariant.ready some);
+        fine = c.loop-builder.invariant.fine;
       };
-      apart = c.loop-alloc.invariant.apart here;
+      apart = c.loop-builder.invariant.apart here;
     }
 
 pub quick_markup-requires : goal.quick_markup-requires
 quick_markup-requires c = record {
   here = elim c.if-bytes-here-ne60.branch [
     | then-bytes-here-ne60+else-not-put_character_data w ↦ rw (w.here-is, w.put_character_data.ensures.goes.source) (w.put_character_data.ensures.behind w.if-not-put_character_data.false)
-    | else-bytes-here-ne60 w ↦ rw (w.here-is) (ap (λ (xs : List ℕ). slice_index xs c.loop-alloc.here.pos) (sym c.as_bytes-bytes.ensures.value) ∙ w.if-bytes-here-ne60.false)
+    | else-bytes-here-ne60 w ↦ rw (w.here-is) (ap (λ (xs : List ℕ). slice_index xs c.loop-builder.here.pos) (sym c.as_bytes-bytes.ensures.value) ∙ w.if-bytes-here-ne60.false)
   ];
   room =
       let most = c.len.result + c.args.rows in
-      let some : vec_len c.loop-alloc.builder.nodes.rows + 1 < most = omega (arith, c.loop-alloc-test.true, c.len-in-loop-alloc.ensures.rows) in
-      let ready = c.loop-alloc.invariant.ready some in
-      let fine = c.loop-alloc.invariant.fine in
+      let some : vec_len c.loop-builder.builder.nodes.rows + 1 < most = omega (arith, c.loop-builder-test.true, c.len-in-loop-builder.ensures.rows) in
+      let ready = c.loop-builder.invariant.ready some in
+      let fine = c.loop-builder.invariant.fine in
       let short : length c.args.cursor.now.text.now < 2 ^ 32 = omega (arith, c.if-cursor-gt-MOST_BYTES.false) in
       elim c.if-bytes-here-ne60.branch [
         | then-bytes-here-ne60+else-not-put_character_data w ↦ (
             let yes = w.if-not-put_character_data.false in
             record {
-              short = rw (w.here-is, w.put_character_data.ensures.goes.source, c.loop-alloc.invariant.source) short;
+              short = rw (w.here-is, w.put_character_data.ensures.goes.source, c.loop-builder.invariant.source) short;
               ready = rw w.builder-is (ready_within most 1 w.put_character_data.new.builder (omega (arith, some, w.put_character_data.ensures.rows yes)) (w.put_character_data.ensures.ready yes most ready));
               fine = rw w.builder-is w.put_character_data.ensures.goes.fine;
             })
         | else-bytes-here-ne60 w ↦ record {
-          short = rw (w.here-is, c.loop-alloc.invariant.source) short;
-          ready = rw w.builder-is (ready_within most 1 c.loop-alloc.builder (omega (arith, some)) ready);
+          short = rw (w.here-is, c.loop-builder.invariant.source) short;
+          ready = rw w.builder-is (ready_within most 1 c.loop-builder.builder (omega (arith, some)) ready);
           fine = rw w.builder-is fine;
         }
       ];
 }
 
-pub loop-alloc-smaller : goal.loop-alloc-smaller
-loop-alloc-smaller c =
-    let s0 = ap (λ t. t.now) c.loop-alloc.invariant.source in
+pub loop-builder-smaller : goal.loop-builder-smaller
+loop-builder-smaller c =
+    let s0 = ap (λ t. t.now) c.loop-builder.invariant.source in
     let len : length c.as_bytes-bytes.result.now ≡ length c.args.cursor.now.text.now = ap length (c.as_bytes-bytes.ensures.value ∙ s0) in
-    let onward : c.loop-alloc.here.pos ≤ c.if-bytes-here-ne60.here.pos = elim c.if-bytes-here-ne60.branch [
+    let onward : c.loop-builder.here.pos ≤ c.if-bytes-here-ne60.here.pos = elim c.if-bytes-here-ne60.branch [
       | then-bytes-here-ne60+else-not-put_character_data w ↦ rw w.here-is (omega (arith, w.put_character_data.ensures.moves w.if-not-put_character_data.false))
       | else-bytes-here-ne60 w ↦ rw w.here-is (omega arith)
     ] in
     omega (arith, onward, len, c.if-here-bytes.false, c.quick_markup.ensures.moves c.if-not-quick_markup.false)
 
-pub loop-alloc-preserved : goal.loop-alloc-preserved
-loop-alloc-preserved c =
+pub loop-builder-preserved : goal.loop-builder-preserved
+loop-builder-preserved c =
     let src = c.args.cursor.now.text.now in
-    let s0 = ap (λ t. t.now) c.loop-alloc.invariant.source in
+    let s0 = ap (λ t. t.now) c.loop-builder.invariant.source in
     let source : c.if-bytes-here-ne60.here.text ≡ c.args.cursor.now.text = elim c.if-bytes-here-ne60.branch [
-      | then-bytes-here-ne60+else-not-put_character_data w ↦ ap (λ (x : Cursor). x.text) w.here-is ∙ w.put_character_data.ensures.goes.source ∙ c.loop-alloc.invariant.source
-      | else-bytes-here-ne60 w ↦ ap (λ (x : Cursor). x.text) w.here-is ∙ c.loop-alloc.invariant.source
+      | then-bytes-here-ne60+else-not-put_character_data w ↦ ap (λ (x : Cursor). x.text) w.here-is ∙ w.put_character_data.ensures.goes.source ∙ c.loop-builder.invariant.source
+      | else-bytes-here-ne60 w ↦ ap (λ (x : Cursor). x.text) w.here-is ∙ c.loop-builder.invariant.source
     ] in
     let s1 = ap (λ t. t.now) source in
     let most = c.len.result + c.args.rows in
-    let some : vec_len c.loop-alloc.builder.nodes.rows + 1 < most = omega (arith, c.loop-alloc-test.true, c.len-in-loop-alloc.ensures.rows) in
+    let some : vec_len c.loop-builder.builder.nodes.rows + 1 < most = omega (arith, c.loop-builder-test.true, c.len-in-loop-builder.ensures.rows) in
     let ready : IsReadyTo most c.if-bytes-here-ne60.builder = elim c.if-bytes-here-ne60.branch [
-      | then-bytes-here-ne60+else-not-put_character_data w ↦ rw w.builder-is (w.put_character_data.ensures.ready w.if-not-put_character_data.false most (c.loop-alloc.invariant.ready some))
-      | else-bytes-here-ne60 w ↦ rw w.builder-is (c.loop-alloc.invariant.ready some)
+      | then-bytes-here-ne60+else-not-put_character_data w ↦ rw w.builder-is (w.put_character_data.ensures.ready w.if-not-put_character_data.false most (c.loop-builder.invariant.ready some))
+      | else-bytes-here-ne60 w ↦ rw w.builder-is (c.loop-builder.invariant.ready some)
     ] in
     record {
       source = c.quick_markup.ensures.reads.goes.source ∙ source;
@@ -105,7 +105,7 @@ loop-alloc-preserved c =
       ready = λ _. c.quick_markup.ensures.ready c.if-not-quick_markup.false most ready;
       apart = c.quick_markup.ensures.apart c.if-not-quick_markup.false;
       reads = λ context end s around main h.
-          let read = c.loop-alloc.invariant.reads context end s around main h in
+          let read = c.loop-builder.invariant.reads context end s around main h in
           let g = read.1 in
           let inner : is_root g.behind.stack ≡ false = sym (c.is_at_root.ensures end g.behind.stack g.behind.done g.sees.shows) ∙ c.if-is_at_root.false in
           let len : length c.as_bytes-bytes.result.now ≡ length src = ap length (c.as_bytes-bytes.ensures.value ∙ s0) in
@@ -115,8 +115,8 @@ loop-alloc-preserved c =
                 let yes = w.if-not-put_character_data.false in
                 rw (w.here-is, w.builder-is) (
                   read.0 + 1,
-                  reads_run context end read.0 src s c.loop-alloc.here w.put_character_data.new.cursor c.loop-alloc.builder w.put_character_data.new.builder (g, inner, within) w.put_character_data.ensures.opened
-                      (rw (step_is_run context src _ g.behind c.loop-alloc.here.pos (c.as_bytes-bytes.ensures.value ∙ s0) g.sees.here w.if-bytes-here-ne60.true) (rw s0 at (w.put_character_data.ensures.value yes context end g.behind main g.sees)))
+                  reads_run context end read.0 src s c.loop-builder.here w.put_character_data.new.cursor c.loop-builder.builder w.put_character_data.new.builder (g, inner, within) w.put_character_data.ensures.opened
+                      (rw (step_is_run context src _ g.behind c.loop-builder.here.pos (c.as_bytes-bytes.ensures.value ∙ s0) g.sees.here w.if-bytes-here-ne60.true) (rw s0 at (w.put_character_data.ensures.value yes context end g.behind main g.sees)))
                       (rw s0 at (w.put_character_data.ensures.behind yes)),
                 ))
             | else-bytes-here-ne60 w ↦ rw (w.here-is, w.builder-is) (read.0, (g, inner, within))
@@ -131,22 +131,22 @@ pub returns : goal.returns
 returns c = record {
   value = λ context end s around main h.
       let src = c.args.cursor.now.text.now in
-      let s0 = ap (λ t. t.now) c.loop-alloc.invariant.source in
-      let read = c.loop-alloc.invariant.reads context end s around main h in
+      let s0 = ap (λ t. t.now) c.loop-builder.invariant.source in
+      let read = c.loop-builder.invariant.reads context end s around main h in
       let g = read.1 in
-      elim c.loop-alloc-test.branch [
-        | else-loop-alloc-test w ↦ rw (w.here-is, w.builder-is) read
-        | then-loop-alloc-test+then-is_at_root w ↦ rw (w.here-is, w.builder-is) read
-        | then-loop-alloc-test+else-is_at_root+then-here-bytes w ↦ rw (w.here-is, w.builder-is) read
-        | then-loop-alloc-test+else-is_at_root+else-here-bytes+then-bytes-here-ne60+then-not-put_character_data w ↦ (
+      elim c.loop-builder-test.branch [
+        | else-loop-builder-test w ↦ rw (w.here-is, w.builder-is) read
+        | then-loop-builder-test+then-is_at_root w ↦ rw (w.here-is, w.builder-is) read
+        | then-loop-builder-test+else-is_at_root+then-here-bytes w ↦ rw (w.here-is, w.builder-is) read
+        | then-loop-builder-test+else-is_at_root+else-here-bytes+then-bytes-here-ne60+then-not-put_character_data w ↦ (
             rw (w.here-is, w.builder-is) (
               read.0,
-              reads_kept context end read.0 src s c.loop-alloc.here w.put_character_data.new.cursor c.loop-alloc.builder w.put_character_data.new.builder read.1
+              reads_kept context end read.0 src s c.loop-builder.here w.put_character_data.new.cursor c.loop-builder.builder w.put_character_data.new.builder read.1
                   (λ t sees. (
                   let o = w.put_character_data.ensures.other w.if-not-put_character_data.true in
                   state_kept context.limit end t _ _ _ _ sees o.0 o.1)),
             ))
-        | then-loop-alloc-test+else-is_at_root+else-here-bytes+then-not-quick_markup w ↦ (
+        | then-loop-builder-test+else-is_at_root+else-here-bytes+then-not-quick_markup w ↦ (
             let inner : is_root g.behind.stack ≡ false = sym (w.is_at_root.ensures end g.behind.stack g.behind.done g.sees.shows) ∙ w.if-is_at_root.false in
             let len : length w.as_bytes-bytes.result.now ≡ length src = ap length (w.as_bytes-bytes.ensures.value ∙ s0) in
             let within : g.behind.at < length src = omega (arith, w.if-here-bytes.false, len, g.sees.here) in
@@ -155,8 +155,8 @@ returns c = record {
                   let yes = v.if-not-put_character_data.false in
                   rw (v.here-is, v.builder-is) (
                     read.0 + 1,
-                    reads_run context end read.0 src s c.loop-alloc.here v.put_character_data.new.cursor c.loop-alloc.builder v.put_character_data.new.builder (g, inner, within) v.put_character_data.ensures.opened
-                        (rw (step_is_run context src _ g.behind c.loop-alloc.here.pos (w.as_bytes-bytes.ensures.value ∙ s0) g.sees.here v.if-bytes-here-ne60.true) (rw s0 at (v.put_character_data.ensures.value yes context end g.behind main g.sees)))
+                    reads_run context end read.0 src s c.loop-builder.here v.put_character_data.new.cursor c.loop-builder.builder v.put_character_data.new.builder (g, inner, within) v.put_character_data.ensures.opened
+                        (rw (step_is_run context src _ g.behind c.loop-builder.here.pos (w.as_bytes-bytes.ensures.value ∙ s0) g.sees.here v.if-bytes-here-ne60.true) (rw s0 at (v.put_character_data.ensures.value yes context end g.behind main g.sees)))
                         (rw s0 at (v.put_character_data.ensures.behind yes)),
                   ))
               | else-bytes-here-ne60 v ↦ rw (v.here-is, v.builder-is) (read.0, (g, inner, within))
@@ -171,17 +171,17 @@ returns c = record {
       ];
   moves = λ yes. ltb-true _ _ yes;
   goes =
-      let base : GoesOn c.args.cursor.now c.loop-alloc.here c.loop-alloc.builder = record { source = c.loop-alloc.invariant.source; fine = c.loop-alloc.invariant.fine } in
-      elim c.loop-alloc-test.branch [
-        | else-loop-alloc-test w ↦ rw (w.here-is, w.builder-is) base
-        | then-loop-alloc-test+then-is_at_root w ↦ rw (w.here-is, w.builder-is) base
-        | then-loop-alloc-test+else-is_at_root+then-here-bytes w ↦ rw (w.here-is, w.builder-is) base
-        | then-loop-alloc-test+else-is_at_root+else-here-bytes+then-bytes-here-ne60+then-not-put_character_data w ↦ (
-            rw (w.here-is, w.builder-is) (record { source = w.put_character_data.ensures.goes.source ∙ c.loop-alloc.invariant.source; fine = w.put_character_data.ensures.goes.fine }))
-        | then-loop-alloc-test+else-is_at_root+else-here-bytes+then-not-quick_markup w ↦ (
+      let base : GoesOn c.args.cursor.now c.loop-builder.here c.loop-builder.builder = record { source = c.loop-builder.invariant.source; fine = c.loop-builder.invariant.fine } in
+      elim c.loop-builder-test.branch [
+        | else-loop-builder-test w ↦ rw (w.here-is, w.builder-is) base
+        | then-loop-builder-test+then-is_at_root w ↦ rw (w.here-is, w.builder-is) base
+        | then-loop-builder-test+else-is_at_root+then-here-bytes w ↦ rw (w.here-is, w.builder-is) base
+        | then-loop-builder-test+else-is_at_root+else-here-bytes+then-bytes-here-ne60+then-not-put_character_data w ↦ (
+            rw (w.here-is, w.builder-is) (record { source = w.put_character_data.ensures.goes.source ∙ c.loop-builder.invariant.source; fine = w.put_character_data.ensures.goes.fine }))
+        | then-loop-builder-test+else-is_at_root+else-here-bytes+then-not-quick_markup w ↦ (
             let source : w.if-bytes-here-ne60.here.text ≡ c.args.cursor.now.text = elim w.if-bytes-here-ne60.branch [
-              | then-bytes-here-ne60+else-not-put_character_data v ↦ ap (λ (x : Cursor). x.text) v.here-is ∙ v.put_character_data.ensures.goes.source ∙ c.loop-alloc.invariant.source
-              | else-bytes-here-ne60 v ↦ ap (λ (x : Cursor). x.text) v.here-is ∙ c.loop-alloc.invariant.source
+              | then-bytes-here-ne60+else-not-put_character_data v ↦ ap (λ (x : Cursor). x.text) v.here-is ∙ v.put_character_data.ensures.goes.source ∙ c.loop-builder.invariant.source
+              | else-bytes-here-ne60 v ↦ ap (λ (x : Cursor). x.text) v.here-is ∙ c.loop-builder.invariant.source
             ] in
             rw (w.here-is, w.builder-is) (record { source = w.quick_markup.ensures.reads.goes.source ∙ source; fine = w.quick_markup.ensures.reads.goes.fine }))
       ];

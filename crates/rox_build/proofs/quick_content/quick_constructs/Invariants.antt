@@ -6,8 +6,8 @@ use Rattle.rox_build.specs.PlainOutcomes.{StandsApart}
 use Rattle.rox_build.specs.PlainSteps.{Reads}
 use Rattle.rox_build.proofs.quick_content.quick_constructs.Given as goal
 
-abbrev pub invariant-loop-alloc : goal.invariant-loop-alloc
-invariant-loop-alloc l = record {
+abbrev pub invariant-loop-builder : goal.invariant-loop-builder
+invariant-loop-builder l = record {
   source : l.here.text ≡ l.fn.cursor.text;
   fine : IsConsistent l.builder.tables l.builder.opened.items;
   ready : vec_len l.builder.nodes.rows + 1 < l.most → IsReadyTo l.most l.builder;
@@ -15,5 +15,5 @@ invariant-loop-alloc l = record {
   reads : (context : Context) (end : ℕ) (s : State) → context.open_around ≡ l.fn.open_around → context.values.main ≡ l.fn.main → IsInState context.limit end s l.fn.cursor l.fn.builder → (n : ℕ) × Reads context end n l.here l.builder l.fn.cursor.text.now s;
 }
 
-abbrev pub decreases-loop-alloc : goal.decreases-loop-alloc
-decreases-loop-alloc l = length l.fn.cursor.text.now - l.here.pos
+abbrev pub decreases-loop-builder : goal.decreases-loop-builder
+decreases-loop-builder l = length l.fn.cursor.text.now - l.here.pos

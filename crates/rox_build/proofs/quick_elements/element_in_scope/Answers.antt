@@ -3,7 +3,7 @@ use Rattle.rox_scopes.specs.declared.tables.ElementTables.{ElementTables}
 use Rattle.rox_builder.proofs.Showing.{split_at}
 use Rattle.rox_build.proofs.Closing.{below_last}
 use Rattle.rox_build.proofs.Opening.{cut_back, fine_same}
-use Rattle.rox_build.proofs.PlainElements.{below, may_put, element_reads}
+use Rattle.rox_build.proofs.PlainElements.{below, row_below, may_put, element_reads}
 use Rattle.rox_build.proofs.PlainReads.{reads_not}
 use Rattle.rox_build.proofs.quick_elements.element_in_scope.Goals as goal
 
@@ -23,13 +23,15 @@ start_tag_in_scope-requires c = record {
 
 pub put_element-requires : goal.put_element-requires
 put_element-requires c =
-    may_put c.args.builder.now _ c.index-above.result.now c.args.text.now c.args.start _ c.in-Some.other
+    let r = c.requires.room.ready in
+    may_put c.args.builder.now _ _ c.args.text.now c.args.start _ c.in-Some.other
     (below c.args.builder.now _ c.args.text.now c.args.start c.len-depth.result c.index-above.result.now c.in-Some.other c.utf8.text c.requires.here c.requires.room.short c.requires.room.fine (omega arith) (omega arith) c.index-above.ensures (record { nodes = refl; opened = refl; pending = refl; joined = refl; limit = refl; openings_left = refl }) c.in-Some.ensures.read)
-    refl c.requires.room.ready (omega (arith, c.requires.room.short, c.requires.start.0)) (c.has_room_to_open.ensures c.if-not-has_room_to_open.false)
+    (row_below c.start_tag_in_scope.new.elements c.args.builder.now.opened.items c.len-depth.result c.index-above.result.now (omega arith) (omega arith) c.index-above.ensures)
+    (record { room = r.room; few = r.few; small = r.small; settled = r.settled }) (omega (arith, c.requires.room.short, c.requires.start.0)) (c.has_room_to_open.ensures c.if-not-has_room_to_open.false)
 
 pub returns : goal.returns
 returns c =
-    element_reads c.args.builder.now _ _ c.index-above.result.now c.args.text.now c.args.start _ c.in-Some.other
+    element_reads c.args.builder.now _ _ _ c.args.text.now c.args.start _ c.in-Some.other
     (below c.args.builder.now _ c.args.text.now c.args.start c.len-depth.result c.index-above.result.now c.in-Some.other c.utf8.text c.requires.here c.requires.room.short c.requires.room.fine (omega arith) (omega arith) c.index-above.ensures (record { nodes = refl; opened = refl; pending = refl; joined = refl; limit = refl; openings_left = refl }) c.in-Some.ensures.read)
     c.put_element.ensures
 

@@ -2,14 +2,10 @@ use Rattle.std.proofs.Common.{◌-◌, take, arith, refl, rules}
 use Rattle.std.proofs.lemmas.Grind.{common_steps}
 use Rattle.rox_scopes.specs.declared.tables.ElementTables.{ElementTables}
 use Rattle.rox_builder.proofs.Showing.{split_at}
-use Rattle.rox_bytes.proofs.RunLemmas.{stands_within}
 use Rattle.rox_build.proofs.Closing.{below_last}
 use Rattle.rox_build.proofs.Opening.{cut_back, fine_same}
-use Rattle.std.proofs.lemmas.Str.{IsCharBoundary-after_ascii}
-use Rattle.rox_tags.proofs.PlainTags.{near_cut, near_ends}
-use Rattle.std.proofs.Common.{◌+◌}
 use Rattle.rox_build.proofs.PlainReads.{reads_kept}
-use Rattle.rox_build.proofs.PlainElements.{below, may_put, element_reads}
+use Rattle.rox_build.proofs.PlainElements.{below, row_below, may_put, element_reads, part_near}
 use Rattle.rox_build.proofs.PlainReads.{reads_not}
 use Rattle.rox_build.proofs.quick_elements.element_without_prefix.Goals as goal
 
@@ -32,15 +28,7 @@ pub element_in_scope-requires : goal.element_in_scope-requires
 element_in_scope-requires c = record {
   here = c.requires.here;
   start = c.requires.start;
-  part =
-      let src = c.args.text.now in
-      let i = c.args.start in
-      let within = stands_within src i 60 c.requires.here (omega arith) in
-      record {
-        place = near_ends src (i + 1) c.args.near c.utf8.text c.requires.near;
-        onward = c.requires.near.ends.onward;
-        cut = near_cut src (i + 1) c.args.near c.utf8.text (IsCharBoundary-after_ascii src i c.utf8.text within (omega (arith, c.requires.here))) c.requires.near;
-      };
+  part = part_near c.args.text.now c.args.start c.args.near c.utf8.text c.requires.here c.requires.near;
   room =
       let ready = c.requires.room.ready in
       record {
@@ -52,13 +40,15 @@ element_in_scope-requires c = record {
 
 pub put_element-requires : goal.put_element-requires
 put_element-requires c =
-    may_put c.args.builder.now _ c.index-parent.result.now c.args.text.now c.args.start _ c.in-Some.read
+    let r = c.requires.room.ready in
+    may_put c.args.builder.now _ _ c.args.text.now c.args.start _ c.in-Some.read
     (below c.args.builder.now _ c.args.text.now c.args.start c.len-depth.result c.index-parent.result.now c.in-Some.read c.utf8.text c.requires.here c.requires.room.short c.requires.room.fine (omega arith) (omega arith) c.index-parent.ensures (record { nodes = refl; opened = refl; pending = refl; joined = refl; limit = refl; openings_left = refl }) c.in-Some.ensures.read)
-    refl c.requires.room.ready (omega (arith, c.requires.room.short, c.requires.start.0)) (c.has_room_to_open.ensures c.if-not-has_room_to_open.false)
+    (row_below c.start_tag_without_prefix.new.elements c.args.builder.now.opened.items c.len-depth.result c.index-parent.result.now (omega arith) (omega arith) c.index-parent.ensures)
+    (record { room = r.room; few = r.few; small = r.small; settled = r.settled }) (omega (arith, c.requires.room.short, c.requires.start.0)) (c.has_room_to_open.ensures c.if-not-has_room_to_open.false)
 
 pub returns : goal.returns
 returns c =
-    element_reads c.args.builder.now _ _ c.index-parent.result.now c.args.text.now c.args.start _ c.in-Some.read
+    element_reads c.args.builder.now _ _ _ c.args.text.now c.args.start _ c.in-Some.read
     (below c.args.builder.now _ c.args.text.now c.args.start c.len-depth.result c.index-parent.result.now c.in-Some.read c.utf8.text c.requires.here c.requires.room.short c.requires.room.fine (omega arith) (omega arith) c.index-parent.ensures (record { nodes = refl; opened = refl; pending = refl; joined = refl; limit = refl; openings_left = refl }) c.in-Some.ensures.read)
     c.put_element.ensures
 
@@ -82,15 +72,7 @@ element_repeating-requires c =
     record {
       here = c.requires.here;
       start = c.requires.start;
-      part =
-          let src = c.args.text.now in
-          let i = c.args.start in
-          let within = stands_within src i 60 c.requires.here (omega arith) in
-          record {
-            place = near_ends src (i + 1) c.args.near c.utf8.text c.requires.near;
-            onward = c.requires.near.ends.onward;
-            cut = near_cut src (i + 1) c.args.near c.utf8.text (IsCharBoundary-after_ascii src i c.utf8.text within (omega (arith, c.requires.here))) c.requires.near;
-          };
+      part = part_near c.args.text.now c.args.start c.args.near c.utf8.text c.requires.here c.requires.near;
       room =
           let ready = c.requires.room.ready in
           record {

@@ -8,7 +8,7 @@ pub returns : goal.returns
 returns c = record { end = refl; leaf = λ is. absurd (cc (is, c.if-read.false)); opens = λ _. c.put_open.ensures }
 
 pub put_leaf-requires : goal.put_leaf-requires
-put_leaf-requires c = record { row = c.requires.row; end = c.requires.end; small = tt }
+put_leaf-requires c = record { row = c.requires.opens.row; end = c.requires.end; small = tt }
 
 pub put_open-requires : goal.put_open-requires
-put_open-requires c = record { row = c.requires.row; depth = c.requires.depth; named = c.requires.named; narrow = c.requires.narrow }
+put_open-requires c = c.requires.opens

@@ -1,23 +1,24 @@
-use Rattle.std.proofs.Common.{◌≡◌, ℕ, Bool, true, List, [], Ok, length, refl, sym, ap, subst, ◌∙◌, arith}
-use Rattle.rox_grammar.specs.declared.fault.Fault.TheVariants as fault
-use Rattle.rox_grammar.specs.Written.{Element, NamespaceDecl}
-use Rattle.rox_grammar.specs.State.{scope_of}
-use Rattle.rox_reading.specs.Machine.{opened_by, cut_off_fault}
-use Rattle.rox_reading.specs.Refusals.{lifted}
-use Rattle.rox_reading.specs.Tags.{Values}
-use Rattle.rox_rows.specs.declared.row.NodeKind.TheVariants as kind
-use Rattle.rox_builder.specs.BuilderState.{IsNode}
-use Rattle.rox_tags.specs.ElementRow.{Tagged}
+use Rattle.std.proofs.Common.{◌≡◌, [], length, refl, sym, ap, ◌∙◌, arith}
 use Rattle.rox_build.specs.RootTag.{HoldAlike, IsReadFirst}
-use Rattle.rox_builder.proofs.Growing.{grown_shows}
-use Rattle.rox_build.proofs.Opening.{grown_by, is_node, is_opening, fine_by, fine_kept, fine_more, namespace_by, tag_is, empty_stepped, open_stepped}
 use Rattle.rox_build.proofs.RootElements.{alike_fine, alike_state, at_root, lists_nothing, not_err}
-use Rattle.rox_names.proofs.SameNames.{opened_named}
-use Rattle.rox_names.proofs.SpelledNames.{tag_is_named}
+use Rattle.rox_scan.specs.declared.cursor.Cursor.{Cursor}
+use Rattle.rox_tags.specs.declared.quick_tag.PlainTag.{PlainTag}
+use Rattle.rox_builder.specs.Readiness.{MayReadTag}
+use Rattle.rox_builder.specs.declared.builder.Builder.{Builder}
+use Rattle.rox_build.proofs.PlainElements.{KeepsOthers, ReadsBelow, may_open, leaf_reads, open_reads}
 use Rattle.rox_build.proofs.quick_root.root_element.Goals as goal
 
-any_values : Values
-any_values = record { main = true; entities = []; opener = λ text i openings_left. Ok ([], openings_left) }
+first_below : (cursor : Cursor) (b m : Builder) (t : PlainTag) → MayReadTag cursor b → length b.opened.items ≡ 0 → KeepsOthers b m → IsReadFirst b.tables m.tables cursor.text.now cursor.pos t
+    → ReadsBelow b m [] cursor.text.now cursor.pos t
+first_below cursor b m t may none same x = record {
+  utf8 = cursor.utf8;
+  here = may.here;
+  short = x.short;
+  fine = may.fine;
+  scope = λ end stack done shows. lists_nothing b.tables b.opened.items stack none shows.open_rows;
+  same = same;
+  read = x.plain;
+}
 
 pub returns-in_default-look : goal.returns-in_default-look
 returns-in_default-look c =
@@ -54,107 +55,38 @@ put_leaf-requires c =
 pub put_open-requires : goal.put_open-requires
 put_open-requires c =
     let b = c.args.builder.now in
-    let src = c.args.cursor.now.text.now in
-    let pos = c.args.cursor.now.pos in
-    let t = c.in-Some.read.tag in
-    let x : IsReadFirst b.tables c.first_tag.new.elements src pos c.in-Some.read = rw c.in-Some.is at c.in-Ok.ensures in
-    let plain = x.plain in
-    let ready = c.rows_left.ensures 1 (omega arith) (omega arith) in
+    let x : IsReadFirst b.tables c.first_tag.new.elements c.args.cursor.now.text.now c.args.cursor.now.pos c.in-Some.read = rw c.in-Some.is at c.in-Ok.ensures in
+    let r = c.rows_left.ensures 1 (omega arith) (omega arith) in
     let room = not_err c.reserve_exact.result (sym c.is_err.ensures.value ∙ c.if-is_err.false) c.reserve_exact.ensures.ok in
-    let read = plain.read any_values fault.NoRootNode 0 in
-    let named = tag_is_named any_values fault.NoRootNode _ _ _ src pos 0 _ _ t c.args.cursor.now.utf8 c.requires.here read
-    plain.tagged.name plain.tagged.name_end plain.starts in
-    record {
-      row = record {
-        ready = record { room = ready.room; few = ready.few; small = ready.small; settled = ready.settled };
-        parent = at_root c.first_tag.new.elements c.reserve_exact.new.self.items (omega (arith, ap length c.reserve_exact.ensures.items));
-        start = omega (arith, x.short, c.requires.there);
-      };
-      depth = omega (arith, room);
-      named = named;
-      narrow = omega (arith, x.short, named.within, plain.starts);
-    }
+    may_open b _ [] c.args.cursor.now.text.now c.args.cursor.now.pos _ c.in-Some.read
+    (first_below c.args.cursor.now b _ c.in-Some.read c.requires (omega arith) (record { nodes = refl; opened = c.reserve_exact.ensures.items; pending = refl; joined = refl; limit = refl; openings_left = refl }) x)
+    (at_root c.first_tag.new.elements c.reserve_exact.new.self.items (omega (arith, ap length c.reserve_exact.ensures.items)))
+    (record { room = r.room; few = r.few; small = r.small; settled = r.settled }) (omega (arith, x.short, c.requires.there)) (omega (arith, room))
 
 pub returns-then-read : goal.returns-then-read
 returns-then-read c =
     let b = c.args.builder.now in
-    let old = b.tables in
-    let new = c.first_tag.new.elements in
-    let src = c.args.cursor.now.text.now in
-    let pos = c.args.cursor.now.pos in
-    let t = c.in-Some.read.tag in
-    let e = c.in-Some.read.end in
-    let first : IsReadFirst old new src pos c.in-Some.read = rw c.in-Some.is at c.in-Ok.ensures in
-    let x = first.plain in
-    let fine = c.requires.fine in
-    let u = c.put_leaf.new.self in
-    let put = c.put_leaf.ensures.adds in
+    let cursor = c.args.cursor.now in
+    let x : IsReadFirst b.tables c.first_tag.new.elements cursor.text.now cursor.pos c.in-Some.read = rw c.in-Some.is at c.in-Ok.ensures in
+    let first = first_below cursor b _ c.in-Some.read c.requires (omega arith) (record { nodes = refl; opened = refl; pending = refl; joined = refl; limit = refl; openings_left = refl }) x in
+    let r = leaf_reads b _ _ [] cursor.text.now cursor.pos c.in-Some.read first c.if-read.true c.put_leaf.ensures in
     record {
-      value = λ _ context end s h.
-          let sc : [] ≡ scope_of s.stack = lists_nothing old b.opened.items s.stack (omega arith) h.shows.open_rows in
-          let tg : Tagged old new t (scope_of s.stack) x.tag = subst (λ (a : List NamespaceDecl). Tagged old new t a x.tag) sc x.tagged in
-          let cut = cut_off_fault context.values.main s.stack in
-          let grown = grown_by old new t (scope_of s.stack) x.tag tg in
-          let shows = grown_shows end s.stack s.done b _ h.shows fine.sound fine.elements grown refl refl refl refl in
-          let node : IsNode new (scope_of s.stack) pos e (kind.Element t.element) (Element s.at e x.tag) =
-          subst (λ (n : ℕ). IsNode new (scope_of s.stack) pos e (kind.Element t.element) (Element n e x.tag)) h.here
-          (is_node old new t (scope_of s.stack) x.tag pos e tg) in
-          let adds = put.value end e s (Element s.at e x.tag) shows node in
-          let read = x.read context.values cut s.openings_left in
-          let left = put.kept.openings_left ∙ h.openings_left_is in
-          rw (tag_is context src s pos cut _ _ _ x.tag t.empty s.openings_left e h.here refl sc h.attributes h.namespaces read
-          ∙ ap (λ (y : Bool). lifted (opened_by context.limit s x.tag y s.openings_left e)) c.if-read.true)
-          (empty_stepped context.limit end s.openings_left s _ old new b.nodes_limit u (Ok tt) t (scope_of s.stack) x.tag tg
-          h.namespaces h.attributes h.limit_is left put.kept.tables put.kept.limit adds);
+      value = λ _ context end s h. r.value (omega (arith, x.short, x.plain.cut.0)) context end s cursor _ refl refl h;
       same = λ is. absurd (cc is);
       other = λ is. absurd (cc is);
-      goes = λ _. record {
-        source = refl;
-        fine = fine_kept (Ok tt) new b.opened.items u (fine_by old new t _ x.tag b.opened.items x.tagged fine) put.kept.tables
-            (ap (λ o. o.items) put.kept.opened);
-      };
+      goes = λ _. record { source = refl; fine = r.fine };
     }
 
 pub returns : goal.returns
 returns c =
     let b = c.args.builder.now in
-    let old = b.tables in
-    let new = c.first_tag.new.elements in
-    let src = c.args.cursor.now.text.now in
-    let pos = c.args.cursor.now.pos in
-    let t = c.in-Some.read.tag in
-    let e = c.in-Some.read.end in
-    let first : IsReadFirst old new src pos c.in-Some.read = rw c.in-Some.is at c.in-Ok.ensures in
-    let x = first.plain in
-    let fine = c.requires.fine in
-    let u = c.put_open.new.self in
-    let put = c.put_open.ensures.adds in
-    let empty = c.reserve_exact.ensures.items in
+    let cursor = c.args.cursor.now in
+    let x : IsReadFirst b.tables c.first_tag.new.elements cursor.text.now cursor.pos c.in-Some.read = rw c.in-Some.is at c.in-Ok.ensures in
+    let first = first_below cursor b _ c.in-Some.read c.requires (omega arith) (record { nodes = refl; opened = c.reserve_exact.ensures.items; pending = refl; joined = refl; limit = refl; openings_left = refl }) x in
+    let r = open_reads b _ _ [] cursor.text.now cursor.pos c.in-Some.read first c.if-read.false c.put_open.ensures in
     record {
-      value = λ _ context end s h.
-          let sc : [] ≡ scope_of s.stack = lists_nothing old b.opened.items s.stack (omega arith) h.shows.open_rows in
-          let tg : Tagged old new t (scope_of s.stack) x.tag = subst (λ (a : List NamespaceDecl). Tagged old new t a x.tag) sc x.tagged in
-          let cut = cut_off_fault context.values.main s.stack in
-          let grown = grown_by old new t (scope_of s.stack) x.tag tg in
-          let shows = grown_shows end s.stack s.done b _ h.shows fine.sound fine.elements grown refl empty refl refl in
-          let adds = put.value end e s.openings_left s x.tag shows (sym h.here)
-          (is_opening old new t (scope_of s.stack) x.tag pos tg x.starts) in
-          let read = x.read context.values cut s.openings_left in
-          let left = put.kept.openings_left ∙ h.openings_left_is in
-          rw (tag_is context src s pos cut _ _ _ x.tag t.empty s.openings_left e h.here refl sc h.attributes h.namespaces read
-          ∙ ap (λ (y : Bool). lifted (opened_by context.limit s x.tag y s.openings_left e)) c.if-read.false)
-          (open_stepped context.limit end s.openings_left s _ old new b.nodes_limit u (Ok tt) t (scope_of s.stack) x.tag tg
-          h.namespaces h.attributes h.limit_is left put.kept.tables put.kept.limit adds);
+      value = λ _ context end s h. r.value (omega (arith, x.short, x.plain.cut.0)) context end s cursor _ refl refl h;
       same = λ is. absurd (cc is);
       other = λ is. absurd (cc is);
-      goes = λ _.
-          let read = x.read any_values fault.NoRootNode 0 in
-          let row = x.tagged in
-          record {
-            source = refl;
-            fine = fine_more (Ok tt) new b.opened.items u src t (fine_by old new t _ x.tag b.opened.items row fine) put.kept.tables
-                (rw empty at put.opened) row.element.scope_within row.once (namespace_by old new t _ x.tag row)
-                (λ o by. opened_named any_values fault.NoRootNode _ _ _ src pos 0 _ _ t o c.args.cursor.now.utf8
-                c.requires.here read row.name row.name_end x.starts by);
-          };
+      goes = λ _. record { source = refl; fine = r.fine };
     }

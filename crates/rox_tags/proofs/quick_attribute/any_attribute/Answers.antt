@@ -36,7 +36,7 @@ returns c =
     let order3 = w.onward in
     record {
       value_end = j;
-      read = attribute_reads src c.args.start (name_view c.in_ok-name.name.name) c.in_ok-name.name.end s q j c.after_byte.result n.value v quoted.here quoted.quote quoted.some w.read w.here done;
+      read = attribute_reads src c.args.place.start (name_view c.in_ok-name.name.name) c.in_ok-name.name.end s q j c.after_byte.result n.value v quoted.here quoted.quote quoted.some w.read w.here done;
       start = refl;
       end = done;
       value = w.value;

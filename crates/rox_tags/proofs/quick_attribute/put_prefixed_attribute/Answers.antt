@@ -11,16 +11,16 @@ pub prefixed_name-requires : goal.prefixed_name-requires
 prefixed_name-requires c =
     let src = c.args.text.now in
     let near = c.requires.part in
-    let here : slice_index src c.args.part ≡ 58 = eqb-true _ _ (sym c.is_at.ensures ∙ c.if-not-is_at.false) in
+    let here : slice_index src c.args.place.part ≡ 58 = eqb-true _ _ (sym c.is_at.ensures ∙ c.if-not-is_at.false) in
     record {
       first = record {
         start = c.requires.put.cut;
         part = record {
-          place = part_stops src c.args.start c.args.part c.utf8.text near.onward near.within near.passes near.stops (λ _. omega (arith, here));
+          place = part_stops src c.args.place.start c.args.place.part c.utf8.text near.onward near.within near.passes near.stops (λ _. omega (arith, here));
           onward = near.onward;
-          cut = part_cut src c.args.start c.args.part c.utf8.text c.requires.put.cut near.onward near.within near.passes;
+          cut = part_cut src c.args.place.start c.args.place.part c.utf8.text c.requires.put.cut near.onward near.within near.passes;
         };
-        begins = ascii_begins src c.args.start c.args.part c.utf8.text near c.requires.put.begins (omega (arith, here));
+        begins = ascii_begins src c.args.place.start c.args.place.part c.utf8.text near c.requires.put.begins (omega (arith, here));
       };
       here = here;
     }
@@ -36,8 +36,8 @@ prefix_namespace-requires c = record {
   scope = c.requires.put.holds.scope;
   some =
       let src = c.args.text.now in
-      let i = c.args.start in
-      let j = c.args.part in
+      let i = c.args.place.start in
+      let j = c.args.place.part in
       let near = c.requires.part in
       let here : slice_index src j ≡ 58 = eqb-true _ _ (sym c.is_at.ensures ∙ c.if-not-is_at.false) in
       let first = c.requires.put.begins in
@@ -51,8 +51,8 @@ pub put_named_attribute-requires : goal.put_named_attribute-requires
 put_named_attribute-requires c =
     let named = c.in-Some-prefixed_name.ensures in
     let src = c.args.text.now in
-    let i = c.args.start in
-    let j = c.args.part in
+    let i = c.args.place.start in
+    let j = c.args.place.part in
     let near = c.requires.part in
     let here : slice_index src j ≡ 58 = eqb-true _ _ (sym c.is_at.ensures ∙ c.if-not-is_at.false) in
     let first = c.requires.put.begins in
