@@ -496,22 +496,6 @@ holds_grown tag old t src start i g = record {
   others = declares_others tag.declares old t tag.scope g.own g.declares;
 }
 
--- where nothing was put
-pub grown_still : (tag : TagScope) (old t new : ElementTables) → HasGrown tag old t → new ≡ record t { attributes = new.attributes } → attribute_rows new.attributes ≡ attribute_rows t.attributes → HasGrown tag old new
-grown_still tag old t new g is rows = record {
-  more = g.more;
-  rows = rows ∙ g.rows;
-  others = λ none. others_stay old t new (g.others none) is;
-}
-
--- where a declaration may have been put
-pub grown_declared : (tag : TagScope) (old t new : ElementTables) → HasGrown tag old t → tag.declares ≡ true → attribute_rows new.attributes ≡ attribute_rows t.attributes → HasGrown tag old new
-grown_declared tag old t new g may rows = record {
-  more = g.more;
-  rows = rows ∙ g.rows;
-  others = λ none. absurd (cc (none, may));
-}
-
 -- how many attributes the tag has
 pub plain_count : (tag : TagScope) (old t : ElementTables) (src : List ℕ) (start end : ℕ) (empty : Bool) → (x : ArePlainAttributes tag old t src start end empty) → length (attribute_rows old.attributes) + length x.written ≡ length (attribute_rows t.attributes)
 plain_count tag old t src start end empty x =

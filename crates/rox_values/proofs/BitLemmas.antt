@@ -56,16 +56,6 @@ tested_on kind_of.Either src i n stop utf8 from mid to le h = λ less.
 pub put_some : {kind : TextKind} {src : List ℕ} {i stop : ℕ} {old new : List ℕ} {j : ℕ} → PutsBit kind src i stop old new j → PutsOne kind src i stop old new j
 put_some b = let on = b.onward in record { put = λ some. b; refused = λ zero. absurd (omega (arith, zero, on)) }
 
-pub put_none : (kind : TextKind) (src : List ℕ) (i stop : ℕ) (old new : List ℕ) → new ≡ old → PutsOne kind src i stop old new 0
-put_none kind src i stop old new same = record { put = λ some. absurd (omega (arith, some)); refused = λ zero. same }
-
--- what all texts read alike
-pub put_alike : (kind : TextKind) {src : List ℕ} {i stop : ℕ} {old new : List ℕ} {j : ℕ} → PutsOne kind_of.Either src i stop old new j → PutsOne kind src i stop old new j
-put_alike kind p = record {
-  put = λ some. let b = p.put some in record { value = λ main es may. b.value main es refl; onward = b.onward; cut = b.cut };
-  refused = p.refused;
-}
-
 -- what is read of a context
 pub kind_may : (main : Bool) → may_be (kind_for main) main ≡ true
 kind_may true = refl
@@ -297,13 +287,6 @@ inner_on src stop i j within before plain e tag = elim (cases_lt i j) [
       let other : is_special (slice_index (take stop src) j) ≡ false = rw (at, here) plain in
       cc (special, other)
 ]
-
-pub inner_stretch : (src : List ℕ) (stop i j : ℕ) → stretch_at false src stop i ≡ Ok (bytes_of (slice_range src i j), j) → i < j → IsCharBoundary src j → IsStretch kind_of.Replacement src i stop j
-inner_stretch src stop i j read on cut = record { value = value; onward = on; cut = cut }
-  where
-    value : (main : Bool) → may_be kind_of.Replacement main ≡ true → stretch_at main src stop i ≡ Ok (bytes_of (slice_range src i j), j)
-    value true may = cc may
-    value false may = read
 
 pub stretch_is : (main : Bool) (es : List Entity) (src : List ℕ) (stop i : ℕ) → is_special (slice_index src i) ≡ false → value_bit_at main es src stop i ≡ stretch_at main src stop i
 unfolding value_bit_at

@@ -14,9 +14,5 @@ inner_ends : (b : ℕ) → is_inner_byte b ≡ false → ends_stretch b ≡ true
 unfolding is_inner_byte
 inner_ends b h = grind (arith, nat_tests)
 
-end_ascii : (b : ℕ) → is_inner_byte b ≡ false → b < 128
-unfolding is_inner_byte
-end_ascii b h = grind (arith, nat_tests)
-
 pub inner_stops : (src : List ℕ) (i e : ℕ) → i ≤ e → e ≤ length src → AllPass is_inner_byte src i e → (e < length src → is_inner_byte (get_or src e 0) ≡ false) → byte_from ends_stretch src i ≡ e
 inner_stops src i e le within all stops = near_found is_inner_byte ends_stretch src i e le within all inner_plain (λ more. inner_ends _ (stops more))

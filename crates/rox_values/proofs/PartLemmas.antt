@@ -133,10 +133,6 @@ unfolding value_text
 value_done main es opener openings_left front zero src stop i past = nothing_behind front openings_left
 value_done main es opener openings_left front (suc n) src stop i past = rw (le-ltb i stop past) (nothing_behind front openings_left)
 
-pub value_out : (main : Bool) (es : List Entity) (opener : ValueInclusion) (openings_left : ℕ) (front : List ℕ) (n : ℕ) (src : List ℕ) (stop i : ℕ) → n ≡ 0 → text_behind front (value_text main es opener n src stop i openings_left) ≡ Ok (front, openings_left)
-unfolding value_text
-value_out main es opener openings_left front n src stop i none = rw none (nothing_behind front openings_left)
-
 -- a bit that fails
 pub value_fails : (main : Bool) (es : List Entity) (opener : ValueInclusion) (openings_left : ℕ) (e : Failure) (front done : List ℕ) (whole : Result (List ℕ × ℕ) Refusal) (n : ℕ) (src : List ℕ) (stop i : ℕ)
     → text_behind done (value_text main es opener n src stop i openings_left) ≡ text_behind front whole → 0 < n → i < stop → Fails e (value_bit_at main es src stop i) → IsRefusal (of_failure e) whole
