@@ -19,9 +19,14 @@ fn main(rt: HostRuntime) -> Result<()> {
     let text = fs::read_to_string(&rt, &file).context(format_args!("reading {file}"))?;
     let names = asked_for(rt.alloc(), text.as_str())?;
     let chapters = read_chapters(&rt, Path::new(file.as_str()), &names)?;
-    match parse_book(rt.alloc(), text.as_str(), &chapters) {
+    print_book(&rt, file.as_str(), text.as_str(), &chapters)
+}
+
+/// Prints the contents of a book, or why it is refused, and for which file.
+fn print_book(rt: &HostRuntime, file: &str, text: &str, chapters: &[Chapter]) -> Result<()> {
+    match parse_book(rt.alloc(), text, chapters) {
         Ok(document) => print_contents(rt.alloc(), &document, &mut rt.stdout()),
-        Err(error) => match faulty_chapter(rt.alloc(), text.as_str(), &chapters) {
+        Err(error) => match faulty_chapter(rt.alloc(), text, chapters) {
             Some(name) => bail!("{name}: {error}"),
             None => bail!("{file}: {error}"),
         },
@@ -44,15 +49,25 @@ fn print_contents<W: Write>(alloc: Global, document: &Document<'_>, out: &mut W)
     let steps = parse_path(alloc, "//chapter")?;
     let chapters = select(alloc, document.root(), &steps)?;
     for (at, chapter) in chapters.iter().enumerate() {
-        let (number, words) = (at + 1, words(*chapter));
-        let title = title(alloc, *chapter)?;
-        writeln!(out, "{number}. {title} ({words} words)")?;
+        print_chapter(chapter, alloc, at + 1, out)?;
     }
     Ok(())
 }
 
+fn print_chapter<W: Write>(
+    chapter: &Node<'_, '_>,
+    alloc: Global,
+    number: usize,
+    out: &mut W,
+) -> Result<()> {
+    let words = words(chapter);
+    let title = title(chapter, alloc)?;
+    writeln!(out, "{number}. {title} ({words} words)")?;
+    Ok(())
+}
+
 /// Returns the text of the first element `title` among the children of a chapter.
-fn title(alloc: Global, chapter: Node<'_, '_>) -> Result<String, AllocError> {
+fn title(chapter: &Node<'_, '_>, alloc: Global) -> Result<String, AllocError> {
     for child in chapter.children() {
         if child.has_local_name("title") {
             return full_text(alloc, child);
@@ -73,13 +88,18 @@ fn full_text(alloc: Global, element: Node<'_, '_>) -> Result<String, AllocError>
 }
 
 /// Returns the number of words in the texts of an element and of those in it.
-fn words(element: Node<'_, '_>) -> usize {
+fn words(element: &Node<'_, '_>) -> usize {
     let mut words = 0usize;
     for node in element.descendants() {
-        if node.is_text() {
-            let text = node.text().unwrap_or("");
-            words = words.saturating_add(text.split_whitespace().count());
-        }
+        words = words.saturating_add(own_words(&node));
     }
     words
+}
+
+/// Returns the number of words of a text, and 0 of another node.
+fn own_words(node: &Node<'_, '_>) -> usize {
+    if node.is_text() {
+        return node.text().unwrap_or("").split_whitespace().count();
+    }
+    0
 }

@@ -1,7 +1,7 @@
 //! Checks XML files: `xmlcheck [--allow-dtd] FILE..`.
 #![tactic(auto)]
 
-use roxmltree::{Document, Error, ParsingOptions, TextPos};
+use roxmltree::{Document, Error, Node, ParsingOptions, TextPos};
 use std::alloc::{AllocError, Global};
 use std::fmt::Display;
 use std::io::ErrorKind;
@@ -53,41 +53,74 @@ fn check_files(rt: &HostRuntime) -> io::Result<u8> {
 
 /// Checks a file, and returns 0 if it is well formed, 1 if it is not, and 2 if it cannot be read.
 fn check_file(rt: &HostRuntime, file: &str, options: ParsingOptions) -> io::Result<u8> {
-    let text = match fs::read_to_string(rt, file) {
-        Ok(text) => text,
-        Err(error) => return eprintln!(rt; "{file}: {error}").map(|_| 2),
-    };
-    let text = text.as_str();
-    let Err(error) = Document::parse_with_options(rt.alloc(), text, options) else {
-        return Ok(0);
-    };
-    let message = error.message();
-    match error.position() {
-        Some(place) => print_at(rt, (file, text), place, message)?,
-        None => println!(rt; "{file}: {message}")?,
+    match fs::read_to_string(rt, file) {
+        Ok(text) => check_text(rt, file, text.as_str(), options),
+        Err(error) => eprintln!(rt; "{file}: {error}").map(|_| 2),
     }
-    if let Some(front) = front(text, &error) {
-        print_open(rt, file, front, options)?;
-    }
-    Ok(1)
 }
 
-/// Prints the way to the innermost element that a text leaves open, as `/book/chapter`, and where it starts.
-fn print_open(rt: &HostRuntime, file: &str, text: &str, options: ParsingOptions) -> io::Result<()> {
-    let closed = with_end_tags(rt.alloc(), text, options)?;
-    let Ok(document) = Document::parse_with_options(rt.alloc(), closed.as_str(), options) else {
-        return Ok(());
-    };
-    let (mut start, mut way) = (0, String::new(rt.alloc()));
-    for node in document.descendants() {
-        if node.is_element() && node.range().end > text.len() {
-            start = node.range().start;
-            way.push_str("/")?;
-            way.push_str(node.tag_name().name())?;
+/// Checks the text of a file, and returns 0 if it is well formed, and 1 if it is not.
+fn check_text(rt: &HostRuntime, file: &str, text: &str, options: ParsingOptions) -> io::Result<u8> {
+    match Document::parse_with_options(rt.alloc(), text, options) {
+        Ok(_) => Ok(0),
+        Err(error) => {
+            print_error(rt, file, text, &error)?;
+            print_open(rt, file, front(text, &error), options)?;
+            Ok(1)
         }
     }
+}
+
+/// Prints why a text is refused, and where.
+fn print_error(rt: &HostRuntime, file: &str, text: &str, error: &Error) -> io::Result<()> {
+    let message = error.message();
+    match error.position() {
+        Some(place) => print_at(rt, (file, text), place, message),
+        None => println!(rt; "{file}: {message}"),
+    }
+}
+
+/// Prints the way to the innermost element that a text leaves open, if it does.
+fn print_open(
+    rt: &HostRuntime,
+    file: &str,
+    text: Option<&str>,
+    options: ParsingOptions,
+) -> io::Result<()> {
+    let Some(text) = text else {
+        return Ok(());
+    };
+    let closed = with_end_tags(rt.alloc(), text, options)?;
+    match Document::parse_with_options(rt.alloc(), closed.as_str(), options) {
+        Ok(document) => print_way(rt, file, text, &document),
+        Err(_) => Ok(()),
+    }
+}
+
+/// Prints the way to the innermost element that a text leaves open, as `/book/chapter`, and where it starts. The document is that of
+/// the text with its end tags.
+fn print_way(rt: &HostRuntime, file: &str, text: &str, document: &Document<'_>) -> io::Result<()> {
+    let mut way = String::new(rt.alloc());
+    let start = push_way(document, text.len(), &mut way)?;
     let message = format_args!("{way} is not closed");
     print_at(rt, (file, text), document.text_pos_at(start), message)
+}
+
+/// Adds the way to the innermost element that ends behind an offset, and returns where it starts.
+fn push_way(document: &Document<'_>, end: usize, way: &mut String) -> Result<usize, AllocError> {
+    let mut start = 0;
+    for node in document.descendants() {
+        if node.is_element() && node.range().end > end {
+            start = node.range().start;
+            push_step(&node, way)?;
+        }
+    }
+    Ok(start)
+}
+
+fn push_step(element: &Node<'_, '_>, way: &mut String) -> Result<(), AllocError> {
+    way.push_str("/")?;
+    way.push_str(element.tag_name().name())
 }
 
 /// Prints a message, the line of its position, and a caret below the character there. Of a long line it prints a part.
@@ -101,12 +134,30 @@ fn print_at<M: Display + Drop>(
     let before = (place.col as usize).saturating_sub(1);
     let skipped = before.saturating_sub(60);
     let line = text.lines().nth(row).unwrap_or("");
-    let shown: String = line.chars().skip(skipped).take(78).collect(rt.alloc())?;
+    let shown = shown_part(rt.alloc(), line, skipped)?;
+    let indent = indent_below(rt.alloc(), line, skipped, before)?;
+    println!(rt; "{file}:{place}: {message}\n{shown}\n{indent}^")
+}
+
+/// Returns what is shown of a line, without what is skipped.
+fn shown_part(alloc: Global, line: &str, skipped: usize) -> Result<String, AllocError> {
+    line.chars().skip(skipped).take(78).collect(alloc)
+}
+
+/// Returns what stands below the characters before a caret.
+fn indent_below(
+    alloc: Global,
+    line: &str,
+    skipped: usize,
+    before: usize,
+) -> Result<String, AllocError> {
     // a TAB moves the caret as it moves the character
     let blank = |character| if character == '\t' { '\t' } else { ' ' };
-    let indent = line.chars().skip(skipped).take(before - skipped);
-    let indent: String = indent.map(blank).collect(rt.alloc())?;
-    println!(rt; "{file}:{place}: {message}\n{shown}\n{indent}^")
+    let indent = line
+        .chars()
+        .skip(skipped)
+        .take(before.saturating_sub(skipped));
+    indent.map(blank).collect(alloc)
 }
 
 /// Returns the front of a text that leaves an element open, if it is refused for that.
@@ -133,17 +184,39 @@ fn offset(text: &str, place: TextPos) -> usize {
     text.len()
 }
 
-/// Returns the text with the end tags that it lacks: an end tag of another name is refused with the one that is expected.
+/// Returns the text with the end tags that it lacks.
 fn with_end_tags(alloc: Global, text: &str, options: ParsingOptions) -> Result<String, AllocError> {
     let mut closed = String::from_str(alloc, text)?;
     // each takes a parse
     for _ in 0..64 {
-        let tried = format!(in alloc; "{closed}</_>")?;
-        match &Document::parse_with_options(alloc, tried.as_str(), options) {
-            Err(Error::UnexpectedCloseTag(name, _, _)) => write!(closed, "</{name}>")?,
-            Ok(_) | Err(Error::UnclosedRootNode) => closed.push_str("</_>")?,
-            Err(_) => break,
+        if !push_end_tag(alloc, &mut closed, options)? {
+            break;
         }
     }
     Ok(closed)
+}
+
+/// Adds the end tag of the innermost element that is open, if this is why the text is refused, and returns whether it is. An end tag
+/// of another name is refused with the one that is expected.
+fn push_end_tag(
+    alloc: Global,
+    text: &mut String,
+    options: ParsingOptions,
+) -> Result<bool, AllocError> {
+    match &refusal(alloc, text, options)? {
+        Some(Error::UnexpectedCloseTag(name, _, _)) => write!(text, "</{name}>")?,
+        None | Some(Error::UnclosedRootNode) => text.push_str("</_>")?,
+        Some(_) => return Ok(false),
+    }
+    Ok(true)
+}
+
+/// Returns why a text is refused with the end tag of `_` behind it, or `None` if it is read.
+fn refusal(
+    alloc: Global,
+    text: &String,
+    options: ParsingOptions,
+) -> Result<Option<Error>, AllocError> {
+    let tried = format!(in alloc; "{text}</_>")?;
+    Ok(Document::parse_with_options(alloc, tried.as_str(), options).err())
 }
