@@ -1,9 +1,10 @@
-//! Prints the shapes of an SVG image: `example_shapes FILE`. A line for each shape has the row and the column where it starts,
-//! its kind, its fill, and what it refers to, if it refers to anything.
+//! Prints the circles of a small drawing, as README.md shows, and the shapes of an SVG image: `example_shapes FILE`. A line for each
+//! shape has the row and the column where it starts, its kind, its fill, and what it refers to, if it refers to anything.
 #![tactic(auto)]
 
 use anyhow::{Context, Result};
 use roxmltree::{Document, Node};
+use std::alloc::Global;
 use std::io::Write;
 use std::{env, fs, io};
 
@@ -18,6 +19,7 @@ const SHAPES: [&str; 8] = [
 ];
 
 fn main(rt: HostRuntime) -> Result<()> {
+    print_circles(&rt, rt.alloc())?;
     let file = env::args(&rt)?.nth(1);
     let file = file.context("usage: example_shapes FILE")?;
     let text = fs::read_to_string(&rt, &file).context(format_args!("reading {file}"))?;
@@ -28,28 +30,41 @@ fn main(rt: HostRuntime) -> Result<()> {
     Ok(())
 }
 
-/// Prints each shape, in document order.
-fn print_shapes<W: Write>(document: &Document<'_>, out: &mut W) -> io::Result<()> {
+/// Prints the radius of each circle of a small drawing.
+fn print_circles(rt: &HostRuntime, alloc: Global) -> Result<()> {
+    let svg = "<svg xmlns='http://www.w3.org/2000/svg'><circle r='4'/><g><circle r='2'/></g></svg>";
+    let document = Document::parse(alloc, svg)?;
     for node in document.descendants() {
-        if is_shape(node) {
-            print_shape(node, out)?;
+        if node.has_tag_name(("http://www.w3.org/2000/svg", "circle").into()) {
+            let radius = node.attribute("r".into()).unwrap_or("none");
+            println!(rt; "{:?} has the radius {radius}", node.range())?;
         }
     }
     Ok(())
 }
 
-fn print_shape<W: Write>(shape: Node<'_, '_>, out: &mut W) -> io::Result<()> {
+/// Prints each shape, in document order.
+fn print_shapes<W: Write>(document: &Document<'_>, out: &mut W) -> io::Result<()> {
+    for node in document.descendants() {
+        if is_shape(&node) {
+            print_shape(&node, out)?;
+        }
+    }
+    Ok(())
+}
+
+fn print_shape<W: Write>(shape: &Node<'_, '_>, out: &mut W) -> io::Result<()> {
     let place = shape.document().text_pos_at(shape.range().start);
     let kind = shape.tag_name().name();
-    let fill = fill(shape);
+    let fill = fill(*shape);
     write!(out, "{place} {kind} fill={fill}")?;
-    if let Some(target) = target(shape) {
+    if let Some(target) = target(*shape) {
         write!(out, " href={target}")?;
     }
     writeln!(out)
 }
 
-fn is_shape(node: Node<'_, '_>) -> bool {
+fn is_shape(node: &Node<'_, '_>) -> bool {
     let name = node.tag_name();
     name.namespace() == Some(SVG) && SHAPES.contains(&name.name())
 }

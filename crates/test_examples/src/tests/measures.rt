@@ -1,6 +1,5 @@
 //! What `benchmark` makes of figures, arguments, walks and turns. No test looks at a real clock.
 
-use super::{same, text_in, words};
 use rox_measures::arguments::read;
 use rox_measures::clock;
 use rox_measures::fault::Fault;
@@ -13,11 +12,37 @@ use rox_measures::work::{Parse, ParseAndDrop, Walk, WalkLinks, Work};
 use rox_programs::program_error::ProgramError;
 use roxmltree::Document;
 use std::cell::Cell;
-use std::fmt::Display;
+use std::fmt::{Debug, Display};
 use std::io;
 use std::io::ErrorKind;
 use std::process::Abort;
 use std::time::{CpuClock, Duration};
+
+/// Wants a value to be this. Where it is not, what it is of is told with both.
+fn same<T: PartialEq + Debug + Drop>(rt: &impl Abort, of: &str, got: T, wanted: T) {
+    assert_eq!(rt; got, wanted, "{of}");
+}
+
+/// What was written.
+fn text_in(written: &[u8]) -> &str {
+    str::from_utf8(written).unwrap_or("?")
+}
+
+/// The words of a line, apart at spaces.
+fn words(rt: &(impl Abort + AllocGlobal), line: &str) -> Vec<String> {
+    let mut words = Vec::new(rt.alloc());
+    for word in line.split(' ') {
+        if !word.is_empty() {
+            words.push(owned(rt, word)).expect(rt, "memory");
+        }
+    }
+    words
+}
+
+/// A text of one's own.
+fn owned(rt: &(impl Abort + AllocGlobal), text: &str) -> String {
+    String::from_str(rt.alloc(), text).expect(rt, "memory")
+}
 
 /// A clock that goes on by the same step at each look, and can be read so many times.
 #[derive(Drop)]
