@@ -39,8 +39,8 @@ fn refusal_of(rt: &(impl Abort + AllocGlobal), text: &str) -> Error {
 
 /// The node of this id.
 fn node_of<'a, 'input>(
-    rt: &impl Abort,
     document: &'a Document<'input>,
+    rt: &impl Abort,
     id: u32,
 ) -> Node<'a, 'input> {
     document
@@ -49,12 +49,20 @@ fn node_of<'a, 'input>(
 }
 
 /// The number of a node.
-fn number(node: Node<'_, '_>) -> u32 {
+fn number(node: &Node<'_, '_>) -> u32 {
     node.id().get()
 }
 
+/// The number of a node that is there.
+fn id_of(node: &Option<Node<'_, '_>>) -> Option<u32> {
+    match node {
+        Some(node) => Some(number(node)),
+        None => None,
+    }
+}
+
 /// Wants a node to be of this kind alone.
-fn is_of_kind(rt: &impl Abort, node: Node<'_, '_>, kind: NodeType) {
+fn is_of_kind(node: &Node<'_, '_>, rt: &impl Abort, kind: NodeType) {
     let id = number(node);
     same_at(rt, id, node.node_type(), kind);
     same_at(rt, id, node.is_root(), kind == NodeType::Root);
@@ -66,7 +74,7 @@ fn is_of_kind(rt: &impl Abort, node: Node<'_, '_>, kind: NodeType) {
 }
 
 /// How many children a node has.
-fn child_count(node: Node<'_, '_>) -> usize {
+fn child_count(node: &Node<'_, '_>) -> usize {
     node.children().count()
 }
 

@@ -6,8 +6,8 @@ use std::process::Abort;
 
 /// The one attribute of the root element.
 fn only_attribute<'a, 'input>(
-    rt: &impl Abort,
     document: &'a Document<'input>,
+    rt: &impl Abort,
 ) -> Attribute<'a, 'input> {
     let mut attributes = document.root_element().attributes();
     same(rt, "count", attributes.len(), 1);
@@ -17,13 +17,13 @@ fn only_attribute<'a, 'input>(
 /// Whether the one attribute of a text equals another.
 fn has(rt: &(impl Abort + AllocGlobal), text: &str, attribute: Attribute<'_, '_>) -> bool {
     let document = document_of(rt, text);
-    only_attribute(rt, &document) == attribute
+    only_attribute(&document, rt) == attribute
 }
 
 #[test]
 fn attributes_are_equal_by_name_and_value(rt: HostRuntime) {
     let wanted = document_of(&rt, "<e xmlns:n='u' n:a='1'/>");
-    let attribute = only_attribute(&rt, &wanted);
+    let attribute = only_attribute(&wanted, &rt);
     for (text, is_equal) in &[
         ("<f xmlns:m='u'   m:a = '&#49;'/>", true),
         ("<e a='1'/>", false),

@@ -7,11 +7,12 @@ use super::iterators::{
 use super::names::is_named;
 use super::namespaces::{are_equal_in_turn, finds_prefix, finds_uri};
 use super::order::{are_equal, compared};
-use super::{child_count, document_of, is_of_kind, node_of, number, same, same_at};
-use roxmltree::{AxisIter, Document, Error, Node, NodeType, PI, StringStorage, TextPos};
+use super::{child_count, document_of, id_of, is_of_kind, node_of, number, same, same_at};
+use roxmltree::{Attribute, AxisIter, Document, Error, Node, NodeType, PI, StringStorage, TextPos};
 use std::cmp::Ordering;
 use std::fmt;
 use std::fmt::{Debug, Write};
+use std::ops::Range;
 use std::process::Abort;
 
 /// A node of each kind, a text and a value that are no slices of it, and two namespaces.
@@ -28,7 +29,7 @@ fn read<'input>(rt: &(impl Abort + AllocGlobal)) -> Document<'input> {
 #[test]
 fn calls_take_no_memory(rt: HostRuntime) {
     let document = read(&rt);
-    each_call(&rt, &document);
+    each_call(&document, &rt);
 }
 
 /// This parse is not asked again, so a growth of its that is refused is its answer.
@@ -42,39 +43,59 @@ fn a_parse_alone(rt: HostRuntime) {
 #[test]
 fn a_parse_and_each_call(rt: HostRuntime) {
     let document = document_of(&rt, TEXT);
-    each_call(&rt, &document);
+    each_call(&document, &rt);
 }
 
-fn each_call(rt: &impl Abort, document: &Document<'_>) {
-    document_has(rt, document);
-    nodes_have(rt, document);
-    nodes_have_texts(rt, document);
-    nodes_are_near(rt, document);
-    let (r, e) = (node_of(rt, document, 2), node_of(rt, document, 4));
-    has_children_and_siblings(rt, r);
-    ways_lead(rt, r, e);
-    is_named(rt, TEXT, e, Some("v"));
-    attributes_have(rt, r);
-    attribute_has(rt, r);
-    namespaces_have(rt, e);
-    lookups_find(rt, document);
-    are_equal_in_turn(rt, r, e, &[true, true]);
-    both_ends(rt, document, r);
-    stays_inside(rt, e);
-    both_ends_of_an_element(rt, r);
-    nodes_are_compared(rt, r, e);
-    all_is_printed(rt, document, r);
+fn each_call(document: &Document<'_>, rt: &impl Abort) {
+    document_has(document, rt);
+    nodes_have(document, rt);
+    nodes_have_texts(document, rt);
+    nodes_are_near(document, rt);
+    lookups_find(document, rt);
+    both_ends(document, rt);
+    is_printed(rt, document);
+    let (r, e) = (node_of(document, rt, 2), node_of(document, rt, 4));
+    each_call_on_an_element(&r, rt);
+    each_call_on_an_inner_element(&e, rt);
+    nodes_are_compared(&r, &e, rt);
 }
 
-fn document_has(rt: &impl Abort, document: &Document<'_>) {
-    has_its_text_and_its_nodes(rt, document, TEXT, 2, 7);
+fn each_call_on_an_element(r: &Node<'_, '_>, rt: &impl Abort) {
+    has_children_and_siblings(r, rt);
+    children_lead(r, rt);
+    attributes_have(r, rt);
+    attribute_has(r, rt);
+    children_from_both_ends(r, rt);
+    lists_from_both_ends(r, rt);
+    all_is_printed(r, rt);
+}
+
+fn each_call_on_an_inner_element(e: &Node<'_, '_>, rt: &impl Abort) {
+    ways_lead(e, rt);
+    is_named(e, rt, TEXT, Some("v"));
+    namespaces_have(e, rt);
+    stays_inside(e, rt);
+}
+
+fn document_has(document: &Document<'_>, rt: &impl Abort) {
+    has_its_text_and_its_nodes(document, rt, TEXT, 2, 7);
     let ids = &[(0, Some(0)), (6, Some(6)), (7, None), (u32::MAX, None)];
-    finds(rt, document, ids);
+    finds(document, rt, ids);
     let position = document.text_pos_at(66);
     same(rt, "position", position, TextPos::new(1, 67));
 }
 
-fn nodes_have(rt: &impl Abort, document: &Document<'_>) {
+/// Wants the node of this id to be of this kind alone.
+fn is_of_kind_at(document: &Document<'_>, rt: &impl Abort, id: u32, kind: NodeType) {
+    is_of_kind(&node_of(document, rt, id), rt, kind);
+}
+
+/// Wants the node of this id to stand here.
+fn has_range_at(document: &Document<'_>, rt: &impl Abort, id: u32, range: Range<usize>) {
+    same_at(rt, id, node_of(document, rt, id).range(), range);
+}
+
+fn nodes_have(document: &Document<'_>, rt: &impl Abort) {
     for (id, kind, start, end) in &[
         (0, NodeType::Root, 0, 77),
         (1, NodeType::Comment, 0, 8),
@@ -84,15 +105,14 @@ fn nodes_have(rt: &impl Abort, document: &Document<'_>) {
         (5, NodeType::Text, 65, 66),
         (6, NodeType::PI, 66, 73),
     ] {
-        let node = node_of(rt, document, *id);
-        is_of_kind(rt, node, *kind);
-        same_at(rt, *id, node.range(), *start..*end);
+        is_of_kind_at(document, rt, *id, *kind);
+        has_range_at(document, rt, *id, *start..*end);
     }
     let instruction = PI {
         target: "t",
         value: Some("w"),
     };
-    same(rt, "PI", node_of(rt, document, 6).pi(), Some(instruction));
+    same(rt, "PI", node_of(document, rt, 6).pi(), Some(instruction));
 }
 
 /// The text of a storage.
@@ -104,53 +124,66 @@ fn text_in<'a>(storage: Option<&'a StringStorage<'_>>) -> Option<&'a str> {
 }
 
 /// Wants a node to have this text and this tail.
-fn has(rt: &impl Abort, node: Node<'_, '_>, text: Option<&str>, tail: Option<&str>) {
-    let id = node.id().get();
+fn has(node: &Node<'_, '_>, rt: &impl Abort, text: Option<&str>, tail: Option<&str>) {
+    let id = number(node);
     same_at(rt, id, node.text(), text);
     same_at(rt, id, text_in(node.text_storage()), text);
     same_at(rt, id, node.tail(), tail);
     same_at(rt, id, text_in(node.tail_storage()), tail);
 }
 
-fn nodes_have_texts(rt: &impl Abort, document: &Document<'_>) {
+/// The same of the node of this id.
+fn has_at(
+    document: &Document<'_>,
+    rt: &impl Abort,
+    id: u32,
+    text: Option<&str>,
+    tail: Option<&str>,
+) {
+    has(&node_of(document, rt, id), rt, text, tail);
+}
+
+fn nodes_have_texts(document: &Document<'_>, rt: &impl Abort) {
     for (id, text, tail) in &[
         (1, Some("c"), None),
         (2, Some("x&y"), None),
         (3, Some("x&y"), None),
         (4, None, Some("z")),
     ] {
-        has(rt, node_of(rt, document, *id), *text, *tail);
-    }
-}
-
-/// The id of a node that is there.
-fn id_of(node: Option<Node<'_, '_>>) -> Option<u32> {
-    match node {
-        Some(node) => Some(number(node)),
-        None => None,
+        has_at(document, rt, *id, *text, *tail);
     }
 }
 
 /// The next node along each axis: `parent`, `prev_sibling`, `next_sibling`, `first_child`, `last_child`.
-fn nearest(node: Node<'_, '_>) -> [Option<u32>; 5] {
+fn nearest(node: &Node<'_, '_>) -> [Option<u32>; 5] {
     [
-        id_of(node.parent()),
-        id_of(node.prev_sibling()),
-        id_of(node.next_sibling()),
-        id_of(node.first_child()),
-        id_of(node.last_child()),
+        id_of(&node.parent()),
+        id_of(&node.prev_sibling()),
+        id_of(&node.next_sibling()),
+        id_of(&node.first_child()),
+        id_of(&node.last_child()),
     ]
 }
 
 /// The next element along each of these axes.
-fn nearest_elements(node: Node<'_, '_>) -> [Option<u32>; 5] {
+fn nearest_elements(node: &Node<'_, '_>) -> [Option<u32>; 5] {
     [
-        id_of(node.parent_element()),
-        id_of(node.prev_sibling_element()),
-        id_of(node.next_sibling_element()),
-        id_of(node.first_element_child()),
-        id_of(node.last_element_child()),
+        id_of(&node.parent_element()),
+        id_of(&node.prev_sibling_element()),
+        id_of(&node.next_sibling_element()),
+        id_of(&node.first_element_child()),
+        id_of(&node.last_element_child()),
     ]
+}
+
+/// The same of the node of this id.
+fn nearest_at(document: &Document<'_>, rt: &impl Abort, id: u32) -> [Option<u32>; 5] {
+    nearest(&node_of(document, rt, id))
+}
+
+/// The same of the node of this id.
+fn nearest_elements_at(document: &Document<'_>, rt: &impl Abort, id: u32) -> [Option<u32>; 5] {
+    nearest_elements(&node_of(document, rt, id))
 }
 
 /// The nodes and the elements that are next to these.
@@ -167,40 +200,42 @@ const NEAREST: [(u32, [Option<u32>; 5], [Option<u32>; 5]); 2] = [
     ),
 ];
 
-fn nodes_are_near(rt: &impl Abort, document: &Document<'_>) {
+fn nodes_are_near(document: &Document<'_>, rt: &impl Abort) {
     for (id, nodes, elements) in &NEAREST {
-        let node = node_of(rt, document, *id);
-        same_at(rt, *id, nearest(node), *nodes);
-        same_at(rt, *id, nearest_elements(node), *elements);
+        same_at(rt, *id, nearest_at(document, rt, *id), *nodes);
+        same_at(rt, *id, nearest_elements_at(document, rt, *id), *elements);
     }
 }
 
-fn has_children_and_siblings(rt: &impl Abort, r: Node<'_, '_>) {
+fn has_children_and_siblings(r: &Node<'_, '_>, rt: &impl Abort) {
     same(rt, "children", r.has_children(), true);
     same(rt, "siblings", r.has_siblings(), true);
     same(rt, "child count", child_count(r), 4);
 }
 
 /// Wants an axis to lead over these nodes, and then to stay at its end.
-fn leads_over(rt: &impl Abort, mut nodes: AxisIter<'_, '_>, wanted: &[u32]) {
+fn leads_over(mut nodes: AxisIter<'_, '_>, rt: &impl Abort, wanted: &[u32]) {
     for id in wanted {
-        same_at(rt, *id, nodes.next().map(number), Some(*id));
+        same_at(rt, *id, id_of(&nodes.next()), Some(*id));
     }
     for _ in 0..2 {
-        same(rt, "end", nodes.next().map(number), None);
+        same(rt, "end", id_of(&nodes.next()), None);
     }
 }
 
-fn ways_lead(rt: &impl Abort, r: Node<'_, '_>, e: Node<'_, '_>) {
-    leads_over(rt, e.ancestors(), &[4, 2, 0]);
-    leads_over(rt, e.prev_siblings(), &[4, 3]);
-    leads_over(rt, e.next_siblings(), &[4, 5, 6]);
-    leads_over(rt, r.first_children(), &[2, 3]);
-    leads_over(rt, r.last_children(), &[2, 6]);
+fn children_lead(r: &Node<'_, '_>, rt: &impl Abort) {
+    leads_over(r.first_children(), rt, &[2, 3]);
+    leads_over(r.last_children(), rt, &[2, 6]);
+}
+
+fn ways_lead(e: &Node<'_, '_>, rt: &impl Abort) {
+    leads_over(e.ancestors(), rt, &[4, 2, 0]);
+    leads_over(e.prev_siblings(), rt, &[4, 3]);
+    leads_over(e.next_siblings(), rt, &[4, 5, 6]);
 }
 
 /// Wants the attributes of an element to be in these namespaces.
-fn attributes_are_in(rt: &impl Abort, element: Node<'_, '_>, wanted: &[Option<&str>]) {
+fn attributes_are_in(element: &Node<'_, '_>, rt: &impl Abort, wanted: &[Option<&str>]) {
     let mut attributes = element.attributes();
     same(rt, "count", attributes.len(), wanted.len());
     for uri in wanted {
@@ -209,8 +244,8 @@ fn attributes_are_in(rt: &impl Abort, element: Node<'_, '_>, wanted: &[Option<&s
     }
 }
 
-fn attributes_have(rt: &impl Abort, r: Node<'_, '_>) {
-    attributes_are_in(rt, r, &[None, Some("v")]);
+fn attributes_have(r: &Node<'_, '_>, rt: &impl Abort) {
+    attributes_are_in(r, rt, &[None, Some("v")]);
     same(rt, "a", r.attribute("a".into()), Some("1"));
     for (local, place) in &[("a", Some(33)), ("c", None)] {
         same(rt, local, r.attribute_local(local).map(position), *place);
@@ -218,21 +253,25 @@ fn attributes_have(rt: &impl Abort, r: Node<'_, '_>) {
     same(rt, "b", r.has_attribute("b".into()), false);
 }
 
-fn attribute_has(rt: &impl Abort, r: Node<'_, '_>) {
+fn attribute_has(r: &Node<'_, '_>, rt: &impl Abort) {
     let b = r.attribute_node(("v", "b").into()).expect(rt, "no b");
+    is_b(&b, rt);
+    same(rt, "b", r.attribute_local("b") == Some(b), true);
+}
+
+fn is_b(b: &Attribute<'_, '_>, rt: &impl Abort) {
     same(rt, "name", b.name(), "b");
     same(rt, "value", b.value(), "23");
     same(rt, "storage", b.value_storage().as_str(), "23");
     same(rt, "range", b.range(), 39..51);
     same(rt, "range of its name", b.range_qname(), 39..42);
     same(rt, "range of its value", b.range_value(), 44..50);
-    same(rt, "b", r.attribute_local("b") == Some(b), true);
 }
 
 /// What `e` lists.
 static LISTED: [(Option<&str>, &str); 2] = [(None, "u"), (Some("n"), "v")];
 
-fn namespaces_have(rt: &impl Abort, e: Node<'_, '_>) {
+fn namespaces_have(e: &Node<'_, '_>, rt: &impl Abort) {
     let mut namespaces = e.namespaces();
     same(rt, "count", namespaces.len(), 2);
     for (name, uri) in &LISTED {
@@ -251,19 +290,22 @@ static URIS: [(u32, Option<&str>, Option<&str>); 4] = [
     (0, Some("n"), None),
 ];
 
-fn lookups_find(rt: &impl Abort, document: &Document<'_>) {
+fn lookups_find(document: &Document<'_>, rt: &impl Abort) {
     for (id, prefix, uri) in &URIS {
-        finds_uri(rt, node_of(rt, document, *id), *prefix, *uri);
+        finds_uri(document, rt, *id, *prefix, *uri);
     }
     for (id, uri, prefix) in &[(4, "v", Some("n")), (4, "w", None), (0, "v", None)] {
-        finds_prefix(rt, node_of(rt, document, *id), uri, *prefix);
+        finds_prefix(document, rt, *id, uri, *prefix);
     }
 }
 
-fn both_ends(rt: &impl Abort, document: &Document<'_>, r: Node<'_, '_>) {
+fn both_ends(document: &Document<'_>, rt: &impl Abort) {
     let nodes = document.descendants().clone().expect(rt, "memory");
-    gives_descendants(rt, nodes, 7, &[(Some(0), Some(6), 5)]);
-    gives_descendants(rt, r.descendants(), 5, &[(Some(2), Some(6), 3)]);
+    gives_descendants(nodes, rt, 7, &[(Some(0), Some(6), 5)]);
+}
+
+fn children_from_both_ends(r: &Node<'_, '_>, rt: &impl Abort) {
+    gives_descendants(r.descendants(), rt, 5, &[(Some(2), Some(6), 3)]);
     let children = r.children();
     let in_turn = &[
         (Some(3), Some(6)),
@@ -271,31 +313,32 @@ fn both_ends(rt: &impl Abort, document: &Document<'_>, r: Node<'_, '_>) {
         (None, None),
         (None, None),
     ];
-    gives_children(rt, children.clone().expect(rt, "memory"), in_turn);
-    gives_children(rt, children, in_turn);
+    gives_children(children.clone().expect(rt, "memory"), rt, in_turn);
+    gives_children(children, rt, in_turn);
 }
 
 /// Wants the nodes of an element in the midst of others to be itself alone.
-fn stays_inside(rt: &impl Abort, e: Node<'_, '_>) {
+fn stays_inside(e: &Node<'_, '_>, rt: &impl Abort) {
     let wanted = &[(Some(4), None, 0), (None, None, 0)];
-    gives_descendants(rt, e.descendants(), 1, wanted);
+    gives_descendants(e.descendants(), rt, 1, wanted);
 }
 
-fn both_ends_of_an_element(rt: &impl Abort, r: Node<'_, '_>) {
+fn lists_from_both_ends(r: &Node<'_, '_>, rt: &impl Abort) {
     let ancestors = r.ancestors().clone().expect(rt, "memory");
-    leads_over(rt, ancestors, &[2, 0]);
+    leads_over(ancestors, rt, &[2, 0]);
     let attributes = r.attributes().clone().expect(rt, "memory");
-    gives_attributes(rt, attributes, 2, &[(Some(33), Some(39), 0)]);
+    gives_attributes(attributes, rt, 2, &[(Some(33), Some(39), 0)]);
     let namespaces = r.namespaces().clone().expect(rt, "memory");
-    gives_namespaces(rt, namespaces, 2, &[(Some(b'n'), 1)], Some(0));
+    gives_namespaces(namespaces, rt, 2, &[(Some(b'n'), 1)], Some(0));
 }
 
-fn nodes_are_compared(rt: &impl Abort, r: Node<'_, '_>, e: Node<'_, '_>) {
+fn nodes_are_compared(r: &Node<'_, '_>, e: &Node<'_, '_>, rt: &impl Abort) {
     let before = (false, true, Ordering::Less);
     same(rt, "before", compared(r, e), before);
     let behind = (false, false, Ordering::Greater);
     same(rt, "behind", compared(e, r), behind);
-    are_equal(rt, e.parent().expect(rt, "no parent"), r);
+    are_equal(r, &e.parent().expect(rt, "no parent"), rt);
+    are_equal_in_turn(r, e, rt, &[true, true]);
 }
 
 /// How many bytes were printed.
@@ -316,9 +359,8 @@ fn is_printed<T: Debug>(rt: &impl Abort, value: &T) {
     same(rt, "nothing printed", printed.0 == 0, false);
 }
 
-fn all_is_printed(rt: &impl Abort, document: &Document<'_>, r: Node<'_, '_>) {
-    is_printed(rt, document);
-    is_printed(rt, &r);
+fn all_is_printed(r: &Node<'_, '_>, rt: &impl Abort) {
+    is_printed(rt, r);
     is_printed(rt, &r.children());
     is_printed(rt, &r.descendants());
     is_printed(rt, &r.ancestors());

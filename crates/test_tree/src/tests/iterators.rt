@@ -1,33 +1,33 @@
 //! Iterators from both ends: what is left, copies, and None again after the end. Children and ancestors are among the calls, and how
 //! many nodes, attributes and namespaces each iterator has is in `texts/axes.txt`.
 
-use super::{document_of, node_of, number, same};
+use super::{document_of, id_of, node_of, same};
 use roxmltree::{Attribute, Attributes, Children, Descendants, Namespace, NamespaceIter};
 use std::process::Abort;
 
 /// Wants children to be given in turn from the front and from the back.
 pub(super) fn gives_children(
-    rt: &impl Abort,
     mut nodes: Children<'_, '_>,
+    rt: &impl Abort,
     wanted: &[(Option<u32>, Option<u32>)],
 ) {
     for (front, back) in wanted {
-        same(rt, "front", nodes.next().map(number), *front);
-        same(rt, "back", nodes.next_back().map(number), *back);
+        same(rt, "front", id_of(&nodes.next()), *front);
+        same(rt, "back", id_of(&nodes.next_back()), *back);
     }
 }
 
 /// Wants so many nodes to be given in turn from the front and from the back, with so many left after each turn.
 pub(super) fn gives_descendants(
-    rt: &impl Abort,
     mut nodes: Descendants<'_, '_>,
+    rt: &impl Abort,
     count: usize,
     wanted: &[(Option<u32>, Option<u32>, usize)],
 ) {
     same(rt, "count", nodes.len(), count);
     for (front, back, left) in wanted {
-        same(rt, "front", nodes.next().map(number), *front);
-        same(rt, "back", nodes.next_back().map(number), *back);
+        same(rt, "front", id_of(&nodes.next()), *front);
+        same(rt, "back", id_of(&nodes.next_back()), *back);
         same(rt, "left", nodes.size_hint(), (*left, Some(*left)));
         same(rt, "length", nodes.len(), *left);
     }
@@ -44,8 +44,8 @@ fn descendants_and_their_copies(rt: HostRuntime) {
         (None, None, 0),
         (None, None, 0),
     ];
-    gives_descendants(&rt, nodes.clone().expect(&rt, "memory"), 6, wanted);
-    gives_descendants(&rt, nodes, 6, wanted);
+    gives_descendants(nodes.clone().expect(&rt, "memory"), &rt, 6, wanted);
+    gives_descendants(nodes, &rt, 6, wanted);
 }
 
 pub(super) fn position(attribute: Attribute<'_, '_>) -> usize {
@@ -54,8 +54,8 @@ pub(super) fn position(attribute: Attribute<'_, '_>) -> usize {
 
 /// Wants so many attributes to be given in turn from the front and from the back, with so many left after each turn.
 pub(super) fn gives_attributes(
-    rt: &impl Abort,
     mut attributes: Attributes<'_, '_>,
+    rt: &impl Abort,
     count: usize,
     wanted: &[(Option<usize>, Option<usize>, usize)],
 ) {
@@ -73,8 +73,8 @@ fn attributes_and_their_copies(rt: HostRuntime) {
     let document = document_of(&rt, "<r a='1' b='2' xmlns:n='' c='3'/>");
     let attributes = document.root_element().attributes();
     let wanted = &[(Some(3), Some(26), 1), (Some(9), None, 0), (None, None, 0)];
-    gives_attributes(&rt, attributes.clone().expect(&rt, "memory"), 3, wanted);
-    gives_attributes(&rt, attributes, 3, wanted);
+    gives_attributes(attributes.clone().expect(&rt, "memory"), &rt, 3, wanted);
+    gives_attributes(attributes, &rt, 3, wanted);
 }
 
 /// The first byte of a prefix, which has one: 0 for the default.
@@ -87,8 +87,8 @@ fn initial(namespace: &Namespace<'_>) -> u8 {
 
 /// Wants so many namespaces, of which these are given from the back, with so many left after each, and then this one from the front.
 pub(super) fn gives_namespaces(
-    rt: &impl Abort,
     mut namespaces: NamespaceIter<'_, '_>,
+    rt: &impl Abort,
     count: usize,
     backs: &[(Option<u8>, usize)],
     front: Option<u8>,
@@ -106,14 +106,14 @@ pub(super) fn gives_namespaces(
 fn namespaces_and_their_copies(rt: HostRuntime) {
     let text = "<a xmlns:p='1' xmlns:q='2'><b xmlns:p='3' p:x='' q:y=''/></a>";
     let document = document_of(&rt, text);
-    let namespaces = node_of(&rt, &document, 2).namespaces();
+    let namespaces = node_of(&document, &rt, 2).namespaces();
     gives_namespaces(
-        &rt,
         namespaces.clone().expect(&rt, "memory"),
+        &rt,
         2,
         &[],
         Some(b'p'),
     );
     let backs = &[(Some(b'q'), 1), (Some(b'p'), 0), (None, 0), (None, 0)];
-    gives_namespaces(&rt, namespaces, 2, backs, None);
+    gives_namespaces(namespaces, &rt, 2, backs, None);
 }

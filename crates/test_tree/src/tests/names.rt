@@ -14,9 +14,9 @@ fn named<'a>(uri: Option<&'a str>, local: &'a str) -> ExpandedName<'a, 'a> {
 
 /// Wants an element of a text to be named `e`, in this namespace or in none, and to be found by that name alone.
 pub(super) fn is_named(
+    element: &Node<'_, '_>,
     rt: &impl Abort,
     text: &str,
-    element: Node<'_, '_>,
     namespace: Option<&str>,
 ) {
     same(rt, text, element.tag_name(), named(namespace, "e"));
@@ -40,12 +40,17 @@ fn names_of_elements(rt: HostRuntime) {
         ("<p:e xmlns:p='u'/>", Some("u")),
         ("<e xmlns:p='u'/>", None),
     ] {
-        is_named(&rt, text, document_of(&rt, text).root_element(), *namespace);
+        root_element_is_named(&rt, text, *namespace);
     }
 }
 
+fn root_element_is_named(rt: &(impl Abort + AllocGlobal), text: &str, namespace: Option<&str>) {
+    let document = document_of(rt, text);
+    is_named(&document.root_element(), rt, text, namespace);
+}
+
 /// Wants a node to have no name, and not to be found by an empty one.
-fn has_no_name(rt: &impl Abort, node: Node<'_, '_>) {
+fn has_no_name(node: &Node<'_, '_>, rt: &impl Abort) {
     let id = node.id().get();
     same_at(rt, id, node.tag_name(), "".into());
     same_at(rt, id, node.has_tag_name("".into()), false);
@@ -56,8 +61,13 @@ fn has_no_name(rt: &impl Abort, node: Node<'_, '_>) {
 fn other_nodes_have_no_name(rt: HostRuntime) {
     let document = document_of(&rt, "<?e?><e>e</e>");
     for id in [0, 1, 3] {
-        has_no_name(&rt, node_of(&rt, &document, id));
+        has_no_name(&node_of(&document, &rt, id), &rt);
     }
+}
+
+/// Whether a name equals the one of this URI, or without one.
+fn equals(name: ExpandedName<'_, '_>, uri: Option<&str>, local: &str) -> bool {
+    name == named(uri, local)
 }
 
 #[test]
@@ -72,10 +82,9 @@ fn expanded_names(rt: HostRuntime) {
         (Some("v"), "e", false),
         (Some("u"), "f", false),
     ] {
-        same(&rt, local, name == named(*uri, local), *is_equal);
+        same(&rt, local, equals(name, *uri, local), *is_equal);
     }
-    let empty = ExpandedName::from(("", "e"));
-    same(&rt, "{}e", empty == "e".into(), false);
+    same(&rt, "{}e", equals(named(Some(""), "e"), None, "e"), false);
 }
 
 #[test]

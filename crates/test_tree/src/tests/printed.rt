@@ -2,7 +2,8 @@
 
 use super::{document_of, node_of, refusal_of, same};
 use roxmltree::{
-    ExpandedName, Node, NodeId, NodeIdTooLarge, NodeType, ParsingOptions, StringStorage, TextPos,
+    Document, ExpandedName, Node, NodeId, NodeIdTooLarge, NodeType, ParsingOptions, StringStorage,
+    TextPos,
 };
 use std::fmt::Debug;
 use std::process::Abort;
@@ -30,25 +31,28 @@ fn values(rt: HostRuntime) {
 #[test]
 fn parts_of_documents(rt: HostRuntime) {
     let document = document_of(&rt, "<e xmlns:n='uri' n:a='b'><?target value?></e>");
-    let element = document.root_element();
+    nodes(&document, &rt);
+    iterators(&document.root_element(), &rt);
+    attributes_and_namespaces(&document.root_element(), &rt);
+}
+
+fn nodes(document: &Document<'_>, rt: &(impl Abort + AllocGlobal)) {
     for (id, part) in &[
         (0, "Root"),
         (2, "PI { target: \"target\", value: Some(\"value\") }"),
     ] {
-        names(&rt, &node_of(&rt, &document, *id), part);
+        names(rt, &node_of(document, rt, *id), part);
     }
-    names(&rt, &node_of(&rt, &document, 2).pi(), "target");
-    iterators(&rt, element);
-    attributes_and_namespaces(&rt, element);
+    names(rt, &node_of(document, rt, 2).pi(), "target");
 }
 
-fn iterators(rt: &(impl Abort + AllocGlobal), element: Node<'_, '_>) {
+fn iterators(element: &Node<'_, '_>, rt: &(impl Abort + AllocGlobal)) {
     names(rt, &element.children(), "Children");
     names(rt, &element.ancestors(), "AxisIter");
     names(rt, &element.descendants(), "Descendants");
 }
 
-fn attributes_and_namespaces(rt: &(impl Abort + AllocGlobal), element: Node<'_, '_>) {
+fn attributes_and_namespaces(element: &Node<'_, '_>, rt: &(impl Abort + AllocGlobal)) {
     names(rt, &element.attributes(), "Attributes");
     names(rt, &element.namespaces(), "NamespaceIter");
     names(rt, &element.attributes().next(), "b");
