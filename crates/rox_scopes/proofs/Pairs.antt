@@ -33,7 +33,7 @@ place_at n (p ∷ ps) (suc k) d (a, h) lt = place_at n ps k d h (omega arith)
 pub uri_of-append : (xs ys : List NamespaceDecl) (p : Option (List ℕ)) → uri_of xs p ≡ None → uri_of (xs ++ ys) p ≡ uri_of ys p
 uri_of-append [] ys p h = refl
 uri_of-append (x ∷ xs) ys p h =
-    elim (cases_Bool (same_prefix x.prefix p)) [ | inl here ↦ cc (rw here at h) | inr other ↦ rw other (uri_of-append xs ys p (rw other at h)) ]
+    elim (cases_Bool (same_prefix x.prefix p)) [ inl here ↦ cc (rw here at h) | inr other ↦ rw other (uri_of-append xs ys p (rw other at h)) ]
 
 -- the first of those from i on, where those before have another prefix
 pub uri_here : (namespaces : List NamespaceDecl) (places : List ℕ) (i d : ℕ) (p : Option (List ℕ)) → i < length places → uri_of (entries namespaces (take i places)) p ≡ None

@@ -28,8 +28,8 @@ fn refusal_of(rt: &(impl Abort + AllocGlobal), text: &str) -> Error {
 
 /// The node of this id.
 fn node_of<'a, 'input>(
-    rt: &impl Abort,
     document: &'a Document<'input>,
+    rt: &impl Abort,
     id: u32,
 ) -> Node<'a, 'input> {
     document
@@ -49,30 +49,38 @@ fn count_of_x(text: &str) -> usize {
 }
 
 /// The number of a node.
-fn number(node: Node<'_, '_>) -> u32 {
+fn number(node: &Node<'_, '_>) -> u32 {
     node.id().get()
 }
 
+/// The number of a node that is there.
+fn id_of(node: &Option<Node<'_, '_>>) -> Option<u32> {
+    match node {
+        Some(node) => Some(number(node)),
+        None => None,
+    }
+}
+
 /// Wants the node of this id to have this text.
-fn has_text(rt: &impl Abort, document: &Document<'_>, id: u32, text: &str) {
-    same(rt, "text", node_of(rt, document, id).text(), Some(text));
+fn has_text(document: &Document<'_>, rt: &impl Abort, id: u32, text: &str) {
+    same(rt, "text", node_of(document, rt, id).text(), Some(text));
 }
 
 /// Wants the node of this id to have an attribute in no namespace, of this name and value.
-fn has_value(rt: &impl Abort, document: &Document<'_>, id: u32, name: &str, value: &str) {
-    let found = node_of(rt, document, id).attribute(name.into());
+fn has_value(document: &Document<'_>, rt: &impl Abort, id: u32, name: &str, value: &str) {
+    let found = node_of(document, rt, id).attribute(name.into());
     same(rt, name, found, Some(value));
 }
 
 /// Wants the node of this id to have an attribute of this URI, name and value.
 fn has_value_in(
-    rt: &impl Abort,
     document: &Document<'_>,
+    rt: &impl Abort,
     id: u32,
     name: (&str, &str),
     value: &str,
 ) {
-    let found = node_of(rt, document, id).attribute(name.into());
+    let found = node_of(document, rt, id).attribute(name.into());
     same(rt, name.1, found, Some(value));
 }
 
@@ -80,34 +88,34 @@ fn has_value_in(
 const NAMESPACES: &str = "<a xmlns:p='1' xmlns:q='2'><b xmlns:p='3' p:x='' q:y=''/></a>";
 
 /// Wants a document of that text.
-fn has_its_namespaces(rt: &impl Abort, document: &Document<'_>) {
-    let count = node_of(rt, document, 2).namespaces().len();
+fn has_its_namespaces(document: &Document<'_>, rt: &impl Abort) {
+    let count = node_of(document, rt, 2).namespaces().len();
     same(rt, "namespaces", count, 2);
-    has_value_in(rt, document, 2, ("3", "x"), "");
-    has_value_in(rt, document, 2, ("2", "y"), "");
+    has_value_in(document, rt, 2, ("3", "x"), "");
+    has_value_in(document, rt, 2, ("2", "y"), "");
 }
 
 /// An element with two attributes `a`, one in a namespace.
 const ATTRIBUTES: &str = "<e xmlns:n='' n:a='1' a='2'/>";
 
 /// Wants a document of that text.
-fn has_its_attributes(rt: &impl Abort, document: &Document<'_>) {
-    let count = node_of(rt, document, 1).attributes().len();
+fn has_its_attributes(document: &Document<'_>, rt: &impl Abort) {
+    let count = node_of(document, rt, 1).attributes().len();
     same(rt, "attributes", count, 2);
-    has_value(rt, document, 1, "a", "2");
-    has_value_in(rt, document, 1, ("", "a"), "1");
+    has_value(document, rt, 1, "a", "2");
+    has_value_in(document, rt, 1, ("", "a"), "1");
 }
 
 /// Wants the text of the root element to be 255 `x`.
-fn has_255_x(rt: &impl Abort, document: &Document<'_>) {
-    let found = node_of(rt, document, 1).text().unwrap_or("");
+fn has_255_x(document: &Document<'_>, rt: &impl Abort) {
+    let found = node_of(document, rt, 1).text().unwrap_or("");
     same(rt, "length", found.len(), 255);
     same(rt, "count of x", count_of_x(found), 255);
 }
 
 /// Wants an element `foobar` in the root element, in the first nine bytes of a text.
-fn has_foobar(rt: &impl Abort, document: &Document<'_>) {
-    let foobar = node_of(rt, document, 2);
+fn has_foobar(document: &Document<'_>, rt: &impl Abort) {
+    let foobar = node_of(document, rt, 2);
     same(rt, "name", foobar.tag_name(), "foobar".into());
     same(rt, "range", foobar.range(), 0..9);
 }

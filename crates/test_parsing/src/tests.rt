@@ -7,7 +7,6 @@ mod generated;
 mod limits;
 mod messages;
 mod positions;
-mod resolvers;
 mod searches;
 mod slices;
 mod tables;
@@ -66,8 +65,8 @@ fn answered_by<R>(resolver: R) -> ParsingOptions<R>
 
 /// The node of this id.
 fn node_of<'a, 'input>(
-    rt: &impl Abort,
     document: &'a Document<'input>,
+    rt: &impl Abort,
     id: u32,
 ) -> Node<'a, 'input> {
     document
@@ -76,12 +75,20 @@ fn node_of<'a, 'input>(
 }
 
 /// The number of a node.
-fn number(node: Node<'_, '_>) -> u32 {
+fn number(node: &Node<'_, '_>) -> u32 {
     node.id().get()
 }
 
+/// The number of a node that is there.
+fn id_of(node: &Option<Node<'_, '_>>) -> Option<u32> {
+    match node {
+        Some(node) => Some(number(node)),
+        None => None,
+    }
+}
+
 /// How many children a node has.
-fn child_count(node: Node<'_, '_>) -> usize {
+fn child_count(node: &Node<'_, '_>) -> usize {
     node.children().count()
 }
 

@@ -1,51 +1,72 @@
 //! The second line of a node: its nearest elements, and what stands along each axis.
 
-ghost use Rattle.std.specs.Iterator.{IsFinite};
-
 use crate::node::{write_link, write_truth};
 use crate::output::write_number;
 use rox_programs::output::Output;
-use roxmltree::Node;
+use roxmltree::{AxisIter, Node};
 use std::io::Write;
 
 /// Writes the second line of a node.
-pub fn write_axes<'a, W: Write>(node: Node<'a, 'a>, out: &mut Output<'_, W>) {
-    write_elements(&node, out);
+pub fn write_axes<W: Write>(node: &Node<'_, '_>, out: &mut Output<'_, W>) {
+    write_elements(node, out);
     write_truth(" sib=", node.has_siblings(), out);
     write_truth(" kids=", node.has_children(), out);
-    write_ids(" anc=", node.ancestors(), out);
-    write_ids(" prevs=", node.prev_siblings(), out);
-    write_ids(" nexts=", node.next_siblings(), out);
-    write_ids(" firsts=", node.first_children(), out);
-    write_ids(" lasts=", node.last_children(), out);
-    write_ids(" children=", node.children(), out);
-    write_ids(" children_back=", node.children().rev(), out);
+    write_ways(node, out);
+    write_children(node, out);
+    write_children_back(node, out);
     out.text(" desc=");
     write_number(node.descendants().len() as u64, out);
     out.text("\n");
 }
 
 fn write_elements<W: Write>(node: &Node<'_, '_>, out: &mut Output<'_, W>) {
-    write_link("  pe=", node.parent_element(), out);
-    write_link(" pse=", node.prev_sibling_element(), out);
-    write_link(" nse=", node.next_sibling_element(), out);
-    write_link(" fec=", node.first_element_child(), out);
-    write_link(" lec=", node.last_element_child(), out);
+    write_link(&node.parent_element(), "  pe=", out);
+    write_link(&node.prev_sibling_element(), " pse=", out);
+    write_link(&node.next_sibling_element(), " nse=", out);
+    write_link(&node.first_element_child(), " fec=", out);
+    write_link(&node.last_element_child(), " lec=", out);
 }
 
-/// Writes a label and the ids of these nodes.
-pub fn write_ids<'a, I: Iterator<Item = Node<'a, 'a>>, W: Write>(
-    label: &str,
-    nodes: I,
-    out: &mut Output<'_, W>,
-)
-    requires can { I.can_next nodes }
-    requires ends { IsFinite (I.remaining nodes) }
-{
+fn write_ways<W: Write>(node: &Node<'_, '_>, out: &mut Output<'_, W>) {
+    write_way(node.ancestors(), " anc=", out);
+    write_way(node.prev_siblings(), " prevs=", out);
+    write_way(node.next_siblings(), " nexts=", out);
+    write_way(node.first_children(), " firsts=", out);
+    write_way(node.last_children(), " lasts=", out);
+}
+
+// Writes a label and the ids of the nodes along an axis.
+fn write_way<W: Write>(nodes: AxisIter<'_, '_>, label: &str, out: &mut Output<'_, W>) {
     out.text(label);
     let mut is_first = true;
     for node in nodes {
-        write_link(if is_first { "" } else { "," }, Some(node), out);
+        write_id(&node, is_first, out);
         is_first = false;
     }
+}
+
+fn write_children<W: Write>(node: &Node<'_, '_>, out: &mut Output<'_, W>) {
+    out.text(" children=");
+    let mut is_first = true;
+    for child in node.children() {
+        write_id(&child, is_first, out);
+        is_first = false;
+    }
+}
+
+fn write_children_back<W: Write>(node: &Node<'_, '_>, out: &mut Output<'_, W>) {
+    out.text(" children_back=");
+    let mut children = node.children();
+    for at in 0..u64::MAX {
+        let Some(child) = children.next_back() else {
+            break;
+        };
+        write_id(&child, at == 0, out);
+    }
+}
+
+/// Writes the id of a node, behind a comma if it is not the first one.
+pub fn write_id<W: Write>(node: &Node<'_, '_>, is_first: bool, out: &mut Output<'_, W>) {
+    out.text(if is_first { "" } else { "," });
+    write_number(node.id().get() as u64, out);
 }

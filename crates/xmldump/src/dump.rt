@@ -24,9 +24,18 @@ pub fn write_dump<W: Write>(
     let recorder = Recorder::new(alloc, answers);
     let answer = parse(alloc, text, answers, &recorder, options);
     write_requests(recorder, out)?;
+    write_answer(&answer, alloc, options, out)
+}
+
+fn write_answer<W: Write>(
+    answer: &Result<Document<'_>, Error>,
+    alloc: Global,
+    options: Options,
+    out: &mut W,
+) -> Result<(), ProgramError> {
     match answer {
-        Ok(document) => write_document(&document, options, out),
-        Err(error) => write_refusal(alloc, &error, out),
+        Ok(document) => write_document(document, options, out),
+        Err(error) => write_refusal(alloc, error, out),
     }
 }
 
@@ -81,7 +90,7 @@ fn write_document<W: Write>(
 fn write_lines<W: Write>(node: &Node<'_, '_>, options: Options, out: &mut Output<'_, W>) {
     write_node(node, out);
     if options.axes {
-        write_axes(*node, out);
+        write_axes(node, out);
     }
     if options.lookups {
         write_lookups(node, out);

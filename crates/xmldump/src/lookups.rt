@@ -1,7 +1,7 @@
 //! The look-ups of a node: its rows and columns, what is found by prefix, by URI and by name, and what its iterators give from
 //! their backs.
 
-use crate::axes::write_ids;
+use crate::axes::write_id;
 use crate::node::{gap, write_name, write_text, write_truth};
 use crate::output::{write_number, write_position};
 use rox_programs::output::Output;
@@ -15,7 +15,7 @@ pub fn write_lookups<W: Write>(node: &Node<'_, '_>, out: &mut Output<'_, W>) {
     write_prefixes(node, out);
     write_named(node, out);
     write_own_name(node, out);
-    write_backs(*node, out);
+    write_backs(node, out);
     out.text("\n");
 }
 
@@ -30,17 +30,17 @@ fn write_places<W: Write>(node: &Node<'_, '_>, out: &mut Output<'_, W>) {
 // The URIs of the default, of `xml` and of each prefix that is listed.
 fn write_uris<W: Write>(node: &Node<'_, '_>, out: &mut Output<'_, W>) {
     write_text(" default=", node.default_namespace(), out);
-    write_uri(" uris=[", node, None, out);
-    write_uri(" ", node, Some("xml"), out);
+    write_uri(node, " uris=[", None, out);
+    write_uri(node, " ", Some("xml"), out);
     for namespace in node.namespaces() {
-        write_uri(" ", node, namespace.name(), out);
+        write_uri(node, " ", namespace.name(), out);
     }
     out.text("]");
 }
 
 fn write_uri<W: Write>(
-    gap: &str,
     node: &Node<'_, '_>,
+    gap: &str,
     prefix: Option<&str>,
     out: &mut Output<'_, W>,
 ) {
@@ -50,15 +50,15 @@ fn write_uri<W: Write>(
 
 // The prefixes of the URI of `xml`, of the empty one and of each that is listed.
 fn write_prefixes<W: Write>(node: &Node<'_, '_>, out: &mut Output<'_, W>) {
-    write_prefix(" prefixes=[", node, NS_XML_URI, out);
-    write_prefix(" ", node, "", out);
+    write_prefix(node, " prefixes=[", NS_XML_URI, out);
+    write_prefix(node, " ", "", out);
     for namespace in node.namespaces() {
-        write_prefix(" ", node, namespace.uri(), out);
+        write_prefix(node, " ", namespace.uri(), out);
     }
     out.text("]");
 }
 
-fn write_prefix<W: Write>(gap: &str, node: &Node<'_, '_>, uri: &str, out: &mut Output<'_, W>) {
+fn write_prefix<W: Write>(node: &Node<'_, '_>, gap: &str, uri: &str, out: &mut Output<'_, W>) {
     write_text(gap, Some(uri), out);
     write_text("=", node.lookup_prefix(uri), out);
 }
@@ -68,23 +68,23 @@ fn write_named<W: Write>(node: &Node<'_, '_>, out: &mut Output<'_, W>) {
     out.text(" named=[");
     let mut is_first = true;
     for attribute in node.attributes() {
-        write_found(gap(is_first), node, &attribute, out);
+        write_found(node, gap(is_first), &attribute, out);
         is_first = false;
     }
     out.text("]");
 }
 
 fn write_found<W: Write>(
-    gap: &str,
     node: &Node<'_, '_>,
+    gap: &str,
     attribute: &Attribute<'_, '_>,
     out: &mut Output<'_, W>,
 ) {
     let local = attribute.name();
     write_name(gap, attribute.namespace(), local, out);
-    write_start("@", node.attribute_node(name_of(attribute)), out);
-    write_start(",", node.attribute_node(local.into()), out);
-    write_start(",", node.attribute_local(local), out);
+    write_start(&node.attribute_node(name_of(attribute)), "@", out);
+    write_start(&node.attribute_node(local.into()), ",", out);
+    write_start(&node.attribute_local(local), ",", out);
 }
 
 fn name_of<'a, 'input>(attribute: &Attribute<'a, 'input>) -> ExpandedName<'a, 'input> {
@@ -97,8 +97,8 @@ fn name_of<'a, 'input>(attribute: &Attribute<'a, 'input>) -> ExpandedName<'a, 'i
 
 // Where an attribute starts, behind a mark.
 fn write_start<W: Write>(
+    attribute: &Option<Attribute<'_, '_>>,
     mark: &str,
-    attribute: Option<Attribute<'_, '_>>,
     out: &mut Output<'_, W>,
 ) {
     out.text(mark);
@@ -119,29 +119,61 @@ fn write_own_name<W: Write>(node: &Node<'_, '_>, out: &mut Output<'_, W>) {
     write_text(" value=", node.attribute(local.into()), out);
 }
 
-fn write_backs<'a, W: Write>(node: Node<'a, 'a>, out: &mut Output<'_, W>) {
-    write_attributes_back(&node, out);
-    write_prefixes_back(&node, out);
-    write_ids(" order=", node.descendants(), out);
-    write_ids(" order_back=", node.descendants().rev(), out);
+fn write_backs<W: Write>(node: &Node<'_, '_>, out: &mut Output<'_, W>) {
+    write_attributes_back(node, out);
+    write_prefixes_back(node, out);
+    write_order(node, out);
+    write_order_back(node, out);
 }
 
 fn write_attributes_back<W: Write>(node: &Node<'_, '_>, out: &mut Output<'_, W>) {
     out.text(" attrs_back=[");
-    let mut is_first = true;
-    for attribute in node.attributes().rev() {
-        write_name(gap(is_first), attribute.namespace(), attribute.name(), out);
-        is_first = false;
+    let mut attributes = node.attributes();
+    for at in 0..u64::MAX {
+        let Some(attribute) = attributes.next_back() else {
+            break;
+        };
+        write_expanded_name(&attribute, at == 0, out);
     }
     out.text("]");
 }
 
+fn write_expanded_name<W: Write>(
+    attribute: &Attribute<'_, '_>,
+    is_first: bool,
+    out: &mut Output<'_, W>,
+) {
+    write_name(gap(is_first), attribute.namespace(), attribute.name(), out);
+}
+
 fn write_prefixes_back<W: Write>(node: &Node<'_, '_>, out: &mut Output<'_, W>) {
     out.text(" ns_back=[");
-    let mut is_first = true;
-    for namespace in node.namespaces().rev() {
-        write_text(gap(is_first), namespace.name(), out);
-        is_first = false;
+    let mut namespaces = node.namespaces();
+    for at in 0..u64::MAX {
+        let Some(namespace) = namespaces.next_back() else {
+            break;
+        };
+        write_text(gap(at == 0), namespace.name(), out);
     }
     out.text("]");
+}
+
+fn write_order<W: Write>(node: &Node<'_, '_>, out: &mut Output<'_, W>) {
+    out.text(" order=");
+    let mut is_first = true;
+    for node in node.descendants() {
+        write_id(&node, is_first, out);
+        is_first = false;
+    }
+}
+
+fn write_order_back<W: Write>(node: &Node<'_, '_>, out: &mut Output<'_, W>) {
+    out.text(" order_back=");
+    let mut nodes = node.descendants();
+    for at in 0..u64::MAX {
+        let Some(node) = nodes.next_back() else {
+            break;
+        };
+        write_id(&node, at == 0, out);
+    }
 }

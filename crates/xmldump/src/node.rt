@@ -35,15 +35,15 @@ fn kind_name(kind: NodeType) -> &'static str {
 }
 
 fn write_links<W: Write>(node: &Node<'_, '_>, out: &mut Output<'_, W>) {
-    write_link(" parent=", node.parent(), out);
-    write_link(" prev=", node.prev_sibling(), out);
-    write_link(" next=", node.next_sibling(), out);
-    write_link(" first=", node.first_child(), out);
-    write_link(" last=", node.last_child(), out);
+    write_link(&node.parent(), " parent=", out);
+    write_link(&node.prev_sibling(), " prev=", out);
+    write_link(&node.next_sibling(), " next=", out);
+    write_link(&node.first_child(), " first=", out);
+    write_link(&node.last_child(), " last=", out);
 }
 
 /// Writes a label and the id of a node.
-pub fn write_link<W: Write>(label: &str, node: Option<Node<'_, '_>>, out: &mut Output<'_, W>) {
+pub fn write_link<W: Write>(node: &Option<Node<'_, '_>>, label: &str, out: &mut Output<'_, W>) {
     out.text(label);
     match node {
         None => out.text("-"),
@@ -75,7 +75,7 @@ fn write_attributes<W: Write>(node: &Node<'_, '_>, out: &mut Output<'_, W>) {
     out.text(" attrs=[");
     let mut is_first = true;
     for attribute in node.attributes() {
-        write_attribute(gap(is_first), &attribute, out);
+        write_attribute(&attribute, gap(is_first), out);
         is_first = false;
     }
     out.text("]");
@@ -86,7 +86,7 @@ pub fn gap(is_first: bool) -> &'static str {
     if is_first { "" } else { " " }
 }
 
-fn write_attribute<W: Write>(gap: &str, attribute: &Attribute<'_, '_>, out: &mut Output<'_, W>) {
+fn write_attribute<W: Write>(attribute: &Attribute<'_, '_>, gap: &str, out: &mut Output<'_, W>) {
     write_name(gap, attribute.namespace(), attribute.name(), out);
     write_storage("=", attribute.value_storage(), out);
     write_range("@", attribute.range(), out);

@@ -45,18 +45,18 @@ fn texts(rt: HostRuntime) {
         ("<root>&apos;</root>", "'"),
         ("<p><![CDATA[1]]><![CDATA[2]]></p>", "12"),
     ] {
-        has_text(&rt, &read(&rt, text), 2, value);
+        has_text(&read(&rt, text), &rt, 2, value);
     }
 }
 
 #[test]
 fn namespaces(rt: HostRuntime) {
-    has_its_namespaces(&rt, &read(&rt, NAMESPACES));
+    has_its_namespaces(&read(&rt, NAMESPACES), &rt);
 }
 
 #[test]
 fn attributes(rt: HostRuntime) {
-    has_its_attributes(&rt, &read(&rt, ATTRIBUTES));
+    has_its_attributes(&read(&rt, ATTRIBUTES), &rt);
 }
 
 /// The last name that an error tells, or the words of a resolver.
@@ -73,7 +73,7 @@ fn name_in(error: &Error) -> Option<&str> {
 }
 
 /// Wants an error to tell this name, and this column of the first line.
-fn names(rt: &impl Abort, error: &Error, name: &str, col: u32) {
+fn names(error: &Error, rt: &impl Abort, name: &str, col: u32) {
     same(rt, "name", name_in(error), Some(name));
     same(rt, name, error.pos(), TextPos::new(1, col));
 }
@@ -86,7 +86,7 @@ fn names_in_errors(rt: HostRuntime) {
         ("<e xmlns:n='u' xmlns:m='u' n:a='1' m:a='2'/>", "a", 36),
         ("<a:b xmlns:a='1'></b>", "b", 18),
     ] {
-        names(&rt, &refused(&rt, text), name, *col);
+        names(&refused(&rt, text), &rt, name, *col);
     }
 }
 
@@ -135,7 +135,7 @@ fn opened(rt: &(impl Abort + AllocGlobal), count: usize) -> String {
 #[test]
 fn entities(rt: HostRuntime) {
     let text = opened(&rt, 255);
-    has_255_x(&rt, &opens(&rt, text.as_str()));
+    has_255_x(&opens(&rt, text.as_str()), &rt);
 }
 
 #[test]
@@ -157,7 +157,7 @@ pub(super) const ELEVEN: &str =
 
 #[test]
 fn entities_in_one_another(rt: HostRuntime) {
-    has_text(&rt, &opens(&rt, TEN), 1, "x");
+    has_text(&opens(&rt, TEN), &rt, 1, "x");
 }
 
 #[test]
@@ -191,7 +191,7 @@ fn answered<'input>(
 #[test]
 fn external_entities(rt: HostRuntime) {
     let answer = Some("<?xml version=\"1.0\"?><foobar/>");
-    has_foobar(&rt, &answered(&rt, answer).expect(&rt, "an answer"));
+    has_foobar(&answered(&rt, answer).expect(&rt, "an answer"), &rt);
 }
 
 /// Why the document is refused where its external entity has this text.
@@ -201,12 +201,12 @@ fn why(rt: &(impl Abort + AllocGlobal), answer: Option<&str>) -> Error {
 
 #[test]
 fn external_entities_that_refer_to_others(rt: HostRuntime) {
-    names(&rt, &why(&rt, Some("<a>&x;</a>")), "x", 4);
+    names(&why(&rt, Some("<a>&x;</a>")), &rt, "x", 4);
 }
 
 #[test]
 fn external_entities_without_a_text(rt: HostRuntime) {
-    names(&rt, &why(&rt, None), "bar", 54);
+    names(&why(&rt, None), &rt, "bar", 54);
 }
 
 /// What a resolver's own refusal becomes.
@@ -234,11 +234,11 @@ fn refusals_of_a_resolver(rt: HostRuntime) {
         Error::OutOfMemory => refused_by_resolver(&rt, other),
         error => error,
     };
-    names(&rt, &error, "no", 45);
+    names(&error, &rt, "no", 45);
 }
 
 /// The text with one element in the place of another, asked again where a growth was refused.
-fn exchanged(rt: &(impl Abort + AllocGlobal), node: Node<'_, '_>, other: &Document<'_>) -> String {
+fn exchanged(node: &Node<'_, '_>, other: &Document<'_>, rt: &(impl Abort + AllocGlobal)) -> String {
     assert!(rt; node.is_self_contained());
     assert!(rt; other.root_element().is_self_contained());
     match node.exchange(rt.alloc(), other) {
@@ -248,7 +248,7 @@ fn exchanged(rt: &(impl Abort + AllocGlobal), node: Node<'_, '_>, other: &Docume
 }
 
 /// The document of an element alone, asked again where a growth was refused.
-fn reparsed<'input>(rt: &(impl Abort + AllocGlobal), node: Node<'_, 'input>) -> Document<'input> {
+fn reparsed<'input>(node: &Node<'_, 'input>, rt: &(impl Abort + AllocGlobal)) -> Document<'input> {
     assert!(rt; node.is_self_contained());
     match node.reparse(rt.alloc()) {
         Err(Error::OutOfMemory) => node.reparse(rt.alloc()).expect(rt, "reparse"),
@@ -260,16 +260,23 @@ fn reparsed<'input>(rt: &(impl Abort + AllocGlobal), node: Node<'_, 'input>) -> 
 fn slices(rt: HostRuntime) {
     let document = read(&rt, "<r>a<b xmlns:n='u' n:a='&lt;'>&gt;</b>c</r>");
     let other = read(&rt, "<x/>");
-    let b = node_of(&rt, &document, 3);
-    let text = exchanged(&rt, b, &other);
-    same(&rt, "text", text.as_str(), "<r>a<x/>c</r>");
-    is_b(&rt, &reparsed(&rt, b));
+    b_is_exchanged(&document, &other, &rt);
+    b_is_reparsed(&document, &rt);
+}
+
+fn b_is_exchanged(document: &Document<'_>, other: &Document<'_>, rt: &(impl Abort + AllocGlobal)) {
+    let text = exchanged(&node_of(document, rt, 3), other, rt);
+    same(rt, "text", text.as_str(), "<r>a<x/>c</r>");
+}
+
+fn b_is_reparsed(document: &Document<'_>, rt: &(impl Abort + AllocGlobal)) {
+    is_b(&reparsed(&node_of(document, rt, 3), rt), rt);
 }
 
 /// Wants the document of that element `b` alone.
-fn is_b(rt: &impl Abort, alone: &Document<'_>) {
-    has_value_in(rt, alone, 1, ("u", "a"), "<");
-    has_text(rt, alone, 2, ">");
+fn is_b(alone: &Document<'_>, rt: &impl Abort) {
+    has_value_in(alone, rt, 1, ("u", "a"), "<");
+    has_text(alone, rt, 2, ">");
 }
 
 #[test]

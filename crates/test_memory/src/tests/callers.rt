@@ -1,13 +1,13 @@
 //! What the callers of `rox_uses` answer.
 
-use super::{document_of, node_of, number, same};
+use super::{document_of, id_of, node_of, same};
 use rox_path::PathError;
 use rox_uses::{
     QueryError, Record, RecordsError, attribute_answers, element_by_id, first_with_id,
     last_with_id, levels, namespace_answers, read_records, records_at, resolve, source_of,
     with_copy,
 };
-use roxmltree::{Attribute, ExpandedName, Node};
+use roxmltree::{Attribute, Document, ExpandedName, Namespace, Node};
 use std::process::Abort;
 
 #[test]
@@ -15,41 +15,35 @@ fn elements_by_id(rt: HostRuntime) {
     let text = "<r xmlns:n='u'><a n:id='x'/><b id='y'><c id='x'/></b><d id='x'/></r>";
     let document = document_of(&rt, text);
     for (id, wanted) in &[("x", Some(4)), ("y", Some(3)), ("z", None), ("", None)] {
-        let found = element_by_id(&document, id);
-        same(&rt, id, found.map(number), *wanted);
+        is_found(&document, &rt, id, *wanted);
     }
+}
+
+/// Wants this element to be found by an id.
+fn is_found(document: &Document<'_>, rt: &impl Abort, id: &str, wanted: Option<u32>) {
+    same(rt, id, id_of(&element_by_id(document, id)), wanted);
 }
 
 #[test]
 fn elements_by_chains(rt: HostRuntime) {
     let text = "<r><a id='x'/><b id='y'><c id='x'/></b><d id='x'/></r>";
     let document = document_of(&rt, text);
-    same(
-        &rt,
-        "first",
-        first_with_id(&document, "x").map(number),
-        Some(2),
-    );
-    same(
-        &rt,
-        "last",
-        last_with_id(&document, "x").map(number),
-        Some(5),
-    );
-    same(&rt, "none", last_with_id(&document, "z").map(number), None);
+    same(&rt, "first", id_of(&first_with_id(&document, "x")), Some(2));
+    same(&rt, "last", id_of(&last_with_id(&document, "x")), Some(5));
+    same(&rt, "none", id_of(&last_with_id(&document, "z")), None);
 }
 
 #[test]
 fn levels_of_trees(rt: HostRuntime) {
     let document = document_of(&rt, "<r><a/><b><c>text</c></b></r>");
     same(&rt, "levels", levels(document.root()), 5);
-    same(&rt, "levels", levels(node_of(&rt, &document, 2)), 1);
+    same(&rt, "levels", levels(node_of(&document, &rt, 2)), 1);
 }
 
 #[test]
 fn sources_of_nodes(rt: HostRuntime) {
     let document = document_of(&rt, "<r><a>x</a></r>");
-    let source = source_of(node_of(&rt, &document, 2));
+    let source = source_of(node_of(&document, &rt, 2));
     same(&rt, "source", source, Some("<a>x</a>"));
 }
 
@@ -102,13 +96,15 @@ fn records_by_a_path(rt: HostRuntime) {
     same(&rt, "//row/", error, Some(wanted));
 }
 
-/// Wants a qualified name at a node to stand for this URI and local name, or for none.
+/// Wants a qualified name at the node of this id to stand for this URI and local name, or for none.
 fn stands_for(
+    document: &Document<'_>,
     rt: &impl Abort,
-    node: Node<'_, '_>,
+    id: u32,
     name: &str,
     wanted: Option<(Option<&str>, &str)>,
 ) {
+    let node = node_of(document, rt, id);
     same(rt, name, resolve(node, name).map(parts), wanted);
 }
 
@@ -120,10 +116,7 @@ fn parts<'a>(name: ExpandedName<'a, 'a>) -> (Option<&'a str>, &'a str) {
 #[test]
 fn copies_in_the_place_of_others(rt: HostRuntime) {
     let document = document_of(&rt, "<r>a<b x='1'>c</b><!-- --><d/></r>");
-    let (b, d) = (node_of(&rt, &document, 3), node_of(&rt, &document, 6));
-    assert!(rt; b.is_self_contained());
-    assert!(rt; d.is_self_contained());
-    let text = with_copy(rt.alloc(), d, b).expect(&rt, "memory");
+    let text = copied(&document, &rt, 3, 6);
     let wanted = "<r>a<b x='1'>c</b><!-- --><b x='1'>c</b></r>";
     same(&rt, "the text", text.as_str(), wanted);
 }
@@ -138,13 +131,26 @@ fn qualified_names(rt: HostRuntime) {
         (0, "T", Some((None, "T"))),
         (2, "q:T", None),
     ] {
-        stands_for(&rt, node_of(&rt, &document, *id), name, *wanted);
+        stands_for(&document, &rt, *id, name, *wanted);
     }
 }
 
+/// The text with a copy of one element in the place of another: these are their ids.
+fn copied(
+    document: &Document<'_>,
+    rt: &(impl Abort + AllocGlobal),
+    one: u32,
+    other: u32,
+) -> String {
+    let (one, other) = (node_of(document, rt, one), node_of(document, rt, other));
+    assert!(rt; one.is_self_contained());
+    assert!(rt; other.is_self_contained());
+    with_copy(rt.alloc(), other, one).expect(rt, "memory")
+}
+
 /// Wants an attribute `n:a` to have these answers.
-fn has_answers(rt: &impl Abort, attribute: Attribute<'_, '_>) {
-    let answers = attribute_answers(attribute);
+fn has_answers(attribute: &Attribute<'_, '_>, rt: &impl Abort) {
+    let answers = attribute_answers(*attribute);
     same(rt, "start", answers.start, 15);
     same(rt, "name_end", answers.name_end, 18);
     same(rt, "value_start", answers.value_start, 20);
@@ -156,19 +162,24 @@ fn has_answers(rt: &impl Abort, attribute: Attribute<'_, '_>) {
 }
 
 /// Wants the attributes and namespaces of an element to have these answers.
-fn have_answers(rt: &impl Abort, element: Node<'_, '_>) {
+fn have_answers(element: &Node<'_, '_>, rt: &impl Abort) {
     for attribute in element.attributes() {
-        has_answers(rt, attribute);
+        has_answers(&attribute, rt);
     }
     for namespace in element.namespaces() {
-        let answers = namespace_answers(namespace);
-        same(rt, "prefix", answers.name, Some("n"));
-        same(rt, "uri", answers.uri, "u");
+        is_n(namespace, rt);
     }
+}
+
+/// Wants a namespace to have these answers.
+fn is_n(namespace: &Namespace<'_>, rt: &impl Abort) {
+    let answers = namespace_answers(namespace);
+    same(rt, "prefix", answers.name, Some("n"));
+    same(rt, "uri", answers.uri, "u");
 }
 
 #[test]
 fn answers_of_attributes_and_namespaces(rt: HostRuntime) {
     let document = document_of(&rt, "<r xmlns:n='u' n:a='x&lt;'/>");
-    have_answers(&rt, document.root_element());
+    have_answers(&document.root_element(), &rt);
 }

@@ -4,14 +4,16 @@
 //! the most. So in the runs of `tools/refuse-growths` a test fails up to that of its last growth, and passes from there on.
 
 use super::again::{ELEVEN, TEN, asked, opening, refused_by_resolver, resolved};
+use super::paths::are;
 use super::{
     ATTRIBUTES, NAMESPACES, document_of, has_255_x, has_foobar, has_its_attributes,
     has_its_namespaces, has_text, has_value, is_a_loop, node_of, number, refusal_of, same,
 };
-use rox_path::{parse_path, select};
+use rox_path::{Step, parse_path, select};
 use roxmltree::{Document, Error, Node, StringStorage};
 use std::fmt;
 use std::fmt::Write;
+use std::ops::Range;
 use std::process::Abort;
 
 /// What is still to be printed.
@@ -26,7 +28,7 @@ impl Write for Left<'_> {
 }
 
 /// Wants an error to be printed so, which takes no memory.
-fn tells(rt: &impl Abort, error: &Error, wanted: &str) {
+fn tells(error: &Error, rt: &impl Abort, wanted: &str) {
     assert!(rt; *error != Error::OutOfMemory, "out of memory: {wanted}");
     let mut left = Left(wanted);
     let printed = write!(left, "{error}");
@@ -40,13 +42,13 @@ fn ends(rt: &(impl Abort + AllocGlobal)) {
 
 /// Wants the node of this id to have this text in the document of a text.
 fn reads(rt: &(impl Abort + AllocGlobal), text: &str, id: u32, wanted: &str) {
-    has_text(rt, &document_of(rt, text), id, wanted);
+    has_text(&document_of(rt, text), rt, id, wanted);
     ends(rt);
 }
 
 /// Wants a text to be refused with this message.
 fn refuses(rt: &(impl Abort + AllocGlobal), text: &str, message: &str) {
-    tells(rt, &refusal_of(rt, text), message);
+    tells(&refusal_of(rt, text), rt, message);
     ends(rt);
 }
 
@@ -64,7 +66,7 @@ fn loops(rt: &(impl Abort + AllocGlobal), text: &str, col: u32) {
 /// Wants the document with an external entity to be refused with this message where the entity has this text.
 fn refuses_answer(rt: &(impl Abort + AllocGlobal), answer: Option<&str>, message: &str) {
     let error = resolved(rt, answer).expect_err(rt, message);
-    tells(rt, &error, message);
+    tells(&error, rt, message);
     ends(rt);
 }
 
@@ -81,7 +83,7 @@ fn sections(rt: HostRuntime) {
 #[test]
 fn entities(rt: HostRuntime) {
     let text = opening(rt.alloc(), 255).expect(&rt, "memory");
-    has_255_x(&rt, &declared(&rt, text.as_str()));
+    has_255_x(&declared(&rt, text.as_str()), &rt);
     ends(&rt);
 }
 
@@ -89,7 +91,7 @@ fn entities(rt: HostRuntime) {
 fn values_that_change(rt: HostRuntime) {
     let document = document_of(&rt, "<r><a b='&lt;' c='&amp;' d='\t'/></r>");
     for (name, value) in &[("b", "<"), ("c", "&"), ("d", " ")] {
-        has_value(&rt, &document, 2, name, value);
+        has_value(&document, &rt, 2, name, value);
     }
     ends(&rt);
 }
@@ -97,7 +99,7 @@ fn values_that_change(rt: HostRuntime) {
 #[test]
 fn a_value_of_an_entity(rt: HostRuntime) {
     let text = "<!DOCTYPE r [<!ENTITY e 'x'>]><r><a b='&e;'/></r>";
-    has_value(&rt, &declared(&rt, text), 2, "b", "x");
+    has_value(&declared(&rt, text), &rt, 2, "b", "x");
     ends(&rt);
 }
 
@@ -120,7 +122,7 @@ fn entities_too_often(rt: HostRuntime) {
 
 #[test]
 fn entities_in_one_another(rt: HostRuntime) {
-    has_text(&rt, &declared(&rt, TEN), 1, "x");
+    has_text(&declared(&rt, TEN), &rt, 1, "x");
     ends(&rt);
 }
 
@@ -133,7 +135,7 @@ fn entities_in_one_another_too_deep(rt: HostRuntime) {
 fn an_external_entity(rt: HostRuntime) {
     let answer = Some("<?xml version=\"1.0\"?><foobar/>");
     let document = resolved(&rt, answer).expect(&rt, "an answer");
-    has_foobar(&rt, &document);
+    has_foobar(&document, &rt);
     ends(&rt);
 }
 
@@ -152,19 +154,19 @@ fn an_external_entity_without_a_text(rt: HostRuntime) {
 fn a_refusal_of_a_resolver(rt: HostRuntime) {
     let words = String::from_str(rt.alloc(), "no").expect(&rt, "memory");
     let error = refused_by_resolver(&rt, words);
-    tells(&rt, &error, "entity resolver failed at 1:45: no");
+    tells(&error, &rt, "entity resolver failed at 1:45: no");
     ends(&rt);
 }
 
 #[test]
 fn namespaces(rt: HostRuntime) {
-    has_its_namespaces(&rt, &document_of(&rt, NAMESPACES));
+    has_its_namespaces(&document_of(&rt, NAMESPACES), &rt);
     ends(&rt);
 }
 
 #[test]
 fn attributes(rt: HostRuntime) {
-    has_its_attributes(&rt, &document_of(&rt, ATTRIBUTES));
+    has_its_attributes(&document_of(&rt, ATTRIBUTES), &rt);
     ends(&rt);
 }
 
@@ -199,60 +201,73 @@ fn a_text_of_its_own(rt: HostRuntime) {
 }
 
 /// The document of a node alone.
-fn reparsed<'input>(rt: &(impl Abort + AllocGlobal), node: Node<'_, 'input>) -> Document<'input> {
+fn reparsed<'input>(node: &Node<'_, 'input>, rt: &(impl Abort + AllocGlobal)) -> Document<'input> {
     assert!(rt; node.is_self_contained());
     node.reparse(rt.alloc()).expect(rt, "an element")
 }
 
+/// Wants the node of this id to stand there.
+fn has_range(document: &Document<'_>, rt: &impl Abort, id: u32, range: Range<usize>) {
+    same(rt, "range", node_of(document, rt, id).range(), range);
+}
+
 /// Wants the nodes of these ids to have ranges that begin and end there.
-fn have_ranges(rt: &impl Abort, document: &Document<'_>, wanted: &[(u32, usize, usize)]) {
+fn have_ranges(document: &Document<'_>, rt: &impl Abort, wanted: &[(u32, usize, usize)]) {
     for (id, start, end) in wanted {
-        let range = node_of(rt, document, *id).range();
-        same(rt, "range", range, *start..*end);
+        has_range(document, rt, *id, *start..*end);
     }
 }
 
 #[test]
 fn an_element(rt: HostRuntime) {
     let document = document_of(&rt, "<r><b>&lt;</b></r>");
-    let alone = reparsed(&rt, node_of(&rt, &document, 2));
-    same(&rt, "text", alone.input_text(), "<b>&lt;</b>");
-    same(&rt, "id", number(alone.root_element()), 1);
+    let alone = reparsed(&node_of(&document, &rt, 2), &rt);
+    is_alone(&alone, &rt);
     ends(&rt);
+}
+
+/// Wants the document of that element `b` alone.
+fn is_alone(alone: &Document<'_>, rt: &impl Abort) {
+    same(rt, "text", alone.input_text(), "<b>&lt;</b>");
+    same(rt, "id", number(&alone.root_element()), 1);
 }
 
 #[test]
 fn an_element_among_texts(rt: HostRuntime) {
     let document = document_of(&rt, "<?xml version='1.0'?><r>a<x y='1'>&lt;</x>c</r>");
-    let alone = reparsed(&rt, node_of(&rt, &document, 3));
-    have_ranges(&rt, &alone, &[(1, 0, 17), (2, 9, 13)]);
+    let alone = reparsed(&node_of(&document, &rt, 3), &rt);
+    have_ranges(&alone, &rt, &[(1, 0, 17), (2, 9, 13)]);
 }
 
 /// Wants this text where the root element of another takes the place of the element of this id.
 fn exchanges(rt: &(impl Abort + AllocGlobal), texts: (&str, &str), id: u32, wanted: &str) {
     let (document, other) = (document_of(rt, texts.0), document_of(rt, texts.1));
-    let element = node_of(rt, &document, id);
-    exchanges_to(rt, element, &other, wanted);
+    exchanges_to(&document, &other, rt, id, wanted);
     ends(rt);
 }
 
 fn exchanges_to(
-    rt: &(impl Abort + AllocGlobal),
-    element: Node<'_, '_>,
+    document: &Document<'_>,
     other: &Document<'_>,
+    rt: &(impl Abort + AllocGlobal),
+    id: u32,
     wanted: &str,
 ) {
-    assert!(rt; element.is_self_contained());
-    assert!(rt; other.root_element().is_self_contained());
-    let text = element.exchange(rt.alloc(), other).expect(rt, "memory");
+    let text = exchanged(&node_of(document, rt, id), other, rt);
     same(rt, "text", text.as_str(), wanted);
+}
+
+/// The text with one element in the place of another.
+fn exchanged(node: &Node<'_, '_>, other: &Document<'_>, rt: &(impl Abort + AllocGlobal)) -> String {
+    assert!(rt; node.is_self_contained());
+    assert!(rt; other.root_element().is_self_contained());
+    node.exchange(rt.alloc(), other).expect(rt, "memory")
 }
 
 #[test]
 fn an_exchange(rt: HostRuntime) {
     let document = document_of(&rt, "<r><b/></r>");
-    let b = node_of(&rt, &document, 2);
-    exchanges_to(&rt, b, &document, "<r><r><b/></r></r>");
+    exchanges_to(&document, &document, &rt, 2, "<r><r><b/></r></r>");
     ends(&rt);
 }
 
@@ -270,10 +285,16 @@ fn an_exchange_with_another_document(rt: HostRuntime) {
 fn a_path(rt: HostRuntime) {
     let document = document_of(&rt, "<r/>");
     let steps = parse_path(rt.alloc(), "//r").expect(&rt, "a path");
-    let nodes = select(rt.alloc(), document.root(), &steps).expect(&rt, "memory");
-    for node in &nodes {
-        same(&rt, "node", number(*node), 1);
-    }
-    same(&rt, "count", nodes.len(), 1);
+    lead_to_the_element(&document, &rt, &steps);
     ends(&rt);
+}
+
+/// Wants steps to lead from the root node to the root element alone.
+fn lead_to_the_element(
+    document: &Document<'_>,
+    rt: &(impl Abort + AllocGlobal),
+    steps: &[Step<'_>],
+) {
+    let nodes = select(rt.alloc(), document.root(), steps).expect(rt, "memory");
+    are(&nodes, rt, 1);
 }

@@ -4,7 +4,8 @@
 use super::again::read;
 use super::{node_of, number, same};
 use rox_path::{PathError, Step, parse_path, select};
-use roxmltree::Node;
+use roxmltree::{Document, Node};
+use std::ops::Range;
 use std::process::Abort;
 
 /// The steps of a path, or why it is none.
@@ -15,34 +16,43 @@ fn steps_of<'q>(rt: &impl AllocGlobal, path: &'q str) -> Result<Vec<Step<'q>>, P
     }
 }
 
-/// What the steps lead to from a node.
+/// What the steps lead to from the node of this id.
 fn selected<'a, 'input>(
+    document: &'a Document<'input>,
     rt: &(impl Abort + AllocGlobal),
-    start: Node<'a, 'input>,
+    id: u32,
     steps: &[Step<'_>],
 ) -> Vec<Node<'a, 'input>> {
+    let start = node_of(document, rt, id);
     match select(rt.alloc(), start, steps) {
         Ok(nodes) => nodes,
         Err(_) => select(rt.alloc(), start, steps).expect(rt, "no memory again"),
     }
 }
 
-/// Wants a path to lead from a node to nodes of these ranges.
+/// Wants a path to lead from the node of this id to nodes of these ranges.
 fn leads(
+    document: &Document<'_>,
     rt: &(impl Abort + AllocGlobal),
-    start: Node<'_, '_>,
+    id: u32,
     path: &str,
     wanted: &[(usize, usize)],
 ) {
     let steps = steps_of(rt, path).expect(rt, path);
-    let nodes = selected(rt, start, &steps);
+    have_ranges(&selected(document, rt, id, &steps), rt, path, wanted);
+}
+
+/// Wants nodes to have these ranges.
+fn have_ranges(nodes: &[Node<'_, '_>], rt: &impl Abort, path: &str, wanted: &[(usize, usize)]) {
     same(rt, path, nodes.len(), wanted.len());
     let mut left = nodes.iter();
     for (start, end) in wanted {
-        let range = left.next().expect(rt, path).range();
-        same(rt, path, range.start, *start);
-        same(rt, path, range.end, *end);
+        is_range_of(left.next().expect(rt, path), rt, path, *start..*end);
     }
+}
+
+fn is_range_of(node: &Node<'_, '_>, rt: &impl Abort, path: &str, range: Range<usize>) {
+    same(rt, path, node.range(), range);
 }
 
 /// A node by its id, a path, and the ranges of the nodes that it leads to from there.
@@ -52,7 +62,7 @@ type Row = (u32, &'static str, &'static [(usize, usize)]);
 fn all_lead(rt: &(impl Abort + AllocGlobal), text: &str, rows: &[Row]) {
     let document = read(rt, text);
     for (id, path, wanted) in rows {
-        leads(rt, node_of(rt, &document, *id), path, wanted);
+        leads(&document, rt, *id, path, wanted);
     }
 }
 
@@ -85,18 +95,22 @@ fn paths_from_other_nodes(rt: HostRuntime) {
 }
 
 /// Wants nodes to be this one alone.
-fn are(rt: &impl Abort, nodes: &[Node<'_, '_>], wanted: u32) {
-    same(rt, TEXT, nodes.len(), 1);
+pub(super) fn are(nodes: &[Node<'_, '_>], rt: &impl Abort, wanted: u32) {
+    same(rt, "count", nodes.len(), 1);
     for node in nodes {
-        same(rt, TEXT, number(*node), wanted);
+        same(rt, "node", number(node), wanted);
     }
 }
 
 #[test]
 fn no_steps_lead_to_the_start(rt: HostRuntime) {
-    let document = read(&rt, TEXT);
+    each_leads_to_itself(&read(&rt, TEXT), &rt);
+}
+
+/// Wants no steps to lead from each of six nodes to itself.
+fn each_leads_to_itself(document: &Document<'_>, rt: &(impl Abort + AllocGlobal)) {
     for id in 0..6 {
-        are(&rt, &selected(&rt, node_of(&rt, &document, id), &[]), id);
+        are(&selected(document, rt, id, &[]), rt, id);
     }
 }
 

@@ -2,7 +2,7 @@
 
 use super::slices::{exchanged, reparsed};
 use super::{answered_by, child_count, declared, declared_refusal, document_of, refusal_of, same};
-use roxmltree::{Document, Error, ResolveWith};
+use roxmltree::{Document, Error, Node, ResolveWith};
 use std::alloc::{AllocError, Global};
 use std::process::Abort;
 
@@ -30,6 +30,13 @@ struct Case {
 /// written as another text.
 fn case_within(alloc: Global, row: usize, [open, x, close]: [&str; 3]) -> Result<Case, AllocError> {
     let mut text = String::from_str(alloc, open)?;
+    let children = push_pieces(&mut text, row, x)?;
+    text.push_str(close)?;
+    Ok(Case { text, children })
+}
+
+/// Adds a row of pieces, and returns how many nodes it is.
+fn push_pieces(text: &mut String, row: usize, x: &str) -> Result<usize, AllocError> {
     let mut children: usize = 0;
     let mut in_text = false;
     let mut left = row;
@@ -45,8 +52,7 @@ fn case_within(alloc: Global, row: usize, [open, x, close]: [&str; 3]) -> Result
         }
         in_text = !is_node;
     }
-    text.push_str(close)?;
-    Ok(Case { text, children })
+    Ok(children)
 }
 
 /// The text whose root element has a row of pieces.
@@ -68,13 +74,13 @@ fn is_read(rt: &impl Abort, case: &Case, children: usize, error: Error) {
 /// How many children the root element of this text has.
 fn children_of(rt: &(impl Abort + AllocGlobal), text: &str) -> usize {
     let document = document_of(rt, text);
-    child_count(document.root_element())
+    child_count(&document.root_element())
 }
 
 /// The same of a text that may have a document type declaration.
 fn declared_children_of(rt: &(impl Abort + AllocGlobal), text: &str) -> usize {
     let document = declared(rt, text);
-    child_count(document.root_element())
+    child_count(&document.root_element())
 }
 
 #[test]
@@ -114,7 +120,7 @@ fn answered_children_of<'input>(
 ) -> usize {
     let options = answered_by(ResolveWith::new(|_id, _uri| Ok(Some(answer))));
     let document = Document::parse_with_options(rt.alloc(), text, options).expect(rt, answer);
-    child_count(document.root_element())
+    child_count(&document.root_element())
 }
 
 #[test]
@@ -131,10 +137,19 @@ fn pieces_in_an_answer(rt: HostRuntime) {
 /// Wants the root element of a text to have so many children where it is parsed alone, and to take its own place.
 fn stands_alone(rt: &(impl Abort + AllocGlobal), text: &str, children: usize) {
     let document = document_of(rt, text);
-    let root = document.root_element();
-    let count = child_count(reparsed(rt, root).root_element());
+    is_alone(&document.root_element(), &document, rt, text, children);
+}
+
+fn is_alone(
+    root: &Node<'_, '_>,
+    document: &Document<'_>,
+    rt: &(impl Abort + AllocGlobal),
+    text: &str,
+    children: usize,
+) {
+    let count = child_count(&reparsed(root, rt).root_element());
     same(rt, text, count, children);
-    same(rt, text, exchanged(rt, root, &document).as_str(), text);
+    same(rt, text, exchanged(root, document, rt).as_str(), text);
 }
 
 #[test]

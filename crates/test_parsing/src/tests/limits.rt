@@ -1,6 +1,6 @@
 //! How much a document may hold.
 
-use super::{child_count, declared, document_of, number, prints, refusal_of, same};
+use super::{child_count, declared, document_of, id_of, number, prints, refusal_of, same};
 use roxmltree::{Document, Error, Node, ParsingOptions};
 use std::alloc::{AllocError, Global};
 use std::process::Abort;
@@ -51,7 +51,7 @@ pub(super) fn declaring(alloc: Global, open: &str, count: u32) -> Result<String,
 /// Wants the root element of a text to have so many children.
 fn has_children(rt: &(impl Abort + AllocGlobal), text: &str, count: usize) {
     let document = document_of(rt, text);
-    same(rt, "children", child_count(document.root_element()), count);
+    same(rt, "children", child_count(&document.root_element()), count);
 }
 
 #[test]
@@ -104,7 +104,7 @@ fn depth_of_the_last(document: &Document<'_>) -> usize {
     }
 }
 
-fn has_200_000_elements(rt: &impl Abort, document: &Document<'_>) {
+fn has_200_000_elements(document: &Document<'_>, rt: &impl Abort) {
     same(rt, "elements", element_count(document), 200_000);
     same(rt, "nodes", document.descendants().len(), 200_001);
     same(rt, "depth", depth_of_the_last(document), 200_001);
@@ -113,7 +113,7 @@ fn has_200_000_elements(rt: &impl Abort, document: &Document<'_>) {
 #[test]
 fn deep_elements(rt: HostRuntime) {
     let text = nested(rt.alloc(), 200_000).expect(&rt, "memory");
-    has_200_000_elements(&rt, &document_of(&rt, text.as_str()));
+    has_200_000_elements(&document_of(&rt, text.as_str()), &rt);
 }
 
 /// An element with so many children, each a hundred elements deep.
@@ -128,21 +128,21 @@ fn with_deep_children(alloc: Global, count: usize) -> Result<String, AllocError>
 }
 
 /// Wants the siblings in front of an element's last child to be its children from the back.
-fn ends_agree(rt: &impl Abort, element: Node<'_, '_>) {
+fn ends_agree(element: &Node<'_, '_>, rt: &impl Abort) {
     let last = element.last_child().expect(rt, "no child");
     let mut children = element.children();
     for node in last.prev_siblings() {
-        let child = children.next_back().map(number);
-        same(rt, "child", child, Some(number(node)));
+        let child = id_of(&children.next_back());
+        same(rt, "child", child, Some(number(&node)));
     }
-    same(rt, "end", children.next_back().is_none(), true);
+    same(rt, "end", id_of(&children.next_back()), None);
 }
 
 #[test]
 fn many_deep_children(rt: HostRuntime) {
     let text = with_deep_children(rt.alloc(), 1000).expect(&rt, "memory");
     has_children(&rt, text.as_str(), 1000);
-    ends_agree(&rt, document_of(&rt, text.as_str()).root_element());
+    ends_agree(&document_of(&rt, text.as_str()).root_element(), &rt);
 }
 
 /// So many entities, each with its number for its text, and a reference to each from the last on.
@@ -169,7 +169,7 @@ fn numbers_from_the_last(alloc: Global, count: u32) -> Result<String, AllocError
 }
 
 /// Wants the root element to have this text.
-fn has_text(rt: &impl Abort, document: &Document<'_>, text: &str) {
+fn has_text(document: &Document<'_>, rt: &impl Abort, text: &str) {
     same(rt, "text", document.root_element().text(), Some(text));
 }
 
@@ -177,7 +177,7 @@ fn has_text(rt: &impl Abort, document: &Document<'_>, text: &str) {
 fn each_of_many_is_found(rt: HostRuntime) {
     let text = numbered(rt.alloc(), 20_000).expect(&rt, "memory");
     let wanted = numbers_from_the_last(rt.alloc(), 20_000).expect(&rt, "memory");
-    has_text(&rt, &declared(&rt, text.as_str()), wanted.as_str());
+    has_text(&declared(&rt, text.as_str()), &rt, wanted.as_str());
 }
 
 /// How many `x` there are, where a text is nothing else.
@@ -209,7 +209,7 @@ fn most_bytes(text: &str, longest: usize) -> usize {
 }
 
 /// Wants a node to have a text of 255 `x`.
-fn has_255_x(rt: &impl Abort, node: Node<'_, '_>) {
+fn has_255_x(node: &Node<'_, '_>, rt: &impl Abort) {
     let found = node.text().unwrap_or("");
     same(rt, "text", count_of(found), Some(255));
 }
@@ -221,7 +221,7 @@ fn bound_of_256_references(rt: HostRuntime) {
     text.push_str("&b;</r>").expect(&rt, "memory");
     same(&rt, "bytes", text.len(), 819);
     same(&rt, "bound", most_bytes(text.as_str(), 765), 50_135_859);
-    has_255_x(&rt, declared(&rt, text.as_str()).root_element());
+    has_255_x(&declared(&rt, text.as_str()).root_element(), &rt);
 }
 
 /// An entity of 255 references to another, and so many references to it.
@@ -235,11 +235,11 @@ fn opened_often(alloc: Global, count: usize) -> Result<String, AllocError> {
 }
 
 /// How many texts an element has as children, each of 255 `x`.
-fn texts_of_x(rt: &impl Abort, element: Node<'_, '_>) -> usize {
+fn texts_of_x(element: &Node<'_, '_>, rt: &impl Abort) -> usize {
     let mut count: usize = 0;
     for node in element.children() {
         if node.is_text() {
-            has_255_x(rt, node);
+            has_255_x(&node, rt);
             count = count.saturating_add(1);
         }
     }
@@ -250,6 +250,6 @@ fn texts_of_x(rt: &impl Abort, element: Node<'_, '_>) -> usize {
 #[test]
 fn many_references(rt: HostRuntime) {
     let text = opened_often(rt.alloc(), 1000).expect(&rt, "memory");
-    let count = texts_of_x(&rt, declared(&rt, text.as_str()).root_element());
+    let count = texts_of_x(&declared(&rt, text.as_str()).root_element(), &rt);
     same(&rt, "texts", count, 1000);
 }

@@ -205,13 +205,13 @@ fn what_is_refused(rt: HostRuntime) {
 /// Wants the first child of a text's root to be this comment, and the text of its root element to be this.
 fn is_behind(rt: &(impl Abort + AllocGlobal), text: &str, comment: &str, opened: &str) {
     let document = declared(rt, text);
-    has_comment(rt, &document, text, comment);
+    has_comment(&document, rt, text, comment);
     let found = document.root_element().text();
     same(rt, text, found.unwrap_or(""), opened);
 }
 
 /// Wants the first child of a document's root to be this comment.
-fn has_comment(rt: &impl Abort, document: &Document<'_>, text: &str, comment: &str) {
+fn has_comment(document: &Document<'_>, rt: &impl Abort, text: &str, comment: &str) {
     let first = document.root().first_child().expect(rt, "no comment");
     same(rt, text, first.is_comment(), true);
     same(rt, text, first.text(), Some(comment));

@@ -7,9 +7,9 @@ use std::process::Abort;
 
 /// The text that a node is in, with the root element of another text in its place.
 pub(super) fn exchanged(
-    rt: &(impl Abort + AllocGlobal),
-    node: Node<'_, '_>,
+    node: &Node<'_, '_>,
     other: &Document<'_>,
+    rt: &(impl Abort + AllocGlobal),
 ) -> String {
     assert!(rt; node.is_self_contained());
     assert!(rt; other.root_element().is_self_contained());
@@ -18,17 +18,17 @@ pub(super) fn exchanged(
 
 /// The document of a node alone.
 pub(super) fn reparsed<'input>(
+    node: &Node<'_, 'input>,
     rt: &(impl Abort + AllocGlobal),
-    node: Node<'_, 'input>,
 ) -> Document<'input> {
     assert!(rt; node.is_self_contained());
     node.reparse(rt.alloc()).expect(rt, "memory")
 }
 
 /// Wants the nodes of these ids to stand from one byte up to another.
-fn stand(rt: &impl Abort, document: &Document<'_>, wanted: &[(u32, usize, usize)]) {
+fn stand(document: &Document<'_>, rt: &impl Abort, wanted: &[(u32, usize, usize)]) {
     for (id, start, end) in wanted {
-        let range = node_of(rt, document, *id).range();
+        let range = node_of(document, rt, *id).range();
         same(rt, "range", range, *start..*end);
     }
 }
@@ -50,10 +50,15 @@ fn which_are_self_contained(rt: HostRuntime) {
         ("<r>t<!--c--><?p?></r>", 3, false),
         ("<r>t<!--c--><?p?></r>", 4, false),
     ] {
-        let document = document_of(&rt, text);
-        let node = node_of(&rt, &document, *id);
-        same(&rt, text, node.is_self_contained(), *wanted);
+        is_self_contained(&rt, text, *id, *wanted);
     }
+}
+
+/// Wants the node of this id to stand by itself, or not to.
+fn is_self_contained(rt: &(impl Abort + AllocGlobal), text: &str, id: u32, wanted: bool) {
+    let document = document_of(rt, text);
+    let node = node_of(&document, rt, id);
+    same(rt, text, node.is_self_contained(), wanted);
 }
 
 /// In a document with a document type declaration no element is: what its references stand for is said outside it.
@@ -86,47 +91,15 @@ fn exchanges(rt: HostRuntime) {
         ),
         ("<r>\r<b/>\n</r>", 3, "<x/>", "<r>\r<x/>\n</r>"),
     ] {
-        let document = document_of(&rt, text);
-        let other = document_of(&rt, other);
-        let answer = exchanged(&rt, node_of(&rt, &document, *id), &other);
-        same(&rt, text, answer.as_str(), *wanted);
+        exchanges_to(&rt, text, *id, other, wanted);
     }
 }
 
-/// Wants the second element of this text to be `x` in the namespace `u`.
-fn has_x_in_its_namespace(rt: &(impl Abort + AllocGlobal), text: &str) {
-    let document = document_of(rt, text);
-    let name = node_of(rt, &document, 2).tag_name();
-    same(rt, "name", name, ("u", "x").into());
-    stand(rt, &document, &[(2, 3, 21)]);
-}
-
-#[test]
-fn an_exchange_with_a_namespace_is_read(rt: HostRuntime) {
-    let document = document_of(&rt, "<r><b/></r>");
-    let other = document_of(&rt, "<n:x xmlns:n='u'/>");
-    let answer = exchanged(&rt, node_of(&rt, &document, 2), &other);
-    has_x_in_its_namespace(&rt, answer.as_str());
-}
-
-#[test]
-fn places_after_an_exchange(rt: HostRuntime) {
-    let document = document_of(&rt, "<?xml version='1.0'?><r>a<x y='1'>&lt;</x>c</r>");
-    stand(&rt, &document, &[(1, 21, 47), (3, 25, 42), (5, 42, 43)]);
-    let alone = reparsed(&rt, node_of(&rt, &document, 3));
-    stand(&rt, &alone, &[(1, 0, 17), (2, 9, 13)]);
-    same(&rt, "x alone", alone.input_text(), "<x y='1'>&lt;</x>");
-}
-
-#[test]
-fn line_ends_around_an_exchange(rt: HostRuntime) {
-    let text = "<r>\r<x/>\n</r>";
-    let document = document_of(&rt, text);
-    stand(&rt, &document, &[(2, 3, 4), (3, 4, 8), (4, 8, 9)]);
-    for id in [2, 4] {
-        let node = node_of(&rt, &document, id);
-        same(&rt, "line end", node.text(), Some("\n"));
-    }
+/// Wants this text where the root element of another takes the place of the element of this id.
+fn exchanges_to(rt: &(impl Abort + AllocGlobal), text: &str, id: u32, other: &str, wanted: &str) {
+    let (document, other) = (document_of(rt, text), document_of(rt, other));
+    let answer = exchanged(&node_of(&document, rt, id), &other, rt);
+    same(rt, text, answer.as_str(), wanted);
 }
 
 #[test]
@@ -134,23 +107,23 @@ fn too_many_namespaces_after_an_exchange(rt: HostRuntime) {
     let text = declaring(rt.alloc(), "<r><b/>", 65535).expect(&rt, "memory");
     let document = document_of(&rt, text.as_str());
     let other = document_of(&rt, "<e xmlns:n='65536'/>");
-    let answer = exchanged(&rt, node_of(&rt, &document, 2), &other);
+    let answer = exchanged(&node_of(&document, &rt, 2), &other, &rt);
     has_too_many_namespaces(&rt, answer.as_str());
 }
 
 /// Wants the document of that element `a` alone.
-fn has_a(rt: &impl Abort, alone: &Document<'_>) {
+fn has_a(alone: &Document<'_>, rt: &impl Abort) {
     let a = alone.root_element();
     let wanted = "<a n:b='1' xmlns:n='u'><c/>\r\n</a>";
     same(rt, "text", alone.input_text(), wanted);
     same(rt, "b", a.attribute(("u", "b").into()), Some("1"));
-    same(rt, "children", child_count(a), 2);
-    stand(rt, alone, &[(1, 0, 33)]);
+    same(rt, "children", child_count(&a), 2);
+    stand(alone, rt, &[(1, 0, 33)]);
 }
 
 #[test]
 fn an_element_alone(rt: HostRuntime) {
     let text = "<r>x<a n:b='1' xmlns:n='u'><c/>\r\n</a></r>";
     let document = document_of(&rt, text);
-    has_a(&rt, &reparsed(&rt, node_of(&rt, &document, 3)));
+    has_a(&reparsed(&node_of(&document, &rt, 3), &rt), &rt);
 }
