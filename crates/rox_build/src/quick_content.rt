@@ -25,7 +25,7 @@ fn stands_apart(cursor: &Cursor<'_>, builder: &Builder<'_>) -> bool
 }
 
 /// Reads what `<` starts, if it is plain and finds room. Returns false if nothing was read.
-#[inline(always)]
+#[inline]
 #[tactic(auto, unfolding(rox_reading::specs::Machine::step))]
 fn quick_markup<'input>(
     cursor: &mut Cursor<'input>,

@@ -168,7 +168,7 @@ pub fn element_repeating<'input>(
 
 /// Like `element_in_scope`, but for a tag whose name is of ASCII bytes, has no prefix and ends at `near`. If the name of its parent
 /// has no prefix either, its namespace is the parent's, which is read after the attributes.
-#[inline(always)]
+#[inline]
 pub fn element_without_prefix<'input>(
     text: &'input str,
     start: usize,
