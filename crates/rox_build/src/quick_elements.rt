@@ -134,7 +134,7 @@ pub fn element_in_scope<'input>(
         &mut builder.buffers.seen,
     ) else {
         builder.tables.attributes.truncate(held);
-        return NOT_READ;
+        return element_repeating(text, start, builder, part);
     };
     put_element(text, start, builder, row, other)
 }

@@ -4,7 +4,7 @@ use Rattle.rox_builder.proofs.Showing.{split_at}
 use Rattle.rox_build.proofs.Closing.{below_last}
 use Rattle.rox_build.proofs.Opening.{cut_back, fine_same}
 use Rattle.rox_build.proofs.PlainElements.{below, row_below, may_put, element_reads}
-use Rattle.rox_build.proofs.PlainReads.{reads_not}
+use Rattle.rox_build.proofs.PlainReads.{reads_kept, reads_not}
 use Rattle.rox_build.proofs.quick_elements.element_in_scope.Goals as goal
 
 pub start_tag_in_scope-requires : goal.start_tag_in_scope-requires
@@ -42,8 +42,28 @@ returns-in_default c =
     let left : ElementTables = record put { attributes = c.truncate.new.self } in
     let grown = c.in_default.ensures.grown in
     let same = cut_back old put left grown.more c.len-held.result grown.others grown.rows c.len-held.ensures refl c.truncate.ensures in
-    reads_not _ _ _ _ _ _ (omega arith) (record { nodes = refl; opened = refl; pending = refl; joined = refl; limit = refl; openings_left = refl; others = same.others; attributes = same.attributes })
-    (fine_same old left c.args.builder.now.opened.items same c.requires.room.fine)
+    reads_kept _ _ _ _ c.args.builder.now _ _ (record { nodes = refl; opened = refl; pending = refl; joined = refl; limit = refl; openings_left = refl; others = same.others; attributes = same.attributes })
+    c.element_repeating.ensures
+
+pub element_repeating-requires : goal.element_repeating-requires
+element_repeating-requires c =
+    let old = c.args.builder.now.tables in
+    let put = c.start_tag_in_scope.new.elements in
+    let left : ElementTables = record put { attributes = c.truncate.new.self } in
+    let grown = c.in_default.ensures.grown in
+    let same = cut_back old put left grown.more c.len-held.result grown.others grown.rows c.len-held.ensures refl c.truncate.ensures in
+    record {
+      here = c.requires.here;
+      start = c.requires.start;
+      part = c.requires.part;
+      room =
+          let ready = c.requires.room.ready in
+          record {
+            short = c.requires.room.short;
+            ready = record { room = ready.room; few = ready.few; small = ready.small; settled = ready.settled };
+            fine = fine_same old left c.args.builder.now.opened.items same c.requires.room.fine;
+          };
+    }
 
 pub returns-then-not-has_room_to_open : goal.returns-then-not-has_room_to_open
 returns-then-not-has_room_to_open c = reads_not _ _ _ _ _ _ (omega arith) (record { nodes = refl; opened = refl; pending = refl; joined = refl; limit = refl; openings_left = refl; others = refl; attributes = refl }) c.requires.room.fine
