@@ -1,5 +1,5 @@
 -- Where a value ends that has a reference, or white space which is no space.
-use Rattle.std.proofs.Common.{◌≡◌, ℕ, ◌+◌, ◌-◌, ◌<◌, ◌≤◌, ◌==◌, ◌||◌, Bool, true, false, not, List, Ok, length, get_or, slice_range, drop, inl, inr, refl, sym, ap, ◌∙◌, arith, get_or-drop, length-drop}
+use Rattle.std.proofs.Common.{◌≡◌, ℕ, ◌+◌, ◌-◌, ◌<◌, ◌≤◌, ◌==◌, ◌||◌, Bool, true, false, not, List, Ok, length, get_or, slice_index, slice_range, drop, take, inl, inr, refl, sym, ap, ◌∙◌, arith, get_or-drop, length-drop}
 use Rattle.std.specs.List.{list_any}
 use Rattle.std.specs.Str.{IsUtf8, IsCharBoundary}
 use Rattle.std.proofs.lemmas.Bool.{cases_lt}
@@ -99,6 +99,21 @@ no_tag quote b h = grind (arith, nat_tests)
 pub special_stops : (b : ℕ) → is_special b ≡ true → is_stretch_byte b ≡ false
 unfolding is_stretch_byte
 special_stops b h = grind (arith, nat_tests)
+
+-- the bytes that stand for themselves, looked for before the end of a value
+pub record EndsBefore (src : List ℕ) (i j e : ℕ) : Type 0 where
+  pub within : j ≤ e
+  pub passes : AllPass is_stretch_byte src i j
+  pub stops : j < e → is_stretch_byte (slice_index src j) ≡ false
+
+pub ends_before : (src : List ℕ) (i j e : ℕ) → e ≤ length src → EndsSet is_stretch_byte (take e src) i j → EndsBefore src i j e
+ends_before src i j e le f =
+    let within : j ≤ e = omega (arith, f.within, length-take-le e src le) in
+    record {
+      within = within;
+      passes = λ k above below. ap is_stretch_byte (sym (get_or-take e src k 0 (omega arith))) ∙ f.passes k above below;
+      stops = λ less. ap is_stretch_byte (sym (get_or-take e src j 0 less)) ∙ f.stops (omega (arith, length-take-le e src le));
+    }
 
 -- a value that is not as it stands
 pub value_spaced : (main : Bool) (es : List Entity) (opener : ValueInclusion) (src v : List ℕ) (i j openings_left : ℕ) → is_verbatim_value (slice_range src i j) ≡ false

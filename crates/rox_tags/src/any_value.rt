@@ -54,7 +54,7 @@ fn change_from(text: &str, at: usize) -> usize
     skip_set::<StretchByte>(text, at)
 }
 
-/// The end of a value, and the offset of the first byte that changes it. If none does, that is the end or after it.
+/// The end of a value, and the offset of the first byte that changes it. If none does, that is the end.
 #[derive(Clone, Copy)]
 struct ValueEnds {
     first: usize,
@@ -79,7 +79,7 @@ fn value_ends(text: &str, start: usize, quote: u8) -> Option<ValueEnds>
     if !is_at(text, end, quote) {
         return None;
     }
-    let first = change_from(text, near);
+    let first = change_from(&text[..end], near);
     Some(ValueEnds { first, end })
 }
 

@@ -2,7 +2,8 @@ use Rattle.std.proofs.Common.{◌<◌, ◌∙◌, sym, arith, inl, inr, rules}
 use Rattle.std.proofs.lemmas.Grind.{common_steps}
 use Rattle.std.proofs.lemmas.Bool.{cases_lt}
 use Rattle.rox_bytes.proofs.NearLemmas.{stretch_special, value_cut}
-use Rattle.rox_tags.proofs.SpacedEnds.{near_verbatim, no_tag, plain_looked, spaced_looked, value_goes_on}
+use Rattle.rox_values.proofs.BitLemmas.{from_start}
+use Rattle.rox_tags.proofs.SpacedEnds.{ends_before, near_verbatim, no_tag, plain_looked, spaced_looked, value_goes_on}
 use Rattle.rox_tags.proofs.any_value.value_ends.Goals as goal
 
 pub changed_end-end-requires : goal.changed_end-end-requires
@@ -25,18 +26,23 @@ returns-then-is_at c =
 
 pub returns : goal.returns
 returns c =
+    let src = c.args.text.now in
+    let near = c.skip_set-near.result in
+    let first = c.change_from-first.result in
+    let end = c.changed_end-end.result in
     let f = c.skip_set-near.ensures in
-    let g = c.change_from-first.ensures in
+    let rest = c.changed_end-end.ensures in
+    let found = rw (c.range.ensures.value ∙ from_start src end) at c.change_from-first.ensures in
+    let g = ends_before src near first end rest.cut.0 found in
     let low = f.onward in
-    let high = g.onward in
-    let within = c.changed_end-end.ensures.cut.0 in
-    let looked = λ (before : c.change_from-first.result < c.changed_end-end.result).
-    spaced_looked c.args.text.now c.args.quote c.args.start c.skip_set-near.result c.change_from-first.result c.changed_end-end.result c.utf8.text c.requires.quote c.requires.cut f.onward f.within f.passes
-    c.changed_end-end.ensures g.onward before (stretch_special _ (g.stops (omega (arith, before)))) in
+    let high = found.onward in
+    let looked = λ (before : first < end).
+    spaced_looked src c.args.quote c.args.start near first end c.utf8.text c.requires.quote c.requires.cut f.onward f.within f.passes
+    rest high before (stretch_special _ (g.stops before)) in
     record {
       plain = λ past. record {
-        looked = plain_looked c.args.text.now c.args.quote c.args.start c.skip_set-near.result c.change_from-first.result c.changed_end-end.result c.utf8.text c.requires.quote c.requires.cut f.onward f.within f.passes
-            c.changed_end-end.ensures g.passes past;
+        looked = plain_looked src c.args.quote c.args.start near first end c.utf8.text c.requires.quote c.requires.cut f.onward f.within f.passes
+            rest g.passes past;
         here = first_of (search rules, grind (arith, common_steps));
       };
       looked = looked;
@@ -47,12 +53,12 @@ returns c =
             stop = l.cut;
             front = record {
               onward = omega arith;
-              within = g.within;
-              passes = λ k above below. elim (cases_lt k c.skip_set-near.result) [
+              within = omega (arith, g.within, rest.cut.0);
+              passes = λ k above below. elim (cases_lt k near) [
                 | inl less ↦ value_goes_on _ (f.passes k above less)
                 | inr past ↦ g.passes k past below
               ];
-              stops = g.stops;
+              stops = λ _. g.stops before;
             };
             before = before;
             chars = record { chars = l.chars; apart = λ k above below. no_tag c.args.quote _ (l.apart k above below) };
