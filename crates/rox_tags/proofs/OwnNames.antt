@@ -39,6 +39,10 @@ all_parts src i h j low high =
     ap (slice_index src) (sym at) ∙ byte_of src i (j - i) h (omega arith) in
     rw byte (part_of (j - i) (omega arith))
 
+-- the first is a letter
+pub xmlns_letter : (src : List ℕ) (i : ℕ) → HasXmlns src i → slice_index src i ≡ 120
+xmlns_letter src i h = let at : i + 0 ≡ i = omega arith in ap (slice_index src) (sym at) ∙ byte_of src i 0 h (omega arith)
+
 -- so they are the first part of a name before an ASCII byte that is no more of one
 pub first_part : (src : List ℕ) (i b : ℕ) → IsUtf8 src → HasXmlns src i → slice_index src (i + 5) ≡ b → b < 128 → is_part_byte b ≡ false
     → EndsFirstPart src i (i + 5) b

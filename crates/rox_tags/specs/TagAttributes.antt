@@ -23,7 +23,7 @@ use Rattle.rox_names.specs.SeenNames.{KeepsCodes}
 use Rattle.rox_names.specs.TagDeclarations.{Declares, DeclaresNew, HasOwn}
 use Rattle.rox_names.specs.declared.seen_names.SeenNames.{SeenNames}
 use Rattle.rox_names.specs.declared.unresolved_attribute.UnresolvedAttribute.{UnresolvedAttribute}
-use Rattle.rox_tags.specs.PlainTag.{HasScope, IsAttributeName, IsPlainAttribute}
+use Rattle.rox_tags.specs.PlainTag.{HasScope, IsAttributeName, IsNearAttribute, IsPlainAttribute}
 use Rattle.rox_tags.specs.PlainParts.{EndsTag}
 use Rattle.rox_tags.specs.declared.quick_name.NameAt.{NameAt}
 use Rattle.rox_tags.specs.declared.quick_tag.TagEnd.{TagEnd}
@@ -35,6 +35,17 @@ use Rattle.rox_tags.specs.declared.own_declaration.TagScope.{TagScope}
 pub record IsDeclaredName (src : List ℕ) (i : ℕ) (n : NameAt) : Type 0 where
   pub named : IsAttributeName src i n
   pub is : is_namespace_decl (name_view n.name) ≡ true
+
+-- The declaration `a` was read at `i`. Its value needs no replacement.
+pub record IsPlainDeclaration (src : List ℕ) (i : ℕ) (a : UnresolvedAttribute) : Type 0 where
+  pub plain : IsPlainAttribute src i a
+  pub is : is_namespace_decl (name_view a.name) ≡ true
+
+-- The declaration `a` was read after the white space at `i`.
+pub record IsNearDeclaration (src : List ℕ) (i : ℕ) (a : UnresolvedAttribute) : Type 0 where
+  pub near : IsNearAttribute src i a
+  pub within : i + 1 < length src
+  pub is : is_namespace_decl (name_view a.name) ≡ true
 
 -- `xmlns` is at `i`, and a byte follows it.
 pub record HasXmlns (src : List ℕ) (i : ℕ) : Type 0 where

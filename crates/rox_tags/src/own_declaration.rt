@@ -2,9 +2,11 @@
 //! (Namespaces in XML 1.0 section 3).
 
 ghost use Rattle.std.specs.Prelude.{◌≡◌, IfSome, length, true};
-ghost use Rattle.rox_tags.specs.TagAttributes.{DeclaresOwn, HasXmlns, IsDeclaredName, ListsOwn, MayDeclareHere, MayPutDeclaration, PutsDeclaration};
+ghost use Rattle.std.specs.Str.{IsCharBoundary};
+ghost use Rattle.rox_tags.specs.TagAttributes.{DeclaresOwn, HasXmlns, IsDeclaredName, IsNearDeclaration, IsPlainDeclaration, ListsOwn, MayDeclareHere, MayPutDeclaration, PutsDeclaration};
 
 use crate::quick_name::{NameAt, name_without_prefix, prefixed_name};
+use crate::quick_tag::one_space_end;
 use crate::quick_value::{quote_after_equals, quote_before, unchanged_value};
 use rox_bytes::byte_set::{ValueByte, skip_set};
 use rox_bytes::runs::{after_byte, is_at};
@@ -65,6 +67,49 @@ fn declared_name<'input>(text: &'input str, start: usize) -> Option<NameAt<'inpu
     Some(name_without_prefix(text, start, part))
 }
 
+/// Returns the declaration that starts with the `xmlns` at `start`, if `=` and a quote are right after its name and its value needs no
+/// replacement.
+#[inline(always)]
+fn plain_declaration<'input>(text: &'input str, start: usize) -> Option<UnresolvedAttribute<'input>>
+    requires { HasXmlns text.now start }
+    ensures { IfSome result (λ a. IsPlainDeclaration text.entry.now start a) }
+{
+    let name = declared_name(text, start)?;
+    let value_start = name.end + 2;
+    let quote = quote_before(text, value_start);
+    let near = skip_set::<ValueByte>(text, value_start);
+    let value = unchanged_value(text, value_start, quote, near)?;
+    let end = after_byte(text, value.end, quote);
+    Some(UnresolvedAttribute {
+        start,
+        name_end: name.end,
+        value_start,
+        end,
+        name: name.name,
+        value: StringStorage::Borrowed(value.text),
+    })
+}
+
+/// Returns the declaration after the white space at `at`, if it is plain.
+#[inline(always)]
+pub(crate) fn declaration_after<'input>(
+    text: &'input str,
+    at: usize,
+) -> Option<UnresolvedAttribute<'input>>
+    requires { IsCharBoundary text.now at }
+    ensures { IfSome result (λ a. IsNearDeclaration text.entry.now at a) }
+{
+    if at + 1 >= text.len() {
+        return None;
+    }
+    let start = one_space_end(text, at);
+    if start == at || !may_declare(text, start) {
+        return None;
+    }
+    let one = plain_declaration(text, start)?;
+    Some(one)
+}
+
 /// Puts the declaration at `start` into the tables, if it is plain and does not declare `xml`. Returns the offset after it. Sets
 /// `lacking` of `seen` if memory was refused.
 #[inline(always)]
@@ -77,20 +122,8 @@ fn declared<'input>(
     requires { HasXmlns text.now start }
     ensures { PutsDeclaration elements.old elements.new seen.old seen.new text.entry.now start result }
 {
-    let name = declared_name(text, start)?;
-    let value_start = name.end + 2;
-    let quote = quote_before(text, value_start);
-    let near = skip_set::<ValueByte>(text, value_start);
-    let value = unchanged_value(text, value_start, quote, near)?;
-    let end = after_byte(text, value.end, quote);
-    let one = UnresolvedAttribute {
-        start,
-        name_end: name.end,
-        value_start,
-        end,
-        name: name.name,
-        value: StringStorage::Borrowed(value.text),
-    };
+    let one = plain_declaration(text, start)?;
+    let end = one.end;
     match declare_new(&mut elements.namespaces, &mut elements.listed, one) {
         Ok(true) => Some(end),
         Ok(false) => None,

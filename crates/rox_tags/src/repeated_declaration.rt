@@ -3,6 +3,8 @@
 //! table changes then.
 
 ghost use Rattle.std.specs.Prelude.{◌≡◌, IfSome, length, true};
+ghost use Rattle.rox_grammar.specs.Failures.{name_view};
+ghost use Rattle.rox_grammar.specs.Written.{is_namespace_decl};
 ghost use Rattle.rox_scopes.specs.Scopes.{ArePlaces, pair, prefix_view};
 ghost use Rattle.rox_scopes.specs.TagScopes.{scope_in_tables};
 ghost use Rattle.rox_names.specs.TagDeclarations.{unresolved_view};
@@ -10,13 +12,12 @@ ghost use Rattle.rox_tags.specs.PlainParts.{MayReadPlainTag};
 ghost use Rattle.rox_tags.specs.PlainTag.{HasScope, IsPlainTag};
 ghost use Rattle.rox_tags.specs.Repeating.{AreOneMore, IsRepeated, Repeats};
 
-use crate::own_declaration::may_declare;
-use crate::quick_attribute::{byte_count, verbatim_attribute};
+use crate::own_declaration::declaration_after;
+use crate::quick_attribute::byte_count;
 use crate::quick_name::{NamePlace, name_of_part};
 use crate::quick_tag::{PlainTag, attributes_end, namespace_in_scope};
 use crate::tag::element_of;
 use rox_bytes::runs::after_byte;
-use rox_names::namespace_decl::is_namespace_decl;
 use rox_names::open_element::OpenElement;
 use rox_names::start_tag::StartTag;
 use rox_names::unresolved_attribute::UnresolvedAttribute;
@@ -43,7 +44,7 @@ fn are_one_more(
         return false;
     }
     let first = &namespaces[places[0] as usize];
-    if !same_prefix(first.name(), prefix) || !same_text(first.uri(), uri) {
+    if !same_text(first.uri(), uri) || !same_prefix(first.name(), prefix) {
         return false;
     }
     &places[1..] == around
@@ -88,10 +89,11 @@ fn scope_repeating<'input>(
     above: u32,
     one: &UnresolvedAttribute<'input>,
 ) -> Option<u32>
-    requires { HasScope elements.now above }
+    requires scope { HasScope elements.now above }
+    requires declares { is_namespace_decl (name_view one.now.name) ≡ true }
     ensures { IfSome result (λ n. Repeats elements.now above (unresolved_view one.now) n) }
 {
-    if !is_namespace_decl(one.name) || one.test_uri().is_err() {
+    if one.test_uri().is_err() {
         return None;
     }
     let prefix = one.declared_prefix();
@@ -117,10 +119,10 @@ pub fn start_tag_repeating<'input>(
     let small = byte_count(text);
     let name_start = after_byte(text, place.start, b'<');
     let name = name_of_part(text, name_start, place.part)?;
-    if !may_declare(text, name.end + 1) || same_text(name.name.prefix, "xmlns") {
+    if same_text(name.name.prefix, "xmlns") {
         return None;
     }
-    let one = verbatim_attribute(text, name.end)?;
+    let one = declaration_after(text, name.end)?;
     let close = attributes_end(text, one.end, elements)?;
     let scope = scope_repeating(elements, parent.scope, &one)?;
     let namespace = namespace_in_scope(elements, name.name, name_start, scope)?;

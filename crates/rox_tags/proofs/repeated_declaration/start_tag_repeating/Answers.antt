@@ -22,13 +22,12 @@ returns c =
     let other : bytes_eq (name_view c.in_ok-name.name.name).prefix (word_text Xmlns) ≡ false = sym c.same_text.ensures ∙ c.if-same_text.false in
     let below = c.requires.here.below in
     let x = c.in_ok-scope.ensures in
-    let near = c.in_ok-one.ensures in
+    let near = c.in_ok-one.ensures.near in
     let close = c.in_ok-close.ensures in
-    let declares = c.may_declare.ensures c.if-not-may_declare.false in
     let here = ends_here src c.in_ok-one.one.end c.in_ok-close.close c.utf8.text near.cut close.ends in
     let named = c.in_ok-namespace.ensures in
     repeated_tagged t o src c.args.place.start c.in_ok-name.name.end _ c.in_ok-one.one c.in_ok-close.close c.in_ok-scope.scope c.len-from.result c.in_ok-namespace.namespace below x
-    (repeated_once t o.scope c.in_ok-scope.scope _ (scope_of below) x.scope) near (omega (arith, declares.behind)) close.ends here.0 here.1 is other start refl refl
+    (repeated_once t o.scope c.in_ok-scope.scope _ (scope_of below) x.scope) near (omega (arith, c.in_ok-one.ensures.within)) close.ends here.0 here.1 is other start refl refl
     c.element_of-element.ensures c.len-from.ensures close.few named.is named.known close.ends.cut
 
 pub namespace_in_scope-requires : goal.namespace_in_scope-requires
@@ -41,4 +40,4 @@ namespace_in_scope-requires c =
     }
 
 pub scope_repeating-requires : goal.scope_repeating-requires
-scope_repeating-requires c = scope_of c.requires.here.below
+scope_repeating-requires c = record { scope = scope_of c.requires.here.below; declares = c.in_ok-one.ensures.is }
