@@ -13,7 +13,7 @@ ghost use Rattle.rox_builder.specs.Outcomes.{MayStep, ParsesAs};
 ghost use Rattle.rox_builder.specs.Readiness.{MayReadTo};
 
 use crate::constructs::{end_tag, markup, parsed};
-use crate::quick_content::{quick_constructs, quick_markup_of_text, quick_repeating};
+use crate::quick_content::{quick_constructs, quick_markup_of_text};
 use crate::quick_sections::join_section;
 use rox_builder::builder::Builder;
 use rox_grammar::failure::Failure;
@@ -334,9 +334,6 @@ pub fn content<'input>(
         // What the fast path was refused memory for is not asked for again.
         if builder.buffers.seen.lacking {
             return Err(ParseError::Memory);
-        }
-        if quick_repeating(cursor, builder) {
-            continue;
         }
         let joined = join_section(cursor, builder)?;
         if joined {

@@ -3,12 +3,11 @@
 
 ghost use Rattle.std.specs.Prelude.{◌≡◌, true};
 ghost use Rattle.rox_builder.specs.Outcomes.{MayStep};
-ghost use Rattle.rox_build.specs.PlainOutcomes.{MayReadPlain, MayReadRows, ReadsMarkup, ReadsRows, ReadsStep, StandsApart, any_context};
+ghost use Rattle.rox_build.specs.PlainOutcomes.{MayReadPlain, MayReadRows, ReadsMarkup, ReadsRows, ReadsStep, StandsApart};
 
 use crate::quick_data::put_character_data;
 use crate::quick_elements::{
-    SCOPES_OF_ROOT, close_element, element_in_scope, element_of_name, element_repeating,
-    element_without_prefix,
+    close_element, element_in_scope, element_of_name, element_without_prefix,
 };
 use crate::quick_sections::{MOST_BYTES, put_delimited};
 use rox_builder::builder::Builder;
@@ -177,43 +176,4 @@ pub fn quick_markup_of_text<'input>(
         return false;
     }
     markup_of_text(cursor, builder, open_around)
-}
-
-/// Reads the start tag at the cursor as `element_repeating` does. Returns false if nothing was read.
-#[inline(never)]
-#[tactic(auto, unfolding(rox_reading::specs::Machine::step))]
-fn tag_repeating<'input>(cursor: &mut Cursor<'input>, builder: &mut Builder<'input>) -> bool
-    requires { MayReadPlain cursor.old builder.old }
-    ensures { ReadsStep any_context cursor.old cursor.new builder.old builder.new result }
-{
-    let bytes = cursor.text.as_bytes();
-    if cursor.pos + 1 >= bytes.len() || bytes[cursor.pos + 1] <= b'?' {
-        return false;
-    }
-    let text = cursor.text;
-    let start = cursor.pos;
-    let part = part_end(text, after_byte(text, start, b'<'));
-    let read_to = element_repeating(text, start, builder, part);
-    if read_to > MOST_BYTES {
-        return false;
-    }
-    cursor.pos = read_to;
-    true
-}
-
-/// Reads the start tag at the cursor, if it has one declaration alone, an earlier one had it below the same namespaces, and there
-/// is room. Returns false if nothing was read.
-#[inline(always)]
-pub fn quick_repeating<'input>(cursor: &mut Cursor<'input>, builder: &mut Builder<'input>) -> bool
-    requires { MayStep cursor.old builder.old }
-    ensures { ReadsStep any_context cursor.old cursor.new builder.old builder.new result }
-{
-    if builder.tables.scopes.len() <= SCOPES_OF_ROOT {
-        return false;
-    }
-    let bytes = cursor.text.as_bytes();
-    if bytes[cursor.pos] != b'<' || bytes.len() > MOST_BYTES || builder.rows_left() == 0 {
-        return false;
-    }
-    tag_repeating(cursor, builder)
 }

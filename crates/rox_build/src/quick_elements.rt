@@ -22,7 +22,7 @@ use rox_tags::quick_tag::{
 use rox_tags::repeated_declaration::start_tag_repeating;
 
 /// The number of scopes of a document whose root element alone declares namespaces.
-pub const SCOPES_OF_ROOT: usize = 2;
+const SCOPES_OF_ROOT: usize = 2;
 
 /// Reads an end tag, from its `</`, if it closes the innermost open element. It must have the very bytes of the element's name,
 /// with `>` right after them. More elements than the `open_around` ones around the text must be open. Returns whether it was
@@ -141,7 +141,7 @@ pub fn element_in_scope<'input>(
 
 /// Like `element_in_scope`, but for a tag with one declaration alone, if an earlier one had it below the same namespaces.
 #[inline(never)]
-pub fn element_repeating<'input>(
+fn element_repeating<'input>(
     text: &'input str,
     start: usize,
     builder: &mut Builder<'input>,

@@ -71,82 +71,55 @@ loop-turn-preserved-then-rows_left-lt2 c = record {
 
 pub loop-turn-preserved : goal.loop-turn-preserved
 loop-turn-preserved c = record {
-  source = c.in_ok-step.ensures.goes.source ∙ c.in_ok-joined.ensures.goes.source ∙ c.quick_repeating.ensures.goes.source ∙ c.quick_constructs-read.ensures.goes.source ∙ c.loop-turn.invariant.source;
+  source = c.in_ok-step.ensures.goes.source ∙ c.in_ok-joined.ensures.goes.source ∙ c.quick_constructs-read.ensures.goes.source ∙ c.loop-turn.invariant.source;
   fine = c.in_ok-step.ensures.goes.fine;
   reads = λ limit end es s declared sees.
       let src = c.args.cursor.now.text.now in
       let context = context_of limit es c.args.context in
       let s0 = ap (λ t. t.now) c.loop-turn.invariant.source in
       let s1 = ap (λ t. t.now) c.quick_constructs-read.ensures.goes.source ∙ s0 in
-      let s2 = ap (λ t. t.now) c.quick_repeating.ensures.goes.source ∙ s1 in
-      let s3 = ap (λ t. t.now) c.in_ok-joined.ensures.goes.source ∙ s2 in
+      let s2 = ap (λ t. t.now) c.in_ok-joined.ensures.goes.source ∙ s1 in
       let g0 = c.loop-turn.invariant.reads limit end es s declared sees in
       let read = rw s0 at (c.quick_constructs-read.ensures.value context end g0.s refl refl g0.sees) in
       let g = drives_past context end src _ c.loop-turn._turn read.0 _ _ _ _ g0 c.args.cursor.now.utf8 read.1 in
-      let last = (let o = c.quick_repeating.ensures.other c.if-quick_repeating.false in state_kept limit end g.s _ _ _ _ g.sees o.0 o.1) in
-      let still = (let o = c.in_ok-joined.ensures.other c.if-joined.false in state_kept limit end g.s _ _ _ _ last o.0 o.1) in
+      let still = (let o = c.in_ok-joined.ensures.other c.if-joined.false in state_kept limit end g.s _ _ _ _ g.sees o.0 o.1) in
       let inner : is_root g.s.stack ≡ false = sym (c.is_at_root.ensures end g.s.stack g.s.done g.sees.shows) ∙ c.if-is_at_root.false in
       let inside : g.s.at < length src = rw (s1, g.sees.here) at (leb-false _ _ (sym c.is_at_end.ensures ∙ c.if-is_at_end.false)) in
       let stepped : ParsesTo limit end (Ok tt) c.step.new.cursor c.step.new.builder (step context src g.s) =
-      subst (λ (x : List ℕ). ParsesTo limit end (Ok tt) c.step.new.cursor c.step.new.builder (step context x g.s)) s3 (c.in_ok-step.ensures.value limit end es g.s declared still) in
+      subst (λ (x : List ℕ). ParsesTo limit end (Ok tt) c.step.new.cursor c.step.new.builder (step context x g.s)) s2 (c.in_ok-step.ensures.value limit end es g.s declared still) in
       drives_on context end src _ c.loop-turn._turn _ _ _ _ tt g c.args.cursor.now.utf8 inner inside stepped;
 }
 
 pub loop-turn-preserved-then-joined : goal.loop-turn-preserved-then-joined
 loop-turn-preserved-then-joined c = record {
-  source = c.in_ok-joined.ensures.goes.source ∙ c.quick_repeating.ensures.goes.source ∙ c.quick_constructs-read.ensures.goes.source ∙ c.loop-turn.invariant.source;
+  source = c.in_ok-joined.ensures.goes.source ∙ c.quick_constructs-read.ensures.goes.source ∙ c.loop-turn.invariant.source;
   fine = c.in_ok-joined.ensures.goes.fine;
   reads = λ limit end es s declared sees.
       let src = c.args.cursor.now.text.now in
       let context = context_of limit es c.args.context in
       let s0 = ap (λ t. t.now) c.loop-turn.invariant.source in
       let s1 = ap (λ t. t.now) c.quick_constructs-read.ensures.goes.source ∙ s0 in
-      let s2 = ap (λ t. t.now) c.quick_repeating.ensures.goes.source ∙ s1 in
-      let g0 = c.loop-turn.invariant.reads limit end es s declared sees in
-      let read = rw s0 at (c.quick_constructs-read.ensures.value context end g0.s refl refl g0.sees) in
-      let g = drives_past context end src _ c.loop-turn._turn read.0 _ _ _ _ g0 c.args.cursor.now.utf8 read.1 in
-      let o = c.quick_repeating.ensures.other c.if-quick_repeating.false in
-      let still = state_kept limit end g.s _ _ _ _ g.sees o.0 o.1 in
-      let inner : is_root g.s.stack ≡ false = sym (c.is_at_root.ensures end g.s.stack g.s.done g.sees.shows) ∙ c.if-is_at_root.false in
-      let more = rw s2 at (c.in_ok-joined.ensures.value c.if-joined.true context end g.s inner still) in
-      drives_beyond context end src _ c.loop-turn._turn more.0 _ _ _ _ g c.args.cursor.now.utf8 more.1 _ still.here (c.in_ok-joined.ensures.moves c.if-joined.true);
-}
-
-pub loop-turn-preserved-then-quick_repeating : goal.loop-turn-preserved-then-quick_repeating
-loop-turn-preserved-then-quick_repeating c = record {
-  source = c.quick_repeating.ensures.goes.source ∙ c.quick_constructs-read.ensures.goes.source ∙ c.loop-turn.invariant.source;
-  fine = c.quick_repeating.ensures.goes.fine;
-  reads = λ limit end es s declared sees.
-      let src = c.args.cursor.now.text.now in
-      let context = context_of limit es c.args.context in
-      let s0 = ap (λ t. t.now) c.loop-turn.invariant.source in
-      let s1 = ap (λ t. t.now) c.quick_constructs-read.ensures.goes.source ∙ s0 in
       let g0 = c.loop-turn.invariant.reads limit end es s declared sees in
       let read = rw s0 at (c.quick_constructs-read.ensures.value context end g0.s refl refl g0.sees) in
       let g = drives_past context end src _ c.loop-turn._turn read.0 _ _ _ _ g0 c.args.cursor.now.utf8 read.1 in
       let inner : is_root g.s.stack ≡ false = sym (c.is_at_root.ensures end g.s.stack g.s.done g.sees.shows) ∙ c.if-is_at_root.false in
-      let inside : g.s.at < length src = rw (s1, g.sees.here) at (leb-false _ _ (sym c.is_at_end.ensures ∙ c.if-is_at_end.false)) in
-      let stepped : ParsesTo limit end (Ok tt) c.quick_repeating.new.cursor c.quick_repeating.new.builder (step context src g.s) =
-      subst (λ (x : List ℕ). ParsesTo limit end (Ok tt) c.quick_repeating.new.cursor c.quick_repeating.new.builder (step context x g.s)) s1 (c.quick_repeating.ensures.value c.if-quick_repeating.true context end g.s tt g.sees) in
-      drives_on context end src _ c.loop-turn._turn _ _ _ _ tt g c.args.cursor.now.utf8 inner inside stepped;
+      let more = rw s1 at (c.in_ok-joined.ensures.value c.if-joined.true context end g.s inner g.sees) in
+      drives_beyond context end src _ c.loop-turn._turn more.0 _ _ _ _ g c.args.cursor.now.utf8 more.1 _ g.sees.here (c.in_ok-joined.ensures.moves c.if-joined.true);
 }
 
 pub step-requires : goal.step-requires
 step-requires c =
-    let o = c.quick_repeating.ensures.other c.if-quick_repeating.false in
     let p = c.in_ok-joined.ensures.other c.if-joined.false in
     record {
-      there = rw (p.0, o.0) (leb-false _ _ (sym c.is_at_end.ensures ∙ c.if-is_at_end.false));
+      there = rw p.0 (leb-false _ _ (sym c.is_at_end.ensures ∙ c.if-is_at_end.false));
       fine = c.in_ok-joined.ensures.goes.fine;
     }
 
 pub join_section-requires : goal.join_section-requires
-join_section-requires c =
-    let o = c.quick_repeating.ensures.other c.if-quick_repeating.false in
-    record {
-      there = rw o.0 (leb-false _ _ (sym c.is_at_end.ensures ∙ c.if-is_at_end.false));
-      fine = c.quick_repeating.ensures.goes.fine;
-    }
+join_section-requires c = record {
+  there = leb-false _ _ (sym c.is_at_end.ensures ∙ c.if-is_at_end.false);
+  fine = c.quick_constructs-read.ensures.goes.fine;
+}
 
 pub returns-in_err-step : goal.returns-in_err-step
 returns-in_err-step c = record {
@@ -155,17 +128,15 @@ returns-in_err-step c = record {
       let context = context_of limit es c.args.context in
       let s0 = ap (λ t. t.now) c.loop-turn.invariant.source in
       let s1 = ap (λ t. t.now) c.quick_constructs-read.ensures.goes.source ∙ s0 in
-      let s2 = ap (λ t. t.now) c.quick_repeating.ensures.goes.source ∙ s1 in
-      let s3 = ap (λ t. t.now) c.in_ok-joined.ensures.goes.source ∙ s2 in
+      let s2 = ap (λ t. t.now) c.in_ok-joined.ensures.goes.source ∙ s1 in
       let g0 = c.loop-turn.invariant.reads limit end es s declared sees in
       let read = rw s0 at (c.quick_constructs-read.ensures.value context end g0.s refl refl g0.sees) in
       let g = drives_past context end src _ c.loop-turn._turn read.0 _ _ _ _ g0 c.args.cursor.now.utf8 read.1 in
-      let last = (let o = c.quick_repeating.ensures.other c.if-quick_repeating.false in state_kept limit end g.s _ _ _ _ g.sees o.0 o.1) in
-      let still = (let o = c.in_ok-joined.ensures.other c.if-joined.false in state_kept limit end g.s _ _ _ _ last o.0 o.1) in
+      let still = (let o = c.in_ok-joined.ensures.other c.if-joined.false in state_kept limit end g.s _ _ _ _ g.sees o.0 o.1) in
       let inner : is_root g.s.stack ≡ false = sym (c.is_at_root.ensures end g.s.stack g.s.done g.sees.shows) ∙ c.if-is_at_root.false in
       let inside : g.s.at < length src = rw (s1, g.sees.here) at (leb-false _ _ (sym c.is_at_end.ensures ∙ c.if-is_at_end.false)) in
       let q = err_from_is_err_and c.from_residual-in_err-step.result c.from_residual-in_err-step.ensures.1 in
-      let fails : IsRefusal c.in_err-step.field-0.0 (step context src g.s) = subst (λ (x : List ℕ). IsRefusal c.in_err-step.field-0.0 (step context x g.s)) s3 (c.in_err-step.ensures.value limit end es g.s declared still) in
+      let fails : IsRefusal c.in_err-step.field-0.0 (step context src g.s) = subst (λ (x : List ℕ). IsRefusal c.in_err-step.field-0.0 (step context x g.s)) s2 (c.in_err-step.ensures.value limit end es g.s declared still) in
       rw (q.1, q.2) (drive_fails context end src _ c.loop-turn._turn _ _ c.in_err-step.field-0.0 g inner inside fails);
   goes = let q = err_from_is_err_and c.from_residual-in_err-step.result c.from_residual-in_err-step.ensures.1 in rw q.1 tt;
 }
