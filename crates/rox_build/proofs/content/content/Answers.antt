@@ -5,6 +5,7 @@ use Rattle.rox_values.specs.Refusals.{IsRefusal}
 use Rattle.rox_grammar.specs.State.{is_root}
 use Rattle.rox_reading.specs.Machine.{step}
 use Rattle.rox_values.specs.Contexts.{context_of}
+use Rattle.rox_build.specs.PlainSteps.{Reads}
 use Rattle.rox_build.proofs.Looping.{drives_on, drive_fails, drive_done, drive_cut}
 use Rattle.rox_builder.specs.BuilderState.{ParsesTo}
 use Rattle.rox_build.proofs.Twice.{drives_beyond, drives_past}
@@ -103,7 +104,7 @@ loop-turn-preserved-then-joined c = record {
       let read = rw s0 at (c.quick_constructs-read.ensures.value context end g0.s refl refl g0.sees) in
       let g = drives_past context end src _ c.loop-turn._turn read.0 _ _ _ _ g0 c.args.cursor.now.utf8 read.1 in
       let inner : is_root g.s.stack ≡ false = sym (c.is_at_root.ensures end g.s.stack g.s.done g.sees.shows) ∙ c.if-is_at_root.false in
-      let more = rw s1 at (c.in_ok-joined.ensures.value c.if-joined.true context end g.s inner g.sees) in
+      let more = subst (λ (x : List ℕ). (n : ℕ) × Reads context end n c.join_section.new.cursor c.join_section.new.builder x g.s) s1 (c.in_ok-joined.ensures.value c.if-joined.true context end g.s inner g.sees) in
       drives_beyond context end src _ c.loop-turn._turn more.0 _ _ _ _ g c.args.cursor.now.utf8 more.1 _ g.sees.here (c.in_ok-joined.ensures.moves c.if-joined.true);
 }
 
