@@ -1,5 +1,5 @@
 -- The scope of an element, below that of the one around it.
-use Rattle.std.proofs.Common.{◌≡◌, ℕ, zero, suc, ◌+◌, ◌-◌, ◌<◌, ◌≤◌, Bool, true, false, List, [], ◌∷◌, ◌++◌, Option, Some, None, length, map, take, drop, reverse, get_or, refl, sym, ap, subst, ◌∙◌, arith, length-drop, append_assoc}
+use Rattle.std.proofs.Common.{◌≡◌, ℕ, zero, suc, ◌+◌, ◌-◌, ◌<◌, ◌≤◌, Bool, true, false, List, [], ◌∷◌, ◌++◌, Option, Some, None, length, map, take, drop, reverse, get_or, Bor, refl, sym, ap, subst, ◌∙◌, arith, length-drop, append_assoc}
 use Rattle.std.specs.List.{slice_range}
 use Rattle.std.specs.Option.{option_map}
 use Rattle.std.proofs.Math.ListN.{drop_of_length-le}
@@ -19,14 +19,14 @@ use Rattle.rox_rows.specs.Rows.{namespace_at, scope_at}
 use Rattle.rox_scopes.specs.Tables.{lists_of, AreRows, AreScopes}
 use Rattle.rox_scopes.specs.NamespaceViews.{namespace_view}
 use Rattle.rox_scopes.specs.Scopes.{entries, places_in, ArePlaces, PrefixesOnce, others, unlisted, is_few_at}
-use Rattle.rox_scopes.specs.Ropes.{IsRope, IsListed}
+use Rattle.rox_scopes.specs.Ropes.{IsRope, IsListed, IsScopeOf}
 use Rattle.rox_scopes.specs.Bindings.{AreBindingsOf, IsBound, IsEntered, bound_place}
-use Rattle.rox_scopes.specs.TagScopes.{HasScope, HasBindings, HasBindingsOf, lists_in}
+use Rattle.rox_scopes.specs.TagScopes.{HasFewAbove, HasOpenTag, HasScope, HasBindings, HasBindingsOf, lists_in}
 use Rattle.rox_scopes.proofs.Pairs.{place_at, namespace_at-get, declared_none}
 use Rattle.rox_reading.proofs.Stretches.{slice-more, slice-rest}
 use Rattle.rox_scopes.proofs.Presenting.{keeps_grown}
 use Rattle.rox_scopes.proofs.Hiding.{others_more, others_none, others_xml, absent_others, once_both}
-use Rattle.rox_scopes.proofs.Sharing.{same_listed, listed_then}
+use Rattle.rox_scopes.proofs.Sharing.{inherits_listed, places_behind, same_listed, listed_then}
 use Rattle.rox_scopes.proofs.Ropes.{scope_places, row_places, length-lists, places_in-grown, places_in-listed, lists-grown, lists-listed, scopes_more}
 
 pub listed_is : (namespaces : List NamespaceDecl) (listed after : List ℕ) (old new : List Scope) (a : ℕ) (ds es : List NamespaceDecl) → IsListed namespaces listed old after new a ds → ds ≡ es → IsListed namespaces listed old after new a es
@@ -80,6 +80,12 @@ hides_own namespaces listed old mid own turn left xml ds le off x =
     listed_is namespaces listed listed old mid left (others (entries namespaces (slice_range listed own turn)) false ds) (others (entries namespaces (drop own listed)) xml ds) x
     (ap (λ xs. others (entries namespaces xs) false ds) (hides_all listed own turn le) ∙ ap (λ b. others (entries namespaces (drop own listed)) b ds) (sym off))
 
+-- as the tables have it
+pub hidden_in : (namespaces seen : List Namespace) (ls seen_ls : List ℕ) (scopes mid : List Scope) (above own i : ℕ) (xml : Bool) → seen ≡ namespaces → seen_ls ≡ ls
+    → IsListed (map namespace_view seen) seen_ls scopes seen_ls mid i (others (entries (map namespace_view seen) (drop own seen_ls)) xml (entries (map namespace_view seen) (places_in seen_ls scopes above)))
+    → IsListed (map namespace_view namespaces) ls scopes ls mid i (others (entries (map namespace_view namespaces) (drop own ls)) xml (scope_at (lists_of (map namespace_view namespaces) ls scopes) above))
+hidden_in namespaces seen ls seen_ls scopes mid above own i xml n l x = rw (scope_places (map namespace_view namespaces) ls scopes above, sym n, sym l) x
+
 -- a prefix without a place is not among what is left
 pub absent_bound : (namespaces : List NamespaceDecl) (f : Option (List ℕ) → Option ℕ) (own ds left : List NamespaceDecl) (xml : Bool) (p : Option (List ℕ)) → IsBound namespaces f ds → left ≡ others own xml ds → f p ≡ None
     → is_declared p left ≡ false
@@ -128,10 +134,39 @@ few_here (scope.Back x ∷ ss) zero s t lt h = cc h
 few_here (scope.Concat b ∷ ss) zero s t lt h = cc h
 few_here (x ∷ ss) (suc i) s t lt h = few_here ss i s t (omega arith) h
 
+pub few_pushed : (scopes : List Scope) (s : Stretch) → is_few_at (scopes ++ scope.Few s ∷ []) (length scopes) ≡ true
+few_pushed [] s = refl
+few_pushed (x ∷ ss) s = few_pushed ss s
+
 -- what a row of few lists
 pub few_lists : (namespaces : List NamespaceDecl) (ls : List ℕ) (scopes : List Scope) (i : ℕ) (s : Stretch) → AreRows scopes → i < length scopes → scope.Few s ≡ get_or scopes i (scope.Few s)
     → entries namespaces (slice_range ls s.from s.until) ≡ scope_at (lists_of namespaces ls scopes) i
 few_lists namespaces ls scopes i s rows lt e = sym (scope_places namespaces ls scopes i ∙ ap (entries namespaces) (row_places ls scopes i (scope.Few s) rows lt e))
+
+-- what is listed behind what an element inherits from a scope of few
+pub below_few : (o : ElementTables) (keys : List (Option (Bor (List ℕ)))) (seen : List Namespace) (mid after more : List ℕ) (rows : List Scope) (above own i : ℕ) (xml : Bool) (s : Stretch) → HasFewAbove o keys above own s
+    → seen ≡ o.namespaces.items.items → mid ≡ o.listed.items ++ more → ArePlaces (length seen) more
+    → entries (map namespace_view seen) more ≡ others (entries (map namespace_view seen) (drop own o.listed.items)) xml (entries (map namespace_view seen) (slice_range o.listed.items s.from s.until))
+    → IsListed (map namespace_view o.namespaces.items.items) mid o.scopes.items after rows i (entries (map namespace_view o.namespaces.items.items) (drop own mid))
+    → IsListed (map namespace_view o.namespaces.items.items) o.listed.items o.scopes.items after rows i
+    (entries (map namespace_view o.namespaces.items.items) (drop own o.listed.items) ++ others (entries (map namespace_view o.namespaces.items.items) (drop own o.listed.items)) xml (scope_at (lists_in o) above))
+below_few o keys seen mid after more rows above own i xml s h n grown places is x =
+    let namespaces = map namespace_view o.namespaces.items.items in
+    let old = o.listed.items in
+    let mine = entries namespaces (drop own old) in
+    let tag = h.prefixes.tag in
+    let ok : ArePlaces (length namespaces) more = subst (λ k. ArePlaces k more) (ap length n ∙ sym (length-map o.namespaces.items.items namespace_view)) places in
+    let here : entries namespaces more ≡ others mine xml (entries namespaces (slice_range old s.from s.until)) =
+    subst (λ v. entries (map namespace_view v) more ≡ others (entries (map namespace_view v) (drop own old)) xml (entries (map namespace_view v) (slice_range old s.from s.until))) n is in
+    inherits_listed namespaces old mid after more o.scopes.items rows i own (others mine xml (scope_at (lists_in o) above)) tag.own_within grown (λ k. places_behind (length namespaces) old mid more grown k ok)
+    (here ∙ ap (others mine xml) (few_lists namespaces old o.scopes.items above s tag.scopes.rows tag.above_within h.few)) x
+
+-- it is a scope of these tables
+pub scope_behind : (o : ElementTables) (after : List ℕ) (rows : List Scope) (i : ℕ) (ds : List NamespaceDecl) → ArePlaces (length o.namespaces.items.items) o.listed.items
+    → IsListed (map namespace_view o.namespaces.items.items) o.listed.items o.scopes.items after rows i ds → IsScopeOf (length o.namespaces.items.items) after rows i
+scope_behind o after rows i ds ok x =
+    let m = length-map o.namespaces.items.items namespace_view in
+    record { places = subst (λ k. ArePlaces k after) m (x.places (subst (λ k. ArePlaces k o.listed.items) (sym m) ok)); scopes = x.scopes_are; within = x.within }
 
 -- it has become the innermost
 pub stood_in : (namespaces seen : List Namespace) (ls seen_ls : List ℕ) (scopes seen_scopes : List Scope) (x y : PrefixBindings) (i : ℕ) → seen ≡ namespaces → seen_ls ≡ ls → seen_scopes ≡ scopes
@@ -165,17 +200,15 @@ entered namespaces listed after scopes rows i own from until xml above grown beg
     }
 
 -- what the scope lists that has this place
-pub has_scope : (o n : ElementTables) (above own i : ℕ) (xml : Bool) → n.namespaces ≡ o.namespaces → n.attributes ≡ o.attributes → ArePlaces (length o.namespaces.items.items) o.listed.items → AreScopes own o.scopes.items → own ≤ length o.listed.items
-    → PrefixesOnce (scope_at (lists_in o) above) → PrefixesOnce (entries (map namespace_view o.namespaces.items.items) (drop own o.listed.items)) → HasBindings n → HasBindingsOf n i
+pub has_scope : (o n : ElementTables) (above own i : ℕ) (xml : Bool) → HasOpenTag o above own → n.namespaces ≡ o.namespaces → n.attributes ≡ o.attributes → HasBindings n → HasBindingsOf n i
     → IsListed (map namespace_view o.namespaces.items.items) o.listed.items o.scopes.items n.listed.items n.scopes.items i
     (entries (map namespace_view o.namespaces.items.items) (drop own o.listed.items) ++ others (entries (map namespace_view o.namespaces.items.items) (drop own o.listed.items)) xml (scope_at (lists_in o) above))
     → HasScope o n above own xml i
-has_scope o n above own i xml same attributes ok scopes le once own_once kept present x =
+has_scope o n above own i xml tag same attributes kept present x =
     let namespaces = map namespace_view o.namespaces.items.items in
     let mine = entries namespaces (drop own o.listed.items) in
     let names_are = ap (λ v. map namespace_view v.items.items) same in
-    let m = length-map o.namespaces.items.items namespace_view in
-    let h = scopes_more own (length o.listed.items) o.scopes.items le scopes in
+    let h = scopes_more own (length o.listed.items) o.scopes.items tag.own_within tag.scopes in
     let l = lists_then namespaces o.listed.items n.listed.items o.scopes.items n.scopes.items i (mine ++ others mine xml (scope_at (lists_in o) above)) h x in
     let lists : scope_at (lists_in n) i ≡ mine ++ others mine xml (scope_at (lists_in o) above) =
     ap (λ ns. scope_at (lists_of ns n.listed.items n.scopes.items) i) names_are ∙ scope_places namespaces n.listed.items n.scopes.items i ∙ x.lists in
@@ -184,20 +217,23 @@ has_scope o n above own i xml same attributes ok scopes le once own_once kept pr
       attributes = attributes;
       more = l.0;
       lists_more = ap (λ ns. lists_of ns n.listed.items n.scopes.items) names_are ∙ l.1;
-      places = subst (λ v. ArePlaces (length v.items.items) n.listed.items) (sym same) (subst (λ k. ArePlaces k n.listed.items) m (x.places (subst (λ k. ArePlaces k o.listed.items) (sym m) ok)));
+      places = subst (λ v. ArePlaces (length v.items.items) n.listed.items) (sym same) (scope_behind o n.listed.items n.scopes.items i _ tag.places x).places;
       scopes = x.scopes_are;
       within = x.within;
       lists = lists;
-      once = subst PrefixesOnce (sym lists) (once_both mine xml (scope_at (lists_in o) above) own_once once);
+      once = subst PrefixesOnce (sym lists) (once_both mine xml (scope_at (lists_in o) above) tag.own_once tag.once);
       kept = kept;
       present = present;
     }
 
 -- nothing is declared
-pub nothing_listed : (namespaces : List NamespaceDecl) (listed : List ℕ) (scopes : List Scope) (above own : ℕ) (xml : Bool) → AreScopes own scopes → own ≤ length listed → above < length scopes → length listed ≤ own → xml ≡ false
-    → IsListed namespaces listed scopes listed scopes above (entries namespaces (drop own listed) ++ others (entries namespaces (drop own listed)) xml (scope_at (lists_of namespaces listed scopes) above))
-nothing_listed namespaces listed scopes above own xml h le lt none off =
-    let ds = scope_at (lists_of namespaces listed scopes) above in
+pub nothing_listed : (o : ElementTables) (above own : ℕ) (xml : Bool) → HasOpenTag o above own → length o.listed.items ≤ own → xml ≡ false
+    → IsListed (map namespace_view o.namespaces.items.items) o.listed.items o.scopes.items o.listed.items o.scopes.items above
+    (entries (map namespace_view o.namespaces.items.items) (drop own o.listed.items) ++ others (entries (map namespace_view o.namespaces.items.items) (drop own o.listed.items)) xml (scope_at (lists_in o) above))
+nothing_listed o above own xml tag none off =
+    let namespaces = map namespace_view o.namespaces.items.items in
+    let listed = o.listed.items in
+    let ds = scope_at (lists_in o) above in
     let nothing : drop own listed ≡ [] = drop_of_length-le listed none in
-    same_listed namespaces listed scopes above (entries namespaces (drop own listed) ++ others (entries namespaces (drop own listed)) xml ds) (scopes_more own (length listed) scopes le h) lt
-    (sym (scope_places namespaces listed scopes above) ∙ sym (ap (λ xs. entries namespaces xs ++ others (entries namespaces xs) xml ds) nothing ∙ ap (λ b. others [] b ds) off ∙ others_none ds))
+    same_listed namespaces listed o.scopes.items above (entries namespaces (drop own listed) ++ others (entries namespaces (drop own listed)) xml ds) (scopes_more own (length listed) o.scopes.items tag.own_within tag.scopes) tag.above_within
+    (sym (scope_places namespaces listed o.scopes.items above) ∙ sym (ap (λ xs. entries namespaces xs ++ others (entries namespaces xs) xml ds) nothing ∙ ap (λ b. others [] b ds) off ∙ others_none ds))

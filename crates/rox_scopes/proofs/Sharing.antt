@@ -71,9 +71,9 @@ turned_listed namespaces old new scopes after s i from grown begins ends h push 
     }
 
 -- a row of few
-pub few_listed : (namespaces : List NamespaceDecl) (old : List ℕ) (scopes after : List Scope) (s : Stretch) (i : ℕ) → s.from ≤ length old → s.until ≡ length old
-    → AreScopes (length old) scopes → after ≡ scopes ++ scope.Few s ∷ [] → i ≡ length scopes → IsListed namespaces old scopes old after i (entries namespaces (drop s.from old))
-few_listed namespaces old scopes after s i le ends h push last =
+pub few_listed : (namespaces : List NamespaceDecl) (old : List ℕ) (scopes after : List Scope) (s : Stretch) (i own : ℕ) → s.from ≡ own → own ≤ length old → s.until ≡ length old
+    → AreScopes (length old) scopes → after ≡ scopes ++ scope.Few s ∷ [] → i ≡ length scopes → IsListed namespaces old scopes old after i (entries namespaces (drop own old))
+few_listed namespaces old scopes after s i own begins le ends h push last =
     let l = ap length push ∙ length-append scopes (scope.Few s ∷ []) in
     let ordered : s.from ≤ s.until = omega arith in
     let wide : s.until ≤ length old = omega arith in
@@ -85,7 +85,7 @@ few_listed namespaces old scopes after s i le ends h push last =
       rows_grown = push;
       scopes_are = scopes_push (length old) scopes after (scope.Few s) push h ordered wide;
       within = omega arith;
-      lists = ap (entries namespaces) (pushed_places old scopes after (scope.Few s) i push last ∙ ap (slice_range old s.from) ends ∙ slice-rest old s.from);
+      lists = ap (entries namespaces) (pushed_places old scopes after (scope.Few s) i push last ∙ ap (slice_range old s.from) ends ∙ slice-rest old s.from ∙ ap (λ k. drop k old) begins);
     }
 
 -- more places behind others

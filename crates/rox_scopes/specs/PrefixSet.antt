@@ -7,6 +7,7 @@ use Rattle.rox_grammar.specs.Tree.{same_prefix, is_declared}
 use Rattle.rox_scopes.specs.Scopes.{prefix_view, entries, ArePlaces}
 use Rattle.rox_scopes.specs.NamespaceViews.{namespace_view}
 use Rattle.rox_scopes.specs.declared.tables.Namespace.{Namespace}
+use Rattle.rox_scopes.specs.declared.tables.Stretch.{Stretch}
 
 abbrev pub has_prefix : Option (List ℕ) → List (Option (Bor (List ℕ))) → Bool
 has_prefix prefix keys = list_any (λ k. same_prefix (prefix_view k) prefix) keys
@@ -20,11 +21,11 @@ pub record HasPrefixes (table : List Namespace) (own : List ℕ) (keys : List (O
   pub places : ArePlaces (length table) own
   pub prefix_set : IsPrefixSet (map namespace_view table) own keys
 
--- A tag whose parent lists few: `listed[first..last]`. After that, from `from` on, is what the tag declares. The keys are its
+-- A tag whose parent lists few: the stretch `above`. After that, from `from` on, is what the tag declares. The keys are its
 -- prefixes if there are more than 16.
-pub record IsBelowFew (table : List Namespace) (listed : List ℕ) (keys : List (Option (Bor (List ℕ)))) (first last from : ℕ) : Type 0 where
+pub record IsBelowFew (table : List Namespace) (listed : List ℕ) (keys : List (Option (Bor (List ℕ)))) (above : Stretch) (from : ℕ) : Type 0 where
   pub places : ArePlaces (length table) listed
   pub own : from ≤ length listed
   pub prefix_set : IsPrefixSet (map namespace_view table) (drop from listed) keys
-  pub ordered : first ≤ last
-  pub behind : last ≤ from
+  pub ordered : above.from ≤ above.until
+  pub behind : above.until ≤ from

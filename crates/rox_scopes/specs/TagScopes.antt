@@ -8,11 +8,10 @@ use Rattle.rox_scopes.specs.Tables.{lists_of, AreScopes}
 use Rattle.rox_scopes.specs.NamespaceViews.{namespace_view}
 use Rattle.rox_scopes.specs.Bindings.{AreBindingsOf, IsBound, bound_place}
 use Rattle.rox_scopes.specs.Scopes.{entries, places_in, ArePlaces, PrefixesOnce, others, is_few_at}
-use Rattle.rox_scopes.specs.PrefixSet.{IsBelowFew, IsPrefixSet}
+use Rattle.rox_scopes.specs.PrefixSet.{IsPrefixSet}
 use Rattle.rox_scopes.specs.Ropes.{IsListed, IsScopeOf}
-use Rattle.rox_scopes.specs.declared.bindings.PrefixBindings.{PrefixBindings}
 use Rattle.rox_scopes.specs.declared.tables.ElementTables.{ElementTables}
-use Rattle.rox_scopes.specs.declared.tables.Namespace.{Namespace}
+use Rattle.rox_scopes.specs.declared.tables.PrefixTables.{PrefixTables}
 use Rattle.rox_scopes.specs.declared.tables.Scope.{Scope}
 use Rattle.rox_scopes.specs.declared.tables.Scope.TheVariants as row
 use Rattle.rox_scopes.specs.declared.tables.Stretch.{Stretch}
@@ -44,13 +43,21 @@ pub record HasTagPrefixes (t : ElementTables) (keys : List (Option (Bor (List �
   pub tag : HasOpenTag t above own
   pub prefix_set : IsPrefixSet (map namespace_view t.namespaces.items.items) (drop own t.listed.items) keys
 
+-- The declarations that the scope at the index `i` lists.
+abbrev pub listed_by : PrefixTables → List Scope → ℕ → List NamespaceDecl
+listed_by t scopes i = entries (map namespace_view t.namespaces.now) (places_in t.listed.now scopes i)
+
+-- Rows may be appended, and the row `scope` lists the declarations `ds`.
+abbrev pub AddsRows : PrefixTables → (old new : List Scope) → ℕ → List NamespaceDecl → Type 0
+AddsRows t old new scope ds = IsListed (map namespace_view t.namespaces.now) t.listed.now old t.listed.now new scope ds
+
 -- A tag is read whose parent's scope `above` lists many, each prefix once, and has its bindings. What the tag declares is listed
 -- from `from` on.
-pub record IsBelowMany (table : List Namespace) (listed : List ℕ) (scopes : List Scope) (present : PrefixBindings) (above from : ℕ) : Type 0 where
-  pub scope : IsScopeOf (length table) listed scopes above
-  pub own : from ≤ length listed
-  pub once : PrefixesOnce (entries (map namespace_view table) (places_in listed scopes above))
-  pub bound : IsBound (map namespace_view table) (bound_place present) (entries (map namespace_view table) (places_in listed scopes above))
+pub record IsBelowMany (t : PrefixTables) (scopes : List Scope) (above from : ℕ) : Type 0 where
+  pub scope : IsScopeOf (length t.namespaces.now) t.listed.now scopes above
+  pub own : from ≤ length t.listed.now
+  pub once : PrefixesOnce (listed_by t scopes above)
+  pub bound : IsBound (map namespace_view t.namespaces.now) (bound_place t.present.now) (listed_by t scopes above)
 
 -- The scope `scope` is that of an element whose parent has the scope `above`. Its declarations are those listed from `own` on,
 -- and `xml` if the flag is true.
@@ -79,23 +86,11 @@ pub record AddsBack (listed : List ℕ) (scopes : List Scope) (after : List ℕ)
   pub value : (namespaces : List NamespaceDecl) → IsListed namespaces listed scopes after rows scope (entries namespaces (drop first listed))
   pub own : after ≡ listed ++ reverse (drop first listed)
 
--- A tag is read whose parent lists few, and the rows list some of `listed`.
-pub record IsBelowRows (table : List Namespace) (listed : List ℕ) (rows : List Scope) (keys : List (Option (Bor (List ℕ)))) (above : Stretch) (from : ℕ) : Type 0 where
-  pub below : IsBelowFew table listed keys above.from above.until from
-  pub scopes : AreScopes (length listed) rows
-
 -- The scope at the index `i` lists each prefix once, and does not list `prefix` if that has no place.
-pub record MayHide (table : List Namespace) (listed : List ℕ) (scopes : List Scope) (present : PrefixBindings) (i : ℕ) (prefix : Option (List ℕ)) : Type 0 where
-  pub scope : IsScopeOf (length table) listed scopes i
-  pub once : PrefixesOnce (entries (map namespace_view table) (places_in listed scopes i))
-  pub absent : bound_place present prefix ≡ None → is_declared prefix (entries (map namespace_view table) (places_in listed scopes i)) ≡ false
-
--- What the tag declares is listed once more, in reverse order. The new row lists it, and then what `above` lists except what the
--- tag declares.
-pub record ListsBelowMany (namespaces : List NamespaceDecl) (listed : List ℕ) (scopes : List Scope) (after : List ℕ) (rows : List Scope) (above from : ℕ) (xml : Bool) (scope : ℕ) : Type 0 where
-  pub value : IsListed namespaces listed scopes after rows scope
-      (entries namespaces (drop from listed) ++ others (entries namespaces (drop from listed)) xml (entries namespaces (places_in listed scopes above)))
-  pub own : after ≡ listed ++ reverse (drop from listed)
+pub record MayHide (t : PrefixTables) (scopes : List Scope) (i : ℕ) (prefix : Option (List ℕ)) : Type 0 where
+  pub scope : IsScopeOf (length t.namespaces.now) t.listed.now scopes i
+  pub once : PrefixesOnce (listed_by t scopes i)
+  pub absent : bound_place t.present.now prefix ≡ None → is_declared prefix (listed_by t scopes i) ≡ false
 
 -- The scope `above` is the stretch `stretch` of few.
 pub record HasFewAbove (t : ElementTables) (keys : List (Option (Bor (List ℕ)))) (above own : ℕ) (stretch : Stretch) : Type 0 where

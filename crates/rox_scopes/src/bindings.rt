@@ -11,6 +11,7 @@ ghost use Rattle.rox_scopes.specs.Scopes.{prefix_view, entries, ArePlaces};
 ghost use Rattle.rox_scopes.specs.Ropes.{IsScopeOf};
 
 use crate::rope::{count, position_at};
+use crate::scope::OwnDeclarations;
 use crate::tables::{Namespace, Scope};
 use rox_rows::growth::push;
 use std::alloc::{AllocError, Global};
@@ -229,30 +230,29 @@ impl<'input> PrefixBindings<'input> {
         Ok(())
     }
 
-    /// Enters a scope inside the innermost one. Its element declares what is listed from `from` on, in reverse order, and `xml`
-    /// if the flag is true.
+    /// Enters a scope inside the innermost one. `own` are the declarations of its element, listed in reverse order.
     pub fn enter(
         &mut self,
         namespaces: &[Namespace<'input>],
         listed: &[u16],
-        from: usize,
-        xml: bool,
+        own: OwnDeclarations,
         scope: u32,
     ) -> Result<(), AllocError>
-        requires { IsStretchFrom (length namespaces.now) listed.now from }
+        requires { IsStretchFrom (length namespaces.now) listed.now own.from }
         ensures { OnOk result ((lists : List (List NamespaceDecl)) (above : List NamespaceDecl)
             → AreBindingsOf (map namespace_view namespaces.now) lists self.old
             → IsBound (map namespace_view namespaces.now) (bound_place self.old) above
             → IsEntered (entries (map namespace_view namespaces.now)
-            (reverse (slice_range listed.now from (length listed.now)))) xml above lists scope
+            (reverse (slice_range listed.now own.from (length listed.now)))) own.xml above lists
+            scope
             → AreBindingsOf (map namespace_view namespaces.now) lists self.new
             × IsBound (map namespace_view namespaces.now) (bound_place self.new)
             (scope_at lists scope)) }
     {
-        if xml {
+        if own.xml {
             self.put(Some("xml"), None)?;
         }
-        for position in from..listed.len() {
+        for position in own.from..listed.len() {
             self.bind(namespaces, listed, position)?;
         }
         let count = self.replaced.len();

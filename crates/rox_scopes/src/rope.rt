@@ -6,10 +6,11 @@ ghost use Rattle.rox_grammar.specs.Tree.{same_prefix};
 ghost use Rattle.rox_scopes.specs.Tables.{count_at};
 ghost use Rattle.rox_scopes.specs.Scopes.{prefix_view, places_in, ArePlaces};
 ghost use Rattle.rox_scopes.specs.Bindings.{FindsIndex};
-ghost use Rattle.rox_scopes.specs.Ropes.{AddsRow, AreJoinable, IsAmongRow, IsAmongScope, IsAmongStretch, IsPlaceOf, IsPositionOf, IsRope, IsRow, IsScopeOf, Joins};
+ghost use Rattle.rox_scopes.specs.Ropes.{AddsRow, AreJoinable, IsAmongRow, IsAmongScope, IsAmongStretch, IsPlaceOf, IsPositionOf, IsRope, IsRow, Joins};
+ghost use Rattle.rox_scopes.specs.TagScopes.{MayHide};
 
 use crate::scope::same_prefix;
-use crate::tables::{Concat, Namespace, Scope, Stretch};
+use crate::tables::{Concat, PrefixTables, Scope, Stretch};
 use rox_rows::growth::push;
 use std::alloc::AllocError;
 
@@ -323,29 +324,31 @@ pub fn find(scopes: &[Scope], scope: u32, position: usize) -> Option<usize>
     }
 }
 
-/// Returns the index of a place that a scope lists for this prefix, or for the default. It is tried first where the entry `guess`
-/// of `listed` is, and then from the front.
+/// Returns the index of a place that a scope lists for this prefix, or for the default. It is tried first where the binding of
+/// the prefix says, and then from the front.
 pub fn index_of(
-    namespaces: &[Namespace<'_>],
-    listed: &[u16],
+    tables: PrefixTables<'_, '_>,
     scopes: &[Scope],
     scope: u32,
     prefix: Option<&str>,
-    guess: usize,
 ) -> Option<usize>
-    requires { IsScopeOf (length namespaces.now) listed.now scopes.now scope }
-    ensures { FindsIndex namespaces.now (places_in listed.now scopes.now scope)
-        (prefix_view prefix.entry) result }
+    requires { MayHide tables scopes.now scope (prefix_view prefix) }
+    ensures { FindsIndex tables.entry.namespaces.now
+        (places_in tables.entry.listed.now scopes.now scope) (prefix_view prefix.entry) result }
 {
+    let Some(binding) = tables.present.get(prefix) else {
+        return None;
+    };
+    let guess = binding.listed as usize;
     if let Some(index) = find(scopes, scope, guess) {
-        let place = place_at(scopes, listed, scope, index);
-        if same_prefix(namespaces[place as usize].name, prefix) {
+        let place = place_at(scopes, tables.listed, scope, index);
+        if same_prefix(tables.namespaces[place as usize].name, prefix) {
             return Some(index);
         }
     }
     for index in 0..count(scopes, scope) {
-        let place = place_at(scopes, listed, scope, index);
-        if same_prefix(namespaces[place as usize].name, prefix) {
+        let place = place_at(scopes, tables.listed, scope, index);
+        if same_prefix(tables.namespaces[place as usize].name, prefix) {
             return Some(index);
         }
     }

@@ -11,7 +11,7 @@ ghost use Rattle.rox_scopes.specs.Bindings.{AreOnce, FindsPlace, LooksUp, LooksW
 
 use crate::bindings::PrefixBindings;
 use crate::prefix_set::{FEW, has_prefix};
-use crate::tables::{Namespace, Scope};
+use crate::tables::{Namespace, Scope, Stretch};
 use rox_rows::compare::{LONG, Pair, same_short, same_text};
 use std::alloc::AllocError;
 use std::collections::BTreeSet;
@@ -251,26 +251,25 @@ pub struct OwnDeclarations {
     pub xml: bool,
 }
 
-/// Lists what an element inherits, after its own declarations: those of `listed[from..until]`, the list of its parent, whose
+/// Lists what an element inherits, after its own declarations: those of the stretch `above`, the list of its parent, whose
 /// prefixes it does not declare.
 pub fn inherit<'a>(
     namespaces: &[Namespace<'a>],
     listed: &mut Vec<u16>,
     own: OwnDeclarations,
     prefix_set: &BTreeSet<Option<&'a str>>,
-    from: usize,
-    until: usize,
+    above: Stretch,
 ) -> Result<(), AllocError>
-    requires { IsBelowFew namespaces.now listed.old.items prefix_set.now.keys from until own.from }
+    requires { IsBelowFew namespaces.now listed.old.items prefix_set.now.keys above own.from }
     ensures { OnOk result ((more : List ℕ) × (listed.new.items ≡ listed.old.items ++ more)
         × ArePlaces (length namespaces.now) more
         × (entries (map namespace_view namespaces.now) more
         ≡ others (entries (map namespace_view namespaces.now) (drop own.from listed.old.items))
         own.xml (entries (map namespace_view namespaces.now)
-        (slice_range listed.old.items from until)))) }
+        (slice_range listed.old.items above.from above.until)))) }
 {
     let end = listed.len();
-    for turn in from..until {
+    for turn in above.from as usize..above.until as usize {
         let place = listed[turn];
         if !is_own(
             namespaces,

@@ -44,6 +44,15 @@ pub struct ElementTables<'input> {
     pub present: PrefixBindings<'input>,
 }
 
+/// The tables in which prefixes are looked up that a scope lists among many: the namespaces, the listed places, and the bindings
+/// of the innermost scope.
+#[derive(Clone, Copy)]
+pub struct PrefixTables<'a, 'input> {
+    pub namespaces: &'a [Namespace<'input>],
+    pub listed: &'a [u16],
+    pub present: &'a PrefixBindings<'input>,
+}
+
 /// A stretch: the range `from..until` of the listed places.
 #[derive(Clone, Copy)]
 pub struct Stretch {

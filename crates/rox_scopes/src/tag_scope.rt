@@ -6,17 +6,14 @@ ghost use Rattle.rox_grammar.specs.Written.{NamespaceDecl};
 ghost use Rattle.rox_grammar.specs.Tree.{is_declared};
 ghost use Rattle.rox_scopes.specs.Tables.{AreScopes};
 ghost use Rattle.rox_scopes.specs.NamespaceViews.{namespace_view};
-ghost use Rattle.rox_scopes.specs.Scopes.{prefix_view, entries, places_in, PrefixesOnce, others, unlisted};
-ghost use Rattle.rox_scopes.specs.PrefixSet.{IsBelowFew};
+ghost use Rattle.rox_scopes.specs.Scopes.{prefix_view, entries, PrefixesOnce, others, unlisted};
 ghost use Rattle.rox_scopes.specs.Bindings.{bound_place};
-ghost use Rattle.rox_scopes.specs.Ropes.{IsListed, IsScopeOf};
-ghost use Rattle.rox_scopes.specs.TagScopes.{AddsBack, HasFewAbove, HasOpenTag, HasScope, HasTagPrefixes, IsBelowMany, IsBelowRows, IsTurnable, ListsBelowMany, MayHide};
+ghost use Rattle.rox_scopes.specs.TagScopes.{listed_by, AddsBack, AddsRows, HasFewAbove, HasOpenTag, HasScope, HasTagPrefixes, IsBelowMany, IsTurnable, MayHide};
 
-use crate::bindings::PrefixBindings;
 use crate::prefix_set::FEW;
 use crate::rope::{add, both, index_of, stretch, without};
 use crate::scope::{OwnDeclarations, inherit};
-use crate::tables::{ElementTables, Namespace, Scope, Stretch};
+use crate::tables::{ElementTables, PrefixTables, Scope, Stretch};
 use std::alloc::AllocError;
 use std::collections::BTreeSet;
 
@@ -36,61 +33,18 @@ fn add_back(listed: &mut Vec<u16>, scopes: &mut Vec<Scope>, from: usize) -> Resu
     Ok(place)
 }
 
-/// Returns the scope of an element with the declarations `own`, whose parent lists few: the stretch `above`. `prefix_set` has the
-/// declared prefixes if they are many. A scope that lists few is a stretch again.
-pub fn listed_below_few<'input>(
-    namespaces: &[Namespace<'input>],
-    listed: &mut Vec<u16>,
-    scopes: &mut Vec<Scope>,
-    prefix_set: &BTreeSet<Option<&'input str>>,
-    above: Stretch,
-    own: OwnDeclarations,
-) -> Result<u32, AllocError>
-    requires { IsBelowRows namespaces.now listed.old.items scopes.old.items prefix_set.now.keys
-        above own.from }
-    ensures { IfOk result
-        (λ s. IsListed (map namespace_view namespaces.now) listed.old.items scopes.old.items
-        listed.new.items scopes.new.items s
-        (entries (map namespace_view namespaces.now) (drop own.from listed.old.items)
-        ++ others (entries (map namespace_view namespaces.now) (drop own.from listed.old.items))
-        own.xml (entries (map namespace_view namespaces.now)
-        (slice_range listed.old.items above.from above.until)))) }
-{
-    let from = above.from as usize;
-    let until = above.until as usize;
-    inherit(namespaces, listed, own, prefix_set, from, until)?;
-    let end = listed.len();
-    if end - own.from > FEW {
-        let many = add_back(listed, scopes, own.from)?;
-        return Ok(many);
-    }
-    let few = stretch(own.from, end)?;
-    let place = add(scopes, Scope::Few(few))?;
-    Ok(place)
-}
-
 /// Returns a scope that lists what `scope` does except this prefix, or the default for `None`.
-fn hide<'input>(
-    namespaces: &[Namespace<'input>],
-    listed: &[u16],
+fn hide(
+    tables: PrefixTables<'_, '_>,
     scopes: &mut Vec<Scope>,
-    present: &PrefixBindings<'input>,
     scope: u32,
     prefix: Option<&str>,
 ) -> Result<u32, AllocError>
-    requires { MayHide namespaces.now listed.now scopes.old.items present.now scope
-        (prefix_view prefix) }
-    ensures { IfOk result
-        (λ s. IsListed (map namespace_view namespaces.now) listed.now scopes.old.items listed.now
-        scopes.new.items s
-        (unlisted (prefix_view prefix.entry) (entries (map namespace_view namespaces.now)
-        (places_in listed.now scopes.old.items scope)))) }
+    requires { MayHide tables scopes.old.items scope (prefix_view prefix) }
+    ensures { IfOk result (λ s. AddsRows tables.entry scopes.old.items scopes.new.items s
+        (unlisted (prefix_view prefix.entry) (listed_by tables.entry scopes.old.items scope))) }
 {
-    let Some(place) = present.get(prefix) else {
-        return Ok(scope);
-    };
-    let guess = place.listed as usize;
-    let Some(index) = index_of(namespaces, listed, scopes, scope, prefix, guess) else {
+    let Some(index) = index_of(tables, scopes, scope, prefix) else {
         return Ok(scope);
     };
     let left = without(scopes, scope, index)?;
@@ -98,85 +52,63 @@ fn hide<'input>(
 }
 
 /// Returns a scope that lists what `scope` does except the prefixes that `own` declares.
-fn hide_own<'input>(
-    namespaces: &[Namespace<'input>],
-    listed: &[u16],
+fn hide_own(
+    tables: PrefixTables<'_, '_>,
     scopes: &mut Vec<Scope>,
-    present: &PrefixBindings<'input>,
     scope: u32,
     own: OwnDeclarations,
 ) -> Result<u32, AllocError>
-    requires { IsBelowMany namespaces.now listed.now scopes.old.items present.now
-        scope own.from }
-    ensures { IfOk result
-        (λ s. IsListed (map namespace_view namespaces.now) listed.now scopes.old.items listed.now
-        scopes.new.items s
-        (others (entries (map namespace_view namespaces.now) (drop own.from listed.now)) own.xml
-        (entries (map namespace_view namespaces.now)
-        (places_in listed.now scopes.old.items scope)))) }
+    requires { IsBelowMany tables scopes.old.items scope own.from }
+    ensures { IfOk result (λ s. AddsRows tables.entry scopes.old.items scopes.new.items s
+        (others (entries (map namespace_view tables.entry.namespaces.now)
+        (drop own.from tables.entry.listed.now)) own.xml
+        (listed_by tables.entry scopes.old.items scope))) }
 {
     let mut left = scope;
-    for turn in own.from..listed.len() {
-        let place = listed[turn];
-        let prefix = namespaces[place as usize].name;
-        left = hide(namespaces, listed, scopes, present, left, prefix)?;
+    for turn in own.from..tables.listed.len() {
+        let place = tables.listed[turn];
+        let prefix = tables.namespaces[place as usize].name;
+        left = hide(tables, scopes, left, prefix)?;
     }
     if own.xml {
-        left = hide(namespaces, listed, scopes, present, left, Some("xml"))?;
+        left = hide(tables, scopes, left, Some("xml"))?;
     }
     Ok(left)
 }
 
-/// Returns the scope of an element with the declarations `own`, whose parent has the scope `above`. That lists many, and
-/// `present` has its prefixes.
-pub fn listed_below_many<'input>(
-    namespaces: &[Namespace<'input>],
-    listed: &mut Vec<u16>,
-    scopes: &mut Vec<Scope>,
-    present: &PrefixBindings<'input>,
-    above: u32,
-    own: OwnDeclarations,
-) -> Result<u32, AllocError>
-    requires { IsBelowMany namespaces.now listed.old.items scopes.old.items present.now
-        above own.from }
-    ensures { IfOk result (ListsBelowMany (map namespace_view namespaces.now) listed.old.items
-        scopes.old.items listed.new.items scopes.new.items above own.from own.xml) }
-{
-    let rest = hide_own(namespaces, listed, scopes, present, above, own)?;
-    let first = add_back(listed, scopes, own.from)?;
-    let place = both(scopes, first, rest)?;
-    Ok(place)
-}
-
-/// Like `scope_of_tag`, but the parent's scope `above` is `stretch`, a stretch of few.
+/// Like `scope_of_tag`, but the parent's scope `above` is `inherited`, a stretch of few. A scope that lists few is a stretch
+/// again.
 fn scope_below_few<'input>(
     elements: &mut ElementTables<'input>,
     prefix_set: &BTreeSet<Option<&'input str>>,
     above: u32,
-    stretch: Stretch,
+    inherited: Stretch,
     own: OwnDeclarations,
 ) -> Result<u32, AllocError>
-    requires { HasFewAbove elements.old prefix_set.now.keys above own.from stretch }
+    requires { HasFewAbove elements.old prefix_set.now.keys above own.from inherited }
     ensures { IfOk result (λ s. HasScope elements.old elements.new above own.from own.xml s) }
 {
-    let scope = listed_below_few(
+    inherit(
         elements.namespaces.as_slice(),
         &mut elements.listed,
-        &mut elements.scopes,
-        prefix_set,
-        stretch,
         own,
+        prefix_set,
+        inherited,
     )?;
-    if let Scope::Few(_) = elements.scopes[scope as usize] {
+    let end = elements.listed.len();
+    if end - own.from <= FEW {
+        let few = stretch(own.from, end)?;
+        let scope = add(&mut elements.scopes, Scope::Few(few))?;
         return Ok(scope);
     }
+    let many = add_back(&mut elements.listed, &mut elements.scopes, own.from)?;
     elements.present.make_innermost(
         elements.namespaces.as_slice(),
         &elements.listed,
         &elements.scopes,
-        scope,
+        many,
     )?;
-    Ok(scope)
+    Ok(many)
 }
 
 /// Like `scope_of_tag`, but the parent's scope `above` lists many.
@@ -194,23 +126,22 @@ fn scope_below_many<'input>(
         &elements.scopes,
         above,
     )?;
-    if own.from >= elements.listed.len() && !own.xml {
+    let from = elements.listed.len();
+    if own.from >= from && !own.xml {
         return Ok(above);
     }
-    let from = elements.listed.len();
-    let scope = listed_below_many(
-        elements.namespaces.as_slice(),
-        &mut elements.listed,
-        &mut elements.scopes,
-        &elements.present,
-        above,
-        own,
-    )?;
+    let tables = PrefixTables {
+        namespaces: elements.namespaces.as_slice(),
+        listed: &elements.listed,
+        present: &elements.present,
+    };
+    let rest = hide_own(tables, &mut elements.scopes, above, own)?;
+    let first = add_back(&mut elements.listed, &mut elements.scopes, own.from)?;
+    let scope = both(&mut elements.scopes, first, rest)?;
     elements.present.enter(
         elements.namespaces.as_slice(),
         &elements.listed,
-        from,
-        own.xml,
+        OwnDeclarations { from, xml: own.xml },
         scope,
     )?;
     Ok(scope)

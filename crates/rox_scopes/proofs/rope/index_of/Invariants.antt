@@ -5,4 +5,4 @@ use Rattle.rox_scopes.specs.Scopes.{prefix_view, entries, places_in}
 use Rattle.rox_scopes.proofs.rope.index_of.Given as goal
 
 abbrev pub invariant-loop-index : goal.invariant-loop-index
-invariant-loop-index l = uri_of (entries (map namespace_view l.namespaces) (take l.index (places_in l.listed l.scopes l.scope))) (prefix_view l.prefix) ≡ None
+invariant-loop-index l = uri_of (entries (map namespace_view l.tables.namespaces.now) (take l.index (places_in l.tables.listed.now l.scopes l.scope))) (prefix_view l.prefix) ≡ None

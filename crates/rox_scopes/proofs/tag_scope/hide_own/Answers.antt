@@ -3,71 +3,69 @@ use Rattle.std.specs.List.{slice_range}
 use Rattle.rox_grammar.specs.declared.fault.Word.TheVariants.{Xml}
 use Rattle.rox_grammar.specs.FixedTexts.{word_text}
 use Rattle.rox_scopes.specs.NamespaceViews.{namespace_view}
-use Rattle.rox_scopes.specs.Scopes.{prefix_view, entries, places_in, PrefixesOnce}
+use Rattle.rox_scopes.specs.Scopes.{prefix_view, entries, PrefixesOnce}
 use Rattle.rox_scopes.specs.Bindings.{bound_place}
+use Rattle.rox_scopes.specs.TagScopes.{listed_by}
 use Rattle.rox_scopes.proofs.Pairs.{place_at}
 use Rattle.rox_scopes.proofs.Hiding.{once_others}
 use Rattle.rox_scopes.proofs.Below.{hides_none, hides_more, hides_xml, hides_own, absent_bound}
 use Rattle.rox_scopes.proofs.tag_scope.hide_own.Goals as goal
 
 pub loop-turn-init : goal.loop-turn-init
-loop-turn-init c = hides_none (map namespace_view c.args.namespaces.now) c.args.listed.now c.args.scopes.now.items c.args.scope c.args.own.from c.requires.scope.scopes c.requires.scope.within
+loop-turn-init c = hides_none (map namespace_view c.args.tables.namespaces.now) c.args.tables.listed.now c.args.scopes.now.items c.args.scope c.args.own.from c.requires.scope.scopes c.requires.scope.within
 
-pub bounds-namespaces-place : goal.bounds-namespaces-place
-bounds-namespaces-place c = let lt : c.loop-turn.turn < length c.args.listed.now = omega arith in place_at (length c.args.namespaces.now) c.args.listed.now c.loop-turn.turn 0 c.requires.scope.places lt
-
-pub bounds-namespaces-place-in-loop-turn : goal.bounds-namespaces-place-in-loop-turn
-bounds-namespaces-place-in-loop-turn c = let lt : c.loop-turn.turn < length c.args.listed.now = omega arith in place_at (length c.args.namespaces.now) c.args.listed.now c.loop-turn.turn 0 c.requires.scope.places lt
+pub bounds-tables-place : goal.bounds-tables-place
+bounds-tables-place c = let lt : c.loop-turn.turn < length c.args.tables.listed.now = omega arith in place_at (length c.args.tables.namespaces.now) c.args.tables.listed.now c.loop-turn.turn 0 c.requires.scope.places lt
 
 pub hide-requires : goal.hide-requires
 hide-requires c = record {
   scope = search rules;
   once =
-      let namespaces = map namespace_view c.args.namespaces.now in
+      let namespaces = map namespace_view c.args.tables.namespaces.now in
       subst PrefixesOnce (sym c.loop-turn.invariant.lists)
-      (once_others (entries namespaces (slice_range c.args.listed.now c.args.own.from c.loop-turn.turn)) false (entries namespaces (places_in c.args.listed.now c.args.scopes.now.items c.args.scope)) c.requires.once);
+      (once_others (entries namespaces (slice_range c.args.tables.listed.now c.args.own.from c.loop-turn.turn)) false (listed_by c.args.tables c.args.scopes.now.items c.args.scope) c.requires.once);
   absent = λ none.
-      let namespaces = map namespace_view c.args.namespaces.now in
-      let p = prefix_view (get_or c.args.namespaces.now (get_or c.args.listed.now c.loop-turn.turn 0) c.index-namespaces-place.result).name in
-      absent_bound namespaces (bound_place c.args.present.now) (entries namespaces (slice_range c.args.listed.now c.args.own.from c.loop-turn.turn)) (entries namespaces (places_in c.args.listed.now c.args.scopes.now.items c.args.scope))
-      (entries namespaces (places_in c.args.listed.now c.loop-turn.scopes.items c.loop-turn.left)) false p c.requires.bound c.loop-turn.invariant.lists none;
+      let namespaces = map namespace_view c.args.tables.namespaces.now in
+      let p = prefix_view (get_or c.args.tables.namespaces.now (get_or c.args.tables.listed.now c.loop-turn.turn 0) c.index-tables-place.result).name in
+      absent_bound namespaces (bound_place c.args.tables.present.now) (entries namespaces (slice_range c.args.tables.listed.now c.args.own.from c.loop-turn.turn)) (listed_by c.args.tables c.args.scopes.now.items c.args.scope)
+      (listed_by c.args.tables c.loop-turn.scopes.items c.loop-turn.left) false p c.requires.bound c.loop-turn.invariant.lists none;
 }
 
 pub loop-turn-preserved : goal.loop-turn-preserved
 loop-turn-preserved c =
-    let rows = c.args.namespaces.now in
-    let place = get_or c.args.listed.now c.loop-turn.turn 0 in
-    let p = prefix_view (get_or rows place c.index-namespaces-place.result).name in
-    let ds = entries (map namespace_view rows) (places_in c.args.listed.now c.args.scopes.now.items c.args.scope) in
+    let rows = c.args.tables.namespaces.now in
+    let place = get_or c.args.tables.listed.now c.loop-turn.turn 0 in
+    let p = prefix_view (get_or rows place c.index-tables-place.result).name in
+    let ds = listed_by c.args.tables c.args.scopes.now.items c.args.scope in
     let low : c.args.own.from ≤ c.loop-turn.turn = omega arith in
-    let lt : c.loop-turn.turn < length c.args.listed.now = omega arith in
-    hides_more rows c.args.listed.now c.args.scopes.now.items c.loop-turn.scopes.items c.hide.new.scopes.items c.args.own.from c.loop-turn.turn place c.loop-turn.left c.in_ok-left.left c.index-namespaces-place.result p ds
+    let lt : c.loop-turn.turn < length c.args.tables.listed.now = omega arith in
+    hides_more rows c.args.tables.listed.now c.args.scopes.now.items c.loop-turn.scopes.items c.hide.new.scopes.items c.args.own.from c.loop-turn.turn place c.loop-turn.left c.in_ok-left.left c.index-tables-place.result p ds
     low lt c.requires.scope.places refl refl c.loop-turn.invariant c.in_ok-left.ensures
 
 pub hide-requires-then-own : goal.hide-requires-then-own
 hide-requires-then-own c = record {
   scope = search rules;
   once =
-      let namespaces = map namespace_view c.args.namespaces.now in
+      let namespaces = map namespace_view c.args.tables.namespaces.now in
       subst PrefixesOnce (sym c.loop-turn.invariant.lists)
-      (once_others (entries namespaces (slice_range c.args.listed.now c.args.own.from c.loop-turn.turn)) false (entries namespaces (places_in c.args.listed.now c.args.scopes.now.items c.args.scope)) c.requires.once);
+      (once_others (entries namespaces (slice_range c.args.tables.listed.now c.args.own.from c.loop-turn.turn)) false (listed_by c.args.tables c.args.scopes.now.items c.args.scope) c.requires.once);
   absent = λ none.
-      let namespaces = map namespace_view c.args.namespaces.now in
-      absent_bound namespaces (bound_place c.args.present.now) (entries namespaces (slice_range c.args.listed.now c.args.own.from c.loop-turn.turn)) (entries namespaces (places_in c.args.listed.now c.args.scopes.now.items c.args.scope))
-      (entries namespaces (places_in c.args.listed.now c.loop-turn.scopes.items c.loop-turn.left)) false (Some (word_text Xml)) c.requires.bound c.loop-turn.invariant.lists none;
+      let namespaces = map namespace_view c.args.tables.namespaces.now in
+      absent_bound namespaces (bound_place c.args.tables.present.now) (entries namespaces (slice_range c.args.tables.listed.now c.args.own.from c.loop-turn.turn)) (listed_by c.args.tables c.args.scopes.now.items c.args.scope)
+      (listed_by c.args.tables c.loop-turn.scopes.items c.loop-turn.left) false (Some (word_text Xml)) c.requires.bound c.loop-turn.invariant.lists none;
 }
 
 pub returns-in_ok-left-2 : goal.returns-in_ok-left-2
 returns-in_ok-left-2 c =
-    let namespaces = map namespace_view c.args.namespaces.now in
-    let ds = entries namespaces (places_in c.args.listed.now c.args.scopes.now.items c.args.scope) in
-    let all : length c.args.listed.now ≤ c.loop-turn.turn = omega arith in
-    hides_xml namespaces c.args.listed.now c.args.scopes.now.items c.loop-turn.scopes.items c.hide-then-own.new.scopes.items c.args.own.from c.loop-turn.turn c.loop-turn.left c.in_ok-left-2.left c.args.own.xml ds
+    let namespaces = map namespace_view c.args.tables.namespaces.now in
+    let ds = listed_by c.args.tables c.args.scopes.now.items c.args.scope in
+    let all : length c.args.tables.listed.now ≤ c.loop-turn.turn = omega arith in
+    hides_xml namespaces c.args.tables.listed.now c.args.scopes.now.items c.loop-turn.scopes.items c.hide-then-own.new.scopes.items c.args.own.from c.loop-turn.turn c.loop-turn.left c.in_ok-left-2.left c.args.own.xml ds
     all c.if-own.true c.loop-turn.invariant c.in_ok-left-2.ensures
 
 pub returns-else-own : goal.returns-else-own
 returns-else-own c =
-    let namespaces = map namespace_view c.args.namespaces.now in
-    let ds = entries namespaces (places_in c.args.listed.now c.args.scopes.now.items c.args.scope) in
-    let all : length c.args.listed.now ≤ c.loop-turn.turn = omega arith in
-    hides_own namespaces c.args.listed.now c.args.scopes.now.items c.loop-turn.scopes.items c.args.own.from c.loop-turn.turn c.loop-turn.left c.args.own.xml ds all c.if-own.false c.loop-turn.invariant
+    let namespaces = map namespace_view c.args.tables.namespaces.now in
+    let ds = listed_by c.args.tables c.args.scopes.now.items c.args.scope in
+    let all : length c.args.tables.listed.now ≤ c.loop-turn.turn = omega arith in
+    hides_own namespaces c.args.tables.listed.now c.args.scopes.now.items c.loop-turn.scopes.items c.args.own.from c.loop-turn.turn c.loop-turn.left c.args.own.xml ds all c.if-own.false c.loop-turn.invariant

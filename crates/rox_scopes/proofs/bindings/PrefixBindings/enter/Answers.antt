@@ -9,22 +9,22 @@ use Rattle.rox_scopes.specs.Bindings.{bound_place, IsBound}
 use Rattle.rox_scopes.specs.declared.bindings.ScopeFrame.{ScopeFrame}
 use Rattle.rox_scopes.proofs.Presenting.{stacked_push, keeps_by, bound_others, bound_hidden, bound_unhidden, found_put, reverse_none, reverse_more}
 use Rattle.rox_scopes.proofs.bindings.PrefixBindings.enter.Goals as goal
-use Rattle.rox_scopes.proofs.bindings.PrefixBindings.enter.Goals.{then-xml+in_ok-put, else-xml}
+use Rattle.rox_scopes.proofs.bindings.PrefixBindings.enter.Goals.{then-own+in_ok-put, else-own}
 
 pub loop-position-init : goal.loop-position-init
 loop-position-init c =
     let namespaces = map namespace_view c.args.namespaces.now in
     let old = c.args.self.now in
-    elim c.if-xml.branch [
-      | then-xml+in_ok-put w ↦
+    elim c.if-own.branch [
+      | then-own+in_ok-put w ↦
           let g = bound_place w.put.new.self in
           rw w.self-is (record {
-            bound = λ ds h. rw reverse_none (subst (λ b. IsBound namespaces g (filter (λ d. not (b && is_xml d.prefix)) ds)) (sym w.if-xml.true) (bound_hidden namespaces ds (bound_place old) g (found_put old w.put.new.self (Some (word_text Xml)) None w.in_ok-put.ensures.present) h));
+            bound = λ ds h. rw reverse_none (subst (λ b. IsBound namespaces g (filter (λ d. not (b && is_xml d.prefix)) ds)) (sym w.if-own.true) (bound_hidden namespaces ds (bound_place old) g (found_put old w.put.new.self (Some (word_text Xml)) None w.in_ok-put.ensures.present) h));
             keeps = w.in_ok-put.ensures.keeps;
           })
-      | else-xml w ↦
+      | else-own w ↦
           rw w.self-is (record {
-            bound = λ ds h. rw reverse_none (subst (λ b. IsBound namespaces (bound_place old) (filter (λ d. not (b && is_xml d.prefix)) ds)) (sym w.if-xml.false) (bound_unhidden namespaces ds (bound_place old) h));
+            bound = λ ds h. rw reverse_none (subst (λ b. IsBound namespaces (bound_place old) (filter (λ d. not (b && is_xml d.prefix)) ds)) (sym w.if-own.false) (bound_unhidden namespaces ds (bound_place old) h));
             keeps = λ namespaces lists h. h;
           })
     ]
@@ -33,10 +33,10 @@ pub loop-position-preserved : goal.loop-position-preserved
 loop-position-preserved c =
     let l = c.loop-position in
     let namespaces = map namespace_view c.args.namespaces.now in
-    let low : c.args.from ≤ l.position = omega arith in
+    let low : c.args.own.from ≤ l.position = omega arith in
     let lt : l.position < length c.args.listed.now = omega arith in
     record {
-      bound = λ ds h. subst (λ xs. IsBound namespaces (bound_place c.bind.new.self) (entries namespaces xs ++ filter (λ d. not (c.args.xml && is_xml d.prefix)) ds)) (sym (reverse_more c.args.listed.now c.args.from l.position low lt))
+      bound = λ ds h. subst (λ xs. IsBound namespaces (bound_place c.bind.new.self) (entries namespaces xs ++ filter (λ d. not (c.args.own.xml && is_xml d.prefix)) ds)) (sym (reverse_more c.args.listed.now c.args.own.from l.position low lt))
           (c.in_ok-bind.ensures.bound _ (l.invariant.bound ds h));
       keeps = λ namespaces lists h. c.in_ok-bind.ensures.keeps namespaces lists (l.invariant.keeps namespaces lists h);
     }
@@ -48,8 +48,8 @@ returns c = λ lists above h around s.
     let listed = c.args.listed.now in
     let x = l.self in
     let all : l.position ≡ length listed = omega arith in
-    let own = subst (λ n. IsBound namespaces (bound_place x) (entries namespaces (reverse (slice_range listed c.args.from n)) ++ filter (λ d. not (c.args.xml && is_xml d.prefix)) above)) all (l.invariant.bound above around) in
-    let bound = bound_others namespaces _ above c.args.xml (bound_place x) own in
+    let own = subst (λ n. IsBound namespaces (bound_place x) (entries namespaces (reverse (slice_range listed c.args.own.from n)) ++ filter (λ d. not (c.args.own.xml && is_xml d.prefix)) above)) all (l.invariant.bound above around) in
+    let bound = bound_others namespaces _ above c.args.own.xml (bound_place x) own in
     let here : IsBound namespaces (bound_place x) (scope_at lists c.args.scope) = subst (IsBound namespaces (bound_place x)) (sym s.made) bound in
     let kept = l.invariant.keeps namespaces lists h in
     let frame : ScopeFrame = record { scope = c.args.scope; count = c.len-count.result } in
