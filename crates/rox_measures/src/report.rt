@@ -15,6 +15,14 @@ struct Summary {
     turns: usize,
 }
 
+/// The rates of the best turn and of the median one, and their unit.
+#[derive(Clone, Copy)]
+struct Rates<'a> {
+    best: Tenths,
+    median: Tenths,
+    unit: &'a str,
+}
+
 fn summed_up(turns: &mut Turns) -> Summary {
     Summary {
         best: best(&turns.times).unwrap_or(0),
@@ -33,9 +41,12 @@ pub fn write_parse<W: Write>(
     mut turns: Turns,
 ) -> Result<(), Fault> {
     let told = summed_up(&mut turns);
-    let best = megabytes_per_second(bytes, told.repeats, told.best);
-    let median = megabytes_per_second(bytes, told.repeats, told.median);
-    write_line(alloc, out, name, told, [best, median], "MB/s")
+    let rates = Rates {
+        best: megabytes_per_second(bytes, told.repeats, told.best),
+        median: megabytes_per_second(bytes, told.repeats, told.median),
+        unit: "MB/s",
+    };
+    write_line(alloc, out, name, told, rates)
 }
 
 /// Writes the line of a work over so many nodes, with its time for a node.
@@ -48,8 +59,12 @@ pub fn write_walk<W: Write>(
 ) -> Result<(), Fault> {
     let told = summed_up(&mut turns);
     let visits = nodes.saturating_mul(told.repeats as u64);
-    let (best, median) = (share(told.best, visits), share(told.median, visits));
-    write_line(alloc, out, name, told, [best, median], "ns a node")
+    let rates = Rates {
+        best: share(told.best, visits),
+        median: share(told.median, visits),
+        unit: "ns a node",
+    };
+    write_line(alloc, out, name, told, rates)
 }
 
 fn write_line<W: Write>(
@@ -57,15 +72,14 @@ fn write_line<W: Write>(
     out: &mut W,
     name: &str,
     told: Summary,
-    rates: [Tenths; 2],
-    unit: &str,
+    rates: Rates<'_>,
 ) -> Result<(), Fault> {
     let (turns, repeats) = (told.turns, told.repeats);
     let best = share(told.best, repeats as u64);
     let median = share(told.median, repeats as u64);
     write!(out, "{name:<14}")?;
-    write_figures(alloc, out, "best", [best, rates[0]], unit)?;
-    write_figures(alloc, out, "median", [median, rates[1]], unit)?;
+    write_figures(alloc, out, "best", [best, rates.best], rates.unit)?;
+    write_figures(alloc, out, "median", [median, rates.median], rates.unit)?;
     writeln!(out, " {turns} turns of {repeats}")?;
     Ok(())
 }

@@ -9,7 +9,6 @@ use crate::work::{Parse, ParseAndDrop, Walk, WalkLinks};
 use crate::{input, memory};
 use rox_programs::input::decode;
 use roxmltree::Document;
-use std::alloc::Global;
 use std::io::Write;
 use std::rt::Files;
 use std::time::CpuClock;
@@ -49,8 +48,8 @@ fn measure_document<R: AllocGlobal + CpuClock, O: Write>(
     write_contents(out, command.file.as_str(), text.len() as u64, found)?;
     // a quarter of the time for each work
     let budget = command.seconds as u64 * 250_000_000;
-    measure_parses(rt.alloc(), rt, text, budget, out)?;
-    measure_walks(rt.alloc(), rt, document, found.nodes, budget, out)
+    measure_parses(rt, text, budget, out)?;
+    measure_walks(rt, document, found.nodes, budget, out)
 }
 
 fn write_contents<O: Write>(
@@ -69,32 +68,30 @@ fn write_contents<O: Write>(
     Ok(())
 }
 
-fn measure_parses<R: CpuClock, O: Write>(
-    alloc: Global,
-    clock: &R,
+fn measure_parses<R: AllocGlobal + CpuClock, O: Write>(
+    rt: &R,
     text: &str,
     budget: u64,
     out: &mut O,
 ) -> Result<(), Fault> {
-    let length = text.len() as u64;
-    let turns = measure(alloc, clock, &ParseAndDrop { alloc, text }, budget)?;
+    let (alloc, length) = (rt.alloc(), text.len() as u64);
+    let turns = measure(alloc, rt, &ParseAndDrop { alloc, text }, budget)?;
     write_parse(alloc, out, "parse and drop", length, turns)?;
-    let turns = measure(alloc, clock, &Parse { alloc, text }, budget)?;
+    let turns = measure(alloc, rt, &Parse { alloc, text }, budget)?;
     write_parse(alloc, out, "parse", length, turns)
 }
 
-fn measure_walks<R: CpuClock, O: Write>(
-    alloc: Global,
-    clock: &R,
+fn measure_walks<R: AllocGlobal + CpuClock, O: Write>(
+    rt: &R,
     document: &Document<'_>,
     nodes: u64,
     budget: u64,
     out: &mut O,
 ) -> Result<(), Fault> {
-    let sum = walk(document, 0);
-    let turns = measure(alloc, clock, &Walk { document, sum }, budget)?;
+    let (alloc, sum) = (rt.alloc(), walk(document, 0));
+    let turns = measure(alloc, rt, &Walk { document, sum }, budget)?;
     write_walk(alloc, out, "walk", nodes, turns)?;
-    let turns = measure(alloc, clock, &WalkLinks { document, nodes }, budget)?;
+    let turns = measure(alloc, rt, &WalkLinks { document, nodes }, budget)?;
     write_walk(alloc, out, "walk by links", nodes, turns)?;
     writeln!(out, "{:<14} {sum}", "sum of a walk")?;
     Ok(())
