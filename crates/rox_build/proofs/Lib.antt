@@ -10,6 +10,7 @@ pub mod Asking
 pub mod Items
 pub mod PlainReads
 pub mod PlainSections
+pub mod NearSections
 pub mod RootTags
 pub mod RootElements
 pub mod SameBytes

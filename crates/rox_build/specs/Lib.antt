@@ -3,6 +3,7 @@ pub mod ParsedResults
 pub mod OpenedTexts
 pub mod PlainSteps
 pub mod PlainOutcomes
+pub mod Sections
 pub mod PlainElements
 pub mod RootTag
 pub mod Asking

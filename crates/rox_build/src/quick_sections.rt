@@ -1,7 +1,10 @@
 //! Plain constructs with delimiters, read by the fast path: comments, CDATA sections and processing instructions (XML 1.0 sections 2.5,
 //! 2.6, 2.7). Each is read out of line. The general step reads one that is not plain, or finds no room, from its first byte.
 
-ghost use Rattle.std.specs.Prelude.{◌≡◌};
+ghost use Rattle.std.specs.Prelude.{◌≡◌, true, IfSome};
+ghost use Rattle.std.specs.String.{string_bytes};
+ghost use Rattle.rox_grammar.specs.FixedTexts.{word_text};
+ghost use Rattle.rox_grammar.specs.Search.{stands};
 ghost use Rattle.rox_grammar.specs.declared.fault.Word.TheVariants as word;
 ghost use Rattle.rox_reading.specs.Machine as machine;
 ghost use Rattle.rox_reading.specs.Refusals.{lifted};
@@ -9,8 +12,11 @@ ghost use Rattle.rox_builder.specs.Outcomes.{MayStep};
 ghost use Rattle.rox_builder.specs.Readiness.{IsApart, MayReadAt};
 ghost use Rattle.rox_builder.specs.declared.pending.Pending.TheVariants as pending;
 ghost use Rattle.rox_build.specs.PlainOutcomes.{JoinsRun, MayReadWord, ReadsIf, ReadsSection, ReadsSteps, any_context};
+ghost use Rattle.rox_build.specs.Sections.{IsPlainSection, ReadsPiece, is_section_byte};
 
 use rox_builder::builder::Builder;
+use rox_bytes::byte_set::{ByteSet, CharByte, find_other};
+use rox_bytes::nibbles::by_low;
 use rox_bytes::runs::is_at;
 use rox_bytes::search::before_byte;
 use rox_grammar::fault::Word;
@@ -21,6 +27,7 @@ use rox_scan::cursor::Cursor;
 use rox_scan::markup::whole_comment;
 use rox_values::text_value::{TextValue, cdata_text};
 use std::alloc::AllocError;
+use std::simd::prelude::*;
 
 /// Returned in place of the offset after a construct that was not read.
 pub const NOT_READ: usize = usize::MAX;
@@ -45,6 +52,95 @@ fn put_comment<'input>(cursor: &mut Cursor<'input>, builder: &mut Builder<'input
     true
 }
 
+/// The bytes of a CDATA section that need no other test: not `]`, not 239, and not a control except TAB and LF.
+struct SectionByte;
+
+// The controls of the set, and `]`, each at its low half.
+const SECTION_EXCEPTIONS: [u8; 16] = [1, 0, 0, 0, 0, 0, 0, 0, 0, b'\t', b'\n', 0, 0, b']', 0, 0];
+
+impl ByteSet for SectionByte {
+    ghost test = { is_section_byte };
+
+    #[inline(always)]
+    #[tactic(auto, unfolding(crate::specs::Sections::is_section_byte))]
+    fn has(byte: u8) -> bool {
+        (CharByte::has(byte) & (byte != b'\r')) & (byte != b']')
+    }
+
+    #[inline(always)]
+    fn others(block: u8x16) -> u64 {
+        let exceptions = by_low(SECTION_EXCEPTIONS, block).simd_eq(block);
+        let controls = block.simd_lt(u8x16::splat(32)) ^ exceptions;
+        (controls | block.simd_eq(u8x16::splat(239))).to_bitmask()
+    }
+}
+
+/// A valid CDATA section without CR: its text, and the offset after it.
+#[derive(Clone, Copy)]
+struct PlainSection<'input> {
+    text: &'input str,
+    end: usize,
+}
+
+/// Returns true only if `]]>` is at `at`.
+#[inline(always)]
+fn is_section_end(text: &str, at: usize) -> bool
+    ensures { result ≡ true → stands (word_text word.CDataEnd) text.now at ≡ true }
+{
+    is_at(text, at, b']') && (is_at(text, at + 1, b']') && is_at(text, at + 2, b'>'))
+}
+
+/// Returns the CDATA section that starts with the `<![CDATA[` at the cursor, if its text is of `SectionByte`s.
+#[inline(always)]
+fn near_section<'input>(from: Cursor<'input>) -> Option<PlainSection<'input>>
+    requires { stands (word_text word.CDataStart) from.text.now from.pos ≡ true }
+    ensures { IfSome result (IsPlainSection from.entry.text.now from.entry.pos) }
+{
+    let mut here = from;
+    here.skip(Word::CDataStart);
+    let start = here.pos;
+    let end = find_other::<SectionByte>(from.text, start)?;
+    if !is_section_end(from.text, end) {
+        return None;
+    }
+    Some(PlainSection {
+        text: &from.text[start..end],
+        end: end + 3,
+    })
+}
+
+/// Returns the CDATA section that starts with the `<![CDATA[` at the cursor, if it is valid and has no CR.
+#[inline(never)]
+fn far_section<'input>(from: Cursor<'input>) -> Option<PlainSection<'input>>
+    requires { stands (word_text word.CDataStart) from.text.now from.pos ≡ true }
+    ensures { IfSome result (IsPlainSection from.entry.text.now from.entry.pos) }
+{
+    let mut here = from;
+    let Ok(raw) = here.cdata() else {
+        return None;
+    };
+    let bytes = raw.as_bytes();
+    if before_byte(bytes, b'\r') < bytes.len() {
+        return None;
+    }
+    Some(PlainSection {
+        text: raw,
+        end: here.pos,
+    })
+}
+
+/// Like `far_section`, but most sections are of `SectionByte`s, which is tried first.
+#[inline(always)]
+fn plain_section<'input>(from: Cursor<'input>) -> Option<PlainSection<'input>>
+    requires { stands (word_text word.CDataStart) from.text.now from.pos ≡ true }
+    ensures { IfSome result (IsPlainSection from.entry.text.now from.entry.pos) }
+{
+    if let Some(section) = near_section(from) {
+        return Some(section);
+    }
+    far_section(from)
+}
+
 /// Reads the construct at `start`, if it is a valid CDATA section without CR, and is a text of its own: no text is open before it,
 /// and `<` is after it. Returns the offset after it, or `NOT_READ`: a cursor that is lent to a call would leave its registers.
 #[inline(never)]
@@ -52,25 +148,21 @@ fn put_section_at<'input>(text: &'input str, start: usize, builder: &mut Builder
     requires { MayReadAt text.now start builder.old }
     ensures { ReadsSection text.entry.now start result builder.old builder.new }
 {
-    let mut cursor = Cursor { text, pos: start };
+    let cursor = Cursor { text, pos: start };
     if builder.is_text_open() {
         return NOT_READ;
     }
     if !cursor.starts(Word::CDataStart) {
         return NOT_READ;
     }
-    let Ok(raw) = cursor.cdata() else {
+    let Some(section) = plain_section(cursor) else {
         return NOT_READ;
     };
-    let bytes = raw.as_bytes();
-    if before_byte(bytes, b'\r') < bytes.len() {
+    if !is_at(text, section.end, b'<') {
         return NOT_READ;
     }
-    if !is_at(text, cursor.pos, b'<') {
-        return NOT_READ;
-    }
-    builder.put_text(start, cursor.pos, StringStorage::Borrowed(raw));
-    cursor.pos
+    builder.put_text(start, section.end, StringStorage::Borrowed(section.text));
+    section.end
 }
 
 /// Reads the construct at `start`, if it is a valid processing instruction, for which there is room. Returns the offset after it, or
@@ -159,6 +251,27 @@ fn join_run<'input>(
     Ok(())
 }
 
+/// Reads the CDATA section at the cursor, if it is valid. Its text is a slice of the source if it has no CR, otherwise it is in
+/// `scratch`. Returns `None` if the section is not valid. The only error is want of memory.
+#[inline(always)]
+fn section_piece<'input>(
+    cursor: &mut Cursor<'input>,
+    scratch: &mut String,
+) -> Result<Option<TextValue<'input>>, AllocError>
+    requires { stands (word_text word.CDataStart) cursor.old.text.now cursor.old.pos ≡ true }
+    ensures { ReadsPiece cursor.old cursor.new (string_bytes scratch.new) result }
+{
+    if let Some(section) = near_section(*cursor) {
+        cursor.pos = section.end;
+        return Ok(Some(TextValue::Plain(section.text)));
+    }
+    let Ok(raw) = cursor.cdata() else {
+        return Ok(None);
+    };
+    let piece = cdata_text(raw, scratch)?;
+    Ok(Some(piece))
+}
+
 /// Reads the CDATA section at the cursor, if one is there and it is valid, and the character data after it, if that is a slice of
 /// the source. Both join the text that may continue. Returns whether anything was read. The only error is want of memory.
 #[inline(never)]
@@ -173,10 +286,9 @@ pub fn join_section<'input>(
     if !here.starts(Word::CDataStart) {
         return Ok(false);
     }
-    let Ok(raw) = here.cdata() else {
+    let Some(piece) = section_piece(&mut here, &mut builder.buffers.scratch)? else {
         return Ok(false);
     };
-    let piece = cdata_text(raw, &mut builder.buffers.scratch)?;
     let waits = builder.waiting_piece(cursor.pos, here.pos, piece)?;
     if !waits {
         return Ok(false);

@@ -29,7 +29,7 @@ pub returns-in_default : goal.returns-in_default
 returns-in_default c = record {
   value = λ yes. absurd (cc yes);
   moves = λ yes. absurd (cc yes);
-  other = λ _. (refl, keeps_all c.args.builder.now);
+  other = λ _. (refl, record { nodes = refl; opened = refl; pending = refl; joined = refl; limit = refl; openings_left = refl; others = refl; attributes = refl });
   goes = record { source = refl; fine = c.requires.fine };
 }
 
@@ -49,19 +49,21 @@ returns c =
     let src = c.args.cursor.now.text.now in
     let i = c.args.cursor.now.pos in
     let b = c.args.builder.now in
-    let raw = c.in-Ok.raw.now in
-    let new = c.cdata.new.self in
+    let new = c.section_piece.new.cursor in
     let j = new.pos in
-    let source : new.text.now ≡ src = ap (λ t. t.now) c.in-Ok.ensures.source in
+    let source_kept : new.text ≡ c.args.cursor.now.text = rw c.in-Some.is at c.in_ok-piece.ensures.source in
+    let section = rw c.in-Some.is at c.in_ok-piece.ensures.read in
+    let raw = section.0 in
+    let source : new.text.now ≡ src = ap (λ t. t.now) source_kept in
     let opens : stands (word_text word.CDataStart) src i ≡ true = sym c.starts.ensures ∙ c.if-not-starts.false in
-    let read : cdata_at src i ≡ Ok (raw, j) = c.in-Ok.ensures.value in
+    let read : cdata_at src i ≡ Ok (raw, j) = section.1 in
     let u = c.waiting_piece.new.self in
     let k = c.waiting_piece.ensures.kept in
     let kept : KeepsOpen b u = record { opened = k.opened; tables = k.tables; limit = k.limit; openings_left = k.openings_left } in
     record {
       value = λ _ context end s inner h.
-          let t = piece_view c.in_ok-piece.piece (string_bytes c.cdata_text.new.scratch) in
-          let is : section_text raw ≡ t = sym c.in_ok-piece.ensures in
+          let t = piece_view c.in-Some.piece (string_bytes c.section_piece.new.scratch) in
+          let is : section_text raw ≡ t = section.2 in
           let a = c.in_ok-waits.ensures.value c.if-not-waits.false end j s (same_shows end s.stack s.done b _ h.shows refl refl refl refl refl) in
           let within : s.at < length src = omega (arith, stands_fits (word_text word.CDataStart) src i (omega arith) opens, h.here) in
           let stepped : ScansTo context.limit end (Ok tt) new u (step context src s) =
@@ -79,7 +81,7 @@ returns c =
       other = λ no. absurd (cc no);
       moves = λ _. omega (arith, (cdata_sound src c.args.cursor.now.utf8 i j raw opens read).3, c.in_ok-join_run.ensures.onward);
       goes = record {
-        source = c.in_ok-join_run.ensures.source ∙ c.in-Ok.ensures.source;
+        source = c.in_ok-join_run.ensures.source ∙ source_kept;
         fine = fine_open c.join_run.new.builder c.end_run.new.self c.end_run.ensures.kept (fine_open u c.join_run.new.builder c.join_run.ensures.kept (fine_open b u kept c.requires.fine));
       };
     }

@@ -1,6 +1,5 @@
-use Rattle.std.proofs.Common.{◌≡◌, ◌==◌, ◌≤◌, true, Ok, length, sym, ap, ◌∙◌, arith}
+use Rattle.std.proofs.Common.{◌≡◌, ◌≤◌, true, Ok, length, sym, ◌∙◌, arith}
 use Rattle.std.proofs.lemmas.Bool.{eqb-true}
-use Rattle.std.specs.List.{position_or_len}
 use Rattle.rox_grammar.specs.declared.fault.Word.TheVariants as word
 use Rattle.rox_grammar.specs.FixedTexts.{word_text}
 use Rattle.rox_grammar.specs.Search.{stands}
@@ -8,7 +7,6 @@ use Rattle.rox_reading.specs.Markup.{cdata_at}
 use Rattle.rox_reading.specs.Values.{ReadText}
 use Rattle.rox_theory.proofs.MarkupLemmas.{cdata_sound}
 use Rattle.rox_values.specs.Values.{section_text}
-use Rattle.rox_values.proofs.SectionLemmas.{section_plain}
 use Rattle.rox_builder.proofs.Stepping.{cdata_is}
 use Rattle.rox_build.proofs.PlainReads.{fine_same}
 use Rattle.rox_build.proofs.PlainSections.{section_not, step_is_section}
@@ -19,21 +17,16 @@ pub returns : goal.returns
 returns c =
     let src = c.args.text.now in
     let b = c.args.builder.now in
-    let raw = c.in-Ok.raw.now in
-    let new = c.cdata.new.self in
-    let j = new.pos in
+    let section = c.in-Some.section in
+    let raw = section.text.now in
+    let j = section.end in
     let short = c.requires.room.short in
-    let source : new.text.now ≡ src = ap (λ t. t.now) c.in-Ok.ensures.source in
     let opens : stands (word_text word.CDataStart) src c.args.start ≡ true = sym c.starts.ensures ∙ c.if-not-starts.false in
-    let read : cdata_at src c.args.start ≡ Ok (raw, j) = c.in-Ok.ensures.value in
-    let within : j ≤ length src = rw source at new.cut.0 in
+    let read : cdata_at src c.args.start ≡ Ok (raw, j) = c.in-Some.ensures.read in
+    let within : j ≤ length src = c.in-Some.ensures.cut.0 in
     let adds = c.put_text.ensures.adds in
-    let bytes : c.as_bytes-bytes.result.now ≡ raw = c.as_bytes-bytes.ensures.value in
-    let found : c.before_byte.result ≡ position_or_len (λ x. x == 13) c.as_bytes-bytes.result.now = c.before_byte.ensures.value in
-    let full : c.before_byte.result ≡ length c.as_bytes-bytes.result.now = omega (arith, c.if-before_byte-bytes.false, c.before_byte.ensures.within) in
-    let none : position_or_len (λ x. x == 13) raw ≡ length raw = rw bytes at (sym found ∙ full) in
     let text : ReadText = record { value = raw; borrowed = true } in
-    let is : section_text raw ≡ text = section_plain raw none in
+    let is : section_text raw ≡ text = c.in-Some.ensures.plain in
     record {
       value = λ _ context end s here behind start stop h.
           let from : c.args.start ≡ s.at = sym start ∙ h.here in
@@ -41,7 +34,7 @@ returns c =
           (text_stepped_at context.limit end s here behind c.args.start j b c.put_text.new.self (Ok tt) text start stop h adds.kept
           (adds.value end j s h.shows));
       other = λ no. absurd (omega (arith, no, short, within));
-      cut = λ _. rw source at new.cut;
+      cut = λ _. c.in-Some.ensures.cut;
       ready = λ _. c.put_text.ensures.ready;
       apart = λ _ other. absurd (other (eqb-true _ _ (sym c.is_at.ensures ∙ c.if-not-is_at.false)));
       moves = λ _. (cdata_sound src c.utf8.text c.args.start j raw opens read).3;
@@ -57,20 +50,13 @@ returns-then-not-starts c = section_not c.args.text.now c.args.start _ c.args.bu
 pub returns-in_default : goal.returns-in_default
 returns-in_default c = section_not c.args.text.now c.args.start _ c.args.builder.now (omega arith) c.requires.room.fine
 
-pub returns-then-before_byte-bytes : goal.returns-then-before_byte-bytes
-returns-then-before_byte-bytes c = section_not c.args.text.now c.args.start _ c.args.builder.now (omega arith) c.requires.room.fine
-
 pub returns-then-not-is_at : goal.returns-then-not-is_at
 returns-then-not-is_at c = section_not c.args.text.now c.args.start _ c.args.builder.now (omega arith) c.requires.room.fine
 
 pub put_text-requires : goal.put_text-requires
-put_text-requires c =
-    let new = c.cdata.new.self in
-    let source : new.text.now ≡ c.args.text.now = ap (λ t. t.now) c.in-Ok.ensures.source in
-    let within : new.pos ≤ length c.args.text.now = rw source at new.cut.0 in
-    record {
-      ready = c.requires.room.ready;
-      apart = c.is_text_open.ensures.no c.if-is_text_open.false;
-      start = omega (arith, c.requires.room.short, c.requires.cut.0);
-      end = omega (arith, c.requires.room.short, within);
-    }
+put_text-requires c = record {
+  ready = c.requires.room.ready;
+  apart = c.is_text_open.ensures.no c.if-is_text_open.false;
+  start = omega (arith, c.requires.room.short, c.requires.cut.0);
+  end = omega (arith, c.requires.room.short, c.in-Some.ensures.cut.0);
+}
