@@ -1,28 +1,21 @@
--- The loops over constructs give what is read.
-use Rattle.std.proofs.Common.{◌≡◌, ℕ, zero, suc, ◌+◌, ◌-◌, ◌<◌, ◌≤◌, true, false, List, length, refl, sym, ap, ◌∙◌, arith, Result, Ok, Err, lt-ltb, le-ltb}
+-- The loop over constructs of content gives what is read.
+use Rattle.std.proofs.Common.{◌≡◌, ℕ, zero, suc, ◌+◌, ◌-◌, ◌<◌, ◌≤◌, true, false, List, length, refl, sym, ◌∙◌, arith, Result, Ok, Err, lt-ltb, le-ltb}
 use Rattle.std.specs.Str.{IsUtf8}
 use Rattle.rox_grammar.specs.declared.fault.Fault.TheVariants as fault
-use Rattle.rox_grammar.specs.declared.fault.Word.TheVariants as word
-use Rattle.rox_grammar.specs.Names.{spaces_end}
 use Rattle.rox_grammar.specs.FixedTexts.{at}
 use Rattle.rox_reading.specs.Lexical.{◌>>=◌}
 use Rattle.rox_grammar.specs.State.{is_root}
-use Rattle.rox_reading.specs.Refusals.{Refusal, here, lifted}
+use Rattle.rox_reading.specs.Refusals.{Refusal, here}
 use Rattle.rox_reading.specs.State.{State}
-use Rattle.rox_reading.specs.Machine.{Context, step, drive, comment_step, instruction_step}
-use Rattle.rox_reading.specs.WholeText.{misc}
+use Rattle.rox_reading.specs.Machine.{Context, step, drive}
 use Rattle.rox_scan.specs.declared.cursor.Cursor.{Cursor}
-use Rattle.rox_grammar.specs.declared.failure.Failure.{Failure}
-use Rattle.rox_grammar.specs.declared.failure.Failure.TheVariants as failure
-use Rattle.rox_values.specs.Refusals.{IsFailure, IsRefusal}
+use Rattle.rox_values.specs.Refusals.{IsRefusal}
 use Rattle.rox_values.specs.declared.parse_error.ParseError.{ParseError}
 use Rattle.rox_values.proofs.PartLemmas.{refuses_by}
-use Rattle.rox_builder.specs.BuilderState.{IsInState, ScansTo, ParsesTo}
+use Rattle.rox_builder.specs.BuilderState.{IsInState, ParsesTo}
 use Rattle.rox_tags.proofs.Moving.{step_moves}
-use Rattle.rox_values.proofs.Lifting.{lifted_ok, lifted_err}
 use Rattle.rox_builder.specs.declared.builder.Builder.{Builder}
-
--- ---- content
+use Rattle.rox_content.specs.PlainSteps.{Steps, no_step, one_more, Reads}
 
 -- Reading goes on where the cursor and the builder stand, and gives the whole: so many turns have come there, a byte at least each, and
 -- the steps that are left are enough for the rest of the text.
@@ -81,59 +74,27 @@ drive_cut context end src whole turns c b g inner past = sym g.same ∙ stops g.
     stops zero = rw inner refl
     stops (suc n) = let k = le-ltb _ _ past in rw (inner, k) refl
 
--- ---- comments, processing instructions and white space
+-- so many steps move on, and reading gives behind them what it gave
+drive_past : (context : Context) (src : List ℕ) (n k : ℕ) (s t : State) → IsUtf8 src → Steps context src k s t → length src ≤ n + s.at
+    → (m : ℕ) × (drive context n src s ≡ drive context m src t) × (length src ≤ m + t.at) × (s.at ≤ t.at)
+drive_past context src n k s t utf8 (no_step _) enough = (n, refl, enough, omega arith)
+drive_past context src n k s t utf8 (one_more j _ r _ inner within read rest) enough =
+    let on = step_moves context src s r utf8 within read in
+    let past = drive_past context src (n - 1) j r t utf8 rest (omega (arith, enough, within, on)) in
+    (past.0, driven context n (n - 1) src s (omega (arith, enough, within)) inner within ∙ rw read past.1, past.2, omega (arith, on, past.3))
 
-pub record Going (limit end : ℕ) (src : List ℕ) (whole : Result State Refusal) (n : ℕ) (c : Cursor) (b : Builder) : Type 0 where
-  pub s : State
-  pub sees : IsInState limit end s c b
-  pub same : lifted (misc limit n src s) ≡ whole
+-- the loop goes on behind what was read
+pub drives_past : (context : Context) (end : ℕ) (src : List ℕ) (whole : Result State Refusal) (turns k : ℕ) (c d : Cursor) (b u : Builder) (g : Driving context end src whole turns c b)
+    → IsUtf8 src → Reads context end k d u src g.s
+    → Driving context end src whole turns d u
+drives_past context end src whole turns k c d b u g utf8 x =
+    let past = drive_past context src g.n k g.s x.behind utf8 x.steps g.enough in
+    record { s = x.behind; sees = x.sees; n = past.0; same = sym past.1 ∙ g.same; enough = past.2; onward = omega (arith, g.onward, past.3) }
 
--- behind white space
-abbrev pub spaced : List ℕ → State → State
-spaced src s = record { at = spaces_end src s.at; done = s.done; stack = s.stack; openings_left = s.openings_left }
-
-pub sees_spaced : (limit end : ℕ) (src : List ℕ) (s : State) (c d : Cursor) (b : Builder) → IsInState limit end s c b → d.pos ≡ spaces_end src c.pos → IsInState limit end (spaced src s) d b
-sees_spaced limit end src s c d b h next =
-    record { here = next ∙ ap (spaces_end src) h.here; limit_is = h.limit_is; shows = h.shows; namespaces = h.namespaces; attributes = h.attributes; openings_left_is = h.openings_left_is }
-
-commented : (limit n m : ℕ) (src : List ℕ) (s : State) → n ≡ suc m → at word.CommentStart src (spaces_end src s.at) ≡ true
-    → misc limit n src s ≡ (comment_step limit src (spaced src s) >>= λ u. misc limit m src u)
-unfolding misc
-commented limit n m src s one is = rw (one, is) refl
-
-instructed : (limit n m : ℕ) (src : List ℕ) (s : State) → n ≡ suc m → at word.CommentStart src (spaces_end src s.at) ≡ false → at word.PIStart src (spaces_end src s.at) ≡ true
-    → misc limit n src s ≡ (instruction_step limit src (spaced src s) >>= λ u. misc limit m src u)
-unfolding misc
-instructed limit n m src s one other is = rw (one, other, is) refl
-
-pub comment_on : (limit end : ℕ) (src : List ℕ) (whole : Result State Refusal) (n m : ℕ) (c d : Cursor) (b u : Builder) (x : Unit {0}) (g : Going limit end src whole n c b) → n ≡ suc m
-    → at word.CommentStart src (spaces_end src g.s.at) ≡ true → ScansTo limit end (Ok x) d u (lifted (comment_step limit src (spaced src g.s))) → Going limit end src whole m d u
-comment_on limit end src whole n m c d b u x g one is (t, read, sees) = record { s = t; sees = sees; same = sym (ap lifted (commented limit n m src g.s one is) ∙ rw (lifted_ok _ _ read) refl) ∙ g.same }
-
-pub instruction_on : (limit end : ℕ) (src : List ℕ) (whole : Result State Refusal) (n m : ℕ) (c d : Cursor) (b u : Builder) (x : Unit {0}) (g : Going limit end src whole n c b) → n ≡ suc m
-    → at word.CommentStart src (spaces_end src g.s.at) ≡ false → at word.PIStart src (spaces_end src g.s.at) ≡ true
-    → ScansTo limit end (Ok x) d u (lifted (instruction_step limit src (spaced src g.s))) → Going limit end src whole m d u
-instruction_on limit end src whole n m c d b u x g one other is (t, read, sees) = record { s = t; sees = sees; same = sym (ap lifted (instructed limit n m src g.s one other is) ∙ rw (lifted_ok _ _ read) refl) ∙ g.same }
-
-pub comment_fails : (limit end : ℕ) (src : List ℕ) (whole : Result State Refusal) (n m : ℕ) (c : Cursor) (b : Builder) (e : Failure) (g : Going limit end src whole n c b) → n ≡ suc m
-    → at word.CommentStart src (spaces_end src g.s.at) ≡ true → IsFailure e (lifted (comment_step limit src (spaced src g.s))) → IsFailure e whole
-comment_fails limit end src whole n m c b failure.Memory g one is h = tt
-comment_fails limit end src whole n m c b (failure.Fault f) g one is h = sym g.same ∙ ap lifted (commented limit n m src g.s one is) ∙ rw (lifted_err _ f h) refl
-
-pub instruction_fails : (limit end : ℕ) (src : List ℕ) (whole : Result State Refusal) (n m : ℕ) (c : Cursor) (b : Builder) (e : Failure) (g : Going limit end src whole n c b) → n ≡ suc m
-    → at word.CommentStart src (spaces_end src g.s.at) ≡ false → at word.PIStart src (spaces_end src g.s.at) ≡ true → IsFailure e (lifted (instruction_step limit src (spaced src g.s))) → IsFailure e whole
-instruction_fails limit end src whole n m c b failure.Memory g one other is h = tt
-instruction_fails limit end src whole n m c b (failure.Fault f) g one other is h = sym g.same ∙ ap lifted (instructed limit n m src g.s one other is) ∙ rw (lifted_err _ f h) refl
-
--- something else stands here
-pub misc_done : (limit end : ℕ) (src : List ℕ) (whole : Result State Refusal) (n m : ℕ) (c d : Cursor) (b : Builder) (g : Going limit end src whole n c b) → n ≡ suc m
-    → at word.CommentStart src (spaces_end src g.s.at) ≡ false → at word.PIStart src (spaces_end src g.s.at) ≡ false → d.pos ≡ spaces_end src c.pos
-    → (s : State) × (whole ≡ Ok s) × IsInState limit end s d b
-unfolding misc
-misc_done limit end src whole n m c d b g one other also next =
-    (spaced src g.s, sym g.same ∙ rw (one, other, also) refl, sees_spaced limit end src g.s c d b g.sees next)
-
-pub misc_spent : (limit end : ℕ) (src : List ℕ) (whole : Result State Refusal) (n : ℕ) (c : Cursor) (b : Builder) (g : Going limit end src whole n c b) → n ≡ 0
-    → (s : State) × (whole ≡ Ok s) × IsInState limit end s c b
-unfolding misc
-misc_spent limit end src whole n c b g none = (g.s, sym g.same ∙ rw none refl, g.sees)
+-- and has moved on
+pub drives_beyond : (context : Context) (end : ℕ) (src : List ℕ) (whole : Result State Refusal) (turns k : ℕ) (c d : Cursor) (b u : Builder) (g : Driving context end src whole turns c b)
+    → IsUtf8 src → Reads context end k d u src g.s → (i : ℕ) → i ≡ g.s.at → i < d.pos
+    → Driving context end src whole (turns + 1) d u
+drives_beyond context end src whole turns k c d b u g utf8 x i stood less =
+    let past = drive_past context src g.n k g.s x.behind utf8 x.steps g.enough in
+    record { s = x.behind; sees = x.sees; n = past.0; same = sym past.1 ∙ g.same; enough = past.2; onward = omega (arith, g.onward, stood, less, x.sees.here) }

@@ -1,15 +1,12 @@
 -- A root element with what follows it, and a whole text, are read as their parts are.
-use Rattle.std.proofs.Common.{◌≡◌, ℕ, zero, suc, Bool, true, false, List, length, refl, sym, ap, subst, ◌∙◌, Result, Ok, slice_index, nat_le, nat_lt, if◌then◌else◌, ◌==◌}
+use Rattle.std.proofs.Common.{◌≡◌, ℕ, zero, suc, Bool, true, false, List, length, refl, sym, ap, subst, ◌∙◌, Result, Ok, slice_index, nat_lt, if◌then◌else◌, ◌==◌}
 use Rattle.std.proofs.lemmas.Bool.{ne_eqb, eq-eqb}
-use Rattle.rox_grammar.specs.declared.fault.Word.TheVariants as word
-use Rattle.rox_grammar.specs.Names.{spaces_end}
 use Rattle.rox_grammar.specs.FixedTexts.{at}
 use Rattle.rox_reading.specs.Refusals.{lifted}
 use Rattle.rox_reading.specs.Lexical.{◌>>=◌}
-use Rattle.rox_reading.specs.Markup.{comment_at, instruction_at}
-use Rattle.rox_grammar.specs.State.{Open, root, inside, is_root, nodes_so_far}
+use Rattle.rox_grammar.specs.State.{Open, root, inside, is_root}
 use Rattle.rox_reading.specs.State.{State}
-use Rattle.rox_reading.specs.Machine.{Context, main_text, counted, comment_step, instruction_step, tag_step, step, drive}
+use Rattle.rox_reading.specs.Machine.{Context, main_text, tag_step, step, drive}
 use Rattle.rox_reading.specs.WholeText.{misc, body}
 use Rattle.rox_grammar.specs.declared.failure.Failure.{Failure}
 use Rattle.rox_grammar.specs.declared.failure.Failure.TheVariants as failure
@@ -19,6 +16,7 @@ use Rattle.rox_values.proofs.PartLemmas.{refuses_by}
 use Rattle.rox_grammar.specs.Entities.{Entity}
 use Rattle.rox_values.proofs.Lifting.{lifted_ok, lifted_err}
 use Rattle.rox_theory.proofs.Basics.{bind_ok}
+use Rattle.rox_prolog.proofs.Rooted.{branch_of, misc_open}
 
 -- ---- the root element and what follows it
 
@@ -52,38 +50,12 @@ a_body limit es context src s t u v main here tag inner after = let k = lifted_o
 
 -- ---- nothing is open behind it
 
-branch_of : {X P : Type 0} (b : Bool) (x y z : X) → (if b then x else y) ≡ z → (x ≡ z → P) → (y ≡ z → P) → P
-branch_of true x y z h one other = one h
-branch_of false x y z h one other = other h
-
 chosen : {X P : Type 0} (b : Bool) (x y z : X) → (if b then x else y) ≡ z → (b ≡ true → x ≡ z → P) → (b ≡ false → y ≡ z → P) → P
 chosen true x y z h one other = one refl h
 chosen false x y z h one other = other refl h
 
 ok_is : {A E : Type 0} (x y : A) → ◌≡◌ {A = Result A E} (Ok x) (Ok y) → y ≡ x
 ok_is x y h = cc h
-
-counted_open : (limit : ℕ) (s t : State) → counted limit s ≡ Ok t → t.stack ≡ s.stack
-counted_open limit s t h = branch_of (nat_le (nodes_so_far s.stack s.done) limit) _ _ _ h (λ e. cc) (λ e. cc)
-
-pub comment_open : (limit : ℕ) (src : List ℕ) (s t : State) → comment_step limit src s ≡ Ok t → t.stack ≡ s.stack
-unfolding comment_step
-comment_open limit src s t h = bind_ok (comment_at src s.at) _ t h (λ x is e. counted_open limit _ t e)
-
-pub instruction_open : (limit : ℕ) (src : List ℕ) (s t : State) → instruction_step limit src s ≡ Ok t → t.stack ≡ s.stack
-unfolding instruction_step
-instruction_open limit src s t h = bind_ok (instruction_at src s.at) _ t h (λ x is e. counted_open limit _ t e)
-
-pub misc_open : (limit n : ℕ) (src : List ℕ) (s t : State) → misc limit n src s ≡ Ok t → t.stack ≡ s.stack
-unfolding misc
-misc_open limit zero src s t h = cc h
-misc_open limit (suc n) src s t h =
-    let a : State = record { at = spaces_end src s.at; done = s.done; stack = s.stack; openings_left = s.openings_left } in
-    branch_of (at word.CommentStart src a.at) _ _ _ h
-    (λ one. bind_ok (comment_step limit src a) (λ u. misc limit n src u) t one (λ u is e. misc_open limit n src u t e ∙ comment_open limit src a u is))
-    (λ more. branch_of (at word.PIStart src a.at) _ _ _ more
-    (λ one. bind_ok (instruction_step limit src a) (λ u. misc limit n src u) t one (λ u is e. misc_open limit n src u t e ∙ instruction_open limit src a u is))
-    (λ none. cc))
 
 drive_open : (context : Context) (n : ℕ) (src : List ℕ) (s t : State) → drive context n src s ≡ Ok t → is_root t.stack ≡ true
 unfolding drive

@@ -1,13 +1,4 @@
-pub mod Requests
-pub mod ParsedResults
 pub mod OpenedTexts
-pub mod PlainSteps
-pub mod PlainOutcomes
-pub mod Sections
-pub mod PlainElements
-pub mod RootTag
-pub mod Asking
 pub mod Built
 pub mod WholeTexts
 pub mod TextParts
-pub mod SameFronts

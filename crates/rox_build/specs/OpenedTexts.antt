@@ -6,7 +6,7 @@ use Rattle.rox_grammar.specs.declared.failure.Failure.{Failure}
 use Rattle.rox_reading.specs.Machine as machine
 use Rattle.rox_reading.specs.State.{State}
 use Rattle.rox_reading.specs.Values as reading
-use Rattle.rox_scan.specs.DoctypeViews.{replacement_view}
+use Rattle.rox_scan.specs.Views.{replacement_view}
 use Rattle.rox_scan.specs.declared.cursor.Cursor.{Cursor}
 use Rattle.rox_values.specs.Contexts.{context_of}
 use Rattle.rox_values.specs.DeclaredEntities.{AreDeclared}

@@ -1,9 +1,5 @@
 -- The parts of a whole text, and what is read of them.
 use Rattle.std.specs.Prelude.{◌≡◌, ℕ, Bool, List, [], Result, Ok, Err, length}
-use Rattle.rox_grammar.specs.declared.fault.Fault.{Fault}
-use Rattle.rox_grammar.specs.declared.fault.Word.TheVariants as word
-use Rattle.rox_grammar.specs.FixedTexts.{at}
-use Rattle.rox_grammar.specs.TextStart.{after_bom}
 use Rattle.rox_grammar.specs.Forest.{Forest, Nil}
 use Rattle.rox_grammar.specs.Written.{Item}
 use Rattle.rox_grammar.specs.Entities.{Entity}
@@ -12,22 +8,14 @@ use Rattle.rox_grammar.specs.State.{root}
 use Rattle.rox_reading.specs.Lexical.{◌>>=◌}
 use Rattle.rox_reading.specs.Refusals.{Refusal, lifted}
 use Rattle.rox_reading.specs.State.{State}
-use Rattle.rox_reading.specs.Doctype.{Dtd}
-use Rattle.rox_reading.specs.Answering.{left_with, Yields}
-use Rattle.rox_reading.specs.WholeText.{misc, prolog, doctype, body, finished, reading}
+use Rattle.rox_reading.specs.Answering.{Yields}
+use Rattle.rox_reading.specs.WholeText.{body, finished, reading}
 use Rattle.rox_reading.specs.HasDoctype.{has_doctype}
-use Rattle.rox_scan.specs.declared.cursor.Cursor.{Cursor}
-use Rattle.rox_build.specs.Asking.{IsDoctypeRead}
 use Rattle.rox_values.specs.Refusals.{IsRefusal}
 use Rattle.rox_builder.specs.BuilderState.{Represents, IsConsistent, names_in}
 use Rattle.rox_rows.specs.Rows.{attribute_rows}
 use Rattle.rox_builder.specs.declared.builder.Builder.{Builder}
-use Rattle.rox_values.specs.declared.entities.Entities.{Entities}
 use Rattle.rox_values.specs.declared.parse_error.ParseError.{ParseError}
-
--- The state in which nothing is read yet.
-abbrev pub start_state : ℕ → State
-start_state i = record { at = i; done = Nil; stack = root; openings_left = 255 }
 
 -- The builder represents the root node alone, of a text of `end` bytes.
 pub record IsBegun (end : ℕ) (b : Builder) : Type 0 where
@@ -36,15 +24,6 @@ pub record IsBegun (end : ℕ) (b : Builder) : Type 0 where
   pub attributes : length (attribute_rows b.tables.attributes) ≡ 0
   pub openings_left : b.openings_left ≡ 255
   pub consistent : IsConsistent b.tables b.opened.items
-
--- What is before a document type declaration.
-abbrev pub beginning : ℕ → List ℕ → Result State Fault
-beginning limit src = prolog src (after_bom src) >>= λ i. misc limit (length src) src (start_state i)
-
--- The document type declaration was read, with what follows it, or there is none.
-pub record IsDoctypeReadTo (limit end : ℕ) (allow : Bool) (src : List ℕ) (d : Dtd) (c : Cursor) (b : Builder) (es : Entities) (asked : List Asked) (some : Bool) : Type 0 where
-  pub read : IsDoctypeRead limit end (λ replies. doctype limit allow src (left_with replies d)) c b es asked
-  pub told : some ≡ at word.DoctypeStart src d.state.at
 
 -- The root element and what follows it.
 abbrev pub root_read : ℕ → List Entity → List ℕ → State → Result (Forest Item) Refusal

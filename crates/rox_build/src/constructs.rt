@@ -1,7 +1,7 @@
 //! The constructs that have delimiters, each read into the builder: comments, processing instructions, CDATA sections and tags
 //! (XML 1.0 sections 2.5, 2.6, 2.7, 3.1).
 
-ghost use Rattle.std.specs.Prelude.{◌≡◌, ◌<◌, ◌+◌, ℕ, List};
+ghost use Rattle.std.specs.Prelude.{◌≡◌, ◌<◌, ◌+◌, ℕ};
 ghost use Rattle.rox_grammar.specs.declared.fault.Word.TheVariants as word;
 ghost use Rattle.rox_reading.specs.Machine as machine;
 ghost use Rattle.rox_grammar.specs.Forest.{Forest};
@@ -13,71 +13,22 @@ ghost use Rattle.rox_builder.specs.BuilderState.{Represents};
 ghost use Rattle.rox_names.specs.OpenElements.{HasName};
 ghost use Rattle.rox_names.specs.SpelledNames.{bytes_view};
 ghost use Rattle.rox_builder.specs.Outcomes.{ParsesAs, ScansAs, ScansIn, ScansWithin, SpansOpen};
-ghost use Rattle.rox_build.specs.ParsedResults.{parsed_of};
 ghost use Rattle.rox_builder.specs.Readiness.{MayRead, MayReadDeclared, MayReadOpening, MayReadTag};
 
 use rox_builder::builder::Builder;
 use rox_grammar::failure::Failure;
 use rox_grammar::fault::{Fault, Span, Word};
+use rox_markup::{markup, tag};
 use rox_names::open_element::{NameBytes, OpenElement, bytes_of, name_bytes, open_name};
-use rox_rows::compare::same_stretch;
-use rox_rows::row::{NodeKind, PI};
-use rox_rows::storage::StringStorage;
+use rox_prolog::misc::{comment, instruction};
+use rox_prolog::parsed::parsed;
+use rox_rows::row::NodeKind;
 use rox_scan::cursor::Cursor;
+use rox_storage::compare::same_stretch;
 use rox_tags::tag::{TagContext, start_tag};
 use rox_values::context::Context;
 use rox_values::parse_error::ParseError;
 use rox_values::text_value::cdata_text;
-
-/// Returns what a result is for a caller that opens entities.
-#[inline(always)]
-pub fn parsed<'input>(read: Result<(), Failure>) -> Result<(), ParseError<'input>>
-    ensures { result ≡ parsed_of read }
-{
-    match read {
-        Ok(()) => Ok(()),
-        Err(failure) => Err(ParseError::from(failure)),
-    }
-}
-
-/// Reads a comment, from `<!--`.
-pub fn comment<'input>(
-    cursor: &mut Cursor<'input>,
-    builder: &mut Builder<'input>,
-) -> Result<(), Failure>
-    requires { MayRead word.CommentStart cursor.old builder.old }
-    ensures { ScansAs (λ limit src s. lifted (machine.comment_step limit src s)) cursor.old
-        cursor.new builder.old builder.new result }
-{
-    let start = cursor.pos;
-    let text = cursor.comment()?;
-    builder.leaf(
-        start,
-        cursor.pos,
-        NodeKind::Comment(StringStorage::Borrowed(text)),
-    )
-}
-
-/// Reads a processing instruction, from `<?`.
-pub fn instruction<'input>(
-    cursor: &mut Cursor<'input>,
-    builder: &mut Builder<'input>,
-) -> Result<(), Failure>
-    requires { MayRead word.PIStart cursor.old builder.old }
-    ensures { ScansAs (λ limit src s. lifted (machine.instruction_step limit src s)) cursor.old
-        cursor.new builder.old builder.new result }
-{
-    let start = cursor.pos;
-    let pi = cursor.instruction()?;
-    builder.leaf(
-        start,
-        cursor.pos,
-        NodeKind::PI(PI {
-            target: pi.target,
-            value: pi.value,
-        }),
-    )
-}
 
 /// Reads a CDATA section, from `<![CDATA[`.
 fn cdata<'input>(cursor: &mut Cursor<'input>, builder: &mut Builder<'input>) -> Result<(), Failure>
@@ -86,7 +37,7 @@ fn cdata<'input>(cursor: &mut Cursor<'input>, builder: &mut Builder<'input>) -> 
         cursor.new builder.old builder.new result }
 {
     let start = cursor.pos;
-    let raw = cursor.cdata()?;
+    let raw = markup::cdata(cursor)?;
     let piece = cdata_text(raw, &mut builder.buffers.scratch)?;
     builder.piece(start, cursor.pos, piece)
 }
@@ -214,7 +165,7 @@ pub fn end_tag<'input>(
         cursor.new builder.old builder.new result }
 {
     let start = cursor.pos;
-    let tag = cursor.end_tag()?;
+    let tag = tag::end_tag(cursor)?;
     if builder.opened.len() <= context.open_around {
         return Err(Failure::Fault(Fault::UnexpectedEntityCloseTag(start)));
     }

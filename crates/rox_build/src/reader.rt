@@ -1,57 +1,35 @@
 //! Reading of a text from its start to its end (XML 1.0 sections 2.1, 2.8).
 
 ghost use Rattle.std.specs.Prelude.{◌≡◌, ◌∷◌, [], IfOk, IfErr, length};
-ghost use Rattle.rox_reading.specs.Refusals.{lifted};
-ghost use Rattle.rox_reading.specs.WholeText as whole;
 ghost use Rattle.rox_builder.specs.BuilderState.{IsConsistent, tables_of};
 ghost use Rattle.rox_rows.specs.Rows.{node_rows};
 ghost use Rattle.rox_rows.specs.declared.row.NodeKind.TheVariants as kind;
-ghost use Rattle.rox_builder.specs.Outcomes.{ParsesAs, ScansAs};
+ghost use Rattle.rox_builder.specs.Outcomes.{ParsesAs};
 ghost use Rattle.rox_builder.specs.Readiness.{MayReadTag};
 ghost use Rattle.rox_reading.specs.Machine as machine;
-ghost use Rattle.rox_build.specs.Asking.{MayReadAsking};
-ghost use Rattle.rox_build.specs.Requests.{Allows, MayAsk};
+ghost use Rattle.rox_prolog.specs.Asking.{MayReadAsking};
+ghost use Rattle.rox_prolog.specs.Requests.{Allows, MayAsk};
 ghost use Rattle.rox_build.specs.Built.{Built, BuiltRefusal};
-ghost use Rattle.rox_build.specs.TextParts.{ReadsBody, ReadsDoctype, ReadsDocument, ReadsRest, ReadsStart};
+ghost use Rattle.rox_build.specs.TextParts.{ReadsBody, ReadsDocument, ReadsRest};
 ghost use Rattle.rox_build.specs.WholeTexts.{IsBegun};
 
-use crate::constructs::{comment, element, instruction};
+use crate::constructs::element;
 use crate::content::content;
-use crate::dtd::document_type;
-use crate::quick_root::{RootLook, root_element};
-use crate::resolver::EntityResolver;
 use rox_builder::builder::{Builder, FirstTables, empty_scope};
-use rox_grammar::failure::Failure;
-use rox_grammar::fault::{Fault, Word};
+use rox_content::quick_root::{RootLook, root_element};
+use rox_grammar::fault::Fault;
+use rox_markup::source::start_of;
+use rox_prolog::misc::misc;
+use rox_prolog::prolog::{doctype, prolog_start};
+use rox_prolog::resolver::EntityResolver;
 use rox_rows::attributes::AttributeTable;
 use rox_rows::forecast::first_rows;
 use rox_rows::node_table::NodeTable;
 use rox_scan::cursor::Cursor;
-use rox_scan::source::start_of;
 use rox_values::context::Context;
 use rox_values::entities::Entities;
 use rox_values::parse_error::ParseError;
 use std::alloc::{AllocError, Global};
-
-/// Reads comments, processing instructions and white space.
-#[inline(always)]
-fn misc<'input>(cursor: &mut Cursor<'input>, builder: &mut Builder<'input>) -> Result<(), Failure>
-    requires fine { IsConsistent builder.old.tables builder.old.opened.items }
-    ensures { ScansAs (λ limit src s. lifted (whole.misc limit (length src) src s)) cursor.old
-        cursor.new builder.old builder.new result }
-{
-    for _turn in 0..cursor.text.len() {
-        cursor.spaces();
-        if cursor.starts(Word::CommentStart) {
-            comment(cursor, builder)?;
-        } else if cursor.starts(Word::PIStart) {
-            instruction(cursor, builder)?;
-        } else {
-            return Ok(());
-        }
-    }
-    Ok(())
-}
 
 /// Reads the start tag of the root element, from its `<`.
 #[inline(always)]
@@ -87,42 +65,6 @@ fn body<'input>(
     let context = Context::main_text(entities);
     root_start(cursor, builder, context)?;
     content(cursor, builder, context)?;
-    misc(cursor, builder)?;
-    Ok(true)
-}
-
-/// Reads the XML declaration, if it is at the cursor, and the comments, processing instructions and white space after it.
-fn prolog_start<'input>(
-    cursor: &mut Cursor<'input>,
-    builder: &mut Builder<'input>,
-) -> Result<(), Failure>
-    requires fine { IsConsistent builder.old.tables builder.old.opened.items }
-    ensures { ReadsStart cursor.old cursor.new builder.old builder.new result }
-{
-    cursor.xml_decl_if()?;
-    misc(cursor, builder)
-}
-
-/// Reads the document type declaration, if it is at the cursor, and the comments, processing instructions and white space after
-/// it. Returns whether it is there.
-fn doctype<'input, R: EntityResolver<'input>>(
-    cursor: &mut Cursor<'input>,
-    builder: &mut Builder<'input>,
-    entities: &mut Entities<'input>,
-    allow: bool,
-    resolver: &Option<R>,
-) -> Result<bool, ParseError<'input>>
-    requires { MayReadAsking R.can_resolve resolver.now builder.old }
-    ensures { ReadsDoctype (Allows R.allows resolver.now) allow cursor.old cursor.new builder.old
-        builder.new entities.old entities.new result }
-{
-    if !cursor.starts(Word::DoctypeStart) {
-        return Ok(false);
-    }
-    if !allow {
-        return Err(ParseError::Fault(Fault::DtdDetected));
-    }
-    document_type(cursor, builder, entities, resolver)?;
     misc(cursor, builder)?;
     Ok(true)
 }

@@ -1,6 +1,6 @@
 -- The text that may continue.
 use Rattle.std.specs.Prelude.{ℕ, List, []}
-use Rattle.rox_rows.specs.Storage.{storage_bytes}
+use Rattle.rox_storage.specs.Storage.{storage_bytes}
 use Rattle.rox_rows.specs.declared.row.NodeKind.{NodeKind}
 use Rattle.rox_rows.specs.declared.row.NodeKind.TheVariants as kind
 use Rattle.rox_builder.specs.declared.pending.Pending.{Pending}

@@ -20,7 +20,7 @@ use Rattle.rox_scopes.specs.TagScopes.{scope_in_tables}
 use Rattle.rox_builder.specs.Outcomes.{AddsNode, AddsText, OpensElement}
 use Rattle.rox_builder.specs.PendingText.{waiting}
 use Rattle.rox_builder.specs.Readiness.{IsApart, MayPutRow}
-use Rattle.rox_names.specs.SpelledNames.{SpellsName, wide_name}
+use Rattle.rox_names.specs.SpelledNames.{SpellsName, long_name}
 use Rattle.rox_builder.specs.declared.builder.Builder.{Builder}
 use Rattle.rox_builder.specs.declared.builder.FirstTables.{FirstTables}
 use Rattle.rox_builder.specs.declared.pending.Pending.TheVariants as pending
@@ -109,7 +109,7 @@ pub record MayPutOpen (b : Builder) (above : ℕ) (text : List ℕ) (i : ℕ) (t
   pub row : MayPutRow b above i
   pub depth : vec_len b.opened < vec_capacity b.opened
   pub named : SpellsName text tag
-  pub narrow : tag.name_end - tag.name_start < wide_name
+  pub narrow : tag.name_end - tag.name_start < long_name
 
 -- The element is open.
 pub record PutsOpen (old new : Builder) (text : List ℕ) (i : ℕ) (tag : StartTag) : Type 0 where

@@ -11,17 +11,17 @@ ghost use Rattle.rox_builder.specs.PendingText.{waiting, written};
 use crate::pending::{JoinedText, Pending};
 use rox_grammar::failure::Failure;
 use rox_grammar::fault::Fault;
-use rox_names::open_element::{OpenElement, WIDE_NAME};
+use rox_names::open_element::{LONG_NAME, OpenElement};
 use rox_names::seen_names::SeenNames;
 use rox_names::start_tag::{Buffers, StartTag};
 use rox_rows::attributes::AttributeTable;
 use rox_rows::growth::push_with_room;
 use rox_rows::node_table::NodeTable;
-use rox_rows::recent_texts::Recent;
 use rox_rows::row::{NodeData, NodeKind, PI};
 use rox_scopes::bindings::PrefixBindings;
 use rox_scopes::namespace_table::NamespaceTable;
 use rox_scopes::tables::{ElementTables, Scope, Stretch};
+use rox_storage::recent_texts::Recent;
 use rox_values::context::MOST_WITHIN;
 use std::alloc::{AllocError, Global};
 use std::collections::BTreeSet;
@@ -93,10 +93,10 @@ fn kept_name<'input>(text: &'input str, tag: &StartTag<'input>) -> (u32, &'input
     ensures { KeepsName text.entry.now tag.entry.now result.0 result.1.now }
 {
     let count = tag.name_end - tag.name_start;
-    if count < WIDE_NAME as usize {
+    if count < LONG_NAME as usize {
         return (count as u32, from_place(text, tag.name_start));
     }
-    (WIDE_NAME, &text.as_bytes()[tag.name_start..tag.name_end])
+    (LONG_NAME, &text.as_bytes()[tag.name_start..tag.name_end])
 }
 
 impl<'input> Builder<'input> {

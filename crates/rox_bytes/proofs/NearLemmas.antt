@@ -15,7 +15,7 @@ use Rattle.rox_grammar.proofs.AtPlace.{run_at_end, space_ascii}
 use Rattle.rox_reading.specs.Lexical.{chars_up_to}
 use Rattle.rox_reading.specs.Markup.{raw_value_at}
 use Rattle.rox_reading.specs.Values.{is_special}
-use Rattle.rox_bytes.specs.ByteSets.{is_char_byte, AllPass, is_value_byte, is_wide_value_byte, is_quoted_byte, is_text_byte, is_comment_byte, is_ascii_comment_byte, is_part_byte, is_run_byte, is_stretch_byte}
+use Rattle.rox_bytes.specs.ByteSets.{is_char_byte, AllPass, is_value_byte, is_any_value_byte, is_quoted_byte, is_text_byte, is_comment_byte, is_ascii_comment_byte, is_part_byte, is_run_byte, is_stretch_byte}
 use Rattle.rox_bytes.proofs.RunLemmas.{begins_ascii, run_on_ascii, run_stops_ascii, space_on, space_stops}
 use Rattle.rox_bytes.proofs.PlainLemmas.{plain_run}
 use Rattle.rox_bytes.proofs.EasedLemmas.{cut_before}
@@ -32,20 +32,20 @@ pub comment_is_plain : (b : ℕ) → is_comment_byte b ≡ true → is_char_byte
 unfolding is_comment_byte
 comment_is_plain b h = grind (arith, nat_tests)
 
-pub value_widens : (b : ℕ) → is_value_byte b ≡ true → is_wide_value_byte b ≡ true
-unfolding is_wide_value_byte
+pub value_widens : (b : ℕ) → is_value_byte b ≡ true → is_any_value_byte b ≡ true
+unfolding is_any_value_byte
 value_widens b h = rw h refl
 
-pub wide_value_is_plain : (b : ℕ) → is_wide_value_byte b ≡ true → is_char_byte b ≡ true
-unfolding is_wide_value_byte is_value_byte
-wide_value_is_plain b h = grind (arith, nat_tests)
+pub any_value_is_plain : (b : ℕ) → is_any_value_byte b ≡ true → is_char_byte b ≡ true
+unfolding is_any_value_byte is_value_byte
+any_value_is_plain b h = grind (arith, nat_tests)
 
 value_ascii : (b : ℕ) → is_value_byte b ≡ true → b < 128
 unfolding is_value_byte
 value_ascii b h = grind (arith, nat_tests)
 
 pub quoted_is_plain : (b : ℕ) → is_quoted_byte b ≡ true → is_char_byte b ≡ true
-unfolding is_quoted_byte is_wide_value_byte is_value_byte
+unfolding is_quoted_byte is_any_value_byte is_value_byte
 quoted_is_plain b h = grind (arith, nat_tests)
 
 pub ascii_comment_widens : (b : ℕ) → is_ascii_comment_byte b ≡ true → is_comment_byte b ≡ true
@@ -61,12 +61,12 @@ unfolding is_part_byte
 part_ascii b h = grind (arith, nat_tests)
 
 -- a byte past ASCII that is not in the set begins a character
-wide_value_leads : (b : ℕ) → is_wide_value_byte b ≡ false → 128 ≤ b → 192 ≤ b
-unfolding is_wide_value_byte is_value_byte
-wide_value_leads b h wide = grind (arith, nat_tests)
+any_value_leads : (b : ℕ) → is_any_value_byte b ≡ false → 128 ≤ b → 192 ≤ b
+unfolding is_any_value_byte is_value_byte
+any_value_leads b h wide = grind (arith, nat_tests)
 
 quoted_leads : (b : ℕ) → is_quoted_byte b ≡ false → 128 ≤ b → 192 ≤ b
-unfolding is_quoted_byte is_wide_value_byte is_value_byte
+unfolding is_quoted_byte is_any_value_byte is_value_byte
 quoted_leads b h wide = grind (arith, nat_tests)
 
 text_leads : (b : ℕ) → is_text_byte b ≡ false → 128 ≤ b → 192 ≤ b
@@ -81,8 +81,8 @@ char_leads : (b : ℕ) → is_char_byte b ≡ false → 128 ≤ b → 192 ≤ b
 char_leads b h wide = grind (arith, nat_tests)
 
 -- so the first such byte is where one ends
-pub wide_value_cut : (src : List ℕ) (e : ℕ) → e ≤ length src → (e < length src → is_wide_value_byte (get_or src e 0) ≡ false) → IsCharBoundary src e
-wide_value_cut src e within stops = (within, λ more wide. wide_value_leads _ (stops more) wide)
+pub any_value_cut : (src : List ℕ) (e : ℕ) → e ≤ length src → (e < length src → is_any_value_byte (get_or src e 0) ≡ false) → IsCharBoundary src e
+any_value_cut src e within stops = (within, λ more wide. any_value_leads _ (stops more) wide)
 
 pub quoted_cut : (src : List ℕ) (e : ℕ) → e ≤ length src → (e < length src → is_quoted_byte (get_or src e 0) ≡ false) → IsCharBoundary src e
 quoted_cut src e within stops = (within, λ more wide. quoted_leads _ (stops more) wide)

@@ -7,28 +7,28 @@ use Rattle.rox_grammar.specs.FixedTexts.{word_text}
 use Rattle.std.specs.List.{list_all}
 
 -- The byte `b` with its highest bit flipped: bytes past ASCII are less than controls then.
-abbrev pub wide_first : ℕ → ℕ
-wide_first b = bit_xor b 128
+abbrev pub non_ascii_first : ℕ → ℕ
+non_ascii_first b = bit_xor b 128
 
 -- The byte `b` starts only Chars, or continues a character.
 abbrev pub is_char_byte : ℕ → Bool
 is_char_byte b = ((nat_le 32 b && not (b == 239)) || b == 9) || (b == 10 || b == 13)
 
 -- The byte `b` is past ASCII, and not 239.
-abbrev pub is_wide : ℕ → Bool
-is_wide b = nat_le 128 b && not (b == 239)
+abbrev pub is_non_ascii_char_byte : ℕ → Bool
+is_non_ascii_char_byte b = nat_le 128 b && not (b == 239)
 
 -- The byte `b` is ASCII, and not a control, a quote, `&` or `<`.
 unfoldable pub is_value_byte : ℕ → Bool
 is_value_byte b = (nat_le 32 b && nat_lt b 128) && not ((b == 34 || b == 39) || (b == 38 || b == 60))
 
 -- The byte `b` is a value byte, or past ASCII and not 239.
-unfoldable pub is_wide_value_byte : ℕ → Bool
-is_wide_value_byte b = is_value_byte b || is_wide b
+unfoldable pub is_any_value_byte : ℕ → Bool
+is_any_value_byte b = is_value_byte b || is_non_ascii_char_byte b
 
--- The byte `b` is a wide value byte, or `'`.
+-- The byte `b` is of `AnyValueByte`, or `'`.
 unfoldable pub is_quoted_byte : ℕ → Bool
-is_quoted_byte b = is_wide_value_byte b || b == 39
+is_quoted_byte b = is_any_value_byte b || b == 39
 
 -- The byte `b` is neither `&` nor white space other than the space.
 unfoldable pub is_stretch_byte : ℕ → Bool

@@ -52,7 +52,7 @@ pub record TellsAscii (text : List ℕ) (at : ℕ) (result : Bool) : Type 0 wher
   pub wide : result ≡ false → (at < length text) × (128 ≤ slice_index text at)
 
 -- A character that starts with 239 is at `at`.
-pub record HasWideAt (text : List ℕ) (at : ℕ) : Type 0 where
+pub record Has239At (text : List ℕ) (at : ℕ) : Type 0 where
   pub char : HasCharAt text at
   pub here : slice_index text at ≡ 239
 

@@ -1,4 +1,4 @@
-//! Runs of plain bytes, sixteen at a time: the fast path of names, values, character data and comments.
+//! Runs of plain bytes, sixteen at a time: the first look at names, values, character data and comments.
 
 ghost use Rattle.std.specs.Prelude.{IfSome, ◌≡◌, ◌+◌, ◌<◌, ◌≤◌, ℕ, Bool, true, false, not, map, take, drop, length, slice_index};
 ghost use Rattle.std.specs.Str.{IsCharBoundary};
@@ -31,8 +31,8 @@ pub trait ByteSet {
 
 /// Returns whether a byte is past ASCII and not 239, which starts the two characters past ASCII that are not Chars.
 #[inline(always)]
-fn is_wide(byte: u8) -> bool
-    ensures { result ≡ near.is_wide byte }
+fn is_non_ascii_char_byte(byte: u8) -> bool
+    ensures { result ≡ near.is_non_ascii_char_byte byte }
 {
     (byte >= 128) & (byte != 239)
 }
@@ -40,8 +40,8 @@ fn is_wide(byte: u8) -> bool
 /// Returns the bytes with their highest bit flipped, so that those past ASCII come first. One comparison with `BEHIND_CONTROLS`
 /// then finds these and controls: for a processor, it is one of signed bytes.
 #[inline(always)]
-pub fn wide_first(block: u8x16) -> u8x16
-    ensures { result ≡ map near.wide_first block }
+pub fn non_ascii_first(block: u8x16) -> u8x16
+    ensures { result ≡ map near.non_ascii_first block }
 {
     block ^ u8x16::splat(128)
 }
@@ -77,21 +77,21 @@ impl ByteSet for ValueByte {
     #[inline(always)]
     fn others(block: u8x16) -> u64 {
         let ends = by_low(VALUE_ENDS, block).simd_eq(block);
-        let controls_and_wide = wide_first(block).simd_lt(u8x16::splat(BEHIND_CONTROLS));
-        (controls_and_wide | ends).to_bitmask()
+        let controls_and_non_ascii = non_ascii_first(block).simd_lt(u8x16::splat(BEHIND_CONTROLS));
+        (controls_and_non_ascii | ends).to_bitmask()
     }
 }
 
 /// The bytes of `ValueByte`, and those past ASCII except 239, which starts the two characters past ASCII that are not Chars.
-pub struct WideValueByte;
+pub struct AnyValueByte;
 
-impl ByteSet for WideValueByte {
-    ghost test = { near.is_wide_value_byte };
+impl ByteSet for AnyValueByte {
+    ghost test = { near.is_any_value_byte };
 
     #[inline(always)]
-    #[tactic(auto, unfolding(crate::specs::ByteSets::is_wide_value_byte))]
+    #[tactic(auto, unfolding(crate::specs::ByteSets::is_any_value_byte))]
     fn has(byte: u8) -> bool {
-        ValueByte::has(byte) | is_wide(byte)
+        ValueByte::has(byte) | is_non_ascii_char_byte(byte)
     }
 
     #[inline(always)]
@@ -102,7 +102,7 @@ impl ByteSet for WideValueByte {
     }
 }
 
-/// The bytes of `WideValueByte`, and `'`: those of a value in double quotes that need no replacement and do not end it.
+/// The bytes of `AnyValueByte`, and `'`: those of a value in double quotes that need no replacement and do not end it.
 pub struct QuotedByte;
 
 // The bytes that end a run of them, besides controls and 239, each at its low half.
@@ -114,7 +114,7 @@ impl ByteSet for QuotedByte {
     #[inline(always)]
     #[tactic(auto, unfolding(crate::specs::ByteSets::is_quoted_byte))]
     fn has(byte: u8) -> bool {
-        WideValueByte::has(byte) | (byte == b'\'')
+        AnyValueByte::has(byte) | (byte == b'\'')
     }
 
     #[inline(always)]
@@ -174,8 +174,8 @@ impl ByteSet for AsciiCommentByte {
     #[inline(always)]
     fn others(block: u8x16) -> u64 {
         let exceptions = by_low(COMMENT_EXCEPTIONS, block).simd_eq(block);
-        let controls_and_wide = wide_first(block).simd_lt(u8x16::splat(BEHIND_CONTROLS));
-        (controls_and_wide ^ exceptions).to_bitmask()
+        let controls_and_non_ascii = non_ascii_first(block).simd_lt(u8x16::splat(BEHIND_CONTROLS));
+        (controls_and_non_ascii ^ exceptions).to_bitmask()
     }
 }
 
@@ -278,9 +278,9 @@ fn short_end<C: ByteSet>(bytes: &[u8], at: usize) -> usize
     end
 }
 
-/// Like `short_end`, but sixteen bytes at a time.
+/// Like `short_end`, but sixteen bytes at a time, for what is beyond the first sixteen.
 #[inline(never)]
-fn far_end<C: ByteSet>(bytes: &[u8], at: usize) -> usize
+fn bytes_end_beyond<C: ByteSet>(bytes: &[u8], at: usize) -> usize
     requires { at ≤ length bytes.now }
     ensures { EndsSet C.test bytes.now at result }
 {
@@ -309,7 +309,7 @@ fn eased_at(bytes: &[u8], at: usize) -> u8x16
     leads.select(u8x16::splat(255), block)
 }
 
-/// Like `far_end`, but each 239 that 191 does not follow is passed too. A 239 among the last bytes is not.
+/// Like `bytes_end_beyond`, but each 239 that 191 does not follow is passed too. A 239 among the last bytes is not.
 #[inline(never)]
 fn eased_end<C: ByteSet>(bytes: &[u8], at: usize) -> usize
     requires { at ≤ length bytes.now }
@@ -340,7 +340,7 @@ fn bytes_end<C: ByteSet>(bytes: &[u8], at: usize) -> usize
     if others != 0 {
         return at + before_first(others);
     }
-    far_end::<C>(bytes, at + 16)
+    bytes_end_beyond::<C>(bytes, at + 16)
 }
 
 /// Returns the offset `at`, if a byte is there.
@@ -368,7 +368,7 @@ fn other_in<C: ByteSet>(bytes: &[u8], at: usize) -> Option<usize>
     if others != 0 {
         return Some(at + before_first(others));
     }
-    let end = far_end::<C>(bytes, at + 16);
+    let end = bytes_end_beyond::<C>(bytes, at + 16);
     some_byte(bytes, end)
 }
 
@@ -417,12 +417,12 @@ pub fn part_end(text: &str, at: usize) -> usize
     ensures { Finds text.now at result (run_end spec.is_part_char text.now at) }
 {
     let near = skip_set::<PartByte>(text, at);
-    near_part_end(text, at, near)
+    part_end_beyond(text, at, near)
 }
 
-/// Like `part_end`, but the first ASCII bytes of the part are known to end at `near`.
+/// Like `part_end`, beyond the first ASCII bytes of the part, which are known to end at `near`.
 #[inline(always)]
-pub fn near_part_end(text: &str, at: usize, near: usize) -> usize
+pub fn part_end_beyond(text: &str, at: usize, near: usize) -> usize
     requires { EndsNear text.now at near }
     ensures { Finds text.now at result (run_end spec.is_part_char text.now at) }
 {

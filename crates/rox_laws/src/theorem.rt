@@ -16,7 +16,7 @@ ghost use Rattle.rox_grammar.specs.Spans.{NamesText};
 ghost use Rattle.rox_grammar.specs.Exchange.{HasTree};
 ghost use Rattle.rox_theory.specs.Answers.{SameAnswers, AreShort};
 ghost use Rattle.rox_theory.specs.Pieces.{pieces_of, OnlySectionsAreEmpty};
-ghost use Rattle.rox_build.specs.Requests.{Allows, AreAllowed};
+ghost use Rattle.rox_prolog.specs.Requests.{Allows, AreAllowed};
 ghost use Rattle.roxmltree.specs.EachNode.{EachNode};
 ghost use Rattle.rox_error.specs.FaultErrors.{IsErrorOf};
 ghost use Rattle.rox_error.specs.declared.error.Error.{Error};
@@ -30,7 +30,7 @@ ghost use Rattle.roxmltree.specs.NodeParts.{node_at, start_of, end_of, attribute
 ghost use Rattle.roxmltree.specs.ExpandedNames.{IsNamedAt};
 ghost use Rattle.rox_laws.specs.NearestDeclaration.{upwards, NoneDeclares, IsNearest, IsElementAt, xml, listed_uri};
 
-use rox_build::resolver::EntityResolver;
+use rox_prolog::resolver::EntityResolver;
 use roxmltree::Document;
 use roxmltree::laws::document_is_whole;
 

@@ -5,7 +5,7 @@ use Rattle.std.proofs.lemmas.List.{length-map, take_more, take_all, take-map, dr
 use Rattle.rox_grammar.specs.Tree as tree
 use Rattle.rox_rows.specs.Rows.{AttributeRow, NamespaceWithin, attribute, attribute_rows}
 use Rattle.rox_scopes.specs.NamespaceViews.{namespace_view}
-use Rattle.rox_rows.specs.StoredAttributes.{AreNumbered, data_of, row_in, place_bound, unusual_count}
+use Rattle.rox_rows.specs.StoredAttributes.{AreNumbered, data_of, row_in, place_bound, explicit_count}
 use Rattle.rox_rows.specs.declared.row.AttributePlaces.{AttributePlaces}
 use Rattle.rox_scopes.specs.declared.tables.Tables.{Tables}
 use Rattle.rox_rows.specs.declared.stored_attribute.StoredAttribute.{StoredAttribute}
@@ -14,20 +14,20 @@ use Rattle.rox_lists.specs.NamespaceBound.{namespace_bound}
 use Rattle.rox_lists.proofs.Entries.{reach_within}
 
 -- a stretch of what the rows are is that of what is stored
-pub stretch_rows : (t : AttributeTable) (i j : ℕ) → map (row_in t.unusual.items) (slice_range t.items.items i j) ≡ slice_range (attribute_rows t) i j
+pub stretch_rows : (t : AttributeTable) (i j : ℕ) → map (row_in t.explicit.items) (slice_range t.items.items i j) ≡ slice_range (attribute_rows t) i j
 stretch_rows t i j =
-    sym (ap (take (j - i)) (drop-map (row_in t.unusual.items) i t.items.items) ∙ take-map (row_in t.unusual.items) (j - i) (drop i t.items.items))
+    sym (ap (take (j - i)) (drop-map (row_in t.explicit.items) i t.items.items) ∙ take-map (row_in t.explicit.items) (j - i) (drop i t.items.items))
 
 -- ---- what rows say
 
 abbrev said : Tables → StoredAttribute → tree.Attribute
-said t x = attribute (map namespace_view t.namespaces.items) (row_in t.attributes.unusual.items x)
+said t x = attribute (map namespace_view t.namespaces.items) (row_in t.attributes.explicit.items x)
 
 abbrev all_said : Tables → List StoredAttribute → List tree.Attribute
-all_said t xs = map (attribute (map namespace_view t.namespaces.items)) (map (row_in t.attributes.unusual.items) xs)
+all_said t xs = map (attribute (map namespace_view t.namespaces.items)) (map (row_in t.attributes.explicit.items) xs)
 
 pub length_said : (t : Tables) (xs : List StoredAttribute) → length (all_said t xs) ≡ length xs
-length_said t xs = length-map (map (row_in t.attributes.unusual.items) xs) (attribute (map namespace_view t.namespaces.items)) ∙ length-map xs (row_in t.attributes.unusual.items)
+length_said t xs = length-map (map (row_in t.attributes.explicit.items) xs) (attribute (map namespace_view t.namespaces.items)) ∙ length-map xs (row_in t.attributes.explicit.items)
 
 -- the first, and the rest
 pub first_said : (t : Tables) (xs : List StoredAttribute) (x : StoredAttribute) → (length xs ≡ 0 → ⊥) → x ≡ get_or xs 0 x → all_said t xs ≡ said t x ∷ all_said t (slice_range xs 1 (length xs))
@@ -41,7 +41,7 @@ pub last_said : (t : Tables) (xs : List StoredAttribute) (x : StoredAttribute) �
     → all_said t xs ≡ all_said t (take (length xs - 1) xs) ++ said t x ∷ []
 last_said t xs x some is =
     let front = take (length xs - 1) xs in
-    let row = row_in t.attributes.unusual.items in
+    let row = row_in t.attributes.explicit.items in
     let e : xs ≡ front ++ x ∷ [] =
     sym (take_all (length xs - 1 + 1) xs (omega arith)) ∙ take_more xs (length xs - 1) x (omega (arith, some)) ∙ ap (λ (z : StoredAttribute). front ++ z ∷ []) (sym is) in
     ap (all_said t) e ∙ ap (map (attribute (map namespace_view t.namespaces.items))) (map-append row front (x ∷ []))
@@ -61,8 +61,8 @@ pub all_reach : (n : ℕ) (us : List AttributePlaces) (xs : List StoredAttribute
 all_reach n us [] h = tt
 all_reach n us (x ∷ xs) h = (reach_within n (data_of x).namespace h.0, all_reach n us xs h.1)
 
--- and its unusual places are in the table
-all_numbered : (m n : ℕ) (xs : List StoredAttribute) → AreNumbered n xs → unusual_count xs + n ≤ m → AllByRecursion (λ (r : StoredAttribute). place_bound r ≤ m) xs
+-- and its explicit places are in the table
+all_numbered : (m n : ℕ) (xs : List StoredAttribute) → AreNumbered n xs → explicit_count xs + n ≤ m → AllByRecursion (λ (r : StoredAttribute). place_bound r ≤ m) xs
 all_numbered m n [] h w = tt
 all_numbered m n (x ∷ xs) h w =
     let one : ℕ = if x.before == 255 then 1 else 0 in
@@ -72,5 +72,5 @@ all_numbered m n (x ∷ xs) h w =
     first true p is le = let e = is refl in omega (arith, e, le)
     first false p is le = omega arith
 
-pub all_placed : (t : AttributeTable) → AllByRecursion (λ (r : StoredAttribute). place_bound r ≤ length t.unusual.items) t.items.items
-all_placed t = all_numbered (length t.unusual.items) 0 t.items.items t.numbered (omega (arith, t.counted))
+pub all_placed : (t : AttributeTable) → AllByRecursion (λ (r : StoredAttribute). place_bound r ≤ length t.explicit.items) t.items.items
+all_placed t = all_numbered (length t.explicit.items) 0 t.items.items t.numbered (omega (arith, t.counted))

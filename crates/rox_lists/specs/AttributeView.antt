@@ -8,4 +8,4 @@ use Rattle.rox_lists.specs.declared.attributes.Attribute.{Attribute}
 
 -- The attribute of the tree that an `Attribute` is.
 abbrev pub attribute_of : Attribute → tree.Attribute
-attribute_of a = attribute (map namespace_view a.tables.now.namespaces.items) (row_in a.tables.now.attributes.unusual.items a.row.now)
+attribute_of a = attribute (map namespace_view a.tables.now.namespaces.items) (row_in a.tables.now.attributes.explicit.items a.row.now)

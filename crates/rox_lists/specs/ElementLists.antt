@@ -24,12 +24,12 @@ namespace_decls_code = coded_list namespace_decl_code
 
 -- The attributes that are left.
 abbrev pub attributes_left : attributes.Inside → List tree.Attribute
-attributes_left a = map (attribute (map namespace_view a.tables.now.namespaces.items)) (map (row_in a.tables.now.attributes.unusual.items) a.rest.now)
+attributes_left a = map (attribute (map namespace_view a.tables.now.namespaces.items)) (map (row_in a.tables.now.attributes.explicit.items) a.rest.now)
 
--- Each row that is left names only a namespace and unusual offsets that the tables have.
+-- Each row that is left names only a namespace and explicit offsets that the tables have.
 pub record AttributesWithin (a : attributes.Inside) : Type 0 where
   pub within : AllByRecursion (λ r. namespace_bound (data_of r).namespace ≤ length a.tables.now.namespaces.items) a.rest.now
-  pub placed : AllByRecursion (λ r. place_bound r ≤ length a.tables.now.attributes.unusual.items) a.rest.now
+  pub placed : AllByRecursion (λ r. place_bound r ≤ length a.tables.now.attributes.explicit.items) a.rest.now
 
 -- The rows from `start` up to `stop` are in the table of attributes, and each row names only a namespace that the tables have.
 pub record IsAttributeStretch (tables : Tables) (start stop : ℕ) : Type 0 where

@@ -9,9 +9,9 @@ ghost use Rattle.rox_lists.specs.NamespaceBound.{namespace_bound};
 use crate::debug::write_list;
 use crate::names::{ExpandedName, NS_XML_URI, equal_names, name_of_parts};
 use rox_rows::row::AttributeNamespace;
-use rox_rows::storage::StringStorage;
 use rox_rows::stored_attribute::{NamespaceKind, StoredAttribute};
 use rox_scopes::tables::Tables;
+use rox_storage::storage::StringStorage;
 use std::alloc::AllocError;
 use std::fmt;
 use std::marker::Model;
@@ -32,7 +32,7 @@ pub struct Attribute<'a, 'input> {
     row: &'a StoredAttribute<'input>,
     tables: &'a Tables<'input>,
     ghost within: { namespace_bound (data_of row.now).namespace ≤ length tables.now.namespaces.items },
-    ghost placed: { place_bound row.now ≤ length tables.now.attributes.unusual.items },
+    ghost placed: { place_bound row.now ≤ length tables.now.attributes.explicit.items },
 }
 
 impl<'a, 'input> Attribute<'a, 'input> {

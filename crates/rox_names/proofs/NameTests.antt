@@ -16,11 +16,11 @@ use Rattle.rox_rows.specs.Rows.{attribute, namespace_at, attribute_uri, Attribut
 use Rattle.rox_grammar.specs.Failures.{name_view}
 use Rattle.rox_scopes.specs.Bindings.{FindsBinding}
 use Rattle.rox_names.specs.TagDeclarations.{unresolved_view}
-use Rattle.rox_names.specs.ResolvedNames.{AddsResolved, has_expanded, row_of_unresolved, row_of_usual}
+use Rattle.rox_names.specs.ResolvedNames.{AddsResolved, has_expanded, row_of_unresolved, row_of_compact}
 use Rattle.rox_rows.specs.declared.row.AttributeData.{AttributeData}
 use Rattle.rox_scopes.specs.declared.bindings.PrefixBindings.{PrefixBindings}
 use Rattle.rox_names.specs.declared.unresolved_attribute.UnresolvedAttribute.{UnresolvedAttribute}
-use Rattle.rox_names.specs.declared.unresolved_attribute.UsualAttribute.{UsualAttribute}
+use Rattle.rox_names.specs.declared.unresolved_attribute.CompactAttribute.{CompactAttribute}
 use Rattle.rox_scopes.proofs.Pairs.{declared_some, declared_none}
 
 -- a text of no bytes is the empty one
@@ -124,12 +124,12 @@ adds_row namespaces few present from old new one s grown within there known firs
       tested_on scope before (unresolved_view one) rest (known scope h) none;
 }
 
--- the same of one that is usual
-pub adds_usual : (namespaces : List NamespaceDecl) (few : Option (List ℕ)) (present : PrefixBindings) (from : ℕ) (old new : List AttributeRow) (one : UnresolvedAttribute) (usual : UsualAttribute) (s : AttributeNamespace)
-    → row_of_unresolved one s ≡ row_of_usual usual s → new ≡ old ++ row_of_usual usual s ∷ [] → NamespaceWithin (length namespaces) s
+-- the same of one that is compact
+pub adds_compact : (namespaces : List NamespaceDecl) (few : Option (List ℕ)) (present : PrefixBindings) (from : ℕ) (old new : List AttributeRow) (one : UnresolvedAttribute) (compact : CompactAttribute) (s : AttributeNamespace)
+    → row_of_unresolved one s ≡ row_of_compact compact s → new ≡ old ++ row_of_compact compact s ∷ [] → NamespaceWithin (length namespaces) s
     → ((scope : List NamespaceDecl) → FindsBinding namespaces few present scope → attribute_uri namespaces s ≡ attribute_namespace scope (name_view one.name))
     → ((scope : List NamespaceDecl) → FindsBinding namespaces few present scope → is_known scope (name_view one.name) ≡ true)
     → list_any (λ (r : AttributeRow). has_expanded namespaces s one.name.local.now r.0) (drop from old) ≡ false
     → AddsResolved namespaces few present from old new one
-adds_usual namespaces few present from old new one usual s row grown within there known first =
+adds_compact namespaces few present from old new one compact s row grown within there known first =
     adds_row namespaces few present from old new one s (grown ∙ ap (λ (r : AttributeRow). old ++ r ∷ []) (sym row)) within there known first

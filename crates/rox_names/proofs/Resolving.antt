@@ -14,7 +14,7 @@ use Rattle.rox_names.specs.declared.unresolved_attribute.UnresolvedAttribute.{Un
 use Rattle.rox_grammar.specs.Failures.{name_view, Fails}
 use Rattle.rox_grammar.specs.declared.failure.Failure.{Failure}
 use Rattle.rox_grammar.specs.declared.failure.Failure.TheVariants as failure
-use Rattle.rox_rows.specs.Storage.{storage_bytes, is_borrowed}
+use Rattle.rox_storage.specs.Storage.{storage_bytes, is_borrowed}
 use Rattle.rox_rows.specs.Rows.{attribute, attribute_uri, NamespaceWithin, AttributeRow}
 use Rattle.rox_names.specs.TagDeclarations.{unresolved_view}
 use Rattle.rox_names.specs.ResolvedNames.{row_of_unresolved}

@@ -129,7 +129,7 @@ pub three_seen : (seen : SeenNames) (t : AttributeTable) (x y z : StoredAttribut
     → HasNameOf seen.codes (data_of x) → HasNameOf seen.codes (data_of y) → HasNameOf seen.codes (data_of z) → HaveCodes seen (attribute_rows t)
 three_seen seen t x y z count first second third a b c =
     let items = last_three t.items.items seen.from x y z count first second third in
-    let row = row_in t.unusual.items in
+    let row = row_in t.explicit.items in
     let rows : drop seen.from (attribute_rows t) ≡ row x ∷ row y ∷ row z ∷ [] = drop-map row seen.from t.items.items ∙ ap (map row) items in
     subst (AllByRecursion (λ (a : AttributeRow). HasNameOf seen.codes a.0)) (sym rows) (a, (b, (c, tt)))
 
@@ -139,7 +139,7 @@ pub four_seen : (seen : SeenNames) (t : AttributeTable) (x y z w : StoredAttribu
     → HasNameOf seen.codes (data_of x) → HasNameOf seen.codes (data_of y) → HasNameOf seen.codes (data_of z) → HasNameOf seen.codes (data_of w) → HaveCodes seen (attribute_rows t)
 four_seen seen t x y z w count first second third fourth a b c d =
     let items = last_four t.items.items seen.from x y z w count first second third fourth in
-    let row = row_in t.unusual.items in
+    let row = row_in t.explicit.items in
     let rows : drop seen.from (attribute_rows t) ≡ row x ∷ row y ∷ row z ∷ row w ∷ [] = drop-map row seen.from t.items.items ∙ ap (map row) items in
     subst (AllByRecursion (λ (a : AttributeRow). HasNameOf seen.codes a.0)) (sym rows) (a, (b, (c, (d, tt))))
 

@@ -18,7 +18,7 @@ use Rattle.rox_theory.proofs.Basics.{run_end_le}
 use Rattle.rox_theory.proofs.CharLemmas.{run_within}
 use Rattle.rox_theory.proofs.NameLemmas.{qname_le, qname_sound}
 use Rattle.rox_names.specs.OpenElements.{HasName, open_name}
-use Rattle.rox_names.specs.SpelledNames.{before_colon, kept_length, KeepsName, spelled_name, SpellsName, wide_name}
+use Rattle.rox_names.specs.SpelledNames.{before_colon, kept_length, KeepsName, spelled_name, SpellsName, long_name}
 use Rattle.rox_names.specs.declared.open_element.OpenElement.{OpenElement}
 use Rattle.rox_names.specs.declared.start_tag.StartTag.{StartTag}
 use Rattle.rox_bytes.proofs.RunLemmas.{stands_within}
@@ -123,17 +123,17 @@ front_is_prefix xs prefix n within some colon same apart =
 -- the count that is kept is no more than the name has, and that is in the source
 pub kept_bounds : (n : ℕ) (xs : List ℕ) → n ≤ length xs → (n ≤ kept_length n xs) × (kept_length n xs ≤ length xs)
 kept_bounds n xs within =
-    elim (cases_Bool (nat_lt n wide_name)) [
+    elim (cases_Bool (nat_lt n long_name)) [
       | inl narrow ↦ rw narrow (omega arith, within)
-      | inr wide ↦ rw wide (within, omega arith)
+      | inr long ↦ rw long (within, omega arith)
     ]
 
--- it is all of it where the name is not wide
-pub kept_narrow : (n : ℕ) (xs : List ℕ) → n < wide_name → kept_length n xs ≡ n
-kept_narrow n xs narrow = rw (lt-ltb n wide_name narrow) refl
+-- it is all of it where the name is not long
+pub kept_narrow : (n : ℕ) (xs : List ℕ) → n < long_name → kept_length n xs ≡ n
+kept_narrow n xs narrow = rw (lt-ltb n long_name narrow) refl
 
 -- and then the name of a tag is kept with what stands behind it
-pub narrow_kept : (text : List ℕ) (tag : StartTag) (source : List ℕ) → SpellsName text tag → tag.name_end - tag.name_start < wide_name → source ≡ drop tag.name_start text
+pub narrow_kept : (text : List ℕ) (tag : StartTag) (source : List ℕ) → SpellsName text tag → tag.name_end - tag.name_start < long_name → source ≡ drop tag.name_start text
     → KeepsName text tag (tag.name_end - tag.name_start) source
 narrow_kept text tag source spells narrow rest =
     let n = tag.name_end - tag.name_start in

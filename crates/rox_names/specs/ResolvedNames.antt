@@ -15,9 +15,9 @@ use Rattle.rox_rows.specs.Rows.{AttributeRow, NamespaceWithin, attribute, attrib
 use Rattle.rox_scopes.specs.NamespaceViews.{namespace_view}
 use Rattle.rox_scopes.specs.declared.tables.Namespace.{Namespace}
 use Rattle.rox_names.specs.declared.unresolved_attribute.UnresolvedAttribute.{UnresolvedAttribute}
-use Rattle.rox_names.specs.declared.unresolved_attribute.UsualAttribute.{UsualAttribute}
-use Rattle.rox_rows.specs.declared.storage.StringStorage.TheVariants.{Borrowed}
-use Rattle.rox_rows.specs.UsualPlaces.{usual_places}
+use Rattle.rox_names.specs.declared.unresolved_attribute.CompactAttribute.{CompactAttribute}
+use Rattle.rox_storage.specs.declared.storage.StringStorage.TheVariants.{Borrowed}
+use Rattle.rox_rows.specs.CompactPlaces.{compact_places}
 use Rattle.rox_rows.specs.declared.row.AttributeNamespace.{AttributeNamespace}
 use Rattle.rox_rows.specs.declared.row.AttributeData.{AttributeData}
 
@@ -29,10 +29,10 @@ row_of_unresolved t s = (
 )
 
 -- The row of an attribute that is written as most are, with the namespace `s`.
-abbrev pub row_of_usual : UsualAttribute → AttributeNamespace → AttributeRow
-row_of_usual t s = (
+abbrev pub row_of_compact : CompactAttribute → AttributeNamespace → AttributeRow
+row_of_compact t s = (
   record { local = t.local; value = Borrowed t.value; namespace = s },
-  usual_places t.start t.before (length t.local.now) (length t.value.now),
+  compact_places t.start t.before (length t.local.now) (length t.value.now),
 )
 
 -- Whether an attribute's row has this expanded name: the URI of the namespace `s`, and the local name `local`.

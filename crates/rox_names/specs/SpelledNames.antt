@@ -30,12 +30,12 @@ pub record SpellsName (text : List ℕ) (tag : StartTag) : Type 0 where
   pub spells : spelled_name (slice_range text tag.name_start tag.name_end) ≡ name_view tag.name
 
 -- The count that is stored for a name of 2^32 - 1 bytes or more. Its source is then as long as the name.
-abbrev pub wide_name : ℕ
-wide_name = 4294967295
+abbrev pub long_name : ℕ
+long_name = 4294967295
 
 -- The length of a name in bytes, from its stored count and the source.
 abbrev pub kept_length : ℕ → List ℕ → ℕ
-kept_length count source = if nat_lt count wide_name then count else length source
+kept_length count source = if nat_lt count long_name then count else length source
 
 -- The name of a tag of this text is stored as `count` and `source`.
 pub record KeepsName (text : List ℕ) (tag : StartTag) (count : ℕ) (source : List ℕ) : Type 0 where

@@ -18,7 +18,7 @@ use Rattle.rox_scopes.specs.declared.tables.Namespace.{Namespace}
 use Rattle.rox_scopes.specs.Bindings.{AreBindingsOf}
 use Rattle.rox_scopes.specs.declared.bindings.PrefixBindings.{PrefixBindings}
 use Rattle.rox_scopes.specs.declared.tables.Scope.{Scope}
-use Rattle.rox_rows.specs.Storage.{storage_bytes, is_borrowed}
+use Rattle.rox_storage.specs.Storage.{storage_bytes, is_borrowed}
 use Rattle.rox_names.specs.declared.unresolved_attribute.UnresolvedAttribute.{UnresolvedAttribute}
 
 -- Whether `xml` is among the declared prefixes.

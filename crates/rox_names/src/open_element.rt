@@ -7,14 +7,14 @@ ghost use Rattle.rox_names.specs.SpelledNames.{bytes_view};
 
 use rox_bytes::search::before_byte;
 use rox_grammar::name::QName;
-use rox_rows::compare::same_stretch;
+use rox_storage::compare::same_stretch;
 
-/// The count of a wide name: a name of at least this many bytes.
-pub const WIDE_NAME: u32 = u32::MAX;
+/// The count of a long name: a name of at least this many bytes.
+pub const LONG_NAME: u32 = u32::MAX;
 
-/// An open element: its row, its scope, the length of its name in bytes or `WIDE_NAME`, and the number of its namespace. The row
+/// An open element: its row, its scope, the length of its name in bytes or `LONG_NAME`, and the number of its namespace. The row
 /// gives the offset of the name, and `prefixed` is whether it has a prefix. `source` begins with the bytes of the name; for a
-/// wide name it has no others. There may be many open elements, so this is small.
+/// long name it has no others. There may be many open elements, so this is small.
 #[derive(Clone, Copy)]
 pub struct OpenElement<'input> {
     pub row: u32,
@@ -50,7 +50,7 @@ pub fn name_bytes<'input>(element: &OpenElement<'input>) -> &'input [u8]
     requires { HasName element.now }
     ensures { result.now ≡ take (name_length element.entry.now) element.entry.now.source.now }
 {
-    if element.name_count < WIDE_NAME {
+    if element.name_count < LONG_NAME {
         return &element.source[..element.name_count as usize];
     }
     element.source

@@ -10,26 +10,26 @@ ghost use Rattle.rox_scopes.specs.NamespaceViews.{namespace_view};
 ghost use Rattle.rox_rows.specs.StoredAttributes.{data_of};
 ghost use Rattle.rox_scopes.specs.Scopes.{prefix_view};
 ghost use Rattle.rox_scopes.specs.Bindings.{FindsBinding, LooksWithin, places_view};
-ghost use Rattle.rox_names.specs.ResolvedNames.{row_of_unresolved, row_of_usual, has_expanded, Resolves};
+ghost use Rattle.rox_names.specs.ResolvedNames.{row_of_unresolved, row_of_compact, has_expanded, Resolves};
 ghost use Rattle.rox_names.specs.SeenNames.{TakesOneMore};
 ghost use Rattle.rox_names.specs.TagNames.{AreAmong, FindsElement, FindsNamespace, MayLookUp, MayRefuse, MayTest, PutsNew, TellsRefused, TestsKey, TestsName};
 
 use crate::expanded_names::is_repeated_name;
 use crate::namespace_decl::{local_span, prefix_span};
 use crate::seen_names::SeenNames;
-use crate::unresolved_attribute::{UnresolvedAttribute, UsualAttribute};
+use crate::unresolved_attribute::{CompactAttribute, UnresolvedAttribute};
 use rox_grammar::failure::Failure;
 use rox_grammar::fault::Fault;
 use rox_grammar::name::QName;
 use rox_rows::attributes::AttributeTable;
-use rox_rows::compare::same_text;
 use rox_rows::row::{AttributeData, AttributeNamespace, AttributePlaces};
-use rox_rows::storage::StringStorage;
 use rox_rows::stored_attribute::StoredAttribute;
 use rox_scopes::bindings::PrefixBindings;
 use rox_scopes::namespace_table::NamespaceTable;
 use rox_scopes::scope::{XML_URI, find_default, find_prefix, same_prefix};
 use rox_scopes::tables::Namespace;
+use rox_storage::compare::same_text;
+use rox_storage::storage::StringStorage;
 use std::alloc::Global;
 use std::collections::BTreeSet;
 
@@ -214,21 +214,21 @@ fn is_refused(
     is_among(namespaces.as_slice(), others, namespace, local)
 }
 
-/// Appends a usual attribute with this namespace. The attributes before it in its tag are recorded in `seen`. Returns false, with
-/// the table unchanged, if its expanded name repeats. Also returns false if many codes repeat, or there is no room.
+/// Appends a compact attribute with this namespace. The attributes before it in its tag are recorded in `seen`. Returns false,
+/// with the table unchanged, if its expanded name repeats. Also returns false if many codes repeat, or there is no room.
 #[inline(always)]
-pub fn put_usual_attribute<'input>(
+pub fn put_compact_attribute<'input>(
     namespaces: &NamespaceTable<'input>,
     attributes: &mut AttributeTable<'input>,
     seen: &mut SeenNames,
     namespace: AttributeNamespace,
-    one: UsualAttribute<'input>,
+    one: CompactAttribute<'input>,
 ) -> bool
     requires { TakesOneMore (length namespaces.now.items.items) seen.old
         (attribute_rows attributes.old) namespace }
     ensures { PutsNew (map namespace_view namespaces.now.items.items) seen.old seen.new
         (attribute_rows attributes.old) (attribute_rows attributes.new)
-        (row_of_usual one.entry namespace) result }
+        (row_of_compact one.entry namespace) result }
 {
     let repeats = seen.may_have(attributes, one.local);
     if repeats && is_refused(namespaces, attributes, seen, namespace, one.local) {
@@ -243,10 +243,10 @@ pub fn put_usual_attribute<'input>(
         value: StringStorage::Borrowed(one.value),
         namespace,
     };
-    attributes.put_usual(item, places, one.before)
+    attributes.put_compact(item, places, one.before)
 }
 
-/// Like `put_usual_attribute`, but for an attribute with any offsets and a value that may be owned.
+/// Like `put_compact_attribute`, but for an attribute with any offsets and a value that may be owned.
 #[inline(always)]
 pub fn put_attribute_of<'input>(
     namespaces: &NamespaceTable<'input>,

@@ -9,8 +9,8 @@ ghost use Rattle.rox_rows.specs.declared.row.AttributeNamespace.{AttributeNamesp
 ghost use Rattle.rox_names.specs.SeenNames.{name_sum, AreFirst, AreSeen, IsNameCode, KeepsCodes, PutsCode, SeesAll, TellsSeen};
 
 use rox_rows::attributes::AttributeTable;
-use rox_rows::compare::{WORD, word_at};
-use rox_rows::recent_texts::Recent;
+use rox_storage::compare::{WORD, word_at};
+use rox_storage::recent_texts::Recent;
 
 /// The attributes of a tag that are in the table: where they begin, and which codes their names have. The codes of the first four
 /// are recorded with the fifth. Until then `codes` has those of an earlier tag.
@@ -21,7 +21,7 @@ pub struct SeenNames {
     pub codes: [u64; CODES / WIDTH],
     /// How many names had a code that was recorded.
     pub again: usize,
-    /// Where prefixes were found among the places of their scopes, in all tags. `near_prefix.rt` of `rox_tags` says how.
+    /// Where prefixes were found among the places of their scopes, in all tags. `prefix_cache.rt` of `rox_attributes` says how.
     pub near: usize,
     /// The owned values stored for sharing, of all tags; `None` before there is one.
     pub values: Option<Box<Recent>>,

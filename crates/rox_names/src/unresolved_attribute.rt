@@ -1,11 +1,11 @@
 //! An attribute of a start tag as it is read from the text.
 
 ghost use Rattle.std.specs.Prelude.{◌≡◌, ◌<◌, ◌+◌, ◌^◌, length};
-ghost use Rattle.rox_rows.specs.UsualPlaces.{usual_places};
+ghost use Rattle.rox_rows.specs.CompactPlaces.{compact_places};
 
 use rox_grammar::name::QName;
 use rox_rows::row::AttributePlaces;
-use rox_rows::storage::StringStorage;
+use rox_storage::storage::StringStorage;
 
 /// An attribute of the tag that is being read, whose namespace is not known yet.
 #[derive(Drop)]
@@ -19,24 +19,24 @@ pub struct UnresolvedAttribute<'input> {
     pub ghost placed: { start < 2 ^ 63 },
 }
 
-/// An attribute as most are written, whose offsets follow from its start. `=` and its quote are directly after its name, and its
+/// A compact attribute, as most are: its offsets follow from its start. `=` and its quote are directly after its name, and its
 /// value needs no replacement.
 #[derive(Clone, Copy)]
-pub struct UsualAttribute<'input> {
+pub struct CompactAttribute<'input> {
     pub start: u32,
     /// The bytes of the name before its local part: the prefix and the colon.
     pub before: u8,
     pub local: &'input str,
     pub value: &'input str,
-    pub ghost usual: { before < 255 },
+    pub ghost compact: { before < 255 },
     pub ghost ends: { start + before + length local.now + length value.now + 3 < 2 ^ 64 },
 }
 
-impl<'input> UsualAttribute<'input> {
+impl<'input> CompactAttribute<'input> {
     /// Returns its offsets.
     #[inline(always)]
     pub(crate) fn places(self) -> AttributePlaces
-        ensures { result ≡ usual_places self.entry.start self.entry.before
+        ensures { result ≡ compact_places self.entry.start self.entry.before
             (length self.entry.local.now) (length self.entry.value.now) }
     {
         let start = self.start as usize;

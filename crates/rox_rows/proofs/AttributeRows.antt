@@ -1,4 +1,4 @@
--- The table of attributes: rows, and the places of those that are unusual.
+-- The table of attributes: rows, and the explicit places of some.
 use Rattle.std.proofs.Common.{◌≡◌, ℕ, zero, suc, ◌+◌, ◌-◌, ◌<◌, ◌≤◌, ◌==◌, Bool, true, false, List, [], ◌∷◌, ◌++◌, length, map, take, drop, get_or, if◌then◌else◌, length-append, append-nil, append_assoc, refl, sym, ap, ◌∙◌, subst, arith}
 use Rattle.std.specs.List.{AllByRecursion, slice_range, list_any}
 use Rattle.std.proofs.Math.Seq.{drop-append_seam}
@@ -6,9 +6,9 @@ use Rattle.std.proofs.lemmas.Bool.{ne_eqb, eq-eqb}
 use Rattle.std.proofs.Math.Seq.{get_or-append_seam}
 use Rattle.std.proofs.lemmas.List.{take_all, take-append-le, length-map, drop-map, take-map, map-append, take-append-drop, take_more, get_or-take, get_or_append_left}
 use Rattle.std.specs.Mem.{manually_drop_value}
-use Rattle.rox_rows.specs.Storage.{storage_bytes, is_borrowed}
-use Rattle.rox_rows.specs.UsualPlaces.{usual_places}
-use Rattle.rox_rows.specs.StoredAttributes.{data_of, places_in, row_in, unusual_count, AreNumbered, own_place, owned_places}
+use Rattle.rox_storage.specs.Storage.{storage_bytes, is_borrowed}
+use Rattle.rox_rows.specs.CompactPlaces.{compact_places}
+use Rattle.rox_rows.specs.StoredAttributes.{data_of, places_in, row_in, explicit_count, AreNumbered, own_place, owned_places}
 use Rattle.rox_rows.specs.declared.row.AttributeData.{AttributeData}
 use Rattle.rox_rows.specs.declared.row.AttributePlaces.{AttributePlaces}
 use Rattle.rox_rows.specs.declared.stored_attribute.StoredAttribute.{StoredAttribute}
@@ -17,37 +17,37 @@ use Rattle.rox_rows.specs.Rows.{AttributeRow, attribute_rows}
 use Rattle.rox_reading.proofs.Stretches.{slice-rest}
 
 pub length_rows : (t : AttributeTable) → length (attribute_rows t) ≡ length t.items.items
-length_rows t = length-map t.items.items (row_in t.unusual.items)
+length_rows t = length-map t.items.items (row_in t.explicit.items)
 
--- ---- how many are unusual
+-- ---- how many have explicit places
 
-pub count_append : (xs ys : List StoredAttribute) → unusual_count (xs ++ ys) ≡ unusual_count xs + unusual_count ys
+pub count_append : (xs ys : List StoredAttribute) → explicit_count (xs ++ ys) ≡ explicit_count xs + explicit_count ys
 count_append [] ys = omega arith
 count_append (x ∷ xs) ys = let h = count_append xs ys in omega (arith, h)
 
 -- one more
 pub count_more : (xs : List StoredAttribute) (i : ℕ) (r : StoredAttribute) → i < length xs
-    → unusual_count (take (i + 1) xs) ≡ unusual_count (take i xs) + (if (get_or xs i r).before == 255 then 1 else 0)
+    → explicit_count (take (i + 1) xs) ≡ explicit_count (take i xs) + (if (get_or xs i r).before == 255 then 1 else 0)
 count_more xs i r l =
-    let h = ap unusual_count (take_more xs i r l) in
+    let h = ap explicit_count (take_more xs i r l) in
     let a = count_append (take i xs) (get_or xs i r ∷ []) in
     omega (arith, h, a)
 
 -- as a loop counts them
-pub count_next : (xs : List StoredAttribute) (i : ℕ) (r : StoredAttribute) (b : Bool) (c : ℕ) → i < length xs → r ≡ get_or xs i r → b ≡ (r.before == 255) → c ≡ unusual_count (take i xs)
-    → (if b then c + 1 else c) ≡ unusual_count (take (i + 1) xs)
+pub count_next : (xs : List StoredAttribute) (i : ℕ) (r : StoredAttribute) (b : Bool) (c : ℕ) → i < length xs → r ≡ get_or xs i r → b ≡ (r.before == 255) → c ≡ explicit_count (take i xs)
+    → (if b then c + 1 else c) ≡ explicit_count (take (i + 1) xs)
 count_next xs i r b c l is test so =
     let at : (get_or xs i r).before == 255 ≡ b = ap (λ (y : StoredAttribute). y.before == 255) (sym is) ∙ sym test in
-    let more = count_more xs i r l ∙ ap (λ (d : Bool). unusual_count (take i xs) + (if d then 1 else 0)) at in
-    cases b c (unusual_count (take i xs)) so ∙ sym more
+    let more = count_more xs i r l ∙ ap (λ (d : Bool). explicit_count (take i xs) + (if d then 1 else 0)) at in
+    cases b c (explicit_count (take i xs)) so ∙ sym more
   where
     cases : (b : Bool) (c d : ℕ) → c ≡ d → (if b then c + 1 else c) ≡ d + (if b then 1 else 0)
     cases true c d h = omega (arith, h)
     cases false c d h = omega (arith, h)
 
 -- the first of these, and the others
-pub count_parts : (k : ℕ) (xs : List StoredAttribute) → unusual_count (take k xs) + unusual_count (drop k xs) ≡ unusual_count xs
-count_parts k xs = sym (count_append (take k xs) (drop k xs)) ∙ ap unusual_count (take-append-drop k xs)
+pub count_parts : (k : ℕ) (xs : List StoredAttribute) → explicit_count (take k xs) + explicit_count (drop k xs) ≡ explicit_count xs
+count_parts k xs = sym (count_append (take k xs) (drop k xs)) ∙ ap explicit_count (take-append-drop k xs)
 
 -- ---- those whose values are owned
 
@@ -92,7 +92,7 @@ lent_cut old xs r owned parts lent listed =
 
 -- ---- their numbers
 
-pub numbered_more : (n : ℕ) (xs : List StoredAttribute) (r : StoredAttribute) → AreNumbered n xs → ((r.before == 255) ≡ true → r.place ≡ unusual_count xs + n)
+pub numbered_more : (n : ℕ) (xs : List StoredAttribute) (r : StoredAttribute) → AreNumbered n xs → ((r.before == 255) ≡ true → r.place ≡ explicit_count xs + n)
     → AreNumbered n (xs ++ r ∷ [])
 numbered_more n [] r h is = (λ e. let i = is e in omega (arith, i), tt)
 numbered_more n (x ∷ xs) r h is =
@@ -116,22 +116,22 @@ same_place us vs k true p d same l = same p (l refl)
 same_place us vs k false p d same l = refl
 
 rows_same : (us vs : List AttributePlaces) (k n : ℕ) (xs : List StoredAttribute) → ((i : ℕ) (d : AttributePlaces) → i < k → get_or vs i d ≡ get_or us i d)
-    → AreNumbered n xs → unusual_count xs + n ≤ k → map (row_in vs) xs ≡ map (row_in us) xs
+    → AreNumbered n xs → explicit_count xs + n ≤ k → map (row_in vs) xs ≡ map (row_in us) xs
 rows_same us vs k n [] same h l = refl
 rows_same us vs k n (x ∷ xs) same h l =
-    let usual = usual_places x.place x.before (length x.local.now) (length (storage_bytes (manually_drop_value x.value))) in
+    let compact = compact_places x.place x.before (length x.local.now) (length (storage_bytes (manually_drop_value x.value))) in
     let one : ℕ = if x.before == 255 then 1 else 0 in
     let first : places_in vs x ≡ places_in us x =
-    same_place us vs k (x.before == 255) x.place usual (λ i. same i usual) (λ e. within (x.before == 255) x.place n (unusual_count xs) k e (h.0 e) l) in
+    same_place us vs k (x.before == 255) x.place compact (λ i. same i compact) (λ e. within (x.before == 255) x.place n (explicit_count xs) k e (h.0 e) l) in
     ap (λ (p : AttributePlaces). (data_of x, p) ∷ map (row_in vs) xs) first
     ∙ ap (λ (rows : List AttributeRow). row_in us x ∷ rows) (rows_same us vs k (one + n) xs same h.1 (omega arith))
 
 -- with more places
-pub rows_grown : (us more : List AttributePlaces) (xs : List StoredAttribute) → AreNumbered 0 xs → length us ≡ unusual_count xs → map (row_in (us ++ more)) xs ≡ map (row_in us) xs
+pub rows_grown : (us more : List AttributePlaces) (xs : List StoredAttribute) → AreNumbered 0 xs → length us ≡ explicit_count xs → map (row_in (us ++ more)) xs ≡ map (row_in us) xs
 rows_grown us more xs h e = rows_same us (us ++ more) (length us) 0 xs (λ i d l. get_or_append_left us more d i l) h (omega arith)
 
 -- with fewer
-pub rows_cut : (us : List AttributePlaces) (k : ℕ) (xs : List StoredAttribute) → AreNumbered 0 xs → unusual_count xs ≤ k → map (row_in (take k us)) xs ≡ map (row_in us) xs
+pub rows_cut : (us : List AttributePlaces) (k : ℕ) (xs : List StoredAttribute) → AreNumbered 0 xs → explicit_count xs ≤ k → map (row_in (take k us)) xs ≡ map (row_in us) xs
 rows_cut us k xs h l = rows_same us (take k us) k 0 xs (λ i d b. get_or-take k us i d b) h (omega arith)
 
 -- ---- what rows are, as a slice of the stored ones
@@ -144,7 +144,7 @@ what us (x ∷ xs) = ap (λ (ds : List AttributeData). data_of x ∷ ds) (what u
 pub column_behind : (t : AttributeTable) (seen : List StoredAttribute) (from : ℕ) → seen ≡ t.items.items
     → map (λ (r : AttributeRow). r.0) (drop from (attribute_rows t)) ≡ map data_of (slice_range seen from (length seen))
 column_behind t seen from same =
-    ap (map (λ (r : AttributeRow). r.0)) (drop-map (row_in t.unusual.items) from t.items.items) ∙ what t.unusual.items (drop from t.items.items)
+    ap (map (λ (r : AttributeRow). r.0)) (drop-map (row_in t.explicit.items) from t.items.items) ∙ what t.explicit.items (drop from t.items.items)
     ∙ sym (ap (λ xs. map data_of (slice_range xs from (length xs))) same ∙ ap (map data_of) (slice-rest t.items.items from))
 
 -- behind the first rows
@@ -169,7 +169,7 @@ pub all_column : (P : AttributeData → Type 0) (t : AttributeTable) (seen : Lis
     → AllByRecursion (λ (r : AttributeRow). P r.0) (drop from (attribute_rows t)) → AllByRecursion (λ (r : StoredAttribute). P (data_of r)) (slice_range seen from (length seen))
 all_column P t seen from same h =
     subst (AllByRecursion (λ (r : StoredAttribute). P (data_of r))) (sym (ap (λ xs. slice_range xs from (length xs)) same ∙ slice-rest t.items.items from))
-    (all_data P t.unusual.items (drop from t.items.items) (subst (AllByRecursion (λ (r : AttributeRow). P r.0)) (drop-map (row_in t.unusual.items) from t.items.items) h))
+    (all_data P t.explicit.items (drop from t.items.items) (subst (AllByRecursion (λ (r : AttributeRow). P r.0)) (drop-map (row_in t.explicit.items) from t.items.items) h))
 
 pub all_behind : (P : AttributeData → Type 0) (t : AttributeTable) (seen : List StoredAttribute) (old more : List AttributeRow) (from : ℕ)
     → seen ≡ t.items.items → attribute_rows t ≡ old ++ more → from ≡ length old → AllByRecursion (λ (r : AttributeRow). P r.0) more
@@ -186,65 +186,65 @@ any_data P (x ∷ xs) = rw (any_data P xs) refl
 -- ---- one more row
 
 -- of an attribute whose places follow from its start
-pub usual_row : (us : List AttributePlaces) (r : StoredAttribute) (item : AttributeData) (places : AttributePlaces) → data_of r ≡ item → r.before < 255
-    → r.place ≡ places.start → places ≡ usual_places places.start r.before (length item.local.now) (length (storage_bytes item.value)) → row_in us r ≡ (item, places)
-usual_row us r item places is few start follow =
-    let usual = usual_places r.place r.before (length r.local.now) (length (storage_bytes (manually_drop_value r.value))) in
-    let first : places_in us r ≡ usual = ap (λ (b : Bool). if b then get_or us r.place usual else usual) (ne_eqb r.before 255 (λ e. omega (arith, e, few))) in
-    let same : usual ≡ usual_places places.start r.before (length item.local.now) (length (storage_bytes item.value)) =
-    ap (λ (d : AttributeData). usual_places r.place r.before (length d.local.now) (length (storage_bytes d.value))) is
-    ∙ ap (λ n. usual_places n r.before (length item.local.now) (length (storage_bytes item.value))) start in
+pub compact_row : (us : List AttributePlaces) (r : StoredAttribute) (item : AttributeData) (places : AttributePlaces) → data_of r ≡ item → r.before < 255
+    → r.place ≡ places.start → places ≡ compact_places places.start r.before (length item.local.now) (length (storage_bytes item.value)) → row_in us r ≡ (item, places)
+compact_row us r item places is few start follow =
+    let compact = compact_places r.place r.before (length r.local.now) (length (storage_bytes (manually_drop_value r.value))) in
+    let first : places_in us r ≡ compact = ap (λ (b : Bool). if b then get_or us r.place compact else compact) (ne_eqb r.before 255 (λ e. omega (arith, e, few))) in
+    let same : compact ≡ compact_places places.start r.before (length item.local.now) (length (storage_bytes item.value)) =
+    ap (λ (d : AttributeData). compact_places r.place r.before (length d.local.now) (length (storage_bytes d.value))) is
+    ∙ ap (λ n. compact_places n r.before (length item.local.now) (length (storage_bytes item.value))) start in
     ap (λ (d : AttributeData). (d, places_in us r)) is ∙ ap (λ (p : AttributePlaces). (item, p)) (first ∙ same ∙ sym follow)
 
 -- and of another
-pub unusual_row : (us : List AttributePlaces) (r : StoredAttribute) (item : AttributeData) (places : AttributePlaces) → data_of r ≡ item → r.before ≡ 255
+pub explicit_row : (us : List AttributePlaces) (r : StoredAttribute) (item : AttributeData) (places : AttributePlaces) → data_of r ≡ item → r.before ≡ 255
     → r.place ≡ length us → row_in (us ++ places ∷ []) r ≡ (item, places)
-unusual_row us r item places is marked last =
-    let usual = usual_places r.place r.before (length r.local.now) (length (storage_bytes (manually_drop_value r.value))) in
+explicit_row us r item places is marked last =
+    let compact = compact_places r.place r.before (length r.local.now) (length (storage_bytes (manually_drop_value r.value))) in
     let all = us ++ places ∷ [] in
-    let first : places_in all r ≡ get_or all r.place usual = ap (λ (b : Bool). if b then get_or all r.place usual else usual) (eq-eqb r.before 255 marked) in
-    let own : get_or all r.place usual ≡ places = ap (λ n. get_or all n usual) last ∙ get_or-append_seam us places [] usual in
+    let first : places_in all r ≡ get_or all r.place compact = ap (λ (b : Bool). if b then get_or all r.place compact else compact) (eq-eqb r.before 255 marked) in
+    let own : get_or all r.place compact ≡ places = ap (λ n. get_or all n compact) last ∙ get_or-append_seam us places [] compact in
     ap (λ (d : AttributeData). (d, places_in all r)) is ∙ ap (λ (p : AttributePlaces). (item, p)) (first ∙ own)
 
 pub rows_push : (us : List AttributePlaces) (xs ys : List StoredAttribute) (r : StoredAttribute) (row : AttributeRow) → ys ≡ xs ++ r ∷ [] → row_in us r ≡ row
     → map (row_in us) ys ≡ map (row_in us) xs ++ row ∷ []
 rows_push us xs ys r row grown is = ap (map (row_in us)) grown ∙ map-append (row_in us) xs (r ∷ []) ∙ ap (λ (x : AttributeRow). map (row_in us) xs ++ x ∷ []) is
 
--- one more that is usual has no number
-pub numbered_usual : (xs ys : List StoredAttribute) (r : StoredAttribute) → ys ≡ xs ++ r ∷ [] → AreNumbered 0 xs → r.before < 255 → AreNumbered 0 ys
-numbered_usual xs ys r grown h few =
+-- one more that is compact has no number
+pub numbered_compact : (xs ys : List StoredAttribute) (r : StoredAttribute) → ys ≡ xs ++ r ∷ [] → AreNumbered 0 xs → r.before < 255 → AreNumbered 0 ys
+numbered_compact xs ys r grown h few =
     subst (AreNumbered 0) (sym grown) (numbered_more 0 xs r h (λ e. cc (e, ne_eqb r.before 255 (λ i. omega (arith, i, few)))))
 
-pub count_usual : (xs ys : List StoredAttribute) (r : StoredAttribute) → ys ≡ xs ++ r ∷ [] → r.before < 255 → unusual_count ys ≡ unusual_count xs
-count_usual xs ys r grown few =
+pub count_compact : (xs ys : List StoredAttribute) (r : StoredAttribute) → ys ≡ xs ++ r ∷ [] → r.before < 255 → explicit_count ys ≡ explicit_count xs
+count_compact xs ys r grown few =
     let one : Bool → ℕ = λ b. if b then 1 else 0 in
     let none : one (r.before == 255) ≡ 0 = ap one (ne_eqb r.before 255 (λ i. omega (arith, i, few))) in
-    let all = ap unusual_count grown ∙ count_append xs (r ∷ []) in
+    let all = ap explicit_count grown ∙ count_append xs (r ∷ []) in
     omega (arith, all, none)
 
-pub numbered_unusual : (xs ys : List StoredAttribute) (r : StoredAttribute) (n : ℕ) → ys ≡ xs ++ r ∷ [] → AreNumbered 0 xs → n ≡ unusual_count xs → r.place ≡ n → AreNumbered 0 ys
-numbered_unusual xs ys r n grown h counted last = subst (AreNumbered 0) (sym grown) (numbered_more 0 xs r h (λ e. omega (arith, counted, last)))
+pub numbered_explicit : (xs ys : List StoredAttribute) (r : StoredAttribute) (n : ℕ) → ys ≡ xs ++ r ∷ [] → AreNumbered 0 xs → n ≡ explicit_count xs → r.place ≡ n → AreNumbered 0 ys
+numbered_explicit xs ys r n grown h counted last = subst (AreNumbered 0) (sym grown) (numbered_more 0 xs r h (λ e. omega (arith, counted, last)))
 
-pub count_one_more : (xs ys : List StoredAttribute) (r : StoredAttribute) → ys ≡ xs ++ r ∷ [] → r.before ≡ 255 → unusual_count ys ≡ unusual_count xs + 1
+pub count_one_more : (xs ys : List StoredAttribute) (r : StoredAttribute) → ys ≡ xs ++ r ∷ [] → r.before ≡ 255 → explicit_count ys ≡ explicit_count xs + 1
 count_one_more xs ys r grown marked =
     let one : Bool → ℕ = λ b. if b then 1 else 0 in
     let some : one (r.before == 255) ≡ 1 = ap one (eq-eqb r.before 255 marked) in
-    let all = ap unusual_count grown ∙ count_append xs (r ∷ []) in
+    let all = ap explicit_count grown ∙ count_append xs (r ∷ []) in
     omega (arith, all, some)
 
 -- ---- fewer rows
 
 -- how many places are left where the rows behind the first so many are taken back
-pub places_left : (t : AttributeTable) (seen : List StoredAttribute) (k taken : ℕ) → seen ≡ t.items.items → taken ≡ unusual_count (slice_range seen k (length seen))
-    → (taken ≤ length t.unusual.items) × (length t.unusual.items - taken ≡ unusual_count (take k t.items.items))
+pub places_left : (t : AttributeTable) (seen : List StoredAttribute) (k taken : ℕ) → seen ≡ t.items.items → taken ≡ explicit_count (slice_range seen k (length seen))
+    → (taken ≤ length t.explicit.items) × (length t.explicit.items - taken ≡ explicit_count (take k t.items.items))
 places_left t seen k taken same is =
-    let behind = is ∙ ap unusual_count (ap (λ xs. slice_range xs k (length xs)) same ∙ slice-rest t.items.items k) in
+    let behind = is ∙ ap explicit_count (ap (λ xs. slice_range xs k (length xs)) same ∙ slice-rest t.items.items k) in
     let parts = count_parts k t.items.items in
     (omega (arith, behind, parts, t.counted), omega (arith, behind, parts, t.counted))
 
-pub rows_kept : (t : AttributeTable) (xs : List StoredAttribute) (us : List AttributePlaces) (k n : ℕ) → xs ≡ take k t.items.items → us ≡ take n t.unusual.items → n ≡ unusual_count (take k t.items.items)
+pub rows_kept : (t : AttributeTable) (xs : List StoredAttribute) (us : List AttributePlaces) (k n : ℕ) → xs ≡ take k t.items.items → us ≡ take n t.explicit.items → n ≡ explicit_count (take k t.items.items)
     → map (row_in us) xs ≡ take k (attribute_rows t)
 rows_kept t xs us k n front places is =
     ap (λ (ys : List StoredAttribute). map (row_in us) ys) front ∙ ap (λ (ps : List AttributePlaces). map (row_in ps) (take k t.items.items)) places
-    ∙ rows_cut t.unusual.items n (take k t.items.items) (numbered_take 0 k t.items.items t.numbered) (omega (arith, is))
-    ∙ sym (take-map (row_in t.unusual.items) k t.items.items)
+    ∙ rows_cut t.explicit.items n (take k t.items.items) (numbered_take 0 k t.items.items t.numbered) (omega (arith, is))
+    ∙ sym (take-map (row_in t.explicit.items) k t.items.items)

@@ -1,4 +1,3 @@
 pub mod Stable
 pub mod AttributeRows
 pub mod StoredNodes
-pub mod Words

@@ -1,7 +1,7 @@
 -- The rows of nodes as their table stores them.
 use Rattle.std.specs.Borrow.{Bor}
 use Rattle.std.specs.declared.mem.ManuallyDrop.{ManuallyDrop}
-use Rattle.rox_rows.specs.declared.storage.StringStorage.{StringStorage}
+use Rattle.rox_storage.specs.declared.storage.StringStorage.{StringStorage}
 use Rattle.std.proofs.Common.{◌≡◌, ℕ, zero, suc, ◌+◌, ◌*◌, ◌/◌, ◌^◌, ◌<◌, ◌≤◌, ◌==◌, ◌&&◌, if◌then◌else◌, Bool, true, false, List, [], ◌∷◌, ◌++◌, length, take, set, get_or, vec_len, length-append, refl, sym, ap, ◌∙◌, arith}
 use Rattle.std.proofs.lemmas.List.Folds.{list_all-append}
 use Rattle.std.proofs.lemmas.Bool.{ltb-true, lt-ltb, eqb-true, eq-eqb, and_parts}
@@ -35,12 +35,12 @@ whole-push pis (h ∷ hs) [] r l = absurd (omega arith)
 whole-push pis [] (x ∷ rows) r l = ap (λ (xs : List NodeData). whole_row pis no_high x ∷ xs) (whole-push pis [] rows r (omega arith))
 whole-push pis (h ∷ hs) (x ∷ rows) r l = ap (λ (xs : List NodeData). whole_row pis h x ∷ xs) (whole-push pis hs rows r (omega arith))
 
-pub whole-push_far : (pis : List PI) (high : List HighPlaces) (rows : List StoredNode) (h : HighPlaces) (r : StoredNode) → length high ≡ length rows
+pub whole-push_high : (pis : List PI) (high : List HighPlaces) (rows : List StoredNode) (h : HighPlaces) (r : StoredNode) → length high ≡ length rows
     → whole_rows pis (high ++ h ∷ []) (rows ++ r ∷ []) ≡ whole_rows pis high rows ++ whole_row pis h r ∷ []
-whole-push_far pis [] [] h r l = refl
-whole-push_far pis (y ∷ ys) [] h r l = absurd (omega arith)
-whole-push_far pis [] (x ∷ rows) h r l = absurd (omega arith)
-whole-push_far pis (y ∷ ys) (x ∷ rows) h r l = ap (λ (xs : List NodeData). whole_row pis y x ∷ xs) (whole-push_far pis ys rows h r (omega arith))
+whole-push_high pis [] [] h r l = refl
+whole-push_high pis (y ∷ ys) [] h r l = absurd (omega arith)
+whole-push_high pis [] (x ∷ rows) h r l = absurd (omega arith)
+whole-push_high pis (y ∷ ys) (x ∷ rows) h r l = ap (λ (xs : List NodeData). whole_row pis y x ∷ xs) (whole-push_high pis ys rows h r (omega arith))
 
 -- upper halves of 0 are none
 pub whole-fill : (pis : List PI) (high : List HighPlaces) (rows : List StoredNode) → whole_rows pis (high ++ no_high ∷ []) rows ≡ whole_rows pis high rows
@@ -302,24 +302,24 @@ push_is pis pis' high rows new x row l e same is =
     ap (whole_rows pis' high) e ∙ whole-push pis' high rows x l ∙ ap (λ (xs : List NodeData). xs ++ whole_row pis' no_high x ∷ []) same
     ∙ ap (λ (y : NodeData). whole_rows pis high rows ++ y ∷ []) is
 
-pub far_is : (base : List NodeData) (pis : List PI) (high high' : List HighPlaces) (rows new : List StoredNode) (h : HighPlaces) (x : StoredNode) (row : NodeData) → length high ≡ length rows
+pub high_is : (base : List NodeData) (pis : List PI) (high high' : List HighPlaces) (rows new : List StoredNode) (h : HighPlaces) (x : StoredNode) (row : NodeData) → length high ≡ length rows
     → high' ≡ high ++ h ∷ [] → new ≡ rows ++ x ∷ [] → whole_rows pis high rows ≡ base → whole_row pis h x ≡ row → whole_rows pis high' new ≡ base ++ row ∷ []
-far_is base pis high high' rows new h x row l eh e same is =
-    ap (λ (hs : List HighPlaces). whole_rows pis hs new) eh ∙ ap (whole_rows pis (high ++ h ∷ [])) e ∙ whole-push_far pis high rows h x l
+high_is base pis high high' rows new h x row l eh e same is =
+    ap (λ (hs : List HighPlaces). whole_rows pis hs new) eh ∙ ap (whole_rows pis (high ++ h ∷ [])) e ∙ whole-push_high pis high rows h x l
     ∙ ap (λ (xs : List NodeData). xs ++ whole_row pis h x ∷ []) same ∙ ap (λ (y : NodeData). base ++ y ∷ []) is
 
-pub near_row : (pis : List PI) (row : NodeData) (k : StoredKind) → whole_kind pis k ≡ row.kind
+pub low_row : (pis : List PI) (row : NodeData) (k : StoredKind) → whole_kind pis k ≡ row.kind
     → whole_row pis no_high (record { start = row.start; end = row.end; parent = row.parent; subtree_end = row.subtree_end; kind = k }) ≡ row
-near_row pis row k is =
+low_row pis row k is =
     let s : whole_place row.start 0 ≡ row.start = omega arith in
     let e : whole_place row.end 0 ≡ row.end = omega arith in
     rw (s, e, is) refl
 
 -- the row, of its halves
-pub far_row : (pis : List PI) (row : NodeData) (k : StoredKind) (low_s low_e high_s high_e : ℕ) → row.start ≡ (row.start / 2 ^ 32) * 2 ^ 32 + low_s → row.end ≡ (row.end / 2 ^ 32) * 2 ^ 32 + low_e
+pub high_row : (pis : List PI) (row : NodeData) (k : StoredKind) (low_s low_e high_s high_e : ℕ) → row.start ≡ (row.start / 2 ^ 32) * 2 ^ 32 + low_s → row.end ≡ (row.end / 2 ^ 32) * 2 ^ 32 + low_e
     → high_s ≡ row.start / 2 ^ 32 → high_e ≡ row.end / 2 ^ 32 → whole_kind pis k ≡ row.kind
     → whole_row pis (record { start = high_s; end = high_e }) (record { start = low_s; end = low_e; parent = row.parent; subtree_end = row.subtree_end; kind = k }) ≡ row
-far_row pis row k low_s low_e high_s high_e ls le hs he is =
+high_row pis row k low_s low_e high_s high_e ls le hs he is =
     let s : whole_place low_s high_s ≡ row.start = ap (whole_place low_s) hs ∙ sym ls in
     let e : whole_place low_e high_e ≡ row.end = ap (whole_place low_e) he ∙ sym le in
     rw (s, e, is) refl

@@ -1,10 +1,8 @@
 pub mod StoredNodes
 pub mod Rows
-pub mod Storage
-pub mod UsualPlaces
+pub mod CompactPlaces
 pub mod StoredAttributes
 pub mod Growth
-pub mod Words
 pub mod NodeChanges
 pub mod Puts
 pub mod AttributeChanges

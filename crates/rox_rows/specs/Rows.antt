@@ -5,7 +5,7 @@ use Rattle.rox_grammar.specs.Forest.{Forest, Nil, Cons, size}
 use Rattle.rox_grammar.specs.Written.{NamespaceDecl}
 use Rattle.rox_grammar.specs.Tree as tree
 use Rattle.rox_grammar.specs.Tree.{Node, xml_uri}
-use Rattle.rox_rows.specs.Storage.{storage_bytes, is_borrowed}
+use Rattle.rox_storage.specs.Storage.{storage_bytes, is_borrowed}
 use Rattle.rox_rows.specs.StoredAttributes.{row_in}
 use Rattle.rox_rows.specs.declared.row.AttributeNamespace.{AttributeNamespace}
 use Rattle.rox_rows.specs.declared.row.AttributeNamespace.TheVariants as space
@@ -51,7 +51,7 @@ abbrev pub AttributeRow : Type 0
 AttributeRow = AttributeData × AttributePlaces
 
 abbrev pub attribute_rows : AttributeTable → List AttributeRow
-attribute_rows t = map (row_in t.unusual.items) t.items.items
+attribute_rows t = map (row_in t.explicit.items) t.items.items
 
 abbrev pub attribute : List NamespaceDecl → AttributeRow → tree.Attribute
 attribute namespaces a = record {

@@ -1,12 +1,12 @@
--- Attributes as their table stores them. The offsets of most follow from their start; the others have theirs in a table of
--- offsets.
+-- Attributes as their table stores them. Most are compact: their offsets follow from their start. The others have explicit
+-- offsets, in a table.
 use Rattle.std.specs.Prelude.{◌≡◌, ◌==◌, ◌<◌, ◌-◌, Bool, true, false, ℕ, ◌+◌, Vec, vec_len, List, [], ◌∷◌, ◌++◌, length, get_or, take, if◌then◌else◌}
 use Rattle.std.specs.declared.alloc.Global.{Global}
 use Rattle.std.specs.Mem.{manually_drop_value}
 use Rattle.std.specs.Coded.{×_prop, →_prop, Unit-prop, Coded-set, coded_ℕ}
-use Rattle.rox_rows.specs.Storage.{storage_bytes, is_borrowed}
-use Rattle.rox_rows.specs.UsualPlaces.{usual_places}
-use Rattle.rox_rows.specs.declared.storage.StringStorage.{StringStorage}
+use Rattle.rox_storage.specs.Storage.{storage_bytes, is_borrowed}
+use Rattle.rox_rows.specs.CompactPlaces.{compact_places}
+use Rattle.rox_storage.specs.declared.storage.StringStorage.{StringStorage}
 use Rattle.rox_rows.specs.declared.row.AttributeNamespace.{AttributeNamespace}
 use Rattle.rox_rows.specs.declared.row.AttributeNamespace.TheVariants as space
 use Rattle.rox_rows.specs.declared.row.AttributeData.{AttributeData}
@@ -30,25 +30,25 @@ pub record StoresAttribute (item : AttributeData) (before place : ℕ) (r : Stor
   pub before_is : r.before ≡ before
   pub place_is : r.place ≡ place
 
--- The offsets of an attribute. `unusual` is the table of unusual offsets.
+-- The offsets of an attribute. `explicit` is the table of explicit offsets.
 abbrev pub places_in : List AttributePlaces → StoredAttribute → AttributePlaces
-places_in unusual r =
-    let usual = usual_places r.place r.before (length r.local.now) (length (storage_bytes (manually_drop_value r.value))) in
-    if r.before == 255 then get_or unusual r.place usual else usual
+places_in explicit r =
+    let compact = compact_places r.place r.before (length r.local.now) (length (storage_bytes (manually_drop_value r.value))) in
+    if r.before == 255 then get_or explicit r.place compact else compact
 
 abbrev pub row_in : List AttributePlaces → StoredAttribute → AttributeData × AttributePlaces
-row_in unusual r = (data_of r, places_in unusual r)
+row_in explicit r = (data_of r, places_in explicit r)
 
--- The least length that the table of unusual offsets must have for this row.
+-- The least length that the table of explicit offsets must have for this row.
 abbrev pub place_bound : StoredAttribute → ℕ
 place_bound r = if r.before == 255 then r.place + 1 else 0
 
--- The number of these rows whose offsets are unusual.
-abbrev pub unusual_count : List StoredAttribute → ℕ
-unusual_count [] = 0
-unusual_count (r ∷ rs) = (if r.before == 255 then 1 else 0) + unusual_count rs
+-- The number of these rows whose offsets are explicit.
+abbrev pub explicit_count : List StoredAttribute → ℕ
+explicit_count [] = 0
+explicit_count (r ∷ rs) = (if r.before == 255 then 1 else 0) + explicit_count rs
 
--- The unusual rows have consecutive indices into the table of unusual offsets, from `n` on.
+-- The rows with explicit offsets have consecutive indices into their table, from `n` on.
 abbrev pub AreNumbered : ℕ → List StoredAttribute → Type 0
 AreNumbered n [] = Unit {0}
 AreNumbered n (r ∷ rs) = ((r.before == 255) ≡ true → r.place ≡ n) × AreNumbered ((if r.before == 255 then 1 else 0) + n) rs
@@ -72,9 +72,9 @@ pub record TakesBack (count : ℕ) (old new : List StoredAttribute) (owned left 
   pub listed : owned_places 0 old ≡ owned → owned_places 0 new ≡ left
 
 -- The result is whether the offsets of a row do not follow from its start. If they do, `before` is a number of bytes.
-pub record TellsUnusual (r : StoredAttribute) (result : Bool) : Type 0 where
-  pub unusual : result ≡ (r.before == 255)
-  pub usual : result ≡ false → r.before < 255
+pub record TellsExplicit (r : StoredAttribute) (result : Bool) : Type 0 where
+  pub explicit : result ≡ (r.before == 255)
+  pub compact : result ≡ false → r.before < 255
 
 -- The last row is removed.
 pub record TakesLastRow (old new : Vec StoredAttribute Global) (owned left : List ℕ) : Type 0 where

@@ -3,7 +3,7 @@ use Rattle.std.specs.declared.alloc.Global.{Global}
 use Rattle.std.specs.Prelude.{ℕ, ◌+◌, ◌-◌, ◌*◌, ◌/◌, ◌^◌, ◌<◌, ◌≤◌, ◌≡◌, ◌==◌, ◌&&◌, Bool, true, false, not, List, [], ◌∷◌, Result, IfOk, IfErr, OnOk, Vec, vec_len, vec_capacity, length, take, set, get_or, nat_lt, if◌then◌else◌}
 use Rattle.std.specs.Mem.{manually_drop_value}
 use Rattle.std.specs.List.{list_all}
-use Rattle.rox_rows.specs.Storage.{is_borrowed}
+use Rattle.rox_storage.specs.Storage.{is_borrowed}
 use Rattle.rox_rows.specs.declared.row.PI.{PI}
 use Rattle.rox_rows.specs.declared.row.NodeKind.{NodeKind}
 use Rattle.rox_rows.specs.declared.row.NodeKind.TheVariants as kind

@@ -1,22 +1,22 @@
 //! The table of attributes.
 
 ghost use Rattle.std.specs.Prelude.{◌≡◌, ◌<◌, ◌≤◌, ◌+◌, ◌-◌, ◌^◌, ◌/◌, ◌∷◌, [], true, false, length, take, min, vec_len, vec_capacity, if◌then◌else◌, is_ok, IfOk, OnOk};
-ghost use Rattle.rox_rows.specs.StoredAttributes.{AreNumbered, AreNumbered-prop, TakesBack, TakesLastRow, unusual_count, own_place, owned_places};
+ghost use Rattle.rox_rows.specs.StoredAttributes.{AreNumbered, AreNumbered-prop, TakesBack, TakesLastRow, explicit_count, own_place, owned_places};
 ghost use Rattle.std.proofs.Props.{props};
 ghost use Rattle.rox_rows.specs.Puts.{Puts};
 
 use crate::growth::{make_room, push, reserve, trim, with_room};
 use crate::row::{AttributeData, AttributePlaces};
-use crate::storage::StringStorage;
-use crate::stored_attribute::{StoredAttribute, UNUSUAL, usual_before};
+use crate::stored_attribute::{EXPLICIT, StoredAttribute, compact_before};
+use rox_storage::storage::{StringStorage, is_owned};
 use std::alloc::{AllocError, Global};
 use std::mem::ManuallyDrop;
 
 /// The attributes of all elements, in document order.
 pub struct AttributeTable<'input> {
     pub items: Vec<StoredAttribute<'input>>,
-    /// The offsets that do not follow from the start of their attribute, in document order.
-    pub unusual: Vec<AttributePlaces>,
+    /// The explicit offsets: those that do not follow from the start of their attribute, in document order.
+    pub explicit: Vec<AttributePlaces>,
     /// The rows whose values are owned, in order. They are few: so dropping the table need not visit each row.
     pub owned: Vec<usize>,
     /// The length of the text in bytes.
@@ -27,7 +27,7 @@ pub struct AttributeTable<'input> {
     pub refused: bool,
     pub ghost numbered: { AreNumbered 0 items.items } by { AreNumbered-prop 0 items.items },
     pub ghost listed: { owned_places 0 items.items ≡ owned.items } by { Prim.hlevel props },
-    pub ghost counted: { length unusual.items ≡ unusual_count items.items },
+    pub ghost counted: { length explicit.items ≡ explicit_count items.items },
 }
 
 /// The number of attributes a table gets room for first if memory for more is refused.
@@ -39,13 +39,13 @@ fn free_value(row: &mut StoredAttribute<'_>) {
     let _freed = ManuallyDrop::into_inner(std::mem::replace(&mut row.value, value));
 }
 
-/// Returns how many of the rows are unusual.
-fn count_unusual(rows: &[StoredAttribute<'_>]) -> usize
-    ensures { result ≡ unusual_count rows.now }
+/// Returns how many of the rows have explicit offsets.
+fn count_explicit(rows: &[StoredAttribute<'_>]) -> usize
+    ensures { result ≡ explicit_count rows.now }
 {
     let mut count = 0;
     for row in rows {
-        if row.is_unusual() {
+        if row.has_explicit_places() {
             count += 1;
         }
     }
@@ -58,7 +58,7 @@ fn count_unusual(rows: &[StoredAttribute<'_>]) -> usize
 fn note(owned: &mut Vec<usize>, value: &StringStorage<'_>, count: usize) -> bool
     ensures { Puts (own_place value.now count) result owned.old.items owned.new.items }
 {
-    if value.is_owned() {
+    if is_owned(value) {
         return push(owned, count).is_ok();
     }
     true
@@ -70,7 +70,7 @@ fn take_last(items: &mut Vec<StoredAttribute<'_>>, owned: &mut Vec<usize>)
 {
     if let Some(row) = items.pop() {
         let value = ManuallyDrop::into_inner(row.value);
-        if value.is_owned() {
+        if is_owned(&value) {
             let _place = owned.pop();
         }
     }
@@ -90,7 +90,7 @@ impl Drop for AttributeTable<'_> {
     fn drop(self) {
         let AttributeTable {
             mut items,
-            unusual: _,
+            explicit: _,
             owned,
             text_end: _,
             first: _,
@@ -107,7 +107,7 @@ impl Drop for AttributeTable<'_> {
 impl<'input> AttributeTable<'input> {
     ghost use Rattle.rox_rows.specs.Rows.{attribute_rows};
     ghost use Rattle.rox_rows.specs.StoredAttributes.{places_in, place_bound};
-    ghost use Rattle.rox_rows.specs.AttributeChanges.{FitsUsual, MakesAttributeRoom, TellsRoom};
+    ghost use Rattle.rox_rows.specs.AttributeChanges.{FitsCompact, MakesAttributeRoom, TellsRoom};
 
     /// Returns a table without attributes for a text of `bytes` bytes, which is to have `room` of them.
     pub fn of_text(alloc: Global, bytes: usize, room: usize) -> AttributeTable<'input>
@@ -115,7 +115,7 @@ impl<'input> AttributeTable<'input> {
     {
         AttributeTable {
             items: with_room(alloc, room),
-            unusual: Vec::new(alloc),
+            explicit: Vec::new(alloc),
             owned: Vec::new(alloc),
             text_end: bytes,
             first: room,
@@ -134,13 +134,13 @@ impl<'input> AttributeTable<'input> {
     /// Returns the offsets of an attribute of this table.
     #[inline]
     pub fn places(&self, row: &StoredAttribute<'input>) -> AttributePlaces
-        requires { place_bound row.now ≤ length self.now.unusual.items }
-        ensures { result ≡ places_in self.now.unusual.items row.now }
+        requires { place_bound row.now ≤ length self.now.explicit.items }
+        ensures { result ≡ places_in self.now.explicit.items row.now }
     {
-        if row.is_unusual() {
-            self.unusual[row.place as usize]
+        if row.has_explicit_places() {
+            self.explicit[row.place as usize]
         } else {
-            row.usual_places()
+            row.compact_places()
         }
     }
 
@@ -174,16 +174,16 @@ impl<'input> AttributeTable<'input> {
         self.make_room(place).is_ok()
     }
 
-    /// Appends an attribute whose offsets follow from its start, with `before` bytes of its name before the local part. Returns
-    /// false, with the table unchanged, if memory is refused.
+    /// Appends a compact attribute, whose offsets follow from its start. `before` bytes of its name are before the local part.
+    /// Returns false, with the table unchanged, if memory is refused.
     #[inline(always)]
-    pub fn put_usual(
+    pub fn put_compact(
         &mut self,
         item: AttributeData<'input>,
         places: AttributePlaces,
         before: u8,
     ) -> bool
-        requires { FitsUsual item places before self.old }
+        requires { FitsCompact item places before self.old }
         ensures { Puts ((item.entry, places) ∷ []) result (attribute_rows self.old)
             (attribute_rows self.new) }
     {
@@ -197,27 +197,27 @@ impl<'input> AttributeTable<'input> {
 
     /// Appends an attribute of any offsets if there is room for it and them. Otherwise returns false, with the table unchanged.
     #[inline(always)]
-    pub fn put_unusual(&mut self, item: AttributeData<'input>, places: AttributePlaces) -> bool
+    pub fn put_explicit(&mut self, item: AttributeData<'input>, places: AttributePlaces) -> bool
         ensures { Puts ((item.entry, places) ∷ []) result (attribute_rows self.old)
             (attribute_rows self.new) }
     {
-        let number = self.unusual.len();
-        if self.is_full() || number >= self.unusual.capacity() || number > u32::MAX as usize {
+        let number = self.explicit.len();
+        if self.is_full() || number >= self.explicit.capacity() || number > u32::MAX as usize {
             return false;
         }
         if !note(&mut self.owned, &item.value, self.items.len()) {
             return false;
         }
-        let row = StoredAttribute::new(item, UNUSUAL, number as u32);
+        let row = StoredAttribute::new(item, EXPLICIT, number as u32);
         self.items.push_reserved(row);
-        self.unusual.push_reserved(places);
+        self.explicit.push_reserved(places);
         true
     }
 
-    /// Like `put_unusual`, but makes room for the offsets. If memory is refused, the table is unchanged.
+    /// Like `put_explicit`, but makes room for the offsets. If memory is refused, the table is unchanged.
     #[cold]
     #[inline(never)]
-    fn push_unusual(
+    fn push_explicit(
         &mut self,
         item: AttributeData<'input>,
         places: AttributePlaces,
@@ -226,10 +226,10 @@ impl<'input> AttributeTable<'input> {
         ensures { Puts ((item.entry, places) ∷ []) (is_ok result) (attribute_rows self.old)
             (attribute_rows self.new) }
     {
-        if self.unusual.len() >= self.unusual.capacity() {
-            make_room(&mut self.unusual, places.end, self.text_end)?;
+        if self.explicit.len() >= self.explicit.capacity() {
+            make_room(&mut self.explicit, places.end, self.text_end)?;
         }
-        if self.put_unusual(item, places) {
+        if self.put_explicit(item, places) {
             Ok(())
         } else {
             Err(AllocError)
@@ -246,19 +246,19 @@ impl<'input> AttributeTable<'input> {
         if !self.has_room(places.end) {
             return false;
         }
-        let Some(before) = usual_before(&item, &places) else {
-            // This branch has a value of its own, so that the usual branch keeps its one in registers.
-            let unusual = AttributeData {
+        let Some(before) = compact_before(&item, &places) else {
+            // This branch has a value of its own, so that the branch of compact attributes keeps its one in registers.
+            let explicit = AttributeData {
                 local: item.local,
                 value: item.value,
                 namespace: item.namespace,
             };
-            if self.unusual.len() < self.unusual.capacity() {
-                return self.put_unusual(unusual, places);
+            if self.explicit.len() < self.explicit.capacity() {
+                return self.put_explicit(explicit, places);
             }
-            return self.push_unusual(unusual, places).is_ok();
+            return self.push_explicit(explicit, places).is_ok();
         };
-        self.put_usual(item, places, before)
+        self.put_compact(item, places, before)
     }
 
     /// Returns whether there is no room for one more row.
@@ -278,10 +278,10 @@ impl<'input> AttributeTable<'input> {
         if count >= self.items.len() {
             return;
         }
-        let taken = count_unusual(&self.items[count..]);
-        let places = self.unusual.len() - taken;
+        let taken = count_explicit(&self.items[count..]);
+        let places = self.explicit.len() - taken;
         take_back(&mut self.items, &mut self.owned, count);
-        self.unusual.truncate(places);
+        self.explicit.truncate(places);
     }
 
     /// Gives back the spare room of both tables if there is much of it.
@@ -289,6 +289,6 @@ impl<'input> AttributeTable<'input> {
         ensures { attribute_rows self.new ≡ attribute_rows self.old }
     {
         trim(&mut self.items);
-        trim(&mut self.unusual);
+        trim(&mut self.explicit);
     }
 }

@@ -39,7 +39,7 @@ const FEWEST_ROWS: usize = 16;
 /// 4 GiB and more have any.
 #[cold]
 #[inline(never)]
-fn far_places(high: &[HighPlaces], index: usize) -> HighPlaces
+fn high_places_at(high: &[HighPlaces], index: usize) -> HighPlaces
     ensures { result ≡ stored.high_at high.now index }
 {
     if index < high.len() {
@@ -48,7 +48,7 @@ fn far_places(high: &[HighPlaces], index: usize) -> HighPlaces
     HighPlaces { start: 0, end: 0 }
 }
 
-/// Like `far_places`. A loop over nodes asks once whether there are any.
+/// Like `high_places_at`. A loop over nodes asks once whether there are any.
 #[inline(always)]
 fn high_places(high: &[HighPlaces], index: usize) -> HighPlaces
     ensures { result ≡ stored.high_at high.now index }
@@ -56,13 +56,13 @@ fn high_places(high: &[HighPlaces], index: usize) -> HighPlaces
     if high.is_empty() {
         return HighPlaces { start: 0, end: 0 };
     }
-    far_places(high, index)
+    high_places_at(high, index)
 }
 
 /// Returns the upper halves for the root node of a text of at least 4 GiB. `end` is the upper half of its length.
 #[cold]
 #[inline(never)]
-fn far_root(alloc: Global, end: u32) -> Result<Vec<HighPlaces>, AllocError>
+fn high_with_root(alloc: Global, end: u32) -> Result<Vec<HighPlaces>, AllocError>
     ensures { IfOk result (λ high. high.items ≡ record { start = 0; end = end } ∷ []) }
 {
     let mut high = Vec::with_capacity(alloc, 1)?;
@@ -78,7 +78,7 @@ fn root_high(alloc: Global, bytes: usize) -> Result<Vec<HighPlaces>, AllocError>
     if bytes < FIRST_HIGH {
         return Ok(Vec::new(alloc));
     }
-    far_root(alloc, high_half(bytes))
+    high_with_root(alloc, high_half(bytes))
 }
 
 /// Appends upper halves of 0 until there are `count`, and makes room for one more.
@@ -322,14 +322,14 @@ impl<'input> NodeTable<'input> {
             self.make_room(row.start, row.end)?;
         }
         if row.start >= FIRST_HIGH || row.end >= FIRST_HIGH {
-            return self.push_far(row);
+            return self.push_high(row);
         }
-        self.push_near(row)
+        self.push_low(row)
     }
 
     /// Like `push`, but for a node whose offsets have no upper halves, with room for its row.
     #[inline(always)]
-    fn push_near(&mut self, row: NodeData<'input>) -> Result<(), AllocError>
+    fn push_low(&mut self, row: NodeData<'input>) -> Result<(), AllocError>
         requires { FitsNode row self.old }
         ensures { PushesNode row.entry (is_ok result) self.old self.new }
     {
@@ -349,7 +349,7 @@ impl<'input> NodeTable<'input> {
     /// Like `push`, but for a node whose offsets may have upper halves, with room for its row.
     #[cold]
     #[inline(never)]
-    fn push_far(&mut self, row: NodeData<'input>) -> Result<(), AllocError>
+    fn push_high(&mut self, row: NodeData<'input>) -> Result<(), AllocError>
         requires { vec_len self.old.rows < vec_capacity self.old.rows }
         ensures { PushesNode row.entry (is_ok result) self.old self.new }
     {

@@ -4,7 +4,7 @@ ghost use Rattle.std.specs.Prelude.{◌≡◌};
 ghost use Rattle.rox_grammar.specs.Document.{most_pairs};
 ghost use Rattle.rox_rows.specs.Rows.{OptionWithin, numbered_place};
 
-use crate::storage::StringStorage;
+use rox_storage::storage::StringStorage;
 
 /// A processing instruction: its target, and its value if it has one (XML 1.0 section 2.6).
 ///

@@ -2,11 +2,11 @@
 
 ghost use Rattle.std.specs.Prelude.{◌≡◌, ◌==◌, false, ◌<◌, ◌≤◌, ◌+◌, ◌^◌, length, IfSome};
 ghost use Rattle.std.specs.Mem.{manually_drop_value};
-ghost use Rattle.rox_rows.specs.Storage.{storage_bytes};
-ghost use Rattle.rox_rows.specs.UsualPlaces.{IsUsual, usual_places};
+ghost use Rattle.rox_storage.specs.Storage.{storage_bytes};
+ghost use Rattle.rox_rows.specs.CompactPlaces.{IsCompact, compact_places};
 
 use crate::row::{AttributeData, AttributeNamespace, AttributePlaces};
-use crate::storage::StringStorage;
+use rox_storage::storage::StringStorage;
 use std::mem::ManuallyDrop;
 
 /// The kind of namespace that the name of an attribute has.
@@ -19,15 +19,15 @@ pub enum NamespaceKind {
     Listed,
 }
 
-/// An attribute in its table: 48 bytes. Most are written as `a="b"`, so that their offsets follow from their start.
+/// An attribute in its table: 48 bytes. Most are compact: written as `a="b"`, so that their offsets follow from their start.
 #[derive(Drop)]
 pub struct StoredAttribute<'input> {
-    /// The bytes of the name before its local part: the prefix and the colon. `UNUSUAL` if the offsets do not follow.
+    /// The bytes of the name before its local part: the prefix and the colon. `EXPLICIT` if the offsets do not follow.
     pub before: u8,
     pub kind: NamespaceKind,
     /// The index in the table of namespaces if `kind` is `Listed`.
     pub listed: u16,
-    /// The start of the attribute in bytes. For an unusual one, the index of its offsets in the table of unusual offsets.
+    /// The start of the attribute in bytes. For one with explicit offsets, the index of these in their table.
     pub place: u32,
     pub local: &'input str,
     /// The value is not dropped with the row: the table frees the owned ones.
@@ -36,10 +36,10 @@ pub struct StoredAttribute<'input> {
 }
 
 /// The value of `before` in a row whose offsets do not follow from the start.
-pub const UNUSUAL: u8 = 255;
+pub const EXPLICIT: u8 = 255;
 
 impl<'input> StoredAttribute<'input> {
-    ghost use Rattle.rox_rows.specs.StoredAttributes.{StoresAttribute, TellsUnusual, data_of};
+    ghost use Rattle.rox_rows.specs.StoredAttributes.{StoresAttribute, TellsExplicit, data_of};
 
     /// Returns the row of an attribute.
     #[inline(always)]
@@ -82,17 +82,17 @@ impl<'input> StoredAttribute<'input> {
 
     /// Returns whether the offsets do not follow from the start.
     #[inline]
-    pub(crate) fn is_unusual(&self) -> bool
-        ensures { TellsUnusual self.now result }
+    pub(crate) fn has_explicit_places(&self) -> bool
+        ensures { TellsExplicit self.now result }
     {
-        self.before == UNUSUAL
+        self.before == EXPLICIT
     }
 
-    /// Returns the offsets of an attribute whose offsets follow from its start.
+    /// Returns the offsets of a compact attribute.
     #[inline]
-    pub(crate) fn usual_places(&self) -> AttributePlaces
+    pub(crate) fn compact_places(&self) -> AttributePlaces
         requires { self.now.before < 255 }
-        ensures { result ≡ usual_places self.now.place self.now.before (length self.now.local.now)
+        ensures { result ≡ compact_places self.now.place self.now.before (length self.now.local.now)
             (length (storage_bytes (manually_drop_value self.now.value))) }
     {
         let start = self.place as usize;
@@ -111,14 +111,14 @@ impl<'input> StoredAttribute<'input> {
 /// Returns the number of bytes before the local part if all offsets follow from it and the start; otherwise `None`. They follow
 /// if no white space surrounds `=` and the value has its written length.
 #[inline(always)]
-pub(crate) fn usual_before(item: &AttributeData<'_>, places: &AttributePlaces) -> Option<u8>
-    ensures { IfSome result (IsUsual item.now places.now) }
+pub(crate) fn compact_before(item: &AttributeData<'_>, places: &AttributePlaces) -> Option<u8>
+    ensures { IfSome result (IsCompact item.now places.now) }
 {
     let name = places.name_end.checked_sub(places.start)?;
     let before = name.checked_sub(item.local.len())?;
     let gap = places.value_start.checked_sub(places.name_end)?;
     let value = places.end.checked_sub(places.value_start)?;
-    if places.start > u32::MAX as usize || before >= UNUSUAL as usize || gap != 2 {
+    if places.start > u32::MAX as usize || before >= EXPLICIT as usize || gap != 2 {
         return None;
     }
     if value != item.value.as_str().len() + 1 {

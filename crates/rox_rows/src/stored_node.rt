@@ -1,7 +1,7 @@
 //! A node as its table stores it.
 
 ghost use Rattle.std.specs.Prelude.{◌≡◌, ◌+◌, ◌*◌, ◌/◌, ◌^◌, ◌<◌, vec_len, vec_capacity, ℕ, List, true, false, if◌then◌else◌};
-ghost use Rattle.rox_rows.specs.Storage.{is_borrowed};
+ghost use Rattle.rox_storage.specs.Storage.{is_borrowed};
 ghost use Rattle.rox_rows.specs.StoredNodes as stored;
 ghost use Rattle.rox_rows.specs.declared.row.PI.{PI};
 ghost use Rattle.rox_rows.specs.declared.row.NodeKind.TheVariants as kind;
@@ -10,7 +10,7 @@ ghost use Rattle.rox_rows.specs.declared.stored_node.StoredNode.{StoredNode};
 
 use crate::growth::push;
 use crate::row::{ElementData, NodeKind, PI};
-use crate::storage::StringStorage;
+use rox_storage::storage::StringStorage;
 use std::alloc::AllocError;
 use std::mem::ManuallyDrop;
 

@@ -1,6 +1,3 @@
-pub mod Marking
-pub mod QuoteLemmas
-pub mod PairLemmas
 pub mod CharLemmas
 pub mod LongerLemmas
 pub mod ShortLemmas

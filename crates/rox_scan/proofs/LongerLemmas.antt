@@ -15,9 +15,9 @@ use Rattle.rox_grammar.specs.FixedTexts.{word_text}
 use Rattle.rox_reading.specs.Lexical.{has_mark, chars_up_to, text_to, string_at}
 use Rattle.rox_reading.specs.Markup.{raw_value_at, comment_at}
 use Rattle.rox_reading.specs.Values.{is_special}
-use Rattle.rox_bytes.specs.ByteSets.{is_char_byte, AllPass, EndsEased, is_value_byte, is_wide_value_byte, is_quoted_byte, is_text_byte, is_comment_byte, is_ascii_comment_byte}
+use Rattle.rox_bytes.specs.ByteSets.{is_char_byte, AllPass, EndsEased, is_value_byte, is_any_value_byte, is_quoted_byte, is_text_byte, is_comment_byte, is_ascii_comment_byte}
 use Rattle.rox_scan.specs.Lookahead.{IsLookahead, ends_value, ends_run, changes_run, is_changed_text_byte, is_changed_value_byte, ends_comment, none_changes}
-use Rattle.rox_bytes.proofs.NearLemmas.{near_chars, near_found, none_among, value_is_plain, value_cut, value_widens, wide_value_is_plain, wide_value_cut, quoted_is_plain, quoted_cut, text_is_plain, text_cut, comment_is_plain, comment_cut, ascii_comment_widens, ascii_comment_cut}
+use Rattle.rox_bytes.proofs.NearLemmas.{near_chars, near_found, none_among, value_is_plain, value_cut, value_widens, any_value_is_plain, any_value_cut, quoted_is_plain, quoted_cut, text_is_plain, text_cut, comment_is_plain, comment_cut, ascii_comment_widens, ascii_comment_cut}
 use Rattle.rox_bytes.proofs.EasedLemmas.{eased_byte, eased_chars}
 use Rattle.rox_bytes.proofs.MarkLemmas.{before_mark_is, not_from_first, fails, stands_split, stands_from_split}
 use Rattle.rox_scan.proofs.CharLemmas.{chars_joined}
@@ -110,12 +110,12 @@ looked_on changes ends src i j k a b utf8 start f g =
 
 -- ---- values
 
-value_same : (b : ℕ) → is_wide_value_byte b ≡ true → is_special b ≡ false
-unfolding is_wide_value_byte is_value_byte
+value_same : (b : ℕ) → is_any_value_byte b ≡ true → is_special b ≡ false
+unfolding is_any_value_byte is_value_byte
 value_same b h = grind (arith, nat_tests)
 
-value_open : (quote b : ℕ) → (quote == 39 || quote == 34) ≡ true → is_wide_value_byte b ≡ true → (b == quote || b == 60) ≡ false
-unfolding is_wide_value_byte is_value_byte
+value_open : (quote b : ℕ) → (quote == 39 || quote == 34) ≡ true → is_any_value_byte b ≡ true → (b == quote || b == 60) ≡ false
+unfolding is_any_value_byte is_value_byte
 value_open quote b q h = grind (arith, nat_tests)
 
 wide_same : (b : ℕ) → 128 ≤ b → is_special b ≡ false
@@ -132,18 +132,18 @@ value_near src quote i e utf8 q start le within all =
     (λ b h. value_same b (value_widens b h)) (λ k h. value_open quote _ q (value_widens _ h))
 
 -- the same of the wider set
-pub wide_value_near : (src : List ℕ) (quote i e : ℕ) → IsUtf8 src → (quote == 39 || quote == 34) ≡ true → IsCharBoundary src i → i ≤ e → e ≤ length src → AllPass is_wide_value_byte src i e → (e < length src → is_wide_value_byte (get_or src e 0) ≡ false)
+pub any_value_near : (src : List ℕ) (quote i e : ℕ) → IsUtf8 src → (quote == 39 || quote == 34) ≡ true → IsCharBoundary src i → i ≤ e → e ≤ length src → AllPass is_any_value_byte src i e → (e < length src → is_any_value_byte (get_or src e 0) ≡ false)
     → IsLookahead (ends_value quote src) is_special src i e true
-wide_value_near src quote i e utf8 q start le within all stops =
-    near_looked is_wide_value_byte is_special (ends_value quote src) src i e utf8 start le (wide_value_cut src e within stops) all wide_value_is_plain value_same (λ k h. value_open quote _ q h)
+any_value_near src quote i e utf8 q start le within all stops =
+    near_looked is_any_value_byte is_special (ends_value quote src) src i e utf8 start le (any_value_cut src e within stops) all any_value_is_plain value_same (λ k h. value_open quote _ q h)
 
 -- the same of a value in double quotes
 quoted_same : (b : ℕ) → is_quoted_byte b ≡ true → is_special b ≡ false
-unfolding is_quoted_byte is_wide_value_byte is_value_byte
+unfolding is_quoted_byte is_any_value_byte is_value_byte
 quoted_same b h = grind (arith, nat_tests)
 
 quoted_open : (b : ℕ) → is_quoted_byte b ≡ true → (b == 34 || b == 60) ≡ false
-unfolding is_quoted_byte is_wide_value_byte is_value_byte
+unfolding is_quoted_byte is_any_value_byte is_value_byte
 quoted_open b h = grind (arith, nat_tests)
 
 pub quoted_near : (src : List ℕ) (i e : ℕ) → IsUtf8 src → IsCharBoundary src i → i ≤ e → e ≤ length src → AllPass is_quoted_byte src i e → (e < length src → is_quoted_byte (get_or src e 0) ≡ false)
@@ -153,15 +153,15 @@ quoted_near src i e utf8 start le within all stops =
 
 -- the same where something changes the value already
 pub changed_value_is_plain : (b : ℕ) → is_changed_value_byte b ≡ true → is_char_byte b ≡ true
-unfolding is_changed_value_byte is_wide_value_byte is_value_byte
+unfolding is_changed_value_byte is_any_value_byte is_value_byte
 changed_value_is_plain b h = grind (arith, nat_tests)
 
 pub changed_value_open : (quote b : ℕ) → (quote == 39 || quote == 34) ≡ true → is_changed_value_byte b ≡ true → (b == quote || b == 60) ≡ false
-unfolding is_changed_value_byte is_wide_value_byte is_value_byte
+unfolding is_changed_value_byte is_any_value_byte is_value_byte
 changed_value_open quote b q h = grind (arith, nat_tests)
 
 pub changed_value_leads : (b : ℕ) → is_changed_value_byte b ≡ false → 128 ≤ b → 192 ≤ b
-unfolding is_changed_value_byte is_wide_value_byte is_value_byte
+unfolding is_changed_value_byte is_any_value_byte is_value_byte
 changed_value_leads b h wide = grind (arith, nat_tests)
 
 pub changed_value_near : (src : List ℕ) (quote i e : ℕ) → IsUtf8 src → (quote == 39 || quote == 34) ≡ true → IsCharBoundary src i → i ≤ e → e ≤ length src → AllPass is_changed_value_byte src i e → (e < length src → is_changed_value_byte (get_or src e 0) ≡ false)

@@ -1,4 +1,3 @@
 pub mod CursorSteps
 pub mod Views
-pub mod DoctypeViews
 pub mod Lookahead

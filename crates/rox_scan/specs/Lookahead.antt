@@ -1,4 +1,4 @@
--- What the slow path finds of a slice of a text.
+-- How far a slice of a text is valid.
 use Rattle.std.specs.Prelude.{◌≡◌, ◌≤◌, ◌<◌, ◌+◌, ◌==◌, ◌||◌, ℕ, Bool, true, false, not, List, length, take, slice_index, slice_range, Ok}
 use Rattle.std.specs.List.{list_any}
 use Rattle.std.specs.Str.{IsCharBoundary}
@@ -8,7 +8,7 @@ use Rattle.rox_grammar.specs.Search.{byte_from, stands}
 use Rattle.rox_grammar.specs.Chars.{is_char}
 use Rattle.rox_grammar.specs.Runs.{begins}
 use Rattle.rox_grammar.specs.Content.{is_verbatim}
-use Rattle.rox_bytes.specs.ByteSets.{StopsSet, is_text_byte, is_wide_value_byte}
+use Rattle.rox_bytes.specs.ByteSets.{StopsSet, is_text_byte, is_any_value_byte}
 use Rattle.rox_reading.specs.Values.{is_special, raw_character_data_at}
 use Rattle.rox_grammar.specs.Constructs.{AreChars}
 use Rattle.rox_grammar.specs.FixedTexts.{double_dash}
@@ -44,7 +44,7 @@ ends_value quote src k = (slice_index src k == quote) || (slice_index src k == 6
 
 -- The byte `b` needs no replacement in a value, or changes it.
 unfoldable pub is_changed_value_byte : ℕ → Bool
-is_changed_value_byte b = is_wide_value_byte b || is_special b
+is_changed_value_byte b = is_any_value_byte b || is_special b
 
 -- What is looked at up to `j` is valid up to `k` too, where it is as before whether it is changed.
 abbrev pub GoesOnInValue : ℕ → List ℕ → ℕ → ℕ → Bool → Type 0

@@ -1,5 +1,5 @@
-//! Character data as it is written (XML 1.0 section 2.4). There is a fast path, a slow path from a byte that may be valid, and
-//! the fault of `]]>`.
+//! Character data as it is written (XML 1.0 section 2.4). There is a first look, at plain bytes, a look beyond them, from a byte
+//! that may be valid, and the fault of `]]>`.
 
 ghost use Rattle.std.specs.Prelude.{◌≡◌, ◌==◌, ◌||◌, ◌&&◌, ◌+◌, ◌<◌, ◌≤◌, ℕ, IfOk, IfSome, OnOk, Ok, false, true, length, slice_index, slice_range};
 ghost use Rattle.std.specs.Str.{IsCharBoundary};
@@ -12,11 +12,13 @@ ghost use Rattle.rox_bytes.specs.ByteSets as near;
 ghost use Rattle.rox_scan.specs.Lookahead as longer;
 ghost use Rattle.rox_scan.specs.Lookahead.{EndsRun, GoesOnLooking, IsChangedRun, IsLineRun, IsLookahead, IsStep, LooksAhead, SeesRun};
 ghost use Rattle.rox_scan.specs.Views.{ReadsRun};
-ghost use Rattle.rox_bytes.specs.ScanResults.{HasCharAt, HasWideAt};
+ghost use Rattle.rox_bytes.specs.ScanResults.{HasCharAt, Has239At};
 
 use crate::cursor::Cursor;
 use crate::lookahead::{Lookahead, after_char, is_mark_at};
-use rox_bytes::byte_set::{BEHIND_CONTROLS, ByteSet, find_other, skip_eased, skip_set, wide_first};
+use rox_bytes::byte_set::{
+    BEHIND_CONTROLS, ByteSet, find_other, non_ascii_first, skip_eased, skip_set,
+};
 use rox_bytes::nibbles::by_low;
 use rox_bytes::runs::{after_byte, is_at};
 use rox_bytes::search::{before_either, byte_from, has_mark};
@@ -73,8 +75,8 @@ impl ByteSet for AsciiTextByte {
     #[inline(always)]
     fn others(block: u8x16) -> u64 {
         let exceptions = by_low(TEXT_EXCEPTIONS, block).simd_eq(block);
-        let controls_and_wide = wide_first(block).simd_lt(u8x16::splat(BEHIND_CONTROLS));
-        (controls_and_wide ^ exceptions).to_bitmask()
+        let controls_and_non_ascii = non_ascii_first(block).simd_lt(u8x16::splat(BEHIND_CONTROLS));
+        (controls_and_non_ascii ^ exceptions).to_bitmask()
     }
 }
 
@@ -118,19 +120,19 @@ pub fn text_end(text: &str, at: usize) -> Option<usize>
     if bytes[end] == b'<' {
         return Some(end);
     }
-    far_text_end(text, at, end)
+    text_end_beyond(text, at, end)
 }
 
-/// Like `text_end`, but the bytes up to `near` are `TextByte`s, and the byte at `near` is another.
+/// Like `text_end`, beyond `near`: the bytes up to there are `TextByte`s, and the byte there is another.
 #[inline(always)]
-fn far_text_end(text: &str, at: usize, near: usize) -> Option<usize>
+fn text_end_beyond(text: &str, at: usize, near: usize) -> Option<usize>
     requires { SeesRun text.now at near }
     ensures { IfSome result (EndsRun text.entry.now at) }
 {
     if !is_rare(text.as_bytes()[near]) {
         return None;
     }
-    let end = far_run_end(Cursor { text, pos: near });
+    let end = run_end_beyond(Cursor { text, pos: near });
     if !is_at(text, end, b'<') {
         return None;
     }
@@ -203,8 +205,8 @@ fn begins_no_char(text: &str, at: usize) -> bool
 
 /// Returns the offset after the Char that starts with 239 at `at`, or `at` if it is U+FFFE or U+FFFF, which are not Chars.
 #[inline(always)]
-fn after_wide(text: &str, at: usize) -> usize
-    requires { HasWideAt text.now at }
+fn after_239(text: &str, at: usize) -> usize
+    requires { Has239At text.now at }
     ensures { IsStep text.now at result }
 {
     if begins_no_char(text, at) {
@@ -230,7 +232,7 @@ fn after_rare(text: &str, at: usize) -> usize
 {
     let here = text.as_bytes()[at];
     if here == 239 {
-        return after_wide(text, at);
+        return after_239(text, at);
     }
     if here == b']' && !is_mark_at(text, at, b"]]>") {
         return at + 1;
@@ -247,15 +249,15 @@ pub fn plain_run_end(from: Cursor<'_>) -> usize
     let text = from.text;
     let near = skip_set::<TextByte>(text, from.pos);
     if is_at(text, near, 239) || is_at(text, near, b']') {
-        return far_run_end(Cursor { text, pos: near });
+        return run_end_beyond(Cursor { text, pos: near });
     }
     near
 }
 
-/// Like `plain_run_end`, but from a character that starts with 239, as full-width forms do, or from a `]`. Full-width forms come in
-/// numbers, so the search after one passes most others too.
+/// Like `plain_run_end`, beyond its first look: from a character that starts with 239, as full-width forms do, or from a `]`.
+/// Full-width forms come in numbers, so the search after one passes most others too.
 #[inline(never)]
-fn far_run_end(from: Cursor<'_>) -> usize
+fn run_end_beyond(from: Cursor<'_>) -> usize
     ensures { IsLookahead (longer.ends_run from.entry.text.now) longer.changes_run
         from.entry.text.now from.entry.pos result true }
 {
@@ -343,7 +345,7 @@ pub fn raw_character_data<'input>(
     faulty_character_data(cursor)
 }
 
-/// Like `raw_character_data`, but the slow path, for character data with a fault.
+/// Like `raw_character_data`, for character data with a fault.
 #[cold]
 #[inline(never)]
 #[tactic(auto, unfolding(rox_reading::specs::Values::raw_character_data_at))]

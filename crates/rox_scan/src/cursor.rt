@@ -9,11 +9,10 @@ ghost use Rattle.rox_grammar.specs.Search as search;
 ghost use Rattle.rox_grammar.specs.ExpectedTexts.{expected_text};
 ghost use Rattle.rox_bytes.specs.ScanResults.{Finds};
 
-use crate::lookahead::chars_end;
 use memchr::memmem;
 use rox_bytes::byte_set::{ByteSet, PartByte, SpaceByte, part_end, skip_set};
 use rox_bytes::chars::{NameChar, NameStart};
-use rox_bytes::runs::{after_byte, begins, char_at, is_at, run_end};
+use rox_bytes::runs::{after_byte, begins, is_at, run_end};
 use rox_bytes::search::before_byte;
 use rox_grammar::fault::{Due, Expected, Fault, Word};
 use rox_grammar::name::QName;
@@ -50,8 +49,8 @@ fn name_end(text: &str, start: usize) -> usize
 
 impl<'input> Cursor<'input> {
     ghost use Rattle.rox_grammar.specs.Failures.{name_view};
-    ghost use Rattle.rox_bytes.specs.ScanResults.{AreBoundaries, HasAsciiAt, IsBoundaryFrom};
-    ghost use Rattle.rox_scan.specs.CursorSteps.{IsAt, MovesTo, ReadsChars, StandsWithin, Steps};
+    ghost use Rattle.rox_bytes.specs.ScanResults.{AreBoundaries, HasAsciiAt};
+    ghost use Rattle.rox_scan.specs.CursorSteps.{IsAt, MovesTo, StandsWithin, Steps};
     ghost use Rattle.rox_grammar.specs.Search.{stands};
     ghost use Rattle.rox_grammar.specs.FixedTexts.{word_text};
     ghost use Rattle.rox_grammar.specs.Names.{spaces_end};
@@ -251,30 +250,11 @@ impl<'input> Cursor<'input> {
             local: &text[local..end],
         })
     }
-
-    /// Reads the text up to `end`. A character that is not a Char (XML 1.0 [2]) is a fault at its offset.
-    #[inline]
-    #[tactic(auto, unfolding(rox_reading::specs::Lexical::chars_up_to))]
-    pub fn chars_up_to(&mut self, end: usize) -> Result<&'input str, Fault>
-        requires { IsBoundaryFrom self.old.text.now self.old.pos end }
-        ensures { ReadsChars end self.old self.new result }
-    {
-        let start = self.pos;
-        let ill = chars_end(Cursor {
-            text: &self.text[..end],
-            pos: start,
-        });
-        if ill < end {
-            return Err(Fault::NonXmlChar(char_at(self.text, ill), ill));
-        }
-        self.pos = end;
-        Ok(&self.text[start..end])
-    }
 }
 
-/// Returns the end of the white space that starts at the cursor, sixteen bytes at a time.
+/// Like `space_end`, but sixteen bytes at a time, for white space that goes beyond one byte.
 #[inline(always)]
-pub fn far_space_end(from: Cursor<'_>) -> usize
+pub fn space_end_beyond(from: Cursor<'_>) -> usize
     ensures { Finds from.entry.text.now from.entry.pos result
         (run_end is_space from.entry.text.now from.entry.pos) }
 {

@@ -1,13 +1,9 @@
-//! The scanner: the constructs that contain no others, read from an offset of a source. Each function returns what is there, or
-//! the first fault, and moves the cursor past it.
+//! The scanner: an offset in a source, the small steps that read from it, and character data as it is written. Each step returns
+//! what is there, or the first fault, and moves the cursor past it.
 #![tactic(auto)]
 
 pub mod character_data;
 pub mod cursor;
-pub mod doctype;
 pub mod lookahead;
-pub mod markup;
+pub mod raw_attribute;
 pub mod short_run;
-pub mod source;
-pub mod tag;
-pub mod xml_decl;

@@ -1,5 +1,5 @@
-//! The slow path of values and comments, from a byte that ends the fast path but may be valid. These are bytes of references,
-//! white space, the other quote, a dash, and 239.
+//! Chars, and looks at values and comments beyond their plain bytes: a byte that is not plain may be valid. These are bytes of
+//! references, white space, the other quote, a dash, and 239.
 
 ghost use Rattle.std.specs.Prelude.{◌≡◌, ◌==◌, ◌||◌, ◌<◌, ◌≤◌, ℕ, true, length, slice_index};
 ghost use Rattle.std.specs.Str.{IsCharBoundary};
@@ -10,21 +10,22 @@ ghost use Rattle.rox_grammar.specs.Search.{stands};
 ghost use Rattle.rox_grammar.specs.Content as content;
 ghost use Rattle.rox_reading.specs.Values as reading;
 ghost use Rattle.rox_bytes.specs.ByteSets as near;
+ghost use Rattle.rox_scan.specs.CursorSteps.{ReadsChars};
 ghost use Rattle.rox_scan.specs.Lookahead as longer;
 ghost use Rattle.rox_scan.specs.Lookahead.{EndsComment, GoesOnInValue, IsAfterChar, IsLookahead, LooksAhead};
-ghost use Rattle.rox_bytes.specs.ScanResults.{Finds, HasCharAt, MayHaveMark};
+ghost use Rattle.rox_bytes.specs.ScanResults.{Finds, HasCharAt, IsBoundaryFrom, MayHaveMark};
 
 use crate::cursor::{Cursor, Quote};
 use rox_bytes::byte_set::{
-    AsciiCommentByte, ByteSet, CharByte, CommentByte, WideValueByte, skip_set,
+    AnyValueByte, AsciiCommentByte, ByteSet, CharByte, CommentByte, skip_set,
 };
 use rox_bytes::chars::{Class, XmlChar};
 use rox_bytes::nibbles::by_low;
 use rox_bytes::runs::char_at;
-use rox_grammar::fault::Word;
+use rox_grammar::fault::{Fault, Word};
 use std::simd::prelude::*;
 
-/// The result of the slow path: all is valid up to `end`, and `is_verbatim` is true if it needs no replacement.
+/// How far a look goes: all is valid up to `end`, and `is_verbatim` is true if it needs no replacement.
 #[derive(Clone, Copy)]
 pub struct Lookahead {
     pub end: usize,
@@ -66,6 +67,27 @@ pub fn chars_end(from: Cursor<'_>) -> usize
         end = skip_set::<CharByte>(text, next);
     }
     end
+}
+
+impl<'input> Cursor<'input> {
+    /// Reads the text up to `end`. A character that is not a Char (XML 1.0 [2]) is a fault at its offset.
+    #[inline]
+    #[tactic(auto, unfolding(rox_reading::specs::Lexical::chars_up_to))]
+    pub fn chars_up_to(&mut self, end: usize) -> Result<&'input str, Fault>
+        requires { IsBoundaryFrom self.old.text.now self.old.pos end }
+        ensures { ReadsChars end self.old self.new result }
+    {
+        let start = self.pos;
+        let ill = chars_end(Cursor {
+            text: &self.text[..end],
+            pos: start,
+        });
+        if ill < end {
+            return Err(Fault::NonXmlChar(char_at(self.text, ill), ill));
+        }
+        self.pos = end;
+        Ok(&self.text[start..end])
+    }
 }
 
 /// Returns whether `mark` is at `at`. Other bytes are compared only if the first is equal.
@@ -140,7 +162,7 @@ impl ByteSet for RunByte {
     }
 }
 
-/// The bytes of `WideValueByte`, and those that change a value: `&` and white space other than spaces.
+/// The bytes of `AnyValueByte`, and those that change a value: `&` and white space other than spaces.
 pub struct ChangedValueByte;
 
 // The controls of the set, and the bytes above them that are not in it except 239, each at its low half.
@@ -154,7 +176,7 @@ impl ByteSet for ChangedValueByte {
     #[inline(always)]
     #[tactic(auto, unfolding(crate::specs::Lookahead::is_changed_value_byte))]
     fn has(byte: u8) -> bool {
-        WideValueByte::has(byte) | is_special(byte)
+        AnyValueByte::has(byte) | is_special(byte)
     }
 
     #[inline(always)]
@@ -173,7 +195,7 @@ fn value_stretch_end(text: &str, at: usize, quote: Quote, is_verbatim: bool) -> 
     ensures onward { at ≤ result }
 {
     if is_verbatim {
-        return skip_set::<WideValueByte>(text, at);
+        return skip_set::<AnyValueByte>(text, at);
     }
     skip_set::<ChangedValueByte>(text, at)
 }
@@ -186,7 +208,7 @@ pub fn scan_value(from: Cursor<'_>, quote: Quote) -> Lookahead
     let text = from.text;
     let bytes = text.as_bytes();
     let mut is_verbatim = true;
-    let mut end = skip_set::<WideValueByte>(text, from.pos);
+    let mut end = skip_set::<AnyValueByte>(text, from.pos);
     while end < bytes.len() {
         let here = bytes[end];
         if here == quote.byte || here == b'<' {
@@ -223,10 +245,10 @@ pub fn comment_end(from: Cursor<'_>) -> usize
     end
 }
 
-/// Returns the end of the rest of a comment's text that starts at `at`, if it is valid, or 0. This is the slow path, for comments
-/// with other bytes too.
+/// Returns the end of the rest of a comment's text that starts at `at`, if it is valid, or 0. It goes beyond the bytes that
+/// `ascii_comment_end` passes.
 #[inline(never)]
-fn far_comment_end(text: &str, at: usize) -> usize
+fn comment_end_beyond(text: &str, at: usize) -> usize
     requires { IsCharBoundary text.now at }
     ensures { 0 < result → EndsComment text.now at result }
 {
@@ -258,7 +280,7 @@ pub fn comment_text_end(from: Cursor<'_>) -> usize
     if (Cursor { text, pos: near }).starts(Word::CommentEnd) {
         return near;
     }
-    far_comment_end(text, near)
+    comment_end_beyond(text, near)
 }
 
 /// Returns whether a value needs no replacement: it has no `&` and no white space other than spaces.

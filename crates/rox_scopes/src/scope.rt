@@ -12,7 +12,7 @@ ghost use Rattle.rox_scopes.specs.Bindings.{AreOnce, FindsPlace, LooksUp, LooksW
 use crate::bindings::PrefixBindings;
 use crate::prefix_set::{FEW, has_prefix};
 use crate::tables::{Namespace, Scope, Stretch};
-use rox_rows::compare::{LONG, Pair, same_short, same_text};
+use rox_storage::compare::{LONG, Pair, same_short, same_text};
 use std::alloc::AllocError;
 use std::collections::BTreeSet;
 
@@ -112,10 +112,10 @@ fn place_of_prefix(namespaces: &[Namespace<'_>], places: &[u16], prefix: &str) -
     None
 }
 
-/// Like `find_near`, but searches all places in order, and stores the index of the one found in `near`. It is out of line: few
-/// attributes have another prefix than the one before them.
+/// Like `find_by_guess`, but searches all places in order, and stores the index of the one found in `near`. It is out of line:
+/// few attributes have another prefix than the one before them.
 #[inline(never)]
-fn find_far(
+fn find_in_order(
     namespaces: &[Namespace<'_>],
     places: &[u16],
     prefix: &str,
@@ -136,7 +136,7 @@ fn find_far(
 /// Returns the one of these places whose namespace has this prefix. It first tries the index `near`, where the last search ended:
 /// most names of a tag have the same prefix.
 #[inline(always)]
-pub fn find_near(
+pub fn find_by_guess(
     namespaces: &[Namespace<'_>],
     places: &[u16],
     prefix: &str,
@@ -152,7 +152,7 @@ pub fn find_near(
             return Some(place);
         }
     }
-    find_far(namespaces, places, prefix, near)
+    find_in_order(namespaces, places, prefix, near)
 }
 
 /// Returns the place of a prefix: the first among the places `few`, or that of its binding in `present` if `few` is `None`.

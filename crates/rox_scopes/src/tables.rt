@@ -4,7 +4,7 @@ use crate::bindings::PrefixBindings;
 use crate::namespace_table::NamespaceTable;
 use rox_rows::attributes::AttributeTable;
 use rox_rows::node_table::NodeTable;
-use rox_rows::storage::StringStorage;
+use rox_storage::storage::StringStorage;
 
 /// A namespace that an element lists: a prefix, or `None` for the default, and its URI.
 ///

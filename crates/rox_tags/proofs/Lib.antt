@@ -1,7 +1,6 @@
 pub mod Taking
 pub mod Starting
 pub mod Moving
-pub mod SpacedEnds
 pub mod PlainTags
 pub mod TagAttributes
 pub mod OwnNames

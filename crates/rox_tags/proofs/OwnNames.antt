@@ -10,10 +10,10 @@ use Rattle.rox_grammar.specs.declared.fault.Word.TheVariants.{Xmlns}
 use Rattle.rox_reading.specs.Lexical.{qname_at}
 use Rattle.rox_bytes.specs.ByteSets.{AllPass, is_part_byte}
 use Rattle.rox_bytes.proofs.NearLemmas.{part_begins, part_cut, part_stops}
-use Rattle.rox_tags.specs.PlainParts.{EndsFirstPart, IsPrefixedName}
+use Rattle.rox_attributes.specs.PlainNames.{EndsFirstPart, IsPrefixedName}
 use Rattle.rox_tags.specs.TagAttributes.{IsDeclaredName, HasXmlns}
-use Rattle.rox_tags.specs.declared.quick_name.NameAt.{NameAt}
-use Rattle.rox_scan.proofs.PairLemmas.{name_is}
+use Rattle.rox_attributes.specs.declared.quick_name.NameAt.{NameAt}
+use Rattle.rox_markup.proofs.PairLemmas.{name_is}
 
 -- the bytes of `xmlns`
 byte_of : (src : List ℕ) (i k : ℕ) → HasXmlns src i → k < 5 → slice_index src (i + k) ≡ get_or (word_text Xmlns) k 0

@@ -39,11 +39,13 @@ use Rattle.rox_names.proofs.Declaring.{declared_new}
 use Rattle.rox_names.proofs.Resolving.{nothing_left}
 use Rattle.rox_tags.specs.ElementRow.{IsElementFrom}
 use Rattle.rox_tags.specs.PlainParts.{EndsTag}
-use Rattle.rox_tags.specs.PlainTag.{HasScope, IsNearAttribute, IsPlainTag, MayOpenBelow}
+use Rattle.rox_attributes.specs.PlainAttribute.{HasScope, IsNearAttribute}
+use Rattle.rox_tags.specs.PlainTag.{IsPlainTag, MayOpenBelow}
 use Rattle.rox_tags.specs.Repeating.{AreOneMore, IsRepeated, Repeats}
 use Rattle.rox_tags.specs.TagAttributes.{holding}
 use Rattle.rox_tags.specs.declared.quick_tag.TagEnd.{TagEnd}
-use Rattle.rox_tags.proofs.PlainTags.{item_closed, item_opened, no_space}
+use Rattle.rox_attributes.proofs.PlainAttributes.{no_space}
+use Rattle.rox_tags.proofs.PlainTags.{item_closed, item_opened}
 use Rattle.rox_tags.proofs.Starting.{tag_made, tested_known, tested_passes}
 use Rattle.rox_tags.proofs.TagAttributes.{end_is, taken_declared}
 

@@ -29,7 +29,7 @@ use Rattle.rox_rows.specs.Rows.{AttributeRow, NamespaceWithin, attribute, attrib
 use Rattle.rox_scopes.specs.Tables.{AreRows, AreScopes, IsRow, lists_of}
 use Rattle.rox_scopes.specs.NamespaceViews.{namespace_view}
 use Rattle.rox_scopes.specs.Scopes.{ArePlaces, PrefixesOnce, entries}
-use Rattle.rox_rows.specs.Storage.{is_borrowed, storage_bytes}
+use Rattle.rox_storage.specs.Storage.{is_borrowed, storage_bytes}
 use Rattle.rox_names.specs.TagDeclarations.{Declares, HasOwn, unresolved_view}
 use Rattle.rox_scopes.specs.TagScopes.{lists_in, scope_in_tables}
 use Rattle.rox_scopes.specs.declared.bindings.PrefixBindings.{PrefixBindings}
@@ -43,13 +43,14 @@ use Rattle.rox_scopes.proofs.Listing.{with_new-append, with_new-front}
 use Rattle.rox_names.proofs.NameTests.{tested_on}
 use Rattle.rox_scopes.proofs.Remembering.{remembers_none}
 use Rattle.rox_rows.proofs.Stable.{all_append, all_weaker, attribute-append, map_same}
-use Rattle.rox_tags.specs.PlainTag.{AddsPlain, HasScope, IsPlainAttribute, few_in}
+use Rattle.rox_attributes.specs.PlainAttribute.{AddsPlain, HasScope, IsPlainAttribute, few_in}
 use Rattle.rox_tags.specs.TagAttributes.{AreNoBindings, ArePlainAttributes, DeclaresIn, DeclaresInRoot, HasGrown, HasRootScope, HoldsSoFar, ListsDeclaration, MayBegin, PlainSoFar, first_places, holding}
 use Rattle.rox_tags.specs.declared.quick_tag.TagEnd.{TagEnd}
 use Rattle.rox_tags.specs.declared.own_declaration.TagScope.{TagScope}
 use Rattle.rox_bytes.proofs.RunLemmas.{stands_within}
 use Rattle.rox_names.proofs.Resolving.{nothing_left, row_shown}
-use Rattle.rox_tags.proofs.PlainTags.{item_closed, item_more, item_opened, others_stay, scope_found, scope_stays}
+use Rattle.rox_attributes.proofs.PlainAttributes.{item_more}
+use Rattle.rox_tags.proofs.PlainTags.{item_closed, item_opened, others_stay, scope_found, scope_stays}
 
 -- ---- names in a scope that grows
 

@@ -12,16 +12,16 @@ use Rattle.rox_reading.specs.Values.{ReadText, value_at}
 use Rattle.rox_reading.specs.Tags as tags
 use Rattle.rox_reading.specs.Tags.{TagSoFar, TagRest, Values, declared, attribute_with, after_tag_item, attributes_at}
 use Rattle.rox_grammar.specs.Failures.{Fails, name_view}
-use Rattle.rox_scan.specs.Views.{attribute_view}
+use Rattle.rox_markup.specs.Views.{attribute_view}
 use Rattle.rox_grammar.specs.declared.failure.Failure.{Failure}
 use Rattle.rox_grammar.specs.declared.failure.Failure.TheVariants as failure
 use Rattle.rox_scan.specs.declared.cursor.Cursor.{Cursor}
-use Rattle.rox_scan.specs.declared.tag.RawAttribute.{RawAttribute as CodeRaw}
+use Rattle.rox_scan.specs.declared.raw_attribute.RawAttribute.{RawAttribute as CodeRaw}
 use Rattle.rox_values.specs.Refusals.{IsRefusal, of_failure}
 use Rattle.rox_values.specs.declared.parse_error.ParseError.{ParseError}
 use Rattle.rox_values.proofs.PartLemmas.{refuses_by}
 use Rattle.rox_scopes.specs.declared.tables.ElementTables.{ElementTables}
-use Rattle.rox_rows.specs.Storage.{storage_bytes, is_borrowed}
+use Rattle.rox_storage.specs.Storage.{storage_bytes, is_borrowed}
 use Rattle.rox_names.specs.declared.unresolved_attribute.UnresolvedAttribute.{UnresolvedAttribute}
 use Rattle.rox_names.specs.TagDeclarations.{unresolved_view, Declared}
 use Rattle.rox_tags.specs.TagState.{HoldsTag, KeepsScopes, GivesAttribute, GivesTagPart, AddsAttribute, value_of}

@@ -5,4 +5,3 @@ pub mod PlainTag
 pub mod Repeating
 pub mod PlainParts
 pub mod TagAttributes
-pub mod SpacedBytes

@@ -3,7 +3,7 @@ use Rattle.std.specs.Prelude.{◌≡◌, ◌<◌, ◌≤◌, ◌+◌, ◌^◌, �
 use Rattle.rox_grammar.specs.Document.{most_pairs, most_attributes}
 use Rattle.rox_scan.specs.Views.{HasValue}
 use Rattle.rox_scan.specs.declared.cursor.Cursor.{Cursor}
-use Rattle.rox_scan.specs.declared.tag.RawAttribute.{RawAttribute}
+use Rattle.rox_scan.specs.declared.raw_attribute.RawAttribute.{RawAttribute}
 use Rattle.rox_rows.specs.Rows.{attribute_rows}
 use Rattle.rox_scopes.specs.Tables.{AreScopes}
 use Rattle.rox_scopes.specs.Scopes.{ArePlaces, PrefixesOnce}

@@ -5,17 +5,17 @@ ghost use Rattle.std.specs.Prelude.{◌≡◌, IfSome, length, true};
 ghost use Rattle.std.specs.Str.{IsCharBoundary};
 ghost use Rattle.rox_tags.specs.TagAttributes.{DeclaresOwn, HasXmlns, IsDeclaredName, IsNearDeclaration, IsPlainDeclaration, ListsOwn, MayDeclareHere, MayPutDeclaration, PutsDeclaration};
 
-use crate::quick_name::{NameAt, name_without_prefix, prefixed_name};
-use crate::quick_tag::one_space_end;
-use crate::quick_value::{quote_after_equals, quote_before, unchanged_value};
+use rox_attributes::quick_name::{NameAt, name_without_prefix, prefixed_name};
+use rox_attributes::quick_space::one_space_end;
+use rox_attributes::quick_value::{quote_after_equals, quote_before, unchanged_value};
 use rox_bytes::byte_set::{ValueByte, skip_set};
 use rox_bytes::runs::{after_byte, is_at};
 use rox_names::namespace_decl::declare_new;
 use rox_names::seen_names::SeenNames;
 use rox_names::unresolved_attribute::UnresolvedAttribute;
-use rox_rows::storage::StringStorage;
 use rox_scopes::prefix_set::FEW;
 use rox_scopes::tables::{ElementTables, Scope, Stretch};
+use rox_storage::storage::StringStorage;
 
 /// The scope of a root element: the one after that of the root node.
 pub const OWN: u32 = 1;

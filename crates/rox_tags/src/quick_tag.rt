@@ -2,30 +2,28 @@
 //! sections 3.1 and 4.6). Nothing fails here: the general reader reads a tag that is not plain, or finds no room, from its `<`.
 
 ghost use Rattle.std.specs.Prelude.{◌≡◌, ◌<◌, ◌+◌, ◌-◌, ◌==◌, Ok, IfSome, slice_index, true, false};
-ghost use Rattle.rox_grammar.specs.Chars.{is_space};
-ghost use Rattle.rox_grammar.specs.Runs.{run_end, begins};
 ghost use Rattle.rox_grammar.specs.Failures.{name_view};
-ghost use Rattle.rox_bytes.specs.ScanResults.{Finds};
 ghost use Rattle.rox_tags.specs.PlainParts.{EndsEmpty, EndsTag, FindsElementNamespace, IsNextItem, MayNameBelow, MayNameIn, MayNamePrefixed, MayReadBareTag, MayReadNearTag, MayReadPlainTag};
-ghost use Rattle.rox_tags.specs.PlainTag.{IsBareTag, IsBeforeLast, ReadsTag};
+ghost use Rattle.rox_attributes.specs.PlainValues.{IsBeforeLast};
+ghost use Rattle.rox_tags.specs.PlainTag.{IsBareTag, ReadsTag};
 ghost use Rattle.rox_tags.specs.TagAttributes.{EndsAttributes, MayReadAttributes, ReadsAttributes};
 
-use crate::near_prefix::find_in_slot;
 use crate::own_declaration::{TagScope, declares_at, put_declaration};
-use crate::quick_attribute::{MOST_ATTRIBUTES, byte_count, put_attribute};
-use crate::quick_name::{NamePlace, ascii_name, name_of_part};
 use crate::tag::element_of;
-use rox_bytes::runs::{after_byte, begins, is_at};
+use rox_attributes::prefix_cache::find_in_slot;
+use rox_attributes::quick_attribute::{MOST_ATTRIBUTES, byte_count, put_attribute};
+use rox_attributes::quick_name::{NamePlace, ascii_name, name_of_part};
+use rox_attributes::quick_space::one_space_end;
+use rox_bytes::runs::{after_byte, is_at};
 use rox_grammar::name::QName;
 use rox_names::open_element::{OpenElement, has_prefix};
 use rox_names::resolve::element_namespace;
 use rox_names::seen_names::SeenNames;
 use rox_names::start_tag::StartTag;
-use rox_rows::compare::same_text;
 use rox_rows::row::namespace_number;
-use rox_scan::cursor::{Cursor, far_space_end};
 use rox_scopes::scope::few_places;
 use rox_scopes::tables::ElementTables;
+use rox_storage::compare::same_text;
 
 /// The end of a start tag: the offset after its `>`, and whether the tag is empty.
 #[derive(Clone, Copy)]
@@ -48,22 +46,6 @@ fn empty_end(text: &str, at: usize) -> Option<TagEnd>
         at: after_byte(text, behind, b'>'),
         empty: true,
     })
-}
-
-/// Returns the end of the white space that starts at `at`, before the last byte. Most often it is one space, or there is none.
-#[inline(always)]
-pub fn one_space_end(text: &str, at: usize) -> usize
-    requires { IsBeforeLast text.now at }
-    ensures { Finds text.now at result (run_end is_space text.now at) }
-{
-    let bytes = text.as_bytes();
-    if bytes[at] == b' ' && bytes[at + 1] > b' ' {
-        return after_byte(text, at, b' ');
-    }
-    if bytes[at] > b' ' {
-        return at;
-    }
-    far_space_end(Cursor { text, pos: at })
 }
 
 /// The item after white space: its offset, and whether it may be an attribute.

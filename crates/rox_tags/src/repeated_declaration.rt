@@ -9,21 +9,22 @@ ghost use Rattle.rox_scopes.specs.Scopes.{ArePlaces, pair, prefix_view};
 ghost use Rattle.rox_scopes.specs.TagScopes.{scope_in_tables};
 ghost use Rattle.rox_names.specs.TagDeclarations.{unresolved_view};
 ghost use Rattle.rox_tags.specs.PlainParts.{MayReadPlainTag};
-ghost use Rattle.rox_tags.specs.PlainTag.{HasScope, IsPlainTag};
+ghost use Rattle.rox_attributes.specs.PlainAttribute.{HasScope};
+ghost use Rattle.rox_tags.specs.PlainTag.{IsPlainTag};
 ghost use Rattle.rox_tags.specs.Repeating.{AreOneMore, IsRepeated, Repeats};
 
 use crate::own_declaration::declaration_after;
-use crate::quick_attribute::byte_count;
-use crate::quick_name::{NamePlace, name_of_part};
 use crate::quick_tag::{PlainTag, attributes_end, namespace_in_scope};
 use crate::tag::element_of;
+use rox_attributes::quick_attribute::byte_count;
+use rox_attributes::quick_name::{NamePlace, name_of_part};
 use rox_bytes::runs::after_byte;
 use rox_names::open_element::OpenElement;
 use rox_names::start_tag::StartTag;
 use rox_names::unresolved_attribute::UnresolvedAttribute;
-use rox_rows::compare::same_text;
 use rox_scopes::scope::{few_places, is_declared, is_xml, same_prefix};
 use rox_scopes::tables::{ElementTables, Namespace};
+use rox_storage::compare::same_text;
 
 /// The number of scopes that are tried, from the last one on.
 const TRIED: usize = 8;

@@ -4,31 +4,32 @@ ghost use Rattle.std.specs.Prelude.{◌≡◌, ◌<◌, ◌^◌, List, length, m
 ghost use Rattle.rox_grammar.specs.Failures.{name_view};
 ghost use Rattle.rox_tags.specs.ElementRow.{IsElementFrom, MakesElement, MayMakeElement, ReadsStartTag};
 ghost use Rattle.rox_tags.specs.TagReadiness.{IsBehind, MayReadTagBelow, MayResolve};
-ghost use Rattle.rox_scan.specs.Views.{attribute_view};
+ghost use Rattle.rox_markup.specs.Views.{attribute_view};
 ghost use Rattle.rox_grammar.specs.Entities.{Entity};
 ghost use Rattle.rox_values.specs.DeclaredEntities.{AreDeclared, values_in};
 ghost use Rattle.rox_values.specs.Values.{piece_view};
 ghost use Rattle.rox_names.specs.TagDeclarations.{unresolved_view};
 ghost use Rattle.rox_tags.specs.TagState.{IsReadingTag, GivesAttribute, ReadsAttributes, ReadsTagPart, TakesAttribute, IsStored, value_of};
 
-use crate::quick_attribute::{MOST_ATTRIBUTES, byte_count, verbatim_attribute};
+use rox_attributes::quick_attribute::{MOST_ATTRIBUTES, byte_count, verbatim_attribute};
 use rox_grammar::failure::Failure;
 use rox_grammar::fault::Fault;
 use rox_grammar::name::QName;
+use rox_markup::tag::{TagItem, tag_item};
 use rox_names::namespace_decl::{declare_namespace, is_namespace_decl};
 use rox_names::resolve::{element_namespace, resolve};
 use rox_names::seen_names::SeenNames;
 use rox_names::start_tag::{Buffers, StartTag};
 use rox_names::unresolved_attribute::UnresolvedAttribute;
-use rox_rows::compare::same_text;
 use rox_rows::growth::push_with_room;
 use rox_rows::row::{ElementData, namespace_number};
-use rox_rows::storage::StringStorage;
 use rox_scan::cursor::Cursor;
-use rox_scan::tag::{RawAttribute, TagItem};
+use rox_scan::raw_attribute::RawAttribute;
 use rox_scopes::scope::{OwnDeclarations, few_places};
 use rox_scopes::tables::ElementTables;
 use rox_scopes::tag_scope::scope_of_tag;
+use rox_storage::compare::same_text;
+use rox_storage::storage::StringStorage;
 use rox_values::attribute_value::value;
 use rox_values::context::Context;
 use rox_values::parse_error::ParseError;
@@ -128,7 +129,7 @@ fn tag_part<'input>(
         cursor.pos = one.end;
         return Ok(TagPart::One(one, openings_left));
     }
-    match cursor.tag_item()? {
+    match tag_item(cursor)? {
         TagItem::More(raw) => {
             let (one, left) = unresolved(alloc, cursor, &raw, context, openings_left, scratch)?;
             Ok(TagPart::One(one, left))

@@ -8,7 +8,7 @@ use Rattle.rox_grammar.specs.Entities.{Replacement, Entity, text_of}
 use Rattle.rox_reading.specs.Machine.{budget}
 use Rattle.rox_reading.specs.Tags.{Values}
 use Rattle.rox_reading.specs.Machine.{values_of}
-use Rattle.rox_scan.specs.DoctypeViews.{replacement_view}
+use Rattle.rox_scan.specs.Views.{replacement_view}
 use Rattle.rox_values.specs.HeldEntities.{named_cmp}
 use Rattle.rox_values.specs.declared.entities.Entities.{Entities}
 use Rattle.rox_values.specs.declared.context.Context.{Context}

@@ -11,7 +11,7 @@ use Rattle.rox_bytes.specs.ByteSets.{EndsSet, is_stretch_byte}
 use Rattle.rox_values.specs.Values.{behind, text_behind}
 use Rattle.rox_grammar.specs.Failures.{Fails}
 use Rattle.rox_grammar.specs.declared.failure.Failure.{Failure}
-use Rattle.rox_scan.specs.DoctypeViews.{replacement_view}
+use Rattle.rox_scan.specs.Views.{replacement_view}
 use Rattle.rox_scan.specs.declared.cursor.Cursor.{Cursor}
 use Rattle.rox_values.specs.DeclaredEntities.{AreDeclared}
 use Rattle.rox_values.specs.declared.entities.Entities.{Entities}

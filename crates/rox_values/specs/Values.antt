@@ -13,7 +13,7 @@ use Rattle.rox_bytes.specs.ByteSets.{EndsSet, is_run_byte}
 use Rattle.rox_grammar.specs.Failures.{Fails}
 use Rattle.rox_scan.specs.declared.cursor.Cursor.{Cursor}
 use Rattle.rox_grammar.specs.declared.failure.Failure.{Failure}
-use Rattle.rox_scan.specs.DoctypeViews.{replacement_view}
+use Rattle.rox_scan.specs.Views.{replacement_view}
 use Rattle.rox_scan.specs.CursorSteps.{Steps}
 use Rattle.rox_grammar.specs.Entities.{Entity}
 use Rattle.rox_values.specs.DeclaredEntities.{AreDeclared}

@@ -8,7 +8,7 @@ ghost use Rattle.rox_reading.specs.Values as spec;
 ghost use Rattle.rox_scan.specs.Views.{HasValue};
 ghost use Rattle.rox_grammar.specs.Entities.{Entity};
 ghost use Rattle.rox_reading.specs.Machine.{value_opener};
-ghost use Rattle.rox_scan.specs.DoctypeViews.{replacement_view};
+ghost use Rattle.rox_scan.specs.Views.{replacement_view};
 ghost use Rattle.rox_values.specs.DeclaredEntities.{AreDeclared};
 ghost use Rattle.rox_values.specs.PlainBits.{BeginsPlain, BeginsReference, NamesText, kind_for};
 ghost use Rattle.rox_values.specs.Values.{AppendsValue, GivesValue, piece_view};
@@ -22,7 +22,7 @@ use rox_grammar::failure::Failure;
 use rox_grammar::fault::Fault;
 use rox_scan::cursor::Cursor;
 use rox_scan::lookahead::is_special;
-use rox_scan::tag::RawAttribute;
+use rox_scan::raw_attribute::RawAttribute;
 
 /// Returns the replacement text that the reference at `at` names, and the offset after the reference. Fails if it names none. It is
 /// out of memory then, unless the reference is a fault in a value.

@@ -4,7 +4,7 @@ ghost use Rattle.std.specs.Prelude.{◌≡◌, ◌<◌, ◌++◌, ◌∷◌, [],
 ghost use Rattle.std.specs.BTreeMap.{get_by};
 ghost use Rattle.rox_values.specs.declared.entities.Declared.{Declared};
 ghost use Rattle.rox_grammar.specs.Entities.{Entity};
-ghost use Rattle.rox_scan.specs.DoctypeViews.{replacement_view};
+ghost use Rattle.rox_scan.specs.Views.{replacement_view};
 ghost use Rattle.rox_values.specs.HeldEntities.{IsHeld, code_of, named_cmp};
 
 use rox_scan::cursor::Cursor;

@@ -1,7 +1,7 @@
 -- What a node says by itself, its namespaces and attributes set aside.
 use Rattle.std.proofs.Common.{◌≡◌, ℕ, ◌<◌, List, [], get_or, refl, ap, ◌∙◌, Some, length, sym, subst, false, true≢false}
 use Rattle.std.proofs.lemmas.List.Elements.{All-from_recursion}
-use Rattle.rox_rows.specs.Storage.{storage_bytes}
+use Rattle.rox_storage.specs.Storage.{storage_bytes}
 use Rattle.rox_rows.specs.StoredNodes.{is_element, is_text}
 use Rattle.rox_grammar.specs.Forest.{Forest, size}
 use Rattle.rox_grammar.specs.Tree.{Node, Root, Element, Text, Comment, PI}

@@ -18,7 +18,7 @@ use Rattle.roxmltree.specs.NodeParts.{namespace_of, listed_of, attributes_of}
 use Rattle.roxmltree.proofs.Rows.{row_line, in_rows}
 use Rattle.rox_rows.specs.Rows.{node_rows}
 use Rattle.roxmltree.proofs.Bare.{row_within}
-use Rattle.rox_build.proofs.RootTags.{none_below}
+use Rattle.rox_content.proofs.RootTags.{none_below}
 
 -- the node of a row
 row_node : (t : Tables) (f : Forest Node) (i : ℕ) (x : NodeData) → HoldsTree t f → i < size f → x ≡ get_or (node_rows t.nodes) i x → node (attribute_rows t.attributes) (names_of t) (scopes_of t) x.start x.end x.kind ≡ (place f i).item

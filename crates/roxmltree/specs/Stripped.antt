@@ -2,7 +2,7 @@
 use Rattle.std.specs.Prelude.{ℕ, Bool, List, [], Option, Some, None}
 use Rattle.std.specs.Option.{option_map}
 use Rattle.rox_grammar.specs.Tree.{Node, Root, Element, Text, Comment, PI}
-use Rattle.rox_rows.specs.Storage.{storage_bytes, is_borrowed}
+use Rattle.rox_storage.specs.Storage.{storage_bytes, is_borrowed}
 use Rattle.rox_lists.specs.StoredText.{stored}
 use Rattle.rox_rows.specs.declared.row.NodeKind.{NodeKind}
 use Rattle.rox_rows.specs.declared.row.NodeKind.TheVariants as kind

@@ -9,8 +9,8 @@ ghost use Rattle.roxmltree.specs.NodeRef.{id_of, tree_of, item_of};
 
 use crate::nodes::Node;
 use rox_rows::row::PI;
-use rox_rows::storage::StringStorage;
 use rox_rows::stored_node::KindRef;
+use rox_storage::storage::StringStorage;
 use std::ops::Range;
 
 /// The kinds of node.

@@ -1,6 +1,6 @@
 //! The options of the parser.
 
-use rox_build::resolver::NoResolver;
+use rox_prolog::resolver::NoResolver;
 use std::fmt;
 
 /// The options of the parser.

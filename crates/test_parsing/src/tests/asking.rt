@@ -1,9 +1,9 @@
 //! What resolvers answer where no document is read: a closure, one that answers nothing, and none.
 
-ghost use Rattle.rox_build.specs.Requests.{MayAsk};
+ghost use Rattle.rox_prolog.specs.Requests.{MayAsk};
 
 use super::same;
-use rox_build::resolver::{EntityResolver, NoResolver, ResolveWith, ask};
+use rox_prolog::resolver::{EntityResolver, NoResolver, ResolveWith, ask};
 
 /// What is answered for the entity of this system identifier.
 fn answer_for<'input, R: EntityResolver<'input> + Drop>(

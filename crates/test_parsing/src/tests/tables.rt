@@ -6,10 +6,10 @@ ghost use Rattle.rox_scopes.specs.Ropes.{IsRow};
 ghost use Rattle.rox_scopes.specs.Tables.{AreRows};
 
 use super::same;
-use rox_rows::recent_texts::Recent;
-use rox_rows::storage::StringStorage;
 use rox_scopes::rope::{add, both, count, find, height, without};
 use rox_scopes::tables::{Scope, Stretch};
+use rox_storage::recent_texts::Recent;
+use rox_storage::storage::StringStorage;
 use std::alloc::AllocError;
 use std::process::Abort;
 

@@ -3,7 +3,7 @@ use Rattle.std.proofs.lemmas.Bool.{lt-leb, le-leb}
 use Rattle.std.proofs.lemmas.Result.{err_from_is_err_and}
 use Rattle.std.proofs.Common.{slice_get, None, inl, inr}
 use Rattle.std.proofs.lemmas.Option.{slice_get_cases}
-use Rattle.rox_scan.specs.Views.{end_tag_view}
+use Rattle.rox_markup.specs.Views.{end_tag_view}
 use Rattle.rox_grammar.specs.NameParts.{same_qname}
 use Rattle.rox_grammar.specs.Written.{Name}
 use Rattle.rox_grammar.specs.State.{Open}
@@ -17,7 +17,7 @@ use Rattle.rox_grammar.specs.declared.fault.Span.{Span}
 use Rattle.rox_grammar.specs.declared.fault.Fault.TheVariants as fault
 use Rattle.rox_rows.proofs.Stable.{all_take}
 use Rattle.rox_scopes.specs.declared.tables.ElementTables.{ElementTables}
-use Rattle.rox_build.proofs.Closing.{all_last}
+use Rattle.rox_content.proofs.Closing.{all_last}
 use Rattle.rox_builder.proofs.Showing.{last_split}
 use Rattle.std.specs.List.{AllByRecursion}
 use Rattle.rox_builder.proofs.Stepping.{end_is, end_fails, end_below, opened_deep, closed_at_root, closed_other, closed_stepped}
@@ -37,7 +37,7 @@ returns-then-len-context c = record {
       let src = c.args.cursor.now.text.now in
       let b = c.args.builder.now in
       let pos = c.args.cursor.now.pos in
-      let j = c.end_tag.new.self.pos in
+      let j = c.end_tag.new.cursor.pos in
       let t = end_tag_view c.in_ok-tag.tag in
       let k = opened_deep end s.stack s.done b h.shows in
       let l = c.len.ensures in
@@ -56,7 +56,7 @@ returns-in_default c = record {
       let src = c.args.cursor.now.text.now in
       let b = c.args.builder.now in
       let pos = c.args.cursor.now.pos in
-      let j = c.end_tag.new.self.pos in
+      let j = c.end_tag.new.cursor.pos in
       let t = end_tag_view c.in_ok-tag.tag in
       let os = c.deref.result.now in
       let e : b.opened.items ≡ [] = sym c.deref.ensures.value ∙ nothing_last os (sym c.in_default.ensures.value) in
@@ -95,7 +95,7 @@ returns-then-not-same_qname c = record {
       let src = c.args.cursor.now.text.now in
       let b = c.args.builder.now in
       let pos = c.args.cursor.now.pos in
-      let j = c.end_tag.new.self.pos in
+      let j = c.end_tag.new.cursor.pos in
       let t = end_tag_view c.in_ok-tag.tag in
       let k = c.in-Some.ensures.item in
       let os = c.deref.result.now in
@@ -119,7 +119,7 @@ returns c = record {
       let src = c.args.cursor.now.text.now in
       let b = c.args.builder.now in
       let pos = c.args.cursor.now.pos in
-      let d = c.end_tag.new.self in
+      let d = c.end_tag.new.cursor in
       let t = end_tag_view c.in_ok-tag.tag in
       let k = c.in-Some.ensures.item in
       let os = c.deref.result.now in

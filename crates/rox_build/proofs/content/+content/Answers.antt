@@ -8,14 +8,14 @@ use Rattle.rox_grammar.specs.Entities.{Entity, Replacement}
 use Rattle.rox_reading.specs.Machine.{opener}
 use Rattle.rox_reading.specs.State.{State, depth_of}
 use Rattle.rox_reading.specs.Values.{ReadText}
-use Rattle.rox_scan.specs.DoctypeViews.{replacement_view}
+use Rattle.rox_scan.specs.Views.{replacement_view}
 use Rattle.rox_values.specs.Contexts.{context_of}
 use Rattle.rox_builder.specs.BuilderState.{GoesOn}
 use Rattle.rox_builder.proofs.Stepping.{fine_open, state_kept, two_stand, step_is_run, step_is_markup, plain_run, parted_run, run_fails, text_stepped, same_shows}
 use Rattle.rox_builder.proofs.Parting.{rests_of, parting_ends, parting_on, parting_fails, parting_stops, parting_out}
 use Rattle.rox_builder.proofs.TextLooping.{opened_depth, text_on, text_fails, text_at_end, text_spent}
 use Rattle.rox_builder.proofs.TextOpening.{inner_state, outer_state, opens_err, opens_reads, opens_refuses, opener_at}
-use Rattle.rox_build.proofs.ParsedResults.{goes_too, parses_too, whatever_it_is}
+use Rattle.rox_prolog.proofs.ParsedResults.{goes_too, parses_too, whatever_it_is}
 use Rattle.rox_build.proofs.content.+content.Goals as goal
 
 -- ---- character data

@@ -3,10 +3,10 @@ use Rattle.rox_reading.specs.Values.{raw_character_data_at}
 use Rattle.rox_scan.specs.Lookahead.{IsLookahead, ends_run, changes_run}
 use Rattle.std.proofs.Common.{ℕ, List, Result, Ok, Err, ◌≡◌, ◌≤◌, ◌<◌, true, length, slice_index, slice_range, refl, sym, ap, ◌∙◌, arith, eq-eqb}
 use Rattle.rox_grammar.specs.Content.{is_verbatim}
-use Rattle.rox_scan.specs.DoctypeViews.{replacement_view}
+use Rattle.rox_scan.specs.Views.{replacement_view}
 use Rattle.rox_scan.proofs.ShortLemmas.{longer_run}
 use Rattle.rox_builder.proofs.Joining.{nothing_opened, run_opened}
-use Rattle.rox_build.proofs.PlainReads.{kept_rests}
+use Rattle.rox_content.proofs.PlainReads.{kept_rests}
 use Rattle.rox_build.proofs.content.joins.Goals as goal
 
 if_ok : {A E : Type 0} {P Q : A → Type 0} (r : Result A E) → IfOk r P → ((a : A) → P a → Q a) → IfOk r Q

@@ -7,13 +7,14 @@ use Rattle.rox_reading.specs.Doctype.{Dtd, replies_of}
 use Rattle.rox_reading.specs.Answering.{left_with, Answered}
 use Rattle.rox_reading.specs.WholeText.{misc, doctype}
 use Rattle.rox_reading.proofs.Settling.{doctype_run, whole_run, whole_doctype_stops}
-use Rattle.rox_build.specs.Requests.{Allows}
-use Rattle.rox_build.specs.WholeTexts.{start_state, beginning}
-use Rattle.rox_build.proofs.Asking.{none_given, stops_by}
+use Rattle.rox_prolog.specs.Requests.{Allows}
+use Rattle.rox_prolog.specs.PrologParts.{start_state, beginning}
+use Rattle.rox_prolog.proofs.Asking.{none_given, stops_by}
 use Rattle.rox_values.proofs.Lifting.{lifted_ok}
-use Rattle.rox_build.proofs.Wholes.{misc_open}
-use Rattle.rox_build.proofs.Rooted.{doctype_open}
-use Rattle.rox_build.proofs.Documents.{beginning_fails, beginning_parts, told, root_fails, root_ends}
+use Rattle.rox_prolog.proofs.Rooted.{misc_open}
+use Rattle.rox_prolog.proofs.Rooted.{doctype_open}
+use Rattle.rox_prolog.proofs.Prologs.{beginning_fails, beginning_parts, told}
+use Rattle.rox_build.proofs.Documents.{root_fails, root_ends}
 use Rattle.rox_build.proofs.reader.document.Goals as goal
 
 -- where nothing is declared yet

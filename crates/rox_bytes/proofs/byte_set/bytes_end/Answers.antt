@@ -12,4 +12,4 @@ returns g c =
     let bytes = c.args.bytes.now in
     let i = c.args.at in
     let none = none_seen g.C.ByteSet.test bytes i c.others_at-others.result c.others_at-others.ensures (omega (arith, c.if-others-ne0.false)) in
-    ends_on g.C.ByteSet.test bytes i (i + 16) c.far_end.result (omega arith) none c.far_end.ensures
+    ends_on g.C.ByteSet.test bytes i (i + 16) c.bytes_end_beyond.result (omega arith) none c.bytes_end_beyond.ensures

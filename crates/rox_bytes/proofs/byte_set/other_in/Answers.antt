@@ -22,5 +22,5 @@ returns g c =
     let bytes = c.args.bytes.now in
     let i = c.args.at in
     let none = none_seen g.C.ByteSet.test bytes i c.others_at-others.result c.others_at-others.ensures (omega (arith, c.if-others-ne0.false)) in
-    let ends = ends_on g.C.ByteSet.test bytes i (i + 16) c.far_end-end.result (omega arith) none c.far_end-end.ensures in
+    let ends = ends_on g.C.ByteSet.test bytes i (i + 16) c.bytes_end_beyond-end.result (omega arith) none c.bytes_end_beyond-end.ensures in
     IfSome_then c.some_byte-2.result c.some_byte-2.ensures (λ e here. record { ends = rw here.0 ends; there = here.1 })

@@ -9,7 +9,7 @@ pub invariant_of-result : goal.invariant_of-result
 invariant_of-result c =
     let t = c.args.tables.now in
     rw c.deref.ensures.value (record {
-      within = all_slice _ t.attributes.items.items c.args.from c.args.until (all_reach (length t.namespaces.items) t.attributes.unusual.items t.attributes.items.items c.requires.each);
+      within = all_slice _ t.attributes.items.items c.args.from c.args.until (all_reach (length t.namespaces.items) t.attributes.explicit.items t.attributes.items.items c.requires.each);
       placed = all_slice _ t.attributes.items.items c.args.from c.args.until (all_placed t.attributes);
     })
 

@@ -16,7 +16,7 @@ use Rattle.rox_rows.specs.Rows.{namespace_at}
 use Rattle.rox_scopes.specs.NamespaceViews.{namespace_view}
 use Rattle.rox_scopes.specs.Scopes.{entries, prefix_view, pair}
 use Rattle.rox_names.specs.TagDeclarations.{unresolved_view}
-use Rattle.rox_rows.specs.Storage.{storage_bytes}
+use Rattle.rox_storage.specs.Storage.{storage_bytes}
 use Rattle.rox_scopes.specs.PrefixSet.{IsPrefixSet}
 use Rattle.rox_reading.proofs.Stretches.{slice-rest}
 use Rattle.rox_rows.proofs.Stable.{all_slice}

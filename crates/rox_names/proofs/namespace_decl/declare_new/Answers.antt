@@ -8,7 +8,7 @@ use Rattle.rox_grammar.specs.Written.{NamespaceDecl, namespace_decl_of}
 use Rattle.rox_rows.specs.Rows.{namespace_at}
 use Rattle.rox_scopes.specs.NamespaceViews.{namespace_view}
 use Rattle.rox_scopes.specs.Scopes.{entries, prefix_view, pair}
-use Rattle.rox_rows.specs.Storage.{storage_bytes}
+use Rattle.rox_storage.specs.Storage.{storage_bytes}
 use Rattle.rox_names.specs.TagDeclarations.{unresolved_view}
 use Rattle.rox_names.proofs.Declaring.{absent_listed, absent_row, declares_other, kept_after, lists_after, once_after, own_declares, own_places, passed_uri, places_after, with_absent}
 use Rattle.rox_scopes.proofs.Indexing.{row_last}

@@ -1,7 +1,7 @@
 use Rattle.std.proofs.Common.{rules, ◌++◌, sym, ap, ◌∙◌, arith}
 use Rattle.std.specs.Option.{option_to_list}
 use Rattle.std.specs.Prelude.{Option, not}
-use Rattle.rox_rows.specs.Storage.{is_borrowed}
+use Rattle.rox_storage.specs.Storage.{is_borrowed}
 use Rattle.rox_rows.specs.declared.stored_attribute.StoredAttribute.{StoredAttribute}
 use Rattle.rox_rows.proofs.AttributeRows.{owned_cut, lent_cut}
 use Rattle.rox_rows.proofs.attributes.take_last.Goals as goal

@@ -10,7 +10,7 @@ pub returns-then-here : goal.returns-then-here
 returns-then-here c =
     let src = c.args.text.now in
     let i = c.args.at in
-    let a = c.after_wide.ensures in
+    let a = c.after_239.ensures in
     let wide : get_or src i 0 ≡ 239 = sym (ap (λ (l : List ℕ). get_or l i 0) c.as_bytes.ensures.value) ∙ c.if-here.true in
     run_step src i _ c.utf8.text c.requires.cut a.onward a.cut a.chars a.wide (wide_no_run_end src i (omega (arith, wide))) (rw wide refl)
 

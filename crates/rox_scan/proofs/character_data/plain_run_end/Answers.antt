@@ -8,7 +8,7 @@ returns-then-is_at c =
     let src = c.args.from.text.now in
     let n = c.skip_set-near.ensures in
     let near = run_near src c.args.from.pos _ c.args.from.utf8 c.args.from.cut n.onward n.within n.passes n.stops in
-    looked_on changes_run (ends_run src) src c.args.from.pos _ _ true true c.args.from.utf8 c.args.from.cut near c.far_run_end.ensures
+    looked_on changes_run (ends_run src) src c.args.from.pos _ _ true true c.args.from.utf8 c.args.from.cut near c.run_end_beyond.ensures
 
 pub returns : goal.returns
 returns c =

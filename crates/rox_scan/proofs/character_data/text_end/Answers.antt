@@ -34,8 +34,8 @@ returns-then-bytes-end-eq60 c =
       here = ap (λ (xs : List ℕ). slice_index xs c.in_ok-end.end) (sym c.as_bytes-bytes.ensures.value) ∙ c.if-bytes-end-eq60.true;
     }
 
-pub far_text_end-requires : goal.far_text_end-requires
-far_text_end-requires c =
+pub text_end_beyond-requires : goal.text_end_beyond-requires
+text_end_beyond-requires c =
     let n = c.in_ok-near.ensures.ends in
     let f = c.in_ok-end.ensures.ends in
     record {

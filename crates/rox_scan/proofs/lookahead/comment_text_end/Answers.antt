@@ -12,7 +12,7 @@ returns-then-starts c = λ some. record {
 pub returns : goal.returns
 returns c = λ some.
     let src = c.args.from.text.now in
-    let far = c.far_comment_end.ensures some in
+    let far = c.comment_end_beyond.ensures some in
     record {
       looked = looked_on none_changes (ends_comment src) src c.args.from.pos _ _ true true c.args.from.utf8 c.args.from.cut c.ascii_comment_end-near.ensures far.looked;
       here = far.here;

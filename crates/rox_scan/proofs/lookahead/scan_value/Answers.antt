@@ -2,13 +2,13 @@ use Rattle.std.proofs.Common.{rules, ◌≡◌, ◌<◌, ℕ, List, false, get_o
 use Rattle.std.proofs.lemmas.Bool.{ne_eqb}
 use Rattle.rox_reading.specs.Values.{is_special}
 use Rattle.rox_scan.specs.Lookahead.{ends_value}
-use Rattle.rox_scan.proofs.LongerLemmas.{value_char, wide_value_near}
+use Rattle.rox_scan.proofs.LongerLemmas.{value_char, any_value_near}
 use Rattle.rox_scan.proofs.lookahead.scan_value.Goals as goal
 
 pub loop-end-init : goal.loop-end-init
 loop-end-init c =
     let n = c.skip_set-end.ensures in
-    record { looked = wide_value_near c.args.from.text.now c.args.quote.byte c.args.from.pos _ c.args.from.utf8 c.args.quote.is c.args.from.cut n.onward n.within n.passes n.stops }
+    record { looked = any_value_near c.args.from.text.now c.args.quote.byte c.args.from.pos _ c.args.from.utf8 c.args.quote.is c.args.from.cut n.onward n.within n.passes n.stops }
 
 pub after_char-next-requires : goal.after_char-next-requires
 after_char-next-requires c = record { cut = c.loop-end.invariant.looked.cut; within = search rules }

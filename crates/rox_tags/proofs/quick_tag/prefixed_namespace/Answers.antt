@@ -5,7 +5,8 @@ use Rattle.rox_rows.proofs.Stable.{option_more}
 use Rattle.rox_scopes.specs.NamespaceViews.{namespace_view}
 use Rattle.rox_scopes.specs.TagScopes.{scope_in_tables}
 use Rattle.rox_names.proofs.NameTests.{element_some}
-use Rattle.rox_tags.proofs.PlainTags.{few_within, few_once, few_found, filled_some}
+use Rattle.rox_attributes.proofs.PlainAttributes.{few_within, few_once}
+use Rattle.rox_tags.proofs.PlainTags.{few_found, filled_some}
 use Rattle.rox_tags.proofs.quick_tag.prefixed_namespace.Goals as goal
 
 pub find_in_slot-requires : goal.find_in_slot-requires

@@ -7,10 +7,10 @@ use Rattle.rox_rows.specs.Rows.{numbered_place, namespace_at}
 use Rattle.rox_scopes.specs.NamespaceViews.{namespace_view}
 use Rattle.rox_names.specs.OpenElements.{open_name}
 use Rattle.rox_scopes.specs.TagScopes.{scope_in_tables}
-use Rattle.rox_tags.specs.PlainTag.{HasScope}
+use Rattle.rox_attributes.specs.PlainAttribute.{HasScope}
 use Rattle.rox_tags.specs.TagAttributes.{ArePlainAttributes}
 use Rattle.rox_bytes.proofs.RunLemmas.{stands_within}
-use Rattle.rox_tags.proofs.PlainTags.{no_space}
+use Rattle.rox_attributes.proofs.PlainAttributes.{no_space}
 use Rattle.rox_tags.proofs.TagAttributes.{holds_start, opens_there}
 use Rattle.rox_tags.proofs.WholeTags.{below_parent, plain_tagged}
 use Rattle.rox_names.proofs.SpelledNames.{unprefixed_name}

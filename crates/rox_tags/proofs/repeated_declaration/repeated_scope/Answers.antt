@@ -1,5 +1,5 @@
 use Rattle.std.proofs.Common.{sym, ◌∙◌, arith}
-use Rattle.rox_tags.proofs.PlainTags.{few_is, few_within}
+use Rattle.rox_attributes.proofs.PlainAttributes.{few_is, few_within}
 use Rattle.rox_tags.proofs.Repeating.{repeated}
 use Rattle.rox_tags.proofs.repeated_declaration.repeated_scope.Goals as goal
 

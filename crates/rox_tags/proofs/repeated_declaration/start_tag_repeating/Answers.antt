@@ -5,7 +5,8 @@ use Rattle.rox_grammar.specs.FixedTexts.{word_text}
 use Rattle.rox_grammar.specs.Failures.{name_view}
 use Rattle.rox_scopes.specs.declared.tables.ElementTables.{ElementTables}
 use Rattle.rox_names.specs.declared.open_element.OpenElement.{OpenElement}
-use Rattle.rox_tags.specs.PlainTag.{HasScope, MayOpenBelow}
+use Rattle.rox_attributes.specs.PlainAttribute.{HasScope}
+use Rattle.rox_tags.specs.PlainTag.{MayOpenBelow}
 use Rattle.rox_tags.proofs.Repeating.{ends_here, repeated_once, repeated_tagged}
 use Rattle.rox_tags.proofs.repeated_declaration.start_tag_repeating.Goals as goal
 

@@ -2,7 +2,7 @@ use Rattle.std.proofs.Common.{◌≡◌, ◌+◌, ◌-◌, length, sym, ◌∙�
 use Rattle.std.specs.String.{string_bytes}
 use Rattle.std.proofs.lemmas.Result.{err_from_is_err_and}
 use Rattle.rox_reading.specs.Machine.{value_opener}
-use Rattle.rox_scan.specs.DoctypeViews.{replacement_view}
+use Rattle.rox_scan.specs.Views.{replacement_view}
 use Rattle.rox_values.proofs.BitLemmas.{kind_may, kind_tested}
 use Rattle.rox_values.proofs.PartLemmas.{value_opens, value_fails, value_opens_fails, value_done}
 use Rattle.rox_values.proofs.ValueOpening.{opens_err, opens_reads, opens_refuses}

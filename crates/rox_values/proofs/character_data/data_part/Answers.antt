@@ -2,7 +2,7 @@ use Rattle.std.proofs.Common.{◌+◌, ◌-◌, ℕ, List, Ok, sym, ap, ◌∙�
 use Rattle.std.specs.String.{string_bytes}
 use Rattle.std.proofs.lemmas.Result.{err_from_is_err_and}
 use Rattle.rox_reading.specs.Values.{opening}
-use Rattle.rox_scan.specs.DoctypeViews.{replacement_view}
+use Rattle.rox_scan.specs.Views.{replacement_view}
 use Rattle.rox_values.proofs.PartLemmas.{run_more, run_fails, run_done, run_out, run_opens}
 use Rattle.rox_values.proofs.character_data.data_part.Goals as goal
 

@@ -6,7 +6,7 @@ use Rattle.rox_reading.specs.State.{State}
 use Rattle.rox_rows.specs.declared.row.NodeData.{NodeData}
 use Rattle.rox_rows.specs.declared.row.NodeKind.{NodeKind}
 use Rattle.rox_rows.specs.declared.row.NodeKind.TheVariants as kind
-use Rattle.rox_rows.specs.Storage.{storage_bytes, is_borrowed}
+use Rattle.rox_storage.specs.Storage.{storage_bytes, is_borrowed}
 use Rattle.rox_builder.proofs.Showing.{piece_first, first_count}
 use Rattle.rox_theory.proofs.Leaves.{fits_counted}
 use Rattle.rox_rows.specs.Rows.{node_rows}

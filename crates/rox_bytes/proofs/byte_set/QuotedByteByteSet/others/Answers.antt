@@ -2,7 +2,7 @@
 use Rattle.std.proofs.Common.{not, refl, arith}
 use Rattle.std.proofs.lemmas.Simd.{zip2_of_maps}
 use Rattle.rox_bytes.specs.Nibbles.{at_low}
-use Rattle.rox_bytes.specs.ByteSets.{is_quoted_byte, is_value_byte, is_wide_value_byte}
+use Rattle.rox_bytes.specs.ByteSets.{is_quoted_byte, is_value_byte, is_any_value_byte}
 use Rattle.rox_bytes.specs.declared.byte_set.TheConstants.{QUOTED_ENDS}
 use Rattle.rox_bytes.proofs.TableLemmas.{agree_below}
 use Rattle.rox_bytes.proofs.LaneLemmas.{masked, against, either, map_same, equals, below}
@@ -10,7 +10,7 @@ use Rattle.rox_bytes.proofs.byte_set.QuotedByteByteSet.others.Goals as goal
 use lib.Bits.{bit_or}
 
 pub returns : goal.returns
-unfolding agree_below is_value_byte is_wide_value_byte is_quoted_byte
+unfolding agree_below is_value_byte is_any_value_byte is_quoted_byte
 returns c =
     let v = c.args.block in
     let long = c.fits-block.0 in

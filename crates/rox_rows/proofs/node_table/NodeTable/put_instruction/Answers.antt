@@ -1,6 +1,6 @@
 use Rattle.std.proofs.Common.{rules, false, length, refl, arith}
 use Rattle.rox_rows.specs.declared.row.NodeKind.TheVariants as kind
-use Rattle.rox_rows.proofs.StoredNodes.{push_is, near_row, within-more, within-push, chain_grown}
+use Rattle.rox_rows.proofs.StoredNodes.{push_is, low_row, within-more, within-push, chain_grown}
 use Rattle.rox_rows.proofs.node_table.NodeTable.put_instruction.Goals as goal
 
 pub invariant_of-self : goal.invariant_of-self
@@ -21,7 +21,7 @@ returns c =
     record {
       rows =
           push_is t.instructions.items pis t.high.items t.rows.items _ _ _ t.short c.push_reserved.ensures.items
-          (c.put_kind-kind.ensures.same t.high.items t.rows.items t.within) (near_row pis (record c.args.row { kind = kind.PI c.args.instruction }) c.put_kind-kind.result (c.put_kind-kind.ensures.stored t.last_owned).value);
+          (c.put_kind-kind.ensures.same t.high.items t.rows.items t.within) (low_row pis (record c.args.row { kind = kind.PI c.args.instruction }) c.put_kind-kind.result (c.put_kind-kind.ensures.stored t.last_owned).value);
       len = search rules;
       capacity = search rules;
     }

@@ -2,7 +2,7 @@
 use Rattle.std.proofs.Common.{not, refl, arith, bit_xor}
 use Rattle.std.proofs.lemmas.Simd.{zip2_of_maps}
 use Rattle.rox_bytes.specs.Nibbles.{at_low}
-use Rattle.rox_bytes.specs.ByteSets.{is_value_byte, is_wide_value_byte}
+use Rattle.rox_bytes.specs.ByteSets.{is_value_byte, is_any_value_byte}
 use Rattle.rox_bytes.proofs.TableLemmas.{agree_below}
 use Rattle.rox_bytes.proofs.LaneLemmas.{masked, against, either, map_same, equals, below}
 use Rattle.rox_scan.specs.Lookahead.{is_changed_value_byte}
@@ -10,7 +10,7 @@ use Rattle.rox_scan.specs.declared.lookahead.TheConstants.{CHANGED_VALUE_EXCEPTI
 use Rattle.rox_scan.proofs.lookahead.ChangedValueByteByteSet.others.Goals as goal
 
 pub returns : goal.returns
-unfolding agree_below is_changed_value_byte is_wide_value_byte is_value_byte
+unfolding agree_below is_changed_value_byte is_any_value_byte is_value_byte
 returns c =
     let v = c.args.block in
     let long = c.fits-block.0 in

@@ -6,7 +6,7 @@ use Rattle.std.specs.Cmp.Lexicographic.{slice_cmp}
 use Rattle.std.specs.Ordering.{nat_cmp, ordering_then}
 use Rattle.rox_values.specs.HeldEntities.{code_of, named_cmp}
 use Rattle.rox_grammar.specs.Entities.{Replacement, Entity}
-use Rattle.rox_scan.specs.DoctypeViews.{replacement_view}
+use Rattle.rox_scan.specs.Views.{replacement_view}
 use Rattle.rox_scan.specs.declared.cursor.Cursor.{Cursor}
 use Rattle.rox_values.proofs.Binding.{declared_again, declared_first}
 use Rattle.rox_values.proofs.Naming.{named_alike}

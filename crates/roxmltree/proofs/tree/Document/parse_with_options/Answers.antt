@@ -9,7 +9,7 @@ use Rattle.rox_grammar.specs.Spans.{NamesText}
 use Rattle.rox_grammar.specs.FaultsWithDoctype.{RefusalOf}
 use Rattle.rox_grammar.specs.Doctype.{Request, Asked}
 use Rattle.rox_grammar.specs.Document.{IsTreeOf, Permits, HasAsked, AsksNext}
-use Rattle.rox_build.specs.Requests.{Allows, AreAllowed}
+use Rattle.rox_prolog.specs.Requests.{Allows, AreAllowed}
 use Rattle.rox_error.specs.FaultErrors.{position_at, IsErrorOf}
 use Rattle.rox_error.specs.declared.position.TextPos.{TextPos}
 use Rattle.rox_error.specs.declared.error.Error.{Error}

@@ -1,0 +1,2 @@
+pub mod PlainAttributes
+pub mod SpacedEnds

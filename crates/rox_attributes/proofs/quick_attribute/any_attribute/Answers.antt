@@ -1,0 +1,47 @@
+use Rattle.std.proofs.Common.{◌≡◌, ◌-◌, ◌==◌, ◌||◌, ℕ, true, slice_index, refl, sym, subst, arith}
+use Rattle.rox_grammar.specs.Failures.{name_view}
+use Rattle.rox_attributes.proofs.PlainAttributes.{attribute_reads}
+use Rattle.rox_attributes.proofs.quick_attribute.any_attribute.Goals as goal
+
+pub quote_before-quote-requires : goal.quote_before-quote-requires
+quote_before-quote-requires c =
+    let src = c.args.text.now in
+    let v = c.any_value_start-from.ensures (omega arith) in
+    let start = v.start in
+    let within = v.within in
+    let place : c.any_value_start-from.result - 1 ≡ v.before = omega (arith, start) in
+    record {
+      some = omega arith;
+      within = omega arith;
+      quote = subst (λ (k : ℕ). (slice_index src k == 39 || slice_index src k == 34) ≡ true) (sym place) v.quote;
+    }
+
+pub any_value-requires : goal.any_value-requires
+any_value-requires c = record { cut = (c.any_value_start-from.ensures (omega arith)).cut; quote = c.quote_before-quote.ensures.quote }
+
+pub returns : goal.returns
+returns c =
+    let src = c.args.text.now in
+    let s = c.any_value_start-from.result in
+    let v = c.any_value_start-from.ensures (omega arith) in
+    let q = c.quote_before-quote.result in
+    let quoted = c.quote_before-quote.ensures in
+    let n = c.in_ok-name.ensures in
+    let j = c.in_ok-read.read.end in
+    let w = c.in_ok-read.ensures in
+    let start = v.start in
+    let done = c.after_byte.ensures.place in
+    let order1 = n.onward in
+    let order2 = v.onward in
+    let order3 = w.onward in
+    record {
+      value_end = j;
+      read = attribute_reads src c.args.place.start (name_view c.in_ok-name.name.name) c.in_ok-name.name.end s q j c.after_byte.result n.value v quoted.here quoted.quote quoted.some w.read w.here done;
+      start = refl;
+      end = done;
+      value = w.value;
+      cut = c.after_byte.ensures.cut;
+      onward = omega arith;
+      local = n.local;
+      gap = omega arith;
+    }

@@ -1,0 +1,62 @@
+use Rattle.std.proofs.Common.{◌+◌, ◌≤◌, subst, arith, rules}
+use Rattle.std.proofs.lemmas.Grind.{common_steps}
+use Rattle.rox_grammar.specs.Failures.{name_view}
+use Rattle.std.specs.Str.{IsCharBoundary}
+use Rattle.rox_bytes.specs.ByteSets.{EndsSet, is_part_byte, is_value_byte}
+use Rattle.rox_bytes.proofs.NearLemmas.{part_cut, part_stops}
+use Rattle.rox_attributes.proofs.PlainAttributes.{bare_namespace, behind_quote, ascii_begins, quote_first}
+use Rattle.rox_attributes.proofs.quick_attribute.put_attribute.Goals as goal
+
+pub name_without_prefix-name-requires : goal.name_without_prefix-name-requires
+name_without_prefix-name-requires c =
+    let src = c.args.text.now in
+    let i = c.args.start in
+    let window = c.new-window.ensures in
+    let seen = c.part_count-count.ensures src window.sees (omega (arith, c.if-count-gt-MOST_NAME.false)) in
+    let near : EndsSet is_part_byte src i (i + c.part_count-count.result) = rw window.place at seen in
+    let here = (c.quote_in_text-quote.ensures (omega arith)).equals in
+    record {
+      first = record {
+        start = c.requires.cut;
+        part = record {
+          place = part_stops src i _ c.utf8.text near.onward near.within near.passes near.stops (λ _. omega (arith, here));
+          onward = near.onward;
+          cut = part_cut src i _ c.utf8.text c.requires.cut near.onward near.within near.passes;
+        };
+        begins = ascii_begins src i (i + c.part_count-count.result) c.utf8.text near c.requires.begins (omega (arith, here));
+      };
+      here = here;
+    }
+
+pub value_in_window-requires : goal.value_in_window-requires
+value_in_window-requires c =
+    let src = c.args.text.now in
+    let n = c.args.start + c.part_count-count.result in
+    let window = c.new-window.ensures in
+    let place = window.place in
+    let few : c.part_count-count.result + 2 ≤ 16 = omega (arith, c.if-count-gt-MOST_NAME.false) in
+    let near = c.part_count-count.ensures src window.sees (omega (arith, few)) in
+    let name : EndsSet is_part_byte src c.args.start n = rw place at near in
+    let seen = c.quote_in_text-quote.ensures (omega arith) in
+    let first = quote_first src c.args.start n c.quote_in_text-quote.result name seen in
+    record {
+      seen = record {
+        sees = window.sees;
+        some = omega arith;
+        few = few;
+        opens = rw place (subst (EndsSet is_value_byte src c.args.start) (omega arith) first);
+      };
+      begins = record {
+        cut = subst (IsCharBoundary src) (omega (arith, place)) (behind_quote src n c.quote_in_text-quote.result c.utf8.text seen.within seen.here seen.quote);
+        quote = seen.quote;
+      };
+    }
+
+pub put_named_attribute-requires : goal.put_named_attribute-requires
+put_named_attribute-requires c = record {
+  put = first_of (search rules, grind (arith, common_steps));
+  found = bare_namespace c.args.elements.now c.args.scope (name_view c.name_without_prefix-name.result.name) c.name_without_prefix-name.ensures.bare;
+  named = first_of (search rules, grind (arith, common_steps));
+  local = first_of (search rules, grind (arith, common_steps));
+  value = first_of (search rules, grind (arith, common_steps));
+}

@@ -1,0 +1,4 @@
+pub mod PlainNames
+pub mod PlainValues
+pub mod SpacedBytes
+pub mod PlainAttribute

@@ -1,0 +1,148 @@
+//! Any attribute values by the quick reader, also those with references to characters or white space other than spaces. Only
+//! values that do not depend on context are read (XML 1.0 sections 3.3.3, 4.1 and 4.6). A predefined entity gives its character
+//! whether or not it is declared too.
+
+ghost use Rattle.std.specs.Prelude.{◌≤◌, IfSome, true, length};
+ghost use Rattle.std.specs.String.{string_bytes};
+ghost use Rattle.rox_bytes.specs.ByteSets.{EndsSet, is_stretch_byte};
+ghost use Rattle.rox_storage.specs.Storage.{IsOwnText};
+ghost use Rattle.rox_scan.specs.Lookahead as longer;
+ghost use Rattle.rox_scan.specs.Lookahead.{IsLookahead, none_changes};
+ghost use Rattle.rox_attributes.specs.SpacedBytes.{FindsEnds, IsAnyValue};
+ghost use Rattle.rox_attributes.specs.PlainValues.{BeginsValue};
+
+use rox_bytes::byte_set::{ValueByte, skip_set};
+use rox_bytes::runs::is_at;
+use rox_scan::lookahead::{ChangedValueByte, StretchByte, after_char, changes};
+use rox_storage::recent_texts::{Recent, owned_value};
+use rox_storage::storage::StringStorage;
+use rox_values::plain_bits::changed_value;
+use std::alloc::Global;
+
+/// Returns the end of the Chars from `start` on that are neither `quote` nor `<`.
+#[inline(always)]
+fn changed_end(text: &str, start: usize, quote: u8) -> usize
+    requires { BeginsValue text.now start quote }
+    ensures { IsLookahead (longer.ends_value quote text.now) none_changes text.now start
+        result true }
+{
+    let bytes = text.as_bytes();
+    let mut end = skip_set::<ChangedValueByte>(text, start);
+    while end < bytes.len() {
+        let here = bytes[end];
+        if here == quote || here == b'<' {
+            break;
+        }
+        let next = after_char(text, end);
+        if next == end {
+            break;
+        }
+        end = skip_set::<ChangedValueByte>(text, next);
+    }
+    end
+}
+
+/// Returns the offset of the first byte from `at` on that changes a value, or the end of the text. Most often it is `at`.
+#[inline(always)]
+fn change_from(text: &str, at: usize) -> usize
+    requires { at ≤ length text.now }
+    ensures { EndsSet is_stretch_byte text.now at result }
+{
+    if changes(text, at) {
+        return at;
+    }
+    skip_set::<StretchByte>(text, at)
+}
+
+/// The end of a value, and the offset of the first byte that changes it. If none does, that is the end.
+#[derive(Clone, Copy)]
+struct ValueEnds {
+    first: usize,
+    end: usize,
+}
+
+/// Returns the ends of the value that starts at `start`, after the quote `quote`. Returns `None` if it has other characters than
+/// Chars or a `<`, or if it lacks its end quote.
+#[inline(always)]
+fn value_ends(text: &str, start: usize, quote: u8) -> Option<ValueEnds>
+    requires { BeginsValue text.now start quote }
+    ensures { FindsEnds text.entry.now start quote result }
+{
+    let near = skip_set::<ValueByte>(text, start);
+    if is_at(text, near, quote) {
+        return Some(ValueEnds {
+            first: near,
+            end: near,
+        });
+    }
+    let end = changed_end(text, near, quote);
+    if !is_at(text, end, quote) {
+        return None;
+    }
+    let first = change_from(&text[..end], near);
+    Some(ValueEnds { first, end })
+}
+
+/// Returns a made value, which may share its storage with an equal one before it. Returns `None` if memory is refused, which sets
+/// `lacking`.
+#[inline(always)]
+fn shared_value<'input>(
+    alloc: Global,
+    recent: &mut Option<Box<Recent>>,
+    text: String,
+    lacking: &mut bool,
+) -> Option<StringStorage<'input>>
+    ensures { IfSome result (IsOwnText (string_bytes text)) }
+{
+    let value = owned_value(alloc, recent, text);
+    if value.is_none() {
+        *lacking = true;
+    }
+    value
+}
+
+/// Returns whether a reference is at `at` to a name whose first letter no predefined name has. It names an entity, which the general
+/// reader opens.
+#[inline(always)]
+fn names_other(text: &str, at: usize) -> bool {
+    if !is_at(text, at, b'&') || at + 1 >= text.len() {
+        return false;
+    }
+    !matches!(text.as_bytes()[at + 1], b'#' | b'a' | b'g' | b'l' | b'q')
+}
+
+/// A value, and the offset at which it ends.
+#[derive(Drop)]
+pub struct AnyValue<'input> {
+    pub value: StringStorage<'input>,
+    pub end: usize,
+}
+
+/// Returns the value that starts at `start`, after the quote `quote`: a slice of the text, or an owned text if it needs a
+/// replacement. Returns `None` if it is not valid, if it depends on context, or if memory is refused, which sets `lacking`.
+#[inline(always)]
+pub fn any_value<'input>(
+    alloc: Global,
+    text: &'input str,
+    start: usize,
+    quote: u8,
+    recent: &mut Option<Box<Recent>>,
+    lacking: &mut bool,
+) -> Option<AnyValue<'input>>
+    requires { BeginsValue text.now start quote }
+    ensures { IfSome result (λ v. IsAnyValue text.entry.now start quote v) }
+{
+    let ends = value_ends(text, start, quote)?;
+    let end = ends.end;
+    if ends.first >= end {
+        let value = StringStorage::Borrowed(&text[start..end]);
+        return Some(AnyValue { value, end });
+    }
+    // No memory is taken for a value that is given up.
+    if names_other(text, ends.first) {
+        return None;
+    }
+    let changed = changed_value(alloc, text, start, ends.first, end, lacking)?;
+    let value = shared_value(alloc, recent, changed, lacking)?;
+    Some(AnyValue { value, end })
+}

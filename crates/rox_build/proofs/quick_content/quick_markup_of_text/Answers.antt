@@ -1,4 +1,0 @@
-use Rattle.rox_build.proofs.quick_content.quick_markup_of_text.Goals as goal
-
-pub returns : goal.returns
-returns c = c.markup_of_text.ensures

@@ -1,0 +1,164 @@
+-- An element whose start tag the fast path read, below the innermost open element.
+use Rattle.std.proofs.Common.{◌≡◌, ◌+◌, ◌-◌, ◌<◌, ◌^◌, ℕ, Bool, true, false, [], Ok, List, length, take, get_or, slice_index, vec_len, vec_capacity, arith, refl, sym, ap, subst, ◌∙◌}
+use Rattle.std.specs.Str.{IsUtf8}
+use Rattle.rox_grammar.specs.Written.{Element, Item, NamespaceDecl}
+use Rattle.rox_grammar.specs.Forest.{Forest}
+use Rattle.rox_grammar.specs.State.{Open, scope_of}
+use Rattle.rox_grammar.specs.Chars.{is_part_char}
+use Rattle.rox_grammar.specs.Runs.{run_end}
+use Rattle.rox_grammar.specs.declared.fault.Fault.TheVariants as fault
+use Rattle.rox_bytes.specs.ScanResults.{Finds}
+use Rattle.rox_bytes.proofs.RunLemmas.{stands_within}
+use Rattle.std.proofs.lemmas.Str.{IsCharBoundary-after_ascii}
+use Rattle.rox_attributes.proofs.PlainAttributes.{near_cut, near_ends}
+use Rattle.rox_reading.specs.Machine.{tag_step, opened_by, cut_off_fault}
+use Rattle.rox_reading.specs.Refusals.{lifted}
+use Rattle.rox_reading.specs.Tags.{Values}
+use Rattle.rox_rows.specs.declared.row.NodeKind.TheVariants as kind
+use Rattle.rox_scopes.specs.TagScopes.{scope_in_tables}
+use Rattle.rox_scopes.specs.declared.tables.ElementTables.{ElementTables}
+use Rattle.rox_names.specs.declared.open_element.OpenElement.{OpenElement}
+use Rattle.rox_names.proofs.SameNames.{opened_named}
+use Rattle.rox_names.proofs.SpelledNames.{tag_is_named}
+use Rattle.rox_tags.specs.ElementRow.{Tagged}
+use Rattle.rox_attributes.specs.PlainNames.{EndsNear}
+use Rattle.rox_tags.specs.PlainTag.{IsPlainTag}
+use Rattle.rox_tags.specs.declared.quick_tag.PlainTag.{PlainTag}
+use Rattle.rox_tags.proofs.Moving.{plain_moves}
+use Rattle.rox_builder.specs.BuilderState.{Adds, IsConsistent, IsNode, IsReady, IsReadyTo, Represents, ScansTo, last_row, opened_in}
+use Rattle.rox_builder.specs.Outcomes.{ReadsAt}
+use Rattle.rox_builder.specs.Putting.{MayPutOpen, PutsLeaf, PutsOpen}
+use Rattle.rox_builder.specs.declared.builder.Builder.{Builder}
+use Rattle.rox_builder.proofs.Growing.{grown_shows}
+use Rattle.rox_builder.proofs.Showing.{split_at, innermost_row}
+use Rattle.rox_builder.proofs.Stepping.{top_scope}
+use Rattle.rox_content.specs.PlainElements.{MayPutElement, PutsElement}
+use Rattle.rox_content.proofs.Opening.{grown_by, is_node, is_opening, fine_by, fine_kept, fine_more, namespace_by, tag_is, empty_stepped, open_stepped}
+
+-- the builder `m` is `b`, with other tables of elements
+pub record KeepsOthers (b m : Builder) : Type 0 where
+  pub nodes : m.nodes ≡ b.nodes
+  pub opened : m.opened.items ≡ b.opened.items
+  pub pending : m.pending ≡ b.pending
+  pub joined : m.joined ≡ b.joined
+  pub limit : m.nodes_limit ≡ b.nodes_limit
+  pub openings_left : m.openings_left ≡ b.openings_left
+
+-- the tag `t` at `i` was read, in an element that lists `above`, and the tables of `m` have what it adds to those of `b`
+pub record ReadsBelow (b m : Builder) (above : List NamespaceDecl) (src : List ℕ) (i : ℕ) (t : PlainTag) : Type 0 where
+  pub utf8 : IsUtf8 src
+  pub here : slice_index src i ≡ 60
+  pub short : length src < 2 ^ 32
+  pub fine : IsConsistent b.tables b.opened.items
+  pub scope : (end : ℕ) (stack : Open) (done : Forest Item) → Represents end stack done b → above ≡ scope_of stack
+  pub same : KeepsOthers b m
+  pub read : IsPlainTag b.tables m.tables above src i t.end t.tag
+
+-- where it is a child of the innermost open element `o`
+pub below : (b m : Builder) (src : List ℕ) (i n : ℕ) (o : OpenElement) (t : PlainTag) → IsUtf8 src → slice_index src i ≡ 60 → length src < 2 ^ 32 → IsConsistent b.tables b.opened.items
+    → n ≡ length b.opened.items → 0 < n → o ≡ get_or b.opened.items (n - 1) o → KeepsOthers b m → IsPlainTag b.tables m.tables (scope_in_tables b.tables o.scope) src i t.end t.tag
+    → ReadsBelow b m (scope_in_tables b.tables o.scope) src i t
+below b m src i n o t utf8 here short fine count some last same read = record {
+  utf8 = utf8;
+  here = here;
+  short = short;
+  fine = fine;
+  scope = λ end stack done shows. top_scope b.tables stack (take (n - 1) b.opened.items) o (sym (ap (opened_in b.tables) (split_at b.opened.items n o count some last)) ∙ shows.open_rows);
+  same = same;
+  read = read;
+}
+
+pub row_below : (t : ElementTables) (os : List OpenElement) (n : ℕ) (o : OpenElement) → n ≡ length os → 0 < n → o ≡ get_or os (n - 1) o → o.row ≡ last_row (opened_in t os)
+row_below t os n o count some last = sym (innermost_row t os (take (n - 1) os) o (split_at os n o count some last))
+
+any_values : Values
+any_values = record { main = true; entities = []; opener = λ text i openings_left. Ok ([], openings_left) }
+
+-- it may be opened
+pub may_open : (b m : Builder) (above : List NamespaceDecl) (src : List ℕ) (i row : ℕ) (t : PlainTag) → ReadsBelow b m above src i t → row ≡ last_row (opened_in m.tables m.opened.items) → IsReady 1 m → i < 2 ^ 32
+    → vec_len m.opened < vec_capacity m.opened → MayPutOpen m row src i t.tag
+may_open b m above src i row t g parent ready start depth =
+    let x = g.read in
+    let named = tag_is_named any_values fault.NoRootNode _ _ _ src i 0 _ _ t.tag g.utf8 g.here (x.read any_values fault.NoRootNode 0) x.tagged.name x.tagged.name_end x.starts in
+    record { row = record { ready = ready; parent = parent; start = start }; depth = depth; named = named; narrow = omega (arith, g.short, named.within, x.starts) }
+
+-- and put, whether it is empty or not
+pub may_put : (b m : Builder) (above : List NamespaceDecl) (src : List ℕ) (i row : ℕ) (t : PlainTag) → ReadsBelow b m above src i t → row ≡ last_row (opened_in m.tables m.opened.items) → IsReady 1 m → i < 2 ^ 32
+    → vec_len m.opened < vec_capacity m.opened → MayPutElement src i m row t
+may_put b m above src i row t g parent ready start depth =
+    record { opens = may_open b m above src i row t g parent ready start depth; end = omega (arith, g.short, g.read.cut.0) }
+
+ready_too : (most : ℕ) (b m : Builder) → KeepsOthers b m → IsReadyTo most b → IsReadyTo most m
+ready_too most b m k h = record { room = rw k.nodes h.room; few = rw k.limit h.few; small = h.small; settled = rw k.pending h.settled }
+
+pub leaf_reads : (b m u : Builder) (above : List NamespaceDecl) (src : List ℕ) (i : ℕ) (t : PlainTag) → ReadsBelow b m above src i t → t.tag.empty ≡ true → PutsLeaf m u i t.end (kind.Element t.tag.element) → ReadsAt tag_step src i t.end b u
+leaf_reads b m u above src i t g empty p = record {
+  value = λ _ context end s here behind start stop h.
+      let old = b.tables in
+      let new = m.tables in
+      let x = g.read in
+      let at : i ≡ s.at = sym start ∙ h.here in
+      let e = t.end in
+      let sc = g.scope end s.stack s.done h.shows in
+      let tg : Tagged old new t.tag (scope_of s.stack) x.tag = subst (λ (a : List NamespaceDecl). Tagged old new t.tag a x.tag) sc x.tagged in
+      let cut = cut_off_fault context.values.main s.stack in
+      let shows = grown_shows end s.stack s.done b m h.shows g.fine.sound g.fine.elements (grown_by old new t.tag (scope_of s.stack) x.tag tg) g.same.nodes g.same.opened g.same.pending g.same.joined in
+      let node : IsNode new (scope_of s.stack) i e (kind.Element t.tag.element) (Element s.at e x.tag) =
+      subst (λ (n : ℕ). IsNode new (scope_of s.stack) i e (kind.Element t.tag.element) (Element n e x.tag)) at (is_node old new t.tag (scope_of s.stack) x.tag i e tg) in
+      let adds = p.adds.value end e s (Element s.at e x.tag) shows node in
+      rw (tag_is context src s i cut _ _ _ x.tag t.tag.empty s.openings_left e at refl sc h.attributes h.namespaces (x.read context.values cut s.openings_left)
+      ∙ ap (λ (y : Bool). lifted (opened_by context.limit s x.tag y s.openings_left e)) empty)
+      (subst (λ (n : ℕ). ScansTo context.limit end (Ok tt) behind u (lifted (opened_by context.limit s x.tag true s.openings_left n))) stop
+      (empty_stepped context.limit end s.openings_left s behind old new m.nodes_limit u (Ok tt) t.tag (scope_of s.stack) x.tag tg h.namespaces h.attributes (g.same.limit ∙ h.limit_is) (p.adds.kept.openings_left ∙ g.same.openings_left ∙ h.openings_left_is) p.adds.kept.tables p.adds.kept.limit
+      (subst (λ (n : ℕ). Adds end (Ok tt) u (opened_by m.nodes_limit s x.tag true s.openings_left n)) (sym stop) adds)));
+  other = λ no. absurd (omega (arith, no, g.short, g.read.cut.0));
+  cut = λ _. g.read.cut;
+  ready = λ _ most h. p.ready most (ready_too most b m g.same h);
+  moves = λ _. plain_moves _ _ _ src i _ _ g.utf8 g.read;
+  fine = fine_kept (Ok tt) m.tables b.opened.items u (fine_by b.tables m.tables t.tag _ g.read.tag b.opened.items g.read.tagged g.fine) p.adds.kept.tables (ap (λ os. os.items) p.adds.kept.opened ∙ g.same.opened);
+}
+
+pub open_reads : (b m u : Builder) (above : List NamespaceDecl) (src : List ℕ) (i : ℕ) (t : PlainTag) → ReadsBelow b m above src i t → t.tag.empty ≡ false → PutsOpen m u src i t.tag → ReadsAt tag_step src i t.end b u
+open_reads b m u above src i t g opens p = record {
+  value = λ _ context end s here behind start stop h.
+      let old = b.tables in
+      let new = m.tables in
+      let x = g.read in
+      let at : i ≡ s.at = sym start ∙ h.here in
+      let e = t.end in
+      let sc = g.scope end s.stack s.done h.shows in
+      let tg : Tagged old new t.tag (scope_of s.stack) x.tag = subst (λ (a : List NamespaceDecl). Tagged old new t.tag a x.tag) sc x.tagged in
+      let cut = cut_off_fault context.values.main s.stack in
+      let shows = grown_shows end s.stack s.done b m h.shows g.fine.sound g.fine.elements (grown_by old new t.tag (scope_of s.stack) x.tag tg) g.same.nodes g.same.opened g.same.pending g.same.joined in
+      let adds = p.adds.value end e s.openings_left s x.tag shows (sym at) (is_opening old new t.tag (scope_of s.stack) x.tag i tg x.starts) in
+      rw (tag_is context src s i cut _ _ _ x.tag t.tag.empty s.openings_left e at refl sc h.attributes h.namespaces (x.read context.values cut s.openings_left)
+      ∙ ap (λ (y : Bool). lifted (opened_by context.limit s x.tag y s.openings_left e)) opens)
+      (subst (λ (n : ℕ). ScansTo context.limit end (Ok tt) behind u (lifted (opened_by context.limit s x.tag false s.openings_left n))) stop
+      (open_stepped context.limit end s.openings_left s behind old new m.nodes_limit u (Ok tt) t.tag (scope_of s.stack) x.tag tg h.namespaces h.attributes (g.same.limit ∙ h.limit_is) (p.adds.kept.openings_left ∙ g.same.openings_left ∙ h.openings_left_is) p.adds.kept.tables p.adds.kept.limit
+      (subst (λ (n : ℕ). Adds end (Ok tt) u (opened_by m.nodes_limit s x.tag false s.openings_left n)) (sym stop) adds)));
+  other = λ no. absurd (omega (arith, no, g.short, g.read.cut.0));
+  cut = λ _. g.read.cut;
+  ready = λ _ most h. p.ready most (ready_too most b m g.same h);
+  moves = λ _. plain_moves _ _ _ src i _ _ g.utf8 g.read;
+  fine =
+      let x = g.read in
+      fine_more (Ok tt) m.tables m.opened.items u src t.tag
+      (rw g.same.opened (fine_by b.tables m.tables t.tag _ x.tag b.opened.items x.tagged g.fine)) p.adds.kept.tables p.adds.opened x.tagged.element.scope_within x.tagged.once (namespace_by b.tables m.tables t.tag _ x.tag x.tagged)
+      (λ q by. opened_named any_values fault.NoRootNode _ _ _ src i 0 _ _ t.tag q g.utf8 g.here (x.read any_values fault.NoRootNode 0) x.tagged.name x.tagged.name_end x.starts by);
+}
+
+-- what ends near is a first part
+pub part_near : (src : List ℕ) (i j : ℕ) → IsUtf8 src → slice_index src i ≡ 60 → EndsNear src (i + 1) j → Finds src (i + 1) j (run_end is_part_char src (i + 1))
+part_near src i j utf8 here near = record {
+  place = near_ends src (i + 1) j utf8 near;
+  onward = near.ends.onward;
+  cut = near_cut src (i + 1) j utf8 (IsCharBoundary-after_ascii src i utf8 (stands_within src i 60 here (omega arith)) (omega (arith, here))) near;
+}
+
+-- and where it was put, the construct was read
+pub element_reads : (b m u : Builder) (above : List NamespaceDecl) (src : List ℕ) (i j : ℕ) (t : PlainTag) → ReadsBelow b m above src i t → PutsElement src i m u t j → ReadsAt tag_step src i j b u
+element_reads b m u above src i j t g p = subst (λ (n : ℕ). ReadsAt tag_step src i n b u) (sym p.end) (by_cases t.tag.empty refl)
+  where
+    by_cases : (e : Bool) → t.tag.empty ≡ e → ReadsAt tag_step src i t.end b u
+    by_cases true is = leaf_reads b m u above src i t g is (p.leaf is)
+    by_cases false is = open_reads b m u above src i t g is (p.opens is)

@@ -1,0 +1,160 @@
+-- Start tags of root elements that the fast path reads.
+use Rattle.std.proofs.Common.{◌≡◌, ℕ, zero, suc, ◌+◌, ◌<◌, ◌≤◌, false, true, List, [], ◌∷◌, ◌++◌, length, map, get_or, refl, sym, ap, subst, ◌∙◌, arith, Ok, bytes_eq}
+use Rattle.std.specs.Borrow.{Bor}
+use Rattle.std.specs.Option.{option_map}
+use Rattle.std.specs.Str.{IsCharBoundary}
+use Rattle.std.proofs.lemmas.List.{append-nil}
+use Rattle.rox_grammar.specs.declared.fault.Fault.{Fault}
+use Rattle.rox_grammar.specs.declared.fault.Word.TheVariants.{Xmlns}
+use Rattle.rox_grammar.specs.Document.{most_attributes}
+use Rattle.rox_grammar.specs.Failures.{name_view}
+use Rattle.rox_grammar.specs.FixedTexts.{word_text}
+use Rattle.rox_grammar.specs.Written.{NamespaceDecl}
+use Rattle.rox_grammar.specs.Tree.{attribute_in, element_namespace, listable_of, listed}
+use Rattle.rox_grammar.specs.WellNamed.{may_name}
+use Rattle.rox_reading.specs.Lexical.{qname_at}
+use Rattle.rox_reading.specs.Tags.{Values, attributes_at, names_tested, tag_tested}
+use Rattle.rox_rows.specs.Rows.{attribute_rows, namespace_at, numbered_place, scope_at}
+use Rattle.rox_scopes.specs.Tables.{AreRows, AreScopes, IsRow, lists_of}
+use Rattle.rox_scopes.specs.NamespaceViews.{namespace_view}
+use Rattle.rox_scopes.specs.Scopes.{ArePlaces, PrefixesOnce, entries}
+use Rattle.rox_scopes.specs.TagScopes.{lists_in, scope_in_tables}
+use Rattle.rox_scopes.specs.declared.tables.ElementTables.{ElementTables}
+use Rattle.rox_scopes.specs.declared.tables.Scope.{Scope}
+use Rattle.rox_scopes.proofs.Ropes.{all_places}
+use Rattle.rox_names.specs.OpenElements.{IsNamespaceOf}
+use Rattle.rox_names.specs.declared.start_tag.StartTag.{StartTag}
+use Rattle.rox_tags.specs.ElementRow.{IsElementFrom}
+use Rattle.rox_tags.specs.PlainTag.{IsPlainTag}
+use Rattle.rox_tags.specs.TagAttributes.{AreNoBindings, ArePlainAttributes, HasRootScope, first_places, holding}
+use Rattle.rox_tags.specs.declared.own_declaration.TagScope.{TagScope}
+use Rattle.rox_tags.proofs.Starting.{tag_made, tested_known, tested_passes}
+use Rattle.rox_tags.proofs.TagAttributes.{has_scope, plain_count, root_scopes, root_within, scope_declares, slice_whole}
+use Rattle.rox_content.specs.RootTag.{HoldAlike, IsBlank}
+
+-- ---- the scope of a root element
+
+pub none_below : (xs : List ℕ) → ArePlaces 0 xs → xs ≡ []
+none_below [] h = refl
+none_below (x ∷ xs) (less, h) = absurd (omega arith)
+
+-- one scope of nothing lists nothing
+pub blank_lists : (scopes : List Scope) → length scopes ≡ 1 → lists_of [] [] scopes ≡ [] ∷ []
+blank_lists [] h = absurd (omega arith)
+blank_lists (s ∷ []) h = ap (λ ps. map (namespace_at []) ps ∷ []) (none_below _ (all_places 0 [] (s ∷ []) 0 tt))
+blank_lists (s ∷ r ∷ ss) h = absurd (omega arith)
+
+-- ---- what the tables hold
+
+none_of : {X : Type 0} (xs : List X) → length xs ≡ 0 → xs ≡ []
+none_of [] h = refl
+none_of (x ∷ xs) h = absurd (omega arith)
+
+pub blank : (t : ElementTables) → length t.namespaces.items.items ≡ 0 → length t.listed.items ≡ 0 → length t.scopes.items ≡ 1 → AreNoBindings t.present → IsBlank t
+blank t n l s p =
+    let names = none_of t.namespaces.items.items n in
+    let listed = none_of t.listed.items l in
+    record {
+      namespaces = names;
+      listed = listed;
+      lists = ap (λ ns. lists_of (map namespace_view ns) t.listed.items t.scopes.items) names ∙ ap (λ ls. lists_of [] ls t.scopes.items) listed ∙ blank_lists t.scopes.items s;
+      scopes = s;
+      present = p;
+    }
+
+-- ---- the tag as a whole
+
+root_lists : (t : ElementTables) → HasRootScope t → lists_in t ≡ [] ∷ entries (map namespace_view t.namespaces.items.items) t.listed.items ∷ []
+root_lists t h =
+    let ns = map namespace_view t.namespaces.items.items in
+    ap (λ ss. lists_of ns t.listed.items ss) h.scopes ∙ ap (λ (ps : List ℕ). [] ∷ entries ns ps ∷ []) (slice_whole t.listed.items)
+
+listed_nothing : (own : List NamespaceDecl) → listed [] own ≡ listable_of own
+listed_nothing own = append-nil (listable_of own)
+
+-- the scope of a root element
+abbrev pub of_root : TagScope
+of_root = record { scope = 1; declares = true }
+
+pub root_tagged : (blank old new : ElementTables) (src : List ℕ) (i n end : ℕ) (t : StartTag) (from namespace : ℕ) → IsBlank blank → attribute_rows blank.attributes ≡ attribute_rows old.attributes
+    → ArePlainAttributes of_root old new src n end t.empty → qname_at src (i + 1) ≡ Ok (name_view t.name, n) → bytes_eq (name_view t.name).prefix (word_text Xmlns) ≡ false
+    → t.name_start ≡ i + 1 → t.name_end ≡ n → IsElementFrom new t.name.local from 1 namespace t.element → from ≡ length (attribute_rows old.attributes)
+    → length (attribute_rows new.attributes) ≤ most_attributes → IsNamespaceOf new 1 (name_view t.name) (numbered_place namespace)
+    → may_name (scope_in_tables new 1) (name_view t.name) ≡ true → IsCharBoundary src end → IsPlainTag blank new [] src i end t
+root_tagged blank old new src i n end t from namespace none same x is other starts name_end e from_is most named known cut =
+    let d = x.declares in
+    let name = name_view t.name in
+    let ns = map namespace_view new.namespaces.items.items in
+    let nothing : map namespace_view blank.namespaces.items.items ≡ [] = ap (map namespace_view) none.namespaces in
+    let lists : scope_in_tables new 1 ≡ listed [] x.own = scope_declares new x.own d.scope d.declares ∙ sym (listed_nothing x.own) in
+    let count : length (attribute_rows blank.attributes) ≡ length (attribute_rows old.attributes) = ap length same in
+    let counted = plain_count of_root old new src n end t.empty x in
+    let fits : length (attribute_rows blank.attributes) + length x.written ≤ most_attributes = omega arith in
+    let passed : names_tested (listed [] x.own) [] x.written ≡ Ok tt = subst (λ (ds : List NamespaceDecl). names_tested ds [] x.written ≡ Ok tt) lists x.tested in
+    let fine : tag_tested (listed [] x.own) (length (attribute_rows blank.attributes)) i name x.written ≡ Ok tt =
+    tested_passes (listed [] x.own) (length (attribute_rows blank.attributes)) i name x.written
+    (tested_known (listed [] x.own) (length (attribute_rows blank.attributes)) (i + 1) name x.written fits passed (subst (λ ds. may_name ds name ≡ true) lists known)) in
+    let read : (context : Values) (cut : Fault) (openings_left : ℕ) → attributes_at (length src) context cut [] src n openings_left (holding [] [])
+    ≡ Ok (record { held = holding x.own x.written; empty = t.empty; openings_left = openings_left }, end) =
+    λ context cut openings_left. subst (λ (ds : List NamespaceDecl). attributes_at (length src) context cut ds src n openings_left (holding [] [])
+    ≡ Ok (record { held = holding x.own x.written; empty = t.empty; openings_left = openings_left }, end)) (ap (map namespace_view) d.known) (x.read context cut openings_left) in
+    let space : option_map (λ i. (namespace_at ns i).uri) (numbered_place t.element.namespace) ≡ element_namespace (listed [] x.own) name =
+    subst (λ ds. option_map (λ i. (namespace_at ns i).uri) (numbered_place t.element.namespace) ≡ element_namespace ds name) lists (rw e.namespace named.is) in
+    record {
+      tag = record { name = name; name_end = n; declarations = x.own; attributes = x.written };
+      read = λ context cut openings_left. rw nothing (tag_made context cut [] (length (attribute_rows blank.attributes)) [] src i openings_left name n end (holding x.own x.written) t.empty openings_left is other (read context cut openings_left) fine);
+      tagged = record {
+        name = refl;
+        name_end = name_end;
+        namespaces = rw nothing d.declares.names_are;
+        few = d.has.few;
+        more = entries ns new.listed.items ∷ [];
+        lists_more = root_lists new d.scope ∙ ap (λ ls. ls ++ entries ns new.listed.items ∷ []) (sym none.lists);
+        places = d.has.places;
+        scopes = root_scopes new d.scope;
+        kept = d.scope.present ns (lists_in new);
+        once = subst (λ (k : ℕ). PrefixesOnce (scope_at (lists_in new) k)) (sym e.scope) (has_scope new d.keys d.has d.scope).once;
+        element = record {
+          attributes = record { more = x.more; grown = x.rows ∙ ap (λ rs. rs ++ x.more) (sym same); same = x.shown ∙ ap (λ ds. map (attribute_in ds) x.written) lists; within = x.within };
+          attributes_from = e.attributes_from ∙ from_is ∙ sym count;
+          attributes_until = e.attributes_until;
+          few = most;
+          local = ap (λ (l : Bor (List ℕ)). l.now) e.local;
+          namespace = space;
+          namespace_within = rw e.namespace named.within;
+          scope_within = rw e.scope (root_within new d.scope);
+          lists = rw e.scope lists;
+        };
+      };
+      starts = starts;
+      cut = cut;
+    }
+
+-- ---- tables that hold the same
+
+pub alike_blank : (old now : ElementTables) → IsBlank old → attribute_rows now.attributes ≡ attribute_rows old.attributes → now.namespaces.items.items ≡ [] → now.listed.items ≡ []
+    → now.scopes.items ≡ first_places 0 ∷ [] → AreNoBindings now.present → HoldAlike old now
+alike_blank old now blank rows names listed scopes present =
+    let none : IsBlank now = record { namespaces = names; listed = listed; lists = ap (λ ns. lists_of (map namespace_view ns) now.listed.items now.scopes.items) names ∙ ap (λ ls. lists_of [] ls now.scopes.items) listed ∙ blank_lists now.scopes.items (ap length scopes); scopes = ap length scopes; present = present } in
+    let lists = none.lists ∙ sym blank.lists in
+    record {
+      rows = rows;
+      names = ap (map namespace_view) (names ∙ sym blank.namespaces);
+      lists = lists;
+      below = λ above h. record {
+        places = subst (ArePlaces (length now.namespaces.items.items)) (sym listed) tt;
+        few = omega (arith, ap length names);
+        few_attributes = subst (λ rs. length rs ≤ most_attributes) (sym rows) h.few_attributes;
+        scopes = subst (AreScopes (length now.listed.items)) (sym scopes) (record { rows = one_row; within = (omega arith, tt) });
+        above = omega (arith, h.above, blank.scopes, ap length scopes);
+        once = subst (λ ls. PrefixesOnce (scope_at ls above)) (sym lists) h.once;
+        kept = present (map namespace_view now.namespaces.items.items) (lists_in now);
+      };
+    }
+  where
+    one_row : AreRows (first_places 0 ∷ [])
+    one_row = record { each = which }
+      where
+        which : (i : ℕ) (s : Scope) → i < length (first_places 0 ∷ []) → s ≡ get_or (first_places 0 ∷ []) i s → IsRow (first_places 0 ∷ []) i s
+        which zero s within is = subst (λ (x : Scope). IsRow (first_places 0 ∷ []) 0 x) (sym is) (omega arith)
+        which (suc i) s within is = absurd (omega arith)

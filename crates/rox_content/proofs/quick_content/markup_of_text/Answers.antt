@@ -1,0 +1,73 @@
+use Rattle.std.proofs.Common.{ℕ, List, ◌+◌, slice_index, ne_eqb, refl, sym, ap, subst, ◌∙◌, arith, rules}
+use Rattle.std.specs.Str.{IsCharBoundary}
+use Rattle.std.proofs.lemmas.Grind.{common_steps}
+use Rattle.rox_builder.proofs.Stepping.{step_is_markup}
+use Rattle.rox_content.proofs.PlainReads.{keeps_same}
+use Rattle.rox_content.proofs.quick_content.markup_of_text.Goals as goal
+use Rattle.rox_content.proofs.quick_content.markup_of_text.Goals.{then-next-le63, else-next-le63}
+
+pub returns-then-next-eq47 : goal.returns-then-next-eq47
+returns-then-next-eq47 c = record {
+  value = λ yes context end s around h.
+      rw (step_is_markup context c.args.cursor.now.text.now _ s c.args.cursor.now.pos 47 c.as_bytes-bytes.ensures.value h.here (ap (λ (xs : List ℕ). slice_index xs c.args.cursor.now.pos) c.as_bytes-bytes.ensures.value ∙ c.requires.here) c.if-cursor-bytes.false c.if-next-eq47.true (λ e. cc e))
+      (c.close_element.ensures.value yes context end s around h);
+  other = λ no. let o = c.close_element.ensures.other no in (o.0, keeps_same _ _ o.1);
+  goes = c.close_element.ensures.goes;
+}
+
+pub returns : goal.returns
+returns c = record {
+  value = λ _ context end s around h.
+      elim c.if-next-le63.branch [
+        | then-next-le63 w ↦ rw w.builder-is (w.put_delimited-stop.ensures.value (omega (arith, c.if-stop-gt-MOST_BYTES.false, w.stop-is)) context end s c.args.cursor.now _ refl w.stop-is h)
+        | else-next-le63 w ↦ (
+            let i = c.args.cursor.now.pos in
+            let b = slice_index c.as_bytes-bytes.result.now (i + 1) in
+            let is = step_is_markup context c.args.cursor.now.text.now _ s i b c.as_bytes-bytes.ensures.value h.here (ap (λ (xs : List ℕ). slice_index xs c.args.cursor.now.pos) c.as_bytes-bytes.ensures.value ∙ c.requires.here) c.if-cursor-bytes.false refl (λ e. absurd (omega (arith, w.if-next-le63.false, e))) in
+            rw (is, ne_eqb b 63 (λ e. absurd (omega (arith, w.if-next-le63.false, e))), ne_eqb b 47 (λ e. absurd (omega (arith, w.if-next-le63.false, e))), w.builder-is)
+            (w.element_in_scope-stop.ensures.value (omega (arith, c.if-stop-gt-MOST_BYTES.false, w.stop-is)) context end s c.args.cursor.now _ refl w.stop-is h))
+      ];
+  other = λ no. absurd (cc no);
+  goes = record {
+    source = refl;
+    fine = elim c.if-next-le63.branch [
+      | then-next-le63 w ↦ rw w.builder-is w.put_delimited-stop.ensures.fine
+      | else-next-le63 w ↦ rw w.builder-is w.element_in_scope-stop.ensures.fine
+    ];
+  };
+}
+
+pub returns-then-stop-gt-MOST_BYTES : goal.returns-then-stop-gt-MOST_BYTES
+returns-then-stop-gt-MOST_BYTES c = record {
+  value = λ yes. absurd (cc yes);
+  other = λ _. (
+    refl,
+    elim c.if-next-le63.branch [
+      | then-next-le63 w ↦ rw w.builder-is (keeps_same _ _ (w.put_delimited-stop.ensures.other (omega (arith, c.if-stop-gt-MOST_BYTES.true, w.stop-is))))
+      | else-next-le63 w ↦ rw w.builder-is (w.element_in_scope-stop.ensures.other (omega (arith, c.if-stop-gt-MOST_BYTES.true, w.stop-is)))
+    ],
+  );
+  goes = record {
+    source = refl;
+    fine = elim c.if-next-le63.branch [
+      | then-next-le63 w ↦ rw w.builder-is w.put_delimited-stop.ensures.fine
+      | else-next-le63 w ↦ rw w.builder-is w.element_in_scope-stop.ensures.fine
+    ];
+  };
+}
+
+pub element_in_scope-stop-requires : goal.element_in_scope-stop-requires
+element_in_scope-stop-requires c = record {
+  here = c.requires.here;
+  start = c.args.cursor.now.cut;
+  part = first_of (search rules, grind (arith, common_steps));
+  room = c.requires.room;
+}
+
+pub invariant_of-cursor : goal.invariant_of-cursor
+invariant_of-cursor c =
+    let cut : IsCharBoundary c.args.cursor.now.text.now c.if-next-le63.stop = elim c.if-next-le63.branch [
+      | then-next-le63 w ↦ subst (IsCharBoundary c.args.cursor.now.text.now) (sym w.stop-is) (w.put_delimited-stop.ensures.cut (omega (arith, c.if-stop-gt-MOST_BYTES.false, w.stop-is)))
+      | else-next-le63 w ↦ subst (IsCharBoundary c.args.cursor.now.text.now) (sym w.stop-is) (w.element_in_scope-stop.ensures.cut (omega (arith, c.if-stop-gt-MOST_BYTES.false, w.stop-is)))
+    ] in
+    record { utf8 = c.args.cursor.now.utf8; cut = cut }

@@ -1,0 +1,169 @@
+use Rattle.std.proofs.Common.{ℕ, List, ◌+◌, slice_index, ne_eqb, refl, sym, ap, subst, ◌∙◌, arith, rules}
+use Rattle.std.specs.Str.{IsCharBoundary}
+use Rattle.std.proofs.lemmas.Grind.{common_steps}
+use Rattle.rox_builder.specs.BuilderState.{IsInState, IsReady, IsReadyTo}
+use Rattle.rox_builder.proofs.Stepping.{step_is_markup}
+use Rattle.rox_content.proofs.PlainReads.{keeps_same, steps_not}
+use Rattle.rox_content.proofs.quick_content.quick_markup.Goals as goal
+use Rattle.rox_content.proofs.quick_content.quick_markup.Goals.{then-bytes-near-lt58, else-bytes-near-lt58}
+
+pub returns-then-next-eq47 : goal.returns-then-next-eq47
+returns-then-next-eq47 c = record {
+  reads = record {
+    value = λ yes context end s around h.
+        rw (step_is_markup context c.args.cursor.now.text.now _ s c.args.cursor.now.pos 47 c.as_bytes-bytes.ensures.value h.here (ap (λ (xs : List ℕ). slice_index xs c.args.cursor.now.pos) c.as_bytes-bytes.ensures.value ∙ c.requires.here) c.if-cursor-bytes.false c.if-next-eq47.true (λ e. cc e))
+        (c.close_element.ensures.value yes context end s around h);
+    other = λ no. let o = c.close_element.ensures.other no in (o.0, keeps_same _ _ o.1);
+    goes = c.close_element.ensures.goes;
+  };
+  ready = λ yes most h. (c.close_element.ensures.ready yes most h).ready;
+  apart = λ yes _. (c.close_element.ensures.ready yes _ c.requires.room.ready).apart;
+  moves = c.close_element.ensures.moves;
+}
+
+pub returns-then-next-le63 : goal.returns-then-next-le63
+returns-then-next-le63 c = record {
+  reads = record {
+    value = λ _ context end s around h.
+        c.put_delimited-behind.ensures.value (omega (arith, c.if-behind-gt-MOST_BYTES.false)) context end s c.args.cursor.now _ refl refl h;
+    other = λ no. absurd (cc no);
+    goes = record { source = refl; fine = c.put_delimited-behind.ensures.fine };
+  };
+  ready = λ _. c.put_delimited-behind.ensures.ready (omega (arith, c.if-behind-gt-MOST_BYTES.false));
+  apart = λ _. c.put_delimited-behind.ensures.apart (omega (arith, c.if-behind-gt-MOST_BYTES.false));
+  moves = λ _. c.put_delimited-behind.ensures.moves (omega (arith, c.if-behind-gt-MOST_BYTES.false));
+}
+
+pub returns-then-behind-gt-MOST_BYTES : goal.returns-then-behind-gt-MOST_BYTES
+returns-then-behind-gt-MOST_BYTES c = record {
+  reads = steps_not _ c.args.cursor.now c.args.builder.now c.put_delimited-behind.new.builder (keeps_same _ _ (c.put_delimited-behind.ensures.other (omega (arith, c.if-behind-gt-MOST_BYTES.true)))) c.put_delimited-behind.ensures.fine;
+  ready = λ yes. absurd (cc yes);
+  apart = λ yes. absurd (cc yes);
+  moves = λ yes. absurd (cc yes);
+}
+
+pub returns-then-element_of_name : goal.returns-then-element_of_name
+returns-then-element_of_name c = record {
+  reads = record {
+    value = λ _ context end s around h.
+        let i = c.args.cursor.now.pos in
+        let b = slice_index c.as_bytes-bytes.result.now (i + 1) in
+        let is = step_is_markup context c.args.cursor.now.text.now _ s i b c.as_bytes-bytes.ensures.value h.here (ap (λ (xs : List ℕ). slice_index xs c.args.cursor.now.pos) c.as_bytes-bytes.ensures.value ∙ c.requires.here) c.if-cursor-bytes.false refl (λ e. absurd (omega (arith, c.if-next-le63.false, e))) in
+        rw (is, ne_eqb b 63 (λ e. absurd (omega (arith, c.if-next-le63.false, e))), ne_eqb b 47 (λ e. absurd (omega (arith, c.if-next-le63.false, e)))) (c.element_of_name.ensures.value c.if-element_of_name.true context end s tt h);
+    other = λ no. absurd (cc no);
+    goes = c.element_of_name.ensures.goes;
+  };
+  ready = λ _ most h. (c.element_of_name.ensures.ready c.if-element_of_name.true most h).ready;
+  apart = λ _ _. (c.element_of_name.ensures.ready c.if-element_of_name.true _ c.requires.room.ready).apart;
+  moves = λ _. c.element_of_name.ensures.moves c.if-element_of_name.true;
+}
+
+pub returns : goal.returns
+returns c = record {
+  reads = record {
+    value = λ _ context end s around h.
+        let i = c.args.cursor.now.pos in
+        let b = slice_index c.as_bytes-bytes.result.now (i + 1) in
+        let is = step_is_markup context c.args.cursor.now.text.now _ s i b c.as_bytes-bytes.ensures.value h.here (ap (λ (xs : List ℕ). slice_index xs c.args.cursor.now.pos) c.as_bytes-bytes.ensures.value ∙ c.requires.here) c.if-cursor-bytes.false refl (λ e. absurd (omega (arith, c.if-next-le63.false, e))) in
+        let o = c.element_of_name.ensures.other c.if-element_of_name.false in
+        let sees : IsInState context.limit end s c.args.cursor.now c.element_of_name.new.builder = rw (o.1) h in
+        rw (is, ne_eqb b 63 (λ e. absurd (omega (arith, c.if-next-le63.false, e))), ne_eqb b 47 (λ e. absurd (omega (arith, c.if-next-le63.false, e))))
+        (elim c.if-bytes-near-lt58.branch [
+          | then-bytes-near-lt58 w ↦ rw (w.builder-is) (w.element_without_prefix-end.ensures.value (omega (arith, c.if-end-gt-MOST_BYTES.false, w.end-is)) context end s c.args.cursor.now _ refl w.end-is sees)
+          | else-bytes-near-lt58 w ↦ rw (w.builder-is) (w.element_in_scope-end.ensures.value (omega (arith, c.if-end-gt-MOST_BYTES.false, w.end-is)) context end s c.args.cursor.now _ refl w.end-is sees)
+        ]);
+    other = λ no. absurd (cc no);
+    goes = record {
+      source = c.element_of_name.ensures.goes.source;
+      fine = elim c.if-bytes-near-lt58.branch [
+        | then-bytes-near-lt58 w ↦ rw (w.builder-is) (w.element_without_prefix-end.ensures.fine)
+        | else-bytes-near-lt58 w ↦ rw (w.builder-is) (w.element_in_scope-end.ensures.fine)
+      ];
+    };
+  };
+  ready = λ _ most h.
+      let same = (c.element_of_name.ensures.other c.if-element_of_name.false).1 in
+      let ready : IsReadyTo most c.element_of_name.new.builder = rw same h in
+      elim c.if-bytes-near-lt58.branch [
+        | then-bytes-near-lt58 w ↦ rw (w.builder-is) (w.element_without_prefix-end.ensures.ready (omega (arith, c.if-end-gt-MOST_BYTES.false, w.end-is)) most ready).ready
+        | else-bytes-near-lt58 w ↦ rw (w.builder-is) (w.element_in_scope-end.ensures.ready (omega (arith, c.if-end-gt-MOST_BYTES.false, w.end-is)) most ready).ready
+      ];
+  apart = λ _ _.
+      let same = (c.element_of_name.ensures.other c.if-element_of_name.false).1 in
+      let ready : IsReady 1 c.element_of_name.new.builder = rw same c.requires.room.ready in
+      elim c.if-bytes-near-lt58.branch [
+        | then-bytes-near-lt58 w ↦ rw (w.builder-is) (w.element_without_prefix-end.ensures.ready (omega (arith, c.if-end-gt-MOST_BYTES.false, w.end-is)) _ ready).apart
+        | else-bytes-near-lt58 w ↦ rw (w.builder-is) (w.element_in_scope-end.ensures.ready (omega (arith, c.if-end-gt-MOST_BYTES.false, w.end-is)) _ ready).apart
+      ];
+  moves = λ _. elim c.if-bytes-near-lt58.branch [
+    | then-bytes-near-lt58 w ↦ rw w.end-is (w.element_without_prefix-end.ensures.moves (omega (arith, c.if-end-gt-MOST_BYTES.false, w.end-is)))
+    | else-bytes-near-lt58 w ↦ rw w.end-is (w.element_in_scope-end.ensures.moves (omega (arith, c.if-end-gt-MOST_BYTES.false, w.end-is)))
+  ];
+}
+
+pub returns-then-end-gt-MOST_BYTES : goal.returns-then-end-gt-MOST_BYTES
+returns-then-end-gt-MOST_BYTES c = record {
+  reads =
+      let u = c.element_of_name.ensures.other c.if-element_of_name.false in
+      record {
+        value = λ yes. absurd (cc yes);
+        other = λ _. (
+          u.0,
+          elim c.if-bytes-near-lt58.branch [
+            | then-bytes-near-lt58 w ↦ rw (w.builder-is) (rw u.1 at (w.element_without_prefix-end.ensures.other (omega (arith, c.if-end-gt-MOST_BYTES.true, w.end-is))))
+            | else-bytes-near-lt58 w ↦ rw (w.builder-is) (rw u.1 at (w.element_in_scope-end.ensures.other (omega (arith, c.if-end-gt-MOST_BYTES.true, w.end-is))))
+          ],
+        );
+        goes = record {
+          source = c.element_of_name.ensures.goes.source;
+          fine = elim c.if-bytes-near-lt58.branch [
+            | then-bytes-near-lt58 w ↦ rw (w.builder-is) (w.element_without_prefix-end.ensures.fine)
+            | else-bytes-near-lt58 w ↦ rw (w.builder-is) (w.element_in_scope-end.ensures.fine)
+          ];
+        };
+      };
+  ready = λ yes. absurd (cc yes);
+  apart = λ yes. absurd (cc yes);
+  moves = λ yes. absurd (cc yes);
+}
+
+pub element_without_prefix-end-requires : goal.element_without_prefix-end-requires
+element_without_prefix-end-requires c = record {
+  here = c.requires.here;
+  start = c.args.cursor.now.cut;
+  near = first_of (search rules, grind (arith, common_steps));
+  room = record {
+    short = c.requires.room.short;
+    ready = rw (c.element_of_name.ensures.other c.if-element_of_name.false).1 c.requires.room.ready;
+    fine = c.element_of_name.ensures.goes.fine;
+  };
+}
+
+pub element_in_scope-end-requires : goal.element_in_scope-end-requires
+element_in_scope-end-requires c = record {
+  here = c.requires.here;
+  start = c.args.cursor.now.cut;
+  part = first_of (search rules, grind (arith, common_steps));
+  room = record {
+    short = c.requires.room.short;
+    ready = rw (c.element_of_name.ensures.other c.if-element_of_name.false).1 c.requires.room.ready;
+    fine = c.element_of_name.ensures.goes.fine;
+  };
+}
+
+pub invariant_of-cursor : goal.invariant_of-cursor
+invariant_of-cursor c = record {
+  utf8 = c.args.cursor.now.utf8;
+  cut = c.put_delimited-behind.ensures.cut (omega (arith, c.if-behind-gt-MOST_BYTES.false));
+}
+
+pub invariant_of-cursor-2 : goal.invariant_of-cursor-2
+invariant_of-cursor-2 c =
+    let cut : IsCharBoundary c.args.cursor.now.text.now c.if-bytes-near-lt58.end = elim c.if-bytes-near-lt58.branch [
+      | then-bytes-near-lt58 w ↦ subst (IsCharBoundary c.args.cursor.now.text.now) (sym w.end-is) (w.element_without_prefix-end.ensures.cut (omega (arith, c.if-end-gt-MOST_BYTES.false, w.end-is)))
+      | else-bytes-near-lt58 w ↦ subst (IsCharBoundary c.args.cursor.now.text.now) (sym w.end-is) (w.element_in_scope-end.ensures.cut (omega (arith, c.if-end-gt-MOST_BYTES.false, w.end-is)))
+    ] in
+    record {
+      utf8 = c.element_of_name.new.cursor.utf8;
+      cut = subst (λ (xs : List ℕ). IsCharBoundary xs c.if-bytes-near-lt58.end) (sym (ap (λ t. t.now) c.element_of_name.ensures.goes.source)) cut;
+    }

@@ -1,0 +1,46 @@
+use Rattle.std.proofs.Common.{◌≡◌, ◌+◌, false, length, bytes_eq, refl, sym, ap, ◌∙◌, arith, Ok, length-append}
+use Rattle.rox_grammar.specs.declared.fault.Word.TheVariants.{Xmlns}
+use Rattle.rox_grammar.specs.FixedTexts.{word_text}
+use Rattle.rox_grammar.specs.Failures.{name_view}
+use Rattle.rox_reading.specs.Lexical.{qname_at}
+use Rattle.rox_rows.specs.Rows.{attribute_rows}
+use Rattle.rox_tags.proofs.TagAttributes.{has_scope}
+use Rattle.rox_content.proofs.RootTags.{root_tagged}
+use Rattle.rox_content.proofs.quick_root.root_tag.Goals as goal
+
+pub tag_attributes-requires : goal.tag_attributes-requires
+tag_attributes-requires c = record { cut = c.in_ok-name.ensures.cut; short = c.requires.short; begins = (c.requires.begins, refl) }
+
+pub namespace_in_scope-requires : goal.namespace_in_scope-requires
+namespace_in_scope-requires c =
+    let d = c.in_ok-end.ensures.read.declares in
+    record {
+      scope = has_scope c.tag_attributes.new.elements d.keys d.has d.scope;
+      few = d.has.few;
+      small = omega arith;
+    }
+
+pub element_of-element-requires : goal.element_of-element-requires
+element_of-element-requires c =
+    let grown = c.in_ok-end.ensures.grown in
+    record {
+      within = omega (arith, c.len-from.ensures, ap length grown.rows, length-append (attribute_rows c.args.elements.now.attributes) grown.more);
+      few = c.in_ok-end.ensures.few;
+    }
+
+pub returns : goal.returns
+returns c =
+    let old = c.args.elements.now in
+    let new = c.tag_attributes.new.elements in
+    let src = c.args.text.now in
+    let i = c.args.start in
+    let name = c.in_ok-name.name in
+    let end = c.in_ok-end.ensures in
+    let start = c.after_byte-name_start.ensures.place in
+    let named = c.in_ok-namespace.ensures in
+    let is : qname_at src (i + 1) ≡ Ok (name_view name.name, name.end) = rw start at c.in_ok-name.ensures.value in
+    let other : bytes_eq (name_view name.name).prefix (word_text Xmlns) ≡ false = sym c.same_text.ensures ∙ c.if-same_text.false in
+    record {
+      read = λ blank none same. root_tagged blank old new src i name.end c.in_ok-end.end.at _ c.len-from.result c.in_ok-namespace.namespace none same end.read is other start refl c.element_of-element.ensures c.len-from.ensures end.few named.is named.known end.cut;
+      grown = record { more = end.grown.more; rows = end.grown.rows };
+    }

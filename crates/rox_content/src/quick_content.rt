@@ -1,0 +1,179 @@
+//! Plain constructs of content, read by the fast path one after another: what `quick_data`, `quick_elements` and `quick_sections`
+//! read. Nothing fails here: the general step reads a construct that is not plain, or finds no room, from its first byte.
+
+ghost use Rattle.std.specs.Prelude.{◌≡◌, true};
+ghost use Rattle.rox_builder.specs.Outcomes.{MayStep};
+ghost use Rattle.rox_content.specs.PlainOutcomes.{MayReadPlain, MayReadRows, ReadsMarkup, ReadsRows, ReadsStep, StandsApart};
+
+use crate::quick_data::put_character_data;
+use crate::quick_elements::{
+    close_element, element_in_scope, element_of_name, element_without_prefix,
+};
+use crate::quick_sections::{MOST_BYTES, put_delimited};
+use rox_builder::builder::Builder;
+use rox_bytes::byte_set::{PartByte, find_other, part_end, part_end_beyond};
+use rox_bytes::runs::{after_byte, is_at};
+use rox_scan::cursor::Cursor;
+
+/// Returns true only if no text is open that character data at the cursor would continue.
+#[inline(always)]
+fn stands_apart(cursor: &Cursor<'_>, builder: &Builder<'_>) -> bool
+    ensures { result ≡ true → StandsApart cursor.now builder.now }
+{
+    is_at(cursor.text, cursor.pos, b'<') || !builder.is_text_open()
+}
+
+/// Reads what `<` starts, if it is plain and finds room. Returns false if nothing was read.
+#[inline]
+#[tactic(auto, unfolding(rox_reading::specs::Machine::step))]
+fn quick_markup<'input>(
+    cursor: &mut Cursor<'input>,
+    builder: &mut Builder<'input>,
+    open_around: usize,
+) -> bool
+    requires { MayReadPlain cursor.old builder.old }
+    ensures { ReadsMarkup (λ k. k.open_around ≡ open_around) cursor.old cursor.new builder.old
+        builder.new result }
+{
+    let bytes = cursor.text.as_bytes();
+    if cursor.pos + 1 >= bytes.len() {
+        return false;
+    }
+    let next = bytes[cursor.pos + 1];
+    let text = cursor.text;
+    let start = cursor.pos;
+    if next <= b'?' {
+        if next == b'/' {
+            return close_element(cursor, builder, open_around);
+        }
+        let behind = put_delimited(text, start, builder);
+        if behind > MOST_BYTES {
+            return false;
+        }
+        cursor.pos = behind;
+        return true;
+    }
+    let name = after_byte(text, start, b'<');
+    let Some(near) = find_other::<PartByte>(text, name) else {
+        return false;
+    };
+    if element_of_name(cursor, builder, near) {
+        return true;
+    }
+    // White space and `/` are lower than the colon.
+    let end = if bytes[near] < b':' {
+        element_without_prefix(text, start, builder, near)
+    } else {
+        element_in_scope(text, start, builder, part_end_beyond(text, name, near))
+    };
+    if end > MOST_BYTES {
+        return false;
+    }
+    cursor.pos = end;
+    true
+}
+
+/// Reads the constructs from the cursor on inside the root element, as long as they are plain. It stops when fewer than two of
+/// `rows` rows are left. Returns whether any was read.
+#[inline(always)]
+pub fn quick_constructs<'input>(
+    cursor: &mut Cursor<'input>,
+    builder: &mut Builder<'input>,
+    open_around: usize,
+    main: bool,
+    rows: usize,
+) -> bool
+    requires { MayReadRows rows builder.old }
+    ensures { ReadsRows open_around main cursor.old cursor.new builder.old builder.new result }
+{
+    let mut here = *cursor;
+    if cursor.text.len() > MOST_BYTES {
+        return false;
+    }
+    // No text is open after markup, so one test is enough.
+    if !stands_apart(&here, builder) {
+        return false;
+    }
+    // Character data and the markup after it take at most one row each.
+    let most = builder.nodes.len() + rows;
+    let from = here.pos;
+    while builder.nodes.len() + 1 < most {
+        if builder.is_at_root() {
+            break;
+        }
+        let bytes = here.text.as_bytes();
+        if here.pos >= bytes.len() {
+            break;
+        }
+        if bytes[here.pos] != b'<' {
+            if !put_character_data(&mut here, builder, main) {
+                break;
+            }
+        }
+        if !quick_markup(&mut here, builder, open_around) {
+            break;
+        }
+    }
+    *cursor = here;
+    here.pos > from
+}
+
+/// Like `quick_markup`, but in a replacement text. Few replacement texts have tags, so each start tag takes the slower path here.
+/// The fast one is then in line in one place only, `quick_constructs`.
+#[tactic(auto, unfolding(rox_reading::specs::Machine::step))]
+fn markup_of_text<'input>(
+    cursor: &mut Cursor<'input>,
+    builder: &mut Builder<'input>,
+    around: usize,
+) -> bool
+    requires { MayReadPlain cursor.old builder.old }
+    ensures { ReadsStep (λ k. k.open_around ≡ around) cursor.old cursor.new builder.old builder.new
+        result }
+{
+    let bytes = cursor.text.as_bytes();
+    if cursor.pos + 1 >= bytes.len() {
+        return false;
+    }
+    let next = bytes[cursor.pos + 1];
+    if next == b'/' {
+        return close_element(cursor, builder, around);
+    }
+    let text = cursor.text;
+    let start = cursor.pos;
+    let stop = if next <= b'?' {
+        put_delimited(text, start, builder)
+    } else {
+        element_in_scope(
+            text,
+            start,
+            builder,
+            part_end(text, after_byte(text, start, b'<')),
+        )
+    };
+    if stop > MOST_BYTES {
+        return false;
+    }
+    cursor.pos = stop;
+    true
+}
+
+/// Reads the markup of a replacement text at the cursor, if it is plain and finds room. Returns false if nothing was read.
+#[inline(always)]
+pub fn quick_markup_of_text<'input>(
+    cursor: &mut Cursor<'input>,
+    builder: &mut Builder<'input>,
+    open_around: usize,
+) -> bool
+    requires { MayStep cursor.old builder.old }
+    ensures { ReadsStep (λ k. k.open_around ≡ open_around) cursor.old cursor.new builder.old
+        builder.new result }
+{
+    let bytes = cursor.text.as_bytes();
+    if bytes.len() > MOST_BYTES || builder.rows_left() == 0 {
+        return false;
+    }
+    if bytes[cursor.pos] != b'<' {
+        return false;
+    }
+    markup_of_text(cursor, builder, open_around)
+}

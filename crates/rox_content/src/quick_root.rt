@@ -1,0 +1,181 @@
+//! The start tag of a root element by the fast path, with its declarations. The general reader reads one that is not plain, from
+//! its `<`.
+
+ghost use Rattle.std.specs.Prelude.{◌≡◌, IfOk, length, slice_index, true};
+ghost use Rattle.rox_builder.specs.Readiness.{MayReadTag};
+ghost use Rattle.rox_content.specs.RootTag.{BeginsOwn, BeginsScopes, GivesRootTag, IsBlank, MayReadRootTag, ReadsRootElement, ReadsRootTag};
+
+use rox_attributes::quick_name::name_of_part;
+use rox_builder::builder::{Builder, ROOM_TO_OPEN};
+use rox_bytes::byte_set::part_end;
+use rox_bytes::runs::after_byte;
+use rox_names::seen_names::SeenNames;
+use rox_names::start_tag::StartTag;
+use rox_rows::growth::push;
+use rox_rows::row::NodeKind;
+use rox_scan::cursor::Cursor;
+use rox_scopes::bindings::PrefixBindings;
+use rox_scopes::namespace_table::NamespaceTable;
+use rox_scopes::tables::{ElementTables, Scope, Stretch};
+use rox_storage::compare::same_text;
+use rox_tags::own_declaration::{OWN, TagScope};
+use rox_tags::quick_tag::{PlainTag, namespace_in_scope, tag_attributes};
+use rox_tags::tag::element_of;
+use std::alloc::AllocError;
+
+/// The row of the root node.
+const ROOT: u32 = 0;
+
+/// Reads a start tag, from its `<`, of a child of the root node, if it is plain. It is in line, as its result would be moved
+/// twice otherwise.
+#[inline(always)]
+fn root_tag<'input>(
+    text: &'input str,
+    start: usize,
+    elements: &mut ElementTables<'input>,
+    seen: &mut SeenNames,
+) -> Option<PlainTag<'input>>
+    requires { MayReadRootTag text.now start elements.old }
+    ensures { ReadsRootTag elements.old elements.new text.entry.now start result }
+{
+    let name_start = after_byte(text, start, b'<');
+    let part = part_end(text, name_start);
+    let name = name_of_part(text, name_start, part)?;
+    if same_text(name.name.prefix, "xmlns") {
+        return None;
+    }
+    let from = elements.attributes.len();
+    let scope = TagScope {
+        scope: OWN,
+        declares: true,
+    };
+    let end = tag_attributes(text, name.end, elements, scope, seen)?;
+    let namespace = namespace_in_scope(elements, name.name, name_start, OWN)?;
+    let element = element_of(elements, name.name.local, from, OWN, namespace);
+    let tag = StartTag {
+        name: name.name,
+        name_start,
+        name_end: name.end,
+        element,
+        empty: end.empty,
+    };
+    Some(PlainTag { tag, end: end.at })
+}
+
+/// Returns true only if nothing is declared yet.
+#[inline(always)]
+fn is_blank(elements: &ElementTables<'_>) -> bool
+    ensures { result ≡ true → IsBlank elements.now }
+{
+    if elements.namespaces.as_slice().len() != 0 {
+        return false;
+    }
+    if elements.listed.len() != 0 {
+        return false;
+    }
+    if elements.scopes.len() != 1 {
+        return false;
+    }
+    elements.present.is_of_none()
+}
+
+/// Appends the scope of a root element, which lists nothing yet, after that of the root node.
+#[inline(always)]
+fn begin_root(elements: &mut ElementTables<'_>) -> Result<(), AllocError>
+    requires { length elements.old.scopes.items ≡ 1 }
+    ensures { BeginsOwn elements.old elements.new result }
+{
+    elements.scopes[0] = Scope::Few(Stretch { from: 0, until: 0 });
+    push(
+        &mut elements.scopes,
+        Scope::Few(Stretch { from: 0, until: 0 }),
+    )
+}
+
+/// Resets the scopes to that of the root node, with nothing declared.
+#[cold]
+#[inline(never)]
+fn begin_scopes(elements: &mut ElementTables<'_>) -> Result<(), AllocError>
+    ensures { BeginsScopes elements.old elements.new result }
+{
+    let alloc = *elements.scopes.allocator();
+    elements.listed.clear();
+    elements.scopes.clear();
+    elements.present = PrefixBindings::new(alloc);
+    elements
+        .scopes
+        .push(Scope::Few(Stretch { from: 0, until: 0 }))?;
+    Ok(())
+}
+
+/// Reads the start tag of a root element, from its `<`, if nothing is declared yet and it is plain. If it returns `Ok(None)`, the
+/// tables hold what they held.
+#[inline(always)]
+fn first_tag<'input>(
+    text: &'input str,
+    start: usize,
+    elements: &mut ElementTables<'input>,
+    seen: &mut SeenNames,
+) -> Result<Option<PlainTag<'input>>, AllocError>
+    requires { slice_index text.now start ≡ 60 }
+    ensures { IfOk result
+        (λ r. GivesRootTag elements.old elements.new text.entry.now start r) }
+{
+    if !is_blank(elements) || text.len() > u32::MAX as usize {
+        return Ok(None);
+    }
+    let attributes = elements.attributes.len();
+    begin_root(elements)?;
+    if let Some(read) = root_tag(text, start, elements, seen) {
+        return Ok(Some(read));
+    }
+    // Memory that was refused is not asked for again.
+    if seen.lacking {
+        return Err(AllocError);
+    }
+    elements.attributes.truncate(attributes);
+    elements.namespaces = NamespaceTable::new(*elements.scopes.allocator());
+    begin_scopes(elements)?;
+    Ok(None)
+}
+
+/// The outcome of the fast path for the start tag of a root element. It is one word, which stays in a register.
+#[derive(Clone, Copy)]
+pub enum RootLook {
+    /// The tag was read, and has its row.
+    Read,
+    /// Nothing was read: the tag is not plain, or finds no room.
+    NotRead,
+    /// Memory was refused.
+    Lacking,
+}
+
+/// Reads the start tag of the root element, from its `<`, if it is plain and its row finds room. Otherwise the tables hold what
+/// they held, unless memory was refused.
+#[inline(never)]
+pub fn root_element<'input>(cursor: &mut Cursor<'input>, builder: &mut Builder<'input>) -> RootLook
+    requires { MayReadTag cursor.old builder.old }
+    ensures { ReadsRootElement cursor.old cursor.new builder.old builder.new result }
+{
+    if builder.rows_left() == 0 || builder.opened.len() != 0 {
+        return RootLook::NotRead;
+    }
+    let (text, start) = (cursor.text, cursor.pos);
+    let (tables, seen) = (&mut builder.tables, &mut builder.buffers.seen);
+    let Ok(look) = first_tag(text, start, tables, seen) else {
+        return RootLook::Lacking;
+    };
+    let Some(read) = look else {
+        return RootLook::NotRead;
+    };
+    cursor.pos = read.end;
+    if read.tag.empty {
+        builder.put_leaf(ROOT, start, read.end, NodeKind::Element(read.tag.element));
+        return RootLook::Read;
+    }
+    if builder.opened.reserve_exact(ROOM_TO_OPEN).is_err() {
+        return RootLook::Lacking;
+    }
+    builder.put_open(ROOT, text, start, &read.tag);
+    RootLook::Read
+}

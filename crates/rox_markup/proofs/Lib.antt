@@ -1,0 +1,3 @@
+pub mod Marking
+pub mod QuoteLemmas
+pub mod PairLemmas

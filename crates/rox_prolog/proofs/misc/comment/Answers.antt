@@ -1,0 +1,29 @@
+use Rattle.std.proofs.Common.{refl, ap, ℕ, rules}
+use Rattle.std.proofs.lemmas.Result.{err_from_is_err_and}
+use Rattle.rox_grammar.specs.Tree as tree
+use Rattle.rox_grammar.specs.Written.{Item, Comment}
+use Rattle.rox_reading.specs.Refusals.{lifted}
+use Rattle.rox_builder.proofs.Stepping.{comment_is, comment_fails, item_stepped}
+use Rattle.rox_prolog.proofs.misc.comment.Goals as goal
+
+pub returns : goal.returns
+returns c = record {
+  value = λ limit end s h.
+      let src = c.args.cursor.now.text.now in
+      let text = c.in_ok-text.text.now in
+      let j = c.comment.new.cursor.pos in
+      let b = c.args.builder.now in
+      let i : Item = Comment s.at j text in
+      let a = c.leaf.ensures.value end j s i h.shows (record { is = ap (λ (n : ℕ). tree.Comment n j text) h.here; within = refl; no_text = refl }) in
+      rw (comment_is limit src s c.args.cursor.now.pos j text h.here c.in_ok-text.ensures.value)
+      (item_stepped limit end s c.args.cursor.now c.comment.new.cursor b c.leaf.new.self c.leaf.result i h refl refl c.leaf.ensures.kept.tables c.leaf.ensures.kept.limit c.leaf.ensures.kept.openings_left a);
+  goes = search rules;
+}
+
+pub returns-in_err-text : goal.returns-in_err-text
+returns-in_err-text c = record {
+  value = λ limit end s h.
+      let p = err_from_is_err_and c.from_residual.result c.from_residual.ensures.1 in
+      rw (p.1, p.2) (ap lifted (comment_fails limit c.args.cursor.now.text.now s c.args.cursor.now.pos c.in_err-text.field-0.0 h.here c.in_err-text.ensures.value));
+  goes = let p = err_from_is_err_and c.from_residual.result c.from_residual.ensures.1 in rw p.1 tt;
+}

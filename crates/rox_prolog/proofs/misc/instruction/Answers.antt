@@ -1,0 +1,30 @@
+use Rattle.std.proofs.Common.{refl, ap, ℕ, rules}
+use Rattle.std.proofs.lemmas.Result.{err_from_is_err_and}
+use Rattle.rox_grammar.specs.Tree as tree
+use Rattle.rox_grammar.specs.Written.{Item, PI}
+use Rattle.rox_markup.specs.Views.{instruction_view}
+use Rattle.rox_reading.specs.Refusals.{lifted}
+use Rattle.rox_builder.proofs.Stepping.{instruction_is, instruction_fails, item_stepped}
+use Rattle.rox_prolog.proofs.misc.instruction.Goals as goal
+
+pub returns : goal.returns
+returns c = record {
+  value = λ limit end s h.
+      let src = c.args.cursor.now.text.now in
+      let p = instruction_view c.in_ok-pi.pi in
+      let j = c.processing_instruction.new.cursor.pos in
+      let b = c.args.builder.now in
+      let i : Item = PI s.at j p.target p.value in
+      let a = c.leaf.ensures.value end j s i h.shows (record { is = ap (λ (n : ℕ). tree.PI n j p.target p.value) h.here; within = tt; no_text = refl }) in
+      rw (instruction_is limit src s c.args.cursor.now.pos j p h.here c.in_ok-pi.ensures.value)
+      (item_stepped limit end s c.args.cursor.now c.processing_instruction.new.cursor b c.leaf.new.self c.leaf.result i h refl refl c.leaf.ensures.kept.tables c.leaf.ensures.kept.limit c.leaf.ensures.kept.openings_left a);
+  goes = search rules;
+}
+
+pub returns-in_err-pi : goal.returns-in_err-pi
+returns-in_err-pi c = record {
+  value = λ limit end s h.
+      let p = err_from_is_err_and c.from_residual.result c.from_residual.ensures.1 in
+      rw (p.1, p.2) (ap lifted (instruction_fails limit c.args.cursor.now.text.now s c.args.cursor.now.pos c.in_err-pi.field-0.0 h.here c.in_err-pi.ensures.value));
+  goes = let p = err_from_is_err_and c.from_residual.result c.from_residual.ensures.1 in rw p.1 tt;
+}

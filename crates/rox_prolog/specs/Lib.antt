@@ -1,0 +1,4 @@
+pub mod Requests
+pub mod ParsedResults
+pub mod Asking
+pub mod PrologParts

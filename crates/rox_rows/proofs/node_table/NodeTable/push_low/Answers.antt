@@ -1,0 +1,25 @@
+use Rattle.std.proofs.Common.{rules, arith}
+use Rattle.rox_rows.proofs.StoredNodes.{push_is, low_row, within-more, within-push, chain_grown}
+use Rattle.rox_rows.proofs.node_table.NodeTable.push_low.Goals as goal
+
+pub invariant_of-self-2 : goal.invariant_of-self-2
+invariant_of-self-2 c =
+    let t = c.args.self.now in
+    record {
+      short = omega (arith, t.short, c.push_reserved.ensures.len, c.push_reserved.new.self.ok.0, t.rows.ok.0);
+      chained =
+          chain_grown t _ _ c.args.row.kind c.owns_text-owns.result c.len.result _ c.push_reserved.ensures.items c.in_ok-kind.ensures.stored.chained c.owns_text-owns.ensures
+          (omega (arith, c.len.ensures, t.rows.ok.0)) c.last_with-self.ensures;
+      within = rw c.push_reserved.ensures.items (within-push _ t.rows.items _ (within-more _ _ t.rows.items c.store_kind.ensures.more t.within) c.in_ok-kind.ensures.stored.within);
+    }
+
+pub returns : goal.returns
+returns c =
+    let t = c.args.self.now in
+    let pis = c.store_kind.new.instructions.items in
+    record {
+      rows =
+          push_is t.instructions.items pis t.high.items t.rows.items _ _ c.args.row t.short c.push_reserved.ensures.items
+          (c.store_kind.ensures.same t.high.items t.rows.items t.within) (low_row pis c.args.row c.in_ok-kind.kind c.in_ok-kind.ensures.stored.value);
+      len = search rules;
+    }

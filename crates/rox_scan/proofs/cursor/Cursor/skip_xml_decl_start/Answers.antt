@@ -1,8 +1,0 @@
-use Rattle.std.proofs.Common.{lit<}
-use Rattle.rox_bytes.proofs.MarkLemmas.{stands_front_cut}
-use Rattle.rox_scan.proofs.cursor.Cursor.skip_xml_decl_start.Goals as goal
-
-pub invariant_of-self : goal.invariant_of-self
-invariant_of-self c =
-    let s = c.args.self.now in
-    record { utf8 = s.utf8; cut = stands_front_cut _ s.text.now s.pos 4 (lit< tt) s.utf8 (lit< tt) c.requires }
