@@ -53,13 +53,16 @@ fn count_explicit(rows: &[StoredAttribute<'_>]) -> usize
 }
 
 /// Appends `count`, the next row's index, to `owned` if `value` is owned. Returns false, with `owned` unchanged, if memory is
-/// refused.
+/// refused, which sets `refused`, or was before.
 #[inline(always)]
-fn note(owned: &mut Vec<usize>, value: &StringStorage<'_>, count: usize) -> bool
+fn note(owned: &mut Vec<usize>, refused: &mut bool, value: &StringStorage<'_>, count: usize) -> bool
     ensures { Puts (own_place value.now count) result owned.old.items owned.new.items }
 {
     if is_owned(value) {
-        return push(owned, count).is_ok();
+        if !*refused {
+            *refused = push(owned, count).is_err();
+        }
+        return !*refused;
     }
     true
 }
@@ -187,7 +190,12 @@ impl<'input> AttributeTable<'input> {
         ensures { Puts ((item.entry, places) ∷ []) result (attribute_rows self.old)
             (attribute_rows self.new) }
     {
-        if !note(&mut self.owned, &item.value, self.items.len()) {
+        if !note(
+            &mut self.owned,
+            &mut self.refused,
+            &item.value,
+            self.items.len(),
+        ) {
             return false;
         }
         let row = StoredAttribute::new(item, before, places.start as u32);
@@ -205,7 +213,12 @@ impl<'input> AttributeTable<'input> {
         if self.is_full() || number >= self.explicit.capacity() || number > u32::MAX as usize {
             return false;
         }
-        if !note(&mut self.owned, &item.value, self.items.len()) {
+        if !note(
+            &mut self.owned,
+            &mut self.refused,
+            &item.value,
+            self.items.len(),
+        ) {
             return false;
         }
         let row = StoredAttribute::new(item, EXPLICIT, number as u32);
@@ -227,7 +240,12 @@ impl<'input> AttributeTable<'input> {
             (attribute_rows self.new) }
     {
         if self.explicit.len() >= self.explicit.capacity() {
-            make_room(&mut self.explicit, places.end, self.text_end)?;
+            if self.refused {
+                return Err(AllocError);
+            }
+            let made = make_room(&mut self.explicit, places.end, self.text_end);
+            self.refused = made.is_err();
+            made?;
         }
         if self.put_explicit(item, places) {
             Ok(())
