@@ -23,3 +23,35 @@ def blocks_of(file):
         elif block:
             yield block
             block = []
+
+
+# The characters around what is found at each place: of one byte and of three, with how many there are at most.
+AROUND = (("x", 130), ("\u5c71", 43))
+
+
+def places(text, dump):
+    """The texts of a row that has one for each place, in bytes, and the dump of each."""
+    text, dump = re.split(r"\\([<>])", text), re.split(r"\\([<>]|\([\dabAB+]+\))", dump)
+    text = [part if at % 2 else bytes_of(part) for at, part in enumerate(text)]
+    for character, most in AROUND:
+        for before in range(most + 1):
+            for behind in range(most - before + 1) if ">" in text else [0]:
+                yield filled(text, dump, character, before, behind)
+
+
+def filled(text, dump, character, before, behind):
+    """A text and its dump, with so many characters before what is sought and behind it."""
+    byte, width = character.encode(), len(character.encode())
+    shown = character if width == 1 else "".join(f"\\x{it:02x}" for it in byte)
+    bytes_in, shown_in = {"<": byte * before, ">": byte * behind}, {"<": shown * before, ">": shown * behind}
+    numbers = {"b": before * width, "a": behind * width, "B": before, "A": behind}
+
+    def shows(slot):
+        if slot in shown_in:
+            return shown_in[slot]
+        return str(sum(numbers[it] if it in numbers else int(it) for it in slot[1:-1].split("+")))
+
+    return (
+        b"".join(bytes_in[part] if at % 2 else part for at, part in enumerate(text)),
+        "".join(shows(part) if at % 2 else part for at, part in enumerate(dump)),
+    )

@@ -190,12 +190,8 @@ impl<'input> AttributeTable<'input> {
         ensures { Puts ((item.entry, places) ∷ []) result (attribute_rows self.old)
             (attribute_rows self.new) }
     {
-        if !note(
-            &mut self.owned,
-            &mut self.refused,
-            &item.value,
-            self.items.len(),
-        ) {
+        let place = self.items.len();
+        if !note(&mut self.owned, &mut self.refused, &item.value, place) {
             return false;
         }
         let row = StoredAttribute::new(item, before, places.start as u32);
@@ -213,12 +209,8 @@ impl<'input> AttributeTable<'input> {
         if self.is_full() || number >= self.explicit.capacity() || number > u32::MAX as usize {
             return false;
         }
-        if !note(
-            &mut self.owned,
-            &mut self.refused,
-            &item.value,
-            self.items.len(),
-        ) {
+        let place = self.items.len();
+        if !note(&mut self.owned, &mut self.refused, &item.value, place) {
             return false;
         }
         let row = StoredAttribute::new(item, EXPLICIT, number as u32);

@@ -7,7 +7,6 @@ mod generated;
 mod limits;
 mod messages;
 mod positions;
-mod searches;
 mod slices;
 mod tables;
 

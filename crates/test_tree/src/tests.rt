@@ -1,14 +1,14 @@
 //! Worked answers of the public calls, in tables.
 
 mod attributes;
-mod calls;
+mod callers;
 mod documents;
 mod iterators;
 mod names;
 mod namespaces;
 mod order;
+mod paths;
 mod printed;
-mod scopes;
 mod storages;
 
 use roxmltree::{Document, Error, Node, NodeId, NodeType};

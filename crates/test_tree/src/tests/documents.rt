@@ -1,8 +1,11 @@
 //! A document: its text, and its nodes by their ids.
 
-use super::{id_of, number, same, same_at};
-use roxmltree::{Document, Node};
+use super::{document_of, id_of, is_of_kind, node_of, number, same, same_at};
+use roxmltree::{Document, Node, NodeType};
 use std::process::Abort;
+
+/// A node of each kind.
+const TEXT: &str = "<!--c--><r>x<?t w?></r>";
 
 /// Wants a node to have this id, and to be of a document with this text.
 fn is_of_document(node: &Node<'_, '_>, rt: &impl Abort, id: u32, text: &str) {
@@ -10,24 +13,38 @@ fn is_of_document(node: &Node<'_, '_>, rt: &impl Abort, id: u32, text: &str) {
     same(rt, "document", node.document().input_text(), text);
 }
 
-/// Wants a document to have this text, this root element and so many nodes.
-pub(super) fn has_its_text_and_its_nodes(
-    document: &Document<'_>,
-    rt: &impl Abort,
-    text: &str,
-    element: u32,
-    count: usize,
-) {
-    same(rt, "text", document.input_text(), text);
-    is_of_document(&document.root(), rt, 0, text);
-    is_of_document(&document.root_element(), rt, element, text);
-    same(rt, "nodes", document.descendants().len(), count);
+#[test]
+fn a_text_and_its_nodes(rt: HostRuntime) {
+    let document = document_of(&rt, TEXT);
+    same(&rt, "text", document.input_text(), TEXT);
+    is_of_document(&document.root(), &rt, 0, TEXT);
+    is_of_document(&document.root_element(), &rt, 2, TEXT);
+    same(&rt, "nodes", document.descendants().len(), 5);
 }
 
-/// Wants a node of each of these ids, or none.
-pub(super) fn finds(document: &Document<'_>, rt: &impl Abort, ids: &[(u32, Option<u32>)]) {
-    for (id, found) in ids {
-        let node = document.get_node((*id).into());
-        same_at(rt, *id, id_of(&node), *found);
+/// Wants a node of this id, or none.
+fn finds(document: &Document<'_>, rt: &impl Abort, id: u32, found: Option<u32>) {
+    same_at(rt, id, id_of(&document.get_node(id.into())), found);
+}
+
+#[test]
+fn nodes_by_their_ids(rt: HostRuntime) {
+    let document = document_of(&rt, TEXT);
+    for (id, found) in &[(0, Some(0)), (4, Some(4)), (5, None), (u32::MAX, None)] {
+        finds(&document, &rt, *id, *found);
+    }
+}
+
+#[test]
+fn kinds_of_nodes(rt: HostRuntime) {
+    let document = document_of(&rt, TEXT);
+    for (id, kind) in &[
+        (0, NodeType::Root),
+        (1, NodeType::Comment),
+        (2, NodeType::Element),
+        (3, NodeType::Text),
+        (4, NodeType::PI),
+    ] {
+        is_of_kind(&node_of(&document, &rt, *id), &rt, *kind);
     }
 }

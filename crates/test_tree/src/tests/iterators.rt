@@ -1,12 +1,12 @@
-//! Iterators from both ends: what is left, copies, and None again after the end. Children and ancestors are among the calls, and how
-//! many nodes, attributes and namespaces each iterator has is in `texts/axes.txt`.
+//! Iterators from both ends: what is left, copies, and None again after the end. How many nodes, attributes and namespaces each
+//! iterator has is in `texts/axes.txt`.
 
 use super::{document_of, id_of, node_of, same};
-use roxmltree::{Attribute, Attributes, Children, Descendants, Namespace, NamespaceIter};
+use roxmltree::{Attribute, Attributes, AxisIter, Children, Descendants, Namespace, NamespaceIter};
 use std::process::Abort;
 
 /// Wants children to be given in turn from the front and from the back.
-pub(super) fn gives_children(
+fn gives_children(
     mut nodes: Children<'_, '_>,
     rt: &impl Abort,
     wanted: &[(Option<u32>, Option<u32>)],
@@ -17,8 +17,40 @@ pub(super) fn gives_children(
     }
 }
 
+#[test]
+fn children_and_their_copies(rt: HostRuntime) {
+    let document = document_of(&rt, "<r>a<b/>c<d/></r>");
+    let children = document.root_element().children();
+    let wanted = &[
+        (Some(2), Some(5)),
+        (Some(3), Some(4)),
+        (None, None),
+        (None, None),
+    ];
+    gives_children(children.clone().expect(&rt, "memory"), &rt, wanted);
+    gives_children(children, &rt, wanted);
+}
+
+/// Wants an axis to lead over these nodes, and then to stay at its end.
+fn leads_over(mut nodes: AxisIter<'_, '_>, rt: &impl Abort, wanted: &[u32]) {
+    for id in wanted {
+        same(rt, "next", id_of(&nodes.next()), Some(*id));
+    }
+    for _ in 0..2 {
+        same(rt, "end", id_of(&nodes.next()), None);
+    }
+}
+
+#[test]
+fn ancestors_and_their_copies(rt: HostRuntime) {
+    let document = document_of(&rt, "<r><a/></r>");
+    let ancestors = node_of(&document, &rt, 2).ancestors();
+    leads_over(ancestors.clone().expect(&rt, "memory"), &rt, &[2, 1, 0]);
+    leads_over(ancestors, &rt, &[2, 1, 0]);
+}
+
 /// Wants so many nodes to be given in turn from the front and from the back, with so many left after each turn.
-pub(super) fn gives_descendants(
+fn gives_descendants(
     mut nodes: Descendants<'_, '_>,
     rt: &impl Abort,
     count: usize,
@@ -48,12 +80,12 @@ fn descendants_and_their_copies(rt: HostRuntime) {
     gives_descendants(nodes, &rt, 6, wanted);
 }
 
-pub(super) fn position(attribute: Attribute<'_, '_>) -> usize {
+fn position(attribute: Attribute<'_, '_>) -> usize {
     attribute.position()
 }
 
 /// Wants so many attributes to be given in turn from the front and from the back, with so many left after each turn.
-pub(super) fn gives_attributes(
+fn gives_attributes(
     mut attributes: Attributes<'_, '_>,
     rt: &impl Abort,
     count: usize,
@@ -86,7 +118,7 @@ fn initial(namespace: &Namespace<'_>) -> u8 {
 }
 
 /// Wants so many namespaces, of which these are given from the back, with so many left after each, and then this one from the front.
-pub(super) fn gives_namespaces(
+fn gives_namespaces(
     mut namespaces: NamespaceIter<'_, '_>,
     rt: &impl Abort,
     count: usize,

@@ -13,12 +13,7 @@ fn named<'a>(uri: Option<&'a str>, local: &'a str) -> ExpandedName<'a, 'a> {
 }
 
 /// Wants an element of a text to be named `e`, in this namespace or in none, and to be found by that name alone.
-pub(super) fn is_named(
-    element: &Node<'_, '_>,
-    rt: &impl Abort,
-    text: &str,
-    namespace: Option<&str>,
-) {
+fn is_named(element: &Node<'_, '_>, rt: &impl Abort, text: &str, namespace: Option<&str>) {
     same(rt, text, element.tag_name(), named(namespace, "e"));
     for (local, has) in &[("e", true), ("p", false), ("r", false)] {
         same(rt, local, element.has_local_name(local), *has);

@@ -14,12 +14,12 @@ fn keyed<'input>(rt: &(impl Abort + AllocGlobal), text: &'input str, key: u64) -
     Document::parse_with_options(rt.alloc(), text, options).expect(rt, text)
 }
 
-pub(super) fn hash_of<T: Hash + Drop>(value: T) -> u64 {
+fn hash_of<T: Hash + Drop>(value: T) -> u64 {
     BuildHasherDefault::<FoldHasher>::default().hash_one(value)
 }
 
 /// Whether a node equals another, whether it is before it, and their order.
-pub(super) fn compared(one: &Node<'_, '_>, other: &Node<'_, '_>) -> (bool, bool, Ordering) {
+fn compared(one: &Node<'_, '_>, other: &Node<'_, '_>) -> (bool, bool, Ordering) {
     (one == other, one < other, one.cmp(other))
 }
 
@@ -72,7 +72,7 @@ fn are_equal_by_id(one: &Document<'_>, two: &Document<'_>, rt: &impl Abort) {
 }
 
 /// Wants two nodes to be equal.
-pub(super) fn are_equal(one: &Node<'_, '_>, other: &Node<'_, '_>, rt: &impl Abort) {
+fn are_equal(one: &Node<'_, '_>, other: &Node<'_, '_>, rt: &impl Abort) {
     let equal = (true, false, Ordering::Equal);
     same(rt, "equal", compared(one, other), equal);
     same(rt, "hash", hash_of(*one), hash_of(*other));

@@ -12,8 +12,8 @@ invariant_of-self-2 c =
     let count = count_one_more old.items.items more c.new-row.result c.push_reserved.ensures.items c.new-row.ensures.before_is in
     record {
       listed =
-          owned_push old.items.items more old.owned.items _ c.new-row.result c.args.item c.len.result c.push_reserved.ensures.items c.new-row.ensures.is
-          (omega (arith, c.len.ensures, old.items.ok.0)) old.listed (c.note.ensures.put c.if-not-note.false);
+          owned_push old.items.items more old.owned.items _ c.new-row.result c.args.item c.len-place.result c.push_reserved.ensures.items c.new-row.ensures.is
+          (omega (arith, c.len-place.ensures, old.items.ok.0)) old.listed (c.note.ensures.put c.if-not-note.false);
       numbered = numbered_explicit old.items.items more c.new-row.result (length old.explicit.items) c.push_reserved.ensures.items old.numbered old.counted last;
       counted = omega (arith, places, count, old.counted);
     }
