@@ -3,7 +3,7 @@
 ghost use Rattle.std.specs.Prelude.{◌<◌, ◌≤◌, ◌+◌, ◌++◌, ◌^◌, ◌≡◌, ◌∷◌, [], ℕ, length, drop, vec_len, max, IfOk, IfSome, OnOk};
 ghost use Rattle.rox_rows.specs.declared.row.NodeData.{NodeData};
 ghost use Rattle.rox_rows.specs.Rows.{node_rows, attribute_rows};
-ghost use Rattle.rox_scopes.specs.declared.tables.Scope.TheVariants as scope;
+ghost use Rattle.rox_scopes.specs.declared.stored_scope.Scope.TheVariants as scope;
 ghost use Rattle.rox_rows.specs.declared.row.NodeKind.TheVariants as kind;
 ghost use Rattle.rox_names.specs.SpelledNames.{KeepsName, SpellsName};
 ghost use Rattle.rox_builder.specs.PendingText.{waiting, written};
@@ -20,7 +20,8 @@ use rox_rows::node_table::NodeTable;
 use rox_rows::row::{NodeData, NodeKind, PI};
 use rox_scopes::bindings::PrefixBindings;
 use rox_scopes::namespace_table::NamespaceTable;
-use rox_scopes::tables::{ElementTables, Scope, Stretch};
+use rox_scopes::stored_scope::{Scope, Stretch};
+use rox_scopes::tables::ElementTables;
 use rox_storage::recent_texts::Recent;
 use rox_values::context::MOST_WITHIN;
 use std::alloc::{AllocError, Global};

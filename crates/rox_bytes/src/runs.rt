@@ -5,7 +5,6 @@ ghost use Rattle.rox_grammar.specs.Chars as spec;
 ghost use Rattle.rox_grammar.specs.Runs.{run_end, begins};
 ghost use Rattle.rox_bytes.specs.ScanResults.{Finds, HasByteAt, HasCharAt, IsCharAt};
 
-use crate::byte_set::{ByteSet, SpaceByte};
 use crate::chars::Class;
 
 /// Returns the character that starts at `at`.

@@ -7,8 +7,9 @@ ghost use Rattle.rox_scopes.specs.Scopes.{places_in};
 ghost use Rattle.rox_scopes.specs.Ropes.{IsScopeOf};
 
 use crate::debug::write_list;
+use rox_scopes::namespace::Namespace;
 use rox_scopes::rope::{count, place_at};
-use rox_scopes::tables::{Namespace, Scope};
+use rox_scopes::stored_scope::Scope;
 use std::alloc::AllocError;
 use std::fmt;
 use std::marker::Model;

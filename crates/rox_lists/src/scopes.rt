@@ -11,7 +11,8 @@ ghost use Rattle.rox_lists.specs.ExpandedNames.{first_prefix};
 
 use crate::names::{equal_names, equal_uris};
 use crate::namespaces::all_of_scope;
-use rox_scopes::tables::{Concat, Namespace, Scope};
+use rox_scopes::namespace::Namespace;
+use rox_scopes::stored_scope::{Concat, Scope};
 
 /// Returns whether a namespace has this prefix, or is the default for `None`.
 #[inline(always)]

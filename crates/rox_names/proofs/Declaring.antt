@@ -19,14 +19,14 @@ use Rattle.rox_grammar.specs.Failures.{Fails}
 use Rattle.rox_grammar.specs.declared.failure.Failure.{Failure}
 use Rattle.rox_grammar.specs.declared.failure.Failure.TheVariants as failure
 use Rattle.rox_grammar.proofs.PairLemmas.{with_new-more, with_new-append}
-use Rattle.rox_scopes.specs.declared.tables.Namespace.{Namespace}
+use Rattle.rox_scopes.specs.declared.namespace.Namespace.{Namespace}
 use Rattle.rox_rows.specs.Rows.{namespace_at}
 use Rattle.rox_scopes.specs.Tables.{lists_of, AreScopes}
 use Rattle.rox_scopes.specs.NamespaceViews.{namespace_view}
 use Rattle.rox_scopes.specs.PrefixSet.{IsPrefixSet}
 use Rattle.rox_scopes.specs.Scopes.{entries, others, ArePlaces, PrefixesOnce}
 use Rattle.rox_names.specs.TagDeclarations.{declares_xml, Declares, Declared}
-use Rattle.rox_scopes.specs.declared.tables.Scope.{Scope}
+use Rattle.rox_scopes.specs.declared.stored_scope.Scope.{Scope}
 use Rattle.rox_scopes.specs.Bindings.{AreBindingsOf}
 use Rattle.rox_scopes.specs.declared.bindings.PrefixBindings.{PrefixBindings}
 use Rattle.rox_scopes.proofs.Presenting.{keeps_grown}

@@ -13,7 +13,7 @@ use Rattle.rox_scopes.specs.declared.bindings.PrefixBindings.{PrefixBindings}
 use Rattle.rox_reading.specs.Tags.{names_tested}
 use Rattle.rox_rows.specs.Rows.{AttributeRow, NamespaceWithin, attribute, attribute_uri}
 use Rattle.rox_scopes.specs.NamespaceViews.{namespace_view}
-use Rattle.rox_scopes.specs.declared.tables.Namespace.{Namespace}
+use Rattle.rox_scopes.specs.declared.namespace.Namespace.{Namespace}
 use Rattle.rox_names.specs.declared.unresolved_attribute.UnresolvedAttribute.{UnresolvedAttribute}
 use Rattle.rox_names.specs.declared.unresolved_attribute.CompactAttribute.{CompactAttribute}
 use Rattle.rox_storage.specs.declared.storage.StringStorage.TheVariants.{Borrowed}

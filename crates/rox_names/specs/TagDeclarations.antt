@@ -14,10 +14,10 @@ use Rattle.rox_scopes.specs.Scopes.{entries, ArePlaces, PrefixesOnce}
 use Rattle.rox_scopes.specs.PrefixSet.{IsPrefixSet}
 use Rattle.rox_scopes.specs.Tables.{AreScopes, lists_of}
 use Rattle.rox_scopes.specs.NamespaceViews.{namespace_view}
-use Rattle.rox_scopes.specs.declared.tables.Namespace.{Namespace}
+use Rattle.rox_scopes.specs.declared.namespace.Namespace.{Namespace}
 use Rattle.rox_scopes.specs.Bindings.{AreBindingsOf}
 use Rattle.rox_scopes.specs.declared.bindings.PrefixBindings.{PrefixBindings}
-use Rattle.rox_scopes.specs.declared.tables.Scope.{Scope}
+use Rattle.rox_scopes.specs.declared.stored_scope.Scope.{Scope}
 use Rattle.rox_storage.specs.Storage.{storage_bytes, is_borrowed}
 use Rattle.rox_names.specs.declared.unresolved_attribute.UnresolvedAttribute.{UnresolvedAttribute}
 

@@ -24,7 +24,7 @@ use Rattle.rox_names.specs.declared.unresolved_attribute.UnresolvedAttribute.{Un
 use Rattle.rox_rows.specs.declared.stored_attribute.StoredAttribute.{StoredAttribute}
 use Rattle.rox_rows.specs.declared.row.AttributeData.{AttributeData}
 use Rattle.rox_rows.specs.declared.row.AttributeNamespace.{AttributeNamespace}
-use Rattle.rox_scopes.specs.declared.tables.Namespace.{Namespace}
+use Rattle.rox_scopes.specs.declared.namespace.Namespace.{Namespace}
 
 -- The result is the namespace of an attribute's name, or `None` if its prefix is not known.
 pub record FindsNamespace (table : List Namespace) (few : Option (List ℕ)) (present : PrefixBindings) (name : Name) (result : Option AttributeNamespace) : Type 0 where

@@ -9,10 +9,10 @@ use Rattle.rox_grammar.specs.declared.fault.Word.TheVariants.{Xml}
 use Rattle.rox_grammar.specs.FixedTexts.{word_text}
 use Rattle.rox_grammar.specs.Written.{NamespaceDecl}
 use Rattle.rox_grammar.specs.Tree.{is_declared}
-use Rattle.rox_scopes.specs.declared.tables.Namespace.{Namespace}
-use Rattle.rox_scopes.specs.declared.tables.Scope.{Scope}
-use Rattle.rox_scopes.specs.declared.tables.Scope.TheVariants as scope
-use Rattle.rox_scopes.specs.declared.tables.Stretch.{Stretch}
+use Rattle.rox_scopes.specs.declared.namespace.Namespace.{Namespace}
+use Rattle.rox_scopes.specs.declared.stored_scope.Scope.{Scope}
+use Rattle.rox_scopes.specs.declared.stored_scope.Scope.TheVariants as scope
+use Rattle.rox_scopes.specs.declared.stored_scope.Stretch.{Stretch}
 use Rattle.rox_scopes.specs.declared.tables.ElementTables.{ElementTables}
 use Rattle.rox_scopes.specs.declared.bindings.PrefixBindings.{PrefixBindings}
 use Rattle.rox_rows.specs.Rows.{namespace_at, scope_at}

@@ -7,14 +7,14 @@ use Rattle.std.proofs.Math.Seq.{get_or-append_seam}
 use Rattle.std.proofs.lemmas.List.{append-nil, length-map, length-reverse, map-append, take-append-drop, take-append-le, get_or_append_left, get_or_default}
 use Rattle.rox_grammar.specs.Written.{NamespaceDecl}
 use Rattle.rox_reading.proofs.Stretches.{range_length}
-use Rattle.rox_scopes.specs.declared.tables.Concat.{Concat}
-use Rattle.rox_scopes.specs.declared.tables.Scope.{Scope}
-use Rattle.rox_scopes.specs.declared.tables.Scope.TheVariants as scope
+use Rattle.rox_scopes.specs.declared.stored_scope.Concat.{Concat}
+use Rattle.rox_scopes.specs.declared.stored_scope.Scope.{Scope}
+use Rattle.rox_scopes.specs.declared.stored_scope.Scope.TheVariants as scope
 use Rattle.rox_rows.specs.Rows.{namespace_at, scope_at}
 use Rattle.rox_scopes.specs.Tables.{listed_at, made, places_on, places_of, lists_of, count_of, count_at, IsRow, AreRows, EndsWithin, AreScopes}
 use Rattle.rox_scopes.specs.Scopes.{entries, places_in, ArePlaces}
 use Rattle.rox_scopes.specs.Ropes.{IsRope}
-use Rattle.rox_scopes.specs.declared.tables.Stretch.{Stretch}
+use Rattle.rox_scopes.specs.declared.stored_scope.Stretch.{Stretch}
 use Rattle.rox_scopes.proofs.Leaves.{range_get, back_get}
 use Rattle.rox_rows.proofs.Stable.{all_append, all_slice, all_weaker, map_same, namespace_at-append}
 

@@ -4,9 +4,9 @@ use Rattle.std.specs.List.{slice_range}
 use Rattle.std.proofs.Math.Seq.{drop-append_seam}
 use Rattle.std.proofs.lemmas.List.{append-nil, map-append, drop-append-le, take_all, take_more, get_or-reverse, length-reverse, reverse-reverse, get_or_append_left}
 use Rattle.rox_grammar.specs.Written.{NamespaceDecl}
-use Rattle.rox_scopes.specs.declared.tables.Scope.{Scope}
-use Rattle.rox_scopes.specs.declared.tables.Scope.TheVariants as scope
-use Rattle.rox_scopes.specs.declared.tables.Stretch.{Stretch}
+use Rattle.rox_scopes.specs.declared.stored_scope.Scope.{Scope}
+use Rattle.rox_scopes.specs.declared.stored_scope.Scope.TheVariants as scope
+use Rattle.rox_scopes.specs.declared.stored_scope.Stretch.{Stretch}
 use Rattle.rox_rows.specs.Rows.{namespace_at}
 use Rattle.rox_scopes.specs.Tables.{AreScopes}
 use Rattle.rox_scopes.specs.Scopes.{entries, places_in, ArePlaces}

@@ -3,7 +3,7 @@ use Rattle.std.specs.Prelude.{Bool}
 use Rattle.std.specs.Option.{option_map}
 use Rattle.rox_grammar.specs.Written.{NamespaceDecl}
 use Rattle.rox_storage.specs.Storage.{is_borrowed, storage_bytes}
-use Rattle.rox_scopes.specs.declared.tables.Namespace.{Namespace}
+use Rattle.rox_scopes.specs.declared.namespace.Namespace.{Namespace}
 
 -- The declaration that the namespace comes from.
 abbrev pub namespace_view : Namespace → NamespaceDecl

@@ -16,7 +16,7 @@ use Rattle.rox_grammar.specs.Counts.{has_pair, with_new}
 use Rattle.rox_rows.specs.Rows.{namespace_at}
 use Rattle.rox_scopes.specs.NamespaceViews.{namespace_view}
 use Rattle.rox_scopes.specs.declared.namespace_table.Key.{Key}
-use Rattle.rox_scopes.specs.declared.tables.Namespace.{Namespace}
+use Rattle.rox_scopes.specs.declared.namespace.Namespace.{Namespace}
 
 -- The order of pairs: by prefix, where the default comes first, and then by URI.
 abbrev pub pair_cmp : NamespaceDecl → NamespaceDecl → Ordering

@@ -6,8 +6,8 @@ use Rattle.rox_grammar.specs.Written.{NamespaceDecl}
 use Rattle.rox_grammar.specs.Tree.{same_prefix, is_declared}
 use Rattle.rox_scopes.specs.Scopes.{prefix_view, entries, ArePlaces}
 use Rattle.rox_scopes.specs.NamespaceViews.{namespace_view}
-use Rattle.rox_scopes.specs.declared.tables.Namespace.{Namespace}
-use Rattle.rox_scopes.specs.declared.tables.Stretch.{Stretch}
+use Rattle.rox_scopes.specs.declared.namespace.Namespace.{Namespace}
+use Rattle.rox_scopes.specs.declared.stored_scope.Stretch.{Stretch}
 
 abbrev pub has_prefix : Option (List ℕ) → List (Option (Bor (List ℕ))) → Bool
 has_prefix prefix keys = list_any (λ k. same_prefix (prefix_view k) prefix) keys

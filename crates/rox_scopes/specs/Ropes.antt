@@ -5,8 +5,8 @@ use Rattle.std.specs.List.{AllByRecursion}
 use Rattle.rox_grammar.specs.Written.{NamespaceDecl}
 use Rattle.rox_scopes.specs.Tables.{AreRows, AreScopes, EndsWithin, count_at}
 use Rattle.rox_scopes.specs.Scopes.{entries, is_few_at, places_in, ArePlaces}
-use Rattle.rox_scopes.specs.declared.tables.Scope.{Scope}
-use Rattle.rox_scopes.specs.declared.tables.Stretch.{Stretch}
+use Rattle.rox_scopes.specs.declared.stored_scope.Scope.{Scope}
+use Rattle.rox_scopes.specs.declared.stored_scope.Stretch.{Stretch}
 
 -- A row of a table in which each row joins earlier ones.
 pub record IsRow (table : List Scope) (scope : ℕ) : Type 0 where

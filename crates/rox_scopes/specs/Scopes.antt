@@ -7,8 +7,8 @@ use Rattle.rox_grammar.specs.Written.{NamespaceDecl}
 use Rattle.rox_grammar.specs.Tree.{same_prefix, is_declared, is_xml}
 use Rattle.rox_rows.specs.Rows.{namespace_at}
 use Rattle.rox_scopes.specs.Tables.{listed_at, places_of}
-use Rattle.rox_scopes.specs.declared.tables.Scope.{Scope}
-use Rattle.rox_scopes.specs.declared.tables.Scope.TheVariants as scope
+use Rattle.rox_scopes.specs.declared.stored_scope.Scope.{Scope}
+use Rattle.rox_scopes.specs.declared.stored_scope.Scope.TheVariants as scope
 
 -- A prefix, or `None` for the default, without its address.
 abbrev pub prefix_view : Option (Bor (List ℕ)) → Option (List ℕ)

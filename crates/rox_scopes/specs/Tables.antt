@@ -4,8 +4,8 @@ use Rattle.std.specs.List.{AllByRecursion}
 use Rattle.rox_grammar.specs.Forest.{Forest}
 use Rattle.rox_grammar.specs.Written.{NamespaceDecl}
 use Rattle.rox_grammar.specs.Tree.{Node}
-use Rattle.rox_scopes.specs.declared.tables.Scope.{Scope}
-use Rattle.rox_scopes.specs.declared.tables.Scope.TheVariants as scope
+use Rattle.rox_scopes.specs.declared.stored_scope.Scope.{Scope}
+use Rattle.rox_scopes.specs.declared.stored_scope.Scope.TheVariants as scope
 use Rattle.rox_scopes.specs.declared.tables.Tables.{Tables}
 use Rattle.rox_rows.specs.Rows.{node_rows, RowView, preorder_rows, namespace_at, attribute_rows, row_view, NamespaceWithin, KindWithin}
 use Rattle.rox_scopes.specs.NamespaceViews.{namespace_view}

@@ -12,9 +12,9 @@ use Rattle.rox_scopes.specs.PrefixSet.{IsPrefixSet}
 use Rattle.rox_scopes.specs.Ropes.{IsListed, IsScopeOf}
 use Rattle.rox_scopes.specs.declared.tables.ElementTables.{ElementTables}
 use Rattle.rox_scopes.specs.declared.tables.PrefixTables.{PrefixTables}
-use Rattle.rox_scopes.specs.declared.tables.Scope.{Scope}
-use Rattle.rox_scopes.specs.declared.tables.Scope.TheVariants as row
-use Rattle.rox_scopes.specs.declared.tables.Stretch.{Stretch}
+use Rattle.rox_scopes.specs.declared.stored_scope.Scope.{Scope}
+use Rattle.rox_scopes.specs.declared.stored_scope.Scope.TheVariants as row
+use Rattle.rox_scopes.specs.declared.stored_scope.Stretch.{Stretch}
 
 -- The declarations that each scope lists.
 abbrev pub lists_in : ElementTables → List (List NamespaceDecl)

@@ -10,9 +10,9 @@ ghost use Rattle.rox_scopes.specs.NamespaceViews.{namespace_view};
 ghost use Rattle.rox_scopes.specs.Scopes.{prefix_view, entries, ArePlaces};
 ghost use Rattle.rox_scopes.specs.Ropes.{IsScopeOf};
 
+use crate::namespace::Namespace;
 use crate::rope::{count, position_at};
-use crate::scope::OwnDeclarations;
-use crate::tables::{Namespace, Scope};
+use crate::stored_scope::{OwnDeclarations, Scope};
 use rox_rows::growth::push;
 use std::alloc::{AllocError, Global};
 use std::collections::BTreeMap;

@@ -7,5 +7,6 @@ pub mod namespace_table;
 pub mod prefix_set;
 pub mod rope;
 pub mod scope;
+pub mod stored_scope;
 pub mod tables;
 pub mod tag_scope;

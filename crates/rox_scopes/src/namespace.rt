@@ -1,11 +1,26 @@
-//! What a reader asks of a namespace (Namespaces in XML 1.0, section 3).
+//! A namespace, and what a reader asks of it (Namespaces in XML 1.0, section 3).
 
 ghost use Rattle.std.specs.Prelude.{◌≡◌, true, bytes_eq};
 ghost use Rattle.std.specs.Option.{option_map, option_eq};
 ghost use Rattle.rox_scopes.specs.NamespaceViews.{namespace_view, has_borrowed_uri};
 
-use crate::tables::Namespace;
+use rox_storage::storage::StringStorage;
 use std::alloc::AllocError;
+
+/// A namespace that an element lists: a prefix, or `None` for the default, and its URI.
+///
+/// ```
+/// let document = Document::parse(alloc, "<r xmlns='urn:d' xmlns:p='urn:p'/>")?;
+/// let mut namespaces = document.root_element().namespaces();
+/// let first = namespaces.next().expect(&rt, "a namespace");
+/// assert!(rt; first.name().is_none());
+/// assert!(rt; first.uri() == "urn:d");
+/// ```
+#[derive(Debug, Drop)]
+pub struct Namespace<'input> {
+    pub(crate) name: Option<&'input str>,
+    pub(crate) uri: StringStorage<'input>,
+}
 
 impl<'input> Namespace<'input> {
     /// Returns its prefix, or `None` for the default namespace.

@@ -12,8 +12,8 @@ ghost use Rattle.rox_scopes.specs.NamespaceViews.{namespace_view};
 ghost use Rattle.rox_scopes.specs.Scopes.{prefix_view, pair};
 ghost use Rattle.rox_scopes.specs.PairIndex.{AddsPair, FindsPair, IsNewPair, PlacesOrRefuses, few_pairs, key_cmp, key_total, pair_cmp, place_among, place_behind, place_of};
 
+use crate::namespace::Namespace;
 use crate::scope::same_prefix;
-use crate::tables::Namespace;
 use rox_grammar::failure::Failure;
 use rox_grammar::fault::Fault;
 use rox_rows::growth::push_with_room;

@@ -7,7 +7,7 @@ ghost use Rattle.rox_scopes.specs.NamespaceViews.{namespace_view};
 ghost use Rattle.rox_scopes.specs.Scopes.{prefix_view, ArePlaces};
 ghost use Rattle.rox_scopes.specs.PrefixSet.{has_prefix, IsPrefixSet};
 
-use crate::tables::Namespace;
+use crate::namespace::Namespace;
 use std::alloc::AllocError;
 use std::collections::BTreeSet;
 

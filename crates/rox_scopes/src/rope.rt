@@ -2,15 +2,11 @@
 //! a scope shares what it inherits with its parent's.
 
 ghost use Rattle.std.specs.Prelude.{◌≡◌, ◌<◌, ◌≤◌, ◌+◌, ◌-◌, ◌++◌, ℕ, length, take, drop, reverse, slice_index, slice_range, IfOk, IfSome};
-ghost use Rattle.rox_grammar.specs.Tree.{same_prefix};
 ghost use Rattle.rox_scopes.specs.Tables.{count_at};
-ghost use Rattle.rox_scopes.specs.Scopes.{prefix_view, places_in, ArePlaces};
-ghost use Rattle.rox_scopes.specs.Bindings.{FindsIndex};
+ghost use Rattle.rox_scopes.specs.Scopes.{places_in};
 ghost use Rattle.rox_scopes.specs.Ropes.{AddsRow, AreJoinable, IsAmongRow, IsAmongScope, IsAmongStretch, IsPlaceOf, IsPositionOf, IsRope, IsRow, Joins};
-ghost use Rattle.rox_scopes.specs.TagScopes.{MayHide};
 
-use crate::scope::same_prefix;
-use crate::tables::{Concat, PrefixTables, Scope, Stretch};
+use crate::stored_scope::{Concat, Scope, Stretch};
 use rox_rows::growth::push;
 use std::alloc::AllocError;
 
@@ -322,35 +318,4 @@ pub fn find(scopes: &[Scope], scope: u32, position: usize) -> Option<usize>
             }
         }
     }
-}
-
-/// Returns the index of a place that a scope lists for this prefix, or for the default. It is tried first where the binding of
-/// the prefix says, and then from the front.
-pub fn index_of(
-    tables: PrefixTables<'_, '_>,
-    scopes: &[Scope],
-    scope: u32,
-    prefix: Option<&str>,
-) -> Option<usize>
-    requires { MayHide tables scopes.now scope (prefix_view prefix) }
-    ensures { FindsIndex tables.entry.namespaces.now
-        (places_in tables.entry.listed.now scopes.now scope) (prefix_view prefix.entry) result }
-{
-    let Some(binding) = tables.present.get(prefix) else {
-        return None;
-    };
-    let guess = binding.listed as usize;
-    if let Some(index) = find(scopes, scope, guess) {
-        let place = place_at(scopes, tables.listed, scope, index);
-        if same_prefix(tables.namespaces[place as usize].name, prefix) {
-            return Some(index);
-        }
-    }
-    for index in 0..count(scopes, scope) {
-        let place = place_at(scopes, tables.listed, scope, index);
-        if same_prefix(tables.namespaces[place as usize].name, prefix) {
-            return Some(index);
-        }
-    }
-    None
 }

@@ -10,8 +10,9 @@ ghost use Rattle.rox_scopes.specs.Ropes.{GivesFew, IsScope};
 ghost use Rattle.rox_scopes.specs.Bindings.{AreOnce, FindsPlace, LooksUp, LooksWithin, places_view};
 
 use crate::bindings::PrefixBindings;
+use crate::namespace::Namespace;
 use crate::prefix_set::{FEW, has_prefix};
-use crate::tables::{Namespace, Scope, Stretch};
+use crate::stored_scope::{OwnDeclarations, Scope, Stretch};
 use rox_storage::compare::{LONG, Pair, same_short, same_text};
 use std::alloc::AllocError;
 use std::collections::BTreeSet;
@@ -242,13 +243,6 @@ pub fn is_own<'a>(
         return has_prefix(prefix_set, prefix);
     }
     is_declared(namespaces, own, prefix)
-}
-
-/// The declarations of a tag: the listed places from `from` on, and `xml` if the flag is true.
-#[derive(Clone, Copy)]
-pub struct OwnDeclarations {
-    pub from: usize,
-    pub xml: bool,
 }
 
 /// Lists what an element inherits, after its own declarations: those of the stretch `above`, the list of its parent, whose

@@ -6,14 +6,15 @@ ghost use Rattle.rox_grammar.specs.Written.{NamespaceDecl};
 ghost use Rattle.rox_grammar.specs.Tree.{is_declared};
 ghost use Rattle.rox_scopes.specs.Tables.{AreScopes};
 ghost use Rattle.rox_scopes.specs.NamespaceViews.{namespace_view};
-ghost use Rattle.rox_scopes.specs.Scopes.{prefix_view, entries, PrefixesOnce, others, unlisted};
-ghost use Rattle.rox_scopes.specs.Bindings.{bound_place};
+ghost use Rattle.rox_scopes.specs.Scopes.{prefix_view, entries, places_in, PrefixesOnce, others, unlisted};
+ghost use Rattle.rox_scopes.specs.Bindings.{bound_place, FindsIndex};
 ghost use Rattle.rox_scopes.specs.TagScopes.{listed_by, AddsBack, AddsRows, HasFewAbove, HasOpenTag, HasScope, HasTagPrefixes, IsBelowMany, IsTurnable, MayHide};
 
 use crate::prefix_set::FEW;
-use crate::rope::{add, both, index_of, stretch, without};
-use crate::scope::{OwnDeclarations, inherit};
-use crate::tables::{ElementTables, PrefixTables, Scope, Stretch};
+use crate::rope::{add, both, count, find, place_at, stretch, without};
+use crate::scope::{inherit, same_prefix};
+use crate::stored_scope::{OwnDeclarations, Scope, Stretch};
+use crate::tables::{ElementTables, PrefixTables};
 use std::alloc::AllocError;
 use std::collections::BTreeSet;
 
@@ -31,6 +32,37 @@ fn add_back(listed: &mut Vec<u16>, scopes: &mut Vec<Scope>, from: usize) -> Resu
     let turned = stretch(end, listed.len())?;
     let place = add(scopes, Scope::Back(turned))?;
     Ok(place)
+}
+
+/// Returns the index of a place that a scope lists for this prefix, or for the default. It is tried first where the binding of
+/// the prefix says, and then from the front.
+fn index_of(
+    tables: PrefixTables<'_, '_>,
+    scopes: &[Scope],
+    scope: u32,
+    prefix: Option<&str>,
+) -> Option<usize>
+    requires { MayHide tables scopes.now scope (prefix_view prefix) }
+    ensures { FindsIndex tables.entry.namespaces.now
+        (places_in tables.entry.listed.now scopes.now scope) (prefix_view prefix.entry) result }
+{
+    let Some(binding) = tables.present.get(prefix) else {
+        return None;
+    };
+    let guess = binding.listed as usize;
+    if let Some(index) = find(scopes, scope, guess) {
+        let place = place_at(scopes, tables.listed, scope, index);
+        if same_prefix(tables.namespaces[place as usize].name, prefix) {
+            return Some(index);
+        }
+    }
+    for index in 0..count(scopes, scope) {
+        let place = place_at(scopes, tables.listed, scope, index);
+        if same_prefix(tables.namespaces[place as usize].name, prefix) {
+            return Some(index);
+        }
+    }
+    None
 }
 
 /// Returns a scope that lists what `scope` does except this prefix, or the default for `None`.

@@ -2,7 +2,7 @@
 use Rattle.std.proofs.Common.{◌≡◌, ◌≢◌, ℕ, ◌+◌, ◌-◌, ◌<◌, ◌||◌, ◌==◌, Bool, true, false, List, [], ◌∷◌, Option, length, map, slice_index, refl, sym, ap, subst, ◌∙◌, arith, Ok, bytes_eq}
 use Rattle.std.proofs.lemmas.Bool.{lt-leb, ne_eqb}
 use Rattle.std.proofs.Common.{Some, None}
-use Rattle.rox_scopes.specs.declared.tables.Namespace.{Namespace}
+use Rattle.rox_scopes.specs.declared.namespace.Namespace.{Namespace}
 use Rattle.std.specs.Option.{option_map, is_some}
 use Rattle.rox_grammar.specs.WellNamed.{may_name}
 use Rattle.rox_scopes.proofs.Pairs.{declared_some}
@@ -11,7 +11,7 @@ use Rattle.rox_rows.specs.Rows.{numbered_place, scope_at, namespace_at}
 use Rattle.rox_scopes.specs.Scopes.{entries, places_in}
 use Rattle.rox_scopes.specs.TagScopes.{lists_in}
 use Rattle.rox_scopes.specs.declared.tables.ElementTables.{ElementTables}
-use Rattle.rox_scopes.specs.declared.tables.Scope.{Scope}
+use Rattle.rox_scopes.specs.declared.stored_scope.Scope.{Scope}
 use Rattle.rox_scopes.proofs.Presenting.{finds_few}
 use Rattle.rox_scopes.proofs.Ropes.{scope_places}
 use Rattle.rox_grammar.specs.Names.{spaces_end}

@@ -25,7 +25,7 @@ use Rattle.rox_scopes.specs.NamespaceViews.{namespace_view}
 use Rattle.rox_scopes.specs.Scopes.{ArePlaces, PrefixesOnce, entries, pair, places_in}
 use Rattle.rox_scopes.specs.TagScopes.{lists_in, scope_in_tables}
 use Rattle.rox_scopes.specs.declared.tables.ElementTables.{ElementTables}
-use Rattle.rox_scopes.specs.declared.tables.Namespace.{Namespace}
+use Rattle.rox_scopes.specs.declared.namespace.Namespace.{Namespace}
 use Rattle.rox_bytes.proofs.RunLemmas.{stands_within}
 use Rattle.rox_scopes.proofs.Listing.{same_prefix-sym}
 use Rattle.rox_scopes.proofs.Pairs.{same_prefix-refl}

@@ -37,7 +37,7 @@ use Rattle.rox_names.specs.declared.unresolved_attribute.UnresolvedAttribute.{Un
 use Rattle.rox_rows.specs.declared.row.AttributeNamespace.{AttributeNamespace}
 use Rattle.rox_rows.specs.declared.row.AttributeNamespace.TheVariants as space
 use Rattle.rox_scopes.specs.declared.tables.ElementTables.{ElementTables}
-use Rattle.rox_scopes.specs.declared.tables.Scope.{Scope}
+use Rattle.rox_scopes.specs.declared.stored_scope.Scope.{Scope}
 use Rattle.rox_names.proofs.Declaring.{once_none}
 use Rattle.rox_scopes.proofs.Listing.{with_new-append, with_new-front}
 use Rattle.rox_names.proofs.NameTests.{tested_on}

@@ -8,7 +8,7 @@ use Rattle.rox_rows.specs.Rows.{namespace_at}
 use Rattle.rox_scopes.specs.NamespaceViews.{namespace_view}
 use Rattle.rox_scopes.specs.TagScopes.{scope_in_tables}
 use Rattle.rox_scopes.specs.declared.tables.ElementTables.{ElementTables}
-use Rattle.rox_scopes.specs.declared.tables.Namespace.{Namespace}
+use Rattle.rox_scopes.specs.declared.namespace.Namespace.{Namespace}
 
 -- The places are that of the namespace `d`, and then `around`.
 pub record AreOneMore (table : List Namespace) (places : List ℕ) (d : NamespaceDecl) (around : List ℕ) : Type 0 where

@@ -17,8 +17,8 @@ use Rattle.rox_scopes.specs.NamespaceViews.{namespace_view}
 use Rattle.rox_scopes.specs.TagScopes.{scope_in_tables}
 use Rattle.rox_scopes.specs.declared.bindings.PrefixBindings.{PrefixBindings}
 use Rattle.rox_scopes.specs.declared.tables.ElementTables.{ElementTables}
-use Rattle.rox_scopes.specs.declared.tables.Scope.{Scope}
-use Rattle.rox_scopes.specs.declared.tables.Scope.TheVariants as scope
+use Rattle.rox_scopes.specs.declared.stored_scope.Scope.{Scope}
+use Rattle.rox_scopes.specs.declared.stored_scope.Scope.TheVariants as scope
 use Rattle.rox_names.specs.SeenNames.{KeepsCodes}
 use Rattle.rox_names.specs.TagDeclarations.{Declares, DeclaresNew, HasOwn}
 use Rattle.rox_names.specs.declared.seen_names.SeenNames.{SeenNames}

@@ -26,7 +26,7 @@ use Rattle.rox_names.specs.TagDeclarations.{unresolved_view, Declares}
 use Rattle.rox_scopes.specs.TagScopes.{HasBindings, lists_in}
 use Rattle.rox_storage.specs.declared.storage.StringStorage.{StringStorage}
 use Rattle.rox_scopes.specs.declared.tables.ElementTables.{ElementTables}
-use Rattle.rox_scopes.specs.declared.scope.OwnDeclarations.{OwnDeclarations}
+use Rattle.rox_scopes.specs.declared.stored_scope.OwnDeclarations.{OwnDeclarations}
 use Rattle.rox_names.specs.declared.unresolved_attribute.UnresolvedAttribute.{UnresolvedAttribute}
 use Rattle.rox_values.specs.DeclaredEntities.{AreDeclared, values_in}
 use Rattle.rox_values.specs.Refusals.{IsRefusal}

@@ -14,7 +14,8 @@ use rox_names::namespace_decl::declare_new;
 use rox_names::seen_names::SeenNames;
 use rox_names::unresolved_attribute::UnresolvedAttribute;
 use rox_scopes::prefix_set::FEW;
-use rox_scopes::tables::{ElementTables, Scope, Stretch};
+use rox_scopes::stored_scope::{Scope, Stretch};
+use rox_scopes::tables::ElementTables;
 use rox_storage::storage::StringStorage;
 
 /// The scope of a root element: the one after that of the root node.

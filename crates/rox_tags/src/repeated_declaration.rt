@@ -22,8 +22,9 @@ use rox_bytes::runs::after_byte;
 use rox_names::open_element::OpenElement;
 use rox_names::start_tag::StartTag;
 use rox_names::unresolved_attribute::UnresolvedAttribute;
+use rox_scopes::namespace::Namespace;
 use rox_scopes::scope::{few_places, is_declared, is_xml, same_prefix};
-use rox_scopes::tables::{ElementTables, Namespace};
+use rox_scopes::tables::ElementTables;
 use rox_storage::compare::same_text;
 
 /// The number of scopes that are tried, from the last one on.

@@ -26,7 +26,7 @@ pub use rox_lists::names::{ExpandedName, NS_XML_URI, NS_XMLNS_URI};
 pub use rox_lists::namespaces::NamespaceIter;
 pub use rox_prolog::resolver::{EntityResolver, NoResolver, ResolveWith};
 pub use rox_rows::row::PI;
-pub use rox_scopes::tables::Namespace;
+pub use rox_scopes::namespace::Namespace;
 pub use rox_storage::storage::StringStorage;
 
 /// The reason why a text is refused.

@@ -17,8 +17,9 @@ use rox_lists::scopes::{first_in_scope, prefix_in_scope};
 use rox_lists::search::attributes_at;
 use rox_rows::row::namespace_place;
 use rox_rows::stored_node::{KindRef, RowRef, StoredNode};
+use rox_scopes::namespace::Namespace;
 use rox_scopes::namespace_table::NamespaceTable;
-use rox_scopes::tables::{ElementTables, Namespace, Tables};
+use rox_scopes::tables::{ElementTables, Tables};
 use std::marker::Model;
 
 /// An XML document as a read-only tree of nodes.

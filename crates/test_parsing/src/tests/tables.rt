@@ -7,7 +7,7 @@ ghost use Rattle.rox_scopes.specs.Tables.{AreRows};
 
 use super::same;
 use rox_scopes::rope::{add, both, count, find, height, without};
-use rox_scopes::tables::{Scope, Stretch};
+use rox_scopes::stored_scope::{Scope, Stretch};
 use rox_storage::recent_texts::Recent;
 use rox_storage::storage::StringStorage;
 use std::alloc::AllocError;

@@ -2,7 +2,7 @@ use Rattle.std.proofs.Common.{sym, ap, ◌∙◌, arith}
 use Rattle.rox_grammar.specs.Tree.{same_prefix}
 use Rattle.rox_scopes.specs.NamespaceViews.{namespace_view}
 use Rattle.rox_scopes.specs.Scopes.{prefix_view}
-use Rattle.rox_scopes.specs.declared.tables.Namespace.{Namespace}
+use Rattle.rox_scopes.specs.declared.namespace.Namespace.{Namespace}
 use Rattle.rox_names.proofs.Declaring.{declared_at}
 use Rattle.rox_names.proofs.namespace_decl.has_prefix.Goals as goal
 

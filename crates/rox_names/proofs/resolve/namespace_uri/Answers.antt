@@ -3,7 +3,7 @@ use Rattle.rox_grammar.specs.Written.{NamespaceDecl}
 use Rattle.rox_rows.specs.declared.row.AttributeNamespace.{AttributeNamespace}
 use Rattle.rox_rows.specs.Rows.{attribute_uri, NamespaceWithin}
 use Rattle.rox_scopes.specs.NamespaceViews.{namespace_view}
-use Rattle.rox_scopes.specs.declared.tables.Namespace.{Namespace}
+use Rattle.rox_scopes.specs.declared.namespace.Namespace.{Namespace}
 use Rattle.rox_scopes.proofs.Pairs.{namespace_at-get}
 use Rattle.rox_names.proofs.resolve.namespace_uri.Goals as goal
 

@@ -1,6 +1,6 @@
 use Rattle.std.proofs.Common.{◌≡◌, ◌-◌, ◌<◌, ◌≤◌, length, ap, ◌∙◌, arith}
 use Rattle.std.proofs.lemmas.Grind.{common_steps}
-use Rattle.rox_scopes.specs.declared.tables.Stretch.{Stretch}
+use Rattle.rox_scopes.specs.declared.stored_scope.Stretch.{Stretch}
 use Rattle.rox_scopes.proofs.Sharing.{turn_more, turn_ends, turned_listed}
 use Rattle.rox_scopes.proofs.tag_scope.add_back.Goals as goal
 

@@ -1,7 +1,7 @@
 use Rattle.std.proofs.Common.{Ok, rules, map, length, ap, arith, length-append, ◌∷◌, []}
 use Rattle.std.proofs.lemmas.List.{length-map}
 use Rattle.rox_grammar.specs.declared.failure.Failure.{Failure}
-use Rattle.rox_scopes.specs.declared.tables.Namespace.{Namespace}
+use Rattle.rox_scopes.specs.declared.namespace.Namespace.{Namespace}
 use Rattle.rox_scopes.specs.NamespaceViews.{namespace_view}
 use Rattle.rox_scopes.proofs.Indexing.{row_last}
 use Rattle.rox_scopes.proofs.namespace_table.NamespaceTable.place.Goals as goal

@@ -9,7 +9,7 @@ use Rattle.rox_scopes.specs.Scopes.{prefix_view, entries, places_in}
 use Rattle.rox_scopes.specs.Bindings.{bound_namespace}
 use Rattle.rox_scopes.proofs.Pairs.{namespace_at-get, uri_none_more, declared_none}
 use Rattle.rox_scopes.proofs.Ropes.{count_places}
-use Rattle.rox_scopes.proofs.rope.index_of.Goals as goal
+use Rattle.rox_scopes.proofs.tag_scope.index_of.Goals as goal
 
 pub returns-in_default : goal.returns-in_default
 returns-in_default c = c.requires.absent (ap bound_namespace (sym c.in_default.ensures))
