@@ -18,7 +18,8 @@ use Rattle.rox_reading.specs.Lexical.{qname_at, quote_at}
 use Rattle.rox_reading.specs.Markup.{RawAttribute, more, attribute_at, raw_value_at, tag_item_at}
 use Rattle.rox_reading.specs.Values.{ValueInclusion, is_special, value_at}
 use Rattle.rox_scopes.specs.NamespaceViews.{namespace_view}
-use Rattle.rox_attributes.specs.PlainNames.{EndsNear, IsLocalPart}
+use Rattle.rox_attributes.specs.PlainNames.{EndsFirstPart, EndsNear, EndsPrefix, IsLocalPart}
+use Rattle.rox_bytes.specs.declared.byte_set.RunEnd.{RunEnd}
 use Rattle.rox_attributes.specs.PlainAttribute.{IsAttributeNamespace}
 use Rattle.rox_attributes.specs.PlainValues.{EndsVerbatim, HasPlainValue, IsQuoteBehindEquals, IsValueStart}
 use Rattle.std.specs.Str.{IsUtf8, IsCharBoundary}
@@ -284,6 +285,23 @@ near_local src i j utf8 cut h = record {
   part = record { place = near_ends src i j utf8 h; onward = h.ends.onward; cut = near_cut src i j utf8 cut h };
   stops = ne_eqb (slice_index src j) 58 h.no_colon;
 }
+
+-- a prefix of them, before its colon
+pub prefix_ends : (src : List ℕ) (i : ℕ) (e : RunEnd) → IsUtf8 src → EndsPrefix src i e → EndsFirstPart src i e.at 58
+prefix_ends src i e utf8 h =
+    let ends = h.run.stops.ends in
+    record {
+      first = record {
+        start = h.start;
+        part = record {
+          place = part_stops src i e.at utf8 ends.onward ends.within ends.passes ends.stops (λ _. omega (arith, h.colon));
+          onward = ends.onward;
+          cut = part_cut src i e.at utf8 h.start ends.onward ends.within ends.passes;
+        };
+        begins = ascii_begins src i e.at utf8 ends (omega (arith, h.letter)) (omega (arith, h.colon));
+      };
+      here = h.colon;
+    }
 
 pub some_filled : (xs : List ℕ) → 0 < length xs → bytes_eq xs [] ≡ false
 some_filled [] h = absurd (omega (arith, h))

@@ -7,6 +7,8 @@ use Rattle.rox_grammar.specs.Failures.{name_view}
 use Rattle.rox_reading.specs.Lexical.{qname_at}
 use Rattle.rox_bytes.specs.ByteSets.{EndsSet, is_part_byte}
 use Rattle.rox_bytes.specs.ScanResults.{Finds}
+use Rattle.rox_bytes.specs.RunEnds.{EndsRun}
+use Rattle.rox_bytes.specs.declared.byte_set.RunEnd.{RunEnd}
 use Rattle.rox_attributes.specs.declared.quick_name.NameAt.{NameAt}
 
 -- A part of a name starts at `i` with a letter or `_`. Its ASCII bytes end at `j`, and neither a colon nor more of the name
@@ -28,6 +30,11 @@ pub record EndsFirstPart (src : List ℕ) (i j b : ℕ) : Type 0 where
   pub first : IsFirstPart src i j
   pub here : slice_index src j ≡ b
 
+-- A name starts at `i`, and its prefix ends at the colon at `j`. The ASCII name-part bytes after the colon end at `k`.
+pub record EndsParts (src : List ℕ) (i j k : ℕ) : Type 0 where
+  pub first : EndsFirstPart src i j 58
+  pub near : EndsSet is_part_byte src (j + 1) k
+
 -- A name may start at `i`, and its first part ends at `j`.
 pub record EndsPart (src : List ℕ) (i j : ℕ) : Type 0 where
   pub start : IsCharBoundary src i
@@ -37,6 +44,13 @@ pub record EndsPart (src : List ℕ) (i j : ℕ) : Type 0 where
 pub record EndsNearPart (src : List ℕ) (i j : ℕ) : Type 0 where
   pub start : IsCharBoundary src i
   pub near : EndsNear src i j
+
+-- A prefix of ASCII bytes starts at `i` with a letter or `_`, and `e` ends it at a colon.
+pub record EndsPrefix (src : List ℕ) (i : ℕ) (e : RunEnd) : Type 0 where
+  pub start : IsCharBoundary src i
+  pub run : EndsRun is_part_byte src i e
+  pub letter : 63 < slice_index src i
+  pub colon : slice_index src e.at ≡ 58
 
 -- A local part starts at `i` and ends at `j`.
 pub record IsLocalPart (src : List ℕ) (i j : ℕ) : Type 0 where

@@ -5,10 +5,11 @@ ghost use Rattle.std.specs.Str.{IsCharBoundary};
 ghost use Rattle.rox_grammar.specs.Runs.{begins};
 ghost use Rattle.rox_reading.specs.Lexical.{qname_at};
 ghost use Rattle.rox_bytes.specs.ByteSets.{EndsSet, is_part_byte};
-ghost use Rattle.rox_attributes.specs.PlainNames.{EndsFirstPart, EndsNear, EndsNearPart, EndsPart, IsLocalPart, IsPlainName, IsPrefixedName, IsSomePlace, IsWholeName};
+ghost use Rattle.rox_attributes.specs.PlainNames.{EndsFirstPart, EndsNear, EndsNearPart, EndsPart, EndsParts, EndsPrefix, IsLocalPart, IsPlainName, IsPrefixedName, IsSomePlace, IsWholeName};
+ghost use Rattle.rox_bytes.specs.ScanResults.{EndsNear as StartsPart};
 
 use crate::quick_value::quote_after_equals;
-use rox_bytes::byte_set::{PartByte, part_end, skip_set};
+use rox_bytes::byte_set::{PartByte, RunEnd, part_end, skip_second, skip_set};
 use rox_bytes::chars::NameStart;
 use rox_bytes::runs::{after_byte, begins, is_at};
 use rox_grammar::name::QName;
@@ -77,34 +78,65 @@ fn local_end_beyond(text: &str, local: usize) -> usize
     end
 }
 
-/// Returns the end of the local part that starts at `local`, or `None` if none does. Most local parts are of ASCII bytes.
+/// Returns the end of the local part that starts at `local`, or `None` if none does. Its first ASCII bytes end at `near`. Most
+/// local parts have no others.
 #[inline(always)]
-fn local_end(text: &str, local: usize) -> Option<usize>
-    requires { IsCharBoundary text.now local }
+fn local_end(text: &str, local: usize, near: usize) -> Option<usize>
+    requires { StartsPart text.now local near }
     ensures { IfSome result (λ j. IsLocalPart text.now local j) }
 {
-    let near = skip_set::<PartByte>(text, local);
     if is_local_part(text, local, near) {
         return Some(near);
     }
     some_place(local_end_beyond(text, local))
 }
 
-/// Returns the name that starts at `start` and whose prefix ends at the colon at `colon`. Returns `None` if no local part
-/// follows.
+/// Returns the name that starts at `start` and whose prefix ends at the colon at `colon`. The first ASCII bytes after the colon
+/// end at `near`. Returns `None` if no local part follows.
 #[inline(always)]
 #[tactic(auto, unfolding(rox_reading::specs::Lexical::qname_at))]
-fn second_part<'input>(text: &'input str, start: usize, colon: usize) -> Option<NameAt<'input>>
-    requires { EndsFirstPart text.now start colon 58 }
+fn name_of_parts<'input>(
+    text: &'input str,
+    start: usize,
+    colon: usize,
+    near: usize,
+) -> Option<NameAt<'input>>
+    requires { EndsParts text.now start colon near }
     ensures { IfSome result (λ n. IsPlainName text.entry.now start n) }
 {
     let local = after_byte(text, colon, b':');
-    let end = local_end(text, local)?;
+    let end = local_end(text, local, near)?;
     let name = QName {
         prefix: &text[start..colon],
         local: &text[local..end],
     };
     Some(NameAt { name, end })
+}
+
+/// Returns the name that starts at `start` and whose prefix ends at the colon at `colon`. Returns `None` if no local part
+/// follows.
+#[inline(always)]
+fn second_part<'input>(text: &'input str, start: usize, colon: usize) -> Option<NameAt<'input>>
+    requires { EndsFirstPart text.now start colon 58 }
+    ensures { IfSome result (λ n. IsPlainName text.entry.now start n) }
+{
+    let near = skip_set::<PartByte>(text, after_byte(text, colon, b':'));
+    name_of_parts(text, start, colon, near)
+}
+
+/// Returns the name that starts at `start` and whose prefix, of ASCII bytes, `run` ends at a colon. Returns `None` if no local part
+/// follows.
+#[inline(always)]
+pub fn name_of_prefix<'input>(
+    text: &'input str,
+    start: usize,
+    run: RunEnd,
+) -> Option<NameAt<'input>>
+    requires { EndsPrefix text.now start run }
+    ensures { IfSome result (λ n. IsPlainName text.entry.now start n) }
+{
+    let near = skip_second::<PartByte>(text, start, run);
+    name_of_parts(text, start, run.at, near)
 }
 
 /// Returns the offset `place`, or `None` if it is 0.

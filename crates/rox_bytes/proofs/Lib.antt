@@ -1,5 +1,6 @@
 pub mod EasedLemmas
 pub mod LaneLemmas
+pub mod MaskLemmas
 pub mod MarkLemmas
 pub mod NearLemmas
 pub mod PlainLemmas

@@ -9,6 +9,7 @@ ghost use Rattle.rox_grammar.specs.Runs.{run_end};
 ghost use Rattle.rox_bytes.specs.ByteSets as near;
 ghost use Rattle.rox_bytes.specs.ByteSets.{EndsEased, EndsSet, StopsSet, eased, is_part_byte};
 ghost use Rattle.rox_bytes.specs.Windows.{IsSeen};
+ghost use Rattle.rox_bytes.specs.RunEnds.{EndsRun};
 ghost use Rattle.rox_bytes.specs.ScanResults.{EndsNear, Finds, TellsAscii};
 
 use crate::chars::{Class, PartChar};
@@ -372,6 +373,55 @@ fn other_in<C: ByteSet>(bytes: &[u8], at: usize) -> Option<usize>
     some_byte(bytes, end)
 }
 
+/// The end of a run of bytes of a set, where another byte is. If `others` is not 0, it has a bit for each of the sixteen bytes from
+/// the start of the run on that is not in the set, the lowest for the first.
+#[derive(Clone, Copy)]
+pub struct RunEnd {
+    pub at: usize,
+    pub others: u64,
+}
+
+/// Returns the end `at` of a run, without a mask, if a byte is there.
+#[inline(always)]
+fn some_end(bytes: &[u8], at: usize) -> Option<RunEnd>
+    ensures { IfSome result
+        (λ e. (e.at ≡ at) × (e.others ≡ 0) × (at < length bytes.entry.now)) }
+{
+    let at = some_byte(bytes, at)?;
+    Some(RunEnd { at, others: 0 })
+}
+
+/// Returns the end of the bytes of the set from `at` on, if a byte is there. Most are among the first sixteen.
+#[inline(always)]
+fn run_in<C: ByteSet>(bytes: &[u8], at: usize) -> Option<RunEnd>
+    requires { at ≤ length bytes.now }
+    ensures { IfSome result (EndsRun C.test bytes.entry.now at) }
+{
+    if bytes.len() - at < 16 {
+        let end = short_end::<C>(bytes, at);
+        return some_end(bytes, end);
+    }
+    let others = others_at::<C>(bytes, at);
+    if others != 0 {
+        return Some(RunEnd {
+            at: at + before_first(others),
+            others,
+        });
+    }
+    let end = bytes_end_beyond::<C>(bytes, at + 16);
+    some_end(bytes, end)
+}
+
+/// Returns the end of the bytes of the set in a text from `at` on, if a byte is there. The caller can read that byte without
+/// another test.
+#[inline(always)]
+pub fn find_run<C: ByteSet>(text: &str, at: usize) -> Option<RunEnd>
+    requires { at ≤ length text.now }
+    ensures { IfSome result (EndsRun C.test text.entry.now at) }
+{
+    run_in::<C>(text.as_bytes(), at)
+}
+
 /// Returns the offset of the first byte of a text from `at` on that is not in the set, if there is one. The caller can read that
 /// byte without another test.
 #[inline(always)]
@@ -380,6 +430,20 @@ pub fn find_other<C: ByteSet>(text: &str, at: usize) -> Option<usize>
     ensures { IfSome result (StopsSet C.test text.entry.now at) }
 {
     other_in::<C>(text.as_bytes(), at)
+}
+
+/// Returns the end of the bytes of the set after the byte at which `run` ends. The run starts at `at`. Most ends are among the
+/// sixteen bytes that were tested for the run.
+#[inline(always)]
+pub fn skip_second<C: ByteSet>(text: &str, at: usize, run: RunEnd) -> usize
+    requires { EndsRun C.test text.now at run }
+    ensures { EndsSet C.test text.now (run.at + 1) result }
+{
+    let rest = run.others & run.others.wrapping_sub(1);
+    if rest == 0 {
+        return skip_set::<C>(text, run.at + 1);
+    }
+    at + before_first(rest)
 }
 
 /// Returns the end of the bytes of the set in a text from `at` on.

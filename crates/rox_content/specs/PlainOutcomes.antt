@@ -17,7 +17,9 @@ use Rattle.rox_scan.specs.declared.cursor.Cursor.{Cursor}
 use Rattle.rox_builder.specs.BuilderState.{GoesOn, IsConsistent, IsInState, IsReady, IsReadyTo, KeepsOpen, KeepsState, ScansTo}
 use Rattle.rox_builder.specs.PendingText.{waiting}
 use Rattle.rox_content.specs.PlainSteps.{Reads}
-use Rattle.rox_attributes.specs.PlainNames.{EndsNear}
+use Rattle.rox_attributes.specs.PlainNames.{EndsNear, EndsPrefix}
+use Rattle.rox_bytes.specs.RunEnds.{EndsRun}
+use Rattle.rox_bytes.specs.declared.byte_set.RunEnd.{RunEnd}
 use Rattle.rox_builder.specs.Readiness.{HasRoom}
 use Rattle.rox_builder.specs.declared.builder.Builder.{Builder}
 use Rattle.rox_builder.specs.declared.pending.Pending.TheVariants as pending
@@ -52,6 +54,21 @@ pub record MayReadAscii (src : List ℕ) (i j : ℕ) (b : Builder) : Type 0 wher
   pub here : slice_index src i ≡ 60
   pub start : IsCharBoundary src i
   pub near : EndsNear src (i + 1) j
+  pub room : HasRoom src b
+
+-- A start tag may be at `i`, `e` ends the first ASCII bytes of its name, and there is room for its row.
+pub record MayReadFirst (src : List ℕ) (i : ℕ) (e : RunEnd) (b : Builder) : Type 0 where
+  pub here : slice_index src i ≡ 60
+  pub start : IsCharBoundary src i
+  pub run : EndsRun is_part_byte src (i + 1) e
+  pub letter : 63 < slice_index src (i + 1)
+  pub room : HasRoom src b
+
+-- A start tag may be at `i`, `e` ends the prefix of its name, and there is room for its row.
+pub record MayReadPrefixed (src : List ℕ) (i : ℕ) (e : RunEnd) (b : Builder) : Type 0 where
+  pub here : slice_index src i ≡ 60
+  pub start : IsCharBoundary src i
+  pub prefix : EndsPrefix src (i + 1) e
   pub room : HasRoom src b
 
 -- A start tag may be at `i`, the first part of its name ends at `j`, and there is room for its row.

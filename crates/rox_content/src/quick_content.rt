@@ -7,11 +7,11 @@ ghost use Rattle.rox_content.specs.PlainOutcomes.{MayReadPlain, MayReadRows, Rea
 
 use crate::quick_data::put_character_data;
 use crate::quick_elements::{
-    close_element, element_in_scope, element_of_name, element_without_prefix,
+    close_element, element_in_scope, element_of_name, element_of_part, element_without_prefix,
 };
 use crate::quick_sections::{MOST_BYTES, put_delimited};
 use rox_builder::builder::Builder;
-use rox_bytes::byte_set::{PartByte, find_other, part_end, part_end_beyond};
+use rox_bytes::byte_set::{PartByte, find_run, part_end};
 use rox_bytes::runs::{after_byte, is_at};
 use rox_scan::cursor::Cursor;
 
@@ -54,9 +54,10 @@ fn quick_markup<'input>(
         return true;
     }
     let name = after_byte(text, start, b'<');
-    let Some(near) = find_other::<PartByte>(text, name) else {
+    let Some(run) = find_run::<PartByte>(text, name) else {
         return false;
     };
+    let near = run.at;
     if element_of_name(cursor, builder, near) {
         return true;
     }
@@ -64,7 +65,7 @@ fn quick_markup<'input>(
     let end = if bytes[near] < b':' {
         element_without_prefix(text, start, builder, near)
     } else {
-        element_in_scope(text, start, builder, part_end_beyond(text, name, near))
+        element_of_part(text, start, builder, run)
     };
     if end > MOST_BYTES {
         return false;

@@ -6,18 +6,20 @@ ghost use Rattle.rox_reading.specs.Machine as machine;
 ghost use Rattle.rox_reading.specs.Refusals.{lifted};
 ghost use Rattle.rox_builder.specs.Outcomes.{ReadsAt};
 ghost use Rattle.rox_builder.specs.Readiness.{IsApart};
-ghost use Rattle.rox_content.specs.PlainOutcomes.{MayReadBare, MayReadEnd, MayReadAscii, MayReadPart, ReadsIf, any_context};
+ghost use Rattle.rox_content.specs.PlainOutcomes.{MayReadBare, MayReadEnd, MayReadAscii, MayReadFirst, MayReadPart, MayReadPrefixed, ReadsIf, any_context};
 ghost use Rattle.rox_content.specs.PlainElements.{MayPutElement, PutsElement};
 
 use crate::quick_sections::NOT_READ;
 use crate::same_front::closes_front;
 use rox_attributes::quick_name::NamePlace;
 use rox_builder::builder::Builder;
+use rox_bytes::byte_set::{RunEnd, part_end_beyond};
 use rox_bytes::runs::after_byte;
 use rox_rows::row::NodeKind;
 use rox_scan::cursor::Cursor;
 use rox_tags::quick_tag::{
-    PlainTag, start_tag_in_scope, start_tag_of_name, start_tag_without_prefix,
+    PlainTag, start_tag_in_scope, start_tag_of_name, start_tag_with_prefix,
+    start_tag_without_prefix,
 };
 use rox_tags::repeated_declaration::start_tag_repeating;
 
@@ -137,6 +139,61 @@ pub fn element_in_scope<'input>(
         return element_repeating(text, start, builder, part);
     };
     put_element(text, start, builder, row, other)
+}
+
+/// Like `element_in_scope`, but for a tag whose name has a prefix, of ASCII bytes, which `run` ends at its colon.
+#[inline(never)]
+fn element_with_prefix<'input>(
+    text: &'input str,
+    start: usize,
+    builder: &mut Builder<'input>,
+    run: RunEnd,
+) -> usize
+    requires { MayReadPrefixed text.now start run builder.old }
+    ensures { ReadsAt machine.tag_step text.entry.now start result builder.old builder.new }
+{
+    if !builder.has_room_to_open() {
+        return NOT_READ;
+    }
+    let depth = builder.opened.len();
+    if depth == 0 {
+        return NOT_READ;
+    }
+    let above = &builder.opened[depth - 1];
+    let row = above.row;
+    let before = builder.tables.attributes.len();
+    let Some(read) = start_tag_with_prefix(
+        text,
+        start,
+        run,
+        &mut builder.tables,
+        above,
+        &mut builder.buffers.seen,
+    ) else {
+        builder.tables.attributes.truncate(before);
+        return element_repeating(text, start, builder, run.at);
+    };
+    put_element(text, start, builder, row, read)
+}
+
+/// Like `element_in_scope`, but the first ASCII bytes of the name end as `run` says, where no byte is that is lower than a colon.
+#[inline(always)]
+pub fn element_of_part<'input>(
+    text: &'input str,
+    start: usize,
+    builder: &mut Builder<'input>,
+    run: RunEnd,
+) -> usize
+    requires { MayReadFirst text.now start run builder.old }
+    ensures { ReadsAt machine.tag_step text.entry.now start result builder.old builder.new }
+{
+    let name = after_byte(text, start, b'<');
+    let bytes = text.as_bytes();
+    if bytes[run.at] == b':' {
+        return element_with_prefix(text, start, builder, run);
+    }
+    let part = part_end_beyond(text, name, run.at);
+    element_in_scope(text, start, builder, part)
 }
 
 /// Like `element_in_scope`, but for a tag with one declaration alone, if an earlier one had it below the same namespaces.

@@ -15,7 +15,12 @@ use Rattle.rox_grammar.specs.WellNamed.{may_name}
 use Rattle.rox_tags.specs.declared.quick_tag.NextItem.{NextItem}
 use Rattle.rox_tags.specs.declared.quick_tag.TagEnd.{TagEnd}
 use Rattle.rox_attributes.specs.declared.quick_name.NamePlace.{NamePlace}
-use Rattle.rox_attributes.specs.PlainNames.{EndsNear}
+use Rattle.rox_attributes.specs.declared.quick_name.NameAt.{NameAt}
+use Rattle.rox_attributes.specs.PlainNames.{EndsNear, EndsPrefix, IsPlainName}
+use Rattle.rox_bytes.specs.declared.byte_set.RunEnd.{RunEnd}
+use Rattle.rox_grammar.specs.declared.fault.Word.TheVariants.{Xmlns}
+use Rattle.rox_grammar.specs.FixedTexts.{word_text}
+use Rattle.rox_grammar.specs.Failures.{name_view}
 use Rattle.rox_attributes.specs.PlainAttribute.{HasScope}
 use Rattle.rox_tags.specs.PlainTag.{MayOpenBelow, MayOpenAt}
 
@@ -44,6 +49,14 @@ pub record MayNameBelow (t : ElementTables) (o : OpenElement) (name : Name) (i :
   pub named : MayHavePrefix o name.prefix
   pub small : i < 2 ^ 63
 
+-- The name `name` has a prefix, which may be looked up in the scope of the open element `o`.
+pub record MayNamePrefixedBelow (t : ElementTables) (o : OpenElement) (name : Name) : Type 0 where
+  pub scope : HasScope t o.scope
+  pub few : length t.namespaces.items.items ≤ most_pairs
+  pub parent : IsNamespaceOf t o.scope (open_name o) (numbered_place o.namespace)
+  pub named : MayHavePrefix o name.prefix
+  pub prefixed : bytes_eq name.prefix [] ≡ false
+
 -- A tag of a name alone is at `i`, and its name ends at `j`. Its parent is `o`.
 pub record MayReadBareTag (src : List ℕ) (i j : ℕ) (t : ElementTables) (o : OpenElement) : Type 0 where
   pub here : slice_index src i ≡ 60
@@ -57,6 +70,19 @@ pub record MayReadNearTag (src : List ℕ) (p : NamePlace) (t : ElementTables) (
   pub here : MayOpenAt src p.start t o
   pub near : EndsNear src (p.start + 1) p.part
   pub bare : o.prefixed ≡ false
+
+-- A start tag may be at `i`, and its name `x` was read. Its parent is `o`, and its namespace has the number `s`.
+pub record MayReadNamed (src : List ℕ) (i : ℕ) (x : NameAt) (s : ℕ) (t : ElementTables) (o : OpenElement) : Type 0 where
+  pub here : MayOpenAt src i t o
+  pub named : IsPlainName src (i + 1) x
+  pub other : bytes_eq x.name.prefix.now (word_text Xmlns) ≡ false
+  pub space : IsNamespaceOf t o.scope (name_view x.name) (numbered_place s)
+  pub known : may_name (scope_in_tables t o.scope) (name_view x.name) ≡ true
+
+-- A start tag may be at `i`, with a name whose prefix `e` ends. Its parent is `o`.
+pub record MayReadPrefixedTag (src : List ℕ) (i : ℕ) (e : RunEnd) (t : ElementTables) (o : OpenElement) : Type 0 where
+  pub here : MayOpenAt src i t o
+  pub prefix : EndsPrefix src (i + 1) e
 
 -- A start tag may be at `p`, with a name whose first part ends at `p.part`. Its parent is `o`.
 pub record MayReadPlainTag (src : List ℕ) (p : NamePlace) (t : ElementTables) (o : OpenElement) : Type 0 where

@@ -3,7 +3,7 @@
 
 ghost use Rattle.std.specs.Prelude.{◌≡◌, ◌<◌, ◌+◌, ◌-◌, ◌==◌, Ok, IfSome, slice_index, true, false};
 ghost use Rattle.rox_grammar.specs.Failures.{name_view};
-ghost use Rattle.rox_tags.specs.PlainParts.{EndsEmpty, EndsTag, FindsElementNamespace, IsNextItem, MayNameBelow, MayNameIn, MayNamePrefixed, MayReadBareTag, MayReadNearTag, MayReadPlainTag};
+ghost use Rattle.rox_tags.specs.PlainParts.{EndsEmpty, EndsTag, FindsElementNamespace, IsNextItem, MayNameBelow, MayNameIn, MayNamePrefixed, MayNamePrefixedBelow, MayReadBareTag, MayReadNamed, MayReadNearTag, MayReadPlainTag, MayReadPrefixedTag};
 ghost use Rattle.rox_attributes.specs.PlainValues.{IsBeforeLast};
 ghost use Rattle.rox_tags.specs.PlainTag.{IsBareTag, ReadsTag};
 ghost use Rattle.rox_tags.specs.TagAttributes.{EndsAttributes, MayReadAttributes, ReadsAttributes};
@@ -12,8 +12,9 @@ use crate::own_declaration::{TagScope, declares_at, put_declaration};
 use crate::tag::element_of;
 use rox_attributes::prefix_cache::find_in_slot;
 use rox_attributes::quick_attribute::{MOST_ATTRIBUTES, byte_count, put_attribute};
-use rox_attributes::quick_name::{NamePlace, ascii_name, name_of_part};
+use rox_attributes::quick_name::{NameAt, NamePlace, ascii_name, name_of_part, name_of_prefix};
 use rox_attributes::quick_space::one_space_end;
+use rox_bytes::byte_set::RunEnd;
 use rox_bytes::runs::{after_byte, is_at};
 use rox_grammar::name::QName;
 use rox_names::open_element::{OpenElement, has_prefix};
@@ -229,6 +230,25 @@ fn prefixed_namespace(
     Some(namespace_number(Some(place)))
 }
 
+/// Like `prefixed_namespace`, but in the scope of the parent. Most names have its prefix.
+#[inline(always)]
+fn namespace_below(
+    elements: &ElementTables<'_>,
+    name: QName<'_>,
+    parent: &OpenElement<'_>,
+    near: &mut usize,
+) -> Option<u16>
+    requires { MayNamePrefixedBelow elements.now parent.now (name_view name) }
+    ensures { FindsElementNamespace elements.entry.now parent.entry.now.scope
+        (name_view name.entry) result }
+{
+    let above = parent.namespace;
+    if above != 0 && has_prefix(parent, name.prefix) {
+        return Some(above);
+    }
+    prefixed_namespace(elements, name, parent.scope, near)
+}
+
 /// Like `namespace_in_scope`, but in the scope of the parent. Most names have no prefix, like the parent's, or its prefix. Their
 /// namespace is that of the parent.
 #[inline(always)]
@@ -243,17 +263,46 @@ fn tag_namespace(
     ensures { FindsElementNamespace elements.entry.now parent.entry.now.scope
         (name_view name.entry) result }
 {
-    let above = parent.namespace;
     if name.prefix.is_empty() {
         if !parent.prefixed {
-            return Some(above);
+            return Some(parent.namespace);
         }
         return namespace_in_scope(elements, name, at, parent.scope);
     }
-    if above != 0 && has_prefix(parent, name.prefix) {
-        return Some(above);
-    }
-    prefixed_namespace(elements, name, parent.scope, near)
+    namespace_below(elements, name, parent, near)
+}
+
+/// Reads the rest of the start tag at `start`, behind its name `name`, which has the namespace `namespace`. See
+/// `start_tag_in_scope`.
+#[inline(always)]
+fn start_tag_named<'input>(
+    text: &'input str,
+    start: usize,
+    name: NameAt<'input>,
+    namespace: u16,
+    elements: &mut ElementTables<'input>,
+    parent: &OpenElement<'input>,
+    seen: &mut SeenNames,
+) -> Option<PlainTag<'input>>
+    requires { MayReadNamed text.now start name namespace elements.old parent.now }
+    ensures { ReadsTag elements.old elements.new parent.entry.now text.entry.now start result }
+{
+    let name_start = after_byte(text, start, b'<');
+    let from = elements.attributes.len();
+    let scope = TagScope {
+        scope: parent.scope,
+        declares: false,
+    };
+    let end = tag_attributes_if_any(text, name.end, elements, scope, seen)?;
+    let element = element_of(elements, name.name.local, from, parent.scope, namespace);
+    let tag = StartTag {
+        name: name.name,
+        name_start,
+        name_end: name.end,
+        element,
+        empty: end.empty,
+    };
+    Some(PlainTag { tag, end: end.at })
 }
 
 /// Reads the start tag at `place`, a child of `parent`, if it is plain and finds room. Its attributes are in the table then. If
@@ -276,22 +325,35 @@ pub fn start_tag_in_scope<'input>(
     if same_text(name.name.prefix, "xmlns") {
         return None;
     }
-    let from = elements.attributes.len();
     let namespace = tag_namespace(elements, name.name, name_start, parent, &mut seen.near)?;
-    let scope = TagScope {
-        scope: parent.scope,
-        declares: false,
-    };
-    let end = tag_attributes_if_any(text, name.end, elements, scope, seen)?;
-    let element = element_of(elements, name.name.local, from, parent.scope, namespace);
-    let tag = StartTag {
-        name: name.name,
-        name_start,
-        name_end: name.end,
-        element,
-        empty: end.empty,
-    };
-    Some(PlainTag { tag, end: end.at })
+    start_tag_named(text, place.start, name, namespace, elements, parent, seen)
+}
+
+/// Like `start_tag_in_scope`, but for the tag at `start` whose name has the prefix `run`, of ASCII bytes, up to a colon.
+#[inline(always)]
+pub fn start_tag_with_prefix<'input>(
+    text: &'input str,
+    start: usize,
+    run: RunEnd,
+    elements: &mut ElementTables<'input>,
+    parent: &OpenElement<'input>,
+    seen: &mut SeenNames,
+) -> Option<PlainTag<'input>>
+    requires { MayReadPrefixedTag text.now start run elements.old parent.now }
+    ensures { ReadsTag elements.old elements.new parent.entry.now text.entry.now start result }
+{
+    let name_start = after_byte(text, start, b'<');
+    let name = name_of_prefix(text, name_start, run)?;
+    let prefix = name.name.prefix;
+    // No prefix is empty here. One test of it spares the others.
+    if prefix.is_empty() {
+        return None;
+    }
+    if same_text(prefix, "xmlns") {
+        return None;
+    }
+    let namespace = namespace_below(elements, name.name, parent, &mut seen.near)?;
+    start_tag_named(text, start, name, namespace, elements, parent, seen)
 }
 
 /// Like `start_tag_in_scope`, but neither the name of the tag nor that of `above` has a prefix. The tag's name is of ASCII bytes.

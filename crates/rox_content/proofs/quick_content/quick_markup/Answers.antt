@@ -70,14 +70,14 @@ returns c = record {
         rw (is, ne_eqb b 63 (λ e. absurd (omega (arith, c.if-next-le63.false, e))), ne_eqb b 47 (λ e. absurd (omega (arith, c.if-next-le63.false, e))))
         (elim c.if-bytes-near-lt58.branch [
           | then-bytes-near-lt58 w ↦ rw (w.builder-is) (w.element_without_prefix-end.ensures.value (omega (arith, c.if-end-gt-MOST_BYTES.false, w.end-is)) context end s c.args.cursor.now _ refl w.end-is sees)
-          | else-bytes-near-lt58 w ↦ rw (w.builder-is) (w.element_in_scope-end.ensures.value (omega (arith, c.if-end-gt-MOST_BYTES.false, w.end-is)) context end s c.args.cursor.now _ refl w.end-is sees)
+          | else-bytes-near-lt58 w ↦ rw (w.builder-is) (w.element_of_part-end.ensures.value (omega (arith, c.if-end-gt-MOST_BYTES.false, w.end-is)) context end s c.args.cursor.now _ refl w.end-is sees)
         ]);
     other = λ no. absurd (cc no);
     goes = record {
       source = c.element_of_name.ensures.goes.source;
       fine = elim c.if-bytes-near-lt58.branch [
         | then-bytes-near-lt58 w ↦ rw (w.builder-is) (w.element_without_prefix-end.ensures.fine)
-        | else-bytes-near-lt58 w ↦ rw (w.builder-is) (w.element_in_scope-end.ensures.fine)
+        | else-bytes-near-lt58 w ↦ rw (w.builder-is) (w.element_of_part-end.ensures.fine)
       ];
     };
   };
@@ -86,18 +86,18 @@ returns c = record {
       let ready : IsReadyTo most c.element_of_name.new.builder = rw same h in
       elim c.if-bytes-near-lt58.branch [
         | then-bytes-near-lt58 w ↦ rw (w.builder-is) (w.element_without_prefix-end.ensures.ready (omega (arith, c.if-end-gt-MOST_BYTES.false, w.end-is)) most ready).ready
-        | else-bytes-near-lt58 w ↦ rw (w.builder-is) (w.element_in_scope-end.ensures.ready (omega (arith, c.if-end-gt-MOST_BYTES.false, w.end-is)) most ready).ready
+        | else-bytes-near-lt58 w ↦ rw (w.builder-is) (w.element_of_part-end.ensures.ready (omega (arith, c.if-end-gt-MOST_BYTES.false, w.end-is)) most ready).ready
       ];
   apart = λ _ _.
       let same = (c.element_of_name.ensures.other c.if-element_of_name.false).1 in
       let ready : IsReady 1 c.element_of_name.new.builder = rw same c.requires.room.ready in
       elim c.if-bytes-near-lt58.branch [
         | then-bytes-near-lt58 w ↦ rw (w.builder-is) (w.element_without_prefix-end.ensures.ready (omega (arith, c.if-end-gt-MOST_BYTES.false, w.end-is)) _ ready).apart
-        | else-bytes-near-lt58 w ↦ rw (w.builder-is) (w.element_in_scope-end.ensures.ready (omega (arith, c.if-end-gt-MOST_BYTES.false, w.end-is)) _ ready).apart
+        | else-bytes-near-lt58 w ↦ rw (w.builder-is) (w.element_of_part-end.ensures.ready (omega (arith, c.if-end-gt-MOST_BYTES.false, w.end-is)) _ ready).apart
       ];
   moves = λ _. elim c.if-bytes-near-lt58.branch [
     | then-bytes-near-lt58 w ↦ rw w.end-is (w.element_without_prefix-end.ensures.moves (omega (arith, c.if-end-gt-MOST_BYTES.false, w.end-is)))
-    | else-bytes-near-lt58 w ↦ rw w.end-is (w.element_in_scope-end.ensures.moves (omega (arith, c.if-end-gt-MOST_BYTES.false, w.end-is)))
+    | else-bytes-near-lt58 w ↦ rw w.end-is (w.element_of_part-end.ensures.moves (omega (arith, c.if-end-gt-MOST_BYTES.false, w.end-is)))
   ];
 }
 
@@ -111,14 +111,14 @@ returns-then-end-gt-MOST_BYTES c = record {
           u.0,
           elim c.if-bytes-near-lt58.branch [
             | then-bytes-near-lt58 w ↦ rw (w.builder-is) (rw u.1 at (w.element_without_prefix-end.ensures.other (omega (arith, c.if-end-gt-MOST_BYTES.true, w.end-is))))
-            | else-bytes-near-lt58 w ↦ rw (w.builder-is) (rw u.1 at (w.element_in_scope-end.ensures.other (omega (arith, c.if-end-gt-MOST_BYTES.true, w.end-is))))
+            | else-bytes-near-lt58 w ↦ rw (w.builder-is) (rw u.1 at (w.element_of_part-end.ensures.other (omega (arith, c.if-end-gt-MOST_BYTES.true, w.end-is))))
           ],
         );
         goes = record {
           source = c.element_of_name.ensures.goes.source;
           fine = elim c.if-bytes-near-lt58.branch [
             | then-bytes-near-lt58 w ↦ rw (w.builder-is) (w.element_without_prefix-end.ensures.fine)
-            | else-bytes-near-lt58 w ↦ rw (w.builder-is) (w.element_in_scope-end.ensures.fine)
+            | else-bytes-near-lt58 w ↦ rw (w.builder-is) (w.element_of_part-end.ensures.fine)
           ];
         };
       };
@@ -139,11 +139,12 @@ element_without_prefix-end-requires c = record {
   };
 }
 
-pub element_in_scope-end-requires : goal.element_in_scope-end-requires
-element_in_scope-end-requires c = record {
+pub element_of_part-end-requires : goal.element_of_part-end-requires
+element_of_part-end-requires c = record {
   here = c.requires.here;
   start = c.args.cursor.now.cut;
-  part = first_of (search rules, grind (arith, common_steps));
+  run = first_of (search rules, grind (arith, common_steps));
+  letter = first_of (search rules, grind (arith, common_steps));
   room = record {
     short = c.requires.room.short;
     ready = rw (c.element_of_name.ensures.other c.if-element_of_name.false).1 c.requires.room.ready;
@@ -161,7 +162,7 @@ pub invariant_of-cursor-2 : goal.invariant_of-cursor-2
 invariant_of-cursor-2 c =
     let cut : IsCharBoundary c.args.cursor.now.text.now c.if-bytes-near-lt58.end = elim c.if-bytes-near-lt58.branch [
       | then-bytes-near-lt58 w ↦ subst (IsCharBoundary c.args.cursor.now.text.now) (sym w.end-is) (w.element_without_prefix-end.ensures.cut (omega (arith, c.if-end-gt-MOST_BYTES.false, w.end-is)))
-      | else-bytes-near-lt58 w ↦ subst (IsCharBoundary c.args.cursor.now.text.now) (sym w.end-is) (w.element_in_scope-end.ensures.cut (omega (arith, c.if-end-gt-MOST_BYTES.false, w.end-is)))
+      | else-bytes-near-lt58 w ↦ subst (IsCharBoundary c.args.cursor.now.text.now) (sym w.end-is) (w.element_of_part-end.ensures.cut (omega (arith, c.if-end-gt-MOST_BYTES.false, w.end-is)))
     ] in
     record {
       utf8 = c.element_of_name.new.cursor.utf8;
