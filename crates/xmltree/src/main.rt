@@ -2,8 +2,11 @@
 #![tactic(auto)]
 
 mod arguments;
+mod entries;
 mod fault;
+mod listing;
 mod options;
+mod output;
 mod run;
 
 use crate::arguments::{USAGE, command};

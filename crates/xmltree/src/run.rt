@@ -6,8 +6,8 @@ ghost use Rattle.rox_path.specs.Steps.{PathStep};
 ghost use Rattle.rox_path.specs.Paths.{IsPath};
 
 use crate::fault::Fault;
+use crate::listing;
 use crate::options::Command;
-use rox_listing::listing;
 use rox_path::{Step, parse_path, select};
 use rox_programs::input;
 use rox_programs::program_error::ProgramError;
