@@ -1,4 +1,5 @@
-"""What `tools/calls` and `tools/quotes` share: the items of sources, and whether a source has some lines."""
+"""What `tools/calls`, `tools/quotes` and `tools/doc-tests` share: the items of sources, the examples in their comments, what a crate
+passes on, and whether a source has some lines."""
 import pathlib
 import re
 
@@ -6,6 +7,9 @@ TOP = pathlib.Path(__file__).resolve().parent.parent
 ITEM = re.compile(r"^pub (struct|enum|trait|fn|const) (\w+)")
 IMPL = re.compile(r"^impl\b")
 CLAUSE = re.compile(r"^\s*(requires|ensures)\*? ?(\w+ )?\{")
+COMMENT = re.compile(r"\s*//[/!](?: (.*)|)$")
+USE = re.compile(r"^pub use ([\w:]+)::(?:\{([^}]*)\}|(\w+));", re.M | re.S)
+ALIAS = re.compile(r"^pub type (\w+) = ([\w:]+)::(\w+)<", re.M)
 
 
 def sources(crate):
@@ -96,11 +100,12 @@ def has(lines, block):
 
 
 def files(pattern):
-    """The lines of each file of the crates that has such a path, once with and once without its clauses."""
+    """The lines of each file of the crates that has such a path, once with and once without its clauses, and its examples."""
     for file in sorted(TOP.glob(f"crates/*/{pattern}")):
         lines = file.read_text().splitlines()
         yield lines
         yield without_clauses(lines)
+        yield from (example for _, example in examples_of(lines))
 
 
 def is_quoted(kind, block):
@@ -108,6 +113,35 @@ def is_quoted(kind, block):
     paths = ("src/**/*.rt",) if kind == "rust" else ("specs/**/*.antt", "proofs/**/*.antt")
     block = dedented(block.splitlines())
     return any(has(lines, block) for path in paths for lines in files(path))
+
+
+def examples_of(lines):
+    """The examples in the comments of a source: the number of the first line of each, from 1, and its lines. An example is between
+    a line of ``` and the next such line, or the end of the comment. What begins with a word, as ```text, is none."""
+    fence, example = None, []
+    for number, line in enumerate([*lines, ""], 1):
+        found = COMMENT.match(line)
+        said = (found[1] or "").rstrip() if found else None
+        if said is None or said.startswith("```"):
+            if fence == "```":
+                yield number - len(example), example
+            fence, example = said if fence is None else None, []
+        elif fence:
+            example.append(said)
+
+
+def exports(crate):
+    """The names that a crate passes on, each with the crate that it is of."""
+    text = (TOP / "crates" / crate / "src/lib.rt").read_text()
+    names = {}
+    for path, several, one in USE.findall(text):
+        home = path.split("::")[0]
+        for name in (several or one).replace("\n", " ").split(","):
+            if name.strip():
+                names[name.strip()] = crate if home == "crate" else home
+    for name, path, _ in ALIAS.findall(text):
+        names[name] = path.split("::")[0]
+    return names
 
 
 def examples(comment):

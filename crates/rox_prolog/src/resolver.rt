@@ -19,6 +19,21 @@ use std::marker::PhantomData;
 /// before, and reads none of its own.
 ///
 /// ```
+/// #[derive(Drop)]
+/// struct Always<'input>(&'input str);
+///
+/// impl<'input> EntityResolver<'input> for Always<'input> {
+///     ghost use Rattle.std.specs.Prelude.{◌≡◌, Ok, Some};
+///
+///     ghost can_resolve = { λ self. Unit {0} };
+///
+///     ghost allows = { λ self request reply. reply ≡ Ok (Some self.0.now) };
+///
+///     fn resolve(&self, pub_id: Option<&str>, uri: &str) -> Result<Option<&'input str>, String> {
+///         Ok(Some(self.0))
+///     }
+/// }
+///
 /// let mut options = ParsingOptions::with_resolver(Always("hello"));
 /// options.allow_dtd = true;
 /// let text = "<!DOCTYPE r [<!ENTITY a SYSTEM 'a.xml'>]><r>&a;</r>";

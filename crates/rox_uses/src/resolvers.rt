@@ -13,6 +13,15 @@ use roxmltree::{Document, EntityResolver, ParsingOptions, ResolveWith};
 use std::alloc::Global;
 
 /// Returns the document of a text. A resolver of any type answers the requests for its external entities.
+///
+/// ```
+/// use rox_uses::parse_answered;
+///
+/// let book = "<!DOCTYPE book [<!ENTITY a SYSTEM '1.xml'>]><book>&a;</book>";
+/// let error = parse_answered(alloc, book, NoResolver).expect_err(&rt, book);
+/// let printed = error.to_string(alloc)?;
+/// assert!(rt; printed.as_str() == "unknown entity reference 'a' at 1:51");
+/// ```
 pub fn parse_answered<'input, 'w, R: EntityResolver<'input> + Drop>(
     alloc: Global,
     text: &'input str,
@@ -33,6 +42,21 @@ pub fn parse_answered<'input, 'w, R: EntityResolver<'input> + Drop>(
 
 /// Returns the document of a text whose external entities are texts that were read before, each beside its system identifier.
 /// A text that names another is refused as `Error::EntityResolver`.
+///
+/// ```
+/// use rox_uses::parse_named;
+///
+/// let book = "<!DOCTYPE book [<!ENTITY a SYSTEM '1.xml'><!ENTITY b SYSTEM '2.xml'>]><book>&a;&b;</book>";
+/// let chapters = [("2.xml", "<c n='2'/>"), ("1.xml", "<c n='1'/>")];
+/// let document = parse_named(alloc, book, &chapters)?;
+/// let first = document.root_element().first_child().expect(&rt, "a child");
+/// assert!(rt; first.attribute("n".into()) == Some("1"));
+///
+/// // `1.xml` is not among these
+/// let error = parse_named(alloc, book, &[("2.xml", "<c n='2'/>")]).expect_err(&rt, book);
+/// let printed = error.to_string(alloc)?;
+/// assert!(rt; printed.as_str() == "entity resolver failed at 1:42: no such text");
+/// ```
 pub fn parse_named<'input>(
     alloc: Global,
     text: &'input str,

@@ -5,6 +5,7 @@ ghost use Rattle.std.specs.Prelude.{◌≡◌, Some};
 mod asking;
 mod generated;
 mod limits;
+mod measures;
 mod messages;
 mod positions;
 mod slices;

@@ -1,4 +1,4 @@
-//! What resolvers answer where no document is read: a closure, one that answers nothing, and none.
+//! What resolvers answer where no document is read: a closure, a type of a caller's own, one that answers nothing, and none.
 
 ghost use Rattle.rox_prolog.specs.Requests.{MayAsk};
 
@@ -33,6 +33,28 @@ fn a_closure_answers(rt: HostRuntime) {
     same(&rt, "chapter", answer, Some(Some("<p/>")));
     let answer = chapter_for("<p/>", "other.xml").ok();
     same(&rt, "other", answer, Some(None));
+}
+
+/// Answers each request with one text.
+#[derive(Drop)]
+struct Always<'input>(&'input str);
+
+impl<'input> EntityResolver<'input> for Always<'input> {
+    ghost use Rattle.std.specs.Prelude.{◌≡◌, Ok, Some};
+
+    ghost can_resolve = { λ self. Unit {0} };
+
+    ghost allows = { λ self request reply. reply ≡ Ok (Some self.0.now) };
+
+    fn resolve(&self, pub_id: Option<&str>, uri: &str) -> Result<Option<&'input str>, String> {
+        Ok(Some(self.0))
+    }
+}
+
+#[test]
+fn a_type_answers(rt: HostRuntime) {
+    let answer = answer_for(Some(Always("<p/>")), "chapter.xml").ok();
+    same(&rt, "always", answer, Some(Some("<p/>")));
 }
 
 #[test]
