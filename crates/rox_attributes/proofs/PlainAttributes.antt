@@ -2,11 +2,11 @@
 use Rattle.std.proofs.Common.{◌≡◌, ◌≢◌, inl, inr, ℕ, ◌+◌, ◌-◌, ◌<◌, ◌≤◌, ◌||◌, ◌==◌, Bool, true, false, List, [], ◌∷◌, length, map, slice_index, slice_range, refl, sym, ap, subst, ◌∙◌, arith, Ok, bytes_eq}
 use Rattle.std.proofs.lemmas.Bool.{lt-leb, eqb-true, ne_eqb, cases_lt}
 use Rattle.rox_scopes.specs.declared.namespace.Namespace.{Namespace}
-use Rattle.rox_rows.specs.Rows.{scope_at}
+use Rattle.rox_reading.specs.AtIndex.{scope_at}
 use Rattle.rox_scopes.specs.Scopes.{ArePlaces, PrefixesOnce, entries, places_in}
-use Rattle.rox_scopes.specs.TagScopes.{lists_in}
+use Rattle.rox_names.specs.TagScopes.{lists_in}
 use Rattle.rox_rows.specs.CompactPlaces.{compact_places}
-use Rattle.rox_scopes.specs.declared.tables.ElementTables.{ElementTables}
+use Rattle.rox_names.specs.declared.tables.ElementTables.{ElementTables}
 use Rattle.rox_scopes.specs.declared.stored_scope.Scope.{Scope}
 use Rattle.rox_scopes.proofs.Ropes.{scope_places, all_places}
 use Rattle.rox_rows.specs.declared.row.AttributeNamespace.{AttributeNamespace}

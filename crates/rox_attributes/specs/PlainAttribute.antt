@@ -9,7 +9,7 @@ use Rattle.rox_reading.specs.Markup.{RawAttribute, more, attribute_at, tag_item_
 use Rattle.rox_reading.specs.Values.{ValueInclusion, value_at}
 use Rattle.rox_reading.specs.Tags.{attribute_with}
 use Rattle.rox_rows.specs.Rows.{AttributeRow, NamespaceWithin, attribute_rows, attribute_uri}
-use Rattle.rox_scopes.specs.Tables.{AreScopes}
+use Rattle.rox_scopes.specs.ScopeRows.{AreScopes}
 use Rattle.rox_scopes.specs.NamespaceViews.{namespace_view}
 use Rattle.rox_scopes.specs.Scopes.{ArePlaces, PrefixesOnce, places_in}
 use Rattle.rox_scopes.specs.declared.bindings.PrefixBindings.{PrefixBindings}
@@ -18,9 +18,9 @@ use Rattle.rox_names.specs.TagDeclarations.{unresolved_view}
 use Rattle.rox_names.specs.SeenNames.{AreSeen}
 use Rattle.rox_names.specs.declared.seen_names.SeenNames.{SeenNames}
 use Rattle.rox_storage.specs.Storage.{storage_bytes, is_borrowed}
-use Rattle.rox_scopes.specs.declared.tables.ElementTables.{ElementTables}
+use Rattle.rox_names.specs.declared.tables.ElementTables.{ElementTables}
 use Rattle.rox_bytes.specs.ByteSets.{EndsSet, is_part_byte}
-use Rattle.rox_scopes.specs.TagScopes.{scope_in_tables}
+use Rattle.rox_names.specs.TagScopes.{scope_in_tables}
 use Rattle.rox_names.specs.declared.unresolved_attribute.UnresolvedAttribute.{UnresolvedAttribute}
 use Rattle.rox_grammar.specs.Tree as tree
 use Rattle.rox_grammar.specs.WellNamed.{is_known}

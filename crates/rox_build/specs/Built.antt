@@ -12,8 +12,8 @@ use Rattle.rox_reading.specs.Stopping.{Stops}
 use Rattle.rox_reading.specs.WholeText.{reading}
 use Rattle.rox_reading.specs.HasDoctype.{has_doctype}
 use Rattle.rox_prolog.specs.Requests.{AreAllowed}
-use Rattle.rox_scopes.specs.Tables.{HoldsTree}
-use Rattle.rox_scopes.specs.declared.tables.Tables.{Tables}
+use Rattle.rox_names.specs.Tables.{HoldsTree}
+use Rattle.rox_names.specs.declared.tables.Tables.{Tables}
 use Rattle.rox_values.specs.declared.parse_error.ParseError.{ParseError}
 use Rattle.rox_values.specs.declared.parse_error.ParseError.TheVariants as refused
 

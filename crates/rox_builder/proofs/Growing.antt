@@ -7,17 +7,20 @@ use Rattle.rox_grammar.specs.Forest.{Forest}
 use Rattle.rox_grammar.specs.Written.{Item, NamespaceDecl}
 use Rattle.rox_grammar.specs.State.{Open}
 use Rattle.rox_grammar.specs.Tree.{element_namespace}
-use Rattle.rox_rows.specs.Rows.{row_view, namespace_at, scope_at, NamespaceWithin, OptionWithin, KindWithin, numbered_place, AttributeRow, attribute_rows}
+use Rattle.rox_rows.specs.Rows.{row_view, NamespaceWithin, KindWithin, numbered_place, AttributeRow, attribute_rows}
+use Rattle.rox_reading.specs.AtIndex.{namespace_at, scope_at, OptionWithin}
 use Rattle.rox_scopes.specs.NamespaceViews.{namespace_view}
 use Rattle.rox_scopes.specs.Scopes.{PrefixesOnce}
-use Rattle.rox_scopes.specs.TagScopes.{lists_in}
+use Rattle.rox_names.specs.TagScopes.{lists_in}
 use Rattle.rox_builder.specs.BuilderState.{opened, opened_in, names_in, line_in, IsRowWithin, AreSound, HasEmpty, Represents, Grown}
 use Rattle.rox_names.specs.OpenElements.{IsOpenWithin, HasName, IsNamespaceOf, open_name}
 use Rattle.rox_rows.specs.declared.row.NodeData.{NodeData}
-use Rattle.rox_scopes.specs.declared.tables.ElementTables.{ElementTables}
+use Rattle.rox_names.specs.declared.tables.ElementTables.{ElementTables}
 use Rattle.rox_names.specs.declared.open_element.OpenElement.{OpenElement}
 use Rattle.rox_builder.specs.declared.builder.Builder.{Builder}
-use Rattle.rox_rows.proofs.Stable.{all_weaker, map_same, scope_at-append, namespace_at-append, lines-append, kind_more, option_more}
+use Rattle.rox_reading.proofs.Lists.{all_weaker, map_same}
+use Rattle.rox_reading.proofs.AtIndex.{scope_at-append, namespace_at-append, option_more}
+use Rattle.rox_rows.proofs.Stable.{lines-append, kind_more}
 use Rattle.rox_rows.specs.Rows.{node_rows}
 use Rattle.rox_scopes.proofs.Ropes.{length-lists}
 

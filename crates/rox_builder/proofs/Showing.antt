@@ -17,12 +17,12 @@ use Rattle.rox_reading.proofs.Forests.{is_text, add, join-nil, size-join, merge-
 use Rattle.rox_rows.specs.Rows.{RowView, row_view, preorder_rows, node, AttributeRow, attribute_rows}
 use Rattle.rox_builder.specs.OpenRows.{top, open_line, rows_to, so_far}
 use Rattle.rox_builder.specs.PendingText.{text_of, waiting}
-use Rattle.rox_scopes.specs.TagScopes.{lists_in}
+use Rattle.rox_names.specs.TagScopes.{lists_in}
 use Rattle.rox_builder.specs.BuilderState.{OpenRow, opened, tag_row, open_lines, last_row, IsPending, with_rows, names_in, line_in, opened_in, IsRowWithin, Represents, RepresentsFlushed, IsNode}
 use Rattle.rox_rows.specs.declared.row.NodeKind.{NodeKind}
 use Rattle.rox_rows.specs.declared.row.NodeKind.TheVariants as kind
 use Rattle.rox_rows.specs.declared.row.NodeData.{NodeData}
-use Rattle.rox_scopes.specs.declared.tables.ElementTables.{ElementTables}
+use Rattle.rox_names.specs.declared.tables.ElementTables.{ElementTables}
 use Rattle.rox_builder.specs.declared.pending.Pending.{Pending}
 use Rattle.rox_builder.specs.declared.pending.JoinedText.{JoinedText}
 use Rattle.rox_values.specs.Values.{IsItsSlice}
@@ -33,7 +33,7 @@ use Rattle.rox_names.specs.declared.open_element.OpenElement.{OpenElement}
 use Rattle.rox_builder.specs.declared.builder.Builder.{Builder}
 use Rattle.rox_builder.proofs.Rows.{length-so_far, nodes_are, so_far-join, so_far-open, so_far-closed, closed_line}
 use Rattle.rox_rows.specs.Rows.{node_rows}
-use Rattle.rox_rows.proofs.Stable.{all_append}
+use Rattle.rox_reading.proofs.Lists.{all_append}
 
 -- ---- the open elements
 

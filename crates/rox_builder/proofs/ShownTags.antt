@@ -8,8 +8,8 @@ use Rattle.rox_builder.specs.BuilderState.{IsOpening, opened, tag_row}
 use Rattle.rox_names.specs.OpenElements.{name_length, open_name}
 use Rattle.rox_names.specs.SpelledNames.{KeepsName, spelled_name, SpellsName}
 use Rattle.rox_names.specs.declared.open_element.OpenElement.{OpenElement}
-use Rattle.rox_scopes.specs.TagScopes.{lists_in}
-use Rattle.rox_scopes.specs.declared.tables.ElementTables.{ElementTables}
+use Rattle.rox_names.specs.TagScopes.{lists_in}
+use Rattle.rox_names.specs.declared.tables.ElementTables.{ElementTables}
 use Rattle.rox_names.specs.declared.start_tag.StartTag.{StartTag}
 
 -- what is kept of an open element is what its tag says

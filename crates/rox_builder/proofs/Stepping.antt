@@ -4,10 +4,11 @@ use Rattle.rox_grammar.specs.Search.{stands}
 use Rattle.rox_grammar.specs.FixedTexts.{word_text}
 use Rattle.rox_grammar.specs.declared.fault.Word.TheVariants as word
 use Rattle.std.specs.List.{starts_with}
-use Rattle.rox_rows.specs.Rows.{AttributeRow, attribute_rows, row_view, scope_at}
+use Rattle.rox_rows.specs.Rows.{AttributeRow, attribute_rows, row_view}
+use Rattle.rox_reading.specs.AtIndex.{scope_at}
 use Rattle.std.specs.List.{AllByRecursion}
 use Rattle.rox_rows.specs.declared.row.NodeData.{NodeData}
-use Rattle.rox_scopes.specs.TagScopes.{lists_in}
+use Rattle.rox_names.specs.TagScopes.{lists_in}
 use Rattle.std.specs.Prelude.{nat_lt, ◌^◌, ◌-◌}
 use Rattle.std.proofs.Common.{eqb, eq-eqb, ne_eqb, if◌then◌else◌, slice_index, ◌≡◌, ℕ, zero, suc, ◌+◌, ◌<◌, Bool, true, false, List, [], ◌∷◌, ◌++◌, length, map, leb, refl, sym, ap, subst, ◌∙◌, arith, Result, Ok, Err, length-append}
 use Rattle.std.proofs.lemmas.List.{append-nil, length-map, map-append, same_from_push}
@@ -29,7 +30,7 @@ use Rattle.rox_reading.specs.Values.{ReadText, raw_character_data_at}
 use Rattle.rox_reading.proofs.Forests.{pairs-merge, attribute_count-merge}
 use Rattle.rox_values.specs.Values.{section_text}
 use Rattle.rox_builder.specs.OpenRows.{top}
-use Rattle.rox_scopes.specs.declared.tables.ElementTables.{ElementTables}
+use Rattle.rox_names.specs.declared.tables.ElementTables.{ElementTables}
 use Rattle.rox_names.specs.declared.open_element.OpenElement.{OpenElement}
 use Rattle.rox_grammar.specs.Tree.{listed}
 use Rattle.rox_bytes.proofs.MarkLemmas.{stands_fits, stands_reads}

@@ -15,8 +15,9 @@ use Rattle.rox_reading.proofs.Forests.{Clean, is_text}
 use Rattle.rox_grammar.specs.Failures.{Fails, name_view}
 use Rattle.rox_scan.specs.declared.cursor.Cursor.{Cursor}
 use Rattle.rox_grammar.specs.declared.failure.Failure.{Failure}
-use Rattle.rox_rows.specs.Rows.{node_rows, RowView, row_view, node, scope_at, NamespaceWithin, KindWithin, AttributeRow, attribute_rows}
-use Rattle.rox_scopes.specs.Tables.{AreScopes}
+use Rattle.rox_rows.specs.Rows.{node_rows, RowView, row_view, node, NamespaceWithin, KindWithin, AttributeRow, attribute_rows}
+use Rattle.rox_reading.specs.AtIndex.{scope_at}
+use Rattle.rox_scopes.specs.ScopeRows.{AreScopes}
 use Rattle.rox_scopes.specs.NamespaceViews.{namespace_view}
 use Rattle.rox_reading.specs.Values.{Next, part_text}
 use Rattle.rox_values.specs.Refusals.{IsFailure, IsRefusal}
@@ -25,11 +26,11 @@ use Rattle.rox_values.specs.declared.parse_error.ParseError.{ParseError}
 use Rattle.rox_builder.specs.OpenRows.{top, so_far}
 use Rattle.rox_builder.specs.PendingText.{waiting}
 use Rattle.rox_values.specs.Values.{IsItsSlice}
-use Rattle.rox_scopes.specs.TagScopes.{HasBindings, lists_in}
+use Rattle.rox_names.specs.TagScopes.{HasBindings, lists_in}
 use Rattle.rox_rows.specs.declared.row.NodeKind.{NodeKind}
 use Rattle.rox_rows.specs.declared.row.NodeData.{NodeData}
-use Rattle.rox_scopes.specs.declared.tables.ElementTables.{ElementTables}
-use Rattle.rox_scopes.specs.declared.tables.Tables.{Tables}
+use Rattle.rox_names.specs.declared.tables.ElementTables.{ElementTables}
+use Rattle.rox_names.specs.declared.tables.Tables.{Tables}
 use Rattle.rox_rows.specs.declared.row.NodeKind.TheVariants as kind
 use Rattle.rox_names.specs.declared.start_tag.StartTag.{StartTag}
 use Rattle.rox_builder.specs.declared.pending.Pending.{Pending}

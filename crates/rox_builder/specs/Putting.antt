@@ -16,7 +16,7 @@ use Rattle.rox_rows.specs.StoredNodes.{IsSmallKind}
 use Rattle.rox_rows.specs.declared.row.NodeKind.{NodeKind}
 use Rattle.rox_rows.specs.declared.row.NodeKind.TheVariants as kind
 use Rattle.rox_builder.specs.BuilderState.{Adds, IsConsistent, IsReady, IsReadyTo, KeepsOpen, KeepsState, KeepsTables, Represents, RepresentsFlushed, names_in}
-use Rattle.rox_scopes.specs.TagScopes.{scope_in_tables}
+use Rattle.rox_names.specs.TagScopes.{scope_in_tables}
 use Rattle.rox_builder.specs.Outcomes.{AddsNode, AddsText, OpensElement}
 use Rattle.rox_builder.specs.PendingText.{waiting}
 use Rattle.rox_builder.specs.Readiness.{IsApart, MayPutRow}

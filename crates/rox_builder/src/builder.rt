@@ -14,14 +14,14 @@ use rox_grammar::fault::Fault;
 use rox_names::open_element::{LONG_NAME, OpenElement};
 use rox_names::seen_names::SeenNames;
 use rox_names::start_tag::{Buffers, StartTag};
+use rox_names::tables::ElementTables;
 use rox_rows::attributes::AttributeTable;
-use rox_rows::growth::push_with_room;
 use rox_rows::node_table::NodeTable;
 use rox_rows::row::{NodeData, NodeKind, PI};
 use rox_scopes::bindings::PrefixBindings;
 use rox_scopes::namespace_table::NamespaceTable;
 use rox_scopes::stored_scope::{Scope, Stretch};
-use rox_scopes::tables::ElementTables;
+use rox_storage::growth::push_with_room;
 use rox_storage::recent_texts::Recent;
 use rox_values::context::MOST_WITHIN;
 use std::alloc::{AllocError, Global};
@@ -110,7 +110,7 @@ impl<'input> Builder<'input> {
     ghost use Rattle.rox_builder.specs.Outcomes.{AddsNode, OpensElement};
     ghost use Rattle.rox_builder.specs.Putting.{Closes, IsInnermostScope, IsOfRoot, KeepsRows, MayHaveMore, MayPutClose, MayPutInstruction, MayPutLeaf, MayPutOpen, PutsClose, PutsLeaf, PutsOpen};
     ghost use Rattle.rox_builder.specs.Readiness.{MayMakeRow};
-    ghost use Rattle.rox_scopes.specs.Tables.{HoldsTree};
+    ghost use Rattle.rox_names.specs.Tables.{HoldsTree};
     ghost use Rattle.rox_grammar.specs.Tree.{document_tree};
     ghost use Rattle.rox_names.specs.declared.open_element.OpenElement.{OpenElement};
 

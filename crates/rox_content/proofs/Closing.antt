@@ -14,7 +14,7 @@ use Rattle.rox_tags.proofs.PlainTags.{end_tag_is}
 use Rattle.rox_builder.specs.BuilderState.{IsConsistent}
 use Rattle.rox_names.specs.OpenElements.{name_length, HasName, IsOpenWithin, open_name}
 use Rattle.rox_tags.specs.PlainTag.{MayOpenBelow}
-use Rattle.rox_scopes.specs.declared.tables.ElementTables.{ElementTables}
+use Rattle.rox_names.specs.declared.tables.ElementTables.{ElementTables}
 use Rattle.rox_names.specs.declared.open_element.OpenElement.{OpenElement}
 
 -- ---- of an end tag

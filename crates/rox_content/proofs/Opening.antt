@@ -21,21 +21,23 @@ use Rattle.rox_values.specs.declared.parse_error.ParseError.{ParseError}
 use Rattle.rox_values.proofs.PartLemmas.{refuses_by}
 use Rattle.rox_scan.specs.declared.cursor.Cursor.{Cursor}
 use Rattle.rox_grammar.specs.declared.failure.Failure.{Failure}
-use Rattle.rox_rows.specs.Rows.{node, numbered_place, attribute, scope_at, NamespaceWithin, AttributeRow, attribute_rows}
+use Rattle.rox_rows.specs.Rows.{node, numbered_place, attribute, NamespaceWithin, AttributeRow, attribute_rows}
+use Rattle.rox_reading.specs.AtIndex.{scope_at}
 use Rattle.rox_scopes.specs.NamespaceViews.{namespace_view}
 use Rattle.rox_scopes.specs.Scopes.{PrefixesOnce}
-use Rattle.rox_scopes.specs.TagScopes.{lists_in}
+use Rattle.rox_names.specs.TagScopes.{lists_in}
 use Rattle.rox_tags.specs.ElementRow.{Tagged}
 use Rattle.rox_tags.specs.PlainTag.{HoldSame}
 use Rattle.rox_builder.specs.BuilderState.{names_in, IsRowWithin, AreSound, IsConsistent, Grown, IsNode, IsOpening, Adds, ScansTo}
 use Rattle.rox_names.specs.OpenElements.{IsOpenWithin, HasName, IsNamespaceOf, IsOpened, open_name}
 use Rattle.std.specs.Result.{OnOk}
 use Rattle.rox_rows.specs.declared.row.NodeKind.TheVariants as kind
-use Rattle.rox_scopes.specs.declared.tables.ElementTables.{ElementTables}
+use Rattle.rox_names.specs.declared.tables.ElementTables.{ElementTables}
 use Rattle.rox_names.specs.declared.open_element.OpenElement.{OpenElement}
 use Rattle.rox_builder.specs.declared.builder.Builder.{Builder}
 use Rattle.rox_names.specs.declared.start_tag.StartTag.{StartTag}
-use Rattle.rox_rows.proofs.Stable.{all_append, all_weaker, namespace_more}
+use Rattle.rox_reading.proofs.Lists.{all_append, all_weaker}
+use Rattle.rox_rows.proofs.Stable.{namespace_more}
 use Rattle.rox_scopes.proofs.Listing.{with_new-front, with_new-append}
 use Rattle.rox_reading.proofs.Stretches.{slice-rest}
 use Rattle.rox_builder.proofs.Growing.{grown_counts, grown_elements, grown_empty}

@@ -4,7 +4,7 @@ use Rattle.rox_reading.specs.Machine as machine
 use Rattle.rox_scan.specs.declared.cursor.Cursor.{Cursor}
 use Rattle.rox_reading.specs.Refusals.{Refusal}
 use Rattle.rox_reading.specs.State.{State}
-use Rattle.rox_scopes.specs.declared.tables.ElementTables.{ElementTables}
+use Rattle.rox_names.specs.declared.tables.ElementTables.{ElementTables}
 use Rattle.rox_builder.specs.BuilderState.{HoldsState, IsConsistent, IsReadyTo, KeepsState}
 use Rattle.rox_builder.specs.Outcomes.{ReadsAt}
 use Rattle.rox_builder.proofs.Stepping.{same_shows, state_kept}

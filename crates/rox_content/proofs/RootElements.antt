@@ -6,10 +6,11 @@ use Rattle.std.proofs.lemmas.List.{append-nil, length-map}
 use Rattle.rox_grammar.specs.State.{Open, inside, root, scope_of}
 use Rattle.rox_reading.specs.State.{State}
 use Rattle.rox_scan.specs.declared.cursor.Cursor.{Cursor}
-use Rattle.rox_rows.specs.Rows.{AttributeRow, NamespaceWithin, attribute_rows, scope_at}
+use Rattle.rox_rows.specs.Rows.{AttributeRow, NamespaceWithin, attribute_rows}
+use Rattle.rox_reading.specs.AtIndex.{scope_at}
 use Rattle.rox_scopes.specs.NamespaceViews.{namespace_view}
 use Rattle.rox_scopes.specs.Scopes.{PrefixesOnce}
-use Rattle.rox_scopes.specs.declared.tables.ElementTables.{ElementTables}
+use Rattle.rox_names.specs.declared.tables.ElementTables.{ElementTables}
 use Rattle.rox_builder.specs.BuilderState.{Grown, IsConsistent, IsInState, last_row, open_lines, opened_in}
 use Rattle.rox_tags.specs.TagReadiness.{MayReadBelow}
 use Rattle.rox_content.specs.RootTag.{HoldAlike}

@@ -14,12 +14,13 @@ use Rattle.rox_grammar.specs.Tree.{attribute_in, element_namespace, listable_of,
 use Rattle.rox_grammar.specs.WellNamed.{may_name}
 use Rattle.rox_reading.specs.Lexical.{qname_at}
 use Rattle.rox_reading.specs.Tags.{Values, attributes_at, names_tested, tag_tested}
-use Rattle.rox_rows.specs.Rows.{attribute_rows, namespace_at, numbered_place, scope_at}
-use Rattle.rox_scopes.specs.Tables.{AreRows, AreScopes, IsRow, lists_of}
+use Rattle.rox_rows.specs.Rows.{attribute_rows, numbered_place}
+use Rattle.rox_reading.specs.AtIndex.{namespace_at, scope_at}
+use Rattle.rox_scopes.specs.ScopeRows.{AreRows, AreScopes, IsRow, lists_of}
 use Rattle.rox_scopes.specs.NamespaceViews.{namespace_view}
 use Rattle.rox_scopes.specs.Scopes.{ArePlaces, PrefixesOnce, entries}
-use Rattle.rox_scopes.specs.TagScopes.{lists_in, scope_in_tables}
-use Rattle.rox_scopes.specs.declared.tables.ElementTables.{ElementTables}
+use Rattle.rox_names.specs.TagScopes.{lists_in, scope_in_tables}
+use Rattle.rox_names.specs.declared.tables.ElementTables.{ElementTables}
 use Rattle.rox_scopes.specs.declared.stored_scope.Scope.{Scope}
 use Rattle.rox_scopes.proofs.Ropes.{all_places}
 use Rattle.rox_names.specs.OpenElements.{IsNamespaceOf}

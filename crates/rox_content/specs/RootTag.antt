@@ -4,8 +4,8 @@ use Rattle.rox_reading.specs.Machine as machine
 use Rattle.rox_reading.specs.State.{State}
 use Rattle.rox_rows.specs.Rows.{AttributeRow, attribute_rows}
 use Rattle.rox_scopes.specs.NamespaceViews.{namespace_view}
-use Rattle.rox_scopes.specs.TagScopes.{lists_in}
-use Rattle.rox_scopes.specs.declared.tables.ElementTables.{ElementTables}
+use Rattle.rox_names.specs.TagScopes.{lists_in}
+use Rattle.rox_names.specs.declared.tables.ElementTables.{ElementTables}
 use Rattle.rox_scan.specs.declared.cursor.Cursor.{Cursor}
 use Rattle.rox_tags.specs.PlainTag.{IsPlainTag}
 use Rattle.rox_tags.specs.TagAttributes.{AreNoBindings, BeginsRoot, first_places}

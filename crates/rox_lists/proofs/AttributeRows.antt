@@ -7,7 +7,7 @@ use Rattle.rox_rows.specs.Rows.{AttributeRow, NamespaceWithin, attribute, attrib
 use Rattle.rox_scopes.specs.NamespaceViews.{namespace_view}
 use Rattle.rox_rows.specs.StoredAttributes.{AreNumbered, data_of, row_in, place_bound, explicit_count}
 use Rattle.rox_rows.specs.declared.row.AttributePlaces.{AttributePlaces}
-use Rattle.rox_scopes.specs.declared.tables.Tables.{Tables}
+use Rattle.rox_names.specs.declared.tables.Tables.{Tables}
 use Rattle.rox_rows.specs.declared.stored_attribute.StoredAttribute.{StoredAttribute}
 use Rattle.rox_rows.specs.declared.attributes.AttributeTable.{AttributeTable}
 use Rattle.rox_lists.specs.NamespaceBound.{namespace_bound}

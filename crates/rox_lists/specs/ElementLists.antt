@@ -4,12 +4,13 @@ use Rattle.std.specs.Coded.{Coded, coded_list}
 use Rattle.std.specs.List.{AllByRecursion}
 use Rattle.rox_grammar.specs.Written.{NamespaceDecl}
 use Rattle.rox_grammar.specs.Tree as tree
-use Rattle.rox_rows.specs.Rows.{attribute, attribute_rows, namespace_at, NamespaceWithin}
-use Rattle.rox_scopes.specs.Tables.{AreScopes}
+use Rattle.rox_rows.specs.Rows.{attribute, attribute_rows, NamespaceWithin}
+use Rattle.rox_reading.specs.AtIndex.{namespace_at}
+use Rattle.rox_scopes.specs.ScopeRows.{AreScopes}
 use Rattle.rox_scopes.specs.NamespaceViews.{namespace_view}
 use Rattle.rox_scopes.specs.Scopes.{places_in, ArePlaces}
 use Rattle.rox_rows.specs.StoredAttributes.{data_of, row_in, place_bound}
-use Rattle.rox_scopes.specs.declared.tables.Tables.{Tables}
+use Rattle.rox_names.specs.declared.tables.Tables.{Tables}
 use Rattle.rox_lists.specs.NamespaceBound.{namespace_bound}
 use Rattle.rox_lists.specs.ListCodes.{attribute_code, namespace_decl_code}
 pub use Rattle.rox_lists.specs.AttributeView.{attribute_of}

@@ -8,9 +8,9 @@ ghost use Rattle.rox_lists.specs.NamespaceBound.{namespace_bound};
 
 use crate::debug::write_list;
 use crate::names::{ExpandedName, NS_XML_URI, equal_names, name_of_parts};
+use rox_names::tables::Tables;
 use rox_rows::row::AttributeNamespace;
 use rox_rows::stored_attribute::{NamespaceKind, StoredAttribute};
-use rox_scopes::tables::Tables;
 use rox_storage::storage::StringStorage;
 use std::alloc::AllocError;
 use std::fmt;

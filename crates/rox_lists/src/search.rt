@@ -9,7 +9,7 @@ ghost use Rattle.rox_lists.specs.ExpandedNames.{expanded, named, named_locally};
 
 use crate::attributes::{Attribute, Attributes};
 use crate::names::{ExpandedName, equal_names};
-use rox_scopes::tables::Tables;
+use rox_names::tables::Tables;
 
 /// Returns the attributes at the indices `from..until` of those of all elements.
 #[inline]

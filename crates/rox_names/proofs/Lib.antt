@@ -5,3 +5,5 @@ pub mod Seeing
 pub mod SeenCodes
 pub mod SameNames
 pub mod SpelledNames
+pub mod Below
+pub mod Finding

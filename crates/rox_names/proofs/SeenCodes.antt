@@ -19,7 +19,7 @@ use Rattle.rox_rows.specs.declared.attributes.AttributeTable.{AttributeTable}
 use Rattle.rox_rows.specs.declared.stored_attribute.StoredAttribute.{StoredAttribute}
 use Rattle.rox_names.specs.declared.seen_names.SeenNames.{SeenNames}
 use Rattle.rox_names.specs.SeenNames.{name_code, HasCode, HasNameOf, HaveCodes, AreSeen, KeepsCodes, SeesName}
-use Rattle.rox_rows.proofs.Stable.{all_append, all_weaker}
+use Rattle.rox_reading.proofs.Lists.{all_append, all_weaker}
 
 -- a code whose bit is clear is not there
 pub not_there : (codes : List ℕ) (code : ℕ) → eqb (bit_and (get_or codes (code / 64) 0 / 2 ^ (code % 64)) 1) 1 ≡ false → HasCode codes code → ⊥

@@ -5,3 +5,5 @@ pub mod TagDeclarations
 pub mod TagNames
 pub mod SpelledNames
 pub mod OpenElements
+pub mod Tables
+pub mod TagScopes

@@ -6,12 +6,13 @@ use Rattle.rox_grammar.specs.Written.{Name}
 use Rattle.rox_grammar.specs.Tree.{element_namespace}
 use Rattle.rox_reading.specs.Lexical.{qname_at}
 use Rattle.rox_grammar.specs.Failures.{name_view}
-use Rattle.rox_rows.specs.Rows.{namespace_at, scope_at, OptionWithin, numbered_place}
+use Rattle.rox_reading.specs.AtIndex.{namespace_at, scope_at, OptionWithin}
+use Rattle.rox_rows.specs.Rows.{numbered_place}
 use Rattle.rox_scopes.specs.NamespaceViews.{namespace_view}
 use Rattle.rox_names.specs.SpelledNames.{before_colon, is_prefixed, kept_length, KeepsName, spelled_name}
 use Rattle.rox_scopes.specs.Scopes.{PrefixesOnce}
-use Rattle.rox_scopes.specs.TagScopes.{lists_in}
-use Rattle.rox_scopes.specs.declared.tables.ElementTables.{ElementTables}
+use Rattle.rox_names.specs.TagScopes.{lists_in}
+use Rattle.rox_names.specs.declared.tables.ElementTables.{ElementTables}
 use Rattle.rox_names.specs.declared.start_tag.StartTag.{StartTag}
 use Rattle.rox_names.specs.declared.open_element.OpenElement.{OpenElement}
 

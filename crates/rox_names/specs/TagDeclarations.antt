@@ -12,7 +12,7 @@ use Rattle.rox_grammar.specs.Written.{Attribute, NamespaceDecl}
 use Rattle.rox_reading.specs.Tags.{TagSoFar, declared}
 use Rattle.rox_scopes.specs.Scopes.{entries, ArePlaces, PrefixesOnce}
 use Rattle.rox_scopes.specs.PrefixSet.{IsPrefixSet}
-use Rattle.rox_scopes.specs.Tables.{AreScopes, lists_of}
+use Rattle.rox_scopes.specs.ScopeRows.{AreScopes, lists_of}
 use Rattle.rox_scopes.specs.NamespaceViews.{namespace_view}
 use Rattle.rox_scopes.specs.declared.namespace.Namespace.{Namespace}
 use Rattle.rox_scopes.specs.Bindings.{AreBindingsOf}

@@ -1,7 +1,7 @@
 -- Stretches of a source.
-use Rattle.std.proofs.Common.{◌≡◌, ℕ, true, ◌+◌, ◌-◌, ◌<◌, ◌≤◌, List, [], ◌∷◌, ◌++◌, length, take, drop, get_or, slice_range, refl, ap, ◌∙◌, arith, length-drop}
+use Rattle.std.proofs.Common.{◌≡◌, ℕ, zero, suc, true, ◌+◌, ◌-◌, ◌<◌, ◌≤◌, List, [], ◌∷◌, ◌++◌, length, take, drop, get_or, slice_range, refl, ap, ◌∙◌, arith, length-drop}
 use Rattle.std.proofs.Math.Seq.{take-append-add}
-use Rattle.std.proofs.lemmas.List.{length-take, get_or-drop, take_more, take_all}
+use Rattle.std.proofs.lemmas.List.{length-take, get_or-drop, take_more, take_all, take-append-le, drop-append-le}
 use Rattle.std.proofs.lemmas.List.Folds.{drop_split}
 use Rattle.std.proofs.lemmas.Bool.Decides.{nat_tests}
 use Rattle.rox_reading.specs.Values.{is_special}
@@ -30,6 +30,17 @@ slice-more xs i j d le lt =
 -- A stretch up to the end.
 pub slice-rest : {A : Type 0} (xs : List A) (i : ℕ) → slice_range xs i (length xs) ≡ drop i xs
 slice-rest xs i = take_all (length xs - i) (drop i xs) (rw length-drop (omega arith))
+
+-- A stretch of a list that has grown.
+pub slice-append : {X : Type 0} (xs ys : List X) (i j : ℕ) → i ≤ j → j ≤ length xs → slice_range (xs ++ ys) i j ≡ slice_range xs i j
+slice-append xs ys i j ordered within =
+    let d = drop-append-le i xs ys (omega arith) in
+    ap (take (j - i)) d ∙ take-append-le (j - i) (drop i xs) ys (long xs i j ordered within)
+  where
+    long : {X : Type 0} (xs : List X) (i j : ℕ) → i ≤ j → j ≤ length xs → j - i ≤ length (drop i xs)
+    long xs zero j ordered within = omega arith
+    long [] (suc i) j ordered within = omega arith
+    long (x ∷ xs) (suc i) j ordered within = let k = long xs i (j - 1) (omega arith) (omega arith) in omega arith
 
 -- A byte that ends a stretch of a value is ASCII.
 pub special_ascii : (b : ℕ) → is_special b ≡ true → b < 128

@@ -10,3 +10,4 @@ pub mod WholeText
 pub mod HasDoctype
 pub mod Stopping
 pub mod Answering
+pub mod AtIndex

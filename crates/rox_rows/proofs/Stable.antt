@@ -1,8 +1,7 @@
 -- What rows show stays as the tables behind them grow.
-use Rattle.std.proofs.Common.{◌≡◌, ℕ, zero, suc, ◌-◌, ◌<◌, ◌≤◌, List, [], ◌∷◌, ◌++◌, length, map, take, drop, refl, ap, ◌∙◌, arith, Option, Some, None}
+use Rattle.std.proofs.Common.{◌≡◌, ℕ, ◌-◌, ◌≤◌, List, ◌++◌, length, map, refl, ap, ◌∙◌, arith, Option, Some, None}
 use Rattle.std.specs.List.{AllByRecursion, slice_range}
 use Rattle.std.specs.Option.{option_map}
-use Rattle.std.proofs.lemmas.List.{take-append-le, drop-append-le}
 use Rattle.rox_grammar.specs.Written.{NamespaceDecl}
 use Rattle.rox_grammar.specs.Tree as tree
 use Rattle.rox_storage.specs.Storage.{storage_bytes, is_borrowed}
@@ -11,51 +10,13 @@ use Rattle.rox_rows.specs.declared.row.AttributeNamespace.TheVariants as space
 use Rattle.rox_rows.specs.declared.row.NodeKind.{NodeKind}
 use Rattle.rox_rows.specs.declared.row.NodeKind.TheVariants as kind
 use Rattle.rox_rows.specs.declared.row.NodeData.{NodeData}
-use Rattle.rox_rows.specs.Rows.{RowView, row_view, node, numbered_place, attribute, namespace_at, scope_at, attribute_uri, NamespaceWithin, OptionWithin, KindWithin, AttributeRow}
-
--- ---- lists
-
-pub all_take : {X : Type 0} (P : X → Type 0) (n : ℕ) (xs : List X) → AllByRecursion P xs → AllByRecursion P (take n xs)
-all_take P zero xs h = tt
-all_take P (suc n) [] h = tt
-all_take P (suc n) (x ∷ xs) (p, h) = (p, all_take P n xs h)
-
-pub all_drop : {X : Type 0} (P : X → Type 0) (n : ℕ) (xs : List X) → AllByRecursion P xs → AllByRecursion P (drop n xs)
-all_drop P zero xs h = h
-all_drop P (suc n) [] h = tt
-all_drop P (suc n) (x ∷ xs) (p, h) = all_drop P n xs h
-
-pub all_slice : {X : Type 0} (P : X → Type 0) (xs : List X) (i j : ℕ) → AllByRecursion P xs → AllByRecursion P (slice_range xs i j)
-all_slice P xs i j h = all_take P (j - i) (drop i xs) (all_drop P i xs h)
-
-pub all_append : {X : Type 0} (P : X → Type 0) (xs ys : List X) → AllByRecursion P xs → AllByRecursion P ys → AllByRecursion P (xs ++ ys)
-all_append P [] ys h k = k
-all_append P (x ∷ xs) ys (p, h) k = (p, all_append P xs ys h k)
-
-pub all_weaker : {X : Type 0} (P Q : X → Type 0) (xs : List X) → ((x : X) → P x → Q x) → AllByRecursion P xs → AllByRecursion Q xs
-all_weaker P Q [] w h = tt
-all_weaker P Q (x ∷ xs) w (p, h) = (w x p, all_weaker P Q xs w h)
-
-pub map_same : {X Y : Type 0} (f g : X → Y) (P : X → Type 0) (xs : List X) → ((x : X) → P x → f x ≡ g x) → AllByRecursion P xs → map f xs ≡ map g xs
-map_same f g P [] e h = refl
-map_same f g P (x ∷ xs) e (p, h) = ap (λ y. y ∷ map f xs) (e x p) ∙ ap (λ ys. g x ∷ ys) (map_same f g P xs e h)
-
-pub slice-append : {X : Type 0} (xs ys : List X) (i j : ℕ) → i ≤ j → j ≤ length xs → slice_range (xs ++ ys) i j ≡ slice_range xs i j
-slice-append xs ys i j ordered within =
-    let d = drop-append-le i xs ys (omega arith) in
-    ap (take (j - i)) d ∙ take-append-le (j - i) (drop i xs) ys (long xs i j ordered within)
-  where
-    long : {X : Type 0} (xs : List X) (i j : ℕ) → i ≤ j → j ≤ length xs → j - i ≤ length (drop i xs)
-    long xs zero j ordered within = omega arith
-    long [] (suc i) j ordered within = omega arith
-    long (x ∷ xs) (suc i) j ordered within = let k = long xs i (j - 1) (omega arith) (omega arith) in omega arith
+use Rattle.rox_rows.specs.Rows.{RowView, row_view, node, numbered_place, attribute, attribute_uri, NamespaceWithin, KindWithin, AttributeRow}
+use Rattle.rox_reading.specs.AtIndex.{namespace_at, scope_at, OptionWithin}
+use Rattle.rox_reading.proofs.Lists.{all_slice, map_same}
+use Rattle.rox_reading.proofs.Stretches.{slice-append}
+use Rattle.rox_reading.proofs.AtIndex.{namespace_at-append, scope_at-append, option_more}
 
 -- ---- entries
-
-pub namespace_at-append : (namespaces more : List NamespaceDecl) (i : ℕ) → i < length namespaces → namespace_at (namespaces ++ more) i ≡ namespace_at namespaces i
-namespace_at-append [] more i h = absurd (omega arith)
-namespace_at-append (d ∷ ds) more zero h = refl
-namespace_at-append (d ∷ ds) more (suc i) h = namespace_at-append ds more i (omega arith)
 
 pub attribute_uri-append : (namespaces more : List NamespaceDecl) (a : AttributeNamespace) → NamespaceWithin (length namespaces) a → attribute_uri (namespaces ++ more) a ≡ attribute_uri namespaces a
 attribute_uri-append namespaces more space.None h = refl
@@ -71,13 +32,6 @@ uri-append : (namespaces more : List NamespaceDecl) (o : Option ℕ) → OptionW
     → option_map (λ i. (namespace_at (namespaces ++ more) i).uri) o ≡ option_map (λ i. (namespace_at namespaces i).uri) o
 uri-append namespaces more None h = refl
 uri-append namespaces more (Some i) h = ap (λ (d : NamespaceDecl). Some d.uri) (namespace_at-append namespaces more i h)
-
--- ---- scopes
-
-pub scope_at-append : (lists more : List (List NamespaceDecl)) (i : ℕ) → i < length lists → scope_at (lists ++ more) i ≡ scope_at lists i
-scope_at-append [] more i h = absurd (omega arith)
-scope_at-append (l ∷ ls) more zero h = refl
-scope_at-append (l ∷ ls) more (suc i) h = scope_at-append ls more i (omega arith)
 
 -- ---- rows
 
@@ -108,10 +62,6 @@ lines-append as' moreA namespaces moreN ls moreL rows ha h =
     (λ r k. ap (λ n. let x : RowView = record { parent = r.parent; subtree_end = r.subtree_end; node = n } in x) (node-append as' moreA namespaces moreN ls moreL r.start r.end r.kind ha k)) h
 
 -- ---- what a row names stays in the tables
-
-pub option_more : (n m : ℕ) (o : Option ℕ) → n ≤ m → OptionWithin n o → OptionWithin m o
-option_more n m None le within = tt
-option_more n m (Some i) le within = omega arith
 
 pub kind_more : (a n l a' n' l' : ℕ) (k : NodeKind) → a ≤ a' → n ≤ n' → l ≤ l' → KindWithin a n l k → KindWithin a' n' l' k
 kind_more a n l a' n' l' kind.Root x y z h = tt

@@ -2,7 +2,7 @@ pub mod StoredNodes
 pub mod Rows
 pub mod CompactPlaces
 pub mod StoredAttributes
-pub mod Growth
 pub mod NodeChanges
 pub mod Puts
 pub mod AttributeChanges
+pub mod FirstRoom

@@ -5,6 +5,7 @@ use Rattle.rox_grammar.specs.Forest.{Forest, Nil, Cons, size}
 use Rattle.rox_grammar.specs.Written.{NamespaceDecl}
 use Rattle.rox_grammar.specs.Tree as tree
 use Rattle.rox_grammar.specs.Tree.{Node, xml_uri}
+use Rattle.rox_reading.specs.AtIndex.{namespace_at, scope_at, OptionWithin}
 use Rattle.rox_storage.specs.Storage.{storage_bytes, is_borrowed}
 use Rattle.rox_rows.specs.StoredAttributes.{row_in}
 use Rattle.rox_rows.specs.declared.row.AttributeNamespace.{AttributeNamespace}
@@ -35,12 +36,6 @@ preorder_rows parent at (Cons node children rest) =
     record { parent = parent; subtree_end = at + 1 + size children; node = node }
     ∷ (preorder_rows at (at + 1) children ++ preorder_rows parent (at + 1 + size children) rest)
 
--- The namespace at the index `i` of a table.
-abbrev pub namespace_at : List NamespaceDecl → ℕ → NamespaceDecl
-namespace_at [] i = record { prefix = None; uri = [] }
-namespace_at (d ∷ ds) Prim.Native.Nat.zero = d
-namespace_at (d ∷ ds) (Prim.Native.Nat.suc i) = namespace_at ds i
-
 abbrev pub attribute_uri : List NamespaceDecl → AttributeNamespace → Option (List ℕ)
 attribute_uri namespaces space.None = None
 attribute_uri namespaces space.Xml = Some xml_uri
@@ -65,12 +60,6 @@ attribute namespaces a = record {
   borrowed = is_borrowed a.0.value;
 }
 
--- The namespaces that the scope at the index `i` lists.
-abbrev pub scope_at : List (List NamespaceDecl) → ℕ → List NamespaceDecl
-scope_at [] i = []
-scope_at (l ∷ ls) Prim.Native.Nat.zero = l
-scope_at (l ∷ ls) (Prim.Native.Nat.suc i) = scope_at ls i
-
 -- The index in the table of namespaces that a number of an element's row names: one less, or `None` for 0.
 abbrev pub numbered_place : ℕ → Option ℕ
 numbered_place Prim.Native.Nat.zero = None
@@ -94,10 +83,6 @@ row_view attributes namespaces lists row =
 abbrev pub NamespaceWithin : ℕ → AttributeNamespace → Type 0
 NamespaceWithin n (space.Listed i) = i < n
 NamespaceWithin n other = Unit {0}
-
-abbrev pub OptionWithin : ℕ → Option ℕ → Type 0
-OptionWithin n None = Unit {0}
-OptionWithin n (Some i) = i < n
 
 -- What a row names is in the tables, which have these lengths, and a comment is a slice of the input.
 abbrev pub KindWithin : (attributes namespaces scopes : ℕ) → NodeKind → Type 0

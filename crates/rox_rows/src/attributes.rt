@@ -5,9 +5,9 @@ ghost use Rattle.rox_rows.specs.StoredAttributes.{AreNumbered, AreNumbered-prop,
 ghost use Rattle.std.proofs.Props.{props};
 ghost use Rattle.rox_rows.specs.Puts.{Puts};
 
-use crate::growth::{make_room, push, reserve, trim, with_room};
 use crate::row::{AttributeData, AttributePlaces};
 use crate::stored_attribute::{EXPLICIT, StoredAttribute, compact_before};
+use rox_storage::growth::{make_room, push, reserve, trim, with_room};
 use rox_storage::storage::{StringStorage, is_owned};
 use std::alloc::{AllocError, Global};
 use std::mem::ManuallyDrop;

@@ -1,7 +1,7 @@
 //! An estimate of how many rows a text gives: from its length, and for a long text from a sample of its bytes.
 
 ghost use Rattle.std.specs.Prelude.{length};
-ghost use Rattle.rox_rows.specs.Growth.{IsFirstRoom};
+ghost use Rattle.rox_rows.specs.FirstRoom.{IsFirstRoom};
 
 use std::simd::prelude::*;
 

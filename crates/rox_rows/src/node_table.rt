@@ -10,12 +10,12 @@ ghost use Rattle.rox_rows.specs.declared.row.NodeKind.TheVariants as kind;
 ghost use Rattle.rox_rows.specs.declared.stored_node.StoredNode.{StoredNode};
 ghost use Rattle.rox_rows.specs.declared.stored_node.HighPlaces.{HighPlaces};
 
-use crate::growth::{self, first_room, trim};
 use crate::row::{NodeData, NodeKind, PI};
 use crate::stored_node::{
     FIRST_HIGH, HighPlaces, KindRef, RowRef, StoredKind, StoredNode, high_half, kind_ref, low_half,
     owns_text, put_kind, small_kind, store_kind, whole_place,
 };
+use rox_storage::growth::{self, first_room, trim};
 use std::alloc::{AllocError, Global};
 
 /// The nodes of a text, in document order. What few nodes have is stored beside the rows, so that these are small. That is

@@ -8,8 +8,8 @@ ghost use Rattle.rox_rows.specs.declared.row.NodeKind.TheVariants as kind;
 ghost use Rattle.rox_rows.specs.declared.stored_node.HighPlaces.{HighPlaces};
 ghost use Rattle.rox_rows.specs.declared.stored_node.StoredNode.{StoredNode};
 
-use crate::growth::push;
 use crate::row::{ElementData, NodeKind, PI};
+use rox_storage::growth::push;
 use rox_storage::storage::StringStorage;
 use std::alloc::AllocError;
 use std::mem::ManuallyDrop;

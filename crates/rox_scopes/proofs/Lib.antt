@@ -2,11 +2,10 @@ pub mod Ropes
 pub mod Leaves
 pub mod Hiding
 pub mod Sharing
-pub mod Below
 pub mod Pairs
 pub mod Indexing
 pub mod Inherits
 pub mod Listing
 pub mod Remembering
 pub mod Presenting
-pub mod Finding
+pub mod HidingOwn

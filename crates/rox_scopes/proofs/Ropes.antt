@@ -1,5 +1,5 @@
 -- What rows of scopes list, as there are more of them.
-use Rattle.std.proofs.Common.{◌≡◌, ℕ, zero, suc, ◌+◌, ◌-◌, ◌<◌, ◌≤◌, inl, inr, List, [], ◌∷◌, ◌++◌, length, map, take, drop, reverse, get_or, refl, sym, ap, subst, ◌∙◌, arith, length-append, append_assoc, Result, Ok, Err, IfOk, Option, Some, None, IfSome}
+use Rattle.std.proofs.Common.{◌≡◌, ℕ, zero, suc, ◌+◌, ◌-◌, ◌<◌, ◌≤◌, inl, inr, false, List, [], ◌∷◌, ◌++◌, length, map, take, drop, reverse, get_or, refl, sym, ap, subst, ◌∙◌, arith, length-append, append_assoc, Result, Ok, Err, IfOk, Option, Some, None, IfSome}
 use Rattle.std.specs.List.{AllByRecursion, slice_range}
 use Rattle.std.proofs.lemmas.Grind.{reverse_onto}
 use Rattle.std.proofs.Math.Nat.{eq-or-lt_of_le}
@@ -10,13 +10,14 @@ use Rattle.rox_reading.proofs.Stretches.{range_length}
 use Rattle.rox_scopes.specs.declared.stored_scope.Concat.{Concat}
 use Rattle.rox_scopes.specs.declared.stored_scope.Scope.{Scope}
 use Rattle.rox_scopes.specs.declared.stored_scope.Scope.TheVariants as scope
-use Rattle.rox_rows.specs.Rows.{namespace_at, scope_at}
-use Rattle.rox_scopes.specs.Tables.{listed_at, made, places_on, places_of, lists_of, count_of, count_at, IsRow, AreRows, EndsWithin, AreScopes}
-use Rattle.rox_scopes.specs.Scopes.{entries, places_in, ArePlaces}
+use Rattle.rox_reading.specs.AtIndex.{namespace_at, scope_at}
+use Rattle.rox_scopes.specs.ScopeRows.{listed_at, made, places_on, places_of, lists_of, count_of, count_at, IsRow, AreRows, EndsWithin, AreScopes}
+use Rattle.rox_scopes.specs.Scopes.{entries, places_in, is_few_at, ArePlaces}
 use Rattle.rox_scopes.specs.Ropes.{IsRope}
 use Rattle.rox_scopes.specs.declared.stored_scope.Stretch.{Stretch}
 use Rattle.rox_scopes.proofs.Leaves.{range_get, back_get}
-use Rattle.rox_rows.proofs.Stable.{all_append, all_slice, all_weaker, map_same, namespace_at-append}
+use Rattle.rox_reading.proofs.Lists.{all_append, all_slice, all_weaker, map_same}
+use Rattle.rox_reading.proofs.AtIndex.{namespace_at-append}
 
 -- ---- lists of places
 
@@ -440,3 +441,11 @@ rope_leaves old mid next new x y a b c h p la r ex q lb s ey rows z e =
     let one : IsRope old mid a (λ l. made l (places_of l old) x) = rope_leaf old mid x a p la r ex rows in
     let two : IsRope mid next b (λ l. made l (places_of l mid) y) = rope_leaf mid next y b q lb s (λ n k. ey n (ends_before n old mid x p k)) one.rows in
     rope_join old mid next new a b c (λ l. made l (places_of l old) x) (λ l. made l (places_of l mid) y) h one two z e
+
+-- a row that is not of few
+pub few_not : (scopes : List Scope) (i : ℕ) → i < length scopes → ((s : Stretch) → get_or scopes i no_row ≡ scope.Few s → ⊥) → is_few_at scopes i ≡ false
+few_not [] i lt h = absurd (omega arith)
+few_not (scope.Few s ∷ ss) zero lt h = absurd (h s refl)
+few_not (scope.Back s ∷ ss) zero lt h = refl
+few_not (scope.Concat b ∷ ss) zero lt h = refl
+few_not (x ∷ ss) (suc i) lt h = few_not ss i (omega arith) h

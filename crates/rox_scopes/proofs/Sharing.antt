@@ -7,11 +7,11 @@ use Rattle.rox_grammar.specs.Written.{NamespaceDecl}
 use Rattle.rox_scopes.specs.declared.stored_scope.Scope.{Scope}
 use Rattle.rox_scopes.specs.declared.stored_scope.Scope.TheVariants as scope
 use Rattle.rox_scopes.specs.declared.stored_scope.Stretch.{Stretch}
-use Rattle.rox_rows.specs.Rows.{namespace_at}
-use Rattle.rox_scopes.specs.Tables.{AreScopes}
+use Rattle.rox_reading.specs.AtIndex.{namespace_at}
+use Rattle.rox_scopes.specs.ScopeRows.{AreScopes}
 use Rattle.rox_scopes.specs.Scopes.{entries, places_in, ArePlaces}
 use Rattle.rox_scopes.specs.Ropes.{IsRope, IsListed}
-use Rattle.rox_rows.proofs.Stable.{all_append, all_drop}
+use Rattle.rox_reading.proofs.Lists.{all_append, all_drop}
 use Rattle.rox_reading.proofs.Stretches.{slice-rest}
 use Rattle.rox_scopes.proofs.Ropes.{all_reverse, scopes_more, scopes_push, pushed_places}
 

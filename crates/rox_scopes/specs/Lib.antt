@@ -1,8 +1,8 @@
 pub mod NamespaceViews
-pub mod Tables
+pub mod ScopeRows
 pub mod Scopes
 pub mod PairIndex
 pub mod PrefixSet
 pub mod Bindings
 pub mod Ropes
-pub mod TagScopes
+pub mod Hidden

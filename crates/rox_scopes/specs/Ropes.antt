@@ -3,7 +3,7 @@ use Rattle.std.specs.Prelude.{◌≡◌, ℕ, ◌-◌, ◌<◌, ◌≤◌, false
 use Rattle.std.specs.Borrow.{Bor}
 use Rattle.std.specs.List.{AllByRecursion}
 use Rattle.rox_grammar.specs.Written.{NamespaceDecl}
-use Rattle.rox_scopes.specs.Tables.{AreRows, AreScopes, EndsWithin, count_at}
+use Rattle.rox_scopes.specs.ScopeRows.{AreRows, AreScopes, EndsWithin, count_at}
 use Rattle.rox_scopes.specs.Scopes.{entries, is_few_at, places_in, ArePlaces}
 use Rattle.rox_scopes.specs.declared.stored_scope.Scope.{Scope}
 use Rattle.rox_scopes.specs.declared.stored_scope.Stretch.{Stretch}

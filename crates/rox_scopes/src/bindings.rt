@@ -4,8 +4,8 @@
 ghost use Rattle.std.specs.Prelude.{◌≡◌, ◌<◌, ◌≤◌, ◌+◌, ◌-◌, ◌++◌, ◌⊎◌, ℕ, List, Option, Some, None, true, length, map, take, reverse, slice_index, slice_range, OnOk, if◌then◌else◌};
 ghost use Rattle.rox_grammar.specs.Tree.{same_prefix};
 ghost use Rattle.rox_grammar.specs.Written.{NamespaceDecl};
-ghost use Rattle.rox_rows.specs.Rows.{namespace_at, scope_at};
-ghost use Rattle.rox_scopes.specs.Tables.{lists_of};
+ghost use Rattle.rox_reading.specs.AtIndex.{namespace_at, scope_at};
+ghost use Rattle.rox_scopes.specs.ScopeRows.{lists_of};
 ghost use Rattle.rox_scopes.specs.NamespaceViews.{namespace_view};
 ghost use Rattle.rox_scopes.specs.Scopes.{prefix_view, entries, ArePlaces};
 ghost use Rattle.rox_scopes.specs.Ropes.{IsScopeOf};
@@ -13,7 +13,7 @@ ghost use Rattle.rox_scopes.specs.Ropes.{IsScopeOf};
 use crate::namespace::Namespace;
 use crate::rope::{count, position_at};
 use crate::stored_scope::{OwnDeclarations, Scope};
-use rox_rows::growth::push;
+use rox_storage::growth::push;
 use std::alloc::{AllocError, Global};
 use std::collections::BTreeMap;
 

@@ -2,11 +2,10 @@
 #![tactic(auto)]
 
 pub mod bindings;
+pub mod hidden;
 pub mod namespace;
 pub mod namespace_table;
 pub mod prefix_set;
 pub mod rope;
 pub mod scope;
 pub mod stored_scope;
-pub mod tables;
-pub mod tag_scope;

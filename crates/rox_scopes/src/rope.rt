@@ -2,12 +2,12 @@
 //! a scope shares what it inherits with its parent's.
 
 ghost use Rattle.std.specs.Prelude.{◌≡◌, ◌<◌, ◌≤◌, ◌+◌, ◌-◌, ◌++◌, ℕ, length, take, drop, reverse, slice_index, slice_range, IfOk, IfSome};
-ghost use Rattle.rox_scopes.specs.Tables.{count_at};
+ghost use Rattle.rox_scopes.specs.ScopeRows.{count_at};
 ghost use Rattle.rox_scopes.specs.Scopes.{places_in};
 ghost use Rattle.rox_scopes.specs.Ropes.{AddsRow, AreJoinable, IsAmongRow, IsAmongScope, IsAmongStretch, IsPlaceOf, IsPositionOf, IsRope, IsRow, Joins};
 
 use crate::stored_scope::{Concat, Scope, Stretch};
-use rox_rows::growth::push;
+use rox_storage::growth::push;
 use std::alloc::AllocError;
 
 /// The most scopes that the table holds: the index of each fits in a `u32`.

@@ -1,2 +1,3 @@
 pub mod Storage
 pub mod Words
+pub mod Growth

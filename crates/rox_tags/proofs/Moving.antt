@@ -29,7 +29,7 @@ use Rattle.rox_theory.proofs.NameLemmas.{qname_le, qname_sound}
 use Rattle.rox_theory.proofs.Productions.{char_data_parts}
 use Rattle.rox_theory.proofs.RunLemmas.{raw_sound}
 use Rattle.rox_theory.proofs.TagLemmas.{ends_inside}
-use Rattle.rox_scopes.specs.declared.tables.ElementTables.{ElementTables}
+use Rattle.rox_names.specs.declared.tables.ElementTables.{ElementTables}
 use Rattle.rox_tags.specs.PlainTag.{IsPlainTag}
 use Rattle.rox_names.specs.declared.start_tag.StartTag.{StartTag}
 

@@ -7,10 +7,11 @@ use Rattle.std.specs.Option.{option_map, is_some}
 use Rattle.rox_grammar.specs.WellNamed.{may_name}
 use Rattle.rox_scopes.proofs.Pairs.{declared_some}
 use Rattle.rox_grammar.specs.Tree.{element_namespace}
-use Rattle.rox_rows.specs.Rows.{numbered_place, scope_at, namespace_at}
+use Rattle.rox_rows.specs.Rows.{numbered_place}
+use Rattle.rox_reading.specs.AtIndex.{scope_at, namespace_at}
 use Rattle.rox_scopes.specs.Scopes.{entries, places_in}
-use Rattle.rox_scopes.specs.TagScopes.{lists_in}
-use Rattle.rox_scopes.specs.declared.tables.ElementTables.{ElementTables}
+use Rattle.rox_names.specs.TagScopes.{lists_in}
+use Rattle.rox_names.specs.declared.tables.ElementTables.{ElementTables}
 use Rattle.rox_scopes.specs.declared.stored_scope.Scope.{Scope}
 use Rattle.rox_scopes.proofs.Presenting.{finds_few}
 use Rattle.rox_scopes.proofs.Ropes.{scope_places}

@@ -20,11 +20,12 @@ use Rattle.rox_reading.specs.Lexical.{◌>>=◌, qname_at}
 use Rattle.rox_reading.specs.Markup.{opened, closed}
 use Rattle.rox_reading.specs.Refusals.{lifted}
 use Rattle.rox_reading.specs.Tags.{TagSoFar, Values, attributes_at, tag_tested, taken, uri_tested}
-use Rattle.rox_rows.specs.Rows.{attribute_rows, namespace_at, numbered_place, scope_at}
+use Rattle.rox_rows.specs.Rows.{attribute_rows, numbered_place}
+use Rattle.rox_reading.specs.AtIndex.{namespace_at, scope_at}
 use Rattle.rox_scopes.specs.NamespaceViews.{namespace_view}
 use Rattle.rox_scopes.specs.Scopes.{ArePlaces, PrefixesOnce, entries, pair, places_in}
-use Rattle.rox_scopes.specs.TagScopes.{lists_in, scope_in_tables}
-use Rattle.rox_scopes.specs.declared.tables.ElementTables.{ElementTables}
+use Rattle.rox_names.specs.TagScopes.{lists_in, scope_in_tables}
+use Rattle.rox_names.specs.declared.tables.ElementTables.{ElementTables}
 use Rattle.rox_scopes.specs.declared.namespace.Namespace.{Namespace}
 use Rattle.rox_bytes.proofs.RunLemmas.{stands_within}
 use Rattle.rox_scopes.proofs.Listing.{same_prefix-sym}

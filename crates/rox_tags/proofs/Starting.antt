@@ -19,16 +19,16 @@ use Rattle.rox_grammar.specs.declared.failure.Failure.TheVariants as failure
 use Rattle.rox_values.specs.Refusals.{IsRefusal, of_failure}
 use Rattle.rox_values.specs.declared.parse_error.ParseError.{ParseError}
 use Rattle.rox_values.proofs.PartLemmas.{refuses_by}
-use Rattle.rox_scopes.specs.declared.tables.ElementTables.{ElementTables}
+use Rattle.rox_names.specs.declared.tables.ElementTables.{ElementTables}
 use Rattle.rox_names.specs.declared.unresolved_attribute.UnresolvedAttribute.{UnresolvedAttribute}
 use Rattle.rox_names.specs.declared.start_tag.StartTag.{StartTag}
 use Rattle.rox_rows.specs.Rows.{attribute_rows}
-use Rattle.rox_scopes.specs.Tables.{lists_of, AreScopes}
+use Rattle.rox_scopes.specs.ScopeRows.{lists_of, AreScopes}
 use Rattle.rox_scopes.specs.NamespaceViews.{namespace_view}
 use Rattle.rox_scopes.specs.Scopes.{ArePlaces, PrefixesOnce}
 use Rattle.rox_names.specs.TagDeclarations.{unresolved_view}
 use Rattle.rox_tags.specs.TagState.{HoldsTag}
-use Rattle.rox_scopes.specs.TagScopes.{HasBindings, lists_in, scope_in_tables}
+use Rattle.rox_names.specs.TagScopes.{HasBindings, lists_in, scope_in_tables}
 use Rattle.rox_tags.specs.ElementRow.{IsElement, Tagged}
 
 -- nothing is held before the first attribute

@@ -25,24 +25,26 @@ use Rattle.rox_reading.specs.Refusals.{lifted}
 use Rattle.rox_reading.specs.Tags.{TagSoFar, Values, attribute_with, attributes_at, declared, names_tested, taken, uri_tested}
 use Rattle.rox_scopes.specs.Bindings.{FindsBinding}
 use Rattle.rox_names.specs.ResolvedNames.{AddsResolved, row_of_unresolved}
-use Rattle.rox_rows.specs.Rows.{AttributeRow, NamespaceWithin, attribute, attribute_rows, scope_at}
-use Rattle.rox_scopes.specs.Tables.{AreRows, AreScopes, IsRow, lists_of}
+use Rattle.rox_rows.specs.Rows.{AttributeRow, NamespaceWithin, attribute, attribute_rows}
+use Rattle.rox_reading.specs.AtIndex.{scope_at}
+use Rattle.rox_scopes.specs.ScopeRows.{AreRows, AreScopes, IsRow, lists_of}
 use Rattle.rox_scopes.specs.NamespaceViews.{namespace_view}
 use Rattle.rox_scopes.specs.Scopes.{ArePlaces, PrefixesOnce, entries}
 use Rattle.rox_storage.specs.Storage.{is_borrowed, storage_bytes}
 use Rattle.rox_names.specs.TagDeclarations.{Declares, HasOwn, unresolved_view}
-use Rattle.rox_scopes.specs.TagScopes.{lists_in, scope_in_tables}
+use Rattle.rox_names.specs.TagScopes.{lists_in, scope_in_tables}
 use Rattle.rox_scopes.specs.declared.bindings.PrefixBindings.{PrefixBindings}
 use Rattle.rox_names.specs.declared.unresolved_attribute.UnresolvedAttribute.{UnresolvedAttribute}
 use Rattle.rox_rows.specs.declared.row.AttributeNamespace.{AttributeNamespace}
 use Rattle.rox_rows.specs.declared.row.AttributeNamespace.TheVariants as space
-use Rattle.rox_scopes.specs.declared.tables.ElementTables.{ElementTables}
+use Rattle.rox_names.specs.declared.tables.ElementTables.{ElementTables}
 use Rattle.rox_scopes.specs.declared.stored_scope.Scope.{Scope}
 use Rattle.rox_names.proofs.Declaring.{once_none}
 use Rattle.rox_scopes.proofs.Listing.{with_new-append, with_new-front}
 use Rattle.rox_names.proofs.NameTests.{tested_on}
 use Rattle.rox_scopes.proofs.Remembering.{remembers_none}
-use Rattle.rox_rows.proofs.Stable.{all_append, all_weaker, attribute-append, map_same}
+use Rattle.rox_reading.proofs.Lists.{all_append, all_weaker, map_same}
+use Rattle.rox_rows.proofs.Stable.{attribute-append}
 use Rattle.rox_attributes.specs.PlainAttribute.{AddsPlain, HasScope, IsPlainAttribute, few_in}
 use Rattle.rox_tags.specs.TagAttributes.{AreNoBindings, ArePlainAttributes, DeclaresIn, DeclaresInRoot, HasGrown, HasRootScope, HoldsSoFar, ListsDeclaration, MayBegin, PlainSoFar, first_places, holding}
 use Rattle.rox_tags.specs.declared.quick_tag.TagEnd.{TagEnd}

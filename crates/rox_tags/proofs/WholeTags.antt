@@ -14,10 +14,11 @@ use Rattle.rox_grammar.specs.WellNamed.{may_name}
 use Rattle.rox_grammar.specs.Written.{NamespaceDecl}
 use Rattle.rox_reading.specs.Lexical.{qname_at}
 use Rattle.rox_reading.specs.Tags.{Values, attributes_at, names_tested, tag_tested}
-use Rattle.rox_rows.specs.Rows.{attribute_rows, namespace_at, numbered_place, scope_at}
+use Rattle.rox_rows.specs.Rows.{attribute_rows, numbered_place}
+use Rattle.rox_reading.specs.AtIndex.{namespace_at, scope_at}
 use Rattle.rox_scopes.specs.NamespaceViews.{namespace_view}
-use Rattle.rox_scopes.specs.TagScopes.{lists_in, scope_in_tables}
-use Rattle.rox_scopes.specs.declared.tables.ElementTables.{ElementTables}
+use Rattle.rox_names.specs.TagScopes.{lists_in, scope_in_tables}
+use Rattle.rox_names.specs.declared.tables.ElementTables.{ElementTables}
 use Rattle.rox_scopes.proofs.Listing.{listed-none}
 use Rattle.rox_names.specs.OpenElements.{IsNamespaceOf}
 use Rattle.rox_names.specs.declared.open_element.OpenElement.{OpenElement}

@@ -17,13 +17,14 @@ use Rattle.rox_values.specs.DeclaredEntities.{AreDeclared, values_in}
 use Rattle.rox_values.specs.Refusals.{IsRefusal}
 use Rattle.rox_values.specs.declared.context.Context.{Context}
 use Rattle.rox_values.specs.declared.parse_error.ParseError.{ParseError}
-use Rattle.rox_rows.specs.Rows.{attribute, namespace_at, scope_at, NamespaceWithin, OptionWithin, numbered_place, AttributeRow, attribute_rows}
-use Rattle.rox_scopes.specs.Tables.{AreScopes}
+use Rattle.rox_rows.specs.Rows.{attribute, NamespaceWithin, numbered_place, AttributeRow, attribute_rows}
+use Rattle.rox_reading.specs.AtIndex.{namespace_at, scope_at, OptionWithin}
+use Rattle.rox_scopes.specs.ScopeRows.{AreScopes}
 use Rattle.rox_scopes.specs.NamespaceViews.{namespace_view}
 use Rattle.rox_scopes.specs.Scopes.{ArePlaces, PrefixesOnce}
-use Rattle.rox_scopes.specs.TagScopes.{lists_in, HasBindings, scope_in_tables}
+use Rattle.rox_names.specs.TagScopes.{lists_in, HasBindings, scope_in_tables}
 use Rattle.rox_rows.specs.declared.row.ElementData.{ElementData}
-use Rattle.rox_scopes.specs.declared.tables.ElementTables.{ElementTables}
+use Rattle.rox_names.specs.declared.tables.ElementTables.{ElementTables}
 use Rattle.rox_names.specs.declared.start_tag.StartTag.{StartTag}
 use Rattle.rox_tags.specs.declared.tag.TagContext.{TagContext}
 

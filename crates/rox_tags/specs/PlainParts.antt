@@ -5,10 +5,10 @@ use Rattle.rox_grammar.specs.Chars.{is_part_char, is_space}
 use Rattle.rox_grammar.specs.Runs.{run_end}
 use Rattle.rox_grammar.specs.Written.{Name}
 use Rattle.rox_rows.specs.Rows.{attribute_rows, numbered_place}
-use Rattle.rox_scopes.specs.declared.tables.ElementTables.{ElementTables}
+use Rattle.rox_names.specs.declared.tables.ElementTables.{ElementTables}
 use Rattle.rox_grammar.specs.Document.{most_pairs, most_attributes}
 use Rattle.rox_bytes.specs.ScanResults.{Finds}
-use Rattle.rox_scopes.specs.TagScopes.{scope_in_tables}
+use Rattle.rox_names.specs.TagScopes.{scope_in_tables}
 use Rattle.rox_names.specs.OpenElements.{IsNamespaceOf, MayHavePrefix, open_name}
 use Rattle.rox_names.specs.declared.open_element.OpenElement.{OpenElement}
 use Rattle.rox_grammar.specs.WellNamed.{may_name}

@@ -5,12 +5,12 @@ use Rattle.rox_grammar.specs.declared.fault.Fault.{Fault}
 use Rattle.rox_grammar.specs.Written.{NamespaceDecl, Tag}
 use Rattle.rox_reading.specs.Tags.{Values, tag_at}
 use Rattle.rox_rows.specs.Rows.{AttributeRow, attribute_rows}
-use Rattle.rox_scopes.specs.Tables.{AreScopes}
+use Rattle.rox_scopes.specs.ScopeRows.{AreScopes}
 use Rattle.rox_scopes.specs.NamespaceViews.{namespace_view}
 use Rattle.rox_scopes.specs.Scopes.{ArePlaces}
-use Rattle.rox_scopes.specs.declared.tables.ElementTables.{ElementTables}
+use Rattle.rox_names.specs.declared.tables.ElementTables.{ElementTables}
 use Rattle.rox_grammar.specs.Document.{most_pairs}
-use Rattle.rox_scopes.specs.TagScopes.{HasBindings, scope_in_tables}
+use Rattle.rox_names.specs.TagScopes.{HasBindings, scope_in_tables}
 use Rattle.rox_names.specs.OpenElements.{IsOpenWithin}
 use Rattle.rox_names.specs.declared.open_element.OpenElement.{OpenElement}
 use Rattle.rox_tags.specs.ElementRow.{Tagged}

@@ -4,10 +4,10 @@ use Rattle.rox_grammar.specs.Counts.{has_pair}
 use Rattle.rox_grammar.specs.Tree.{is_declared, is_xml}
 use Rattle.rox_grammar.specs.Written.{Attribute, NamespaceDecl, is_namespace_decl, namespace_decl_of}
 use Rattle.rox_reading.specs.Tags.{uri_tested}
-use Rattle.rox_rows.specs.Rows.{namespace_at}
+use Rattle.rox_reading.specs.AtIndex.{namespace_at}
 use Rattle.rox_scopes.specs.NamespaceViews.{namespace_view}
-use Rattle.rox_scopes.specs.TagScopes.{scope_in_tables}
-use Rattle.rox_scopes.specs.declared.tables.ElementTables.{ElementTables}
+use Rattle.rox_names.specs.TagScopes.{scope_in_tables}
+use Rattle.rox_names.specs.declared.tables.ElementTables.{ElementTables}
 use Rattle.rox_scopes.specs.declared.namespace.Namespace.{Namespace}
 
 -- The places are that of the namespace `d`, and then `around`.

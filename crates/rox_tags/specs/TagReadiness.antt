@@ -5,10 +5,10 @@ use Rattle.rox_scan.specs.Views.{HasValue}
 use Rattle.rox_scan.specs.declared.cursor.Cursor.{Cursor}
 use Rattle.rox_scan.specs.declared.raw_attribute.RawAttribute.{RawAttribute}
 use Rattle.rox_rows.specs.Rows.{attribute_rows}
-use Rattle.rox_scopes.specs.Tables.{AreScopes}
+use Rattle.rox_scopes.specs.ScopeRows.{AreScopes}
 use Rattle.rox_scopes.specs.Scopes.{ArePlaces, PrefixesOnce}
-use Rattle.rox_scopes.specs.TagScopes.{HasBindings, HasBindingsOf, scope_in_tables}
-use Rattle.rox_scopes.specs.declared.tables.ElementTables.{ElementTables}
+use Rattle.rox_names.specs.TagScopes.{HasBindings, HasBindingsOf, scope_in_tables}
+use Rattle.rox_names.specs.declared.tables.ElementTables.{ElementTables}
 
 -- A start tag whose parent has the scope `scope` may be read into the tables `t`.
 pub record MayReadBelow (t : ElementTables) (scope : ℕ) : Type 0 where

@@ -19,13 +19,13 @@ use Rattle.rox_values.specs.declared.parse_error.ParseError.TheVariants as error
 use Rattle.rox_scan.specs.declared.cursor.Cursor.{Cursor}
 use Rattle.rox_scopes.specs.PrefixSet.{IsPrefixSet}
 use Rattle.rox_storage.specs.Storage.{storage_bytes, is_borrowed}
-use Rattle.rox_scopes.specs.Tables.{AreScopes}
+use Rattle.rox_scopes.specs.ScopeRows.{AreScopes}
 use Rattle.rox_scopes.specs.NamespaceViews.{namespace_view}
 use Rattle.rox_scopes.specs.Scopes.{entries, ArePlaces, PrefixesOnce}
 use Rattle.rox_names.specs.TagDeclarations.{unresolved_view, Declares}
-use Rattle.rox_scopes.specs.TagScopes.{HasBindings, lists_in}
+use Rattle.rox_names.specs.TagScopes.{HasBindings, lists_in}
 use Rattle.rox_storage.specs.declared.storage.StringStorage.{StringStorage}
-use Rattle.rox_scopes.specs.declared.tables.ElementTables.{ElementTables}
+use Rattle.rox_names.specs.declared.tables.ElementTables.{ElementTables}
 use Rattle.rox_scopes.specs.declared.stored_scope.OwnDeclarations.{OwnDeclarations}
 use Rattle.rox_names.specs.declared.unresolved_attribute.UnresolvedAttribute.{UnresolvedAttribute}
 use Rattle.rox_values.specs.DeclaredEntities.{AreDeclared, values_in}

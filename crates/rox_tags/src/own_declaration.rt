@@ -12,10 +12,10 @@ use rox_bytes::byte_set::{ValueByte, skip_set};
 use rox_bytes::runs::{after_byte, is_at};
 use rox_names::namespace_decl::declare_new;
 use rox_names::seen_names::SeenNames;
+use rox_names::tables::ElementTables;
 use rox_names::unresolved_attribute::UnresolvedAttribute;
 use rox_scopes::prefix_set::FEW;
 use rox_scopes::stored_scope::{Scope, Stretch};
-use rox_scopes::tables::ElementTables;
 use rox_storage::storage::StringStorage;
 
 /// The scope of a root element: the one after that of the root node.

@@ -21,9 +21,9 @@ use rox_names::open_element::{OpenElement, has_prefix};
 use rox_names::resolve::element_namespace;
 use rox_names::seen_names::SeenNames;
 use rox_names::start_tag::StartTag;
+use rox_names::tables::ElementTables;
 use rox_rows::row::namespace_number;
 use rox_scopes::scope::few_places;
-use rox_scopes::tables::ElementTables;
 use rox_storage::compare::same_text;
 
 /// The end of a start tag: the offset after its `>`, and whether the tag is empty.

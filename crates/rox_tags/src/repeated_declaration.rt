@@ -6,7 +6,7 @@ ghost use Rattle.std.specs.Prelude.{◌≡◌, IfSome, length, true};
 ghost use Rattle.rox_grammar.specs.Failures.{name_view};
 ghost use Rattle.rox_grammar.specs.Written.{is_namespace_decl};
 ghost use Rattle.rox_scopes.specs.Scopes.{ArePlaces, pair, prefix_view};
-ghost use Rattle.rox_scopes.specs.TagScopes.{scope_in_tables};
+ghost use Rattle.rox_names.specs.TagScopes.{scope_in_tables};
 ghost use Rattle.rox_names.specs.TagDeclarations.{unresolved_view};
 ghost use Rattle.rox_tags.specs.PlainParts.{MayReadPlainTag};
 ghost use Rattle.rox_attributes.specs.PlainAttribute.{HasScope};
@@ -21,10 +21,10 @@ use rox_attributes::quick_name::{NamePlace, name_of_part};
 use rox_bytes::runs::after_byte;
 use rox_names::open_element::OpenElement;
 use rox_names::start_tag::StartTag;
+use rox_names::tables::ElementTables;
 use rox_names::unresolved_attribute::UnresolvedAttribute;
 use rox_scopes::namespace::Namespace;
 use rox_scopes::scope::{few_places, is_declared, is_xml, same_prefix};
-use rox_scopes::tables::ElementTables;
 use rox_storage::compare::same_text;
 
 /// The number of scopes that are tried, from the last one on.

@@ -6,11 +6,11 @@ use Rattle.rox_rows.specs.StoredNodes.{is_element, is_text}
 use Rattle.rox_grammar.specs.Forest.{Forest, size}
 use Rattle.rox_grammar.specs.Tree.{Node, Root, Element, Text, Comment, PI}
 use Rattle.rox_rows.specs.Rows.{KindWithin, node, attribute_rows, AttributeRow}
-use Rattle.rox_scopes.specs.Tables.{HoldsTree, names_of, scopes_of}
+use Rattle.rox_names.specs.Tables.{HoldsTree, names_of, scopes_of}
 use Rattle.rox_rows.specs.declared.row.NodeKind.{NodeKind}
 use Rattle.rox_rows.specs.declared.row.NodeKind.TheVariants as kind
 use Rattle.rox_rows.specs.declared.row.NodeData.{NodeData}
-use Rattle.rox_scopes.specs.declared.tables.Tables.{Tables}
+use Rattle.rox_names.specs.declared.tables.Tables.{Tables}
 use Rattle.rox_grammar.specs.Written.{NamespaceDecl}
 use Rattle.roxmltree.specs.Places.{place}
 use Rattle.roxmltree.specs.Stripped.{stripped, stripped_row}

@@ -3,10 +3,10 @@ use Rattle.std.proofs.Common.{◌≡◌, ℕ, ◌<◌, length, get_or, arith}
 use Rattle.rox_grammar.specs.Forest.{Forest, size}
 use Rattle.rox_grammar.specs.Tree as tree
 use Rattle.rox_rows.specs.Rows.{node_rows}
-use Rattle.rox_scopes.specs.Tables.{HoldsTree}
+use Rattle.rox_names.specs.Tables.{HoldsTree}
 use Rattle.rox_rows.specs.StoredNodes.{whole_row, high_at}
 use Rattle.rox_rows.specs.declared.row.NodeData.{NodeData}
-use Rattle.rox_scopes.specs.declared.tables.Tables.{Tables}
+use Rattle.rox_names.specs.declared.tables.Tables.{Tables}
 use Rattle.rox_rows.proofs.StoredNodes.{links_are, count_nodes}
 use Rattle.roxmltree.specs.declared.nodes.Node.{Node}
 use Rattle.roxmltree.proofs.Rows.{row_count}

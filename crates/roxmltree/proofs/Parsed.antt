@@ -21,8 +21,8 @@ use Rattle.rox_theory.proofs.Whole.{seen_parse, doctype_seen, plain_refused, ask
 use Rattle.rox_theory.proofs.ParseParts.{tree_parts, parts_tree}
 use Rattle.rox_prolog.specs.Requests.{AreAllowed}
 use Rattle.rox_build.specs.Built.{Built}
-use Rattle.rox_scopes.specs.Tables.{HoldsTree}
-use Rattle.rox_scopes.specs.declared.tables.Tables.{Tables}
+use Rattle.rox_names.specs.Tables.{HoldsTree}
+use Rattle.rox_names.specs.declared.tables.Tables.{Tables}
 use Rattle.roxmltree.specs.DocumentView.{DocumentView}
 use Rattle.roxmltree.specs.ReadDocument.{IsReadDocument}
 use Rattle.roxmltree.specs.DocumentTables.{HoldsDocument}

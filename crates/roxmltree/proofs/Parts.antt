@@ -4,14 +4,15 @@ use Rattle.std.specs.Option.{option_map}
 use Rattle.rox_grammar.specs.Forest.{Forest, size}
 use Rattle.rox_grammar.specs.Tree.{Node}
 use Rattle.rox_grammar.specs.Written.{NamespaceDecl}
-use Rattle.rox_rows.specs.Rows.{numbered_place, KindWithin, node, scope_at, attribute, namespace_at, attribute_rows, AttributeRow}
-use Rattle.rox_scopes.specs.Tables.{HoldsTree, names_of, scopes_of}
+use Rattle.rox_rows.specs.Rows.{numbered_place, KindWithin, node, attribute, attribute_rows, AttributeRow}
+use Rattle.rox_reading.specs.AtIndex.{scope_at, namespace_at}
+use Rattle.rox_names.specs.Tables.{HoldsTree, names_of, scopes_of}
 use Rattle.rox_scopes.specs.Scopes.{places_in, ArePlaces}
 use Rattle.rox_rows.specs.declared.row.NodeKind.{NodeKind}
 use Rattle.rox_rows.specs.declared.row.NodeKind.TheVariants as kind
 use Rattle.rox_rows.specs.declared.row.NodeData.{NodeData}
 use Rattle.rox_rows.specs.declared.row.ElementData.{ElementData}
-use Rattle.rox_scopes.specs.declared.tables.Tables.{Tables}
+use Rattle.rox_names.specs.declared.tables.Tables.{Tables}
 use Rattle.rox_scopes.proofs.Ropes.{scope_places, all_places}
 use Rattle.roxmltree.specs.Places.{place}
 use Rattle.roxmltree.specs.NodeParts.{namespace_of, listed_of, attributes_of}

@@ -4,9 +4,9 @@ use Rattle.std.proofs.lemmas.List.{get_or-map, length-map, map-append}
 use Rattle.rox_grammar.specs.Forest.{Forest, Nil, Cons, size}
 use Rattle.rox_grammar.specs.Tree.{Node}
 use Rattle.rox_rows.specs.Rows.{RowView, row_view, preorder_rows, attribute_rows}
-use Rattle.rox_scopes.specs.Tables.{names_of, scopes_of, HoldsTree}
+use Rattle.rox_names.specs.Tables.{names_of, scopes_of, HoldsTree}
 use Rattle.rox_rows.specs.declared.row.NodeData.{NodeData}
-use Rattle.rox_scopes.specs.declared.tables.Tables.{Tables}
+use Rattle.rox_names.specs.declared.tables.Tables.{Tables}
 use Rattle.roxmltree.specs.TreeCodes.{flattened, unflattened, unflattened-flattened}
 use Rattle.roxmltree.specs.Places.{Place, places, preorder, place, nowhere, first, parent}
 use Rattle.roxmltree.specs.DocumentTables.{tree_in, nodes_from, HoldsDocument, IsWhole}

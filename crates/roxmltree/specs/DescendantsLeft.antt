@@ -2,7 +2,7 @@
 use Rattle.std.specs.Prelude.{◌≡◌, ℕ, ◌+◌, ◌≤◌, List, length, slice_range}
 use Rattle.std.specs.List.{range_with_len}
 use Rattle.rox_grammar.specs.Forest.{size}
-use Rattle.rox_scopes.specs.Tables.{HoldsTree}
+use Rattle.rox_names.specs.Tables.{HoldsTree}
 use Rattle.roxmltree.specs.DocumentView.{DocumentView}
 use Rattle.roxmltree.specs.NodeRef.{node_refs}
 use Rattle.roxmltree.specs.declared.iterators.Descendants.TheInside.{Inside}

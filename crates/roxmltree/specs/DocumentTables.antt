@@ -5,8 +5,8 @@ use Rattle.rox_grammar.specs.Tree.{Node}
 use Rattle.rox_grammar.specs.Doctype.{Asked}
 use Rattle.rox_grammar.specs.Document.{IsTreeOf}
 use Rattle.rox_rows.specs.Rows.{RowView}
-use Rattle.rox_scopes.specs.Tables.{row_views, HoldsTree}
-use Rattle.rox_scopes.specs.declared.tables.Tables.{Tables}
+use Rattle.rox_names.specs.Tables.{row_views, HoldsTree}
+use Rattle.rox_names.specs.declared.tables.Tables.{Tables}
 use Rattle.roxmltree.specs.TreeCodes.{unflattened}
 use Rattle.roxmltree.specs.DocumentView.{DocumentView}
 use Rattle.roxmltree.specs.declared.tree.Document.TheInside.{Inside}

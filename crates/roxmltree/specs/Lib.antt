@@ -41,6 +41,7 @@ pub use Rattle.rox_reading.specs.Stopping
 pub use Rattle.rox_prolog.specs.Requests
 pub use Rattle.rox_error.specs.FaultErrors
 pub use Rattle.rox_error.specs.Messages
+pub use Rattle.rox_reading.specs.AtIndex
 pub use Rattle.rox_rows.specs.Rows
 pub use Rattle.rox_storage.specs.Storage
 pub use Rattle.rox_scopes.specs.NamespaceViews

@@ -3,9 +3,11 @@ use Rattle.std.specs.Prelude.{◌≡◌, ℕ, List, Option, Some, None, get_or, 
 use Rattle.std.specs.Coded.{Coded, Coded-set, code_by, coded×, coded_ℕ, coded_list, coded_bool, Unit-prop, le_prop}
 use Rattle.rox_grammar.specs.Forest.{Forest}
 use Rattle.rox_grammar.specs.Tree.{Node}
-use Rattle.rox_rows.specs.Rows.{RowView, NamespaceWithin, OptionWithin, KindWithin}
-use Rattle.rox_scopes.specs.Tables.{HoldsTree, IsRow, EndsWithin}
-use Rattle.rox_scopes.specs.declared.tables.Tables.{Tables}
+use Rattle.rox_rows.specs.Rows.{RowView, NamespaceWithin, KindWithin}
+use Rattle.rox_reading.specs.AtIndex.{OptionWithin}
+use Rattle.rox_names.specs.Tables.{HoldsTree}
+use Rattle.rox_scopes.specs.ScopeRows.{IsRow, EndsWithin}
+use Rattle.rox_names.specs.declared.tables.Tables.{Tables}
 use Rattle.rox_rows.specs.declared.row.AttributeNamespace.{AttributeNamespace}
 use Rattle.rox_rows.specs.declared.row.AttributeNamespace.TheVariants as space
 use Rattle.rox_rows.specs.declared.row.NodeKind.{NodeKind}

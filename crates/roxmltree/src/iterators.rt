@@ -4,8 +4,8 @@ ghost use Rattle.std.specs.Prelude.{◌≡◌, ◌∷◌, [], ◌++◌};
 
 use crate::nodes::{Node, NodeId};
 use crate::tree::Document;
+use rox_names::tables::Tables;
 use rox_rows::stored_node::StoredNode;
-use rox_scopes::tables::Tables;
 use std::alloc::AllocError;
 use std::fmt;
 use std::marker::Model;

@@ -9,8 +9,8 @@ ghost use Rattle.roxmltree.specs.Climbing.{up_to};
 
 use crate::iterators::{Axis, AxisIter, Children, Descendants};
 use crate::tree::Document;
+use rox_names::tables::Tables;
 use rox_rows::stored_node::StoredNode;
-use rox_scopes::tables::Tables;
 use std::fmt;
 
 /// The id of a node: its index in document order. The root node has 0.

@@ -15,11 +15,11 @@ use rox_builder::builder::Builder;
 use rox_lists::attributes::Attributes;
 use rox_lists::scopes::{first_in_scope, prefix_in_scope};
 use rox_lists::search::attributes_at;
+use rox_names::tables::{ElementTables, Tables};
 use rox_rows::row::namespace_place;
 use rox_rows::stored_node::{KindRef, RowRef, StoredNode};
 use rox_scopes::namespace::Namespace;
 use rox_scopes::namespace_table::NamespaceTable;
-use rox_scopes::tables::{ElementTables, Tables};
 use std::marker::Model;
 
 /// An XML document as a read-only tree of nodes.
@@ -58,7 +58,7 @@ impl<'input> Document<'input> {
     ghost use Rattle.rox_grammar.specs.Document.{IsTreeOf};
     ghost use Rattle.std.specs.Prelude.{IsUtf8};
     ghost use Rattle.rox_builder.specs.BuilderState.{tables_of};
-    ghost use Rattle.rox_scopes.specs.Tables.{HoldsTree};
+    ghost use Rattle.rox_names.specs.Tables.{HoldsTree};
     ghost use Rattle.rox_rows.specs.StoredNodes.{kind_of};
     ghost use Rattle.roxmltree.specs.DocumentTables.{HoldsDocument};
     ghost use Rattle.roxmltree.specs.Stripped.{stripped, stripped_row, content_in};

@@ -3,7 +3,7 @@
 
 ghost use Rattle.std.specs.Prelude.{◌<◌, IfOk};
 ghost use Rattle.rox_scopes.specs.Ropes.{IsRow};
-ghost use Rattle.rox_scopes.specs.Tables.{AreRows};
+ghost use Rattle.rox_scopes.specs.ScopeRows.{AreRows};
 
 use super::same;
 use rox_scopes::rope::{add, both, count, find, height, without};

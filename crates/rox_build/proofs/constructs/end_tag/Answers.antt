@@ -15,8 +15,8 @@ use Rattle.rox_names.specs.OpenElements.{HasName, IsOpenWithin, open_name}
 use Rattle.rox_names.specs.declared.open_element.OpenElement.{OpenElement}
 use Rattle.rox_grammar.specs.declared.fault.Span.{Span}
 use Rattle.rox_grammar.specs.declared.fault.Fault.TheVariants as fault
-use Rattle.rox_rows.proofs.Stable.{all_take}
-use Rattle.rox_scopes.specs.declared.tables.ElementTables.{ElementTables}
+use Rattle.rox_reading.proofs.Lists.{all_take}
+use Rattle.rox_names.specs.declared.tables.ElementTables.{ElementTables}
 use Rattle.rox_content.proofs.Closing.{all_last}
 use Rattle.rox_builder.proofs.Showing.{last_split}
 use Rattle.std.specs.List.{AllByRecursion}

@@ -2,7 +2,7 @@ use Rattle.std.proofs.Common.{◌≡◌, ◌<◌, ◌-◌, length, get_or, rever
 use Rattle.std.proofs.lemmas.List.{get_or-reverse, length-reverse}
 use Rattle.rox_grammar.specs.Tree.{same_prefix}
 use Rattle.rox_grammar.specs.Written.{NamespaceDecl}
-use Rattle.rox_rows.specs.Rows.{namespace_at}
+use Rattle.rox_reading.specs.AtIndex.{namespace_at}
 use Rattle.rox_scopes.specs.NamespaceViews.{namespace_view}
 use Rattle.rox_scopes.specs.Scopes.{prefix_view}
 use Rattle.rox_scopes.proofs.Pairs.{place_at, uri_here, uri_none_more}

@@ -1,7 +1,7 @@
 use Rattle.std.proofs.Common.{length, map, ap}
 use Rattle.rox_rows.specs.Rows.{attribute}
 use Rattle.rox_scopes.specs.NamespaceViews.{namespace_view}
-use Rattle.rox_rows.proofs.Stable.{all_slice}
+use Rattle.rox_reading.proofs.Lists.{all_slice}
 use Rattle.rox_lists.proofs.AttributeRows.{stretch_rows, all_reach, all_placed}
 use Rattle.rox_lists.proofs.search.attributes_at.Goals as goal
 

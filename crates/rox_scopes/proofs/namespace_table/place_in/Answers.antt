@@ -2,7 +2,7 @@ use Rattle.std.proofs.Common.{◌≡◌, ◌+◌, suc, true, false, map, take, s
 use Rattle.std.proofs.lemmas.List.{length-map}
 use Rattle.rox_grammar.specs.Written.{NamespaceDecl}
 use Rattle.rox_grammar.specs.Document.{same_pair}
-use Rattle.rox_rows.specs.Rows.{namespace_at}
+use Rattle.rox_reading.specs.AtIndex.{namespace_at}
 use Rattle.rox_scopes.specs.NamespaceViews.{namespace_view}
 use Rattle.rox_scopes.specs.PairIndex.{place_of}
 use Rattle.rox_scopes.proofs.Pairs.{namespace_at-get}

@@ -1,5 +1,5 @@
 use Rattle.std.proofs.Common.{◌≡◌, ◌<◌, ◌++◌, [], length, sym, ap, ◌∙◌, arith, append_assoc}
-use Rattle.rox_scopes.specs.Tables.{count_at}
+use Rattle.rox_scopes.specs.ScopeRows.{count_at}
 use Rattle.rox_scopes.specs.Scopes.{places_in}
 use Rattle.rox_scopes.proofs.Ropes.{row_is, if_ok, rope_first, rope_rest, rope_none_first, rope_none_rest}
 use Rattle.rox_scopes.proofs.rope.+both.Goals as goal

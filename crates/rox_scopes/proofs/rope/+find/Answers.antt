@@ -1,5 +1,5 @@
 use Rattle.std.proofs.Common.{◌≡◌, ◌+◌, ◌-◌, ◌<◌, [], arith}
-use Rattle.rox_scopes.specs.Tables.{count_at}
+use Rattle.rox_scopes.specs.ScopeRows.{count_at}
 use Rattle.rox_scopes.proofs.Ropes.{row_found, if_some}
 use Rattle.rox_scopes.proofs.rope.+find.Goals as goal
 

@@ -1,5 +1,5 @@
 use Rattle.std.proofs.Common.{rules, ◌≡◌, ◌+◌, ◌-◌, ◌<◌, ◌≤◌, length, get_or, sym, ap, ◌∙◌, arith, length-append}
-use Rattle.rox_scopes.specs.Tables.{count_at}
+use Rattle.rox_scopes.specs.ScopeRows.{count_at}
 use Rattle.rox_scopes.specs.Scopes.{places_in}
 use Rattle.rox_scopes.proofs.Leaves.{get_front, get_behind}
 use Rattle.rox_scopes.proofs.Ropes.{few_at, back_at, both_at}

@@ -1,5 +1,5 @@
 use Rattle.std.proofs.Common.{◌≡◌, ◌+◌, ◌-◌, ◌<◌, ◌≤◌, [], length, sym, ap, ◌∙◌, arith}
-use Rattle.rox_scopes.specs.Tables.{count_at}
+use Rattle.rox_scopes.specs.ScopeRows.{count_at}
 use Rattle.rox_scopes.specs.Scopes.{places_in}
 use Rattle.rox_scopes.proofs.Leaves.{cut, cut_first, cut_rest}
 use Rattle.rox_scopes.proofs.Ropes.{row_is, row_ends, if_ok, rope_is, rope_first, rope_rest, count_places}

@@ -1,5 +1,5 @@
 use Rattle.std.proofs.Common.{◌≡◌, ◌+◌}
-use Rattle.rox_scopes.specs.Tables.{count_at}
+use Rattle.rox_scopes.specs.ScopeRows.{count_at}
 use Rattle.rox_scopes.proofs.Ropes.{rope_pushed}
 use Rattle.rox_scopes.proofs.rope.pair.Goals as goal
 

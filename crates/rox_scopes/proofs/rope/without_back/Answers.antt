@@ -1,6 +1,6 @@
 use Rattle.std.proofs.Common.{◌-◌, ◌≤◌, ℕ, length, arith}
 use Rattle.std.specs.List.{AllByRecursion}
-use Rattle.rox_scopes.specs.Tables.{EndsWithin}
+use Rattle.rox_scopes.specs.ScopeRows.{EndsWithin}
 use Rattle.rox_scopes.proofs.Leaves.{cut_back}
 use Rattle.rox_scopes.proofs.Ropes.{if_ok, two_put, leaves_rows, rope_leaves}
 use Rattle.rox_scopes.proofs.rope.without_back.Goals as goal

@@ -1,6 +1,5 @@
 use Rattle.std.proofs.Common.{sym}
-use Rattle.rox_scopes.proofs.Ropes.{row_found}
-use Rattle.rox_scopes.proofs.Finding.{few_not}
+use Rattle.rox_scopes.proofs.Ropes.{row_found, few_not}
 use Rattle.rox_scopes.proofs.scope.few_places.Goals as goal
 
 pub returns-in-Few : goal.returns-in-Few

@@ -1,5 +1,5 @@
 use Rattle.std.proofs.Common.{◌∷◌, [], length, sym, ap, subst, ◌∙◌}
-use Rattle.rox_scopes.specs.declared.tables.ElementTables.{ElementTables}
+use Rattle.rox_names.specs.declared.tables.ElementTables.{ElementTables}
 use Rattle.rox_tags.specs.TagAttributes.{ListsDeclaration, first_places}
 use Rattle.rox_tags.proofs.own_declaration.put_declaration.Goals as goal
 

@@ -4,7 +4,7 @@ use Rattle.rox_grammar.specs.Failures.{name_view}
 use Rattle.rox_rows.specs.Rows.{numbered_place}
 use Rattle.rox_scopes.specs.NamespaceViews.{namespace_view}
 use Rattle.rox_names.specs.OpenElements.{open_name}
-use Rattle.rox_scopes.specs.TagScopes.{scope_in_tables}
+use Rattle.rox_names.specs.TagScopes.{scope_in_tables}
 use Rattle.rox_tags.proofs.PlainTags.{named_by, numbered_some}
 use Rattle.rox_tags.proofs.quick_tag.namespace_below.Goals as goal
 

@@ -1,6 +1,6 @@
 use Rattle.std.proofs.Common.{length, rules}
 use Rattle.rox_grammar.specs.Document.{most_pairs}
-use Rattle.rox_rows.proofs.Stable.{option_more}
+use Rattle.rox_reading.proofs.AtIndex.{option_more}
 use Rattle.rox_attributes.proofs.PlainAttributes.{few_within}
 use Rattle.rox_tags.proofs.PlainTags.{few_found}
 use Rattle.rox_tags.proofs.quick_tag.namespace_in_scope.Goals as goal

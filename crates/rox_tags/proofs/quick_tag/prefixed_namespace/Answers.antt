@@ -1,9 +1,9 @@
 use Rattle.std.proofs.Common.{◌<◌, sym, ◌∙◌, length, map, Some}
 use Rattle.rox_grammar.specs.Document.{most_pairs}
 use Rattle.rox_grammar.specs.Failures.{name_view}
-use Rattle.rox_rows.proofs.Stable.{option_more}
+use Rattle.rox_reading.proofs.AtIndex.{option_more}
 use Rattle.rox_scopes.specs.NamespaceViews.{namespace_view}
-use Rattle.rox_scopes.specs.TagScopes.{scope_in_tables}
+use Rattle.rox_names.specs.TagScopes.{scope_in_tables}
 use Rattle.rox_names.proofs.NameTests.{element_some}
 use Rattle.rox_attributes.proofs.PlainAttributes.{few_within, few_once}
 use Rattle.rox_tags.proofs.PlainTags.{few_found, filled_some}

@@ -3,10 +3,11 @@ use Rattle.std.specs.Option.{option_map}
 use Rattle.rox_grammar.specs.Tree.{element_namespace}
 use Rattle.rox_grammar.specs.Written.{Name}
 use Rattle.rox_bytes.proofs.NearLemmas.{part_cut}
-use Rattle.rox_rows.specs.Rows.{numbered_place, namespace_at}
+use Rattle.rox_rows.specs.Rows.{numbered_place}
+use Rattle.rox_reading.specs.AtIndex.{namespace_at}
 use Rattle.rox_scopes.specs.NamespaceViews.{namespace_view}
 use Rattle.rox_names.specs.OpenElements.{open_name}
-use Rattle.rox_scopes.specs.TagScopes.{scope_in_tables}
+use Rattle.rox_names.specs.TagScopes.{scope_in_tables}
 use Rattle.rox_attributes.specs.PlainAttribute.{HasScope}
 use Rattle.rox_tags.specs.TagAttributes.{ArePlainAttributes}
 use Rattle.rox_bytes.proofs.RunLemmas.{stands_within}

@@ -3,8 +3,9 @@ use Rattle.std.proofs.lemmas.Str.{IsCharBoundary-after_ascii}
 use Rattle.std.specs.Option.{option_map}
 use Rattle.rox_grammar.specs.Tree.{element_namespace}
 use Rattle.rox_grammar.specs.Written.{Name}
-use Rattle.rox_scopes.specs.TagScopes.{scope_in_tables}
-use Rattle.rox_rows.specs.Rows.{numbered_place, namespace_at, attribute_rows}
+use Rattle.rox_names.specs.TagScopes.{scope_in_tables}
+use Rattle.rox_rows.specs.Rows.{numbered_place, attribute_rows}
+use Rattle.rox_reading.specs.AtIndex.{namespace_at}
 use Rattle.rox_scopes.specs.NamespaceViews.{namespace_view}
 use Rattle.rox_names.specs.OpenElements.{open_name}
 use Rattle.rox_bytes.proofs.RunLemmas.{stands_within}

@@ -2,7 +2,7 @@ use Rattle.std.proofs.Common.{◌≡◌, Bool, true, false, not, length, slice_i
 use Rattle.std.proofs.lemmas.List.{length-append}
 use Rattle.std.specs.Str.{IsCharBoundary}
 use Rattle.rox_rows.specs.Rows.{attribute_rows}
-use Rattle.rox_scopes.specs.declared.tables.ElementTables.{ElementTables}
+use Rattle.rox_names.specs.declared.tables.ElementTables.{ElementTables}
 use Rattle.rox_names.specs.SeenNames.{AreSeen}
 use Rattle.rox_names.proofs.SeenCodes.{few_seen, seen_kept}
 use Rattle.rox_tags.proofs.PlainTags.{above_no_end}

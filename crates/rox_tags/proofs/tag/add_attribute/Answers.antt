@@ -2,7 +2,7 @@ use Rattle.std.proofs.Common.{rules, refl, sym, subst, ◌∙◌, map}
 use Rattle.std.proofs.lemmas.Result.{err_from_is_err_and}
 use Rattle.rox_scopes.specs.NamespaceViews.{namespace_view}
 use Rattle.rox_scopes.specs.Bindings.{AreBindingsOf}
-use Rattle.rox_scopes.specs.TagScopes.{lists_in}
+use Rattle.rox_names.specs.TagScopes.{lists_in}
 use Rattle.rox_names.specs.TagDeclarations.{unresolved_view}
 use Rattle.rox_tags.proofs.Taking.{took_declaration, refused_declaration, took_attribute}
 use Rattle.rox_tags.proofs.tag.add_attribute.Goals as goal

@@ -7,13 +7,14 @@ use Rattle.std.proofs.lemmas.Result.{err_from_is_err_and}
 use Rattle.rox_grammar.specs.Tree.{attribute_in}
 use Rattle.rox_grammar.specs.Document.{most_attributes, most_pairs}
 use Rattle.rox_grammar.specs.Failures.{name_view}
-use Rattle.rox_rows.specs.Rows.{namespace_at, attribute, scope_at, NamespaceWithin, OptionWithin, AttributeRow, attribute_rows}
+use Rattle.rox_reading.specs.AtIndex.{namespace_at, scope_at, OptionWithin}
+use Rattle.rox_rows.specs.Rows.{attribute, NamespaceWithin, AttributeRow, attribute_rows}
 use Rattle.rox_scopes.specs.NamespaceViews.{namespace_view}
 use Rattle.rox_scopes.specs.Bindings.{places_view}
 use Rattle.rox_names.specs.TagDeclarations.{unresolved_view}
-use Rattle.rox_scopes.specs.TagScopes.{lists_in}
-use Rattle.rox_scopes.proofs.Finding.{looks_for, found_for, seen_by}
-use Rattle.rox_rows.proofs.Stable.{option_more}
+use Rattle.rox_names.specs.TagScopes.{lists_in}
+use Rattle.rox_names.proofs.Finding.{looks_for, found_for, seen_by}
+use Rattle.rox_reading.proofs.AtIndex.{option_more}
 use Rattle.rox_tags.proofs.Starting.{tested_amiss, tested_unknown, tested_known}
 use Rattle.rox_tags.proofs.tag.element_data.Goals as goal
 

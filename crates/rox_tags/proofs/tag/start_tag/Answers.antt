@@ -1,5 +1,5 @@
 use Rattle.std.proofs.Common.{rules, ◌≡◌, ◌≤◌, ◌+◌, [], false, length, map, bytes_eq, refl, sym, ap, subst, ◌∙◌, arith, Ok}
-use Rattle.rox_scopes.specs.declared.tables.ElementTables.{ElementTables}
+use Rattle.rox_names.specs.declared.tables.ElementTables.{ElementTables}
 use Rattle.std.proofs.lemmas.List.{length-map}
 use Rattle.std.proofs.lemmas.Result.{err_from_is_err_and}
 use Rattle.rox_grammar.specs.declared.fault.Word.TheVariants.{Xmlns}
@@ -10,11 +10,12 @@ use Rattle.rox_reading.specs.Lexical.{qname_at}
 use Rattle.rox_reading.specs.Tags.{TagSoFar, attributes_at, tag_tested}
 use Rattle.rox_grammar.specs.Failures.{Fails, name_view}
 use Rattle.rox_values.specs.DeclaredEntities.{values_in}
-use Rattle.rox_rows.specs.Rows.{scope_at, attribute_rows}
-use Rattle.rox_scopes.specs.Tables.{AreScopes}
+use Rattle.rox_reading.specs.AtIndex.{scope_at}
+use Rattle.rox_rows.specs.Rows.{attribute_rows}
+use Rattle.rox_scopes.specs.ScopeRows.{AreScopes}
 use Rattle.rox_scopes.specs.NamespaceViews.{namespace_view}
 use Rattle.rox_scopes.specs.Scopes.{PrefixesOnce}
-use Rattle.rox_scopes.specs.TagScopes.{scope_in_tables}
+use Rattle.rox_names.specs.TagScopes.{scope_in_tables}
 use Rattle.rox_tags.specs.TagState.{IsReadingTag}
 use Rattle.rox_names.proofs.Declaring.{scope_declared, once_none}
 use Rattle.rox_scopes.proofs.Remembering.{remembers_none}

@@ -1,6 +1,6 @@
 use Rattle.std.proofs.Common.{◌≡◌, refl, ap, ◌∙◌, arith, length, set, get_or, ℕ}
 use Rattle.rox_builder.specs.BuilderState.{AreSound}
-use Rattle.rox_scopes.specs.declared.tables.Tables.{Tables}
+use Rattle.rox_names.specs.declared.tables.Tables.{Tables}
 use Rattle.rox_builder.proofs.Finishing.{finish_holds, same_held}
 use Rattle.rox_rows.specs.Rows.{node_rows}
 use Rattle.rox_rows.proofs.StoredNodes.{count_nodes}

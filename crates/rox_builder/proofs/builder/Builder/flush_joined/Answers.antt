@@ -5,7 +5,7 @@ use Rattle.rox_grammar.specs.Written.{Text}
 use Rattle.rox_grammar.specs.State.{scope_of}
 use Rattle.rox_rows.specs.Rows.{node, attribute_rows}
 use Rattle.rox_builder.specs.BuilderState.{names_in}
-use Rattle.rox_scopes.specs.TagScopes.{lists_in}
+use Rattle.rox_names.specs.TagScopes.{lists_in}
 use Rattle.rox_rows.specs.declared.row.NodeKind.{NodeKind}
 use Rattle.rox_rows.specs.declared.row.NodeKind.TheVariants as kind
 use Rattle.rox_rows.specs.declared.row.NodeData.{NodeData}

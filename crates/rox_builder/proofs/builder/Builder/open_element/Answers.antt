@@ -7,7 +7,7 @@ use Rattle.rox_grammar.specs.State.{inside, scope_of}
 use Rattle.rox_reading.specs.State.{State}
 use Rattle.rox_builder.specs.BuilderState.{IsOpening, opened, tag_row}
 use Rattle.rox_names.specs.OpenElements.{open_name}
-use Rattle.rox_scopes.specs.TagScopes.{lists_in}
+use Rattle.rox_names.specs.TagScopes.{lists_in}
 use Rattle.rox_names.specs.declared.open_element.OpenElement.{OpenElement}
 use Rattle.rox_names.specs.SpelledNames.{spelled_name}
 use Rattle.rox_rows.specs.declared.row.NodeKind.{NodeKind}

@@ -1,6 +1,6 @@
 use Rattle.std.proofs.Common.{◌≡◌, ◌-◌, ◌<◌, ℕ, suc, List, [], ◌∷◌, length, get_or, ap, sym, subst, arith}
 use Rattle.rox_names.specs.declared.open_element.OpenElement.{OpenElement}
-use Rattle.rox_scopes.specs.declared.tables.ElementTables.{ElementTables}
+use Rattle.rox_names.specs.declared.tables.ElementTables.{ElementTables}
 use Rattle.rox_builder.specs.BuilderState.{opened_in, last_row}
 use Rattle.rox_builder.proofs.builder.Builder.parent.Goals as goal
 

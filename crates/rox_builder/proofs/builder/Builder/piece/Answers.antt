@@ -12,7 +12,7 @@ use Rattle.rox_rows.specs.Rows.{attribute_rows, node, node_rows}
 use Rattle.rox_rows.specs.declared.row.NodeData.{NodeData}
 use Rattle.rox_rows.specs.declared.row.NodeKind.{NodeKind}
 use Rattle.rox_rows.specs.declared.row.NodeKind.TheVariants as kind
-use Rattle.rox_scopes.specs.TagScopes.{lists_in}
+use Rattle.rox_names.specs.TagScopes.{lists_in}
 use Rattle.rox_theory.proofs.Leaves.{fits_counted}
 use Rattle.rox_values.specs.Values.{IsItsSlice, piece_view}
 use Rattle.rox_builder.specs.BuilderState.{names_in}

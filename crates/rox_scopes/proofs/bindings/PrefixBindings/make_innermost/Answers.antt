@@ -1,6 +1,6 @@
 use Rattle.std.proofs.Common.{rules, ◌≡◌, ◌≤◌, ◌<◌, ◌-◌, ◌++◌, ◌∷◌, ◌∙◌, [], map, length, get_or, ap, subst, sym, refl, arith}
-use Rattle.rox_rows.specs.Rows.{scope_at}
-use Rattle.rox_scopes.specs.Tables.{lists_of}
+use Rattle.rox_reading.specs.AtIndex.{scope_at}
+use Rattle.rox_scopes.specs.ScopeRows.{lists_of}
 use Rattle.rox_scopes.specs.NamespaceViews.{namespace_view}
 use Rattle.rox_scopes.specs.Scopes.{places_in}
 use Rattle.rox_scopes.specs.Bindings.{bound_place, IsBound}

@@ -1,6 +1,6 @@
 use Rattle.std.proofs.Common.{◌≡◌, ◌<◌, ap, subst, arith}
 use Rattle.rox_grammar.specs.Forest.{size}
-use Rattle.rox_scopes.specs.Tables.{HoldsTree}
+use Rattle.rox_names.specs.Tables.{HoldsTree}
 use Rattle.roxmltree.specs.DocumentTables.{tree_in}
 use Rattle.roxmltree.proofs.NodeRows.{in_table}
 use Rattle.roxmltree.proofs.nodes.Node.of.Goals as goal

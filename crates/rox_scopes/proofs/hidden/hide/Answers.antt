@@ -1,13 +1,13 @@
 use Rattle.std.proofs.Common.{rules, ◌≡◌, ◌<◌, true, false, length, map, get_or, sym, subst, arith}
 use Rattle.rox_grammar.specs.Tree.{same_prefix, is_declared}
-use Rattle.rox_rows.specs.Rows.{namespace_at}
+use Rattle.rox_reading.specs.AtIndex.{namespace_at}
 use Rattle.rox_scopes.specs.NamespaceViews.{namespace_view}
 use Rattle.rox_scopes.specs.Scopes.{prefix_view, entries, places_in}
 use Rattle.rox_scopes.proofs.Hiding.{unlisted_none, unlisted_one}
 use Rattle.rox_scopes.proofs.Leaves.{cut}
 use Rattle.rox_scopes.proofs.Ropes.{count_places}
 use Rattle.rox_scopes.proofs.Sharing.{same_listed, rope_listed}
-use Rattle.rox_scopes.proofs.tag_scope.hide.Goals as goal
+use Rattle.rox_scopes.proofs.hidden.hide.Goals as goal
 
 pub returns-in_default : goal.returns-in_default
 returns-in_default c =

@@ -2,7 +2,7 @@ use Rattle.std.proofs.Common.{◌≡◌, ◌-◌, ◌<◌, ◌≤◌, length, ap
 use Rattle.std.proofs.lemmas.Grind.{common_steps}
 use Rattle.rox_scopes.specs.declared.stored_scope.Stretch.{Stretch}
 use Rattle.rox_scopes.proofs.Sharing.{turn_more, turn_ends, turned_listed}
-use Rattle.rox_scopes.proofs.tag_scope.add_back.Goals as goal
+use Rattle.rox_scopes.proofs.hidden.add_back.Goals as goal
 
 pub loop-turn-preserved : goal.loop-turn-preserved
 loop-turn-preserved c =

@@ -2,8 +2,8 @@ use Rattle.std.proofs.Common.{false, map}
 use Rattle.std.specs.List.{slice_range}
 use Rattle.rox_scopes.specs.NamespaceViews.{namespace_view}
 use Rattle.rox_scopes.specs.Scopes.{entries, others}
-use Rattle.rox_scopes.specs.TagScopes.{listed_by, AddsRows}
-use Rattle.rox_scopes.proofs.tag_scope.hide_own.Given as goal
+use Rattle.rox_scopes.specs.Hidden.{listed_by, AddsRows}
+use Rattle.rox_scopes.proofs.hidden.hide_own.Given as goal
 
 abbrev pub invariant-loop-turn : goal.invariant-loop-turn
 invariant-loop-turn l = AddsRows l.fn.tables l.fn.scopes.items l.scopes.items l.left

@@ -1,11 +1,11 @@
 //! The tables of a document: the rows of its nodes and attributes, its namespaces, and the scopes that list them.
 
-use crate::bindings::PrefixBindings;
-use crate::namespace::Namespace;
-use crate::namespace_table::NamespaceTable;
-use crate::stored_scope::Scope;
 use rox_rows::attributes::AttributeTable;
 use rox_rows::node_table::NodeTable;
+use rox_scopes::bindings::PrefixBindings;
+use rox_scopes::namespace::Namespace;
+use rox_scopes::namespace_table::NamespaceTable;
+use rox_scopes::stored_scope::Scope;
 
 /// The tables of a document. An element names one of `scopes`. A scope lists entries of `listed`, which are places: indices into
 /// `namespaces`. An element without declarations has its parent's scope. The first scope lists nothing: it is that of the root
@@ -28,13 +28,4 @@ pub struct ElementTables<'input> {
     pub scopes: Vec<Scope>,
     /// The bindings of prefixes, for scopes that list many.
     pub present: PrefixBindings<'input>,
-}
-
-/// The tables in which prefixes are looked up that a scope lists among many: the namespaces, the listed places, and the bindings
-/// of the innermost scope.
-#[derive(Clone, Copy)]
-pub struct PrefixTables<'a, 'input> {
-    pub namespaces: &'a [Namespace<'input>],
-    pub listed: &'a [u16],
-    pub present: &'a PrefixBindings<'input>,
 }

@@ -5,11 +5,11 @@ use Rattle.rox_grammar.specs.FixedTexts.{word_text}
 use Rattle.rox_scopes.specs.NamespaceViews.{namespace_view}
 use Rattle.rox_scopes.specs.Scopes.{prefix_view, entries, PrefixesOnce}
 use Rattle.rox_scopes.specs.Bindings.{bound_place}
-use Rattle.rox_scopes.specs.TagScopes.{listed_by}
+use Rattle.rox_scopes.specs.Hidden.{listed_by}
 use Rattle.rox_scopes.proofs.Pairs.{place_at}
 use Rattle.rox_scopes.proofs.Hiding.{once_others}
-use Rattle.rox_scopes.proofs.Below.{hides_none, hides_more, hides_xml, hides_own, absent_bound}
-use Rattle.rox_scopes.proofs.tag_scope.hide_own.Goals as goal
+use Rattle.rox_scopes.proofs.HidingOwn.{hides_none, hides_more, hides_xml, hides_own, absent_bound}
+use Rattle.rox_scopes.proofs.hidden.hide_own.Goals as goal
 
 pub loop-turn-init : goal.loop-turn-init
 loop-turn-init c = hides_none (map namespace_view c.args.tables.namespaces.now) c.args.tables.listed.now c.args.scopes.now.items c.args.scope c.args.own.from c.requires.scope.scopes c.requires.scope.within

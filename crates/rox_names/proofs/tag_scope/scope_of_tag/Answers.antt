@@ -1,8 +1,8 @@
 use Rattle.std.proofs.Common.{◌≤◌, length, refl, sym, ◌∙◌, arith}
 use Rattle.std.proofs.lemmas.Bool.{not-true}
-use Rattle.rox_scopes.proofs.Finding.{present_few}
-use Rattle.rox_scopes.proofs.Below.{few_here, has_scope, nothing_listed}
-use Rattle.rox_scopes.proofs.tag_scope.scope_of_tag.Goals as goal
+use Rattle.rox_names.proofs.Finding.{present_few}
+use Rattle.rox_names.proofs.Below.{few_here, has_scope, nothing_listed}
+use Rattle.rox_names.proofs.tag_scope.scope_of_tag.Goals as goal
 
 pub returns-then-not-own : goal.returns-then-not-own
 returns-then-not-own c =

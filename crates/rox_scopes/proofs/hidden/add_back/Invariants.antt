@@ -1,5 +1,5 @@
 use Rattle.rox_scopes.proofs.Sharing.{Turned}
-use Rattle.rox_scopes.proofs.tag_scope.add_back.Given as goal
+use Rattle.rox_scopes.proofs.hidden.add_back.Given as goal
 
 abbrev pub invariant-loop-turn : goal.invariant-loop-turn
 invariant-loop-turn l = Turned l.fn.listed.items l.from l.turn l.end l.listed.items

@@ -1,28 +1,18 @@
 -- What is looked up for a scope: among its places, where they are few, and else by the places of prefixes.
-use Rattle.std.proofs.Common.{◌≡◌, ℕ, zero, suc, ◌<◌, true, false, List, [], ◌∷◌, length, map, get_or, Bor, Option, Some, None, refl, sym, ap, subst, ◌∙◌, arith}
+use Rattle.std.proofs.Common.{◌≡◌, ℕ, true, false, List, length, map, Bor, Option, Some, None, sym, ap, subst, ◌∙◌}
 use Rattle.std.specs.Option.{IfSome, IfNone}
 use Rattle.std.proofs.lemmas.List.{length-map}
 use Rattle.rox_grammar.specs.Written.{NamespaceDecl}
 use Rattle.rox_scopes.specs.declared.namespace.Namespace.{Namespace}
-use Rattle.rox_scopes.specs.declared.tables.ElementTables.{ElementTables}
+use Rattle.rox_names.specs.declared.tables.ElementTables.{ElementTables}
 use Rattle.rox_scopes.specs.declared.stored_scope.Scope.{Scope}
-use Rattle.rox_scopes.specs.declared.stored_scope.Scope.TheVariants as scope
-use Rattle.rox_scopes.specs.declared.stored_scope.Stretch.{Stretch}
-use Rattle.rox_rows.specs.Rows.{scope_at, OptionWithin}
+use Rattle.rox_reading.specs.AtIndex.{scope_at, OptionWithin}
 use Rattle.rox_scopes.specs.NamespaceViews.{namespace_view}
 use Rattle.rox_scopes.specs.Scopes.{entries, places_in, is_few_at, ArePlaces}
 use Rattle.rox_scopes.specs.Bindings.{bound_place, IsBound, FindsBinding, LooksWithin, places_view}
-use Rattle.rox_scopes.specs.TagScopes.{HasBindingsOf, lists_in}
-use Rattle.rox_scopes.proofs.Ropes.{no_row, scope_places, all_places}
+use Rattle.rox_names.specs.TagScopes.{HasBindingsOf, lists_in}
+use Rattle.rox_scopes.proofs.Ropes.{scope_places, all_places}
 use Rattle.rox_scopes.proofs.Presenting.{finds_bound, finds_few}
-
--- a row that is not of few
-pub few_not : (scopes : List Scope) (i : ℕ) → i < length scopes → ((s : Stretch) → get_or scopes i no_row ≡ scope.Few s → ⊥) → is_few_at scopes i ≡ false
-few_not [] i lt h = absurd (omega arith)
-few_not (scope.Few s ∷ ss) zero lt h = absurd (h s refl)
-few_not (scope.Back s ∷ ss) zero lt h = refl
-few_not (scope.Concat b ∷ ss) zero lt h = refl
-few_not (x ∷ ss) (suc i) lt h = few_not ss i (omega arith) h
 
 -- nothing is to be known of few
 pub present_few : (t : ElementTables) (scope : ℕ) → is_few_at t.scopes.items scope ≡ true → HasBindingsOf t scope

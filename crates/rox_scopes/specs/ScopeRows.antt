@@ -1,14 +1,10 @@
--- The tables of a document: what its scopes list, and the tree that the tables hold.
-use Rattle.std.specs.Prelude.{◌≡◌, ℕ, ◌+◌, ◌-◌, ◌^◌, ◌<◌, ◌≤◌, List, [], ◌∷◌, ◌++◌, length, map, reverse, get_or, slice_range}
+-- The rows of scopes, and what each lists.
+use Rattle.std.specs.Prelude.{◌≡◌, ℕ, ◌+◌, ◌-◌, ◌<◌, ◌≤◌, List, [], ◌∷◌, ◌++◌, length, map, reverse, get_or, slice_range}
 use Rattle.std.specs.List.{AllByRecursion}
-use Rattle.rox_grammar.specs.Forest.{Forest}
 use Rattle.rox_grammar.specs.Written.{NamespaceDecl}
-use Rattle.rox_grammar.specs.Tree.{Node}
 use Rattle.rox_scopes.specs.declared.stored_scope.Scope.{Scope}
 use Rattle.rox_scopes.specs.declared.stored_scope.Scope.TheVariants as scope
-use Rattle.rox_scopes.specs.declared.tables.Tables.{Tables}
-use Rattle.rox_rows.specs.Rows.{node_rows, RowView, preorder_rows, namespace_at, attribute_rows, row_view, NamespaceWithin, KindWithin}
-use Rattle.rox_scopes.specs.NamespaceViews.{namespace_view}
+use Rattle.rox_reading.specs.AtIndex.{namespace_at}
 
 -- The places that the scope at the index `i` lists.
 abbrev pub listed_at : List (List ℕ) → ℕ → List ℕ
@@ -64,25 +60,3 @@ EndsWithin listed (scope.Concat b) = Unit {0}
 pub record AreScopes (listed : ℕ) (scopes : List Scope) : Type 0 where
   pub rows : AreRows scopes
   pub within : AllByRecursion (EndsWithin listed) scopes
-
--- Each row names only what the tables have.
-pub record Sound (t : Tables) : Type 0 where
-  pub nodes : AllByRecursion (λ row. KindWithin (length (attribute_rows t.attributes)) (length t.namespaces.items) (length t.scopes.items) row.kind) (node_rows t.nodes)
-  pub attributes : AllByRecursion (λ a. NamespaceWithin (length t.namespaces.items) a.0.namespace) (attribute_rows t.attributes)
-  pub listed : AllByRecursion (λ i. i < length t.namespaces.items) t.listed.items
-  pub scopes : AreScopes (length t.listed.items) t.scopes.items
-
-abbrev pub names_of : Tables → List NamespaceDecl
-names_of t = map namespace_view t.namespaces.items
-
-abbrev pub scopes_of : Tables → List (List NamespaceDecl)
-scopes_of t = lists_of (names_of t) t.listed.items t.scopes.items
-
-abbrev pub row_views : Tables → List RowView
-row_views t = map (row_view (attribute_rows t.attributes) (names_of t) (scopes_of t)) (node_rows t.nodes)
-
--- The tables hold the tree.
-pub record HoldsTree (t : Tables) (tree : Forest Node) : Type 0 where
-  pub rows : row_views t ≡ preorder_rows 0 0 tree
-  pub sound : Sound t
-  pub few : length (node_rows t.nodes) < 2 ^ 32

@@ -1,10 +1,8 @@
 -- The room of a table that grows as a text is read.
 
 use Rattle.std.specs.declared.alloc.Global.{Global}
-use Rattle.std.specs.Prelude.{◌≡◌, ◌<◌, ◌≤◌, ℕ, ◌+◌, ◌-◌, ◌*◌, ◌/◌, ◌^◌, List, [], ◌∷◌, Vec, vec_len, vec_capacity, Result, OnOk, max, min}
+use Rattle.std.specs.Prelude.{◌≡◌, ◌<◌, ◌≤◌, ℕ, ◌+◌, ◌-◌, ◌*◌, ◌/◌, ◌^◌, Bool, [], ◌∷◌, ◌++◌, Vec, vec_len, vec_capacity, Result, OnOk, max, min, if◌then◌else◌}
 use Rattle.std.specs.Vec.{VecUnchanged}
-use Rattle.rox_rows.specs.declared.forecast.RowCounts.{RowCounts}
-use Rattle.rox_rows.specs.declared.row.NodeData.{NodeData}
 
 -- The number `n`, capped at the largest number of 64 bits.
 abbrev pub capped : ℕ → ℕ
@@ -19,11 +17,6 @@ foretold len place end = let rest = capped (len * (end - place)) / max place 1 i
 -- and 4 rows more.
 abbrev pub foreseen : ℕ → ℕ → ℕ → ℕ
 foreseen len place end = max (min (foretold len place end) (capped (len * 8))) (len + len / 8 + 4)
-
--- The offset in bytes where the text of these rows ends: the end of the root node, whose row is the first.
-abbrev pub text_end : List NodeData → ℕ
-text_end [] = 0
-text_end (root ∷ rows) = root.end
 
 -- The rows stay, and there is room for one more unless memory ran out.
 pub record GrowsByOne {A E : Type 0} (old new : Vec A Global) (result : Result (Unit {0}) E) : Type 0 where
@@ -60,9 +53,7 @@ pub record GivesBack {A : Type 0} (old new : Vec A Global) : Type 0 where
   pub room : vec_capacity new ≤ vec_capacity old
   pub none : vec_len old ≡ 0 → 1024 < vec_capacity old → vec_capacity new ≡ 0
 
--- The rows that a text of `bytes` bytes gets room for at first: at most a node for 4 bytes and an attribute for 6 bytes, and some
--- more. They include at least one node.
-pub record IsFirstRoom (bytes : ℕ) (rows : RowCounts) : Type 0 where
-  pub nodes : rows.nodes ≤ bytes / 4 + 16
-  pub some : 0 < rows.nodes
-  pub attributes : rows.attributes ≤ bytes / 6 + 10
+-- A value is appended to a table if `well` is true; otherwise the table stays.
+pub record Pushes {A : Type 0} (value : A) (well : Bool) (old new : Vec A Global) : Type 0 where
+  pub items : new.items ≡ (if well then old.items ++ value ∷ [] else old.items)
+  pub len : vec_len new ≡ (if well then vec_len old + 1 else vec_len old)

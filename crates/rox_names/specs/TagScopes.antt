@@ -1,18 +1,14 @@
 -- The scope of an element, in the tables.
-use Rattle.std.specs.Prelude.{◌≡◌, ℕ, ◌<◌, ◌≤◌, Bool, false, List, ◌++◌, Option, None, length, map, drop, reverse, slice_index_or}
+use Rattle.std.specs.Prelude.{◌≡◌, ℕ, ◌<◌, ◌≤◌, Bool, false, List, ◌++◌, Option, length, map, drop, slice_index_or}
 use Rattle.std.specs.Borrow.{Bor}
-use Rattle.rox_grammar.specs.Tree.{is_declared}
 use Rattle.rox_grammar.specs.Written.{NamespaceDecl}
-use Rattle.rox_rows.specs.Rows.{scope_at}
-use Rattle.rox_scopes.specs.Tables.{lists_of, AreScopes}
+use Rattle.rox_reading.specs.AtIndex.{scope_at}
+use Rattle.rox_scopes.specs.ScopeRows.{lists_of, AreScopes}
 use Rattle.rox_scopes.specs.NamespaceViews.{namespace_view}
 use Rattle.rox_scopes.specs.Bindings.{AreBindingsOf, IsBound, bound_place}
-use Rattle.rox_scopes.specs.Scopes.{entries, places_in, ArePlaces, PrefixesOnce, others, is_few_at}
+use Rattle.rox_scopes.specs.Scopes.{entries, ArePlaces, PrefixesOnce, others, is_few_at}
 use Rattle.rox_scopes.specs.PrefixSet.{IsPrefixSet}
-use Rattle.rox_scopes.specs.Ropes.{IsListed, IsScopeOf}
-use Rattle.rox_scopes.specs.declared.tables.ElementTables.{ElementTables}
-use Rattle.rox_scopes.specs.declared.tables.PrefixTables.{PrefixTables}
-use Rattle.rox_scopes.specs.declared.stored_scope.Scope.{Scope}
+use Rattle.rox_names.specs.declared.tables.ElementTables.{ElementTables}
 use Rattle.rox_scopes.specs.declared.stored_scope.Scope.TheVariants as row
 use Rattle.rox_scopes.specs.declared.stored_scope.Stretch.{Stretch}
 
@@ -43,22 +39,6 @@ pub record HasTagPrefixes (t : ElementTables) (keys : List (Option (Bor (List �
   pub tag : HasOpenTag t above own
   pub prefix_set : IsPrefixSet (map namespace_view t.namespaces.items.items) (drop own t.listed.items) keys
 
--- The declarations that the scope at the index `i` lists.
-abbrev pub listed_by : PrefixTables → List Scope → ℕ → List NamespaceDecl
-listed_by t scopes i = entries (map namespace_view t.namespaces.now) (places_in t.listed.now scopes i)
-
--- Rows may be appended, and the row `scope` lists the declarations `ds`.
-abbrev pub AddsRows : PrefixTables → (old new : List Scope) → ℕ → List NamespaceDecl → Type 0
-AddsRows t old new scope ds = IsListed (map namespace_view t.namespaces.now) t.listed.now old t.listed.now new scope ds
-
--- A tag is read whose parent's scope `above` lists many, each prefix once, and has its bindings. What the tag declares is listed
--- from `from` on.
-pub record IsBelowMany (t : PrefixTables) (scopes : List Scope) (above from : ℕ) : Type 0 where
-  pub scope : IsScopeOf (length t.namespaces.now) t.listed.now scopes above
-  pub own : from ≤ length t.listed.now
-  pub once : PrefixesOnce (listed_by t scopes above)
-  pub bound : IsBound (map namespace_view t.namespaces.now) (bound_place t.present.now) (listed_by t scopes above)
-
 -- The scope `scope` is that of an element whose parent has the scope `above`. Its declarations are those listed from `own` on,
 -- and `xml` if the flag is true.
 pub record HasScope (old new : ElementTables) (above own : ℕ) (xml : Bool) (scope : ℕ) : Type 0 where
@@ -75,22 +55,6 @@ pub record HasScope (old new : ElementTables) (above own : ℕ) (xml : Bool) (sc
   pub once : PrefixesOnce (scope_at (lists_in new) scope)
   pub kept : HasBindings new
   pub present : HasBindingsOf new scope
-
--- The rows list some of `listed`, and `first` is at most its length.
-pub record IsTurnable (listed : List ℕ) (rows : List Scope) (first : ℕ) : Type 0 where
-  pub from : first ≤ length listed
-  pub scopes : AreScopes (length listed) rows
-
--- What is listed from `first` on is listed once more, in reverse order. The new row `scope` reads it in the original order.
-pub record AddsBack (listed : List ℕ) (scopes : List Scope) (after : List ℕ) (rows : List Scope) (first scope : ℕ) : Type 0 where
-  pub value : (namespaces : List NamespaceDecl) → IsListed namespaces listed scopes after rows scope (entries namespaces (drop first listed))
-  pub own : after ≡ listed ++ reverse (drop first listed)
-
--- The scope at the index `i` lists each prefix once, and does not list `prefix` if that has no place.
-pub record MayHide (t : PrefixTables) (scopes : List Scope) (i : ℕ) (prefix : Option (List ℕ)) : Type 0 where
-  pub scope : IsScopeOf (length t.namespaces.now) t.listed.now scopes i
-  pub once : PrefixesOnce (listed_by t scopes i)
-  pub absent : bound_place t.present.now prefix ≡ None → is_declared prefix (listed_by t scopes i) ≡ false
 
 -- The scope `above` is the stretch `stretch` of few.
 pub record HasFewAbove (t : ElementTables) (keys : List (Option (Bor (List ℕ)))) (above own : ℕ) (stretch : Stretch) : Type 0 where

@@ -1,16 +1,16 @@
 use Rattle.std.proofs.Common.{◌≡◌, ◌≤◌, length, map, drop, refl, subst, arith}
 use Rattle.std.proofs.lemmas.Bool.{not-true}
-use Rattle.rox_scopes.specs.declared.tables.ElementTables.{ElementTables}
-use Rattle.rox_rows.specs.Rows.{scope_at}
-use Rattle.rox_scopes.specs.Tables.{lists_of, AreScopes}
+use Rattle.rox_names.specs.declared.tables.ElementTables.{ElementTables}
+use Rattle.rox_reading.specs.AtIndex.{scope_at}
+use Rattle.rox_scopes.specs.ScopeRows.{lists_of, AreScopes}
 use Rattle.rox_scopes.specs.NamespaceViews.{namespace_view}
 use Rattle.rox_scopes.specs.Scopes.{entries, others, PrefixesOnce}
 use Rattle.rox_scopes.specs.Bindings.{IsBound, bound_place}
-use Rattle.rox_scopes.specs.TagScopes.{lists_in}
-use Rattle.rox_scopes.proofs.Finding.{present_by}
+use Rattle.rox_names.specs.TagScopes.{lists_in}
+use Rattle.rox_names.proofs.Finding.{present_by}
 use Rattle.rox_scopes.proofs.Ropes.{scope_places, scopes_more}
-use Rattle.rox_scopes.proofs.Below.{hidden_in, joined_listed, kept_then, stood_in, entered_in, entered, has_scope, nothing_listed}
-use Rattle.rox_scopes.proofs.tag_scope.scope_below_many.Goals as goal
+use Rattle.rox_names.proofs.Below.{hidden_in, joined_listed, kept_then, stood_in, entered_in, entered, has_scope, nothing_listed}
+use Rattle.rox_names.proofs.tag_scope.scope_below_many.Goals as goal
 
 pub returns-then-not-own : goal.returns-then-not-own
 returns-then-not-own c =

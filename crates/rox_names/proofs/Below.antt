@@ -1,96 +1,34 @@
 -- The scope of an element, below that of the one around it.
-use Rattle.std.proofs.Common.{◌≡◌, ℕ, zero, suc, ◌+◌, ◌-◌, ◌<◌, ◌≤◌, Bool, true, false, List, [], ◌∷◌, ◌++◌, Option, Some, None, length, map, take, drop, reverse, get_or, Bor, refl, sym, ap, subst, ◌∙◌, arith, length-drop, append_assoc}
+use Rattle.std.proofs.Common.{◌≡◌, ℕ, zero, suc, ◌+◌, ◌-◌, ◌<◌, ◌≤◌, Bool, true, false, List, [], ◌∷◌, ◌++◌, Option, length, map, drop, reverse, get_or, Bor, refl, sym, ap, subst, ◌∙◌, arith, append_assoc}
 use Rattle.std.specs.List.{slice_range}
-use Rattle.std.specs.Option.{option_map}
 use Rattle.std.proofs.Math.ListN.{drop_of_length-le}
-use Rattle.std.proofs.lemmas.List.{append-nil, map-append, length-map, take_all, reverse-reverse}
+use Rattle.std.proofs.lemmas.List.{append-nil, map-append, length-map, reverse-reverse}
 use Rattle.std.proofs.Math.Seq.{drop-append_seam}
-use Rattle.rox_grammar.specs.declared.fault.Word.TheVariants.{Xml}
-use Rattle.rox_grammar.specs.FixedTexts.{word_text}
 use Rattle.rox_grammar.specs.Written.{NamespaceDecl}
-use Rattle.rox_grammar.specs.Tree.{is_declared}
 use Rattle.rox_scopes.specs.declared.namespace.Namespace.{Namespace}
 use Rattle.rox_scopes.specs.declared.stored_scope.Scope.{Scope}
 use Rattle.rox_scopes.specs.declared.stored_scope.Scope.TheVariants as scope
 use Rattle.rox_scopes.specs.declared.stored_scope.Stretch.{Stretch}
-use Rattle.rox_scopes.specs.declared.tables.ElementTables.{ElementTables}
+use Rattle.rox_names.specs.declared.tables.ElementTables.{ElementTables}
 use Rattle.rox_scopes.specs.declared.bindings.PrefixBindings.{PrefixBindings}
-use Rattle.rox_rows.specs.Rows.{namespace_at, scope_at}
-use Rattle.rox_scopes.specs.Tables.{lists_of, AreRows, AreScopes}
+use Rattle.rox_reading.specs.AtIndex.{namespace_at, scope_at}
+use Rattle.rox_scopes.specs.ScopeRows.{lists_of, AreRows, AreScopes}
 use Rattle.rox_scopes.specs.NamespaceViews.{namespace_view}
-use Rattle.rox_scopes.specs.Scopes.{entries, places_in, ArePlaces, PrefixesOnce, others, unlisted, is_few_at}
+use Rattle.rox_scopes.specs.Scopes.{entries, places_in, ArePlaces, PrefixesOnce, others, is_few_at}
 use Rattle.rox_scopes.specs.Ropes.{IsRope, IsListed, IsScopeOf}
 use Rattle.rox_scopes.specs.Bindings.{AreBindingsOf, IsBound, IsEntered, bound_place}
-use Rattle.rox_scopes.specs.TagScopes.{HasFewAbove, HasOpenTag, HasScope, HasBindings, HasBindingsOf, lists_in}
-use Rattle.rox_scopes.proofs.Pairs.{place_at, namespace_at-get, declared_none}
-use Rattle.rox_reading.proofs.Stretches.{slice-more, slice-rest}
+use Rattle.rox_names.specs.TagScopes.{HasFewAbove, HasOpenTag, HasScope, HasBindings, HasBindingsOf, lists_in}
+use Rattle.rox_reading.proofs.Stretches.{slice-rest}
 use Rattle.rox_scopes.proofs.Presenting.{keeps_grown}
-use Rattle.rox_scopes.proofs.Hiding.{others_more, others_none, others_xml, absent_others, once_both}
-use Rattle.rox_scopes.proofs.Sharing.{inherits_listed, places_behind, same_listed, listed_then}
+use Rattle.rox_scopes.proofs.Hiding.{others_none, once_both}
+use Rattle.rox_scopes.proofs.Sharing.{inherits_listed, places_behind, same_listed}
 use Rattle.rox_scopes.proofs.Ropes.{scope_places, row_places, length-lists, places_in-grown, places_in-listed, lists-grown, lists-listed, scopes_more}
 
-pub listed_is : (namespaces : List NamespaceDecl) (listed after : List ℕ) (old new : List Scope) (a : ℕ) (ds es : List NamespaceDecl) → IsListed namespaces listed old after new a ds → ds ≡ es → IsListed namespaces listed old after new a es
-listed_is namespaces listed after old new a ds es x is = subst (IsListed namespaces listed old after new a) is x
-
--- ---- what the element declares is hidden
-
-pub hides_none : (namespaces : List NamespaceDecl) (listed : List ℕ) (scopes : List Scope) (i own : ℕ) → AreScopes (length listed) scopes → i < length scopes
-    → IsListed namespaces listed scopes listed scopes i (others (entries namespaces (slice_range listed own own)) false (entries namespaces (places_in listed scopes i)))
-hides_none namespaces listed scopes i own h lt =
-    let none : own - own ≡ 0 = omega arith in
-    let nothing : slice_range listed own own ≡ [] = ap (λ n. take n (drop own listed)) none in
-    let ds = entries namespaces (places_in listed scopes i) in
-    same_listed namespaces listed scopes i (others (entries namespaces (slice_range listed own own)) false ds) h lt (sym (ap (λ xs. others (entries namespaces xs) false ds) nothing ∙ others_none ds))
-
-pub hides_more : (rows : List Namespace) (listed : List ℕ) (old mid new : List Scope) (own turn place left next : ℕ) (item : Namespace) (p : Option (List ℕ)) (ds : List NamespaceDecl)
-    → own ≤ turn → turn < length listed → ArePlaces (length rows) listed → place ≡ get_or listed turn 0 → p ≡ (namespace_view (get_or rows place item)).prefix
-    → IsListed (map namespace_view rows) listed old listed mid left (others (entries (map namespace_view rows) (slice_range listed own turn)) false ds)
-    → IsListed (map namespace_view rows) listed mid listed new next (unlisted p (entries (map namespace_view rows) (places_in listed mid left)))
-    → IsListed (map namespace_view rows) listed old listed new next (others (entries (map namespace_view rows) (slice_range listed own (turn + 1))) false ds)
-hides_more rows listed old mid new own turn place left next item p ds le lt ok same is x y =
-    let namespaces = map namespace_view rows in
-    let seen = slice_range listed own turn in
-    let last = get_or listed turn 0 in
-    let here : place < length rows = subst (λ i. i < length rows) (sym same) (place_at (length rows) listed turn 0 ok lt) in
-    let prefix : p ≡ (namespace_at namespaces last).prefix = is ∙ ap (λ (d : NamespaceDecl). d.prefix) (sym (namespace_at-get rows place item here)) ∙ ap (λ i. (namespace_at namespaces i).prefix) same in
-    let more : entries namespaces (slice_range listed own (turn + 1)) ≡ entries namespaces seen ++ namespace_at namespaces last ∷ [] =
-    ap (entries namespaces) (slice-more listed own turn 0 le lt) ∙ map-append (namespace_at namespaces) seen (last ∷ []) in
-    listed_is namespaces listed listed old new next (unlisted p (entries namespaces (places_in listed mid left))) (others (entries namespaces (slice_range listed own (turn + 1))) false ds)
-    (listed_then namespaces listed old mid new left next (others (entries namespaces seen) false ds) (unlisted p (entries namespaces (places_in listed mid left))) x y)
-    (ap (unlisted p) x.lists ∙ ap (λ q. unlisted q (others (entries namespaces seen) false ds)) prefix ∙ others_more (entries namespaces seen) (namespace_at namespaces last) ds ∙ ap (λ xs. others xs false ds) (sym more))
-
-pub hides_all : (listed : List ℕ) (own turn : ℕ) → length listed ≤ turn → slice_range listed own turn ≡ drop own listed
-hides_all listed own turn le = take_all (turn - own) (drop own listed) (rw length-drop (omega arith))
-
--- all of it, and `xml` too if the flag says so
-pub hides_xml : (namespaces : List NamespaceDecl) (listed : List ℕ) (old mid new : List Scope) (own turn left next : ℕ) (xml : Bool) (ds : List NamespaceDecl) → length listed ≤ turn → xml ≡ true
-    → IsListed namespaces listed old listed mid left (others (entries namespaces (slice_range listed own turn)) false ds)
-    → IsListed namespaces listed mid listed new next (unlisted (Some (word_text Xml)) (entries namespaces (places_in listed mid left)))
-    → IsListed namespaces listed old listed new next (others (entries namespaces (drop own listed)) xml ds)
-hides_xml namespaces listed old mid new own turn left next xml ds le on x y =
-    let seen = slice_range listed own turn in
-    let mine = entries namespaces (drop own listed) in
-    listed_is namespaces listed listed old new next (unlisted (Some (word_text Xml)) (entries namespaces (places_in listed mid left))) (others mine xml ds)
-    (listed_then namespaces listed old mid new left next (others (entries namespaces seen) false ds) (unlisted (Some (word_text Xml)) (entries namespaces (places_in listed mid left))) x y)
-    (ap (unlisted (Some (word_text Xml))) x.lists ∙ others_xml (entries namespaces seen) ds ∙ ap (λ xs. others (entries namespaces xs) true ds) (hides_all listed own turn le) ∙ ap (λ b. others mine b ds) (sym on))
-
-pub hides_own : (namespaces : List NamespaceDecl) (listed : List ℕ) (old mid : List Scope) (own turn left : ℕ) (xml : Bool) (ds : List NamespaceDecl) → length listed ≤ turn → xml ≡ false
-    → IsListed namespaces listed old listed mid left (others (entries namespaces (slice_range listed own turn)) false ds) → IsListed namespaces listed old listed mid left (others (entries namespaces (drop own listed)) xml ds)
-hides_own namespaces listed old mid own turn left xml ds le off x =
-    listed_is namespaces listed listed old mid left (others (entries namespaces (slice_range listed own turn)) false ds) (others (entries namespaces (drop own listed)) xml ds) x
-    (ap (λ xs. others (entries namespaces xs) false ds) (hides_all listed own turn le) ∙ ap (λ b. others (entries namespaces (drop own listed)) b ds) (sym off))
-
--- as the tables have it
+-- what the element declares is hidden, as the tables have it
 pub hidden_in : (namespaces seen : List Namespace) (ls seen_ls : List ℕ) (scopes mid : List Scope) (above own i : ℕ) (xml : Bool) → seen ≡ namespaces → seen_ls ≡ ls
     → IsListed (map namespace_view seen) seen_ls scopes seen_ls mid i (others (entries (map namespace_view seen) (drop own seen_ls)) xml (entries (map namespace_view seen) (places_in seen_ls scopes above)))
     → IsListed (map namespace_view namespaces) ls scopes ls mid i (others (entries (map namespace_view namespaces) (drop own ls)) xml (scope_at (lists_of (map namespace_view namespaces) ls scopes) above))
 hidden_in namespaces seen ls seen_ls scopes mid above own i xml n l x = rw (scope_places (map namespace_view namespaces) ls scopes above, sym n, sym l) x
-
--- a prefix without a place is not among what is left
-pub absent_bound : (namespaces : List NamespaceDecl) (f : Option (List ℕ) → Option ℕ) (own ds left : List NamespaceDecl) (xml : Bool) (p : Option (List ℕ)) → IsBound namespaces f ds → left ≡ others own xml ds → f p ≡ None
-    → is_declared p left ≡ false
-absent_bound namespaces f own ds left xml p h e none =
-    ap (is_declared p) e ∙ absent_others own xml p ds (declared_none ds p (sym (h.uris p) ∙ ap (option_map (λ i. (namespace_at namespaces i).uri)) none))
 
 -- ---- rows of both
 

@@ -2,8 +2,8 @@
 //! large growth is refused, a smaller one is tried.
 
 ghost use Rattle.std.specs.Prelude.{is_ok, IfOk};
-ghost use Rattle.rox_rows.specs.Growth as growth;
-ghost use Rattle.rox_rows.specs.Puts.{Pushes};
+ghost use Rattle.rox_storage.specs.Growth as growth;
+ghost use Rattle.rox_storage.specs.Growth.{Pushes};
 
 use std::alloc::{AllocError, Global};
 
@@ -91,11 +91,7 @@ pub fn with_room<T: Drop>(alloc: Global, room: usize) -> Vec<T>
 /// Returns an empty table with room for `room` rows. If that is refused and `room` is above `SMALL`, the table has room for
 /// `fewer` rows.
 #[inline(always)]
-pub(crate) fn first_room<T: Drop>(
-    alloc: Global,
-    room: usize,
-    fewer: usize,
-) -> Result<Vec<T>, AllocError>
+pub fn first_room<T: Drop>(alloc: Global, room: usize, fewer: usize) -> Result<Vec<T>, AllocError>
     ensures { IfOk result (growth.HasFirstRoom room fewer) }
 {
     if let Ok(table) = Vec::with_capacity(alloc, room) {

@@ -2,14 +2,14 @@ use Rattle.std.proofs.Common.{rules, ◌≡◌, ◌<◌, ◌≤◌, length, get_
 use Rattle.std.proofs.lemmas.List.{take_all}
 use Rattle.rox_grammar.specs.Tree.{same_prefix, uri_of}
 use Rattle.rox_grammar.specs.Written.{NamespaceDecl}
-use Rattle.rox_rows.specs.Rows.{namespace_at}
-use Rattle.rox_scopes.specs.Tables.{count_at}
+use Rattle.rox_reading.specs.AtIndex.{namespace_at}
+use Rattle.rox_scopes.specs.ScopeRows.{count_at}
 use Rattle.rox_scopes.specs.NamespaceViews.{namespace_view}
 use Rattle.rox_scopes.specs.Scopes.{prefix_view, entries, places_in}
 use Rattle.rox_scopes.specs.Bindings.{bound_namespace}
 use Rattle.rox_scopes.proofs.Pairs.{namespace_at-get, uri_none_more, declared_none}
 use Rattle.rox_scopes.proofs.Ropes.{count_places}
-use Rattle.rox_scopes.proofs.tag_scope.index_of.Goals as goal
+use Rattle.rox_scopes.proofs.hidden.index_of.Goals as goal
 
 pub returns-in_default : goal.returns-in_default
 returns-in_default c = c.requires.absent (ap bound_namespace (sym c.in_default.ensures))
