@@ -1,5 +1,5 @@
-//! Worked answers of the public calls, in tables, where no dump of a text shows them: the rows that one shows are in the folder `texts`.
-//! Those of paths and of the callers of `rox_uses`. The crate has only tests.
+//! Worked answers of the public calls, of paths and of the callers of `rox_uses`, where no dump of a text, no command and no example
+//! shows them. The crate has only tests.
 #![tactic(auto)]
 
 #[cfg(test)]

@@ -1,8 +1,10 @@
 //! Every text `<r>`..`</r>` of up to four pieces, and what stands in it as the text of an entity.
 
+ghost use Rattle.std.specs.Prelude.{◌≡◌, Some};
+
 use super::slices::{exchanged, reparsed};
-use super::{answered_by, child_count, declared, declared_refusal, document_of, refusal_of, same};
-use roxmltree::{Document, Error, Node, ResolveWith};
+use super::{child_count, document_of, is_refused, same};
+use roxmltree::{Document, Error, Node, ParsingOptions, ResolveWith};
 use std::alloc::{AllocError, Global};
 use std::process::Abort;
 
@@ -19,7 +21,7 @@ const PIECES: [(&str, bool); 6] = [
 /// How many rows of up to four pieces there are.
 const ROWS: usize = 1 + 6 + 36 + 216 + 1296;
 
-/// A text, and how many children its root element has.
+/// A text, and how many nodes a row of pieces in it is.
 #[derive(Drop)]
 struct Case {
     text: String,
@@ -28,7 +30,7 @@ struct Case {
 
 /// The text of a row of pieces between two others: the digits of its number from the last, 1 to 6 in base 6. A piece `x` is
 /// written as another text.
-fn case_within(alloc: Global, row: usize, [open, x, close]: [&str; 3]) -> Result<Case, AllocError> {
+fn case_of(alloc: Global, row: usize, [open, x, close]: [&str; 3]) -> Result<Case, AllocError> {
     let mut text = String::from_str(alloc, open)?;
     let children = push_pieces(&mut text, row, x)?;
     text.push_str(close)?;
@@ -55,107 +57,79 @@ fn push_pieces(text: &mut String, row: usize, x: &str) -> Result<usize, AllocErr
     Ok(children)
 }
 
-/// The text whose root element has a row of pieces.
-fn case_of(alloc: Global, row: usize) -> Result<Case, AllocError> {
-    case_within(alloc, row, ["<r>", "x", "</r>"])
-}
-
 /// The text of a case without its last byte, a `>`.
 fn cut(case: &Case) -> &str {
     case.text.as_str().strip_suffix('>').unwrap_or("")
 }
 
-/// Wants the root element of a case to have so many children, and the case that is cut to be refused so.
-fn is_read(rt: &impl Abort, case: &Case, children: usize, error: Error) {
-    same(rt, case.text.as_str(), children, case.children);
-    same(rt, cut(case), error, Error::UnexpectedEndOfStream);
-}
-
-/// How many children the root element of this text has.
-fn children_of(rt: &(impl Abort + AllocGlobal), text: &str) -> usize {
-    let document = document_of(rt, text);
-    child_count(&document.root_element())
-}
-
-/// The same of a text that may have a document type declaration.
-fn declared_children_of(rt: &(impl Abort + AllocGlobal), text: &str) -> usize {
-    let document = declared(rt, text);
-    child_count(&document.root_element())
+/// Wants a root element to have so many children, also where it is parsed alone, and to take its own place.
+fn is_read(
+    root: &Node<'_, '_>,
+    document: &Document<'_>,
+    rt: &(impl Abort + AllocGlobal),
+    case: &Case,
+) {
+    let text = case.text.as_str();
+    same(rt, text, root.children().count(), case.children);
+    same(rt, text, child_count(&reparsed(root, rt)), case.children);
+    same(rt, text, exchanged(root, document, rt).as_str(), text);
 }
 
 #[test]
 fn texts_of_pieces(rt: HostRuntime) {
     for row in 0..ROWS {
-        let case = case_of(rt.alloc(), row).expect(&rt, "memory");
-        let children = children_of(&rt, case.text.as_str());
-        is_read(&rt, &case, children, refusal_of(&rt, cut(&case)));
+        let case = case_of(rt.alloc(), row, ["<r>", "x", "</r>"]).expect(&rt, "memory");
+        let document = document_of(&rt, case.text.as_str());
+        is_read(&document.root_element(), &document, &rt, &case);
+        is_refused(&rt, cut(&case), Error::UnexpectedEndOfStream);
     }
 }
 
-#[test]
-fn texts_of_pieces_and_an_entity(rt: HostRuntime) {
-    let parts = ["<!DOCTYPE r [<!ENTITY a 'x'>]><r>", "&a;", "</r>"];
-    for row in 0..ROWS {
-        let case = case_within(rt.alloc(), row, parts).expect(&rt, "memory");
-        let children = declared_children_of(&rt, case.text.as_str());
-        is_read(&rt, &case, children, declared_refusal(&rt, cut(&case)));
-    }
+/// What is asked where a document type declaration may stand, and this resolver answers.
+fn answered_by<R>(resolver: R) -> ParsingOptions<R>
+    ensures { result.entity_resolver ≡ Some resolver }
+{
+    let mut options = ParsingOptions::with_resolver(resolver);
+    options.allow_dtd = true;
+    options
 }
 
-#[test]
-fn pieces_in_an_entity(rt: HostRuntime) {
-    let parts = ["<!DOCTYPE r [<!ENTITY a '", "x", "'>]><r>&a;</r>"];
-    for row in 0..ROWS {
-        let case = case_within(rt.alloc(), row, parts).expect(&rt, "memory");
-        let text = case.text.as_str();
-        same(&rt, text, declared_children_of(&rt, text), case.children);
-    }
-}
-
-/// The children of the root element where each external entity of this text has one answer.
-fn answered_children_of<'input>(
-    rt: &(impl Abort + AllocGlobal),
+/// How many children the root element of a text has where each external entity has one answer.
+fn answered<'input>(
+    rt: &impl AllocGlobal,
     text: &'input str,
     answer: &'input str,
-) -> usize {
+) -> Result<usize, Error> {
     let options = answered_by(ResolveWith::new(|_id, _uri| Ok(Some(answer))));
-    let document = Document::parse_with_options(rt.alloc(), text, options).expect(rt, answer);
-    child_count(&document.root_element())
-}
-
-#[test]
-fn pieces_in_an_answer(rt: HostRuntime) {
-    let main = "<!DOCTYPE r [<!ENTITY a SYSTEM 'u'>]><r>&a;</r>";
-    for row in 0..ROWS {
-        let case = case_within(rt.alloc(), row, ["", "x", ""]).expect(&rt, "memory");
-        let answer = case.text.as_str();
-        let children = answered_children_of(&rt, main, answer);
-        same(&rt, answer, children, case.children);
+    match Document::parse_with_options(rt.alloc(), text, options) {
+        Ok(document) => Ok(child_count(&document)),
+        Err(error) => Err(error),
     }
 }
 
-/// Wants the root element of a text to have so many children where it is parsed alone, and to take its own place.
-fn stands_alone(rt: &(impl Abort + AllocGlobal), text: &str, children: usize) {
-    let document = document_of(rt, text);
-    is_alone(&document.root_element(), &document, rt, text, children);
-}
+/// A text with an entity in place of `x`, one with an entity of the pieces, and one whose entity is elsewhere.
+const MAIN: [&str; 3] = ["<!DOCTYPE r [<!ENTITY a 'x'>]><r>", "&a;", "</r>"];
 
-fn is_alone(
-    root: &Node<'_, '_>,
-    document: &Document<'_>,
-    rt: &(impl Abort + AllocGlobal),
-    text: &str,
-    children: usize,
-) {
-    let count = child_count(&reparsed(root, rt).root_element());
-    same(rt, text, count, children);
-    same(rt, text, exchanged(root, document, rt).as_str(), text);
+const INNER: [&str; 3] = ["<!DOCTYPE r [<!ENTITY a '", "x", "'>]><r>&a;</r>"];
+
+const OUTER: &str = "<!DOCTYPE r [<!ENTITY a SYSTEM 'u'>]><r>&a;</r>";
+
+/// Wants the answer for a text with a row of pieces in it.
+fn is_answered(rt: &(impl Abort + AllocGlobal), row: usize, parts: [&str; 3]) {
+    let case = case_of(rt.alloc(), row, parts).expect(rt, "memory");
+    let answer = answered(rt, case.text.as_str(), "");
+    same(rt, case.text.as_str(), answer, Ok(case.children));
+    let answer = answered(rt, cut(&case), "");
+    same(rt, cut(&case), answer, Err(Error::UnexpectedEndOfStream));
 }
 
 #[test]
-fn root_elements_of_pieces(rt: HostRuntime) {
+fn pieces_and_entities(rt: HostRuntime) {
     for row in 0..ROWS {
-        let case = case_of(rt.alloc(), row).expect(&rt, "memory");
-        stands_alone(&rt, case.text.as_str(), case.children);
+        is_answered(&rt, row, MAIN);
+        is_answered(&rt, row, INNER);
+        let case = case_of(rt.alloc(), row, ["", "x", ""]).expect(&rt, "memory");
+        let answer = answered(&rt, OUTER, case.text.as_str());
+        same(&rt, case.text.as_str(), answer, Ok(case.children));
     }
 }

@@ -1,8 +1,8 @@
 //! Elements parsed alone, and put in the place of others.
 
-use super::limits::{declaring, has_too_many_namespaces};
-use super::{child_count, declared, document_of, node_of, same};
-use roxmltree::{Document, Node};
+use super::limits::declaring;
+use super::{document_of, is_refused, node_of, same};
+use roxmltree::{Document, Error, Node, ParsingOptions};
 use std::process::Abort;
 
 /// The text that a node is in, with the root element of another text in its place.
@@ -25,30 +25,32 @@ pub(super) fn reparsed<'input>(
     node.reparse(rt.alloc()).expect(rt, "memory")
 }
 
-/// Wants the nodes of these ids to stand from one byte up to another.
-fn stand(document: &Document<'_>, rt: &impl Abort, wanted: &[(u32, usize, usize)]) {
-    for (id, start, end) in wanted {
-        let range = node_of(document, rt, *id).range();
-        same(rt, "range", range, *start..*end);
-    }
-}
+const NAMESPACES: &str = "<a xmlns:p='1'><b/></a>";
 
+const XML: &str = "<a xmlns:xml='http://www.w3.org/XML/1998/namespace'><b/></a>";
+
+const NESTED: &str = "<a><b xmlns:p='1'><c/></b><d/></a>";
+
+const KINDS: &str = "<r>t<!--c--><?p?></r>";
+
+/// In a document with a document type declaration no element is: what its references stand for is said outside it.
 #[test]
 fn which_are_self_contained(rt: HostRuntime) {
-    let namespaces = "<a xmlns:p='1'><b/></a>";
-    let xml = "<a xmlns:xml='http://www.w3.org/XML/1998/namespace'><b/></a>";
     for (text, id, wanted) in &[
-        (namespaces, 0, false),
-        (namespaces, 1, true),
-        (namespaces, 2, false),
-        (xml, 1, true),
-        (xml, 2, true),
-        ("<a><b xmlns:p='1'><c/></b><d/></a>", 2, true),
-        ("<a><b xmlns:p='1'><c/></b><d/></a>", 3, false),
-        ("<a><b xmlns:p='1'><c/></b><d/></a>", 4, true),
-        ("<r>t<!--c--><?p?></r>", 2, false),
-        ("<r>t<!--c--><?p?></r>", 3, false),
-        ("<r>t<!--c--><?p?></r>", 4, false),
+        (NAMESPACES, 0, false),
+        (NAMESPACES, 1, true),
+        (NAMESPACES, 2, false),
+        (XML, 1, true),
+        (XML, 2, true),
+        (NESTED, 2, true),
+        (NESTED, 3, false),
+        (NESTED, 4, true),
+        (KINDS, 2, false),
+        (KINDS, 3, false),
+        (KINDS, 4, false),
+        ("<!DOCTYPE r><r/>", 1, false),
+        ("<!DOCTYPE r [<!ENTITY a '<b/>'>]><r>&a;</r>", 1, false),
+        ("<r/>", 1, true),
     ] {
         is_self_contained(&rt, text, *id, *wanted);
     }
@@ -56,32 +58,22 @@ fn which_are_self_contained(rt: HostRuntime) {
 
 /// Wants the node of this id to stand by itself, or not to.
 fn is_self_contained(rt: &(impl Abort + AllocGlobal), text: &str, id: u32, wanted: bool) {
-    let document = document_of(rt, text);
-    let node = node_of(&document, rt, id);
-    same(rt, text, node.is_self_contained(), wanted);
+    let mut options = ParsingOptions::default();
+    options.allow_dtd = true;
+    let document = Document::parse_with_options(rt.alloc(), text, options).expect(rt, text);
+    let is_contained = node_of(&document, rt, id).is_self_contained();
+    same(rt, text, is_contained, wanted);
 }
 
-/// In a document with a document type declaration no element is: what its references stand for is said outside it.
-#[test]
-fn none_with_a_document_type(rt: HostRuntime) {
-    for (text, wanted) in &[
-        ("<!DOCTYPE r><r/>", false),
-        ("<!DOCTYPE r [<!ENTITY a '<b/>'>]><r>&a;</r>", false),
-        ("<r/>", true),
-    ] {
-        let document = declared(&rt, text);
-        let is_contained = document.root_element().is_self_contained();
-        same(&rt, text, is_contained, *wanted);
-    }
-}
+const ROW: &str = "<?xml version='1.0'?><r>a<b/>c</r>";
+
+const PUT: &str = "<?xml version='1.0'?><r>a<x y='1'>&lt;</x>c</r>";
 
 #[test]
 fn exchanges(rt: HostRuntime) {
-    let row = "<?xml version='1.0'?><r>a<b/>c</r>";
-    let put = "<?xml version='1.0'?><r>a<x y='1'>&lt;</x>c</r>";
     for (text, id, other, wanted) in &[
-        (row, 3, "<!--z--><x y='1'>&lt;</x>", put),
-        (put, 3, "<b/>", row),
+        (ROW, 3, "<!--z--><x y='1'>&lt;</x>", PUT),
+        (PUT, 3, "<b/>", ROW),
         ("<!--k--><r/>", 2, "<x a='1'/>", "<!--k--><x a='1'/>"),
         (
             "<r><b/></r>",
@@ -91,39 +83,36 @@ fn exchanges(rt: HostRuntime) {
         ),
         ("<r>\r<b/>\n</r>", 3, "<x/>", "<r>\r<x/>\n</r>"),
     ] {
-        exchanges_to(&rt, text, *id, other, wanted);
+        let answer = exchange_of(&rt, text, *id, other);
+        same(&rt, text, answer.as_str(), wanted);
     }
 }
 
-/// Wants this text where the root element of another takes the place of the element of this id.
-fn exchanges_to(rt: &(impl Abort + AllocGlobal), text: &str, id: u32, other: &str, wanted: &str) {
+/// The text in which the root element of another takes the place of the element of this id.
+fn exchange_of(rt: &(impl Abort + AllocGlobal), text: &str, id: u32, other: &str) -> String {
     let (document, other) = (document_of(rt, text), document_of(rt, other));
-    let answer = exchanged(&node_of(&document, rt, id), &other, rt);
-    same(rt, text, answer.as_str(), wanted);
+    exchanged(&node_of(&document, rt, id), &other, rt)
 }
 
 #[test]
 fn too_many_namespaces_after_an_exchange(rt: HostRuntime) {
     let text = declaring(rt.alloc(), "<r><b/>", 65535).expect(&rt, "memory");
-    let document = document_of(&rt, text.as_str());
-    let other = document_of(&rt, "<e xmlns:n='65536'/>");
-    let answer = exchanged(&node_of(&document, &rt, 2), &other, &rt);
-    has_too_many_namespaces(&rt, answer.as_str());
+    let answer = exchange_of(&rt, text.as_str(), 2, "<e xmlns:n='65536'/>");
+    is_refused(&rt, answer.as_str(), Error::NamespacesLimitReached);
 }
 
-/// Wants the document of that element `a` alone.
-fn has_a(alone: &Document<'_>, rt: &impl Abort) {
-    let a = alone.root_element();
-    let wanted = "<a n:b='1' xmlns:n='u'><c/>\r\n</a>";
-    same(rt, "text", alone.input_text(), wanted);
-    same(rt, "b", a.attribute(("u", "b").into()), Some("1"));
-    same(rt, "children", child_count(&a), 2);
-    stand(alone, rt, &[(1, 0, 33)]);
+/// Wants the root element of a document to be all of its text, and to have an attribute `b` and two children.
+fn is_whole(root: &Node<'_, '_>, rt: &impl Abort) {
+    let text = root.document().input_text();
+    same(rt, "text", text, "<a n:b='1' xmlns:n='u'><c/>\r\n</a>");
+    same(rt, "range", root.range(), 0..33);
+    same(rt, "b", root.attribute(("u", "b").into()), Some("1"));
+    same(rt, "children", root.children().count(), 2);
 }
 
 #[test]
 fn an_element_alone(rt: HostRuntime) {
-    let text = "<r>x<a n:b='1' xmlns:n='u'><c/>\r\n</a></r>";
-    let document = document_of(&rt, text);
-    has_a(&reparsed(&node_of(&document, &rt, 3), &rt), &rt);
+    let document = document_of(&rt, "<r>x<a n:b='1' xmlns:n='u'><c/>\r\n</a></r>");
+    let alone = reparsed(&node_of(&document, &rt, 3), &rt);
+    is_whole(&alone.root_element(), &rt);
 }

@@ -1,5 +1,4 @@
-//! What the tables of a document do that no clause says and no public call shows: ropes stay low, and owned texts that come again
-//! are told apart.
+//! What the tables of a document do that no clause says and no public call shows: ropes stay low.
 
 ghost use Rattle.std.specs.Prelude.{◌<◌, IfOk};
 ghost use Rattle.rox_scopes.specs.Ropes.{IsRow};
@@ -8,10 +7,7 @@ ghost use Rattle.rox_scopes.specs.ScopeRows.{AreRows};
 use super::same;
 use rox_scopes::rope::{add, both, count, find, height, without};
 use rox_scopes::stored_scope::{Scope, Stretch};
-use rox_storage::recent_texts::Recent;
-use rox_storage::storage::StringStorage;
 use std::alloc::AllocError;
-use std::process::Abort;
 
 /// How many stretches are joined.
 const MANY: u32 = 4000;
@@ -70,29 +66,4 @@ fn ropes_stay_low(rt: HostRuntime) {
     same(&rt, "is low", height(&scopes, left) < 18, true);
     same(&rt, "the last", find(&scopes, left, 3998), Some(0));
     same(&rt, "one left out", find(&scopes, left, 3999), None);
-}
-
-/// An owned text of these bytes.
-fn owned(
-    rt: &(impl Abort + AllocGlobal),
-    recent: &mut Recent,
-    text: &str,
-) -> StringStorage<'static> {
-    recent
-        .owned(rt.alloc(), text)
-        .ok()
-        .expect(rt, "out of memory")
-}
-
-#[test]
-fn texts_of_one_length_are_told_apart(rt: HostRuntime) {
-    let mut recent = Recent::new(rt.alloc());
-    for _turn in 0..20 {
-        let line = owned(&rt, &mut recent, "\n  ");
-        let again = owned(&rt, &mut recent, "\n  ");
-        let other = owned(&rt, &mut recent, "a b");
-        same(&rt, "line", line.as_str(), "\n  ");
-        same(&rt, "again", again == line, true);
-        same(&rt, "other", other.as_str(), "a b");
-    }
 }

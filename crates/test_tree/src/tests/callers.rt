@@ -1,124 +1,106 @@
-//! What the callers of `rox_uses` answer.
+//! What the callers of `rox_uses` answer. Those with a resolver are among the examples.
 
-use super::{document_of, id_of, node_of, same};
+use super::{document_of, node_of, number, same};
 use rox_path::PathError;
 use rox_uses::{
     QueryError, Record, RecordsError, attribute_answers, element_by_id, first_with_id,
     last_with_id, levels, namespace_answers, read_records, records_at, resolve, source_of,
     with_copy,
 };
-use roxmltree::{Attribute, Document, ExpandedName, Namespace, Node};
+use roxmltree::{Document, ExpandedName, Node};
 use std::process::Abort;
+
+/// The number of a node that is there.
+fn id_of(node: Option<Node<'_, '_>>) -> Option<u32> {
+    match node {
+        Some(node) => Some(number(&node)),
+        None => None,
+    }
+}
+
+/// The first element of this id, by a loop and by a chain, and the last one.
+fn found(document: &Document<'_>, id: &str) -> [Option<u32>; 3] {
+    [
+        id_of(element_by_id(document, id)),
+        id_of(first_with_id(document, id)),
+        id_of(last_with_id(document, id)),
+    ]
+}
 
 #[test]
 fn elements_by_id(rt: HostRuntime) {
     let text = "<r xmlns:n='u'><a n:id='x'/><b id='y'><c id='x'/></b><d id='x'/></r>";
     let document = document_of(&rt, text);
-    for (id, wanted) in &[("x", Some(4)), ("y", Some(3)), ("z", None), ("", None)] {
-        is_found(&document, &rt, id, *wanted);
+    for (id, wanted) in &[
+        ("x", [Some(4), Some(4), Some(5)]),
+        ("y", [Some(3), Some(3), Some(3)]),
+        ("z", [None, None, None]),
+        ("", [None, None, None]),
+    ] {
+        same(&rt, id, found(&document, id), *wanted);
     }
 }
 
-/// Wants this element to be found by an id.
-fn is_found(document: &Document<'_>, rt: &impl Abort, id: &str, wanted: Option<u32>) {
-    same(rt, id, id_of(&element_by_id(document, id)), wanted);
+/// The levels below a node, and its source.
+fn walked<'input>(
+    document: &Document<'input>,
+    rt: &impl Abort,
+    id: u32,
+) -> (usize, Option<&'input str>) {
+    let node = node_of(document, rt, id);
+    (levels(node), source_of(node))
 }
 
 #[test]
-fn elements_by_chains(rt: HostRuntime) {
-    let text = "<r><a id='x'/><b id='y'><c id='x'/></b><d id='x'/></r>";
+fn levels_and_sources(rt: HostRuntime) {
+    let text = "<r><a/><b><c>x</c></b></r>";
     let document = document_of(&rt, text);
-    same(&rt, "first", id_of(&first_with_id(&document, "x")), Some(2));
-    same(&rt, "last", id_of(&last_with_id(&document, "x")), Some(5));
-    same(&rt, "none", id_of(&last_with_id(&document, "z")), None);
+    for (id, wanted) in &[
+        (0, (5, Some(text))),
+        (2, (1, Some("<a/>"))),
+        (5, (1, Some("x"))),
+    ] {
+        same(&rt, "node", walked(&document, &rt, *id), *wanted);
+    }
 }
 
-#[test]
-fn levels_of_trees(rt: HostRuntime) {
-    let document = document_of(&rt, "<r><a/><b><c>text</c></b></r>");
-    same(&rt, "levels", levels(document.root()), 5);
-    same(&rt, "levels", levels(node_of(&document, &rt, 2)), 1);
-}
-
-#[test]
-fn sources_of_nodes(rt: HostRuntime) {
-    let document = document_of(&rt, "<r><a>x</a></r>");
-    let source = source_of(node_of(&document, &rt, 2));
-    same(&rt, "source", source, Some("<a>x</a>"));
-}
-
-/// Wants a record to have this name and this value.
-fn is_record(rt: &impl Abort, record: &Record, name: &str, value: &str) {
-    same(rt, "name", record.name.as_str(), name);
-    same(rt, "value", record.value.as_str(), value);
+/// Wants records to be `a` of 1 and `b` of `<`.
+fn are_a_and_b(records: &[Record], rt: &impl Abort) {
+    same(rt, "count", records.len(), 2);
+    for (record, wanted) in records.iter().zip(&[("a", "1"), ("b", "<")]) {
+        let read = (record.name.as_str(), record.value.as_str());
+        same(rt, "record", read, *wanted);
+    }
 }
 
 #[test]
 fn tables_of_records(rt: HostRuntime) {
     let text = "<t><row name='a' value='1'/>text<other/><row value='&lt;' name='b'/></t>";
     let document = document_of(&rt, text);
-    let table = document.root_element();
-    let records = read_records(rt.alloc(), table).expect(&rt, "no records");
-    same(&rt, "count", records.len(), 2);
-    let mut left = records.iter();
-    for (name, value) in &[("a", "1"), ("b", "<")] {
-        let record = left.next().expect(&rt, "no record");
-        is_record(&rt, record, name, value);
-    }
-}
-
-/// Wants a table to be refused for the row that stands there.
-fn is_incomplete(rt: &(impl Abort + AllocGlobal), text: &str, start: usize) {
-    let document = document_of(rt, text);
-    let error = read_records(rt.alloc(), document.root_element()).err();
-    same(rt, text, error, Some(RecordsError::Incomplete(start)));
+    let records = read_records(rt.alloc(), document.root_element());
+    are_a_and_b(&records.expect(&rt, text), &rt);
+    let records = records_at(rt.alloc(), &document, "/t/row");
+    are_a_and_b(&records.expect(&rt, text), &rt);
 }
 
 #[test]
 fn tables_with_incomplete_rows(rt: HostRuntime) {
-    let text = "<t><row name='a' value='1'/><row name='b'/><row/></t>";
-    is_incomplete(&rt, text, 28);
-    is_incomplete(&rt, "<t><row value=''/></t>", 3);
-}
-
-const TABLES: &str = "<t><s><row name='a' value='1'/></s><row name='b' value='2'/><row/></t>";
-
-#[test]
-fn records_by_a_path(rt: HostRuntime) {
-    let document = document_of(&rt, TABLES);
-    let records = records_at(rt.alloc(), &document, "/t/s//row");
-    same(&rt, "count", records.expect(&rt, "no records").len(), 1);
-    let error = records_at(rt.alloc(), &document, "//row").err();
-    let wanted = QueryError::Row(RecordsError::Incomplete(60));
-    same(&rt, "//row", error, Some(wanted));
-    let error = records_at(rt.alloc(), &document, "//row/").err();
-    let wanted = QueryError::Path(PathError::BadPath(6));
-    same(&rt, "//row/", error, Some(wanted));
-}
-
-/// Wants a qualified name at the node of this id to stand for this URI and local name, or for none.
-fn stands_for(
-    document: &Document<'_>,
-    rt: &impl Abort,
-    id: u32,
-    name: &str,
-    wanted: Option<(Option<&str>, &str)>,
-) {
-    let node = node_of(document, rt, id);
-    same(rt, name, resolve(node, name).map(parts), wanted);
+    let document = document_of(&rt, "<t><row name='a' value='1'/><row name='b'/><row/></t>");
+    let refused = RecordsError::Incomplete(28);
+    let error = read_records(rt.alloc(), document.root_element()).err();
+    same(&rt, "table", error, Some(refused));
+    for (path, wanted) in &[
+        ("//row", QueryError::Row(refused)),
+        ("//row/", QueryError::Path(PathError::BadPath(6))),
+    ] {
+        let error = records_at(rt.alloc(), &document, path).err();
+        same(&rt, path, error, Some(*wanted));
+    }
 }
 
 /// The URI and the local name of a name.
 fn parts<'a>(name: ExpandedName<'a, 'a>) -> (Option<&'a str>, &'a str) {
     (name.namespace(), name.name())
-}
-
-#[test]
-fn copies_in_the_place_of_others(rt: HostRuntime) {
-    let document = document_of(&rt, "<r>a<b x='1'>c</b><!-- --><d/></r>");
-    let text = copied(&document, &rt, 3, 6);
-    let wanted = "<r>a<b x='1'>c</b><!-- --><b x='1'>c</b></r>";
-    same(&rt, "the text", text.as_str(), wanted);
 }
 
 #[test]
@@ -131,51 +113,41 @@ fn qualified_names(rt: HostRuntime) {
         (0, "T", Some((None, "T"))),
         (2, "q:T", None),
     ] {
-        stands_for(&document, &rt, *id, name, *wanted);
+        let node = node_of(&document, &rt, *id);
+        same(&rt, name, resolve(node, name).map(parts), *wanted);
     }
 }
 
-/// The text with a copy of one element in the place of another: these are their ids.
-fn copied(
-    document: &Document<'_>,
-    rt: &(impl Abort + AllocGlobal),
-    one: u32,
-    other: u32,
-) -> String {
-    let (one, other) = (node_of(document, rt, one), node_of(document, rt, other));
+/// The text with a copy of one element in the place of another.
+fn copied(one: &Node<'_, '_>, rt: &(impl Abort + AllocGlobal), other: &Node<'_, '_>) -> String {
     assert!(rt; one.is_self_contained());
     assert!(rt; other.is_self_contained());
-    with_copy(rt.alloc(), other, one).expect(rt, "memory")
+    with_copy(rt.alloc(), *other, *one).expect(rt, "memory")
 }
 
-/// Wants an attribute `n:a` to have these answers.
-fn has_answers(attribute: &Attribute<'_, '_>, rt: &impl Abort) {
-    let answers = attribute_answers(*attribute);
-    same(rt, "start", answers.start, 15);
-    same(rt, "name_end", answers.name_end, 18);
-    same(rt, "value_start", answers.value_start, 20);
-    same(rt, "end", answers.end, 26);
-    same(rt, "namespace", answers.namespace, Some("u"));
-    same(rt, "name", answers.name, "a");
-    same(rt, "value", answers.value, "x<");
-    same(rt, "borrowed", answers.borrowed, false);
+#[test]
+fn copies_in_the_place_of_others(rt: HostRuntime) {
+    let document = document_of(&rt, "<r>a<b x='1'>c</b><!-- --><d/></r>");
+    let (one, other) = (node_of(&document, &rt, 3), node_of(&document, &rt, 6));
+    let text = copied(&one, &rt, &other);
+    let wanted = "<r>a<b x='1'>c</b><!-- --><b x='1'>c</b></r>";
+    same(&rt, "the text", text.as_str(), wanted);
 }
 
-/// Wants the attributes and namespaces of an element to have these answers.
+/// Wants the one attribute and the one namespace of an element to have these answers.
 fn have_answers(element: &Node<'_, '_>, rt: &impl Abort) {
     for attribute in element.attributes() {
-        has_answers(&attribute, rt);
+        let it = attribute_answers(attribute);
+        let places = [it.start, it.name_end, it.value_start, it.end];
+        same(rt, "places", places, [15, 18, 20, 26]);
+        let name = (it.namespace, it.name);
+        same(rt, "name", name, (Some("u"), "a"));
+        same(rt, "value", (it.value, it.borrowed), ("x<", false));
     }
     for namespace in element.namespaces() {
-        is_n(namespace, rt);
+        let it = namespace_answers(namespace);
+        same(rt, "namespace", (it.name, it.uri), (Some("n"), "u"));
     }
-}
-
-/// Wants a namespace to have these answers.
-fn is_n(namespace: &Namespace<'_>, rt: &impl Abort) {
-    let answers = namespace_answers(namespace);
-    same(rt, "prefix", answers.name, Some("n"));
-    same(rt, "uri", answers.uri, "u");
 }
 
 #[test]

@@ -1,62 +1,64 @@
 //! What `Debug` prints. No text of it is promised: it names what it is of.
 
-use super::{document_of, node_of, refusal_of, same};
+use super::{document_of, same};
 use roxmltree::{
-    Document, ExpandedName, Node, NodeId, NodeIdTooLarge, NodeType, ParsingOptions, StringStorage,
-    TextPos,
+    Document, Node, NodeId, NodeIdTooLarge, NodeType, ParsingOptions, StringStorage, TextPos,
 };
 use std::fmt::Debug;
 use std::process::Abort;
 
-/// Wants this text in what is printed.
-fn names<T: Debug>(rt: &(impl Abort + AllocGlobal), value: &T, part: &str) {
+/// Wants these texts in what is printed.
+fn names<T: Debug>(rt: &(impl Abort + AllocGlobal), value: &T, parts: &[&str]) {
     let shown = format!(in rt.alloc(); "{value:?}").expect(rt, "memory");
-    assert!(rt; shown.as_str().contains(part), "{part:?} in {shown}");
+    for part in parts {
+        assert!(rt; shown.as_str().contains(part), "{part:?} in {shown}");
+    }
 }
 
 #[test]
 fn values(rt: HostRuntime) {
-    names(&rt, &TextPos::new(2, 7), "7");
-    names(&rt, &NodeId::new(12), "12");
-    names(&rt, &NodeIdTooLarge, "NodeIdTooLarge");
-    names(&rt, &NodeType::Comment, "Comment");
-    names(&rt, &ExpandedName::from(("uri", "local")), "local");
-    names(&rt, &ParsingOptions::default(), "4294967295");
-    names(&rt, &StringStorage::Borrowed("slice"), "slice");
-    let owned = StringStorage::new_owned(rt.alloc(), "own").expect(&rt, "memory");
-    names(&rt, &owned, "own");
-    names(&rt, &refusal_of(&rt, "<e p:a=''/>"), "UnknownNamespace");
+    let error = Document::parse(rt.alloc(), "<e p:a=''/>").expect_err(&rt, "read");
+    let (place, text) = (TextPos::new(2, 7), StringStorage::Borrowed("slice"));
+    let shown = format!(in rt.alloc(); "{place} {text} {}", NodeIdTooLarge);
+    let wanted = "2:7 slice a node's id is at most 4294967295";
+    same(&rt, "Display", shown.expect(&rt, "memory").as_str(), wanted);
+    let values = (place, text, NodeIdTooLarge, NodeId::new(12));
+    names(&rt, &values, &["7", "slice", "NodeIdTooLarge", "12"]);
+    names(
+        &rt,
+        &(NodeType::Comment, error),
+        &["Comment", "UnknownNamespace"],
+    );
 }
+
+/// Wants a node and the iterators from it to be named.
+fn node_and_iterators(element: &Node<'_, '_>, rt: &(impl Abort + AllocGlobal)) {
+    let nodes = (
+        element.children(),
+        element.ancestors(),
+        element.descendants(),
+    );
+    names(rt, &nodes, &["Children", "AxisIter", "Descendants", "PI {"]);
+    let others = (element.attributes(), element.namespaces());
+    names(
+        rt,
+        &others,
+        &["Attributes", "\"b\"", "NamespaceIter", "\"uri\""],
+    );
+    names(rt, element, &["Element", "{uri}e", "\"b\"", "\"uri\""]);
+}
+
+/// A resolver that is not `Debug`.
+#[derive(Drop)]
+struct Silent;
 
 #[test]
-fn parts_of_documents(rt: HostRuntime) {
-    let document = document_of(&rt, "<e xmlns:n='uri' n:a='b'><?target value?></e>");
-    nodes(&document, &rt);
-    iterators(&document.root_element(), &rt);
-    attributes_and_namespaces(&document.root_element(), &rt);
-}
-
-fn nodes(document: &Document<'_>, rt: &(impl Abort + AllocGlobal)) {
-    for (id, part) in &[
-        (0, "Root"),
-        (2, "PI { target: \"target\", value: Some(\"value\") }"),
-    ] {
-        names(rt, &node_of(document, rt, *id), part);
-    }
-    names(rt, &node_of(document, rt, 2).pi(), "target");
-}
-
-fn iterators(element: &Node<'_, '_>, rt: &(impl Abort + AllocGlobal)) {
-    names(rt, &element.children(), "Children");
-    names(rt, &element.ancestors(), "AxisIter");
-    names(rt, &element.descendants(), "Descendants");
-}
-
-fn attributes_and_namespaces(element: &Node<'_, '_>, rt: &(impl Abort + AllocGlobal)) {
-    names(rt, &element.attributes(), "Attributes");
-    names(rt, &element.namespaces(), "NamespaceIter");
-    names(rt, &element.attributes().next(), "b");
-    names(rt, &element.namespaces().next(), "uri");
+fn parts_of_documents_and_options(rt: HostRuntime) {
+    let document = document_of(&rt, "<e xmlns='uri' a='b'><?target value?></e>");
+    node_and_iterators(&document.root_element(), &rt);
+    names(&rt, &document.root(), &["Root"]);
+    let options = ParsingOptions::with_resolver(Silent);
+    names(&rt, &options, &["4294967295", "Some(..)"]);
 }
 
 /// What `Debug` prints of a document with a node of each kind.
@@ -87,8 +89,10 @@ const PRINTED: &str = "Document [
 
 #[test]
 fn a_document_prints_its_tree(rt: HostRuntime) {
-    let text = "<!--c--><?t v?><r xmlns='u' a='1' b='x&amp;y'><e/>text</r>";
-    let document = document_of(&rt, text);
+    let document = document_of(
+        &rt,
+        "<!--c--><?t v?><r xmlns='u' a='1' b='x&amp;y'><e/>text</r>",
+    );
     let shown = format!(in rt.alloc(); "{document:?}").expect(&rt, "memory");
     same(&rt, "printed", shown.as_str(), PRINTED);
 }

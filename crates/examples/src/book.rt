@@ -1,25 +1,21 @@
-//! Prints the contents of a book: `example_book FILE`. Its chapters are external entities, in files beside it. A line for each
-//! chapter has its number, its title, and how many words it has.
-#![tactic(auto)]
-
-mod chapters;
+//! Prints the contents of a book, whose chapters are external entities, in files beside it: the number of each chapter, its title,
+//! and how many words it has.
 
 use crate::chapters::{Chapter, asked_for, faulty_chapter, parse_book};
 use anyhow::{Context, Result, bail};
 use rox_path::{parse_path, select};
 use roxmltree::{Document, Node};
 use std::alloc::{AllocError, Global};
+use std::fs;
 use std::io::Write;
 use std::path::Path;
-use std::{env, fs};
 
-fn main(rt: HostRuntime) -> Result<()> {
-    let file = env::args(&rt)?.nth(1);
-    let file = file.context("usage: example_book FILE")?;
-    let text = fs::read_to_string(&rt, &file).context(format_args!("reading {file}"))?;
+/// Runs this example for the book in this file.
+pub fn run(rt: &HostRuntime, file: &str) -> Result<()> {
+    let text = fs::read_to_string(rt, file).context(format_args!("reading {file}"))?;
     let names = asked_for(rt.alloc(), text.as_str())?;
-    let chapters = read_chapters(&rt, Path::new(file.as_str()), &names)?;
-    print_book(&rt, file.as_str(), text.as_str(), &chapters)
+    let chapters = read_chapters(rt, Path::new(file), &names)?;
+    print_book(rt, file, text.as_str(), &chapters)
 }
 
 /// Prints the contents of a book, or why it is refused, and for which file.

@@ -1,12 +1,11 @@
-//! Prints the dependencies of a Maven project: `example_dependencies POM`. A line for each has its group, its name, its version
-//! and its scope; properties, as in `${junit.version}`, are replaced by their values.
-#![tactic(auto)]
+//! Prints the dependencies of a Maven project: the group, the name, the version and the scope of each. Properties, as in
+//! `${junit.version}`, are replaced by their values.
 
 use anyhow::{Context, Result};
 use roxmltree::{Document, Node};
 use std::alloc::{AllocError, Global};
+use std::fs;
 use std::io::Write;
-use std::{env, fs};
 
 /// The most rounds in which the properties of a value are replaced: the value of one may name others, or itself.
 const MOST_ROUNDS: usize = 8;
@@ -14,10 +13,9 @@ const MOST_ROUNDS: usize = 8;
 /// A value of more bytes is left as it is, so that properties that name each other do not make it explode.
 const MOST_BYTES: usize = 4096;
 
-fn main(rt: HostRuntime) -> Result<()> {
-    let file = env::args(&rt)?.nth(1);
-    let file = file.context("usage: example_dependencies POM")?;
-    let text = fs::read_to_string(&rt, &file).context(format_args!("reading {file}"))?;
+/// Runs this example for the project in this file.
+pub fn run(rt: &HostRuntime, file: &str) -> Result<()> {
+    let text = fs::read_to_string(rt, file).context(format_args!("reading {file}"))?;
     let document = Document::parse(rt.alloc(), text.as_str()).context(format_args!(
         "parsing {file}"
     ))?;

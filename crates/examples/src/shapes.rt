@@ -1,12 +1,10 @@
-//! Prints the circles of a small drawing, as README.md shows, and the shapes of an SVG image: `example_shapes FILE`. A line for each
-//! shape has the row and the column where it starts, its kind, its fill, and what it refers to, if it refers to anything.
-#![tactic(auto)]
+//! Prints the shapes of an SVG image: the row and the column where each starts, its kind, its fill, and what it refers to, if it
+//! refers to anything.
 
 use anyhow::{Context, Result};
 use roxmltree::{Document, Node};
-use std::alloc::Global;
 use std::io::Write;
-use std::{env, fs, io};
+use std::{fs, io};
 
 const SVG: &str = "http://www.w3.org/2000/svg";
 
@@ -18,28 +16,13 @@ const SHAPES: [&str; 8] = [
     "circle", "ellipse", "line", "path", "polygon", "polyline", "rect", "use",
 ];
 
-fn main(rt: HostRuntime) -> Result<()> {
-    print_circles(&rt, rt.alloc())?;
-    let file = env::args(&rt)?.nth(1);
-    let file = file.context("usage: example_shapes FILE")?;
-    let text = fs::read_to_string(&rt, &file).context(format_args!("reading {file}"))?;
+/// Runs this example for the image in this file.
+pub fn run(rt: &HostRuntime, file: &str) -> Result<()> {
+    let text = fs::read_to_string(rt, file).context(format_args!("reading {file}"))?;
     let document = Document::parse(rt.alloc(), text.as_str()).context(format_args!(
         "parsing {file}"
     ))?;
     print_shapes(&document, &mut rt.stdout())?;
-    Ok(())
-}
-
-/// Prints the radius of each circle of a small drawing.
-fn print_circles(rt: &HostRuntime, alloc: Global) -> Result<()> {
-    let svg = "<svg xmlns='http://www.w3.org/2000/svg'><circle r='4'/><g><circle r='2'/></g></svg>";
-    let document = Document::parse(alloc, svg)?;
-    for node in document.descendants() {
-        if node.has_tag_name(("http://www.w3.org/2000/svg", "circle").into()) {
-            let radius = node.attribute("r".into()).unwrap_or("none");
-            println!(rt; "{:?} has the radius {radius}", node.range())?;
-        }
-    }
     Ok(())
 }
 
