@@ -1,4 +1,2 @@
-pub mod PlainNames
-pub mod PlainValues
 pub mod SpacedBytes
 pub mod PlainAttribute

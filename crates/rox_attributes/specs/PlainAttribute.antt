@@ -27,9 +27,9 @@ use Rattle.rox_grammar.specs.WellNamed.{is_known}
 use Rattle.rox_scopes.specs.Bindings.{FindsBinding}
 use Rattle.rox_rows.specs.declared.row.AttributeNamespace.{AttributeNamespace}
 use Rattle.rox_attributes.specs.declared.quick_attribute.NamedAttribute.{NamedAttribute}
-use Rattle.rox_attributes.specs.declared.quick_name.NamePlace.{NamePlace}
-use Rattle.rox_attributes.specs.PlainNames.{IsAttributeName}
-use Rattle.rox_attributes.specs.PlainValues.{HasPlainValue}
+use Rattle.rox_verbatim.specs.declared.quick_name.NamePlace.{NamePlace}
+use Rattle.rox_verbatim.specs.PlainNames.{IsAttributeName}
+use Rattle.rox_verbatim.specs.PlainValues.{HasPlainValue}
 
 -- The tables have the scope `scope` and the places that it lists, each prefix once.
 pub record HasScope (t : ElementTables) (scope : ℕ) : Type 0 where

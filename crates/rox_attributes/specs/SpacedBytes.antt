@@ -7,7 +7,7 @@ use Rattle.rox_reading.specs.Values.{ValueInclusion, is_special, value_at}
 use Rattle.rox_scan.specs.Lookahead.{IsLookahead, ends_value}
 use Rattle.rox_storage.specs.Storage.{storage_bytes, is_borrowed}
 use Rattle.rox_values.specs.PlainBits.{HasChange}
-use Rattle.rox_attributes.specs.PlainValues.{EndsVerbatim}
+use Rattle.rox_verbatim.specs.PlainValues.{EndsVerbatim}
 use Rattle.rox_attributes.specs.declared.any_value.AnyValue.{AnyValue}
 use Rattle.rox_attributes.specs.declared.any_value.ValueEnds.{ValueEnds}
 

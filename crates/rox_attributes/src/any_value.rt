@@ -9,7 +9,7 @@ ghost use Rattle.rox_storage.specs.Storage.{IsOwnText};
 ghost use Rattle.rox_scan.specs.Lookahead as longer;
 ghost use Rattle.rox_scan.specs.Lookahead.{IsLookahead, none_changes};
 ghost use Rattle.rox_attributes.specs.SpacedBytes.{FindsEnds, IsAnyValue};
-ghost use Rattle.rox_attributes.specs.PlainValues.{BeginsValue};
+ghost use Rattle.rox_verbatim.specs.PlainValues.{BeginsValue};
 
 use rox_bytes::byte_set::{ValueByte, skip_set};
 use rox_bytes::runs::is_at;

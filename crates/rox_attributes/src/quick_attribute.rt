@@ -11,14 +11,6 @@ ghost use Rattle.rox_attributes.specs.PlainAttribute.{HasScope, IsAttributeNames
 
 use crate::any_value::any_value;
 use crate::prefix_cache::find_in_slot;
-use crate::quick_name::{
-    NameAt, NamePlace, name_of_part, name_without_prefix, prefixed_name, some_place,
-};
-use crate::quick_space::one_space_end;
-use crate::quick_value::{
-    UnchangedValue, any_value_start, quote_after_equals, quote_before, quote_in_text,
-    unchanged_value, unchanged_value_end, value_in_window,
-};
 use rox_bytes::byte_set::{PartByte, ValueByte, part_end, part_end_beyond, skip_set};
 use rox_bytes::chars::NameStart;
 use rox_bytes::runs::{after_byte, begins, is_at};
@@ -35,6 +27,14 @@ use rox_scopes::scope::few_places;
 use rox_storage::compare::same_text;
 use rox_storage::recent_texts::Recent;
 use rox_storage::storage::StringStorage;
+use rox_verbatim::quick_name::{
+    NameAt, NamePlace, name_of_part, name_without_prefix, prefixed_name, some_place,
+};
+use rox_verbatim::quick_space::one_space_end;
+use rox_verbatim::quick_value::{
+    UnchangedValue, any_value_start, quote_after_equals, quote_before, quote_in_text,
+    unchanged_value, unchanged_value_end, value_in_window,
+};
 use std::alloc::Global;
 
 /// Returns the length of a text in bytes, which is always less than 2^63.

@@ -10,7 +10,7 @@ use Rattle.rox_grammar.specs.declared.fault.Fault.TheVariants as fault
 use Rattle.rox_bytes.specs.ScanResults.{Finds}
 use Rattle.rox_bytes.proofs.RunLemmas.{stands_within}
 use Rattle.std.proofs.lemmas.Str.{IsCharBoundary-after_ascii}
-use Rattle.rox_attributes.proofs.PlainAttributes.{near_cut, near_ends}
+use Rattle.rox_verbatim.proofs.Verbatim.{near_cut, near_ends}
 use Rattle.rox_reading.specs.Machine.{tag_step, opened_by, cut_off_fault}
 use Rattle.rox_reading.specs.Refusals.{lifted}
 use Rattle.rox_reading.specs.Tags.{Values}
@@ -21,7 +21,7 @@ use Rattle.rox_names.specs.declared.open_element.OpenElement.{OpenElement}
 use Rattle.rox_names.proofs.SameNames.{opened_named}
 use Rattle.rox_names.proofs.SpelledNames.{tag_is_named}
 use Rattle.rox_tags.specs.ElementRow.{Tagged}
-use Rattle.rox_attributes.specs.PlainNames.{EndsNear}
+use Rattle.rox_verbatim.specs.PlainNames.{EndsNear}
 use Rattle.rox_tags.specs.PlainTag.{IsPlainTag}
 use Rattle.rox_tags.specs.declared.quick_tag.PlainTag.{PlainTag}
 use Rattle.rox_tags.proofs.Moving.{plain_moves}

@@ -17,7 +17,7 @@ use Rattle.rox_scan.specs.declared.cursor.Cursor.{Cursor}
 use Rattle.rox_builder.specs.BuilderState.{GoesOn, IsConsistent, IsInState, IsReady, IsReadyTo, KeepsOpen, KeepsState, ScansTo}
 use Rattle.rox_builder.specs.PendingText.{waiting}
 use Rattle.rox_content.specs.PlainSteps.{Reads}
-use Rattle.rox_attributes.specs.PlainNames.{EndsNear, EndsPrefix}
+use Rattle.rox_verbatim.specs.PlainNames.{EndsNear, EndsPrefix}
 use Rattle.rox_bytes.specs.RunEnds.{EndsRun}
 use Rattle.rox_bytes.specs.declared.byte_set.RunEnd.{RunEnd}
 use Rattle.rox_builder.specs.Readiness.{HasRoom}

@@ -11,7 +11,6 @@ ghost use Rattle.rox_content.specs.PlainElements.{MayPutElement, PutsElement};
 
 use crate::quick_sections::NOT_READ;
 use crate::same_front::closes_front;
-use rox_attributes::quick_name::NamePlace;
 use rox_builder::builder::Builder;
 use rox_bytes::byte_set::{RunEnd, part_end_beyond};
 use rox_bytes::runs::after_byte;
@@ -22,6 +21,7 @@ use rox_tags::quick_tag::{
     start_tag_without_prefix,
 };
 use rox_tags::repeated_declaration::start_tag_repeating;
+use rox_verbatim::quick_name::NamePlace;
 
 /// The number of scopes of a document whose root element alone declares namespaces.
 const SCOPES_OF_ROOT: usize = 2;

@@ -5,7 +5,6 @@ ghost use Rattle.std.specs.Prelude.{◌≡◌, IfOk, length, slice_index, true};
 ghost use Rattle.rox_builder.specs.Readiness.{MayReadTag};
 ghost use Rattle.rox_content.specs.RootTag.{BeginsOwn, BeginsScopes, GivesRootTag, IsBlank, MayReadRootTag, ReadsRootElement, ReadsRootTag};
 
-use rox_attributes::quick_name::name_of_part;
 use rox_builder::builder::{Builder, ROOM_TO_OPEN};
 use rox_bytes::byte_set::part_end;
 use rox_bytes::runs::after_byte;
@@ -22,6 +21,7 @@ use rox_storage::growth::push;
 use rox_tags::own_declaration::{OWN, TagScope};
 use rox_tags::quick_tag::{PlainTag, namespace_in_scope, tag_attributes};
 use rox_tags::tag::element_of;
+use rox_verbatim::quick_name::name_of_part;
 use std::alloc::AllocError;
 
 /// The row of the root node.

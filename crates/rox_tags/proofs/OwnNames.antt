@@ -10,9 +10,9 @@ use Rattle.rox_grammar.specs.declared.fault.Word.TheVariants.{Xmlns}
 use Rattle.rox_reading.specs.Lexical.{qname_at}
 use Rattle.rox_bytes.specs.ByteSets.{AllPass, is_part_byte}
 use Rattle.rox_bytes.proofs.NearLemmas.{part_begins, part_cut, part_stops}
-use Rattle.rox_attributes.specs.PlainNames.{EndsFirstPart, IsPrefixedName}
+use Rattle.rox_verbatim.specs.PlainNames.{EndsFirstPart, IsPrefixedName}
 use Rattle.rox_tags.specs.TagAttributes.{IsDeclaredName, HasXmlns}
-use Rattle.rox_attributes.specs.declared.quick_name.NameAt.{NameAt}
+use Rattle.rox_verbatim.specs.declared.quick_name.NameAt.{NameAt}
 use Rattle.rox_markup.proofs.PairLemmas.{name_is}
 
 -- the bytes of `xmlns`

@@ -45,7 +45,7 @@ use Rattle.rox_tags.specs.PlainTag.{IsPlainTag, MayOpenBelow}
 use Rattle.rox_tags.specs.Repeating.{AreOneMore, IsRepeated, Repeats}
 use Rattle.rox_tags.specs.TagAttributes.{holding}
 use Rattle.rox_tags.specs.declared.quick_tag.TagEnd.{TagEnd}
-use Rattle.rox_attributes.proofs.PlainAttributes.{no_space}
+use Rattle.rox_verbatim.proofs.Verbatim.{no_space}
 use Rattle.rox_tags.proofs.PlainTags.{item_closed, item_opened}
 use Rattle.rox_tags.proofs.Starting.{tag_made, tested_known, tested_passes}
 use Rattle.rox_tags.proofs.TagAttributes.{end_is, taken_declared}

@@ -51,7 +51,7 @@ use Rattle.rox_tags.specs.declared.quick_tag.TagEnd.{TagEnd}
 use Rattle.rox_tags.specs.declared.own_declaration.TagScope.{TagScope}
 use Rattle.rox_bytes.proofs.RunLemmas.{stands_within}
 use Rattle.rox_names.proofs.Resolving.{nothing_left, row_shown}
-use Rattle.rox_attributes.proofs.PlainAttributes.{item_more}
+use Rattle.rox_verbatim.proofs.Verbatim.{item_more}
 use Rattle.rox_tags.proofs.PlainTags.{item_closed, item_opened, others_stay, scope_found, scope_stays}
 
 -- ---- names in a scope that grows

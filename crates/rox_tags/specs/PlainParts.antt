@@ -14,9 +14,9 @@ use Rattle.rox_names.specs.declared.open_element.OpenElement.{OpenElement}
 use Rattle.rox_grammar.specs.WellNamed.{may_name}
 use Rattle.rox_tags.specs.declared.quick_tag.NextItem.{NextItem}
 use Rattle.rox_tags.specs.declared.quick_tag.TagEnd.{TagEnd}
-use Rattle.rox_attributes.specs.declared.quick_name.NamePlace.{NamePlace}
-use Rattle.rox_attributes.specs.declared.quick_name.NameAt.{NameAt}
-use Rattle.rox_attributes.specs.PlainNames.{EndsNear, EndsPrefix, IsPlainName}
+use Rattle.rox_verbatim.specs.declared.quick_name.NamePlace.{NamePlace}
+use Rattle.rox_verbatim.specs.declared.quick_name.NameAt.{NameAt}
+use Rattle.rox_verbatim.specs.PlainNames.{EndsNear, EndsPrefix, IsPlainName}
 use Rattle.rox_bytes.specs.declared.byte_set.RunEnd.{RunEnd}
 use Rattle.rox_grammar.specs.declared.fault.Word.TheVariants.{Xmlns}
 use Rattle.rox_grammar.specs.FixedTexts.{word_text}

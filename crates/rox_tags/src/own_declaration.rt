@@ -5,9 +5,6 @@ ghost use Rattle.std.specs.Prelude.{◌≡◌, IfSome, length, true};
 ghost use Rattle.std.specs.Str.{IsCharBoundary};
 ghost use Rattle.rox_tags.specs.TagAttributes.{DeclaresOwn, HasXmlns, IsDeclaredName, IsNearDeclaration, IsPlainDeclaration, ListsOwn, MayDeclareHere, MayPutDeclaration, PutsDeclaration};
 
-use rox_attributes::quick_name::{NameAt, name_without_prefix, prefixed_name};
-use rox_attributes::quick_space::one_space_end;
-use rox_attributes::quick_value::{quote_after_equals, quote_before, unchanged_value};
 use rox_bytes::byte_set::{ValueByte, skip_set};
 use rox_bytes::runs::{after_byte, is_at};
 use rox_names::namespace_decl::declare_new;
@@ -17,6 +14,9 @@ use rox_names::unresolved_attribute::UnresolvedAttribute;
 use rox_scopes::prefix_set::FEW;
 use rox_scopes::stored_scope::{Scope, Stretch};
 use rox_storage::storage::StringStorage;
+use rox_verbatim::quick_name::{NameAt, name_without_prefix, prefixed_name};
+use rox_verbatim::quick_space::one_space_end;
+use rox_verbatim::quick_value::{quote_after_equals, quote_before, unchanged_value};
 
 /// The scope of a root element: the one after that of the root node.
 pub const OWN: u32 = 1;

@@ -4,7 +4,7 @@
 ghost use Rattle.std.specs.Prelude.{◌≡◌, ◌<◌, ◌+◌, ◌-◌, ◌==◌, Ok, IfSome, slice_index, true, false};
 ghost use Rattle.rox_grammar.specs.Failures.{name_view};
 ghost use Rattle.rox_tags.specs.PlainParts.{EndsEmpty, EndsTag, FindsElementNamespace, IsNextItem, MayNameBelow, MayNameIn, MayNamePrefixed, MayNamePrefixedBelow, MayReadBareTag, MayReadNamed, MayReadNearTag, MayReadPlainTag, MayReadPrefixedTag};
-ghost use Rattle.rox_attributes.specs.PlainValues.{IsBeforeLast};
+ghost use Rattle.rox_verbatim.specs.PlainValues.{IsBeforeLast};
 ghost use Rattle.rox_tags.specs.PlainTag.{IsBareTag, ReadsTag};
 ghost use Rattle.rox_tags.specs.TagAttributes.{EndsAttributes, MayReadAttributes, ReadsAttributes};
 
@@ -12,8 +12,6 @@ use crate::own_declaration::{TagScope, declares_at, put_declaration};
 use crate::tag::element_of;
 use rox_attributes::prefix_cache::find_in_slot;
 use rox_attributes::quick_attribute::{MOST_ATTRIBUTES, byte_count, put_attribute};
-use rox_attributes::quick_name::{NameAt, NamePlace, ascii_name, name_of_part, name_of_prefix};
-use rox_attributes::quick_space::one_space_end;
 use rox_bytes::byte_set::RunEnd;
 use rox_bytes::runs::{after_byte, is_at};
 use rox_grammar::name::QName;
@@ -25,6 +23,8 @@ use rox_names::tables::ElementTables;
 use rox_rows::row::namespace_number;
 use rox_scopes::scope::few_places;
 use rox_storage::compare::same_text;
+use rox_verbatim::quick_name::{NameAt, NamePlace, ascii_name, name_of_part, name_of_prefix};
+use rox_verbatim::quick_space::one_space_end;
 
 /// The end of a start tag: the offset after its `>`, and whether the tag is empty.
 #[derive(Clone, Copy)]

@@ -17,7 +17,6 @@ use crate::own_declaration::declaration_after;
 use crate::quick_tag::{PlainTag, attributes_end, namespace_in_scope};
 use crate::tag::element_of;
 use rox_attributes::quick_attribute::byte_count;
-use rox_attributes::quick_name::{NamePlace, name_of_part};
 use rox_bytes::runs::after_byte;
 use rox_names::open_element::OpenElement;
 use rox_names::start_tag::StartTag;
@@ -26,6 +25,7 @@ use rox_names::unresolved_attribute::UnresolvedAttribute;
 use rox_scopes::namespace::Namespace;
 use rox_scopes::scope::{few_places, is_declared, is_xml, same_prefix};
 use rox_storage::compare::same_text;
+use rox_verbatim::quick_name::{NamePlace, name_of_part};
 
 /// The number of scopes that are tried, from the last one on.
 const TRIED: usize = 8;

@@ -2,7 +2,7 @@ use Rattle.std.proofs.Common.{◌≡◌, true, false, slice_range, sym, arith}
 use Rattle.std.proofs.lemmas.Bool.{eqb-true}
 use Rattle.rox_grammar.specs.Content.{is_verbatim_value}
 use Rattle.rox_scan.proofs.LongerLemmas.{looked_value}
-use Rattle.rox_attributes.proofs.PlainAttributes.{value_is}
+use Rattle.rox_verbatim.proofs.Verbatim.{value_is}
 use Rattle.rox_attributes.proofs.SpacedEnds.{value_spaced}
 use Rattle.rox_attributes.proofs.any_value.any_value.Goals as goal
 

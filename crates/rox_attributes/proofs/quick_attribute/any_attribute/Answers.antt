@@ -1,6 +1,6 @@
 use Rattle.std.proofs.Common.{◌≡◌, ◌-◌, ◌==◌, ◌||◌, ℕ, true, slice_index, refl, sym, subst, arith}
 use Rattle.rox_grammar.specs.Failures.{name_view}
-use Rattle.rox_attributes.proofs.PlainAttributes.{attribute_reads}
+use Rattle.rox_verbatim.proofs.Verbatim.{attribute_reads}
 use Rattle.rox_attributes.proofs.quick_attribute.any_attribute.Goals as goal
 
 pub quote_before-quote-requires : goal.quote_before-quote-requires

@@ -4,7 +4,8 @@ use Rattle.rox_grammar.specs.Failures.{name_view}
 use Rattle.std.specs.Str.{IsCharBoundary}
 use Rattle.rox_bytes.specs.ByteSets.{EndsSet, is_part_byte, is_value_byte}
 use Rattle.rox_bytes.proofs.NearLemmas.{part_cut, part_stops}
-use Rattle.rox_attributes.proofs.PlainAttributes.{bare_namespace, behind_quote, ascii_begins, quote_first}
+use Rattle.rox_verbatim.proofs.Verbatim.{behind_quote, ascii_begins, quote_first}
+use Rattle.rox_attributes.proofs.PlainAttributes.{bare_namespace}
 use Rattle.rox_attributes.proofs.quick_attribute.put_attribute.Goals as goal
 
 pub name_without_prefix-name-requires : goal.name_without_prefix-name-requires

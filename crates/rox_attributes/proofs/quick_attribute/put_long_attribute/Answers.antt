@@ -2,7 +2,8 @@ use Rattle.std.proofs.Common.{arith, rules}
 use Rattle.std.proofs.lemmas.Grind.{common_steps}
 use Rattle.rox_grammar.specs.Failures.{name_view}
 use Rattle.rox_bytes.proofs.NearLemmas.{part_cut, part_stops}
-use Rattle.rox_attributes.proofs.PlainAttributes.{bare_namespace, ascii_begins, behind_quote}
+use Rattle.rox_verbatim.proofs.Verbatim.{ascii_begins, behind_quote}
+use Rattle.rox_attributes.proofs.PlainAttributes.{bare_namespace}
 use Rattle.rox_attributes.proofs.quick_attribute.put_long_attribute.Goals as goal
 
 pub name_without_prefix-name-requires : goal.name_without_prefix-name-requires

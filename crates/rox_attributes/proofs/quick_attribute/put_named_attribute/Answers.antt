@@ -9,9 +9,10 @@ use Rattle.rox_rows.specs.declared.row.AttributePlaces.{AttributePlaces}
 use Rattle.rox_names.specs.declared.unresolved_attribute.UnresolvedAttribute.{UnresolvedAttribute}
 use Rattle.rox_names.specs.declared.unresolved_attribute.CompactAttribute.{CompactAttribute}
 use Rattle.rox_names.proofs.NameTests.{adds_compact}
-use Rattle.rox_attributes.specs.PlainValues.{IsValueStart}
+use Rattle.rox_verbatim.specs.PlainValues.{IsValueStart}
 use Rattle.rox_attributes.specs.PlainAttribute.{few_in, IsPlainAttribute}
-use Rattle.rox_attributes.proofs.PlainAttributes.{attribute_reads, value_is, value_starts, compact_are}
+use Rattle.rox_verbatim.proofs.Verbatim.{attribute_reads, value_is, value_starts}
+use Rattle.rox_attributes.proofs.PlainAttributes.{compact_are}
 use Rattle.rox_bytes.proofs.NearLemmas.{not_zero}
 use Rattle.rox_attributes.proofs.quick_attribute.put_named_attribute.Goals as goal
 

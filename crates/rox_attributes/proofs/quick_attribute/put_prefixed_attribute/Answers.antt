@@ -4,7 +4,8 @@ use Rattle.std.proofs.lemmas.Bool.{eqb-true}
 use Rattle.rox_grammar.specs.Failures.{name_view}
 use Rattle.rox_reading.proofs.Stretches.{range_length}
 use Rattle.rox_bytes.proofs.NearLemmas.{part_stops, part_cut}
-use Rattle.rox_attributes.proofs.PlainAttributes.{ascii_begins, some_filled, value_starts}
+use Rattle.rox_verbatim.proofs.Verbatim.{ascii_begins, value_starts}
+use Rattle.rox_attributes.proofs.PlainAttributes.{some_filled}
 use Rattle.rox_attributes.proofs.quick_attribute.put_prefixed_attribute.Goals as goal
 
 pub prefixed_name-requires : goal.prefixed_name-requires

@@ -1,7 +1,7 @@
 use Rattle.std.proofs.Common.{◌≡◌, ◌-◌, ◌+◌, ◌<◌, ◌==◌, ◌||◌, ℕ, length, slice_index, refl, sym, ap, subst, ◌∙◌, arith}
 use Rattle.rox_grammar.specs.Failures.{name_view}
-use Rattle.rox_attributes.specs.PlainValues.{IsValueStart}
-use Rattle.rox_attributes.proofs.PlainAttributes.{attribute_reads, item_more, value_is, value_starts, begins_no_end}
+use Rattle.rox_verbatim.specs.PlainValues.{IsValueStart}
+use Rattle.rox_verbatim.proofs.Verbatim.{attribute_reads, item_more, value_is, value_starts, begins_no_end}
 use Rattle.rox_attributes.proofs.quick_attribute.verbatim_attribute.Goals as goal
 
 pub returns : goal.returns

@@ -1,6 +1,6 @@
 use Rattle.std.proofs.Common.{◌+◌, ◌-◌, take, arith, refl}
 use Rattle.rox_names.specs.declared.tables.ElementTables.{ElementTables}
-use Rattle.rox_attributes.proofs.PlainAttributes.{prefix_ends}
+use Rattle.rox_verbatim.proofs.Verbatim.{prefix_ends}
 use Rattle.rox_builder.proofs.Showing.{split_at}
 use Rattle.rox_content.proofs.Closing.{below_last}
 use Rattle.rox_content.proofs.Opening.{cut_back, fine_same}

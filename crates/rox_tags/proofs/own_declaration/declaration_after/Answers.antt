@@ -1,7 +1,7 @@
 use Rattle.std.proofs.Common.{ℕ, ◌==◌, refl, ap, arith}
 use Rattle.rox_grammar.specs.Failures.{name_view}
 use Rattle.rox_tags.proofs.OwnNames.{xmlns_letter}
-use Rattle.rox_attributes.proofs.PlainAttributes.{item_more}
+use Rattle.rox_verbatim.proofs.Verbatim.{item_more}
 use Rattle.rox_tags.proofs.own_declaration.declaration_after.Goals as goal
 
 pub returns : goal.returns

@@ -1,7 +1,7 @@
 use Rattle.std.proofs.Common.{◌≡◌, ◌-◌, ◌+◌, slice_index, refl, ap, ◌∙◌, arith}
 use Rattle.rox_grammar.specs.Failures.{name_view}
-use Rattle.rox_attributes.specs.PlainValues.{IsValueStart}
-use Rattle.rox_attributes.proofs.PlainAttributes.{attribute_reads, value_is, value_starts}
+use Rattle.rox_verbatim.specs.PlainValues.{IsValueStart}
+use Rattle.rox_verbatim.proofs.Verbatim.{attribute_reads, value_is, value_starts}
 use Rattle.rox_bytes.proofs.NearLemmas.{not_zero}
 use Rattle.rox_tags.proofs.own_declaration.plain_declaration.Goals as goal
 

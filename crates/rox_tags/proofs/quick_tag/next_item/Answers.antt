@@ -1,6 +1,6 @@
 use Rattle.std.proofs.Common.{◌∙◌, arith, rules}
 use Rattle.std.proofs.lemmas.Grind.{common_steps}
-use Rattle.rox_attributes.proofs.PlainAttributes.{one_space}
+use Rattle.rox_verbatim.proofs.Verbatim.{one_space}
 use Rattle.rox_tags.proofs.quick_tag.next_item.Goals as goal
 
 pub returns-then-bytes-at-gt62 : goal.returns-then-bytes-at-gt62

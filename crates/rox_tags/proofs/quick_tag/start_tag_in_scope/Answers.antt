@@ -1,7 +1,7 @@
 use Rattle.std.proofs.Common.{sym, subst, ◌∙◌, arith, rules}
 use Rattle.std.proofs.lemmas.Grind.{common_steps}
 use Rattle.rox_grammar.specs.Failures.{name_view}
-use Rattle.rox_attributes.specs.PlainNames.{IsPlainName}
+use Rattle.rox_verbatim.specs.PlainNames.{IsPlainName}
 use Rattle.rox_names.proofs.SpelledNames.{name_apart}
 use Rattle.rox_tags.proofs.quick_tag.start_tag_in_scope.Goals as goal
 

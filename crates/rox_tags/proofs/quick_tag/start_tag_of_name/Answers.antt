@@ -11,7 +11,7 @@ use Rattle.rox_names.specs.TagScopes.{scope_in_tables}
 use Rattle.rox_attributes.specs.PlainAttribute.{HasScope}
 use Rattle.rox_tags.specs.TagAttributes.{ArePlainAttributes}
 use Rattle.rox_bytes.proofs.RunLemmas.{stands_within}
-use Rattle.rox_attributes.proofs.PlainAttributes.{no_space}
+use Rattle.rox_verbatim.proofs.Verbatim.{no_space}
 use Rattle.rox_tags.proofs.TagAttributes.{holds_start, opens_there}
 use Rattle.rox_tags.proofs.WholeTags.{below_parent, plain_tagged}
 use Rattle.rox_names.proofs.SpelledNames.{unprefixed_name}

@@ -1,6 +1,6 @@
 use Rattle.std.proofs.Common.{sym, subst, ◌∙◌}
 use Rattle.rox_grammar.specs.Failures.{name_view}
-use Rattle.rox_attributes.specs.PlainNames.{EndsPrefix, IsPlainName}
+use Rattle.rox_verbatim.specs.PlainNames.{EndsPrefix, IsPlainName}
 use Rattle.rox_names.proofs.NameTests.{empty_is}
 use Rattle.rox_names.proofs.SpelledNames.{name_apart}
 use Rattle.rox_tags.proofs.quick_tag.start_tag_with_prefix.Goals as goal

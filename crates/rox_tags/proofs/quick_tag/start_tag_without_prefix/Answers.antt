@@ -9,7 +9,7 @@ use Rattle.rox_reading.specs.AtIndex.{namespace_at}
 use Rattle.rox_scopes.specs.NamespaceViews.{namespace_view}
 use Rattle.rox_names.specs.OpenElements.{open_name}
 use Rattle.rox_bytes.proofs.RunLemmas.{stands_within}
-use Rattle.rox_attributes.proofs.PlainAttributes.{near_cut}
+use Rattle.rox_verbatim.proofs.Verbatim.{near_cut}
 use Rattle.rox_tags.proofs.WholeTags.{plain_tagged}
 use Rattle.rox_names.proofs.SpelledNames.{unprefixed_name}
 use Rattle.rox_tags.proofs.quick_tag.start_tag_without_prefix.Goals as goal

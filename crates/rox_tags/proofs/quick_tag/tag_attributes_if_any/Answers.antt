@@ -1,5 +1,5 @@
 use Rattle.std.proofs.Common.{arith}
-use Rattle.rox_attributes.proofs.PlainAttributes.{no_space}
+use Rattle.rox_verbatim.proofs.Verbatim.{no_space}
 use Rattle.rox_tags.proofs.TagAttributes.{ends_or_not, holds_grown, holds_start}
 use Rattle.rox_tags.proofs.quick_tag.tag_attributes_if_any.Goals as goal
 

@@ -1,0 +1,2 @@
+pub mod PlainNames
+pub mod PlainValues
