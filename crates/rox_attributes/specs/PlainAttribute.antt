@@ -5,16 +5,14 @@ use Rattle.std.specs.Str.{IsCharBoundary}
 use Rattle.rox_grammar.specs.Written.{NamespaceDecl, is_namespace_decl, Name}
 use Rattle.rox_grammar.specs.Entities.{Entity}
 use Rattle.rox_grammar.specs.Failures.{name_view}
-use Rattle.rox_reading.specs.Markup.{RawAttribute, more, attribute_at, tag_item_at}
+use Rattle.rox_reading.specs.Markup.{attribute_at}
 use Rattle.rox_reading.specs.Values.{ValueInclusion, value_at}
-use Rattle.rox_reading.specs.Tags.{attribute_with}
 use Rattle.rox_rows.specs.Rows.{AttributeRow, NamespaceWithin, attribute_rows, attribute_uri}
 use Rattle.rox_scopes.specs.ScopeRows.{AreScopes}
 use Rattle.rox_scopes.specs.NamespaceViews.{namespace_view}
 use Rattle.rox_scopes.specs.Scopes.{ArePlaces, PrefixesOnce, places_in}
 use Rattle.rox_scopes.specs.declared.bindings.PrefixBindings.{PrefixBindings}
 use Rattle.rox_names.specs.ResolvedNames.{AddsResolved}
-use Rattle.rox_names.specs.TagDeclarations.{unresolved_view}
 use Rattle.rox_names.specs.SeenNames.{AreSeen}
 use Rattle.rox_names.specs.declared.seen_names.SeenNames.{SeenNames}
 use Rattle.rox_storage.specs.Storage.{storage_bytes, is_borrowed}
@@ -62,15 +60,6 @@ pub record IsPlainAttribute (src : List ℕ) (i : ℕ) (a : UnresolvedAttribute)
   -- The local name fits before `a.name_end`, and `=` and a quote fit before the value.
   pub local : a.start + length a.name.local.now ≤ a.name_end
   pub gap : a.name_end + 2 ≤ a.value_start
-
--- The attribute or declaration `a` is read after white space at `i`, and its value does not depend on context.
-pub record IsNearAttribute (src : List ℕ) (i : ℕ) (a : UnresolvedAttribute) : Type 0 where
-  pub raw : RawAttribute
-  pub read : tag_item_at src i ≡ Ok (more raw, a.end)
-  pub value : (main : Bool) (es : List Entity) (opener : ValueInclusion) (openings_left : ℕ)
-      → value_at main es opener src raw.value_start raw.value_end openings_left ≡ Ok (record { value = storage_bytes a.value; borrowed = is_borrowed a.value }, openings_left)
-  pub view : attribute_with raw (record { value = storage_bytes a.value; borrowed = is_borrowed a.value }) ≡ unresolved_view a
-  pub cut : IsCharBoundary src a.end
 
 -- A plain attribute from `i` up to `j`, which is not a declaration, was put after those of its tag, which start at the row
 -- `from`.

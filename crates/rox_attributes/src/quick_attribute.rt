@@ -7,7 +7,7 @@ ghost use Rattle.rox_bytes.specs.ScanResults.{EndsNear as StartsNear};
 ghost use Rattle.rox_grammar.specs.Runs.{begins};
 ghost use Rattle.rox_grammar.specs.Failures.{name_view};
 ghost use Rattle.rox_grammar.specs.Written.{Name};
-ghost use Rattle.rox_attributes.specs.PlainAttribute.{HasScope, IsAttributeNamespace, IsNearAttribute, IsPlainAttribute, MayPut, MayPutNamed, MayPutPart, PutsPlain, PutsSome};
+ghost use Rattle.rox_attributes.specs.PlainAttribute.{HasScope, IsAttributeNamespace, IsPlainAttribute, MayPut, MayPutNamed, MayPutPart, PutsPlain, PutsSome};
 
 use crate::any_value::any_value;
 use crate::prefix_cache::find_in_slot;
@@ -36,19 +36,6 @@ use rox_verbatim::quick_value::{
     unchanged_value, unchanged_value_end, value_in_window,
 };
 use std::alloc::Global;
-
-/// Returns the length of a text in bytes, which is always less than 2^63.
-#[inline]
-pub fn byte_count(text: &str) -> usize
-    ensures value { result ≡ length text.now }
-    ensures small { length text.now < 2 ^ 63 }
-{
-    let bytes = text.as_bytes();
-    bytes.len()
-}
-
-/// The maximum number of attributes in a document.
-pub const MOST_ATTRIBUTES: usize = 4294967294;
 
 /// The longest name, in bytes, that fits into a 16-byte window with `=` and a quote.
 const MOST_NAME: usize = 14;
@@ -186,44 +173,6 @@ fn put_any_attribute_at<'input>(
 {
     let part = skip_set::<PartByte>(text, start);
     put_any_attribute(text, NamePlace { start, part }, elements, scope, seen)
-}
-
-/// Returns the attribute or declaration after the white space at `at`, if it is written as most are. Then `=` and a quote follow
-/// right after its name, and its value needs no replacement.
-#[inline(always)]
-pub fn verbatim_attribute<'input>(
-    text: &'input str,
-    at: usize,
-) -> Option<UnresolvedAttribute<'input>>
-    requires { IsCharBoundary text.now at }
-    ensures { IfSome result (λ a. IsNearAttribute text.entry.now at a) }
-{
-    let small = byte_count(text);
-    if at + 1 >= text.len() {
-        return None;
-    }
-    let start = one_space_end(text, at);
-    if start == at || !begins::<NameStart>(text, start) {
-        return None;
-    }
-    let colon = part_end(text, start);
-    let name = name_of_part(text, start, colon)?;
-    let quote = quote_after_equals(text, name.end);
-    if quote == 0 {
-        return None;
-    }
-    let equals = after_byte(text, name.end, b'=');
-    let first = after_byte(text, equals, quote);
-    let near = skip_set::<ValueByte>(text, first);
-    let close = unchanged_value_end(text, first, quote, near)?;
-    Some(UnresolvedAttribute {
-        start,
-        name_end: name.end,
-        value_start: first,
-        end: after_byte(text, close, quote),
-        name: name.name,
-        value: StringStorage::Borrowed(&text[first..close]),
-    })
 }
 
 /// An attribute whose name and value were read, with `=` and a quote right after its name, and whose namespace is known.

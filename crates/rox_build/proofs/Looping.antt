@@ -13,7 +13,7 @@ use Rattle.rox_values.specs.Refusals.{IsRefusal}
 use Rattle.rox_values.specs.declared.parse_error.ParseError.{ParseError}
 use Rattle.rox_values.proofs.PartLemmas.{refuses_by}
 use Rattle.rox_builder.specs.BuilderState.{IsInState, ParsesTo}
-use Rattle.rox_tags.proofs.Moving.{step_moves}
+use Rattle.rox_starts.proofs.Moving.{step_moves}
 use Rattle.rox_builder.specs.declared.builder.Builder.{Builder}
 use Rattle.rox_content.specs.PlainSteps.{Steps, no_step, one_more, Reads}
 

@@ -26,7 +26,7 @@ use Rattle.rox_reading.specs.AtIndex.{scope_at}
 use Rattle.rox_scopes.specs.NamespaceViews.{namespace_view}
 use Rattle.rox_scopes.specs.Scopes.{PrefixesOnce}
 use Rattle.rox_names.specs.TagScopes.{lists_in}
-use Rattle.rox_tags.specs.ElementRow.{Tagged}
+use Rattle.rox_starts.specs.ElementRow.{Tagged}
 use Rattle.rox_tags.specs.PlainTag.{HoldSame}
 use Rattle.rox_builder.specs.BuilderState.{names_in, IsRowWithin, AreSound, IsConsistent, Grown, IsNode, IsOpening, Adds, ScansTo}
 use Rattle.rox_names.specs.OpenElements.{IsOpenWithin, HasName, IsNamespaceOf, IsOpened, open_name}

@@ -20,11 +20,11 @@ use Rattle.rox_names.specs.declared.tables.ElementTables.{ElementTables}
 use Rattle.rox_names.specs.declared.open_element.OpenElement.{OpenElement}
 use Rattle.rox_names.proofs.SameNames.{opened_named}
 use Rattle.rox_names.proofs.SpelledNames.{tag_is_named}
-use Rattle.rox_tags.specs.ElementRow.{Tagged}
+use Rattle.rox_starts.specs.ElementRow.{Tagged}
 use Rattle.rox_verbatim.specs.PlainNames.{EndsNear}
 use Rattle.rox_tags.specs.PlainTag.{IsPlainTag}
 use Rattle.rox_tags.specs.declared.quick_tag.PlainTag.{PlainTag}
-use Rattle.rox_tags.proofs.Moving.{plain_moves}
+use Rattle.rox_tags.proofs.WholeTags.{plain_moves}
 use Rattle.rox_builder.specs.BuilderState.{Adds, IsConsistent, IsNode, IsReady, IsReadyTo, Represents, ScansTo, last_row, opened_in}
 use Rattle.rox_builder.specs.Outcomes.{ReadsAt}
 use Rattle.rox_builder.specs.Putting.{MayPutOpen, PutsLeaf, PutsOpen}

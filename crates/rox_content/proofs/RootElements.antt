@@ -12,7 +12,7 @@ use Rattle.rox_scopes.specs.NamespaceViews.{namespace_view}
 use Rattle.rox_scopes.specs.Scopes.{PrefixesOnce}
 use Rattle.rox_names.specs.declared.tables.ElementTables.{ElementTables}
 use Rattle.rox_builder.specs.BuilderState.{Grown, IsConsistent, IsInState, last_row, open_lines, opened_in}
-use Rattle.rox_tags.specs.TagReadiness.{MayReadBelow}
+use Rattle.rox_starts.specs.TagReadiness.{MayReadBelow}
 use Rattle.rox_content.specs.RootTag.{HoldAlike}
 use Rattle.rox_builder.specs.declared.builder.Builder.{Builder}
 use Rattle.rox_names.specs.declared.open_element.OpenElement.{OpenElement}

@@ -25,11 +25,11 @@ use Rattle.rox_scopes.specs.declared.stored_scope.Scope.{Scope}
 use Rattle.rox_scopes.proofs.Ropes.{all_places}
 use Rattle.rox_names.specs.OpenElements.{IsNamespaceOf}
 use Rattle.rox_names.specs.declared.start_tag.StartTag.{StartTag}
-use Rattle.rox_tags.specs.ElementRow.{IsElementFrom}
+use Rattle.rox_starts.specs.ElementRow.{IsElementFrom}
 use Rattle.rox_tags.specs.PlainTag.{IsPlainTag}
 use Rattle.rox_tags.specs.TagAttributes.{AreNoBindings, ArePlainAttributes, HasRootScope, first_places, holding}
 use Rattle.rox_tags.specs.declared.own_declaration.TagScope.{TagScope}
-use Rattle.rox_tags.proofs.Starting.{tag_made, tested_known, tested_passes}
+use Rattle.rox_starts.proofs.Starting.{tag_made, tested_known, tested_passes}
 use Rattle.rox_tags.proofs.TagAttributes.{has_scope, plain_count, root_scopes, root_within, scope_declares, slice_whole}
 use Rattle.rox_content.specs.RootTag.{HoldAlike, IsBlank}
 

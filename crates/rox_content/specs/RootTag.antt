@@ -9,7 +9,7 @@ use Rattle.rox_names.specs.declared.tables.ElementTables.{ElementTables}
 use Rattle.rox_scan.specs.declared.cursor.Cursor.{Cursor}
 use Rattle.rox_tags.specs.PlainTag.{IsPlainTag}
 use Rattle.rox_tags.specs.TagAttributes.{AreNoBindings, BeginsRoot, first_places}
-use Rattle.rox_tags.specs.TagReadiness.{MayReadBelow}
+use Rattle.rox_starts.specs.TagReadiness.{MayReadBelow}
 use Rattle.rox_tags.specs.declared.quick_tag.PlainTag.{PlainTag}
 use Rattle.rox_builder.specs.BuilderState.{GoesOn, IsInState, ScansTo}
 use Rattle.rox_builder.specs.declared.builder.Builder.{Builder}

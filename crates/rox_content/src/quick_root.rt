@@ -16,11 +16,11 @@ use rox_scan::cursor::Cursor;
 use rox_scopes::bindings::PrefixBindings;
 use rox_scopes::namespace_table::NamespaceTable;
 use rox_scopes::stored_scope::{Scope, Stretch};
+use rox_starts::tag::element_of;
 use rox_storage::compare::same_text;
 use rox_storage::growth::push;
 use rox_tags::own_declaration::{OWN, TagScope};
 use rox_tags::quick_tag::{PlainTag, namespace_in_scope, tag_attributes};
-use rox_tags::tag::element_of;
 use rox_verbatim::quick_name::name_of_part;
 use std::alloc::AllocError;
 

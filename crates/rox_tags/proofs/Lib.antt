@@ -1,6 +1,3 @@
-pub mod Taking
-pub mod Starting
-pub mod Moving
 pub mod PlainTags
 pub mod TagAttributes
 pub mod OwnNames

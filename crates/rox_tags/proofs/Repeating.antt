@@ -38,16 +38,17 @@ use Rattle.rox_names.specs.declared.start_tag.StartTag.{StartTag}
 use Rattle.rox_names.specs.declared.unresolved_attribute.UnresolvedAttribute.{UnresolvedAttribute}
 use Rattle.rox_names.proofs.Declaring.{declared_new}
 use Rattle.rox_names.proofs.Resolving.{nothing_left}
-use Rattle.rox_tags.specs.ElementRow.{IsElementFrom}
+use Rattle.rox_starts.specs.ElementRow.{IsElementFrom}
 use Rattle.rox_tags.specs.PlainParts.{EndsTag}
-use Rattle.rox_attributes.specs.PlainAttribute.{HasScope, IsNearAttribute}
+use Rattle.rox_attributes.specs.PlainAttribute.{HasScope}
+use Rattle.rox_starts.specs.NearAttribute.{IsNearAttribute}
 use Rattle.rox_tags.specs.PlainTag.{IsPlainTag, MayOpenBelow}
 use Rattle.rox_tags.specs.Repeating.{AreOneMore, IsRepeated, Repeats}
 use Rattle.rox_tags.specs.TagAttributes.{holding}
 use Rattle.rox_tags.specs.declared.quick_tag.TagEnd.{TagEnd}
 use Rattle.rox_verbatim.proofs.Verbatim.{no_space}
 use Rattle.rox_tags.proofs.PlainTags.{item_closed, item_opened}
-use Rattle.rox_tags.proofs.Starting.{tag_made, tested_known, tested_passes}
+use Rattle.rox_starts.proofs.Starting.{tag_made, tested_known, tested_passes}
 use Rattle.rox_tags.proofs.TagAttributes.{end_is, taken_declared}
 
 -- ---- what the scope lists

@@ -23,11 +23,11 @@ use Rattle.rox_scopes.proofs.Listing.{listed-none}
 use Rattle.rox_names.specs.OpenElements.{IsNamespaceOf}
 use Rattle.rox_names.specs.declared.open_element.OpenElement.{OpenElement}
 use Rattle.rox_names.specs.declared.start_tag.StartTag.{StartTag}
-use Rattle.rox_tags.specs.ElementRow.{IsElementFrom}
+use Rattle.rox_starts.specs.ElementRow.{IsElementFrom}
 use Rattle.rox_tags.specs.PlainTag.{IsPlainTag, MayOpenBelow}
 use Rattle.rox_tags.specs.TagAttributes.{ArePlainAttributes, holding}
 use Rattle.rox_tags.specs.declared.own_declaration.TagScope.{TagScope}
-use Rattle.rox_tags.proofs.Starting.{tag_made, tested_known, tested_passes}
+use Rattle.rox_starts.proofs.Starting.{tag_made, tested_known, tested_passes}
 use Rattle.rox_tags.proofs.TagAttributes.{plain_count}
 
 -- a scope in which a tag declares nothing
@@ -90,3 +90,10 @@ plain_tagged old new o src i k end t from namespace below x is other starts name
       starts = starts;
       cut = cut;
     }
+
+-- a plain tag ends behind its start
+pub plain_moves : (old new : ElementTables) (above : List NamespaceDecl) (src : List ℕ) (i j : ℕ) (t : StartTag) → IsUtf8 src
+    → IsPlainTag old new above src i j t → i < j
+plain_moves old new above src i j t utf8 x =
+    let context : Values = record { main = true; entities = []; opener = λ text after l. Ok ([], l) } in
+    tag_moves src utf8 context fault.NoRootNode above _ _ i 0 _ (x.read context fault.NoRootNode 0)

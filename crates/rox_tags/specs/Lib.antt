@@ -1,6 +1,3 @@
-pub mod TagReadiness
-pub mod TagState
-pub mod ElementRow
 pub mod PlainTag
 pub mod Repeating
 pub mod PlainParts

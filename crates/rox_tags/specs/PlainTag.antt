@@ -13,7 +13,7 @@ use Rattle.rox_grammar.specs.Document.{most_pairs}
 use Rattle.rox_names.specs.TagScopes.{HasBindings, scope_in_tables}
 use Rattle.rox_names.specs.OpenElements.{IsOpenWithin}
 use Rattle.rox_names.specs.declared.open_element.OpenElement.{OpenElement}
-use Rattle.rox_tags.specs.ElementRow.{Tagged}
+use Rattle.rox_starts.specs.ElementRow.{Tagged}
 use Rattle.rox_tags.specs.declared.quick_tag.PlainTag.{PlainTag}
 use Rattle.rox_names.specs.declared.start_tag.StartTag.{StartTag}
 

@@ -24,7 +24,8 @@ use Rattle.rox_names.specs.TagDeclarations.{Declares, DeclaresNew, HasOwn}
 use Rattle.rox_names.specs.declared.seen_names.SeenNames.{SeenNames}
 use Rattle.rox_names.specs.declared.unresolved_attribute.UnresolvedAttribute.{UnresolvedAttribute}
 use Rattle.rox_verbatim.specs.PlainNames.{IsAttributeName}
-use Rattle.rox_attributes.specs.PlainAttribute.{HasScope, IsNearAttribute, IsPlainAttribute}
+use Rattle.rox_attributes.specs.PlainAttribute.{HasScope, IsPlainAttribute}
+use Rattle.rox_starts.specs.NearAttribute.{IsNearAttribute}
 use Rattle.rox_tags.specs.PlainParts.{EndsTag}
 use Rattle.rox_verbatim.specs.declared.quick_name.NameAt.{NameAt}
 use Rattle.rox_tags.specs.declared.quick_tag.TagEnd.{TagEnd}

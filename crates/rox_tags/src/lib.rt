@@ -1,7 +1,6 @@
-//! Start tags: their attributes and declarations, read into the tables of their elements.
+//! Start tags by the quick reader: their attributes and declarations, read into the tables of their elements.
 #![tactic(auto)]
 
 pub mod own_declaration;
 pub mod quick_tag;
 pub mod repeated_declaration;
-pub mod tag;

@@ -8,7 +8,7 @@ use Rattle.rox_reading.specs.Machine.{opened_by}
 use Rattle.rox_reading.specs.Refusals.{lifted}
 use Rattle.rox_values.specs.Contexts.{context_of}
 use Rattle.rox_scan.specs.declared.cursor.Cursor.{Cursor}
-use Rattle.rox_tags.specs.ElementRow.{Tagged}
+use Rattle.rox_starts.specs.ElementRow.{Tagged}
 use Rattle.rox_builder.specs.declared.builder.Builder.{Builder}
 use Rattle.rox_builder.specs.BuilderState.{GoesOn, IsNode, IsConsistent}
 use Rattle.rox_names.specs.OpenElements.{IsOpened}

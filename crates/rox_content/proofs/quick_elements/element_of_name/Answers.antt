@@ -4,7 +4,7 @@ use Rattle.rox_grammar.specs.Written.{NamespaceDecl}
 use Rattle.rox_grammar.specs.State.{scope_of}
 use Rattle.rox_reading.specs.Machine.{opened_by, cut_off_fault}
 use Rattle.rox_reading.specs.Refusals.{lifted}
-use Rattle.rox_tags.specs.ElementRow.{Tagged}
+use Rattle.rox_starts.specs.ElementRow.{Tagged}
 use Rattle.rox_builder.specs.BuilderState.{opened_in}
 use Rattle.rox_content.proofs.Closing.{below_last}
 use Rattle.rox_builder.proofs.Showing.{innermost_row}
@@ -13,7 +13,7 @@ use Rattle.rox_grammar.specs.declared.fault.Fault.TheVariants as fault
 use Rattle.rox_reading.specs.Tags.{Values}
 use Rattle.rox_names.proofs.SameNames.{opened_named}
 use Rattle.rox_names.proofs.SpelledNames.{tag_is_named}
-use Rattle.rox_tags.proofs.Moving.{plain_moves}
+use Rattle.rox_tags.proofs.WholeTags.{plain_moves}
 use Rattle.rox_content.proofs.Opening.{is_opening, fine_by, fine_more, namespace_by, tag_is, open_stepped}
 use Rattle.rox_content.proofs.quick_elements.element_of_name.Goals as goal
 

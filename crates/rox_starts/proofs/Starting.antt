@@ -27,9 +27,9 @@ use Rattle.rox_scopes.specs.ScopeRows.{lists_of, AreScopes}
 use Rattle.rox_scopes.specs.NamespaceViews.{namespace_view}
 use Rattle.rox_scopes.specs.Scopes.{ArePlaces, PrefixesOnce}
 use Rattle.rox_names.specs.TagDeclarations.{unresolved_view}
-use Rattle.rox_tags.specs.TagState.{HoldsTag}
+use Rattle.rox_starts.specs.TagState.{HoldsTag}
 use Rattle.rox_names.specs.TagScopes.{HasBindings, lists_in, scope_in_tables}
-use Rattle.rox_tags.specs.ElementRow.{IsElement, Tagged}
+use Rattle.rox_starts.specs.ElementRow.{IsElement, Tagged}
 
 -- nothing is held before the first attribute
 pub holds_nothing : (namespaces : List NamespaceDecl) (listed : List ℕ) (taken : List UnresolvedAttribute) → length namespaces ≤ most_pairs → taken ≡ []

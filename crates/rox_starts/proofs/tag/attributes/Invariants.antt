@@ -4,9 +4,9 @@ use Rattle.rox_reading.specs.Tags.{TagSoFar, attributes_at}
 use Rattle.rox_scopes.specs.NamespaceViews.{namespace_view}
 use Rattle.rox_grammar.specs.Entities.{Entity}
 use Rattle.rox_values.specs.DeclaredEntities.{AreDeclared, values_in}
-use Rattle.rox_tags.specs.TagState.{HoldsTag, IsReadingTag, KeepsScopes}
-use Rattle.rox_tags.proofs.Taking.{Going}
-use Rattle.rox_tags.proofs.tag.attributes.Given as goal
+use Rattle.rox_starts.specs.TagState.{HoldsTag, IsReadingTag, KeepsScopes}
+use Rattle.rox_starts.proofs.Taking.{Going}
+use Rattle.rox_starts.proofs.tag.attributes.Given as goal
 
 abbrev pub invariant-attributes : goal.invariant-attributes
 invariant-attributes l = record {

@@ -2,7 +2,7 @@ use Rattle.std.proofs.Common.{◌≡◌, ◌-◌, ◌+◌, ◌<◌, ◌==◌, �
 use Rattle.rox_grammar.specs.Failures.{name_view}
 use Rattle.rox_verbatim.specs.PlainValues.{IsValueStart}
 use Rattle.rox_verbatim.proofs.Verbatim.{attribute_reads, item_more, value_is, value_starts, begins_no_end}
-use Rattle.rox_attributes.proofs.quick_attribute.verbatim_attribute.Goals as goal
+use Rattle.rox_starts.proofs.verbatim_attribute.verbatim_attribute.Goals as goal
 
 pub returns : goal.returns
 returns c =

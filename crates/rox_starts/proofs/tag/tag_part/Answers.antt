@@ -3,8 +3,8 @@ use Rattle.rox_reading.specs.Markup.{tag_item_at, more}
 use Rattle.rox_markup.specs.Views.{attribute_view, tag_item_view}
 use Rattle.rox_markup.specs.declared.tag.TagItem.{TagItem as CodeTagItem}
 use Rattle.rox_values.specs.DeclaredEntities.{values_in}
-use Rattle.rox_tags.proofs.Taking.{turn_gives}
-use Rattle.rox_tags.proofs.tag.tag_part.Goals as goal
+use Rattle.rox_starts.proofs.Taking.{turn_gives}
+use Rattle.rox_starts.proofs.tag.tag_part.Goals as goal
 
 pub returns-in-Some : goal.returns-in-Some
 returns-in-Some c = record {

@@ -3,11 +3,11 @@ use Rattle.std.proofs.lemmas.Result.{err_from_is_err_and}
 use Rattle.std.proofs.lemmas.Bool.{leb-true, leb-false}
 use Rattle.rox_values.specs.Refusals.{IsRefusal, of_failure}
 use Rattle.rox_values.specs.DeclaredEntities.{values_in}
-use Rattle.rox_tags.specs.TagState.{GivesTagPart}
-use Rattle.rox_tags.specs.declared.tag.TagPart.{TagPart}
-use Rattle.rox_tags.specs.declared.tag.TagPart.TheVariants as part
-use Rattle.rox_tags.proofs.Taking.{one_more, took_one, refused_one, kept_scopes, going_cut, going_none, going_ends, going_on, going_stops, going_refused}
-use Rattle.rox_tags.proofs.tag.attributes.Goals as goal
+use Rattle.rox_starts.specs.TagState.{GivesTagPart}
+use Rattle.rox_starts.specs.declared.tag.TagPart.{TagPart}
+use Rattle.rox_starts.specs.declared.tag.TagPart.TheVariants as part
+use Rattle.rox_starts.proofs.Taking.{one_more, took_one, refused_one, kept_scopes, going_cut, going_none, going_ends, going_on, going_stops, going_refused}
+use Rattle.rox_starts.proofs.tag.attributes.Goals as goal
 
 pub returns-then-is_at_end : goal.returns-then-is_at_end
 returns-then-is_at_end c = record {

@@ -4,8 +4,8 @@ use Rattle.rox_scopes.specs.NamespaceViews.{namespace_view}
 use Rattle.rox_scopes.specs.Bindings.{AreBindingsOf}
 use Rattle.rox_names.specs.TagScopes.{lists_in}
 use Rattle.rox_names.specs.TagDeclarations.{unresolved_view}
-use Rattle.rox_tags.proofs.Taking.{took_declaration, refused_declaration, took_attribute}
-use Rattle.rox_tags.proofs.tag.add_attribute.Goals as goal
+use Rattle.rox_starts.proofs.Taking.{took_declaration, refused_declaration, took_attribute}
+use Rattle.rox_starts.proofs.tag.add_attribute.Goals as goal
 
 pub returns-then-is_namespace_decl : goal.returns-then-is_namespace_decl
 returns-then-is_namespace_decl c = record {

@@ -24,7 +24,7 @@ use Rattle.rox_names.specs.declared.tables.ElementTables.{ElementTables}
 use Rattle.rox_storage.specs.Storage.{storage_bytes, is_borrowed}
 use Rattle.rox_names.specs.declared.unresolved_attribute.UnresolvedAttribute.{UnresolvedAttribute}
 use Rattle.rox_names.specs.TagDeclarations.{unresolved_view, Declared}
-use Rattle.rox_tags.specs.TagState.{HoldsTag, KeepsScopes, GivesAttribute, GivesTagPart, AddsAttribute, value_of}
+use Rattle.rox_starts.specs.TagState.{HoldsTag, KeepsScopes, GivesAttribute, GivesTagPart, AddsAttribute, value_of}
 use Rattle.rox_theory.proofs.Basics.{chosen}
 
 -- an attribute with its value is the one that the code makes of it

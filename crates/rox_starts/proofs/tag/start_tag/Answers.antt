@@ -16,11 +16,11 @@ use Rattle.rox_scopes.specs.ScopeRows.{AreScopes}
 use Rattle.rox_scopes.specs.NamespaceViews.{namespace_view}
 use Rattle.rox_scopes.specs.Scopes.{PrefixesOnce}
 use Rattle.rox_names.specs.TagScopes.{scope_in_tables}
-use Rattle.rox_tags.specs.TagState.{IsReadingTag}
+use Rattle.rox_starts.specs.TagState.{IsReadingTag}
 use Rattle.rox_names.proofs.Declaring.{scope_declared, once_none}
 use Rattle.rox_scopes.proofs.Remembering.{remembers_none}
-use Rattle.rox_tags.proofs.Starting.{holds_nothing, tag_unread, tag_untested, tag_made, tagged, tested_fails, tested_passes}
-use Rattle.rox_tags.proofs.tag.start_tag.Goals as goal
+use Rattle.rox_starts.proofs.Starting.{holds_nothing, tag_unread, tag_untested, tag_made, tagged, tested_fails, tested_passes}
+use Rattle.rox_starts.proofs.tag.start_tag.Goals as goal
 
 pub attributes-requires : goal.attributes-requires
 attributes-requires c =

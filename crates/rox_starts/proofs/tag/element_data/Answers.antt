@@ -15,8 +15,8 @@ use Rattle.rox_names.specs.TagDeclarations.{unresolved_view}
 use Rattle.rox_names.specs.TagScopes.{lists_in}
 use Rattle.rox_names.proofs.Finding.{looks_for, found_for, seen_by}
 use Rattle.rox_reading.proofs.AtIndex.{option_more}
-use Rattle.rox_tags.proofs.Starting.{tested_amiss, tested_unknown, tested_known}
-use Rattle.rox_tags.proofs.tag.element_data.Goals as goal
+use Rattle.rox_starts.proofs.Starting.{tested_amiss, tested_unknown, tested_known}
+use Rattle.rox_starts.proofs.tag.element_data.Goals as goal
 
 pub few_places-few-requires : goal.few_places-few-requires
 few_places-few-requires c = rw (c.deref.ensures.value, c.deref-2.ensures.value) (record { scopes = c.requires.scopes; within = c.requires.within })

@@ -12,9 +12,9 @@ use Rattle.rox_reading.specs.Refusals.{Refusal}
 use Rattle.rox_reading.specs.Tags.{TagSoFar, TagRest, Values, attribute_with, attributes_at, taken}
 use Rattle.rox_reading.specs.Values.{ReadText, value_at}
 use Rattle.rox_names.specs.declared.start_tag.Buffers.{Buffers}
-use Rattle.rox_tags.specs.declared.tag.OpenTag.{OpenTag}
-use Rattle.rox_tags.specs.declared.tag.TagPart.{TagPart}
-use Rattle.rox_tags.specs.declared.tag.TagPart.TheVariants as part
+use Rattle.rox_starts.specs.declared.tag.OpenTag.{OpenTag}
+use Rattle.rox_starts.specs.declared.tag.TagPart.{TagPart}
+use Rattle.rox_starts.specs.declared.tag.TagPart.TheVariants as part
 use Rattle.rox_values.specs.declared.parse_error.ParseError.TheVariants as error
 use Rattle.rox_scan.specs.declared.cursor.Cursor.{Cursor}
 use Rattle.rox_scopes.specs.PrefixSet.{IsPrefixSet}

@@ -2,16 +2,16 @@
 
 ghost use Rattle.std.specs.Prelude.{◌≡◌, ◌<◌, ◌^◌, List, length, map, IfOk};
 ghost use Rattle.rox_grammar.specs.Failures.{name_view};
-ghost use Rattle.rox_tags.specs.ElementRow.{IsElementFrom, MakesElement, MayMakeElement, ReadsStartTag};
-ghost use Rattle.rox_tags.specs.TagReadiness.{IsBehind, MayReadTagBelow, MayResolve};
+ghost use Rattle.rox_starts.specs.ElementRow.{IsElementFrom, MakesElement, MayMakeElement, ReadsStartTag};
+ghost use Rattle.rox_starts.specs.TagReadiness.{IsBehind, MayReadTagBelow, MayResolve};
 ghost use Rattle.rox_markup.specs.Views.{attribute_view};
 ghost use Rattle.rox_grammar.specs.Entities.{Entity};
 ghost use Rattle.rox_values.specs.DeclaredEntities.{AreDeclared, values_in};
 ghost use Rattle.rox_values.specs.Values.{piece_view};
 ghost use Rattle.rox_names.specs.TagDeclarations.{unresolved_view};
-ghost use Rattle.rox_tags.specs.TagState.{IsReadingTag, GivesAttribute, ReadsAttributes, ReadsTagPart, TakesAttribute, IsStored, value_of};
+ghost use Rattle.rox_starts.specs.TagState.{IsReadingTag, GivesAttribute, ReadsAttributes, ReadsTagPart, TakesAttribute, IsStored, value_of};
 
-use rox_attributes::quick_attribute::{MOST_ATTRIBUTES, byte_count, verbatim_attribute};
+use crate::verbatim_attribute::{byte_count, verbatim_attribute};
 use rox_grammar::failure::Failure;
 use rox_grammar::fault::Fault;
 use rox_grammar::name::QName;
@@ -37,6 +37,9 @@ use rox_values::parse_error::ParseError;
 use rox_values::text_value::TextValue;
 use std::alloc::{AllocError, Global};
 use std::collections::BTreeSet;
+
+/// The maximum number of attributes in a document.
+pub const MOST_ATTRIBUTES: usize = 4294967294;
 
 /// The number of attributes for which the buffer of a tag gets room with its first.
 const ROOM_OF_A_TAG: usize = 11;

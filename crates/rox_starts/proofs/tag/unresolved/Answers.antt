@@ -2,8 +2,8 @@ use Rattle.std.proofs.Common.{◌≡◌, refl, ap, ◌∙◌, List, ℕ, string_
 use Rattle.std.proofs.lemmas.Result.{err_from_is_err_and}
 use Rattle.rox_names.specs.declared.unresolved_attribute.UnresolvedAttribute.{UnresolvedAttribute}
 use Rattle.rox_values.specs.Values.{piece_view}
-use Rattle.rox_tags.proofs.Taking.{view_is}
-use Rattle.rox_tags.proofs.tag.unresolved.Goals as goal
+use Rattle.rox_starts.proofs.Taking.{view_is}
+use Rattle.rox_starts.proofs.tag.unresolved.Goals as goal
 
 pub returns-in_err-piece : goal.returns-in_err-piece
 returns-in_err-piece c = λ es declared.

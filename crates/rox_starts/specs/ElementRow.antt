@@ -26,7 +26,7 @@ use Rattle.rox_names.specs.TagScopes.{lists_in, HasBindings, scope_in_tables}
 use Rattle.rox_rows.specs.declared.row.ElementData.{ElementData}
 use Rattle.rox_names.specs.declared.tables.ElementTables.{ElementTables}
 use Rattle.rox_names.specs.declared.start_tag.StartTag.{StartTag}
-use Rattle.rox_tags.specs.declared.tag.TagContext.{TagContext}
+use Rattle.rox_starts.specs.declared.tag.TagContext.{TagContext}
 
 -- The attributes `written` were appended to the table `old`, with their namespaces in the scope `scope`.
 pub record HasAttributes (old new : List AttributeRow) (namespaces : List NamespaceDecl) (scope : List NamespaceDecl) (written : List Attribute) : Type 0 where

@@ -1,8 +1,7 @@
 -- What is read of content moves on in the source.
-use Rattle.std.proofs.Common.{◌≡◌, ◌≢◌, ℕ, zero, suc, ◌+◌, ◌<◌, ◌≤◌, Bool, nat_le, bytes_eq, leb, true, false, List, [], length, Result, Ok, sym, ap, ◌∙◌, arith}
+use Rattle.std.proofs.Common.{◌≡◌, ◌≢◌, ℕ, zero, suc, ◌+◌, ◌<◌, ◌≤◌, Bool, nat_le, bytes_eq, leb, true, false, List, length, Result, Ok, sym, ap, ◌∙◌, arith}
 use Rattle.std.specs.Str.{IsUtf8}
 use Rattle.rox_grammar.specs.declared.fault.Fault.{Fault}
-use Rattle.rox_grammar.specs.declared.fault.Fault.TheVariants as fault
 use Rattle.rox_grammar.specs.declared.fault.Word.TheVariants as word
 use Rattle.rox_grammar.specs.Chars.{is_space}
 use Rattle.rox_grammar.specs.Content.{is_verbatim}
@@ -29,9 +28,6 @@ use Rattle.rox_theory.proofs.NameLemmas.{qname_le, qname_sound}
 use Rattle.rox_theory.proofs.Productions.{char_data_parts}
 use Rattle.rox_theory.proofs.RunLemmas.{raw_sound}
 use Rattle.rox_theory.proofs.TagLemmas.{ends_inside}
-use Rattle.rox_names.specs.declared.tables.ElementTables.{ElementTables}
-use Rattle.rox_tags.specs.PlainTag.{IsPlainTag}
-use Rattle.rox_names.specs.declared.start_tag.StartTag.{StartTag}
 
 -- ---- start tags
 
@@ -82,13 +78,6 @@ tag_moves src utf8 context cut above count known i l x h =
       attributes_move src utf8 (length src) context cut known n.1 l _ y rest,
       ap (λ (z : TagRead × ℕ). z.1) (ok_same _ _ h),
     )))))
-
--- the same of one that is plain
-pub plain_moves : (old new : ElementTables) (above : List NamespaceDecl) (src : List ℕ) (i j : ℕ) (t : StartTag) → IsUtf8 src
-    → IsPlainTag old new above src i j t → i < j
-plain_moves old new above src i j t utf8 x =
-    let context : Values = record { main = true; entities = []; opener = λ text after l. Ok ([], l) } in
-    tag_moves src utf8 context fault.NoRootNode above _ _ i 0 _ (x.read context fault.NoRootNode 0)
 
 -- ---- constructs
 

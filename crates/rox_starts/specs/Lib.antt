@@ -1,0 +1,4 @@
+pub mod TagReadiness
+pub mod TagState
+pub mod ElementRow
+pub mod NearAttribute
