@@ -15,7 +15,7 @@ use Rattle.rox_values.proofs.PartLemmas.{refuses_by}
 use Rattle.rox_builder.specs.BuilderState.{IsInState, ParsesTo}
 use Rattle.rox_starts.proofs.Moving.{step_moves}
 use Rattle.rox_builder.specs.declared.builder.Builder.{Builder}
-use Rattle.rox_content.specs.PlainSteps.{Steps, no_step, one_more, Reads}
+use Rattle.rox_sections.specs.PlainSteps.{Steps, no_step, one_more, Reads}
 
 -- Reading goes on where the cursor and the builder stand, and gives the whole: so many turns have come there, a byte at least each, and
 -- the steps that are left are enough for the rest of the text.

@@ -1,10 +1,4 @@
-pub mod LineRuns
-pub mod ChangedRuns
 pub mod Opening
-pub mod Twice
-pub mod PlainReads
-pub mod PlainSections
-pub mod SetSections
 pub mod RootTags
 pub mod RootElements
 pub mod SameBytes

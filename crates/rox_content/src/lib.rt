@@ -1,9 +1,7 @@
-//! Content by the quick reader: elements, character data, sections, and the start tag of the root element.
+//! Content by the quick reader: elements, one construct after another, and the start tag of the root element.
 #![tactic(auto)]
 
 pub mod quick_content;
-pub mod quick_data;
 pub mod quick_elements;
 pub mod quick_root;
-pub mod quick_sections;
 pub mod same_front;

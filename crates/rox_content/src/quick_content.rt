@@ -3,17 +3,17 @@
 
 ghost use Rattle.std.specs.Prelude.{◌≡◌, true};
 ghost use Rattle.rox_builder.specs.Outcomes.{MayStep};
-ghost use Rattle.rox_content.specs.PlainOutcomes.{MayReadPlain, MayReadRows, ReadsMarkup, ReadsRows, ReadsStep, StandsApart};
+ghost use Rattle.rox_sections.specs.PlainOutcomes.{MayReadPlain, MayReadRows, ReadsMarkup, ReadsRows, ReadsStep, StandsApart};
 
-use crate::quick_data::put_character_data;
 use crate::quick_elements::{
     close_element, element_in_scope, element_of_name, element_of_part, element_without_prefix,
 };
-use crate::quick_sections::{MOST_BYTES, put_delimited};
 use rox_builder::builder::Builder;
 use rox_bytes::byte_set::{PartByte, find_run, part_end};
 use rox_bytes::runs::{after_byte, is_at};
 use rox_scan::cursor::Cursor;
+use rox_sections::quick_data::put_character_data;
+use rox_sections::quick_sections::{MOST_BYTES, put_delimited};
 
 /// Returns true only if no text is open that character data at the cursor would continue.
 #[inline(always)]

@@ -6,16 +6,16 @@ ghost use Rattle.rox_reading.specs.Machine as machine;
 ghost use Rattle.rox_reading.specs.Refusals.{lifted};
 ghost use Rattle.rox_builder.specs.Outcomes.{ReadsAt};
 ghost use Rattle.rox_builder.specs.Readiness.{IsApart};
-ghost use Rattle.rox_content.specs.PlainOutcomes.{MayReadBare, MayReadEnd, MayReadAscii, MayReadFirst, MayReadPart, MayReadPrefixed, ReadsIf, any_context};
+ghost use Rattle.rox_sections.specs.PlainOutcomes.{MayReadBare, MayReadEnd, MayReadAscii, MayReadFirst, MayReadPart, MayReadPrefixed, ReadsIf, any_context};
 ghost use Rattle.rox_content.specs.PlainElements.{MayPutElement, PutsElement};
 
-use crate::quick_sections::NOT_READ;
 use crate::same_front::closes_front;
 use rox_builder::builder::Builder;
 use rox_bytes::byte_set::{RunEnd, part_end_beyond};
 use rox_bytes::runs::after_byte;
 use rox_rows::row::NodeKind;
 use rox_scan::cursor::Cursor;
+use rox_sections::quick_sections::NOT_READ;
 use rox_tags::quick_tag::{
     PlainTag, start_tag_in_scope, start_tag_of_name, start_tag_with_prefix,
     start_tag_without_prefix,

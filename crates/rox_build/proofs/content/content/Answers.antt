@@ -5,7 +5,7 @@ use Rattle.rox_values.specs.Refusals.{IsRefusal}
 use Rattle.rox_grammar.specs.State.{is_root}
 use Rattle.rox_reading.specs.Machine.{step}
 use Rattle.rox_values.specs.Contexts.{context_of}
-use Rattle.rox_content.specs.PlainSteps.{Reads}
+use Rattle.rox_sections.specs.PlainSteps.{Reads}
 use Rattle.rox_build.proofs.Looping.{drives_on, drive_fails, drive_done, drive_cut, drives_beyond, drives_past}
 use Rattle.rox_builder.specs.BuilderState.{ParsesTo}
 use Rattle.rox_builder.proofs.Stepping.{fine_open, rows_kept, state_kept}

@@ -6,7 +6,7 @@ use Rattle.rox_grammar.specs.Content.{is_verbatim}
 use Rattle.rox_scan.specs.Views.{replacement_view}
 use Rattle.rox_scan.proofs.ShortLemmas.{longer_run}
 use Rattle.rox_builder.proofs.Joining.{nothing_opened, run_opened}
-use Rattle.rox_content.proofs.PlainReads.{kept_rests}
+use Rattle.rox_sections.proofs.PlainReads.{kept_rests}
 use Rattle.rox_build.proofs.content.joins.Goals as goal
 
 if_ok : {A E : Type 0} {P Q : A → Type 0} (r : Result A E) → IfOk r P → ((a : A) → P a → Q a) → IfOk r Q

@@ -2,7 +2,7 @@ use Rattle.std.proofs.Common.{ℕ, List, ◌+◌, slice_index, ne_eqb, refl, sym
 use Rattle.std.specs.Str.{IsCharBoundary}
 use Rattle.std.proofs.lemmas.Grind.{common_steps}
 use Rattle.rox_builder.proofs.Stepping.{step_is_markup}
-use Rattle.rox_content.proofs.PlainReads.{keeps_same}
+use Rattle.rox_sections.proofs.PlainReads.{keeps_same}
 use Rattle.rox_content.proofs.quick_content.markup_of_text.Goals as goal
 use Rattle.rox_content.proofs.quick_content.markup_of_text.Goals.{then-next-le63, else-next-le63}
 

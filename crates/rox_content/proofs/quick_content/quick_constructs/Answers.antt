@@ -3,7 +3,7 @@ use Rattle.rox_grammar.specs.State.{is_root}
 use Rattle.rox_scan.specs.declared.cursor.Cursor.{Cursor}
 use Rattle.rox_builder.specs.BuilderState.{GoesOn, IsReadyTo}
 use Rattle.rox_builder.proofs.Stepping.{step_is_run, state_kept}
-use Rattle.rox_content.proofs.Twice.{Between, ready_within, reads_none, reads_run, reads_markup, reads_kept}
+use Rattle.rox_sections.proofs.Twice.{Between, ready_within, reads_none, reads_run, reads_markup, reads_kept}
 use Rattle.rox_content.proofs.quick_content.quick_constructs.Goals as goal
 use Rattle.rox_content.proofs.quick_content.quick_constructs.Goals.{else-loop-builder-test, then-loop-builder-test+then-is_at_root, then-loop-builder-test+else-is_at_root+then-here-bytes, then-loop-builder-test+else-is_at_root+else-here-bytes+then-bytes-here-ne60+then-not-put_character_data, then-loop-builder-test+else-is_at_root+else-here-bytes+then-not-quick_markup, then-bytes-here-ne60+else-not-put_character_data, else-bytes-here-ne60}
 

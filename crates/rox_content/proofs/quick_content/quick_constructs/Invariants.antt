@@ -2,8 +2,8 @@ use Rattle.std.proofs.Common.{◌≡◌, ℕ, ◌+◌, ◌-◌, ◌<◌, length,
 use Rattle.rox_reading.specs.State.{State}
 use Rattle.rox_reading.specs.Machine.{Context}
 use Rattle.rox_builder.specs.BuilderState.{IsConsistent, IsInState, IsReadyTo}
-use Rattle.rox_content.specs.PlainOutcomes.{StandsApart}
-use Rattle.rox_content.specs.PlainSteps.{Reads}
+use Rattle.rox_sections.specs.PlainOutcomes.{StandsApart}
+use Rattle.rox_sections.specs.PlainSteps.{Reads}
 use Rattle.rox_content.proofs.quick_content.quick_constructs.Given as goal
 
 abbrev pub invariant-loop-builder : goal.invariant-loop-builder

@@ -3,7 +3,7 @@ use Rattle.std.specs.Str.{IsCharBoundary}
 use Rattle.std.proofs.lemmas.Grind.{common_steps}
 use Rattle.rox_builder.specs.BuilderState.{IsInState, IsReady, IsReadyTo}
 use Rattle.rox_builder.proofs.Stepping.{step_is_markup}
-use Rattle.rox_content.proofs.PlainReads.{keeps_same, steps_not}
+use Rattle.rox_sections.proofs.PlainReads.{keeps_same, steps_not}
 use Rattle.rox_content.proofs.quick_content.quick_markup.Goals as goal
 use Rattle.rox_content.proofs.quick_content.quick_markup.Goals.{then-bytes-near-lt58, else-bytes-near-lt58}
 

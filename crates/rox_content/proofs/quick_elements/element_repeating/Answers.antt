@@ -2,7 +2,7 @@ use Rattle.std.proofs.Common.{◌-◌, take, arith, refl}
 use Rattle.rox_builder.proofs.Showing.{split_at}
 use Rattle.rox_content.proofs.Closing.{below_last}
 use Rattle.rox_content.proofs.PlainElements.{below, row_below, may_put, element_reads}
-use Rattle.rox_content.proofs.PlainReads.{reads_not}
+use Rattle.rox_sections.proofs.PlainReads.{reads_not}
 use Rattle.rox_content.proofs.quick_elements.element_repeating.Goals as goal
 
 pub start_tag_repeating-requires : goal.start_tag_repeating-requires

@@ -4,9 +4,9 @@ use Rattle.rox_names.specs.declared.tables.ElementTables.{ElementTables}
 use Rattle.rox_builder.proofs.Showing.{split_at}
 use Rattle.rox_content.proofs.Closing.{below_last}
 use Rattle.rox_content.proofs.Opening.{cut_back, fine_same}
-use Rattle.rox_content.proofs.PlainReads.{reads_kept}
+use Rattle.rox_sections.proofs.PlainReads.{reads_kept}
 use Rattle.rox_content.proofs.PlainElements.{below, row_below, may_put, element_reads, part_near}
-use Rattle.rox_content.proofs.PlainReads.{reads_not}
+use Rattle.rox_sections.proofs.PlainReads.{reads_not}
 use Rattle.rox_content.proofs.quick_elements.element_without_prefix.Goals as goal
 
 pub start_tag_without_prefix-requires : goal.start_tag_without_prefix-requires

@@ -1,0 +1,3 @@
+pub mod PlainSteps
+pub mod PlainOutcomes
+pub mod Sections
