@@ -1,4 +1,3 @@
-pub mod Declared
 pub mod Looping
 pub mod Wholes
 pub mod Documents

@@ -12,13 +12,13 @@ ghost use Rattle.rox_build.specs.OpenedTexts.{GivesPiece, JoinsWhole, OpensText,
 ghost use Rattle.rox_builder.specs.Outcomes.{MayStep, ParsesAs};
 ghost use Rattle.rox_builder.specs.Readiness.{MayReadTo};
 
-use crate::constructs::{end_tag, markup};
 use rox_builder::builder::Builder;
+use rox_constructs::constructs::{end_tag, markup};
+use rox_constructs::parsed::parsed;
 use rox_content::quick_content::{quick_constructs, quick_markup_of_text};
 use rox_grammar::failure::Failure;
 use rox_grammar::fault::Fault;
 use rox_names::start_tag::Buffers;
-use rox_prolog::parsed::parsed;
 use rox_scan::character_data::raw_character_data;
 use rox_scan::cursor::Cursor;
 use rox_scan::short_run::is_plain_to_end;

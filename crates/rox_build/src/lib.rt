@@ -1,6 +1,5 @@
 //! From a text to the tables of its tree.
 #![tactic(auto)]
 
-pub mod constructs;
 pub mod content;
 pub mod reader;

@@ -13,13 +13,13 @@ ghost use Rattle.rox_build.specs.Built.{Built, BuiltRefusal};
 ghost use Rattle.rox_build.specs.TextParts.{ReadsBody, ReadsDocument, ReadsRest};
 ghost use Rattle.rox_build.specs.WholeTexts.{IsBegun};
 
-use crate::constructs::element;
 use crate::content::content;
 use rox_builder::builder::{Builder, FirstTables, empty_scope};
+use rox_constructs::constructs::element;
+use rox_constructs::misc::misc;
 use rox_content::quick_root::{RootLook, root_element};
 use rox_grammar::fault::Fault;
 use rox_markup::source::start_of;
-use rox_prolog::misc::misc;
 use rox_prolog::prolog::{doctype, prolog_start};
 use rox_prolog::resolver::EntityResolver;
 use rox_rows::attributes::AttributeTable;

@@ -12,16 +12,11 @@ use Rattle.rox_reading.specs.Markup.{end_tag_at}
 use Rattle.rox_bytes.proofs.RunLemmas.{run_stops_ascii, stands_within}
 use Rattle.rox_tags.proofs.PlainTags.{end_tag_is}
 use Rattle.rox_builder.specs.BuilderState.{IsConsistent}
+use Rattle.rox_constructs.proofs.Opening.{all_last}
 use Rattle.rox_names.specs.OpenElements.{name_length, HasName, IsOpenWithin, open_name}
 use Rattle.rox_tags.specs.PlainTag.{MayOpenBelow}
 use Rattle.rox_names.specs.declared.tables.ElementTables.{ElementTables}
 use Rattle.rox_names.specs.declared.open_element.OpenElement.{OpenElement}
-
--- ---- of an end tag
-
-pub all_last : {X : Type 0} (P : X → Type 0) (xs : List X) (x : X) → AllByRecursion P (xs ++ x ∷ []) → P x
-all_last P [] x h = h.0
-all_last P (y ∷ ys) x h = all_last P ys x h.1
 
 -- below the innermost open element
 pub below_last : (t : ElementTables) (os outer : List OpenElement) (o : OpenElement) → IsConsistent t os → os ≡ outer ++ o ∷ [] → MayOpenBelow t o

@@ -1,6 +1,6 @@
-pub mod Opening
 pub mod RootTags
 pub mod RootElements
 pub mod SameBytes
 pub mod Closing
 pub mod PlainElements
+pub mod TakenBack

@@ -33,7 +33,7 @@ use Rattle.rox_builder.proofs.Growing.{grown_shows}
 use Rattle.rox_builder.proofs.Showing.{split_at, innermost_row}
 use Rattle.rox_builder.proofs.Stepping.{top_scope}
 use Rattle.rox_content.specs.PlainElements.{MayPutElement, PutsElement}
-use Rattle.rox_content.proofs.Opening.{grown_by, is_node, is_opening, fine_by, fine_kept, fine_more, namespace_by, tag_is, empty_stepped, open_stepped}
+use Rattle.rox_constructs.proofs.Opening.{grown_by, is_node, is_opening, fine_by, fine_kept, fine_more, namespace_by, tag_is, empty_stepped, open_stepped}
 
 -- the builder `m` is `b`, with other tables of elements
 pub record KeepsOthers (b m : Builder) : Type 0 where

@@ -25,7 +25,7 @@ use Rattle.rox_grammar.specs.declared.failure.Failure.{Failure}
 use Rattle.rox_grammar.specs.declared.failure.Failure.TheVariants as failure
 use Rattle.rox_markup.specs.DoctypeViews.{is_skipped_declaration, skipped_declaration_at, subset_end_at}
 use Rattle.rox_prolog.specs.Asking.{AreGiven, AskOutcome, IsEntityRead, IsDoctypeRead, IsSubsetSoFar, ItemOutcome}
-use Rattle.rox_prolog.specs.ParsedResults.{ended, parsed_of}
+use Rattle.rox_constructs.specs.ParsedResults.{ended, parsed_of}
 use Rattle.rox_values.specs.DeclaredEntities.{AreDeclared}
 use Rattle.rox_values.specs.Refusals.{of_failure}
 use Rattle.rox_builder.specs.BuilderState.{IsInState, ScansTo}

@@ -1,4 +1,3 @@
 pub mod Requests
-pub mod ParsedResults
 pub mod Asking
 pub mod PrologParts

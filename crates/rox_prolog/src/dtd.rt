@@ -12,14 +12,14 @@ ghost use Rattle.rox_prolog.specs.Asking.{AskOutcome, IsDefined};
 ghost use Rattle.rox_builder.specs.Outcomes.{MayStep};
 ghost use Rattle.rox_builder.specs.Readiness.{MayRead};
 ghost use Rattle.rox_prolog.specs.Asking.{MayAskHere, MayReadAsking};
-ghost use Rattle.rox_prolog.specs.ParsedResults.{ended};
+ghost use Rattle.rox_constructs.specs.ParsedResults.{ended};
 ghost use Rattle.rox_prolog.specs.PrologParts.{ReadsDeclaration, ReadsEntity, ReadsItem};
 
-use crate::misc::{comment, instruction};
-use crate::parsed::parsed;
 use crate::resolver::{EntityResolver, ask};
 use rox_builder::builder::Builder;
 use rox_bytes::runs::is_at;
+use rox_constructs::misc::{comment, instruction};
+use rox_constructs::parsed::parsed;
 use rox_grammar::fault::{Due, Fault, Word};
 use rox_markup::doctype::{
     Definition, ExternalId, doctype_head, entity_def, entity_head, is_skipped_declaration,

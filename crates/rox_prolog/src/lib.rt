@@ -1,8 +1,6 @@
-//! The prolog: comments and processing instructions, document type declarations, and what answers for external entities.
+//! The prolog: document type declarations, and what answers for external entities.
 #![tactic(auto)]
 
 pub mod dtd;
-pub mod misc;
-pub mod parsed;
 pub mod prolog;
 pub mod resolver;

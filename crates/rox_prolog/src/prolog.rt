@@ -6,9 +6,9 @@ ghost use Rattle.rox_prolog.specs.Requests.{Allows};
 ghost use Rattle.rox_prolog.specs.PrologParts.{ReadsDoctype, ReadsStart};
 
 use crate::dtd::document_type;
-use crate::misc::misc;
 use crate::resolver::EntityResolver;
 use rox_builder::builder::Builder;
+use rox_constructs::misc::misc;
 use rox_grammar::failure::Failure;
 use rox_grammar::fault::{Fault, Word};
 use rox_markup::xml_decl::xml_decl_if;

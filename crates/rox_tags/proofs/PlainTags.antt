@@ -1,5 +1,5 @@
 -- Start tags that are read at one look.
-use Rattle.std.proofs.Common.{◌≡◌, ◌≢◌, ℕ, ◌+◌, ◌-◌, ◌<◌, ◌||◌, ◌==◌, Bool, true, false, List, [], ◌∷◌, Option, length, map, slice_index, refl, sym, ap, subst, ◌∙◌, arith, Ok, bytes_eq}
+use Rattle.std.proofs.Common.{◌≡◌, ◌≢◌, ℕ, ◌+◌, ◌<◌, ◌||◌, ◌==◌, Bool, true, false, List, [], ◌∷◌, Option, length, map, slice_index, refl, sym, ap, subst, ◌∙◌, arith, Ok, bytes_eq}
 use Rattle.std.proofs.lemmas.Bool.{lt-leb, ne_eqb}
 use Rattle.std.proofs.Common.{Some, None}
 use Rattle.rox_scopes.specs.declared.namespace.Namespace.{Namespace}

@@ -1,10 +1,11 @@
 -- Plain start tags as a whole.
-use Rattle.std.proofs.Common.{◌≡◌, ℕ, ◌+◌, ◌≤◌, true, false, List, [], length, map, bytes_eq, refl, sym, ap, subst, ◌∙◌, arith, Ok}
+use Rattle.std.proofs.Common.{◌≡◌, ℕ, ◌+◌, ◌<◌, ◌≤◌, true, false, List, [], length, map, bytes_eq, refl, sym, ap, subst, ◌∙◌, arith, Ok}
 use Rattle.std.specs.Borrow.{Bor}
 use Rattle.std.specs.Option.{option_map}
-use Rattle.std.specs.Str.{IsCharBoundary}
+use Rattle.std.specs.Str.{IsUtf8, IsCharBoundary}
 use Rattle.std.proofs.lemmas.List.{append-nil}
 use Rattle.rox_grammar.specs.declared.fault.Fault.{Fault}
+use Rattle.rox_grammar.specs.declared.fault.Fault.TheVariants as fault
 use Rattle.rox_grammar.specs.declared.fault.Word.TheVariants.{Xmlns}
 use Rattle.rox_grammar.specs.Document.{most_attributes}
 use Rattle.rox_grammar.specs.FixedTexts.{word_text}
@@ -27,6 +28,7 @@ use Rattle.rox_starts.specs.ElementRow.{IsElementFrom}
 use Rattle.rox_tags.specs.PlainTag.{IsPlainTag, MayOpenBelow}
 use Rattle.rox_tags.specs.TagAttributes.{ArePlainAttributes, holding}
 use Rattle.rox_tags.specs.declared.own_declaration.TagScope.{TagScope}
+use Rattle.rox_starts.proofs.Moving.{tag_moves}
 use Rattle.rox_starts.proofs.Starting.{tag_made, tested_known, tested_passes}
 use Rattle.rox_tags.proofs.TagAttributes.{plain_count}
 

@@ -15,7 +15,7 @@ use Rattle.rox_builder.proofs.Stepping.{fine_open, state_kept, two_stand, step_i
 use Rattle.rox_builder.proofs.Parting.{rests_of, parting_ends, parting_on, parting_fails, parting_stops, parting_out}
 use Rattle.rox_builder.proofs.TextLooping.{opened_depth, text_on, text_fails, text_at_end, text_spent}
 use Rattle.rox_builder.proofs.TextOpening.{inner_state, outer_state, opens_err, opens_reads, opens_refuses, opener_at}
-use Rattle.rox_prolog.proofs.ParsedResults.{goes_too, parses_too, whatever_it_is}
+use Rattle.rox_constructs.proofs.ParsedResults.{goes_too, parses_too, whatever_it_is}
 use Rattle.rox_build.proofs.content.+content.Goals as goal
 
 -- ---- character data

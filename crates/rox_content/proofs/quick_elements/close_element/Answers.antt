@@ -11,7 +11,8 @@ use Rattle.rox_builder.specs.BuilderState.{IsConsistent}
 use Rattle.rox_names.specs.OpenElements.{IsOpenWithin, HasName, name_length, open_name}
 use Rattle.rox_builder.proofs.Showing.{last_split}
 use Rattle.rox_builder.proofs.Stepping.{end_is, opened_deep, closed_stepped}
-use Rattle.rox_content.proofs.Closing.{all_last, same_itself, end_tag_close}
+use Rattle.rox_constructs.proofs.Opening.{all_last}
+use Rattle.rox_content.proofs.Closing.{same_itself, end_tag_close}
 use Rattle.rox_names.proofs.SpelledNames.{kept_narrow}
 use Rattle.rox_content.proofs.quick_elements.close_element.Goals as goal
 

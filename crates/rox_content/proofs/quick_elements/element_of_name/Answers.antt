@@ -14,7 +14,7 @@ use Rattle.rox_reading.specs.Tags.{Values}
 use Rattle.rox_names.proofs.SameNames.{opened_named}
 use Rattle.rox_names.proofs.SpelledNames.{tag_is_named}
 use Rattle.rox_tags.proofs.WholeTags.{plain_moves}
-use Rattle.rox_content.proofs.Opening.{is_opening, fine_by, fine_more, namespace_by, tag_is, open_stepped}
+use Rattle.rox_constructs.proofs.Opening.{is_opening, fine_by, fine_more, namespace_by, tag_is, open_stepped}
 use Rattle.rox_content.proofs.quick_elements.element_of_name.Goals as goal
 
 pub start_tag_of_name-requires : goal.start_tag_of_name-requires

@@ -3,7 +3,7 @@ use Rattle.std.proofs.lemmas.Grind.{common_steps}
 use Rattle.rox_names.specs.declared.tables.ElementTables.{ElementTables}
 use Rattle.rox_builder.proofs.Showing.{split_at}
 use Rattle.rox_content.proofs.Closing.{below_last}
-use Rattle.rox_content.proofs.Opening.{cut_back, fine_same}
+use Rattle.rox_content.proofs.TakenBack.{cut_back, fine_same}
 use Rattle.rox_sections.proofs.PlainReads.{reads_kept}
 use Rattle.rox_content.proofs.PlainElements.{below, row_below, may_put, element_reads, part_near}
 use Rattle.rox_sections.proofs.PlainReads.{reads_not}

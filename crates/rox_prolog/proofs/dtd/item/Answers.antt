@@ -6,7 +6,7 @@ use Rattle.rox_prolog.specs.Requests.{Allows}
 use Rattle.rox_prolog.specs.Asking.{ItemOutcome}
 use Rattle.rox_builder.specs.BuilderState.{GoesOn}
 use Rattle.rox_values.specs.declared.parse_error.ParseError.{ParseError}
-use Rattle.rox_prolog.proofs.ParsedResults.{goes_too, whatever_it_is}
+use Rattle.rox_constructs.proofs.ParsedResults.{goes_too, whatever_it_is}
 use Rattle.rox_prolog.proofs.Items.{ended_too, goes_ended, entity_turn, comment_turn, instruction_turn, passed_turn, passed_stops, unknown_stops, end_turn, end_stops}
 use Rattle.rox_prolog.proofs.dtd.item.Goals as goal
 

@@ -17,11 +17,11 @@ use Rattle.rox_grammar.specs.declared.fault.Span.{Span}
 use Rattle.rox_grammar.specs.declared.fault.Fault.TheVariants as fault
 use Rattle.rox_reading.proofs.Lists.{all_take}
 use Rattle.rox_names.specs.declared.tables.ElementTables.{ElementTables}
-use Rattle.rox_content.proofs.Closing.{all_last}
+use Rattle.rox_constructs.proofs.Opening.{all_last}
 use Rattle.rox_builder.proofs.Showing.{last_split}
 use Rattle.std.specs.List.{AllByRecursion}
 use Rattle.rox_builder.proofs.Stepping.{end_is, end_fails, end_below, opened_deep, closed_at_root, closed_other, closed_stepped}
-use Rattle.rox_build.proofs.constructs.end_tag.Goals as goal
+use Rattle.rox_constructs.proofs.constructs.end_tag.Goals as goal
 
 pub returns-in_err-tag : goal.returns-in_err-tag
 returns-in_err-tag c = record {

@@ -8,7 +8,7 @@ use Rattle.rox_values.proofs.Lifting.{refused_too}
 use Rattle.rox_values.specs.declared.parse_error.ParseError.{ParseError}
 use Rattle.rox_builder.specs.BuilderState.{ParsesTo, ScansTo}
 use Rattle.rox_builder.specs.declared.builder.Builder.{Builder}
-use Rattle.rox_prolog.specs.ParsedResults.{parsed_of}
+use Rattle.rox_constructs.specs.ParsedResults.{parsed_of}
 
 pub parses_too : (limit end : ℕ) (r : Result (Unit {0}) Failure) (p : Result (Unit {0}) ParseError) (c : Cursor) (b : Builder) (read : Result State Refusal) → p ≡ parsed_of r → ScansTo limit end r c b read → ParsesTo limit end p c b read
 parses_too limit end (Ok x) p c b read is h = subst (λ q. ParsesTo limit end q c b read) (sym is) h

@@ -1,9 +1,7 @@
 -- The row of an element whose start tag was read.
 use Rattle.std.proofs.Common.{◌≡◌, ℕ, ◌+◌, ◌<◌, List, [], ◌∷◌, ◌++◌, length, map, drop, refl, sym, ap, subst, ◌∙◌, arith, length-append, Option, Bool, true, false, Result, Ok, Err}
 use Rattle.std.specs.List.{AllByRecursion, slice_range}
-use Rattle.std.proofs.lemmas.List.{append-nil, length-map}
-use Rattle.std.proofs.Math.Seq.{take-append_seam}
-use Rattle.std.proofs.Common.{take}
+use Rattle.std.proofs.lemmas.List.{length-map}
 use Rattle.rox_grammar.specs.declared.fault.Fault.{Fault}
 use Rattle.rox_grammar.specs.Failures.{name_view}
 use Rattle.rox_grammar.specs.Forest.{Nil, join}
@@ -27,7 +25,6 @@ use Rattle.rox_scopes.specs.NamespaceViews.{namespace_view}
 use Rattle.rox_scopes.specs.Scopes.{PrefixesOnce}
 use Rattle.rox_names.specs.TagScopes.{lists_in}
 use Rattle.rox_starts.specs.ElementRow.{Tagged}
-use Rattle.rox_tags.specs.PlainTag.{HoldSame}
 use Rattle.rox_builder.specs.BuilderState.{names_in, IsRowWithin, AreSound, IsConsistent, Grown, IsNode, IsOpening, Adds, ScansTo}
 use Rattle.rox_names.specs.OpenElements.{IsOpenWithin, HasName, IsNamespaceOf, IsOpened, open_name}
 use Rattle.std.specs.Result.{OnOk}
@@ -114,29 +111,6 @@ fine_by old new t above tag os h f =
       few_names = h.few;
       few_attributes = h.element.few;
     }
-
--- attributes that were put are taken back
-pub cut_back : (old new after : ElementTables) (more : List AttributeRow) (n : ℕ) → new ≡ record old { attributes = new.attributes } → attribute_rows new.attributes ≡ attribute_rows old.attributes ++ more
-    → n ≡ length (attribute_rows old.attributes) → after ≡ record new { attributes = after.attributes } → attribute_rows after.attributes ≡ take n (attribute_rows new.attributes) → HoldSame old after
-cut_back old new after more n grown rows count others cut = record {
-  others = others ∙ ap (λ (t : ElementTables). record t { attributes = after.attributes }) grown;
-  attributes = cut ∙ rw (rows, count) (take-append_seam (attribute_rows old.attributes) more);
-}
-
--- so it is where only the room for attributes is another
-pub fine_same : (old new : ElementTables) (os : List OpenElement) → HoldSame old new → IsConsistent old os → IsConsistent new os
-fine_same old new os k f =
-    let m : ElementTables = record old { attributes = new.attributes } in
-    let g : Grown old m = record { more_attributes = []; attributes = k.attributes ∙ sym (append-nil _); more_names = []; namespaces = sym (append-nil _); more_lists = []; lists = sym (append-nil _) } in
-    let x : IsConsistent m os = record {
-      sound = record { attributes = rw k.attributes f.sound.attributes; listed = f.sound.listed; scopes = f.sound.scopes };
-      elements = grown_elements old m os g f.elements;
-      empty = grown_empty old m g f.empty;
-      kept = record { stacked = f.kept.stacked };
-      few_names = f.few_names;
-      few_attributes = rw k.attributes f.few_attributes;
-    } in
-    subst (λ (t : ElementTables). IsConsistent t os) (sym k.others) x
 
 pub fine_opened : (t : ElementTables) (os qs : List OpenElement) (x : OpenElement) → IsConsistent t os → qs ≡ os ++ x ∷ [] → IsOpenWithin t x → IsConsistent t qs
 fine_opened t os qs x f is within =
@@ -231,3 +205,9 @@ fine_more (Ok x) t os u src tag f tables (o, is, by) within once space named =
     let n : IsNamespaceOf t o.scope (open_name o) (numbered_place o.namespace) = rw (by.scope, by.name, by.namespace) space in
     subst (λ (t : ElementTables). IsConsistent t u.opened.items) (sym tables) (fine_opened t os u.opened.items o f is (w.0, w.1, named o by, n))
 fine_more (Err e) t os u src tag f tables h within once space named = tt
+
+-- ---- the innermost open element
+
+pub all_last : {X : Type 0} (P : X → Type 0) (xs : List X) (x : X) → AllByRecursion P (xs ++ x ∷ []) → P x
+all_last P [] x h = h.0
+all_last P (y ∷ ys) x h = all_last P ys x h.1

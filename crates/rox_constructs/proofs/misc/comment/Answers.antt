@@ -4,7 +4,7 @@ use Rattle.rox_grammar.specs.Tree as tree
 use Rattle.rox_grammar.specs.Written.{Item, Comment}
 use Rattle.rox_reading.specs.Refusals.{lifted}
 use Rattle.rox_builder.proofs.Stepping.{comment_is, comment_fails, item_stepped}
-use Rattle.rox_prolog.proofs.misc.comment.Goals as goal
+use Rattle.rox_constructs.proofs.misc.comment.Goals as goal
 
 pub returns : goal.returns
 returns c = record {

@@ -12,8 +12,8 @@ use Rattle.rox_builder.specs.OpenRows.{top}
 use Rattle.rox_builder.proofs.Showing.{innermost_start, rows_count}
 use Rattle.rox_names.proofs.SpelledNames.{kept_bounds}
 use Rattle.rox_builder.proofs.Stepping.{top_placed, top_view}
-use Rattle.rox_build.proofs.constructs.open_span.Goals.{then-row-len, else-row-len}
-use Rattle.rox_build.proofs.constructs.open_span.Goals as goal
+use Rattle.rox_constructs.proofs.constructs.open_span.Goals.{then-row-len, else-row-len}
+use Rattle.rox_constructs.proofs.constructs.open_span.Goals as goal
 
 pub returns : goal.returns
 returns c = λ end start tag before up done outer shows split.

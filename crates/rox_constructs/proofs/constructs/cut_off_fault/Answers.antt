@@ -2,7 +2,7 @@ use Rattle.std.proofs.Common.{◌≡◌, Bool, true, false, refl, sym}
 use Rattle.rox_grammar.specs.declared.fault.Fault.TheVariants as fault
 use Rattle.rox_grammar.specs.State.{Open, root, inside, is_root}
 use Rattle.rox_reading.specs.Machine.{cut_off_fault}
-use Rattle.rox_build.proofs.constructs.cut_off_fault.Goals as goal
+use Rattle.rox_constructs.proofs.constructs.cut_off_fault.Goals as goal
 
 at_root : (main : Bool) (o : Open) → main ≡ true → is_root o ≡ true → fault.NoRootNode ≡ cut_off_fault main o
 at_root true root m e = refl

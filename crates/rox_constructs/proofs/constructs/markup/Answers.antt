@@ -2,8 +2,8 @@ use Rattle.std.proofs.Common.{◌+◌, refl, sym, ap, ◌∙◌, slice_index, Li
 use Rattle.std.proofs.lemmas.Bool.{ne_eqb}
 use Rattle.rox_values.specs.Contexts.{context_of}
 use Rattle.rox_builder.proofs.Stepping.{two_stand, step_is_markup}
-use Rattle.rox_prolog.proofs.ParsedResults.{goes_too, parses_too}
-use Rattle.rox_build.proofs.constructs.markup.Goals as goal
+use Rattle.rox_constructs.proofs.ParsedResults.{goes_too, parses_too}
+use Rattle.rox_constructs.proofs.constructs.markup.Goals as goal
 
 pub instruction-requires : goal.instruction-requires
 instruction-requires c =

@@ -5,7 +5,7 @@ use Rattle.rox_grammar.specs.Written.{Item, PI}
 use Rattle.rox_markup.specs.Views.{instruction_view}
 use Rattle.rox_reading.specs.Refusals.{lifted}
 use Rattle.rox_builder.proofs.Stepping.{instruction_is, instruction_fails, item_stepped}
-use Rattle.rox_prolog.proofs.misc.instruction.Goals as goal
+use Rattle.rox_constructs.proofs.misc.instruction.Goals as goal
 
 pub returns : goal.returns
 returns c = record {

@@ -17,11 +17,11 @@ use Rattle.rox_names.proofs.SameNames.{opened_named}
 use Rattle.rox_names.proofs.SpelledNames.{tag_is_named}
 use Rattle.rox_names.specs.SpelledNames.{SpellsName}
 use Rattle.rox_rows.specs.declared.row.NodeKind.TheVariants as kind
-use Rattle.rox_build.proofs.Declared.{some_declare}
-use Rattle.rox_prolog.proofs.ParsedResults.{goes_too, parses_too}
+use Rattle.rox_constructs.proofs.Declared.{some_declare}
+use Rattle.rox_constructs.proofs.ParsedResults.{goes_too, parses_too}
 use Rattle.rox_builder.proofs.Growing.{grown_shows}
-use Rattle.rox_content.proofs.Opening.{grown_by, is_node, is_opening, fine_by, fine_kept, fine_more, namespace_by, tag_fails, tag_is, empty_stepped, open_stepped}
-use Rattle.rox_build.proofs.constructs.element.Goals as goal
+use Rattle.rox_constructs.proofs.Opening.{grown_by, is_node, is_opening, fine_by, fine_kept, fine_more, namespace_by, tag_fails, tag_is, empty_stepped, open_stepped}
+use Rattle.rox_constructs.proofs.constructs.element.Goals as goal
 
 abbrev with_left : ℕ → State → State
 with_left openings_left s = record { at = s.at; done = s.done; stack = s.stack; openings_left = openings_left }

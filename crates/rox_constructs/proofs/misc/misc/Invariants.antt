@@ -3,8 +3,8 @@ use Rattle.rox_reading.specs.State.{State}
 use Rattle.rox_reading.specs.Refusals.{lifted}
 use Rattle.rox_reading.specs.WholeText.{misc}
 use Rattle.rox_builder.specs.BuilderState.{IsConsistent, IsInState}
-use Rattle.rox_prolog.proofs.MiscLoop.{Going}
-use Rattle.rox_prolog.proofs.misc.misc.Given as goal
+use Rattle.rox_constructs.proofs.MiscLoop.{Going}
+use Rattle.rox_constructs.proofs.misc.misc.Given as goal
 
 abbrev pub invariant-loop-turn : goal.invariant-loop-turn
 invariant-loop-turn l = record {

@@ -15,13 +15,13 @@ ghost use Rattle.rox_names.specs.SpelledNames.{bytes_view};
 ghost use Rattle.rox_builder.specs.Outcomes.{ParsesAs, ScansAs, ScansIn, ScansWithin, SpansOpen};
 ghost use Rattle.rox_builder.specs.Readiness.{MayRead, MayReadDeclared, MayReadOpening, MayReadTag};
 
+use crate::misc::{comment, instruction};
+use crate::parsed::parsed;
 use rox_builder::builder::Builder;
 use rox_grammar::failure::Failure;
 use rox_grammar::fault::{Fault, Span, Word};
 use rox_markup::{markup, tag};
 use rox_names::open_element::{NameBytes, OpenElement, bytes_of, name_bytes, open_name};
-use rox_prolog::misc::{comment, instruction};
-use rox_prolog::parsed::parsed;
 use rox_rows::row::NodeKind;
 use rox_scan::cursor::Cursor;
 use rox_starts::tag::{TagContext, start_tag};

@@ -4,7 +4,7 @@ use Rattle.std.specs.String.{string_bytes}
 use Rattle.rox_values.specs.Values.{piece_view, section_text}
 use Rattle.rox_reading.specs.Refusals.{lifted}
 use Rattle.rox_builder.proofs.Stepping.{cdata_is, cdata_fails, text_stepped, same_shows}
-use Rattle.rox_build.proofs.constructs.cdata.Goals as goal
+use Rattle.rox_constructs.proofs.constructs.cdata.Goals as goal
 
 pub returns : goal.returns
 returns c = record {

@@ -1,7 +1,7 @@
 //! Results of calls that open no entity, for callers that do.
 
 ghost use Rattle.std.specs.Prelude.{◌≡◌};
-ghost use Rattle.rox_prolog.specs.ParsedResults.{parsed_of};
+ghost use Rattle.rox_constructs.specs.ParsedResults.{parsed_of};
 
 use rox_grammar::failure::Failure;
 use rox_values::parse_error::ParseError;

@@ -1,5 +1,5 @@
 use Rattle.std.proofs.Common.{sym, ◌∙◌}
-use Rattle.rox_build.proofs.constructs.comment_or_section.Goals as goal
+use Rattle.rox_constructs.proofs.constructs.comment_or_section.Goals as goal
 
 pub comment-requires : goal.comment-requires
 comment-requires c = record { here = sym c.starts.ensures ∙ c.if-starts.true; fine = c.requires.markup.fine }

@@ -7,9 +7,9 @@ use Rattle.rox_reading.specs.Refusals.{lifted}
 use Rattle.rox_values.specs.Refusals.{IsFailure}
 use Rattle.rox_scan.specs.declared.cursor.Cursor.{Cursor}
 use Rattle.rox_reading.specs.Machine.{comment_step, instruction_step}
-use Rattle.rox_prolog.proofs.MiscLoop.{spaced, sees_spaced, comment_on, instruction_on, comment_fails, instruction_fails, misc_done, misc_spent}
-use Rattle.rox_prolog.proofs.misc.misc.Goals as goal
-use Rattle.rox_prolog.proofs.misc.misc.Goals.{then-starts+in_ok-comment, else-starts+then-starts-2+in_ok-instruction}
+use Rattle.rox_constructs.proofs.MiscLoop.{spaced, sees_spaced, comment_on, instruction_on, comment_fails, instruction_fails, misc_done, misc_spent}
+use Rattle.rox_constructs.proofs.misc.misc.Goals as goal
+use Rattle.rox_constructs.proofs.misc.misc.Goals.{then-starts+in_ok-comment, else-starts+then-starts-2+in_ok-instruction}
 
 pub returns-in_err-comment : goal.returns-in_err-comment
 returns-in_err-comment c = record {

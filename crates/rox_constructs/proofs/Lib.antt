@@ -1,0 +1,4 @@
+pub mod ParsedResults
+pub mod MiscLoop
+pub mod Declared
+pub mod Opening
