@@ -4,7 +4,7 @@ use Rattle.rox_grammar.specs.declared.fault.Word.TheVariants as word
 use Rattle.rox_grammar.specs.Names.{spaces_end}
 use Rattle.rox_grammar.specs.FixedTexts.{at}
 use Rattle.rox_reading.specs.Lexical.{◌>>=◌}
-use Rattle.rox_reading.specs.Refusals.{Refusal, here, lifted}
+use Rattle.rox_reading.specs.Refusals.{Refusal, lifted}
 use Rattle.rox_reading.specs.State.{State}
 use Rattle.rox_reading.specs.Machine.{comment_step, instruction_step}
 use Rattle.rox_reading.specs.WholeText.{misc}

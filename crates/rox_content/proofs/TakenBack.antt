@@ -1,9 +1,8 @@
 -- Attributes of a tag that was given up are taken back.
-use Rattle.std.proofs.Common.{◌≡◌, ℕ, ◌+◌, List, [], ◌++◌, length, sym, ap, subst, ◌∙◌}
+use Rattle.std.proofs.Common.{◌≡◌, ℕ, List, [], ◌++◌, length, sym, ap, subst, ◌∙◌}
 use Rattle.std.proofs.lemmas.List.{append-nil}
 use Rattle.std.proofs.Math.Seq.{take-append_seam}
 use Rattle.std.proofs.Common.{take}
-use Rattle.rox_grammar.specs.Tree.{listed}
 use Rattle.rox_rows.specs.Rows.{AttributeRow, attribute_rows}
 use Rattle.rox_tags.specs.PlainTag.{HoldSame}
 use Rattle.rox_builder.specs.BuilderState.{IsConsistent, Grown}
