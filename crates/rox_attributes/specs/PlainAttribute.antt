@@ -13,8 +13,8 @@ use Rattle.rox_scopes.specs.NamespaceViews.{namespace_view}
 use Rattle.rox_scopes.specs.Scopes.{ArePlaces, PrefixesOnce, places_in}
 use Rattle.rox_scopes.specs.declared.bindings.PrefixBindings.{PrefixBindings}
 use Rattle.rox_names.specs.ResolvedNames.{AddsResolved}
-use Rattle.rox_names.specs.SeenNames.{AreSeen}
-use Rattle.rox_names.specs.declared.seen_names.SeenNames.{SeenNames}
+use Rattle.rox_seen.specs.SeenNames.{AreSeen}
+use Rattle.rox_seen.specs.declared.seen_names.SeenNames.{SeenNames}
 use Rattle.rox_storage.specs.Storage.{storage_bytes, is_borrowed}
 use Rattle.rox_names.specs.declared.tables.ElementTables.{ElementTables}
 use Rattle.rox_bytes.specs.ByteSets.{EndsSet, is_part_byte}

@@ -14,7 +14,7 @@ ghost use Rattle.rox_verbatim.specs.PlainValues.{BeginsValue};
 use rox_bytes::byte_set::{ValueByte, skip_set};
 use rox_bytes::runs::is_at;
 use rox_scan::lookahead::{ChangedValueByte, StretchByte, after_char, changes};
-use rox_storage::recent_texts::{Recent, owned_value};
+use rox_seen::recent_texts::{Recent, owned_value};
 use rox_storage::storage::StringStorage;
 use rox_values::plain_bits::changed_value;
 use std::alloc::Global;

@@ -4,9 +4,9 @@
 ghost use Rattle.std.specs.Prelude.{◌<◌, IfSome, Some, length};
 ghost use Rattle.rox_scopes.specs.Bindings.{AreOnce, FindsPlace};
 
+use rox_compare::compare::{Pair, same_short};
 use rox_scopes::namespace::Namespace;
 use rox_scopes::scope::find_by_guess;
-use rox_storage::compare::{Pair, same_short};
 
 /// Returns the first bit of the slot of a prefix. Each of the sixteen slots has four bits. Few prefixes of a document have one
 /// slot, which depends on the first byte and on the length.

@@ -15,17 +15,17 @@ use rox_bytes::byte_set::{PartByte, ValueByte, part_end, part_end_beyond, skip_s
 use rox_bytes::chars::NameStart;
 use rox_bytes::runs::{after_byte, begins, is_at};
 use rox_bytes::window::{WIDTH, Window};
+use rox_compare::compare::same_text;
 use rox_grammar::name::QName;
 use rox_names::namespace_decl::is_namespace_decl;
 use rox_names::resolve::{put_attribute_of, put_compact_attribute};
-use rox_names::seen_names::SeenNames;
 use rox_names::tables::ElementTables;
 use rox_names::unresolved_attribute::{CompactAttribute, UnresolvedAttribute};
 use rox_rows::row::AttributeNamespace;
 use rox_rows::stored_attribute::EXPLICIT;
 use rox_scopes::scope::few_places;
-use rox_storage::compare::same_text;
-use rox_storage::recent_texts::Recent;
+use rox_seen::recent_texts::Recent;
+use rox_seen::seen_names::SeenNames;
 use rox_storage::storage::StringStorage;
 use rox_verbatim::quick_name::{
     NameAt, NamePlace, name_of_part, name_without_prefix, prefixed_name, some_place,

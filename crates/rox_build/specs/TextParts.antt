@@ -4,7 +4,6 @@ use Rattle.rox_grammar.specs.Entities.{Entity}
 use Rattle.rox_grammar.specs.Doctype.{Request}
 use Rattle.rox_grammar.specs.State.{root}
 use Rattle.rox_grammar.specs.TextStart.{after_bom}
-use Rattle.rox_reading.specs.Doctype as reading
 use Rattle.rox_reading.specs.State.{State}
 use Rattle.rox_reading.specs.WholeText as whole
 use Rattle.rox_scan.specs.declared.cursor.Cursor.{Cursor}

@@ -17,7 +17,7 @@ use rox_grammar::failure::Failure;
 use rox_rows::node_table::NodeTable;
 use rox_rows::row::NodeKind;
 use rox_rows::stored_node::KindRef;
-use rox_storage::recent_texts::Recent;
+use rox_seen::recent_texts::Recent;
 use rox_storage::storage::StringStorage;
 use rox_values::text_value::TextValue;
 use std::alloc::{AllocError, Global};

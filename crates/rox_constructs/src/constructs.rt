@@ -18,6 +18,7 @@ ghost use Rattle.rox_builder.specs.Readiness.{MayRead, MayReadDeclared, MayReadO
 use crate::misc::{comment, instruction};
 use crate::parsed::parsed;
 use rox_builder::builder::Builder;
+use rox_compare::compare::same_stretch;
 use rox_grammar::failure::Failure;
 use rox_grammar::fault::{Fault, Span, Word};
 use rox_markup::{markup, tag};
@@ -25,7 +26,6 @@ use rox_names::open_element::{NameBytes, OpenElement, bytes_of, name_bytes, open
 use rox_rows::row::NodeKind;
 use rox_scan::cursor::Cursor;
 use rox_starts::tag::{TagContext, start_tag};
-use rox_storage::compare::same_stretch;
 use rox_values::context::Context;
 use rox_values::parse_error::ParseError;
 use rox_values::text_value::cdata_text;

@@ -8,7 +8,7 @@ ghost use Rattle.rox_content.specs.RootTag.{BeginsOwn, BeginsScopes, GivesRootTa
 use rox_builder::builder::{Builder, ROOM_TO_OPEN};
 use rox_bytes::byte_set::part_end;
 use rox_bytes::runs::after_byte;
-use rox_names::seen_names::SeenNames;
+use rox_compare::compare::same_text;
 use rox_names::start_tag::StartTag;
 use rox_names::tables::ElementTables;
 use rox_rows::row::NodeKind;
@@ -16,8 +16,8 @@ use rox_scan::cursor::Cursor;
 use rox_scopes::bindings::PrefixBindings;
 use rox_scopes::namespace_table::NamespaceTable;
 use rox_scopes::stored_scope::{Scope, Stretch};
+use rox_seen::seen_names::SeenNames;
 use rox_starts::tag::element_of;
-use rox_storage::compare::same_text;
 use rox_storage::growth::push;
 use rox_tags::own_declaration::{OWN, TagScope};
 use rox_tags::quick_tag::{PlainTag, namespace_in_scope, tag_attributes};

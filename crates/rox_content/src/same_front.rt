@@ -3,7 +3,7 @@
 ghost use Rattle.std.specs.Prelude.{◌≡◌, ◌<◌, ℕ, slice_index};
 ghost use Rattle.rox_content.specs.SameFronts.{ClosesFront, HaveSixteen};
 
-use rox_storage::compare::same_long;
+use rox_compare::compare::same_long;
 use std::simd::prelude::*;
 
 /// Returns how many of the first sixteen bytes come before one that differs, or more than sixteen if none differs.

@@ -17,7 +17,8 @@ use Rattle.rox_reading.specs.AtIndex.{namespace_at}
 use Rattle.rox_grammar.specs.Failures.{name_view}
 use Rattle.rox_scopes.specs.Bindings.{FindsBinding}
 use Rattle.rox_names.specs.TagDeclarations.{unresolved_view}
-use Rattle.rox_names.specs.ResolvedNames.{AddsResolved, has_expanded, row_of_unresolved, row_of_compact}
+use Rattle.rox_names.specs.ResolvedNames.{AddsResolved, row_of_unresolved, row_of_compact}
+use Rattle.rox_seen.specs.SeenNames.{has_expanded}
 use Rattle.rox_rows.specs.declared.row.AttributeData.{AttributeData}
 use Rattle.rox_scopes.specs.declared.bindings.PrefixBindings.{PrefixBindings}
 use Rattle.rox_names.specs.declared.unresolved_attribute.UnresolvedAttribute.{UnresolvedAttribute}

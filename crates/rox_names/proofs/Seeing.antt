@@ -22,7 +22,7 @@ use mathlib.Core.Bool.{and_comm, or_comm, or_assoc}
 use Rattle.std.proofs.lemmas.Bool.{or_parts}
 use Rattle.rox_grammar.specs.Written.{NamespaceDecl}
 use Rattle.rox_rows.specs.Rows.{attribute_uri, AttributeRow}
-use Rattle.rox_names.specs.ResolvedNames.{has_expanded}
+use Rattle.rox_seen.specs.SeenNames.{has_expanded}
 use Rattle.rox_rows.specs.declared.row.AttributeNamespace.{AttributeNamespace}
 use Rattle.rox_rows.specs.declared.row.AttributeData.{AttributeData}
 

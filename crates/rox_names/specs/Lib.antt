@@ -1,4 +1,3 @@
-pub mod SeenNames
 pub mod ResolvedNames
 pub mod ExpandedNames
 pub mod TagDeclarations

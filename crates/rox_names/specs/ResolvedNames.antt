@@ -1,14 +1,15 @@
 -- The names of a tag in a scope, one by one.
-use Rattle.std.specs.Prelude.{◌≡◌, ◌&&◌, ◌∷◌, ◌++◌, [], ℕ, Bool, true, false, List, Option, Result, Ok, Err, bytes_eq, drop, length, map}
+use Rattle.std.specs.Prelude.{◌≡◌, ◌∷◌, ◌++◌, [], ℕ, true, false, List, Option, Result, Ok, Err, drop, length, map}
 use Rattle.std.specs.List.{AllByRecursion, list_any}
 use Rattle.rox_grammar.specs.declared.failure.Failure.{Failure}
 use Rattle.rox_grammar.specs.declared.fault.Fault.{Fault}
 use Rattle.rox_grammar.specs.Written.{Attribute, Name, NamespaceDecl}
 use Rattle.rox_grammar.specs.WellNamed.{is_known}
-use Rattle.rox_grammar.specs.Tree.{same_prefix, attribute_namespace, attribute_in}
+use Rattle.rox_grammar.specs.Tree.{attribute_namespace, attribute_in}
 use Rattle.rox_grammar.specs.Failures.{Fails, name_view}
 use Rattle.rox_scopes.specs.Bindings.{FindsBinding}
 use Rattle.rox_names.specs.TagDeclarations.{unresolved_view}
+use Rattle.rox_seen.specs.SeenNames.{has_expanded}
 use Rattle.rox_scopes.specs.declared.bindings.PrefixBindings.{PrefixBindings}
 use Rattle.rox_reading.specs.Tags.{names_tested}
 use Rattle.rox_rows.specs.Rows.{AttributeRow, NamespaceWithin, attribute, attribute_uri}
@@ -19,7 +20,6 @@ use Rattle.rox_names.specs.declared.unresolved_attribute.CompactAttribute.{Compa
 use Rattle.rox_storage.specs.declared.storage.StringStorage.TheVariants.{Borrowed}
 use Rattle.rox_rows.specs.CompactPlaces.{compact_places}
 use Rattle.rox_rows.specs.declared.row.AttributeNamespace.{AttributeNamespace}
-use Rattle.rox_rows.specs.declared.row.AttributeData.{AttributeData}
 
 -- The row of an attribute that was read, with the namespace `s`.
 abbrev pub row_of_unresolved : UnresolvedAttribute → AttributeNamespace → AttributeRow
@@ -34,10 +34,6 @@ row_of_compact t s = (
   record { local = t.local; value = Borrowed t.value; namespace = s },
   compact_places t.start t.before (length t.local.now) (length t.value.now),
 )
-
--- Whether an attribute's row has this expanded name: the URI of the namespace `s`, and the local name `local`.
-abbrev pub has_expanded : List NamespaceDecl → AttributeNamespace → List ℕ → AttributeData → Bool
-has_expanded namespaces s local a = same_prefix (attribute_uri namespaces a.namespace) (attribute_uri namespaces s) && bytes_eq a.local.now local
 
 -- What the test of one name says about the test of all. If it passes, the rest is tested with `a` among the names before.
 -- Otherwise its fault is that of the whole test.

@@ -12,15 +12,16 @@ use Rattle.rox_grammar.specs.WellNamed.{is_known, may_name}
 use Rattle.rox_grammar.specs.Written.{Attribute, Name, NamespaceDecl}
 use Rattle.rox_scopes.specs.Bindings.{FindsBinding, LooksWithin}
 use Rattle.rox_names.specs.ExpandedNames.{HasExpandedNames, Key, TestedOr}
-use Rattle.rox_names.specs.ResolvedNames.{has_expanded, AddsNew, IsNamespaceOf, Tested}
+use Rattle.rox_names.specs.ResolvedNames.{AddsNew, IsNamespaceOf, Tested}
+use Rattle.rox_seen.specs.SeenNames.{has_expanded}
 use Rattle.rox_rows.specs.Rows.{AttributeRow, NamespaceWithin, attribute}
 use Rattle.rox_reading.specs.AtIndex.{OptionWithin, namespace_at}
 use Rattle.rox_scopes.specs.NamespaceViews.{namespace_view}
-use Rattle.rox_names.specs.SeenNames.{HasNameOf, KeepsCodes, PutsSeen, SeesName}
+use Rattle.rox_seen.specs.SeenNames.{HasNameOf, KeepsCodes, PutsSeen, SeesName}
 use Rattle.rox_rows.specs.StoredAttributes.{data_of}
 use Rattle.rox_names.specs.TagDeclarations.{unresolved_view}
 use Rattle.rox_scopes.specs.declared.bindings.PrefixBindings.{PrefixBindings}
-use Rattle.rox_names.specs.declared.seen_names.SeenNames.{SeenNames}
+use Rattle.rox_seen.specs.declared.seen_names.SeenNames.{SeenNames}
 use Rattle.rox_names.specs.declared.unresolved_attribute.UnresolvedAttribute.{UnresolvedAttribute}
 use Rattle.rox_rows.specs.declared.stored_attribute.StoredAttribute.{StoredAttribute}
 use Rattle.rox_rows.specs.declared.row.AttributeData.{AttributeData}

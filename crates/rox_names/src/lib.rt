@@ -6,7 +6,6 @@ pub mod expanded_names;
 pub mod namespace_decl;
 pub mod open_element;
 pub mod resolve;
-pub mod seen_names;
 pub mod start_tag;
 pub mod tables;
 pub mod tag_scope;

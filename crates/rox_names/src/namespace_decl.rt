@@ -11,6 +11,7 @@ ghost use Rattle.rox_scopes.specs.Scopes.{prefix_view};
 ghost use Rattle.rox_names.specs.TagDeclarations.{unresolved_view, DeclaresNew, DeclaresOne, HasOwn};
 
 use crate::unresolved_attribute::UnresolvedAttribute;
+use rox_compare::compare::same_text;
 use rox_grammar::failure::Failure;
 use rox_grammar::fault::{Fault, Span};
 use rox_grammar::name::QName;
@@ -18,7 +19,6 @@ use rox_scopes::namespace::Namespace;
 use rox_scopes::namespace_table::{FIRST_ROOM, Key, NamespaceTable};
 use rox_scopes::prefix_set::{FEW, add_prefix};
 use rox_scopes::scope::{XML_URI, XMLNS_URI, is_own, is_xml, same_prefix};
-use rox_storage::compare::same_text;
 use rox_storage::growth::push_with_room;
 use std::alloc::AllocError;
 use std::collections::BTreeSet;

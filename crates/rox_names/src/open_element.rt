@@ -6,8 +6,8 @@ ghost use Rattle.rox_names.specs.OpenElements.{HasName, MayHavePrefix, name_leng
 ghost use Rattle.rox_names.specs.SpelledNames.{bytes_view};
 
 use rox_bytes::search::before_byte;
+use rox_compare::compare::same_stretch;
 use rox_grammar::name::QName;
-use rox_storage::compare::same_stretch;
 
 /// The count of a long name: a name of at least this many bytes.
 pub const LONG_NAME: u32 = u32::MAX;

@@ -1,9 +1,9 @@
 //! A start tag that was read, and the buffers for reading one.
 
-use crate::seen_names::SeenNames;
 use crate::unresolved_attribute::UnresolvedAttribute;
 use rox_grammar::name::QName;
 use rox_rows::row::ElementData;
+use rox_seen::seen_names::SeenNames;
 use std::collections::BTreeSet;
 
 /// A start tag that was read: its name, which is at `name_start..name_end`, and the content of its element.

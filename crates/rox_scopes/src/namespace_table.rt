@@ -14,9 +14,9 @@ ghost use Rattle.rox_scopes.specs.PairIndex.{AddsPair, FindsPair, IsNewPair, Pla
 
 use crate::namespace::Namespace;
 use crate::scope::same_prefix;
+use rox_compare::compare::same_text;
 use rox_grammar::failure::Failure;
 use rox_grammar::fault::Fault;
-use rox_storage::compare::same_text;
 use rox_storage::growth::push_with_room;
 use rox_storage::storage::StringStorage;
 use std::alloc::{AllocError, Global};

@@ -13,7 +13,7 @@ use crate::bindings::PrefixBindings;
 use crate::namespace::Namespace;
 use crate::prefix_set::{FEW, has_prefix};
 use crate::stored_scope::{OwnDeclarations, Scope, Stretch};
-use rox_storage::compare::{LONG, Pair, same_short, same_text};
+use rox_compare::compare::{LONG, Pair, same_short, same_text};
 use std::alloc::AllocError;
 use std::collections::BTreeSet;
 

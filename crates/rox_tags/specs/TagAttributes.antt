@@ -19,9 +19,9 @@ use Rattle.rox_scopes.specs.declared.bindings.PrefixBindings.{PrefixBindings}
 use Rattle.rox_names.specs.declared.tables.ElementTables.{ElementTables}
 use Rattle.rox_scopes.specs.declared.stored_scope.Scope.{Scope}
 use Rattle.rox_scopes.specs.declared.stored_scope.Scope.TheVariants as scope
-use Rattle.rox_names.specs.SeenNames.{KeepsCodes}
+use Rattle.rox_seen.specs.SeenNames.{KeepsCodes}
 use Rattle.rox_names.specs.TagDeclarations.{Declares, DeclaresNew, HasOwn}
-use Rattle.rox_names.specs.declared.seen_names.SeenNames.{SeenNames}
+use Rattle.rox_seen.specs.declared.seen_names.SeenNames.{SeenNames}
 use Rattle.rox_names.specs.declared.unresolved_attribute.UnresolvedAttribute.{UnresolvedAttribute}
 use Rattle.rox_verbatim.specs.PlainNames.{IsAttributeName}
 use Rattle.rox_attributes.specs.PlainAttribute.{HasScope, IsPlainAttribute}

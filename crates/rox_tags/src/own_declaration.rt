@@ -8,11 +8,11 @@ ghost use Rattle.rox_tags.specs.TagAttributes.{DeclaresOwn, HasXmlns, IsDeclared
 use rox_bytes::byte_set::{ValueByte, skip_set};
 use rox_bytes::runs::{after_byte, is_at};
 use rox_names::namespace_decl::declare_new;
-use rox_names::seen_names::SeenNames;
 use rox_names::tables::ElementTables;
 use rox_names::unresolved_attribute::UnresolvedAttribute;
 use rox_scopes::prefix_set::FEW;
 use rox_scopes::stored_scope::{Scope, Stretch};
+use rox_seen::seen_names::SeenNames;
 use rox_storage::storage::StringStorage;
 use rox_verbatim::quick_name::{NameAt, name_without_prefix, prefixed_name};
 use rox_verbatim::quick_space::one_space_end;

@@ -16,6 +16,7 @@ ghost use Rattle.rox_tags.specs.Repeating.{AreOneMore, IsRepeated, Repeats};
 use crate::own_declaration::declaration_after;
 use crate::quick_tag::{PlainTag, attributes_end, namespace_in_scope};
 use rox_bytes::runs::after_byte;
+use rox_compare::compare::same_text;
 use rox_names::open_element::OpenElement;
 use rox_names::start_tag::StartTag;
 use rox_names::tables::ElementTables;
@@ -24,7 +25,6 @@ use rox_scopes::namespace::Namespace;
 use rox_scopes::scope::{few_places, is_declared, is_xml, same_prefix};
 use rox_starts::tag::element_of;
 use rox_starts::verbatim_attribute::byte_count;
-use rox_storage::compare::same_text;
 use rox_verbatim::quick_name::{NamePlace, name_of_part};
 
 /// The number of scopes that are tried, from the last one on.

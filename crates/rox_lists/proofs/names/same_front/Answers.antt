@@ -1,5 +1,5 @@
 use Rattle.std.proofs.Common.{◌≡◌, ◌+◌, length, sym, ◌∙◌, arith}
-use Rattle.rox_storage.proofs.Words.{ends_tell}
+use Rattle.rox_compare.proofs.Words.{ends_tell}
 use Rattle.rox_lists.proofs.names.same_front.Goals as goal
 
 pub returns-then-same_long_word : goal.returns-then-same_long_word

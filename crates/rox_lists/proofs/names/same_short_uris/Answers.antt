@@ -1,5 +1,5 @@
 use Rattle.std.proofs.Common.{◌≡◌, ◌+◌, ◌-◌, length, sym, ◌∙◌, arith}
-use Rattle.rox_storage.proofs.Words.{ends_tell}
+use Rattle.rox_compare.proofs.Words.{ends_tell}
 use Rattle.rox_lists.proofs.names.same_short_uris.Goals as goal
 
 pub returns-then-same_front : goal.returns-then-same_front

@@ -2,7 +2,7 @@ use Rattle.std.proofs.Common.{◌≡◌, false, map, take}
 use Rattle.std.specs.List.{list_any}
 use Rattle.rox_scopes.specs.NamespaceViews.{namespace_view}
 use Rattle.rox_rows.specs.StoredAttributes.{data_of}
-use Rattle.rox_names.specs.ResolvedNames.{has_expanded}
+use Rattle.rox_seen.specs.SeenNames.{has_expanded}
 use Rattle.rox_names.proofs.resolve.is_among.Given as goal
 
 abbrev pub invariant-loop-attribute : goal.invariant-loop-attribute

@@ -2,7 +2,7 @@ use Rattle.std.proofs.Common.{rules, length, map, sym, ap, ◌∙◌}
 use Rattle.std.specs.List.{list_any}
 use Rattle.rox_rows.specs.Rows.{NamespaceWithin}
 use Rattle.rox_scopes.specs.NamespaceViews.{namespace_view}
-use Rattle.rox_names.specs.ResolvedNames.{has_expanded}
+use Rattle.rox_seen.specs.SeenNames.{has_expanded}
 use Rattle.rox_names.proofs.NameTests.{any_column}
 use Rattle.rox_rows.proofs.AttributeRows.{column_behind, all_column, any_data}
 use Rattle.rox_names.proofs.resolve.is_refused.Goals as goal

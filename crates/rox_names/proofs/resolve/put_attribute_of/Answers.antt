@@ -1,8 +1,8 @@
 use Rattle.std.proofs.Common.{rules, map, sym, subst, refl, ◌∙◌}
 use Rattle.rox_scopes.specs.NamespaceViews.{namespace_view}
 use Rattle.rox_names.specs.ResolvedNames.{row_of_unresolved}
-use Rattle.rox_names.specs.SeenNames.{AreSeen}
-use Rattle.rox_names.proofs.SeenCodes.{same_seen}
+use Rattle.rox_seen.specs.SeenNames.{AreSeen}
+use Rattle.rox_seen.proofs.SeenCodes.{same_seen}
 use Rattle.rox_names.proofs.resolve.put_attribute_of.Goals as goal
 use Rattle.rox_names.proofs.resolve.put_attribute_of.Goals.{else-repeats-via-then-repeats+else-is_refused, else-repeats-via-else-repeats}
 

@@ -2,10 +2,10 @@ use Rattle.std.proofs.Common.{rules, List, ◌++◌, ◌∷◌, [], ◌∙◌, m
 use Rattle.rox_rows.specs.Rows.{AttributeRow, attribute_rows}
 use Rattle.rox_scopes.specs.NamespaceViews.{namespace_view}
 use Rattle.rox_names.specs.ResolvedNames.{row_of_compact}
-use Rattle.rox_names.specs.SeenNames.{AreSeen}
+use Rattle.rox_seen.specs.SeenNames.{AreSeen}
 use Rattle.rox_rows.specs.declared.row.AttributeData.{AttributeData}
 use Rattle.rox_rows.specs.declared.row.AttributePlaces.{AttributePlaces}
-use Rattle.rox_names.proofs.SeenCodes.{same_seen}
+use Rattle.rox_seen.proofs.SeenCodes.{same_seen}
 use Rattle.rox_names.proofs.resolve.put_compact_attribute.Goals as goal
 use Rattle.rox_names.proofs.resolve.put_compact_attribute.Goals.{else-repeats-via-then-repeats+else-is_refused, else-repeats-via-else-repeats}
 

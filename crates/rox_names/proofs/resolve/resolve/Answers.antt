@@ -3,8 +3,8 @@ use Rattle.std.proofs.lemmas.Result.{err_from_is_err_and}
 use Rattle.rox_rows.specs.Rows.{AttributeRow, attribute_rows, NamespaceWithin}
 use Rattle.rox_scopes.specs.NamespaceViews.{namespace_view}
 use Rattle.rox_names.specs.ResolvedNames.{row_of_unresolved}
-use Rattle.rox_names.specs.SeenNames.{HasNameOf, SeesName}
-use Rattle.rox_names.proofs.SeenCodes.{seen_first, seen_more}
+use Rattle.rox_seen.specs.SeenNames.{HasNameOf, SeesName}
+use Rattle.rox_seen.proofs.SeenCodes.{seen_first, seen_more}
 use Rattle.rox_rows.proofs.AttributeRows.{data_behind, old_within, all_behind, all_column}
 use Rattle.rox_names.proofs.Resolving.{ends, refuses, moves, resolves, starts, resolves_first, read_again}
 use Rattle.rox_names.proofs.resolve.resolve.Goals as goal

@@ -3,7 +3,7 @@ use Rattle.rox_grammar.specs.Written.{NamespaceDecl}
 use Rattle.rox_rows.specs.Rows.{attribute_rows}
 use Rattle.rox_scopes.specs.NamespaceViews.{namespace_view}
 use Rattle.rox_scopes.specs.Bindings.{FindsBinding, places_view}
-use Rattle.rox_names.specs.SeenNames.{HaveCodes}
+use Rattle.rox_seen.specs.SeenNames.{HaveCodes}
 use Rattle.rox_names.proofs.Resolving.{Moving, Resolving}
 use Rattle.rox_names.proofs.resolve.resolve.Given as goal
 

@@ -4,10 +4,10 @@ use Rattle.rox_grammar.specs.declared.fault.Span.{Span}
 use Rattle.rox_grammar.specs.declared.fault.Fault.TheVariants as fault
 use Rattle.rox_scopes.specs.NamespaceViews.{namespace_view}
 use Rattle.rox_names.specs.TagDeclarations.{unresolved_view}
-use Rattle.rox_names.specs.ResolvedNames.{has_expanded}
+use Rattle.rox_seen.specs.SeenNames.{has_expanded}
 use Rattle.rox_rows.proofs.AttributeRows.{any_data}
 use Rattle.rox_names.proofs.NameTests.{repeated_is, tested_unknown, tested_again, tested_on}
-use Rattle.rox_names.proofs.SeenCodes.{none_has}
+use Rattle.rox_seen.proofs.SeenCodes.{none_has}
 use Rattle.rox_names.proofs.resolve.tested_namespace.Goals as goal
 
 pub returns-in_default : goal.returns-in_default

@@ -3,8 +3,8 @@ use Rattle.std.proofs.lemmas.List.{length-append}
 use Rattle.std.specs.Str.{IsCharBoundary}
 use Rattle.rox_rows.specs.Rows.{attribute_rows}
 use Rattle.rox_names.specs.declared.tables.ElementTables.{ElementTables}
-use Rattle.rox_names.specs.SeenNames.{AreSeen}
-use Rattle.rox_names.proofs.SeenCodes.{few_seen, seen_kept}
+use Rattle.rox_seen.specs.SeenNames.{AreSeen}
+use Rattle.rox_seen.proofs.SeenCodes.{few_seen, seen_kept}
 use Rattle.rox_tags.proofs.PlainTags.{above_no_end}
 use Rattle.rox_tags.proofs.TagAttributes.{done_within, ends_or_not, holds_declared, holds_grown, holds_more, holds_scope, holds_start, two_scopes}
 use Rattle.rox_tags.proofs.quick_tag.tag_attributes.Goals as goal

@@ -1,7 +1,7 @@
 use Rattle.std.proofs.Common.{◌≡◌, ◌-◌, length}
 use Rattle.std.specs.Str.{IsCharBoundary}
 use Rattle.rox_rows.specs.Rows.{attribute_rows}
-use Rattle.rox_names.specs.SeenNames.{AreSeen}
+use Rattle.rox_seen.specs.SeenNames.{AreSeen}
 use Rattle.rox_tags.specs.TagAttributes.{HoldsSoFar}
 use Rattle.rox_tags.proofs.quick_tag.tag_attributes.Given as goal
 

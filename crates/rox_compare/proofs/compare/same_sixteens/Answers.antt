@@ -1,6 +1,6 @@
 use Rattle.std.proofs.Common.{◌≡◌, ◌+◌, ◌-◌, length, sym, ◌∙◌, arith}
-use Rattle.rox_storage.proofs.Words.{last_tell}
-use Rattle.rox_storage.proofs.compare.same_sixteens.Goals as goal
+use Rattle.rox_compare.proofs.Words.{last_tell}
+use Rattle.rox_compare.proofs.compare.same_sixteens.Goals as goal
 
 pub returns-then-same_sixteen : goal.returns-then-same_sixteen
 returns-then-same_sixteen c =

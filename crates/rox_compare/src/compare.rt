@@ -1,7 +1,7 @@
 //! Equality of short texts.
 
 ghost use Rattle.std.specs.Prelude.{◌≡◌, ◌≤◌, ◌<◌, ◌+◌, length, bytes_eq, slice_range};
-ghost use Rattle.rox_storage.specs.Words.{HasLength, IsLongWord, IsWord};
+ghost use Rattle.rox_compare.specs.Words.{HasLength, IsLongWord, IsWord};
 
 /// The length in bytes from which on the comparison of the standard library is used.
 pub const LONG: usize = 16;
@@ -197,7 +197,7 @@ pub fn same_text(one: &str, other: &str) -> bool
 
 /// Returns whether two texts are equal, in line for texts of at most thirty-two bytes. Line ends with their indentation are such.
 #[inline(always)]
-pub(crate) fn same_line_end(one: &str, other: &str) -> bool
+pub fn same_line_end(one: &str, other: &str) -> bool
     ensures { result ≡ bytes_eq one.now other.now }
 {
     let one = one.as_bytes();

@@ -1,5 +1,5 @@
 use Rattle.std.proofs.Common.{◌≡◌, ◌≤◌, ◌<◌, ◌-◌, ℕ, length, get_or}
-use Rattle.rox_storage.proofs.compare.same_bytes.Given as goal
+use Rattle.rox_compare.proofs.compare.same_bytes.Given as goal
 
 abbrev pub invariant-loop-at : goal.invariant-loop-at
 invariant-loop-at l = record {

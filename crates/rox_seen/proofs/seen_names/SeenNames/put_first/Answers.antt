@@ -1,7 +1,7 @@
 use Rattle.std.proofs.Common.{rules, arith}
 use Rattle.rox_rows.proofs.AttributeRows.{length_rows}
-use Rattle.rox_names.proofs.SeenCodes.{three_seen, four_seen}
-use Rattle.rox_names.proofs.seen_names.SeenNames.put_first.Goals as goal
+use Rattle.rox_seen.proofs.SeenCodes.{three_seen, four_seen}
+use Rattle.rox_seen.proofs.seen_names.SeenNames.put_first.Goals as goal
 
 pub returns-else-count-eq-WITHOUT_CODES : goal.returns-else-count-eq-WITHOUT_CODES
 returns-else-count-eq-WITHOUT_CODES c =

@@ -1,6 +1,6 @@
 use Rattle.std.proofs.Common.{arith}
-use Rattle.rox_names.proofs.SeenCodes.{not_there, put_there, stays_there}
-use Rattle.rox_names.proofs.seen_names.SeenNames.put.Goals as goal
+use Rattle.rox_seen.proofs.SeenCodes.{not_there, put_there, stays_there}
+use Rattle.rox_seen.proofs.seen_names.SeenNames.put.Goals as goal
 
 pub returns : goal.returns
 returns c = record {

@@ -1,13 +1,17 @@
 -- The codes of local names, and which of them are recorded.
-use Rattle.std.specs.Prelude.{◌≡◌, ◌<◌, ◌≤◌, ℕ, ◌+◌, ◌*◌, ◌-◌, ◌/◌, ◌%◌, ◌^◌, Bool, true, false, List, [], ◌∷◌, ◌++◌, get_or, if◌then◌else◌, drop, leb, eqb, length, slice_index, slice_range}
+use Rattle.std.specs.Prelude.{◌≡◌, ◌<◌, ◌≤◌, ◌&&◌, ℕ, ◌+◌, ◌*◌, ◌-◌, ◌/◌, ◌%◌, ◌^◌, Bool, bytes_eq, true, false, List, [], ◌∷◌, ◌++◌, get_or, if◌then◌else◌, drop, leb, eqb, length, slice_index, slice_range}
 use Rattle.std.specs.List.{AllByRecursion, list_any}
 use Rattle.std.specs.Int.{w32, from_le_bytes, bit_at}
 use Rattle.rox_grammar.specs.Written.{NamespaceDecl}
-use Rattle.rox_names.specs.ResolvedNames.{has_expanded}
-use Rattle.rox_rows.specs.Rows.{AttributeRow, NamespaceWithin}
-use Rattle.rox_names.specs.declared.seen_names.SeenNames.{SeenNames}
+use Rattle.rox_grammar.specs.Tree.{same_prefix}
+use Rattle.rox_rows.specs.Rows.{AttributeRow, NamespaceWithin, attribute_uri}
+use Rattle.rox_seen.specs.declared.seen_names.SeenNames.{SeenNames}
 use Rattle.rox_rows.specs.declared.row.AttributeData.{AttributeData}
 use Rattle.rox_rows.specs.declared.row.AttributeNamespace.{AttributeNamespace}
+
+-- Whether an attribute's row has this expanded name: the URI of the namespace `s`, and the local name `local`.
+abbrev pub has_expanded : List NamespaceDecl → AttributeNamespace → List ℕ → AttributeData → Bool
+has_expanded namespaces s local a = same_prefix (attribute_uri namespaces a.namespace) (attribute_uri namespaces s) && bytes_eq a.local.now local
 
 -- The number from which the code of a name is computed.
 unfoldable pub name_sum : List ℕ → ℕ

@@ -7,8 +7,8 @@ ghost use Rattle.std.specs.Rc.{rc_str_bytes};
 ghost use Rattle.std.specs.String.{string_bytes};
 ghost use Rattle.rox_storage.specs.Storage.{IsOwnText};
 
-use crate::compare::same_line_end;
-use crate::storage::StringStorage;
+use rox_compare::compare::same_line_end;
+use rox_storage::storage::StringStorage;
 use std::alloc::{AllocError, Global};
 use std::rc::RcStr;
 

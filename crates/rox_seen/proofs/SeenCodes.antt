@@ -13,12 +13,12 @@ use Rattle.rox_grammar.specs.Written.{NamespaceDecl}
 use Rattle.rox_grammar.specs.Tree.{same_prefix}
 use Rattle.rox_rows.specs.Rows.{AttributeRow, attribute_rows, attribute_uri}
 use Rattle.rox_rows.specs.StoredAttributes.{data_of, row_in}
-use Rattle.rox_names.specs.ResolvedNames.{has_expanded}
+use Rattle.rox_seen.specs.SeenNames.{has_expanded}
 use Rattle.rox_rows.specs.declared.row.AttributeNamespace.{AttributeNamespace}
 use Rattle.rox_rows.specs.declared.attributes.AttributeTable.{AttributeTable}
 use Rattle.rox_rows.specs.declared.stored_attribute.StoredAttribute.{StoredAttribute}
-use Rattle.rox_names.specs.declared.seen_names.SeenNames.{SeenNames}
-use Rattle.rox_names.specs.SeenNames.{name_code, HasCode, HasNameOf, HaveCodes, AreSeen, KeepsCodes, SeesName}
+use Rattle.rox_seen.specs.declared.seen_names.SeenNames.{SeenNames}
+use Rattle.rox_seen.specs.SeenNames.{name_code, HasCode, HasNameOf, HaveCodes, AreSeen, KeepsCodes, SeesName}
 use Rattle.rox_reading.proofs.Lists.{all_append, all_weaker}
 
 -- a code whose bit is clear is not there

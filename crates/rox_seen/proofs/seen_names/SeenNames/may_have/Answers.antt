@@ -1,8 +1,8 @@
 use Rattle.std.proofs.Common.{rules, ◌∷◌, ◌++◌, [], sym, subst, drop, refl}
 use Rattle.rox_rows.specs.Rows.{attribute_rows}
-use Rattle.rox_names.specs.SeenNames.{SeesName}
-use Rattle.rox_names.proofs.SeenCodes.{none_rows, are_more}
-use Rattle.rox_names.proofs.seen_names.SeenNames.may_have.Goals as goal
+use Rattle.rox_seen.specs.SeenNames.{SeesName}
+use Rattle.rox_seen.proofs.SeenCodes.{none_rows, are_more}
+use Rattle.rox_seen.proofs.seen_names.SeenNames.may_have.Goals as goal
 
 pub returns : goal.returns
 returns c = record {

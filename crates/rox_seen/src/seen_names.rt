@@ -4,13 +4,13 @@ ghost use Rattle.std.specs.Prelude.{◌≡◌, ◌+◌, ◌<◌, ◌≤◌, leng
 ghost use Rattle.std.specs.List.{list_any};
 ghost use Rattle.rox_grammar.specs.Written.{NamespaceDecl};
 ghost use Rattle.rox_rows.specs.Rows.{AttributeRow, attribute_rows};
-ghost use Rattle.rox_names.specs.ResolvedNames.{has_expanded};
+ghost use Rattle.rox_seen.specs.SeenNames.{has_expanded};
 ghost use Rattle.rox_rows.specs.declared.row.AttributeNamespace.{AttributeNamespace};
-ghost use Rattle.rox_names.specs.SeenNames.{name_sum, AreFirst, AreSeen, IsNameCode, KeepsCodes, PutsCode, SeesAll, TellsSeen};
+ghost use Rattle.rox_seen.specs.SeenNames.{name_sum, AreFirst, AreSeen, IsNameCode, KeepsCodes, PutsCode, SeesAll, TellsSeen};
 
+use crate::recent_texts::Recent;
+use rox_compare::compare::{WORD, word_at};
 use rox_rows::attributes::AttributeTable;
-use rox_storage::compare::{WORD, word_at};
-use rox_storage::recent_texts::Recent;
 
 /// The attributes of a tag that are in the table: where they begin, and which codes their names have. The codes of the first four
 /// are recorded with the fifth. Until then `codes` has those of an earlier tag.
@@ -112,7 +112,7 @@ impl SeenNames {
 
     /// Records a name. Returns whether a name with its code was recorded before.
     #[inline(always)]
-    pub(crate) fn put(&mut self, local: &str) -> bool
+    pub fn put(&mut self, local: &str) -> bool
         ensures { PutsCode self.old self.new local.now result }
     {
         let code = name_code(local);
@@ -150,7 +150,7 @@ impl SeenNames {
 
     /// Like `put_first`, but does nothing if the tag has more than four attributes: their names are recorded already.
     #[inline(always)]
-    pub(crate) fn put_few(&mut self, attributes: &AttributeTable<'_>)
+    pub fn put_few(&mut self, attributes: &AttributeTable<'_>)
         requires { AreSeen self.old (attribute_rows attributes.now) }
         ensures { SeesAll self.old self.new (attribute_rows attributes.now) }
     {
@@ -162,7 +162,7 @@ impl SeenNames {
     /// Returns false only if no attribute of the tag has the local name `local`. From the fifth attribute on, compares codes and
     /// records that of `local`. Up to the fourth, compares `local` with the names before it.
     #[inline(always)]
-    pub(crate) fn may_have(&mut self, attributes: &AttributeTable<'_>, local: &str) -> bool
+    pub fn may_have(&mut self, attributes: &AttributeTable<'_>, local: &str) -> bool
         requires { AreSeen self.old (attribute_rows attributes.now) }
         ensures { TellsSeen self.old self.new (attribute_rows attributes.now) local.now result }
     {
@@ -188,7 +188,7 @@ impl SeenNames {
 
     /// Counts a name whose code was recorded.
     #[inline(always)]
-    pub(crate) fn count_again(&mut self)
+    pub fn count_again(&mut self)
         ensures { KeepsCodes self.old self.new }
     {
         self.again = self.again.saturating_add(1);
@@ -196,7 +196,7 @@ impl SeenNames {
 
     /// Returns whether so many codes repeat that a set is faster.
     #[inline(always)]
-    pub(crate) fn are_many_again(&self) -> bool {
+    pub fn are_many_again(&self) -> bool {
         self.again > MOST_AGAIN
     }
 }

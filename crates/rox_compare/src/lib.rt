@@ -1,0 +1,4 @@
+//! Equality of short texts, in line.
+#![tactic(auto)]
+
+pub mod compare;
