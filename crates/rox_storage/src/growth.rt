@@ -123,18 +123,18 @@ pub fn make_room<T: Drop>(to: &mut Vec<T>, place: usize, end: usize) -> Result<(
     reserve(to, room - len, len / 8 + 1)
 }
 
-/// The most rows of spare room that stay: giving back less costs more than it is worth.
-const SPARE: usize = 1024;
+/// The most rows of spare room that stay, 2 KB of rows of nodes: giving back less costs more than it is worth.
+const SPARE: usize = 48;
 
-/// Gives back the spare room of a finished table if there is much of it. That is more than `SPARE` rows and more than a sixteenth
-/// of the rows in use.
+/// Gives back the spare room of a finished table if there is much of it. That is more than `SPARE` rows and more than one row for
+/// 64 rows in use.
 #[inline]
 pub fn trim<T: Drop>(table: &mut Vec<T>)
     ensures { growth.GivesBack table.old table.new }
 {
     let len = table.len();
     let spare = table.capacity() - len;
-    if spare > SPARE && spare > len / 16 {
+    if spare > SPARE && spare > len / 64 {
         table.shrink_to_fit();
     }
 }
