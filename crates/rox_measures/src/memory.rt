@@ -59,6 +59,16 @@ fn anonymous(table: &[u8]) -> Option<u64> {
 }
 
 /// The number in the line of such a table that begins with this word, as in `Anonymous:   148 kB`.
+///
+/// ```
+/// use rox_measures::memory::kibibytes;
+///
+/// let table = "5500-7fff [rollup]\nRss:    2172 kB\nPss_Anon:  7 kB\nBad: x kB\nNone:\n";
+/// assert!(rt; kibibytes(table, "Rss:") == Some(2172));
+/// for word in ["Anon:", "Bad:", "None:"] {
+///     assert!(rt; kibibytes(table, word).is_none(), "{word}");
+/// }
+/// ```
 pub fn kibibytes(table: &str, word: &str) -> Option<u64> {
     for line in table.lines() {
         let mut words = line.split_ascii_whitespace();

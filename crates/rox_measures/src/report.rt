@@ -1,4 +1,25 @@
 //! What is printed.
+//!
+//! ```
+//! use rox_measures::report::{write_held, write_parse, write_walk};
+//! use rox_measures::turns::Turns;
+//!
+//! // Four turns in which the work was done twice. The median is the third one, and digits are cut off.
+//! let mut out = Vec::new(alloc);
+//! let times = Vec::from_array(alloc, [3_000, 1_000, 2_500, 2_000])?;
+//! assert!(rt; write_parse(alloc, &mut out, "parse", 100, Turns { repeats: 2, times }).is_ok());
+//! let times = Vec::from_array(alloc, [3_000, 1_000, 2_500, 2_000])?;
+//! assert!(rt; write_walk(alloc, &mut out, "walk", 30, Turns { repeats: 2, times }).is_ok());
+//! assert!(rt; write_held(&mut out, 100, Some(266)).is_ok());
+//! assert!(rt; write_held(&mut out, 100, None).is_ok());
+//! let wanted = "\
+//! parse          best         500.0 ns    200.0 MB/s, median        1250.0 ns     80.0 MB/s, 4 turns of 2
+//! walk           best         500.0 ns     16.6 ns a node, median        1250.0 ns     41.6 ns a node, 4 turns of 2
+//! held           266 bytes, 2.6 a byte of text
+//! held           unknown
+//! ";
+//! assert!(rt; str::from_utf8(&out).ok() == Some(wanted));
+//! ```
 
 use crate::fault::Fault;
 use crate::figures::{Tenths, best, median, megabytes_per_second, share};

@@ -1,4 +1,81 @@
 //! Turns of a work.
+//!
+//! ```
+//! use rox_measures::clock;
+//! use rox_measures::turns::measure;
+//! use rox_measures::work::{Parse, ParseAndDrop, Walk, WalkLinks, Work};
+//! use std::cell::Cell;
+//! use std::io;
+//! use std::io::ErrorKind;
+//! use std::time::{CpuClock, Duration};
+//!
+//! /// A clock that goes on by the same step at each look, and can be read so many times.
+//! #[derive(Drop)]
+//! struct Steps {
+//!     step: u64,
+//!     looks: Cell<u64>,
+//!     most: u64,
+//! }
+//!
+//! impl Steps {
+//!     fn new(step: u64, most: u64) -> Steps {
+//!         Steps { step, looks: Cell::new(0), most }
+//!     }
+//! }
+//!
+//! impl CpuClock for Steps {
+//!     fn thread_cpu_time(&self) -> io::Result<Duration> {
+//!         self.process_cpu_time()
+//!     }
+//!
+//!     fn process_cpu_time(&self) -> io::Result<Duration> {
+//!         let looks = self.looks.get();
+//!         if looks >= self.most {
+//!             return Err(io::Error::from(ErrorKind::Unsupported));
+//!         }
+//!         self.looks.set(looks.wrapping_add(1));
+//!         Ok(Duration::from_nanos(self.step.wrapping_mul(looks)))
+//!     }
+//! }
+//!
+//! // a step for each interval that is looked at
+//! let text = "<r/>";
+//! let time = ParseAndDrop { alloc, text }.turn(&Steps::new(10, 2), 3).ok();
+//! assert!(rt; time == Some(10));
+//! let time = Parse { alloc, text }.turn(&Steps::new(10, 6), 3).ok();
+//! assert!(rt; time == Some(30));
+//! let document = &Document::parse(alloc, text)?;
+//! // one for each of two nodes, and one for `r`
+//! let time = Walk { document, sum: 3 }.turn(&Steps::new(10, 2), 3).ok();
+//! assert!(rt; time == Some(10));
+//! let time = WalkLinks { document, nodes: 2 }.turn(&Steps::new(10, 2), 3).ok();
+//! assert!(rt; time == Some(10));
+//! let fault = WalkLinks { document, nodes: 3 }.turn(&Steps::new(10, 2), 3).err();
+//! let printed = fault.expect(&rt, "a fault").to_string(alloc)?;
+//! assert!(rt; printed.as_str() == "two walks came to different sums");
+//!
+//! // A turn looks twice. A step of 250 microseconds asks for 4 repeats, and then, since the clock does not see them, 16. After n turns
+//! // and the looks between them the clock shows 3 n - 6 steps.
+//! let work = ParseAndDrop { alloc, text };
+//! for (step, budget, repeats, count) in
+//!     [(250_000, 0, 16, 7), (2_000_000, 0, 1, 7), (2_000_000, 60_000_000, 1, 12)]
+//! {
+//!     let turns = measure(alloc, &Steps::new(step, 1000), &work, budget).ok();
+//!     let turns = turns.expect(&rt, "turns");
+//!     assert!(rt; (turns.repeats, turns.times.len()) == (repeats, count));
+//!     assert!(rt; turns.times[0] == step);
+//!     // the clock fails in the fourth turn that counts
+//!     let fault = measure(alloc, &Steps::new(step, 12), &work, budget).err();
+//!     let printed = fault.expect(&rt, "a fault").to_string(alloc)?;
+//!     assert!(rt; printed.as_str() == "cannot read the clock");
+//! }
+//!
+//! // and where it went back
+//! let clock = Steps::new(10, 2);
+//! assert!(rt; clock::since(&clock, 0).ok() == Some(0));
+//! assert!(rt; clock::since(&clock, 100).ok() == Some(0));
+//! assert!(rt; clock::now(&clock).is_err());
+//! ```
 
 ghost use Rattle.std.specs.Prelude.{◌≡◌, ◌≤◌, ◌/◌, length, max, min, IfOk};
 ghost use Rattle.rox_measures.specs.declared.turns.TheConstants.{TURN, MOST_REPEATS, FEWEST};

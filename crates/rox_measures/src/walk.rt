@@ -1,4 +1,16 @@
 //! Walks over a document.
+//!
+//! ```
+//! use rox_measures::walk::{count, walk, walk_links};
+//!
+//! let text = "<r a='1' xmlns:p='uv'><p:b p:c='&lt;e'/>text<!--skip--></r>";
+//! let document = Document::parse(alloc, text)?;
+//! let census = count(&document);
+//! assert!(rt; [census.nodes, census.elements, census.attributes] == [5, 2, 2]);
+//! // one for each node; `r`; `a` and `1`; `b` and `uv`; `c`, `uv` and `<e`; `text`
+//! assert!(rt; walk(&document, 100) == 100 + 5 + 1 + 2 + 3 + 5 + 4);
+//! assert!(rt; walk_links(&document, 100) == 100 + 5);
+//! ```
 
 use roxmltree::{Document, Node};
 

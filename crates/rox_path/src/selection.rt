@@ -1,4 +1,16 @@
 //! The nodes that steps reach.
+//!
+//! ```
+//! let document = Document::parse(alloc, "<r><a><b i='1'/></a><b i='2'><b i='3'/></b></r>")?;
+//! let a = document.root_element().first_child().expect(&rt, "a child");
+//! // the number of nodes that each path reaches from `a`
+//! for (path, count) in [("//b", 1), ("/b", 1), ("/a", 0), ("//r", 0)] {
+//!     let steps = parse_path(alloc, path)?;
+//!     assert!(rt; select(alloc, a, &steps)?.len() == count, "{path}");
+//! }
+//! let nodes = select(alloc, a, &[])?;
+//! assert!(rt; nodes.len() == 1 && nodes[0] == a);
+//! ```
 
 ghost use Rattle.std.specs.Prelude.{◌≡◌, ℕ, List, map, filter, IfOk};
 ghost use Rattle.roxmltree.specs.ExpandedNames.{expanded};

@@ -1,5 +1,19 @@
 //! All that an attribute and a namespace answer. They are seen as that and no more, so the rows that they are read from need not
 //! be trusted.
+//!
+//! ```
+//! use rox_uses::{attribute_answers, namespace_answers};
+//!
+//! let document = Document::parse(alloc, "<r xmlns:n='u' n:a='x&lt;'/>")?;
+//! let attribute = document.root_element().attributes().next().expect(&rt, "an attribute");
+//! let it = attribute_answers(attribute);
+//! assert!(rt; [it.start, it.name_end, it.value_start, it.end] == [15, 18, 20, 26]);
+//! assert!(rt; (it.namespace, it.name) == (Some("u"), "a"));
+//! assert!(rt; (it.value, it.borrowed) == ("x<", false));
+//! let namespace = document.root_element().namespaces().next().expect(&rt, "a namespace");
+//! let it = namespace_answers(namespace);
+//! assert!(rt; (it.name, it.uri) == (Some("n"), "u"));
+//! ```
 
 ghost use Rattle.std.specs.Prelude.{◌≡◌};
 ghost use Rattle.roxmltree.specs.AttributeView.{attribute_of};

@@ -1,4 +1,16 @@
 //! Elements put in the place of others.
+//!
+//! ```
+//! use rox_uses::with_copy;
+//!
+//! let document = Document::parse(alloc, "<r>a<b x='1'>c</b><!-- --><d/></r>")?;
+//! let b = document.root_element().first_element_child().expect(&rt, "an element");
+//! let d = document.root_element().last_element_child().expect(&rt, "an element");
+//! assert!(rt; b.is_self_contained());
+//! assert!(rt; d.is_self_contained());
+//! let text = with_copy(alloc, d, b)?;
+//! assert!(rt; text.as_str() == "<r>a<b x='1'>c</b><!-- --><b x='1'>c</b></r>");
+//! ```
 
 ghost use Rattle.std.specs.Prelude.{◌≡◌, ℕ, true, List, IfOk, IfErr, string_bytes};
 ghost use Rattle.rox_error.specs.declared.error.Error.TheVariants.{OutOfMemory};

@@ -1,4 +1,19 @@
 //! Records found by a path.
+//!
+//! ```
+//! use rox_uses::{QueryError, RecordsError, records_at};
+//!
+//! let text = "<t><row name='a' value='1'/><part><row name='b' value='2'/></part><row/></t>";
+//! let document = Document::parse(alloc, text)?;
+//! let records = records_at(alloc, &document, "//part/row").ok().expect(&rt, "records");
+//! assert!(rt; records.len() == 1);
+//! assert!(rt; (records[0].name.as_str(), records[0].value.as_str()) == ("b", "2"));
+//!
+//! let error = records_at(alloc, &document, "//row").err();
+//! assert!(rt; error == Some(QueryError::Row(RecordsError::Incomplete(66))));
+//! let error = records_at(alloc, &document, "//row/").err();
+//! assert!(rt; error == Some(QueryError::Path(PathError::BadPath(6))));
+//! ```
 
 ghost use Rattle.std.specs.Prelude.{◌≡◌, ℕ, List, map, IfOk, Err};
 ghost use Rattle.roxmltree.specs.NodeRef.{node_refs};

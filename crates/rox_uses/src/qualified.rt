@@ -1,4 +1,17 @@
 //! Qualified names in the values of attributes, as in `xsi:type="p:T"`.
+//!
+//! ```
+//! use rox_uses::resolve;
+//!
+//! let document = Document::parse(alloc, "<r xmlns:p='u' xmlns='v'><s xmlns:p='w'/></r>")?;
+//! let r = document.root_element();
+//! let s = r.first_child().expect(&rt, "a child");
+//! assert!(rt; resolve(r, "p:T") == Some(("u", "T").into()));
+//! assert!(rt; resolve(s, "p:T") == Some(("w", "T").into()));
+//! assert!(rt; resolve(s, "T") == Some(("v", "T").into()));
+//! assert!(rt; resolve(s, "q:T").is_none());
+//! assert!(rt; resolve(document.root(), "T") == Some("T".into()));
+//! ```
 
 ghost use Rattle.std.specs.Prelude.{◌≡◌, Some, None};
 ghost use Rattle.std.specs.Option.{option_map};

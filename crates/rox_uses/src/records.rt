@@ -1,4 +1,20 @@
 //! Tables of records: an element whose children `<row name=".." value=".."/>` are its rows.
+//!
+//! ```
+//! use rox_uses::{RecordsError, read_records};
+//!
+//! let text = "<t><row name='a' value='1'/>text<other/><row value='&lt;' name='b'/></t>";
+//! let document = Document::parse(alloc, text)?;
+//! let records = read_records(alloc, document.root_element())?;
+//! assert!(rt; records.len() == 2);
+//! assert!(rt; (records[0].name.as_str(), records[0].value.as_str()) == ("a", "1"));
+//! assert!(rt; (records[1].name.as_str(), records[1].value.as_str()) == ("b", "<"));
+//!
+//! let text = "<t><row name='a' value='1'/><row name='b'/><row/></t>";
+//! let document = Document::parse(alloc, text)?;
+//! let error = read_records(alloc, document.root_element()).err();
+//! assert!(rt; error == Some(RecordsError::Incomplete(28)));
+//! ```
 
 ghost use Rattle.std.specs.Prelude.{◌≡◌, ℕ, true, map, IfOk, Err, Some};
 ghost use Rattle.std.specs.Option.{option_map};

@@ -1,4 +1,22 @@
 //! Walks over a tree: by recursion, and by chains of iterators.
+//!
+//! ```
+//! use rox_uses::{element_by_id, first_with_id, last_with_id, levels, source_of};
+//!
+//! let text = "<r xmlns:n='u'><a n:id='x'/><b id='y'><c id='x'/></b><d id='x'/></r>";
+//! let document = Document::parse(alloc, text)?;
+//! // `n:id` is another attribute
+//! let c = element_by_id(&document, "x").expect(&rt, "an element");
+//! assert!(rt; source_of(c) == Some("<c id='x'/>"));
+//! assert!(rt; first_with_id(&document, "x") == Some(c));
+//! let d = last_with_id(&document, "x").expect(&rt, "an element");
+//! assert!(rt; d.has_tag_name("d".into()));
+//! assert!(rt; first_with_id(&document, "").is_none());
+//! assert!(rt; last_with_id(&document, "z").is_none());
+//! assert!(rt; levels(document.root()) == 4);
+//! assert!(rt; levels(c) == 1);
+//! assert!(rt; source_of(document.root()) == Some(text));
+//! ```
 
 ghost use Rattle.std.specs.Prelude.{◌≡◌, ◌+◌, ◌^◌, ◌<◌, ◌≤◌, true, false, None, IfSome, IsNone, filter, slice_range};
 ghost use Rattle.std.specs.Option.{option_map};

@@ -1,6 +1,6 @@
 use Rattle.std.proofs.Common.{◌+◌, ◌≤◌, ◌∷◌, [], ap, ◌∙◌, length, length-append, arith}
 use Rattle.rox_scopes.proofs.Ropes.{rows_push}
-use Rattle.test_parsing.proofs.tests.tables.with_one.Goals as goal
+use Rattle.test_library.proofs.tests.tables.with_one.Goals as goal
 
 pub both-requires : goal.both-requires
 both-requires c =

@@ -1,6 +1,6 @@
 //! How much a document may hold, and what errors of that print.
 
-use super::{child_count, document_of, is_refused, prints, same};
+use super::{child_count, document_of, is_refused, same};
 use roxmltree::{Document, Error, ParsingOptions, TextPos};
 use std::alloc::{AllocError, Global};
 
@@ -17,12 +17,8 @@ pub(super) fn declaring(alloc: Global, open: &str, count: u32) -> Result<String,
 #[test]
 fn as_many_namespaces_as_may_be(rt: HostRuntime) {
     let text = declaring(rt.alloc(), "<r>", 65535).expect(&rt, "memory");
-    same(
-        &rt,
-        "children",
-        child_count(&document_of(&rt, text.as_str())),
-        65535,
-    );
+    let document = document_of(&rt, text.as_str());
+    same(&rt, "children", child_count(&document), 65535);
     let text = declaring(rt.alloc(), "<r>", 65536).expect(&rt, "memory");
     is_refused(&rt, text.as_str(), Error::NamespacesLimitReached);
 }
@@ -45,7 +41,8 @@ fn messages(rt: HostRuntime) {
         ),
         (Error::OutOfMemory, "out of memory"),
     ] {
-        prints(&rt, error, message);
+        let shown = error.to_string(rt.alloc()).expect(&rt, "memory");
+        same(&rt, "printed", shown.as_str(), *message);
     }
 }
 

@@ -1,23 +1,33 @@
-//! What no dump, no command and no example shows of the public calls, of paths, and of the callers in `rox_uses`.
+//! What no dump, no command and no example shows of the library, and what is made by code.
 
-mod callers;
 mod compared;
+mod generated;
 mod kinds;
-mod paths;
+mod limits;
+mod positions;
 mod printed;
+mod resolvers;
+mod slices;
+mod tables;
 
-use roxmltree::{Document, Node, NodeId};
+use roxmltree::{Document, Error, Node, NodeId};
 use std::fmt::Debug;
 use std::process::Abort;
 
 /// Wants a value to be this. Where it is not, what it is of is told with both.
 fn same<T: PartialEq + Debug + Drop>(rt: &impl Abort, of: &str, got: T, wanted: T) {
-    assert_eq!(rt; got, wanted, "{of}");
+    assert_eq!(rt; got, wanted, "{of:?}");
 }
 
 /// The document of a text that is read.
 fn document_of<'input>(rt: &(impl Abort + AllocGlobal), text: &'input str) -> Document<'input> {
     Document::parse(rt.alloc(), text).expect(rt, text)
+}
+
+/// Wants a text to be refused so.
+fn is_refused(rt: &(impl Abort + AllocGlobal), text: &str, wanted: Error) {
+    let error = Document::parse(rt.alloc(), text).err();
+    same(rt, text, error, Some(wanted));
 }
 
 /// The node of this id.
@@ -31,7 +41,7 @@ fn node_of<'a, 'input>(
         .expect(rt, "no node of this id")
 }
 
-/// The number of a node.
-fn number(node: &Node<'_, '_>) -> u32 {
-    node.id().get()
+/// How many children the root element of a document has.
+fn child_count(document: &Document<'_>) -> usize {
+    document.root_element().children().count()
 }

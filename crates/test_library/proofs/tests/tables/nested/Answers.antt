@@ -1,6 +1,6 @@
 use Rattle.std.proofs.Common.{◌≤◌, ◌+◌, ◌∷◌, ap, ◌∙◌, [], length, length-append, arith}
 use Rattle.rox_scopes.proofs.Ropes.{rows_push}
-use Rattle.test_parsing.proofs.tests.tables.nested.Goals as goal
+use Rattle.test_library.proofs.tests.tables.nested.Goals as goal
 
 pub loop-from-init : goal.loop-from-init
 loop-from-init c =
