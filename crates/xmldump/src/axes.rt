@@ -1,7 +1,7 @@
 //! The second line of a node: its nearest elements, and what stands along each axis.
 
-use crate::node::{write_link, write_truth};
-use crate::output::write_number;
+use crate::node::write_link;
+use rox_dump::output::{write_number, write_truth};
 use rox_programs::output::Output;
 use roxmltree::{AxisIter, Node};
 use std::io::Write;

@@ -2,10 +2,10 @@
 
 ghost use Rattle.std.specs.Prelude.{◌≡◌};
 
-use crate::cases::first_case;
-use crate::fault::Fault;
-use crate::options::Options;
 use crate::sources::{Sources, write_text};
+use rox_dump::cases::first_case;
+use rox_dump::fault::Fault;
+use rox_dump::options::Options;
 use rox_programs::input::decode;
 use rox_programs::program_error::ProgramError;
 use std::alloc::Global;

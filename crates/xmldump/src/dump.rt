@@ -1,12 +1,12 @@
 //! The dump of a text: what the library answers of it.
 
-use crate::answers::{Answers, Recorder};
 use crate::axes::write_axes;
 use crate::lookups::write_lookups;
 use crate::node::write_node;
-use crate::options::Options;
-use crate::output::write_number;
 use crate::refusal::write_refusal;
+use rox_dump::answers::{Answers, Recorder};
+use rox_dump::options::Options;
+use rox_dump::output::write_number;
 use rox_programs::output::Output;
 use rox_programs::program_error::ProgramError;
 use roxmltree::{Document, Error, Node, ParsingOptions, ResolveWith};

@@ -2,10 +2,9 @@
 //! their backs.
 
 use crate::axes::write_id;
-use crate::node::{gap, write_name, write_text, write_truth};
-use crate::output::{write_number, write_position};
+use rox_dump::output::{gap, write_name, write_number, write_text, write_truth};
 use rox_programs::output::Output;
-use roxmltree::{Attribute, ExpandedName, NS_XML_URI, Node};
+use roxmltree::{Attribute, ExpandedName, NS_XML_URI, Node, TextPos};
 use std::io::Write;
 
 /// Writes the line of a node's look-ups.
@@ -25,6 +24,13 @@ fn write_places<W: Write>(node: &Node<'_, '_>, out: &mut Output<'_, W>) {
     write_position(document.text_pos_at(range.start), out);
     out.text("..");
     write_position(document.text_pos_at(range.end), out);
+}
+
+// Writes a row and a column.
+fn write_position<W: Write>(position: TextPos, out: &mut Output<'_, W>) {
+    if out.result.is_ok() {
+        out.result = write!(out.writer, "{position}");
+    }
 }
 
 // The URIs of the default, of `xml` and of each prefix that is listed.

@@ -2,28 +2,20 @@
 //! [--ans-file PATH] [--ans-none] [--ans-err TEXT] [--main MAIN] FILE`.
 #![tactic(auto)]
 
-mod answers;
-mod arguments;
 mod axes;
 mod batch;
-mod cases;
 mod dump;
-mod escape;
-mod fault;
 mod lookups;
 mod node;
-mod numbers;
-mod options;
-mod output;
 mod refusal;
 mod run;
 mod sources;
 
-use crate::answers::Answer;
-use crate::arguments::{USAGE, command};
-use crate::options::{AnswerWord, Command};
 use crate::run::read_text;
 use crate::sources::Sources;
+use rox_dump::answers::Answer;
+use rox_dump::arguments::{USAGE, command};
+use rox_dump::options::{AnswerWord, Command};
 use rox_programs::program_error::ProgramError;
 use std::env;
 use std::fs::File;

@@ -1,10 +1,9 @@
 //! The first line of a node: its neighbours, its place, its names and its texts.
 
-use crate::output::{write_number, write_quoted};
+use rox_dump::output::{gap, write_name, write_number, write_quoted, write_range, write_text};
 use rox_programs::output::Output;
 use roxmltree::{Attribute, Node, NodeType, PI, StringStorage};
 use std::io::Write;
-use std::ops::Range;
 
 /// Writes the first line of a node.
 pub fn write_node<W: Write>(node: &Node<'_, '_>, out: &mut Output<'_, W>) {
@@ -51,19 +50,6 @@ pub fn write_link<W: Write>(node: &Option<Node<'_, '_>>, label: &str, out: &mut 
     }
 }
 
-/// Writes a label and `true` or `false`.
-pub fn write_truth<W: Write>(label: &str, is_so: bool, out: &mut Output<'_, W>) {
-    out.text(label);
-    out.text(if is_so { "true" } else { "false" });
-}
-
-fn write_range<W: Write>(label: &str, range: Range<usize>, out: &mut Output<'_, W>) {
-    out.text(label);
-    write_number(range.start as u64, out);
-    out.text("..");
-    write_number(range.end as u64, out);
-}
-
 fn write_element<W: Write>(node: &Node<'_, '_>, out: &mut Output<'_, W>) {
     let name = node.tag_name();
     write_name(" tag=", name.namespace(), name.name(), out);
@@ -79,11 +65,6 @@ fn write_attributes<W: Write>(node: &Node<'_, '_>, out: &mut Output<'_, W>) {
         is_first = false;
     }
     out.text("]");
-}
-
-/// What stands before an item of a list.
-pub fn gap(is_first: bool) -> &'static str {
-    if is_first { "" } else { " " }
 }
 
 fn write_attribute<W: Write>(attribute: &Attribute<'_, '_>, gap: &str, out: &mut Output<'_, W>) {
@@ -108,28 +89,6 @@ fn write_namespaces<W: Write>(node: &Node<'_, '_>, out: &mut Output<'_, W>) {
 fn write_pi<W: Write>(pi: PI<'_>, out: &mut Output<'_, W>) {
     write_text(" target=", Some(pi.target), out);
     write_text(" value=", pi.value, out);
-}
-
-/// Writes a label and a name: its namespace and its local part.
-pub fn write_name<W: Write>(
-    label: &str,
-    namespace: Option<&str>,
-    local: &str,
-    out: &mut Output<'_, W>,
-) {
-    out.text(label);
-    write_text("{", namespace, out);
-    out.text("}");
-    write_quoted(local, out);
-}
-
-/// Writes a label and a text, or that there is none.
-pub fn write_text<W: Write>(label: &str, text: Option<&str>, out: &mut Output<'_, W>) {
-    out.text(label);
-    match text {
-        None => out.text("-"),
-        Some(text) => write_quoted(text, out),
-    }
 }
 
 fn write_storage_or_none<W: Write>(

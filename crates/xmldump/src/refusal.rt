@@ -1,6 +1,6 @@
 //! The dump of a text that is refused.
 
-use crate::escape::write_escaped;
+use rox_dump::escape::write_escaped;
 use rox_programs::program_error::ProgramError;
 use roxmltree::Error;
 use std::alloc::Global;

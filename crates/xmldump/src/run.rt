@@ -3,9 +3,9 @@
 ghost use Rattle.std.specs.Prelude.{◌≡◌, ◌≤◌, IsNone, IsErrOf};
 
 use crate::batch::write_batch;
-use crate::fault::Fault;
-use crate::options::Options;
 use crate::sources::{Sources, write_text};
+use rox_dump::fault::Fault;
+use rox_dump::options::Options;
 use rox_programs::input::{decode, read_all};
 use rox_programs::program_error::ProgramError;
 use std::alloc::Global;

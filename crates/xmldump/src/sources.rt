@@ -1,8 +1,8 @@
 //! What is read beside the input, and the texts that are read with it.
 
-use crate::answers::{Answer, Answers};
 use crate::dump::write_dump;
-use crate::options::Options;
+use rox_dump::answers::{Answer, Answers};
+use rox_dump::options::Options;
 use rox_programs::program_error::ProgramError;
 use std::alloc::Global;
 use std::io::Write;

@@ -1,0 +1,60 @@
+//! The texts of a batch.
+
+ghost use Rattle.std.specs.Prelude.{ℕ, ◌≡◌, ◌++◌, ◌∷◌, List, MatchOption};
+ghost use Rattle.rox_dump.specs.Numbers.{number_of};
+ghost use Rattle.rox_dump.specs.Batch.{BeginsWith, IsOneLine, IsSplit};
+
+use crate::numbers::number;
+use rox_programs::input::decode;
+
+/// A text of a batch, and what follows it.
+#[derive(Clone, Copy)]
+pub struct Case<'a> {
+    pub text: &'a [u8],
+    pub rest: &'a [u8],
+}
+
+/// The first text of a batch: its length in decimal digits and a line feed stand before it, and a line feed behind it. None
+/// where the input does not begin so.
+pub fn first_case(batch: &[u8]) -> Option<Case<'_>>
+    ensures { MatchOption result ((text rest : List ℕ) → BeginsWith batch.now text rest → ⊥)
+        (λ case. BeginsWith batch.now case.text.now case.rest.now) }
+{
+    let (line, behind) = first_line(batch)?;
+    let length = line_number(line)?;
+    split_text(behind, length)
+}
+
+/// What stands before the first line feed, and behind it.
+fn first_line(batch: &[u8]) -> Option<(&[u8], &[u8])>
+    ensures { MatchOption result (IsOneLine batch.now)
+        (λ parts. IsOneLine parts.0.now × (batch.now ≡ parts.0.now ++ (10 ∷ parts.1.now))) }
+{
+    let end = batch.iter().position(|byte| *byte == b'\n')?;
+    Some((&batch[..end], &batch[end + 1..]))
+}
+
+/// The number of these digits.
+fn line_number(line: &[u8]) -> Option<usize>
+    ensures { result ≡ number_of line.now }
+{
+    match decode(line) {
+        Ok(digits) => number(digits),
+        Err(_) => None,
+    }
+}
+
+/// The first bytes, so many, which a line feed follows.
+fn split_text(bytes: &[u8], count: usize) -> Option<Case<'_>>
+    ensures { MatchOption result
+        ((text rest : List ℕ) → IsSplit bytes.now count text rest → ⊥)
+        (λ case. IsSplit bytes.now count case.text.now case.rest.now) }
+{
+    if bytes.len() <= count || bytes[count] != b'\n' {
+        return None;
+    }
+    Some(Case {
+        text: &bytes[..count],
+        rest: &bytes[count + 1..],
+    })
+}

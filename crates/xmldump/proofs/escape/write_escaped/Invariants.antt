@@ -1,8 +1,0 @@
-use Rattle.std.proofs.Common.{take}
-use Rattle.std.specs.Io.KnownBytes.{Appends}
-use Rattle.xmldump.specs.Escaped.{escaped}
-use Rattle.xmldump.proofs.escape.write_escaped.Given as goal
-
--- the bytes so far are written
-abbrev pub invariant-loop-byte : goal.invariant-loop-byte
-invariant-loop-byte g l = Appends (g.W.Write.contents l.initial.out) (g.W.Write.contents l.out) (escaped (take l.byte-index l.byte-items))

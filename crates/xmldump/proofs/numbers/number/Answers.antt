@@ -1,6 +1,0 @@
-use Rattle.xmldump.proofs.Digits.{number_of_digits}
-use Rattle.std.proofs.Common.{rules}
-use Rattle.xmldump.proofs.numbers.number.Goals as goal
-
-pub returns-then-all_digits : goal.returns-then-all_digits
-returns-then-all_digits c = search (rules, number_of_digits)
