@@ -19,54 +19,53 @@ pub fn run(rt: &HostRuntime, file: &str) -> Result<()> {
     let document = Document::parse(rt.alloc(), text.as_str()).context(format_args!(
         "parsing {file}"
     ))?;
-    print_dependencies(rt.alloc(), document.root_element(), &mut rt.stdout())
+    print_dependencies(&document.root_element(), rt.alloc(), &mut rt.stdout())
 }
 
-fn print_dependencies<W: Write>(alloc: Global, project: Node<'_, '_>, out: &mut W) -> Result<()> {
-    if let Some(dependencies) = child(project, "dependencies") {
-        for dependency in dependencies.children() {
-            if dependency.has_local_name("dependency") {
-                print_dependency(alloc, project, dependency, out)?;
-            }
+fn print_dependencies<W: Write>(project: &Node<'_, '_>, alloc: Global, out: &mut W) -> Result<()> {
+    match child(project, "dependencies") {
+        Some(dependencies) => print_each(&dependencies, alloc, project, out),
+        None => Ok(()),
+    }
+}
+
+fn print_each<W: Write>(
+    dependencies: &Node<'_, '_>,
+    alloc: Global,
+    project: &Node<'_, '_>,
+    out: &mut W,
+) -> Result<()> {
+    for dependency in dependencies.children() {
+        if dependency.has_local_name("dependency") {
+            print_dependency(&dependency, alloc, project, out)?;
         }
     }
     Ok(())
 }
 
 fn print_dependency<W: Write>(
+    dependency: &Node<'_, '_>,
     alloc: Global,
-    project: Node<'_, '_>,
-    dependency: Node<'_, '_>,
+    project: &Node<'_, '_>,
     out: &mut W,
 ) -> Result<()> {
     // what comes before a value, its element, and what is printed if there is none
-    for (before, name, otherwise) in [
+    for (before, name, otherwise) in &[
         ("", "groupId", "-"),
         (":", "artifactId", "-"),
         (":", "version", "-"),
         (" ", "scope", "compile"),
     ] {
-        let value = value(alloc, project, dependency, name, otherwise)?;
+        let text = child_text(dependency, name).unwrap_or(otherwise);
+        let value = with_properties(project, alloc, text)?;
         write!(out, "{before}{value}")?;
     }
     writeln!(out)?;
     Ok(())
 }
 
-/// Returns the text of the child element `name`, or `otherwise` if there is none, with its properties replaced.
-fn value(
-    alloc: Global,
-    project: Node<'_, '_>,
-    element: Node<'_, '_>,
-    name: &str,
-    otherwise: &str,
-) -> Result<String, AllocError> {
-    let text = child_text(element, name).unwrap_or(otherwise);
-    with_properties(alloc, project, text)
-}
-
 /// Returns the first child element of this name, in whatever namespace: poms are written with one and without.
-fn child<'a, 'input>(element: Node<'a, 'input>, name: &str) -> Option<Node<'a, 'input>> {
+fn child<'a, 'input>(element: &Node<'a, 'input>, name: &str) -> Option<Node<'a, 'input>> {
     for child in element.children() {
         if child.has_local_name(name) {
             return Some(child);
@@ -75,34 +74,39 @@ fn child<'a, 'input>(element: Node<'a, 'input>, name: &str) -> Option<Node<'a, '
     None
 }
 
-fn child_text<'a>(element: Node<'a, '_>, name: &str) -> Option<&'a str> {
+/// Returns the text of the first child element of this name.
+fn child_text<'a>(element: &Node<'a, '_>, name: &str) -> Option<&'a str> {
     Some(child(element, name)?.text()?.trim())
 }
 
 /// Returns the text with its properties replaced, and those in their values, in at most `MOST_ROUNDS` rounds.
-fn with_properties(alloc: Global, project: Node<'_, '_>, text: &str) -> Result<String, AllocError> {
+fn with_properties(
+    project: &Node<'_, '_>,
+    alloc: Global,
+    text: &str,
+) -> Result<String, AllocError> {
     let mut value = String::from_str(alloc, text)?;
     for _ in 0..MOST_ROUNDS {
         if value.len() > MOST_BYTES || !value.as_str().contains("${") {
             break;
         }
-        value = replaced_once(alloc, project, value.as_str())?;
+        value = replaced_once(project, alloc, value.as_str())?;
     }
     Ok(value)
 }
 
 /// Returns the text with each `${name}` replaced by the value of the property. One that is unknown stays as it is.
-fn replaced_once(alloc: Global, project: Node<'_, '_>, text: &str) -> Result<String, AllocError> {
+fn replaced_once(project: &Node<'_, '_>, alloc: Global, text: &str) -> Result<String, AllocError> {
     let mut parts = text.split("${");
     let mut value = String::from_str(alloc, parts.next().unwrap_or(""))?;
     for part in parts {
-        push_property(&mut value, project, part)?;
+        push_property(project, &mut value, part)?;
     }
     Ok(value)
 }
 
 /// Appends the value of the property `name`, and what comes after, of a part `name}..`.
-fn push_property(value: &mut String, project: Node<'_, '_>, part: &str) -> Result<(), AllocError> {
+fn push_property(project: &Node<'_, '_>, value: &mut String, part: &str) -> Result<(), AllocError> {
     if let Some((name, after)) = part.split_once('}') {
         if let Some(property) = property(project, name) {
             value.push_str(property)?;
@@ -114,19 +118,24 @@ fn push_property(value: &mut String, project: Node<'_, '_>, part: &str) -> Resul
 }
 
 /// Returns the value of a property: a part of the project's own identity, or else the child of its `properties` with this name.
-fn property<'a>(project: Node<'a, '_>, name: &str) -> Option<&'a str> {
+fn property<'a>(project: &Node<'a, '_>, name: &str) -> Option<&'a str> {
     match name {
         "project.version" => own_or_parents(project, "version"),
         "project.groupId" => own_or_parents(project, "groupId"),
-        "project.parent.version" => child_text(child(project, "parent")?, "version"),
-        _ => child_text(child(project, "properties")?, name),
+        "project.parent.version" => grandchild_text(project, "parent", "version"),
+        _ => grandchild_text(project, "properties", name),
     }
 }
 
 /// Returns what a project says, or else what it says of its parent.
-fn own_or_parents<'a>(project: Node<'a, '_>, name: &str) -> Option<&'a str> {
+fn own_or_parents<'a>(project: &Node<'a, '_>, name: &str) -> Option<&'a str> {
     match child_text(project, name) {
         Some(text) => Some(text),
-        None => child_text(child(project, "parent")?, name),
+        None => grandchild_text(project, "parent", name),
     }
+}
+
+/// Returns the text of the first child element `name` of the first child element `of`.
+fn grandchild_text<'a>(element: &Node<'a, '_>, of: &str, name: &str) -> Option<&'a str> {
+    child_text(&child(element, of)?, name)
 }
