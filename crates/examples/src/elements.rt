@@ -6,7 +6,7 @@ use std::io;
 use std::io::Write;
 use std::process::ExitCode;
 
-fn main(rt: HostRuntime) -> io::Result<ExitCode> {
+pub fn main(rt: HostRuntime) -> io::Result<ExitCode> {
     let text = io::read_to_string(rt.alloc(), rt.stdin())?;
     match Document::parse(rt.alloc(), text.as_str()) {
         Ok(document) => {
