@@ -6,6 +6,7 @@ pub mod InnerBytes
 pub mod NameRuns
 pub mod Binding
 pub mod PartLemmas
+pub mod PlainTexts
 pub mod ValueOpening
 pub mod SectionLemmas
 pub mod Lifting

@@ -117,11 +117,6 @@ pub record BeginsData (text : List ℕ) (at stop : ℕ) : Type 0 where
   pub stop_is : StopsAt text at stop
   pub no_reference : slice_index text at ≢ 38
 
--- Character data other than a reference and a line end starts at `at`.
-pub record BeginsMainData (text : List ℕ) (at stop : ℕ) : Type 0 where
-  pub begins : BeginsData text at stop
-  pub no_line_end : slice_index text at ≢ 13
-
 -- Whether the byte is a digit, and the number that it means if it is one.
 pub record TellsDigit (hexadecimal : Bool) (byte found : ℕ) : Type 0 where
   pub is : is_digit_of hexadecimal byte ≡ nat_lt found (base_of hexadecimal)
@@ -131,11 +126,6 @@ pub record TellsDigit (hexadecimal : Bool) (byte found : ℕ) : Type 0 where
 pub record IsOnward (text : List ℕ) (at place : ℕ) : Type 0 where
   pub onward : at ≤ place
   pub within : place ≤ length text
-
--- A CR is at `at`.
-pub record BeginsLineEnd (text : List ℕ) (at stop : ℕ) : Type 0 where
-  pub stop_is : StopsAt text at stop
-  pub here : slice_index text at ≡ 13
 
 -- What is read from the cursor on was appended, as `Appends` says, and the source stays.
 pub record AppendsFrom (old new : List ℕ) (before after : Cursor) (result : Result (Unit {0}) Failure) (read : List Entity → List ℕ → ℕ → Read reading.Bit) : Type 0 where

@@ -1,16 +1,13 @@
 //! The parts of character data, with references and line ends replaced (XML 1.0 sections 2.4, 2.11 and 4.1).
 
-ghost use Rattle.std.specs.Prelude.{◌≡◌, ◌≢◌, ◌==◌, ◌||◌, ◌-◌, ℕ, false, ◌<◌, ◌≤◌, slice_index, true};
-ghost use Rattle.rox_grammar.specs.Search.{byte_from};
+ghost use Rattle.std.specs.Prelude.{◌≡◌, ◌≢◌, ◌-◌, ℕ, false, ◌<◌, ◌≤◌, slice_index, true};
 ghost use Rattle.std.specs.String.{string_bytes};
 ghost use Rattle.std.specs.Str.{IsCharBoundary};
 ghost use Rattle.rox_reading.specs.Values as spec;
-ghost use Rattle.rox_bytes.specs.ScanResults.{Finds};
 ghost use Rattle.rox_values.specs.PlainBits.{BeginsReference};
-ghost use Rattle.rox_values.specs.Values.{AppendsFrom, AppendsBitFrom, AppendsPartFrom, BeginsData, BeginsMainData, EndsData, GivesData, HasData, HasOffsets, HasReturn, HasStretch, PutsData, PutsDatum, StopsAt, is_data_byte};
+ghost use Rattle.rox_values.specs.Values.{AppendsFrom, AppendsBitFrom, AppendsPartFrom, BeginsData, EndsData, GivesData, HasData, HasOffsets, HasReturn, HasStretch, PutsData, PutsDatum, StopsAt, is_data_byte};
 
 use crate::context::Context;
-use crate::line_ends::line_end;
 use crate::reference::{Reference, found, read_reference};
 use rox_bytes::byte_set::{ByteSet, skip_set};
 use rox_bytes::nibbles::by_low;
@@ -47,34 +44,6 @@ fn expand<'input>(
     }
 }
 
-/// Returns the offset of the first `&` or CR from the cursor on, or the end.
-#[inline(always)]
-fn change_from(from: Cursor<'_>) -> usize
-    ensures { Finds from.entry.text.now from.entry.pos result
-        (byte_from (λ c. c == 38 || c == 13) from.entry.text.now from.entry.pos) }
-{
-    skip_set::<RunByte>(from.text, from.pos)
-}
-
-/// Appends the bytes of character data up to the next `&` or CR.
-#[tactic(auto, unfolding(rox_reading::specs::Values::data_bit_at))]
-#[inline(always)]
-fn main_data(cursor: &mut Cursor<'_>, stop: usize, out: &mut String) -> Result<(), Failure>
-    requires { BeginsMainData cursor.old.text.now cursor.old.pos stop }
-    ensures { AppendsFrom (string_bytes out.old) (string_bytes out.new) cursor.old cursor.new result
-        (λ es src at. spec.data_bit_at true es src stop at) }
-{
-    let start = cursor.pos;
-    let text = cursor.text;
-    let end = change_from(Cursor {
-        text: &text[..stop],
-        pos: start,
-    });
-    out.push_str(&text[start..end])?;
-    cursor.pos = end;
-    Ok(())
-}
-
 /// Appends the bytes of character data of a replacement text up to the next `&`.
 #[tactic(auto, unfolding(rox_reading::specs::Values::data_bit_at))]
 fn inner_data(cursor: &mut Cursor<'_>, stop: usize, out: &mut String) -> Result<(), Failure>
@@ -88,37 +57,6 @@ fn inner_data(cursor: &mut Cursor<'_>, stop: usize, out: &mut String) -> Result<
     out.push_str(&text[start..end])?;
     cursor.pos = end;
     Ok(())
-}
-
-/// Appends the next item of character data: a reference, a line end, or all up to the next of these. If a reference names a
-/// replacement text, this is returned. In a replacement text line ends stay as they are.
-#[tactic(auto, unfolding(rox_reading::specs::Values::data_bit_at))]
-#[inline(always)]
-fn data_bit<'input>(
-    cursor: &mut Cursor<'input>,
-    stop: usize,
-    context: Context<'_, 'input>,
-    out: &mut String,
-) -> Result<Option<Cursor<'input>>, Failure>
-    requires { StopsAt cursor.old.text.now cursor.old.pos stop }
-    ensures { AppendsBitFrom context.entry.entities.now (string_bytes out.old)
-        (string_bytes out.new) cursor.old cursor.new result
-        (λ es src at. spec.data_bit_at context.entry.main es src stop at) }
-{
-    let here = cursor.text.as_bytes()[cursor.pos];
-    if here == b'&' {
-        return expand(cursor, context, out);
-    }
-    if !context.main {
-        inner_data(cursor, stop, out)?;
-        return Ok(None);
-    }
-    if here == b'\r' {
-        line_end(cursor, stop, out)?;
-        return Ok(None);
-    }
-    main_data(cursor, stop, out)?;
-    Ok(None)
 }
 
 /// Appends the character that the reference at `at` gives. Returns the offset after the reference, or 0 if it names an entity, if it
@@ -260,6 +198,37 @@ fn put_data(text: &str, start: usize, stop: usize, out: &mut String) -> usize
         at = after;
     }
     at
+}
+
+/// Appends the next item of character data: a reference, a line end, or all up to the next of these. If a reference names a
+/// replacement text, this is returned. In a replacement text line ends stay as they are.
+#[tactic(auto, unfolding(rox_reading::specs::Values::data_bit_at))]
+#[inline(always)]
+fn data_bit<'input>(
+    cursor: &mut Cursor<'input>,
+    stop: usize,
+    context: Context<'_, 'input>,
+    out: &mut String,
+) -> Result<Option<Cursor<'input>>, Failure>
+    requires { StopsAt cursor.old.text.now cursor.old.pos stop }
+    ensures { AppendsBitFrom context.entry.entities.now (string_bytes out.old)
+        (string_bytes out.new) cursor.old cursor.new result
+        (λ es src at. spec.data_bit_at context.entry.main es src stop at) }
+{
+    let here = cursor.text.as_bytes()[cursor.pos];
+    if here == b'&' {
+        return expand(cursor, context, out);
+    }
+    if !context.main {
+        inner_data(cursor, stop, out)?;
+        return Ok(None);
+    }
+    let after = put_datum(cursor.text, cursor.pos, stop, out);
+    if after == 0 {
+        return Err(Failure::Memory);
+    }
+    cursor.pos = after;
+    Ok(None)
 }
 
 /// Appends the text of the character data from the cursor up to `stop` or the next reference to an entity. Returns the

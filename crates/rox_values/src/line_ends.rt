@@ -2,34 +2,12 @@
 
 ghost use Rattle.std.specs.Prelude.{◌≡◌, ◌++◌, List, IfOk, OnOk, ◌<◌, true};
 ghost use Rattle.std.specs.String.{string_bytes};
-ghost use Rattle.rox_reading.specs.Values as spec;
 ghost use Rattle.rox_bytes.specs.ScanResults.{HasCharAt};
-ghost use Rattle.rox_values.specs.Values.{AppendsFrom, AppendsSectionPart, BeginsLineEnd, section_rest};
+ghost use Rattle.rox_values.specs.Values.{AppendsSectionPart, section_rest};
 
 use rox_bytes::runs::{after_byte, is_at};
 use rox_bytes::search::byte_from;
-use rox_grammar::failure::Failure;
-use rox_scan::cursor::Cursor;
 use std::alloc::AllocError;
-
-/// Appends a line feed for the line end at the cursor: a CR, and the LF after it if one is there before `stop`.
-#[tactic(auto, unfolding(rox_reading::specs::Values::data_bit_at))]
-pub(crate) fn line_end(
-    cursor: &mut Cursor<'_>,
-    stop: usize,
-    out: &mut String,
-) -> Result<(), Failure>
-    requires { BeginsLineEnd cursor.old.text.now cursor.old.pos stop }
-    ensures { AppendsFrom (string_bytes out.old) (string_bytes out.new) cursor.old cursor.new result
-        (λ es src at. spec.data_bit_at true es src stop at) }
-{
-    cursor.advance();
-    out.push('\n')?;
-    if is_at(&cursor.text[..stop], cursor.pos, b'\n') {
-        cursor.advance();
-    }
-    Ok(())
-}
 
 /// Appends a text with a LF for each line end (XML 1.0 section 2.11).
 pub fn line_feeds(raw: &str, out: &mut String) -> Result<(), AllocError>

@@ -1,10 +1,11 @@
-use Rattle.std.proofs.Common.{◌≡◌, ◌+◌, ◌-◌, length, sym, ◌∙◌, arith, refl}
+use Rattle.std.proofs.Common.{◌≡◌, ◌+◌, ◌-◌, ◌++◌, ℕ, false, List, Ok, length, ap, sym, ◌∙◌, arith, refl}
 use Rattle.std.specs.String.{string_bytes}
 use Rattle.std.proofs.lemmas.Result.{err_from_is_err_and}
 use Rattle.rox_reading.specs.Machine.{value_opener}
 use Rattle.rox_scan.specs.Views.{replacement_view}
 use Rattle.rox_values.proofs.BitLemmas.{kind_may, kind_tested}
 use Rattle.rox_values.proofs.PartLemmas.{value_opens, value_fails, value_opens_fails, value_done}
+use Rattle.rox_values.proofs.PlainTexts.{plain_reads, to_end}
 use Rattle.rox_values.proofs.ValueOpening.{opens_err, opens_reads, opens_refuses}
 use Rattle.rox_values.proofs.attribute_value.+values.Goals as goal
 
@@ -13,11 +14,23 @@ open_value-returns-in_err-within t c = λ es declared.
     let p = err_from_is_err_and c.from_residual.result c.from_residual.ensures.1 in
     rw (p.1, p.2) (opens_err es c.args.context.depth_left c.args.context.main (replacement_view c.args.text) c.args.after c.args.openings_left c.in_err-within.field-0.0 c.in_err-within.ensures.value)
 
+pub open_value-returns-then-is_plain_value : goal.open_value-returns-then-is_plain_value
+open_value-returns-then-is_plain_value t c = λ es declared.
+    let src = c.args.text.text.now in
+    let inner = c.in_ok-within.inner in
+    let old = string_bytes c.args.out.now in
+    let put = (rw (c.is_err.ensures.negation, c.if-is_err.false) at c.push_str.ensures.bytes) ∙ ap (λ (xs : List ℕ). old ++ xs) (c.range_from.ensures.value ∙ to_end src c.args.text.pos) in
+    let depth = c.args.context.depth_left - 1 in
+    let read = plain_reads src c.args.text.pos inner es (value_opener es depth false) old c.args.text.utf8 c.args.text.cut (c.is_plain_value.ensures c.if-is_plain_value.true) in
+    rw c.left_behind.ensures
+    (opens_reads es c.args.context.depth_left depth c.args.context.main (replacement_view c.args.text) c.args.after c.args.openings_left inner inner old (string_bytes c.push_str.new.self) refl
+    c.in_ok-within.ensures.value (read ∙ ap (λ (xs : List ℕ). Ok (xs, inner)) (sym put)))
+
 pub open_value-returns-in-Ok : goal.open_value-returns-in-Ok
 open_value-returns-in-Ok t c = λ es declared.
     let w = c.in_ok-within.ensures.context in
     let read = rw w at (c.in-Ok.ensures es (length c.args.text.text.now) (rw w declared) (omega arith)) in
-    rw c.left_behind.ensures
+    rw c.left_behind-in-Ok.ensures
     (opens_reads es c.args.context.depth_left (c.args.context.depth_left - 1) c.args.context.main (replacement_view c.args.text) c.args.after c.args.openings_left c.in_ok-within.inner c.in-Ok.inner (string_bytes c.args.out.now) (string_bytes c.value_text.new.out) refl
     c.in_ok-within.ensures.value read)
 

@@ -1,6 +1,4 @@
-use Rattle.std.proofs.Common.{◌≡◌, ◌<◌, ◌≤◌, ◌+◌, ◌*◌, ◌^◌, ℕ, List, true, min, length, get_or, slice_index, sym, ap, ◌∙◌, arith, lt-ltb}
-use Rattle.std.specs.List.{slice_range}
-use Rattle.rox_grammar.specs.References.{number}
+use Rattle.std.proofs.Common.{◌≡◌, ◌<◌, ℕ, List, true, length, get_or, slice_index, sym, ap, ◌∙◌, arith, lt-ltb}
 use Rattle.rox_values.specs.Values.{base_of, is_digit_of}
 use Rattle.rox_values.proofs.DigitLemmas.{base_some, bytes_on, one_more_digit}
 use Rattle.rox_values.proofs.reference.read_digits.Goals as goal

@@ -1,0 +1,75 @@
+-- A replacement text that gives itself in a value.
+use Rattle.std.proofs.Common.{◌≡◌, ◌+◌, ◌-◌, ◌≤◌, ◌/◌, ◌^◌, ◌==◌, ℕ, Bool, true, false, List, [], ◌++◌, Ok, not, map, length, drop, take, slice_index, slice_range, sym, ap, subst, refl, ◌∙◌, inl, inr, arith, append-nil, le-ltb}
+use Rattle.std.specs.Simd.Lanes.{chunk, mask_l}
+use Rattle.std.specs.Str.{IsCharBoundary, IsUtf8}
+use Rattle.std.proofs.lemmas.Bool.{cases_lt}
+use Rattle.std.proofs.lemmas.Bool.Decides.{nat_tests}
+use Rattle.std.proofs.lemmas.List.{get_or_past, length-drop, take_all}
+use Rattle.rox_grammar.specs.Entities.{Entity}
+use Rattle.rox_grammar.specs.Search.{byte_from}
+use Rattle.rox_reading.specs.Lexical.{chars_up_to}
+use Rattle.rox_reading.specs.Values.{ValueInclusion, bytes_of, is_special, stretch_at, value_text}
+use Rattle.rox_bytes.specs.ByteSets.{AllPass, is_any_value_byte, is_quoted_byte, is_value_byte}
+use Rattle.rox_bytes.proofs.LaneLemmas.{counted_none, block_passes, mask_from}
+use Rattle.rox_bytes.proofs.NearLemmas.{near_chars, near_found, quoted_is_plain}
+use Rattle.rox_values.specs.Values.{ends_stretch, text_behind}
+use Rattle.rox_values.proofs.BitLemmas.{stretch_is}
+use Rattle.rox_values.proofs.PartLemmas.{value_done, value_more}
+
+pub is_none : (n : ℕ) → (n == 0) ≡ true → n ≡ 0
+is_none n h = grind (arith, nat_tests)
+
+-- none of the last sixteen from a place on has a bit
+pub last_pass : (p : ℕ → Bool) (src : List ℕ) (i at others : ℕ) → i + 16 ≡ length src → i ≤ at → at ≤ length src → others ≡ mask_l (map (λ b. not (p b)) (chunk i 16 src)) → others / 2 ^ (at - i) ≡ 0 → AllPass p src at (length src)
+last_pass p src i at others long from within is none =
+    let q = λ (b : ℕ). not (p b) in
+    let n = at - i in
+    let few : n ≤ 16 = omega arith in
+    let fits : (i + n) + (16 - n) ≤ length src = omega arith in
+    let rest : others / 2 ^ n ≡ mask_l (map q (chunk (i + n) (16 - n) src)) = ap (λ m. m / 2 ^ n) is ∙ mask_from q src i 16 n few in
+    let counted = counted_none q src (i + n) (16 - n) fits (sym rest ∙ none) in
+    let end : (i + n) + (16 - n) ≡ length src = omega arith in
+    let begin : i + n ≡ at = omega arith in
+    subst (λ b. AllPass p src b (length src)) begin (subst (λ e. AllPass p src (i + n) e) end (block_passes p src (i + n) (16 - n) (16 - n) fits counted))
+
+quoted_apart : (b : ℕ) → is_quoted_byte b ≡ true → ends_stretch b ≡ false
+unfolding is_quoted_byte is_any_value_byte is_value_byte
+quoted_apart b h = grind (arith, nat_tests)
+
+apart_special : (b : ℕ) → ends_stretch b ≡ false → is_special b ≡ false
+apart_special b h = grind (arith, nat_tests)
+
+-- it is one stretch
+whole_stretch : (src : List ℕ) (i : ℕ) → IsUtf8 src → IsCharBoundary src i → AllPass is_quoted_byte src i (length src) → stretch_at false src (length src) i ≡ Ok (bytes_of (slice_range src i (length src)), length src)
+unfolding chars_up_to
+whole_stretch src i utf8 cut all =
+    let n = length src in
+    let whole : take n src ≡ src = take_all n src (omega arith) in
+    let found : byte_from ends_stretch src i ≡ n = near_found is_quoted_byte ends_stretch src i n cut.0 (omega arith) all quoted_apart (λ more. absurd (omega (arith, more))) in
+    let end : IsCharBoundary src n = (omega arith, λ more. absurd (omega (arith, more))) in
+    let past : slice_index src n ≡ 0 = get_or_past src n 0 (omega arith) in
+    rw (whole, found, near_chars is_quoted_byte src i n utf8 cut cut.0 end all quoted_is_plain, le-ltb n n (omega arith), past) refl
+
+pub to_end : (src : List ℕ) (i : ℕ) → drop i src ≡ slice_range src i (length src)
+to_end src i = sym (take_all (length src - i) (drop i src) (omega (arith, length-drop i src)))
+
+-- its value
+pub plain_reads : (src : List ℕ) (i r : ℕ) (es : List Entity) (opener : ValueInclusion) (front : List ℕ) → IsUtf8 src → IsCharBoundary src i → AllPass is_quoted_byte src i (length src)
+    → text_behind front (value_text false es opener (length src) src (length src) i r) ≡ Ok (front ++ slice_range src i (length src), r)
+plain_reads src i r es opener front utf8 cut all = elim (cases_lt i (length src)) [
+  | inl more ↦
+      let n = length src in
+      let plain : is_special (slice_index src i) ≡ false = apart_special (slice_index src i) (quoted_apart (slice_index src i) (all i (omega arith) more)) in
+      let one = stretch_is false es src n i plain ∙ whole_stretch src i utf8 cut all in
+      let new = front ++ slice_range src i n in
+      let once : (n - 1) + 1 ≡ n = omega arith in
+      sym (value_more false es opener r front new n (n - 1) src n i n once more (rw one refl)) ∙ value_done false es opener r new (n - 1) src n n (omega arith)
+  | inr past ↦
+      let n = length src in
+      let same : i ≡ n = omega (arith, cut.0, past) in
+      let none : slice_range src i n ≡ [] = rw same (nothing src n) in
+      value_done false es opener r front n src n i past ∙ ap (λ (xs : List ℕ). Ok (xs, r)) (sym (ap (λ (xs : List ℕ). front ++ xs) none ∙ append-nil front))
+]
+  where
+    nothing : (src : List ℕ) (n : ℕ) → slice_range src n n ≡ []
+    nothing src n = let e : n - n ≡ 0 = omega arith in rw e refl
