@@ -1,6 +1,5 @@
 -- A replacement text that gives itself in a value.
-use Rattle.std.proofs.Common.{◌≡◌, ◌+◌, ◌-◌, ◌≤◌, ◌/◌, ◌^◌, ◌==◌, ℕ, Bool, true, false, List, [], ◌++◌, Ok, not, map, length, drop, take, slice_index, slice_range, sym, ap, subst, refl, ◌∙◌, inl, inr, arith, append-nil, le-ltb}
-use Rattle.std.specs.Simd.Lanes.{chunk, mask_l}
+use Rattle.std.proofs.Common.{◌≡◌, ◌+◌, ◌-◌, ℕ, true, false, List, [], ◌++◌, Ok, length, drop, take, slice_index, slice_range, sym, ap, refl, ◌∙◌, inl, inr, arith, append-nil, le-ltb}
 use Rattle.std.specs.Str.{IsCharBoundary, IsUtf8}
 use Rattle.std.proofs.lemmas.Bool.{cases_lt}
 use Rattle.std.proofs.lemmas.Bool.Decides.{nat_tests}
@@ -10,27 +9,10 @@ use Rattle.rox_grammar.specs.Search.{byte_from}
 use Rattle.rox_reading.specs.Lexical.{chars_up_to}
 use Rattle.rox_reading.specs.Values.{ValueInclusion, bytes_of, is_special, stretch_at, value_text}
 use Rattle.rox_bytes.specs.ByteSets.{AllPass, is_any_value_byte, is_quoted_byte, is_value_byte}
-use Rattle.rox_bytes.proofs.LaneLemmas.{counted_none, block_passes, mask_from}
 use Rattle.rox_bytes.proofs.NearLemmas.{near_chars, near_found, quoted_is_plain}
 use Rattle.rox_values.specs.Values.{ends_stretch, text_behind}
 use Rattle.rox_values.proofs.BitLemmas.{stretch_is}
 use Rattle.rox_values.proofs.PartLemmas.{value_done, value_more}
-
-pub is_none : (n : ℕ) → (n == 0) ≡ true → n ≡ 0
-is_none n h = grind (arith, nat_tests)
-
--- none of the last sixteen from a place on has a bit
-pub last_pass : (p : ℕ → Bool) (src : List ℕ) (i at others : ℕ) → i + 16 ≡ length src → i ≤ at → at ≤ length src → others ≡ mask_l (map (λ b. not (p b)) (chunk i 16 src)) → others / 2 ^ (at - i) ≡ 0 → AllPass p src at (length src)
-last_pass p src i at others long from within is none =
-    let q = λ (b : ℕ). not (p b) in
-    let n = at - i in
-    let few : n ≤ 16 = omega arith in
-    let fits : (i + n) + (16 - n) ≤ length src = omega arith in
-    let rest : others / 2 ^ n ≡ mask_l (map q (chunk (i + n) (16 - n) src)) = ap (λ m. m / 2 ^ n) is ∙ mask_from q src i 16 n few in
-    let counted = counted_none q src (i + n) (16 - n) fits (sym rest ∙ none) in
-    let end : (i + n) + (16 - n) ≡ length src = omega arith in
-    let begin : i + n ≡ at = omega arith in
-    subst (λ b. AllPass p src b (length src)) begin (subst (λ e. AllPass p src (i + n) e) end (block_passes p src (i + n) (16 - n) (16 - n) fits counted))
 
 quoted_apart : (b : ℕ) → is_quoted_byte b ≡ true → ends_stretch b ≡ false
 unfolding is_quoted_byte is_any_value_byte is_value_byte

@@ -90,12 +90,8 @@ behind front read = read >>= λ x. Ok (bit_behind front x.0, x.1)
 abbrev pub text_behind : {A E : Type 0} → List ℕ → Result (List ℕ × A) E → Result (List ℕ × A) E
 text_behind front read = read >>= λ x. Ok (front ++ x.0, x.1)
 
--- What an item gives was appended to a buffer that held `old` and holds `new`, and the cursor is after it.
-abbrev pub Appends : List ℕ → List ℕ → Cursor → Result (Unit {0}) Failure → Read reading.Bit → Type 0
-Appends old new after (Ok x) read = behind old read ≡ Ok (reading.bytes_of new, after.pos)
-Appends old new after (Err e) read = Fails e read
-
--- What an item gives was appended as in `Appends`. If it is a replacement text, nothing is appended.
+-- What an item gives was appended to a buffer that held `old` and holds `new`, and the cursor is after it. If it is a replacement
+-- text, nothing is appended.
 abbrev pub AppendsBit : List ℕ → List ℕ → Cursor → Result (Option Cursor) Failure → Read reading.Bit → Type 0
 AppendsBit old new after (Ok None) read = behind old read ≡ Ok (reading.bytes_of new, after.pos)
 AppendsBit old new after (Ok (Some text)) read = (read ≡ Ok (reading.opens (replacement_view text), after.pos)) × (new ≡ old)
@@ -112,11 +108,6 @@ pub record BeginsWhiteSpace (text : List ℕ) (at stop : ℕ) : Type 0 where
   pub here : reading.is_special (slice_index text at) ≡ true
   pub no_reference : slice_index text at ≢ 38
 
--- Character data other than a reference starts at `at`.
-pub record BeginsData (text : List ℕ) (at stop : ℕ) : Type 0 where
-  pub stop_is : StopsAt text at stop
-  pub no_reference : slice_index text at ≢ 38
-
 -- Whether the byte is a digit, and the number that it means if it is one.
 pub record TellsDigit (hexadecimal : Bool) (byte found : ℕ) : Type 0 where
   pub is : is_digit_of hexadecimal byte ≡ nat_lt found (base_of hexadecimal)
@@ -126,11 +117,6 @@ pub record TellsDigit (hexadecimal : Bool) (byte found : ℕ) : Type 0 where
 pub record IsOnward (text : List ℕ) (at place : ℕ) : Type 0 where
   pub onward : at ≤ place
   pub within : place ≤ length text
-
--- What is read from the cursor on was appended, as `Appends` says, and the source stays.
-pub record AppendsFrom (old new : List ℕ) (before after : Cursor) (result : Result (Unit {0}) Failure) (read : List Entity → List ℕ → ℕ → Read reading.Bit) : Type 0 where
-  pub value : (es : List Entity) → Appends old new after result (read es before.text.now before.pos)
-  pub source : after.text ≡ before.text
 
 -- What is read from the cursor on was appended, as `AppendsBit` says, with the declared entities, and the source stays.
 pub record AppendsBitFrom (entities : Entities) (old new : List ℕ) (before after : Cursor) (result : Result (Option Cursor) Failure) (read : List Entity → List ℕ → ℕ → Read reading.Bit) : Type 0 where

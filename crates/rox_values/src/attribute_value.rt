@@ -1,8 +1,7 @@
 //! The values of attributes, with references and white space replaced (XML 1.0 sections 3.3.3 and 4.1). `plain_bits` appends their
 //! items, and where it stops, this module opens an entity or tells the fault.
 
-ghost use Rattle.std.specs.Prelude.{◌≡◌, ◌-◌, ◌≤◌, ℕ, List, length, true};
-ghost use Rattle.rox_bytes.specs.ByteSets.{AllPass, is_quoted_byte};
+ghost use Rattle.std.specs.Prelude.{◌≡◌, ◌-◌, ◌≤◌, ℕ, List};
 ghost use Rattle.std.specs.String.{string_bytes};
 ghost use Rattle.std.specs.Str.{IsCharBoundary};
 ghost use Rattle.rox_reading.specs.Values as spec;
@@ -19,13 +18,12 @@ use crate::parse_error::ParseError;
 use crate::plain_bits::{TextKind, inner_stretch_end, put_plain_bits};
 use crate::reference::{Reference, found, read_reference};
 use crate::text_value::TextValue;
-use rox_bytes::byte_set::{ByteSet, QuotedByte, skip_set};
+use rox_bytes::byte_set::{QuotedByte, skip_set};
 use rox_grammar::failure::Failure;
 use rox_grammar::fault::Fault;
 use rox_scan::cursor::Cursor;
 use rox_scan::lookahead::is_special;
 use rox_scan::raw_attribute::RawAttribute;
-use std::simd::prelude::*;
 
 /// Returns the replacement text that the reference at `at` names, and the offset after the reference. Fails if it names none. It is
 /// out of memory then, unless the reference is a fault in a value.
@@ -123,23 +121,6 @@ fn value_text<'input>(
     Ok(openings_left)
 }
 
-/// Returns true only if the replacement text from the cursor on gives itself in a value: it has no `<`, no `&`, and no control. If it
-/// has at most sixteen bytes, they are tested in one pass, among the last sixteen of the source.
-#[inline(always)]
-fn is_plain_value(from: Cursor<'_>) -> bool
-    ensures { result ≡ true → AllPass is_quoted_byte from.entry.text.now from.entry.pos (length from.entry.text.now) }
-{
-    let bytes = from.text.as_bytes();
-    let end = bytes.len();
-    if end < 16 || end - from.pos > 16 {
-        return skip_set::<QuotedByte>(from.text, from.pos) >= end;
-    }
-    let first = end - 16;
-    let others = QuotedByte::others(u8x16::from_slice(&bytes[first..]));
-    let rest = others >> (from.pos - first);
-    rest == 0
-}
-
 /// Appends a replacement text as a part of a value (XML 1.0 section 4.4.5). The reference ends at `after`. Returns how many
 /// replacement texts may be opened after it.
 #[cycle(values)]
@@ -157,7 +138,8 @@ fn open_value<'input>(
         (replacement_view text.entry) after openings_left) }
 {
     let (within, inner) = context.opened(after, openings_left, 0)?;
-    if is_plain_value(text) {
+    // Most texts have no control, `<` or `&`, and give themselves.
+    if skip_set::<QuotedByte>(text.text, text.pos) >= text.text.len() {
         if out.push_str(&text.text[text.pos..]).is_err() {
             return Err(ParseError::Memory);
         }

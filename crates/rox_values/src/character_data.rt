@@ -5,7 +5,7 @@ ghost use Rattle.std.specs.String.{string_bytes};
 ghost use Rattle.std.specs.Str.{IsCharBoundary};
 ghost use Rattle.rox_reading.specs.Values as spec;
 ghost use Rattle.rox_values.specs.PlainBits.{BeginsReference};
-ghost use Rattle.rox_values.specs.Values.{AppendsFrom, AppendsBitFrom, AppendsPartFrom, BeginsData, EndsData, GivesData, HasData, HasOffsets, HasReturn, HasStretch, PutsData, PutsDatum, StopsAt, is_data_byte};
+ghost use Rattle.rox_values.specs.Values.{AppendsBitFrom, AppendsPartFrom, EndsData, GivesData, HasData, HasOffsets, HasReturn, HasStretch, PutsData, PutsDatum, StopsAt, is_data_byte};
 
 use crate::context::Context;
 use crate::reference::{Reference, found, read_reference};
@@ -42,21 +42,6 @@ fn expand<'input>(
             Ok(Some(text))
         }
     }
-}
-
-/// Appends the bytes of character data of a replacement text up to the next `&`.
-#[tactic(auto, unfolding(rox_reading::specs::Values::data_bit_at))]
-fn inner_data(cursor: &mut Cursor<'_>, stop: usize, out: &mut String) -> Result<(), Failure>
-    requires { BeginsData cursor.old.text.now cursor.old.pos stop }
-    ensures { AppendsFrom (string_bytes out.old) (string_bytes out.new) cursor.old cursor.new result
-        (λ es src at. spec.data_bit_at false es src stop at) }
-{
-    let start = cursor.pos;
-    let text = cursor.text;
-    let end = byte_from(&text[..stop], start, b'&');
-    out.push_str(&text[start..end])?;
-    cursor.pos = end;
-    Ok(())
 }
 
 /// Appends the character that the reference at `at` gives. Returns the offset after the reference, or 0 if it names an entity, if it
@@ -220,7 +205,9 @@ fn data_bit<'input>(
         return expand(cursor, context, out);
     }
     if !context.main {
-        inner_data(cursor, stop, out)?;
+        let end = byte_from(&cursor.text[..stop], cursor.pos, b'&');
+        out.push_str(&cursor.text[cursor.pos..end])?;
+        cursor.pos = end;
         return Ok(None);
     }
     let after = put_datum(cursor.text, cursor.pos, stop, out);

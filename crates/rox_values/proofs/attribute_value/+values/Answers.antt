@@ -14,14 +14,14 @@ open_value-returns-in_err-within t c = λ es declared.
     let p = err_from_is_err_and c.from_residual.result c.from_residual.ensures.1 in
     rw (p.1, p.2) (opens_err es c.args.context.depth_left c.args.context.main (replacement_view c.args.text) c.args.after c.args.openings_left c.in_err-within.field-0.0 c.in_err-within.ensures.value)
 
-pub open_value-returns-then-is_plain_value : goal.open_value-returns-then-is_plain_value
-open_value-returns-then-is_plain_value t c = λ es declared.
+pub open_value-returns-then-skip_set-text : goal.open_value-returns-then-skip_set-text
+open_value-returns-then-skip_set-text t c = λ es declared.
     let src = c.args.text.text.now in
     let inner = c.in_ok-within.inner in
     let old = string_bytes c.args.out.now in
     let put = (rw (c.is_err.ensures.negation, c.if-is_err.false) at c.push_str.ensures.bytes) ∙ ap (λ (xs : List ℕ). old ++ xs) (c.range_from.ensures.value ∙ to_end src c.args.text.pos) in
     let depth = c.args.context.depth_left - 1 in
-    let read = plain_reads src c.args.text.pos inner es (value_opener es depth false) old c.args.text.utf8 c.args.text.cut (c.is_plain_value.ensures c.if-is_plain_value.true) in
+    let read = plain_reads src c.args.text.pos inner es (value_opener es depth false) old c.args.text.utf8 c.args.text.cut (λ k low high. c.skip_set.ensures.passes k low (omega (arith, high, c.if-skip_set-text.true))) in
     rw c.left_behind.ensures
     (opens_reads es c.args.context.depth_left depth c.args.context.main (replacement_view c.args.text) c.args.after c.args.openings_left inner inner old (string_bytes c.push_str.new.self) refl
     c.in_ok-within.ensures.value (read ∙ ap (λ (xs : List ℕ). Ok (xs, inner)) (sym put)))
