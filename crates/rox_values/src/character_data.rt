@@ -188,7 +188,7 @@ fn put_data(text: &str, start: usize, stop: usize, out: &mut String) -> usize
 /// Appends the next item of character data: a reference, a line end, or all up to the next of these. If a reference names a
 /// replacement text, this is returned. In a replacement text line ends stay as they are.
 #[tactic(auto, unfolding(rox_reading::specs::Values::data_bit_at))]
-#[inline(always)]
+#[inline]
 fn data_bit<'input>(
     cursor: &mut Cursor<'input>,
     stop: usize,
