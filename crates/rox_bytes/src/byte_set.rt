@@ -432,6 +432,24 @@ pub fn find_other<C: ByteSet>(text: &str, at: usize) -> Option<usize>
     other_in::<C>(text.as_bytes(), at)
 }
 
+/// Like `find_other`, but only among the first sixteen bytes. Returns `None` if there are fewer. It calls no function that is out
+/// of line.
+#[inline(always)]
+pub fn find_near<C: ByteSet>(text: &str, at: usize) -> Option<usize>
+    requires { at ≤ length text.now }
+    ensures { IfSome result (StopsSet C.test text.entry.now at) }
+{
+    let bytes = text.as_bytes();
+    if bytes.len() - at < 16 {
+        return None;
+    }
+    let others = others_at::<C>(bytes, at);
+    if others == 0 {
+        return None;
+    }
+    Some(at + before_first(others))
+}
+
 /// Returns the end of the bytes of the set after the byte at which `run` ends. The run starts at `at`. Most ends are among the
 /// sixteen bytes that were tested for the run.
 #[inline(always)]

@@ -97,6 +97,13 @@ pub record IsLine (src : List ℕ) (i j : ℕ) : Type 0 where
   pub feed : slice_index src (i + 1) ≡ 10
   pub rest : byte_from (λ c. c == 38 || c == 13) (take j src) (i + 1 + 1) ≡ j
 
+-- A CR is at `i`, and an LF at `j`, right after it.
+pub record EndsLine (src : List ℕ) (i j : ℕ) : Type 0 where
+  pub cr : slice_index src i ≡ 13
+  pub feed : slice_index src j ≡ 10
+  pub next : j ≡ i + 1
+  pub cut : IsCharBoundary src j
+
 -- The bytes from `i` up to `j` are a line as in `IsLine`, and the character data ends at `j`.
 pub record IsLineRun (src : List ℕ) (i j : ℕ) : Type 0 where
   pub line : IsLine src i j

@@ -10,14 +10,14 @@ ghost use Rattle.rox_grammar.specs.Content as content;
 ghost use Rattle.rox_reading.specs.Values as spec;
 ghost use Rattle.rox_bytes.specs.ByteSets as near;
 ghost use Rattle.rox_scan.specs.Lookahead as longer;
-ghost use Rattle.rox_scan.specs.Lookahead.{EndsRun, GoesOnLooking, IsChangedRun, IsLineRun, IsLookahead, IsStep, LooksAhead, SeesRun};
+ghost use Rattle.rox_scan.specs.Lookahead.{EndsLine, EndsRun, GoesOnLooking, IsChangedRun, IsLineRun, IsLookahead, IsStep, LooksAhead, SeesRun};
 ghost use Rattle.rox_scan.specs.Views.{ReadsRun};
 ghost use Rattle.rox_bytes.specs.ScanResults.{HasCharAt, Has239At};
 
 use crate::cursor::Cursor;
 use crate::lookahead::{Lookahead, after_char, is_mark_at};
 use rox_bytes::byte_set::{
-    BEHIND_CONTROLS, ByteSet, find_other, non_ascii_first, skip_eased, skip_set,
+    BEHIND_CONTROLS, ByteSet, find_near, find_other, non_ascii_first, skip_eased, skip_set,
 };
 use rox_bytes::nibbles::by_low;
 use rox_bytes::runs::{after_byte, is_at};
@@ -115,6 +115,10 @@ pub fn text_end(text: &str, at: usize) -> Option<usize>
     let near = find_other::<AsciiTextByte>(text, at)?;
     if bytes[near] == b'<' {
         return Some(near);
+    }
+    // This is `&`, a CR or no Char.
+    if bytes[near] < b'<' {
+        return None;
     }
     let end = find_other::<TextByte>(text, near)?;
     if bytes[end] == b'<' {
@@ -274,13 +278,12 @@ fn run_end_beyond(from: Cursor<'_>) -> usize
     end
 }
 
-/// Returns the end of the character data at `from` if it is CR LF followed only by `TextByte`s; otherwise `None`.
+/// Returns the offset of the LF of the CR LF at `start`, if there is one.
 #[inline(always)]
-pub fn line_run_end(from: Cursor<'_>) -> Option<usize>
-    ensures { IfSome result (IsLineRun from.entry.text.now from.entry.pos) }
+fn line_feed(text: &str, start: usize) -> Option<usize>
+    requires { IsCharBoundary text.now start }
+    ensures { IfSome result (EndsLine text.now start) }
 {
-    let text = from.text;
-    let start = from.pos;
     if !is_at(text, start, b'\r') {
         return None;
     }
@@ -288,7 +291,31 @@ pub fn line_run_end(from: Cursor<'_>) -> Option<usize>
     if !is_at(text, feed, b'\n') {
         return None;
     }
+    Some(feed)
+}
+
+/// Returns the end of the character data at `from` if it is CR LF followed only by `TextByte`s; otherwise `None`.
+#[inline(always)]
+pub fn line_run_end(from: Cursor<'_>) -> Option<usize>
+    ensures { IfSome result (IsLineRun from.entry.text.now from.entry.pos) }
+{
+    let text = from.text;
+    let feed = line_feed(text, from.pos)?;
     let end = skip_set::<TextByte>(text, feed);
+    if !ends_character_data(text, end) {
+        return None;
+    }
+    Some(end)
+}
+
+/// Like `line_run_end`, but only if the end is among the sixteen bytes after the CR. It calls no function that is out of line.
+#[inline(always)]
+pub fn near_line_run_end(from: Cursor<'_>) -> Option<usize>
+    ensures { IfSome result (IsLineRun from.entry.text.now from.entry.pos) }
+{
+    let text = from.text;
+    let feed = line_feed(text, from.pos)?;
+    let end = find_near::<TextByte>(text, feed)?;
     if !ends_character_data(text, end) {
         return None;
     }

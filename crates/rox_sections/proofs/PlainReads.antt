@@ -85,3 +85,17 @@ reads_kept read src i j b u after k r = record {
   moves = r.moves;
   fine = r.fine;
 }
+
+-- a run that is read where the builder holds equal rows
+pub run_kept : (such : machine.Context → Type 0) (src : List ℕ) (i j : ℕ) (b v u : Builder) → KeepsState b v → v.tables ≡ b.tables → ReadsRunAt such src i j v u → ReadsRunAt such src i j b u
+run_kept such src i j b v u kept same h = record {
+  value = λ less context end s here behind may start stop state. h.value less context end s here behind may start stop (state_kept context.limit end s here here b v state refl kept);
+  other = λ no. keeps_on b v u kept (h.other no);
+  cut = h.cut;
+  ready = λ less most r. h.ready less most (ready_kept most b v kept r);
+  moves = h.moves;
+  tables = h.tables ∙ same;
+  opened = h.opened ∙ kept.opened;
+  rows = λ less. rw kept.nodes at (h.rows less);
+  behind = h.behind;
+}

@@ -1,5 +1,5 @@
 -- What the fast path requires, and how it changes the cursor and the builder. It reads a construct only if that is plain.
-use Rattle.std.specs.Prelude.{◌≡◌, ◌≢◌, ℕ, ◌+◌, ◌<◌, ◌≤◌, ◌^◌, true, false, Bool, List, IfOk, OnOk, Result, Ok, length, slice_index, vec_len}
+use Rattle.std.specs.Prelude.{◌≡◌, ◌≢◌, ℕ, ◌+◌, ◌<◌, ◌≤◌, ◌^◌, true, false, Bool, List, IfOk, OnOk, Result, Ok, length, slice_index, slice_range, vec_len}
 use Rattle.std.specs.Str.{IsCharBoundary}
 use Rattle.std.specs.declared.alloc.AllocError.{AllocError}
 use Rattle.rox_grammar.specs.Chars.{is_part_char}
@@ -13,7 +13,10 @@ use Rattle.rox_reading.specs.Refusals.{Refusal}
 use Rattle.rox_reading.specs.State.{State}
 use Rattle.rox_bytes.specs.ByteSets.{StopsSet, is_part_byte}
 use Rattle.rox_bytes.specs.ScanResults.{Finds}
+use Rattle.rox_scan.specs.Lookahead.{IsLineRun}
 use Rattle.rox_scan.specs.declared.cursor.Cursor.{Cursor}
+use Rattle.rox_storage.specs.Storage.{IsOwnText}
+use Rattle.rox_storage.specs.declared.storage.StringStorage.{StringStorage}
 use Rattle.rox_builder.specs.BuilderState.{GoesOn, IsConsistent, IsInState, IsReady, IsReadyTo, KeepsOpen, KeepsState, ScansTo}
 use Rattle.rox_builder.specs.PendingText.{waiting}
 use Rattle.rox_sections.specs.PlainSteps.{Reads}
@@ -101,6 +104,13 @@ pub record MayReadRunAt (src : List ℕ) (i : ℕ) (b : Builder) : Type 0 where
   pub cut : IsCharBoundary src i
   pub room : HasRoom src b
   pub apart : b.pending ≡ pending.None
+
+-- The character data from `i` up to `j`, before a `<`, is a line as in `IsLineRun`, and `s` is its text. There is room for its row.
+pub record MayPutLine (src : List ℕ) (i j : ℕ) (s : StringStorage) (b : Builder) : Type 0 where
+  pub here : MayReadRunAt src i b
+  pub run : IsLineRun src i j
+  pub behind : slice_index src j ≡ 60
+  pub owned : IsOwnText (slice_range src (i + 1) j) s
 
 -- The construct at the cursor was read as `read` does, in a context that meets `such`, or nothing was read. It is read in the
 -- room that there is for rows, which leaves the builder as `leaves` says.

@@ -1,12 +1,12 @@
 //! Plain character data, read by the fast path: it refers to no entity but the predefined ones.
 
 ghost use Rattle.std.specs.Prelude.{◌≡◌, true};
-ghost use Rattle.rox_sections.specs.PlainOutcomes.{MayReadRun, MayReadRunAt, ReadsRun, ReadsRunAt};
+ghost use Rattle.rox_sections.specs.PlainOutcomes.{MayPutLine, MayReadRun, MayReadRunAt, ReadsRun, ReadsRunAt};
 
 use crate::quick_sections::{MOST_BYTES, NOT_READ};
 use rox_builder::builder::Builder;
 use rox_bytes::runs::is_at;
-use rox_scan::character_data::{changed_run_end, line_run_end, text_end};
+use rox_scan::character_data::{changed_run_end, line_run_end, near_line_run_end, text_end};
 use rox_scan::cursor::Cursor;
 use rox_storage::storage::StringStorage;
 use rox_values::character_data::changed_data;
@@ -47,10 +47,27 @@ fn put_changed_data<'input>(text: &'input str, start: usize, builder: &mut Build
     end
 }
 
+/// Puts the character data from `start` up to `end`, which is CR LF followed only by bytes that need no replacement. `owned` is its
+/// text. Returns `end`.
+#[inline(always)]
+fn put_line<'input>(
+    text: &'input str,
+    start: usize,
+    end: usize,
+    owned: StringStorage<'input>,
+    builder: &mut Builder<'input>,
+) -> usize
+    requires { MayPutLine text.now start end owned builder.old }
+    ensures { ReadsRunAt (λ k. k.values.main ≡ true) text.entry.now start result builder.old builder.new }
+{
+    builder.put_text(start, end, owned);
+    end
+}
+
 /// Like `put_changed_data`, but first tests whether the character data is CR LF followed only by bytes that need no replacement, as
 /// most is that gets here.
 #[inline(never)]
-fn put_line_end<'input>(text: &'input str, start: usize, builder: &mut Builder<'input>) -> usize
+fn put_new_line<'input>(text: &'input str, start: usize, builder: &mut Builder<'input>) -> usize
     requires { MayReadRunAt text.now start builder.old }
     ensures { ReadsRunAt (λ k. k.values.main ≡ true) text.entry.now start result builder.old builder.new }
 {
@@ -65,8 +82,26 @@ fn put_line_end<'input>(text: &'input str, start: usize, builder: &mut Builder<'
         builder.buffers.seen.lacking = true;
         return NOT_READ;
     };
-    builder.put_text(start, end, owned);
-    end
+    put_line(text, start, end, owned, builder)
+}
+
+/// Like `put_new_line`, but first looks for the text among those that were seen, if it is CR LF and a few bytes. Most lines that end
+/// with CR LF are so. The other function is called last, so that this one saves no registers.
+#[inline(never)]
+fn put_line_end<'input>(text: &'input str, start: usize, builder: &mut Builder<'input>) -> usize
+    requires { MayReadRunAt text.now start builder.old }
+    ensures { ReadsRunAt (λ k. k.values.main ≡ true) text.entry.now start result builder.old builder.new }
+{
+    let Some(end) = near_line_run_end(Cursor { text, pos: start }) else {
+        return put_new_line(text, start, builder);
+    };
+    if !is_at(text, end, b'<') {
+        return NOT_READ;
+    }
+    let Some(shared) = builder.recent.shared(&text[start + 1..end]) else {
+        return put_new_line(text, start, builder);
+    };
+    put_line(text, start, end, shared, builder)
 }
 
 /// Like `put_line_end`, but only if the text is the main text. Returns whether character data was read. Whether a CR is at the

@@ -116,6 +116,16 @@ impl Recent {
         None
     }
 
+    /// Returns an owned text that shares its storage with the last text of its length, if that equals `text`. Also returns `None`
+    /// if that is shared too often to be counted.
+    #[inline(always)]
+    pub fn shared<'input>(&self, text: &str) -> Option<StringStorage<'input>>
+        ensures { IfSome result (IsOwnText text.now) }
+    {
+        let again = self.again(text.len(), text)?;
+        Some(StringStorage::Owned(again))
+    }
+
     /// Returns an owned text of the bytes of `text`. It shares its storage with the last text of its length if both are equal.
     #[inline(always)]
     pub fn owned<'input>(
@@ -125,8 +135,8 @@ impl Recent {
     ) -> Result<StringStorage<'input>, AllocError>
         ensures { IfOk result (IsOwnText text.now) }
     {
-        if let Some(shared) = self.again(text.len(), text) {
-            return Ok(StringStorage::Owned(shared));
+        if let Some(shared) = self.shared(text) {
+            return Ok(shared);
         }
         self.owned_unshared(alloc, text)
     }

@@ -1,52 +1,15 @@
-use Rattle.std.proofs.Common.{◌+◌, ◌≡◌, false, Ok, slice_range, refl, sym, ◌∙◌, arith}
+use Rattle.std.proofs.Common.{◌∙◌, arith, refl, sym}
 use Rattle.std.proofs.lemmas.Bool.{eqb-true}
-use Rattle.rox_reading.specs.Values.{ReadText}
-use Rattle.rox_builder.specs.BuilderState.{KeepsOpen}
-use Rattle.rox_builder.proofs.Stepping.{parted_run, same_shows}
-use Rattle.rox_sections.proofs.LineRuns.{line_run}
 use Rattle.rox_sections.proofs.PlainReads.{keeps_all, runs_not}
-use Rattle.rox_sections.proofs.Twice.{text_stepped_at}
 use Rattle.rox_sections.proofs.quick_data.put_line_end.Goals as goal
-
-pub returns : goal.returns
-returns c =
-    let src = c.args.text.now in
-    let b = c.args.builder.now in
-    let i = c.args.start in
-    let j = c.in-Some.end in
-    let run = c.in-Some.ensures in
-    let put = c.put_text.ensures in
-    let u = c.put_text.new.self in
-    let kept : KeepsOpen b u = record { opened = put.adds.kept.opened; tables = put.adds.kept.tables; limit = put.adds.kept.limit; openings_left = put.adds.kept.openings_left } in
-    let short = c.requires.room.short in
-    record {
-      value = λ _ context end s here behind main start stop h.
-          let text : ReadText = record { value = slice_range src (i + 1) j; borrowed = false } in
-          let from : i ≡ s.at = sym start ∙ h.here in
-          let bytes = c.in-Ok.ensures.bytes ∙ c.range.ensures.value in
-          rw (parted_run context src s i j (slice_range src i j) from run.value run.verbatim, line_run context src s i j from main run.line)
-          (text_stepped_at context.limit end s here behind i j b u (Ok tt) text start stop h kept
-          (rw (bytes, c.in-Ok.ensures.owned) at (put.adds.value end j s (same_shows end s.stack s.done b _ h.shows refl refl refl refl refl))));
-      other = λ no. absurd (omega (arith, no, short, run.line.within));
-      cut = λ _. run.cut;
-      ready = λ _ most r. put.ready most (record { room = r.room; few = r.few; small = r.small; settled = r.settled });
-      moves = λ _. omega (arith, run.line.some);
-      tables = kept.tables;
-      opened = kept.opened;
-      rows = λ _. put.rows;
-      behind = λ _. eqb-true _ _ (sym c.is_at.ensures ∙ c.if-not-is_at.false);
-    }
 
 pub returns-then-not-is_at : goal.returns-then-not-is_at
 returns-then-not-is_at c = runs_not _ c.args.text.now c.args.start _ c.args.builder.now c.args.builder.now (omega arith) (keeps_all c.args.builder.now) refl refl
 
-pub returns-in_default : goal.returns-in_default
-returns-in_default c = c.put_changed_data.ensures
-
-pub put_text-requires : goal.put_text-requires
-put_text-requires c = let r = c.requires.room.ready in record {
-  ready = record { room = r.room; few = r.few; small = r.small; settled = r.settled };
-  apart = c.requires.apart;
-  start = omega (arith, c.requires.room.short, c.requires.cut.0);
-  end = omega (arith, c.requires.room.short, c.in-Some.ensures.line.within);
+pub put_line-requires : goal.put_line-requires
+put_line-requires c = record {
+  here = c.requires;
+  run = c.in-Some.ensures;
+  behind = eqb-true _ _ (sym c.is_at.ensures ∙ c.if-not-is_at.false);
+  owned = record { bytes = c.in-Some-shared.ensures.bytes ∙ c.range.ensures.value; owned = c.in-Some-shared.ensures.owned };
 }
