@@ -98,7 +98,7 @@ root_tagged blank old new src i n end t from namespace none same x is other star
     let read : (context : Values) (cut : Fault) (openings_left : ℕ) → attributes_at (length src) context cut [] src n openings_left (holding [] [])
     ≡ Ok (record { held = holding x.own x.written; empty = t.empty; openings_left = openings_left }, end) =
     λ context cut openings_left. subst (λ (ds : List NamespaceDecl). attributes_at (length src) context cut ds src n openings_left (holding [] [])
-    ≡ Ok (record { held = holding x.own x.written; empty = t.empty; openings_left = openings_left }, end)) (ap (map namespace_view) d.known) (x.read context cut openings_left) in
+    ≡ Ok (record { held = holding x.own x.written; empty = t.empty; openings_left = openings_left }, end)) (ap (map namespace_view) d.known) (x.read context cut openings_left (length src) [] (omega arith) refl) in
     let space : option_map (λ i. (namespace_at ns i).uri) (numbered_place t.element.namespace) ≡ element_namespace (listed [] x.own) name =
     subst (λ ds. option_map (λ i. (namespace_at ns i).uri) (numbered_place t.element.namespace) ≡ element_namespace ds name) lists (rw e.namespace named.is) in
     record {

@@ -196,7 +196,8 @@ pub fn element_of_part<'input>(
     element_in_scope(text, start, builder, part)
 }
 
-/// Like `element_in_scope`, but for a tag with one declaration alone, if an earlier one had it below the same namespaces.
+/// Like `element_in_scope`, but for a tag that has one declaration, before its attributes, as an earlier one below the same
+/// namespaces had.
 #[inline(never)]
 fn element_repeating<'input>(
     text: &'input str,
@@ -216,8 +217,15 @@ fn element_repeating<'input>(
     }
     let above = &builder.opened[depth - 1];
     let row = above.row;
-    let place = NamePlace { start, part };
-    let Some(repeated) = start_tag_repeating(text, place, &builder.tables, above) else {
+    let first = builder.tables.attributes.len();
+    let Some(repeated) = start_tag_repeating(
+        text,
+        NamePlace { start, part },
+        &mut builder.tables,
+        above,
+        &mut builder.buffers.seen,
+    ) else {
+        builder.tables.attributes.truncate(first);
         return NOT_READ;
     };
     put_element(text, start, builder, row, repeated)

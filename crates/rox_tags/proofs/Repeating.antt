@@ -1,55 +1,32 @@
--- Start tags with one declaration alone, which an earlier tag had below the same namespaces.
-use Rattle.std.proofs.Common.{◌≡◌, ℕ, zero, suc, ◌+◌, ◌-◌, ◌<◌, ◌≤◌, ◌||◌, not, filter, Bool, true, false, List, [], ◌∷◌, ◌++◌, Some, length, map, take, drop, get_or, slice_index, bytes_eq, IsUtf8, refl, sym, ap, subst, ◌∙◌, arith, Ok}
-use Rattle.std.specs.Borrow.{Bor}
-use Rattle.std.specs.Option.{option_map}
-use Rattle.std.specs.Str.{IsCharBoundary}
-use Rattle.std.proofs.lemmas.Bool.{lt-leb}
+-- Start tags that have one declaration, before their attributes, as an earlier tag below the same namespaces had.
+use Rattle.std.proofs.Common.{◌≡◌, ℕ, zero, suc, ◌+◌, ◌-◌, ◌<◌, ◌≤◌, ◌||◌, ◌==◌, not, filter, Bool, true, false, List, [], ◌∷◌, ◌++◌, Some, length, map, take, drop, get_or, bytes_eq, refl, sym, ap, subst, ◌∙◌, arith}
 use Rattle.std.proofs.lemmas.Slice.Eq.{bytes_eq-Decides}
-use Rattle.std.proofs.lemmas.List.{append-nil, length-map, take_all}
-use Rattle.rox_grammar.specs.declared.fault.Fault.{Fault}
-use Rattle.rox_grammar.specs.declared.fault.Word.TheVariants.{Xmlns}
+use Rattle.std.proofs.lemmas.List.{length-map, take_all}
 use Rattle.rox_grammar.specs.Counts.{has_pair, with_new}
-use Rattle.rox_grammar.specs.Document.{most_attributes, most_pairs, same_pair}
-use Rattle.rox_grammar.specs.FixedTexts.{word_text}
-use Rattle.rox_grammar.specs.Failures.{name_view}
-use Rattle.rox_grammar.specs.Names.{spaces_end}
-use Rattle.rox_grammar.specs.Tree.{element_namespace, is_declared, is_xml, listable_of, listed, same_prefix}
-use Rattle.rox_grammar.specs.WellNamed.{may_name}
-use Rattle.rox_grammar.specs.Written.{Attribute, NamespaceDecl, is_namespace_decl, namespace_decl_of}
-use Rattle.rox_reading.specs.Lexical.{◌>>=◌, qname_at}
-use Rattle.rox_reading.specs.Markup.{opened, closed}
-use Rattle.rox_reading.specs.Refusals.{lifted}
-use Rattle.rox_reading.specs.Tags.{TagSoFar, Values, attributes_at, tag_tested, taken, uri_tested}
-use Rattle.rox_rows.specs.Rows.{attribute_rows, numbered_place}
-use Rattle.rox_reading.specs.AtIndex.{namespace_at, scope_at}
+use Rattle.rox_grammar.specs.Document.{most_pairs, same_pair}
+use Rattle.rox_grammar.specs.Tree.{is_declared, is_xml, listable_of, listed, same_prefix}
+use Rattle.rox_grammar.specs.Written.{NamespaceDecl, namespace_decl_of}
+use Rattle.rox_reading.specs.Tags.{attributes_at}
+use Rattle.rox_reading.specs.AtIndex.{namespace_at}
 use Rattle.rox_scopes.specs.NamespaceViews.{namespace_view}
 use Rattle.rox_scopes.specs.Scopes.{ArePlaces, PrefixesOnce, entries, pair, places_in}
-use Rattle.rox_names.specs.TagScopes.{lists_in, scope_in_tables}
+use Rattle.rox_names.specs.TagScopes.{scope_in_tables}
 use Rattle.rox_names.specs.declared.tables.ElementTables.{ElementTables}
 use Rattle.rox_scopes.specs.declared.namespace.Namespace.{Namespace}
-use Rattle.rox_bytes.proofs.RunLemmas.{stands_within}
 use Rattle.rox_scopes.proofs.Listing.{same_prefix-sym}
 use Rattle.rox_scopes.proofs.Pairs.{same_prefix-refl}
 use Rattle.rox_scopes.proofs.Ropes.{scope_places}
-use Rattle.rox_names.specs.OpenElements.{IsNamespaceOf}
 use Rattle.rox_names.specs.TagDeclarations.{unresolved_view}
 use Rattle.rox_names.specs.declared.open_element.OpenElement.{OpenElement}
-use Rattle.rox_names.specs.declared.start_tag.StartTag.{StartTag}
 use Rattle.rox_names.specs.declared.unresolved_attribute.UnresolvedAttribute.{UnresolvedAttribute}
 use Rattle.rox_names.proofs.Declaring.{declared_new}
-use Rattle.rox_names.proofs.Resolving.{nothing_left}
-use Rattle.rox_starts.specs.ElementRow.{IsElementFrom}
-use Rattle.rox_tags.specs.PlainParts.{EndsTag}
 use Rattle.rox_attributes.specs.PlainAttribute.{HasScope}
-use Rattle.rox_starts.specs.NearAttribute.{IsNearAttribute}
-use Rattle.rox_tags.specs.PlainTag.{IsPlainTag, MayOpenBelow}
+use Rattle.rox_tags.specs.PlainTag.{MayOpenBelow}
 use Rattle.rox_tags.specs.Repeating.{AreOneMore, IsRepeated, Repeats}
-use Rattle.rox_tags.specs.TagAttributes.{holding}
-use Rattle.rox_tags.specs.declared.quick_tag.TagEnd.{TagEnd}
-use Rattle.rox_verbatim.proofs.Verbatim.{no_space}
-use Rattle.rox_tags.proofs.PlainTags.{item_closed, item_opened}
-use Rattle.rox_starts.proofs.Starting.{tag_made, tested_known, tested_passes}
-use Rattle.rox_tags.proofs.TagAttributes.{end_is, taken_declared}
+use Rattle.rox_tags.specs.TagAttributes.{IsNearDeclaration, holding}
+use Rattle.rox_tags.proofs.OwnNames.{xmlns_letter}
+use Rattle.rox_tags.proofs.TagAttributes.{taken_declared, turn_is}
+use Rattle.rox_tags.proofs.WholeTags.{Begins, scope_of_parent}
 
 -- ---- what the scope lists
 
@@ -123,7 +100,7 @@ kept_all d (e ∷ es) h =
 listable_one : (d : NamespaceDecl) → is_xml d.prefix ≡ false → listable_of (d ∷ []) ≡ d ∷ []
 listable_one d h = rw h refl
 
--- a tag that has the declaration alone lists it before what its parent lists
+-- a tag that has the declaration and no other lists it before what its parent lists
 lists_one : (d : NamespaceDecl) (above : List NamespaceDecl) → is_xml d.prefix ≡ false → is_declared d.prefix above ≡ false → listed above (d ∷ []) ≡ d ∷ above
 lists_one d above other absent = ap (λ xs. xs ++ filter (λ e. not (is_declared e.prefix (d ∷ []))) above) (listable_one d other) ∙ ap (λ xs. d ∷ xs) (kept_all d above absent)
 
@@ -136,97 +113,31 @@ pairs_stay names d other has = ap (with_new names) (listable_one d other) ∙ kn
 
 -- ---- what is read
 
-near_turn : (src : List ℕ) (i n : ℕ) (a : UnresolvedAttribute) (held after : TagSoFar) (context : Values) (cut : Fault) (known : List NamespaceDecl) (openings_left : ℕ) → IsNearAttribute src i a → i < length src
-    → taken known (unresolved_view a) held ≡ Ok after
-    → attributes_at (suc n) context cut known src i openings_left held ≡ attributes_at n context cut known src a.end openings_left after
-unfolding attributes_at
-near_turn src i n a held after context cut known openings_left near within is =
-    let k = lt-leb (length src) i within in
-    let v = near.value context.main context.entities context.opener openings_left in
-    rw (k, near.read, v) (ap (λ (x : Attribute). lifted (taken known x held) >>= λ y. attributes_at n context cut known src a.end openings_left y) near.view ∙ rw is refl)
-
-ends_now : (src : List ℕ) (i n : ℕ) (e : TagEnd) (held : TagSoFar) (context : Values) (cut : Fault) (known : List NamespaceDecl) (openings_left : ℕ) → EndsTag src i (Some e) → i ≡ spaces_end src i → i < length src
-    → attributes_at (suc n) context cut known src i openings_left held ≡ Ok (record { held = held; empty = e.empty; openings_left = openings_left }, e.at)
-ends_now src i n e held context cut known openings_left ends spaces within = which e.empty refl
-  where
-    which : (b : Bool) → e.empty ≡ b → attributes_at (suc n) context cut known src i openings_left held ≡ Ok (record { held = held; empty = e.empty; openings_left = openings_left }, e.at)
-    which false is = let o = ends.opens is in rw (o.1) (end_is src i n (i + 1) opened e.empty held context cut known openings_left within (item_opened src i i spaces o.0) is)
-    which true is = let o = ends.closes is in rw (o.1.1) (end_is src i n (i + 2) closed e.empty held context cut known openings_left within (item_closed src i i spaces o.0 o.1.0) is)
-
--- the end of the tag is right there
-pub ends_here : (src : List ℕ) (i : ℕ) (e : TagEnd) → IsUtf8 src → IsCharBoundary src i → EndsTag src i (Some e) → (i ≡ spaces_end src i) × (i < length src)
-ends_here src i e text cut ends = which e.empty refl
-  where
-    there : (b : ℕ) → 32 < b → slice_index src i ≡ b → (i ≡ spaces_end src i) × (i < length src)
-    there b above here = let within = stands_within src i b here (omega arith) in (no_space src i text cut within (omega (arith, here)), within)
-
-    which : (b : Bool) → e.empty ≡ b → (i ≡ spaces_end src i) × (i < length src)
-    which false is = there 62 (omega arith) (ends.opens is).0
-    which true is = there 47 (omega arith) (ends.closes is).0
-
--- the declaration and the end of the tag
-pub declares_alone : (src : List ℕ) (k : ℕ) (a : UnresolvedAttribute) (e : TagEnd) (known : List NamespaceDecl) → IsNearAttribute src k a → k + 1 < length src → EndsTag src a.end (Some e) → a.end ≡ spaces_end src a.end → a.end < length src
-    → is_namespace_decl (name_view a.name) ≡ true → uri_tested (unresolved_view a) ≡ Ok tt → is_xml (namespace_decl_of (unresolved_view a)).prefix ≡ false → has_pair known (namespace_decl_of (unresolved_view a)) ≡ true → length known ≤ most_pairs
-    → (context : Values) (cut : Fault) (openings_left : ℕ) → attributes_at (length src) context cut known src k openings_left (holding [] [])
-    ≡ Ok (record { held = holding (namespace_decl_of (unresolved_view a) ∷ []) []; empty = e.empty; openings_left = openings_left }, e.at)
-declares_alone src k a e known near onward ends spaces within is tested other has few context cut openings_left =
-    let view = unresolved_view a in
-    let d = namespace_decl_of view in
-    let n = length src - 2 in
-    let turns : length src ≡ suc (suc n) = omega arith in
-    let pairs : length (with_new known (listable_of ([] ++ d ∷ []))) ≤ most_pairs = rw (pairs_stay known d other has) few in
-    let took = taken_declared known view (holding [] []) (holding (d ∷ []) []) is (declared_new known view (holding [] []) tested refl pairs) in
-    ap (λ (m : ℕ). attributes_at m context cut known src k openings_left (holding [] [])) turns
-    ∙ near_turn src k (suc n) a (holding [] []) (holding (d ∷ []) []) context cut known openings_left near (omega arith) took
-    ∙ ends_now src a.end n e (holding (d ∷ []) []) context cut known openings_left ends spaces within
-
--- ---- the tag as a whole
-
-pub repeated_tagged : (t : ElementTables) (o : OpenElement) (src : List ℕ) (i k : ℕ) (tag : StartTag) (one : UnresolvedAttribute) (e : TagEnd) (n from namespace : ℕ) → MayOpenBelow t o
-    → Repeats t o.scope (unresolved_view one) n → HasScope t n → IsNearAttribute src k one → k + 1 < length src → EndsTag src one.end (Some e) → one.end ≡ spaces_end src one.end → one.end < length src
-    → qname_at src (i + 1) ≡ Ok (name_view tag.name, k) → bytes_eq (name_view tag.name).prefix (word_text Xmlns) ≡ false → tag.name_start ≡ i + 1 → tag.name_end ≡ k → tag.empty ≡ e.empty
-    → IsElementFrom t tag.name.local from n namespace tag.element → from ≡ length (attribute_rows t.attributes) → length (attribute_rows t.attributes) ≤ most_attributes
-    → IsNamespaceOf t n (name_view tag.name) (numbered_place namespace) → may_name (scope_in_tables t n) (name_view tag.name) ≡ true → IsCharBoundary src e.at
-    → IsPlainTag t t (scope_in_tables t o.scope) src i e.at tag
-repeated_tagged t o src i k tag one e n from namespace below x scope near onward ends spaces within is other starts name_end empty f from_is most named known cut =
+-- the declaration of a tag that has the scope of an earlier one
+pub begins_repeating : (t : ElementTables) (o : OpenElement) (src : List ℕ) (k : ℕ) (one : UnresolvedAttribute) (n : ℕ) → MayOpenBelow t o → Repeats t o.scope (unresolved_view one) n → IsNearDeclaration src k one
+    → Begins t o.scope n (namespace_decl_of (unresolved_view one) ∷ []) src k one.end
+begins_repeating t o src k one n below x near =
     let above = scope_in_tables t o.scope in
     let names = map namespace_view t.namespaces.items.items in
-    let count = length (attribute_rows t.attributes) in
-    let name = name_view tag.name in
-    let d = namespace_decl_of (unresolved_view one) in
-    let lists : scope_in_tables t n ≡ listed above (d ∷ []) = x.scope.lists ∙ sym (lists_one d above x.other x.scope.absent) in
+    let view = unresolved_view one in
+    let d = namespace_decl_of view in
+    let stay = pairs_stay names d x.other x.scope.known in
     let few : length names ≤ most_pairs = rw (length-map t.namespaces.items.items namespace_view) below.few in
-    let fine : tag_tested (listed above (d ∷ [])) count i name [] ≡ Ok tt =
-    tested_passes (listed above (d ∷ [])) count i name [] (tested_known (listed above (d ∷ [])) count (i + 1) name [] (omega arith) (nothing_left (listed above (d ∷ [])) []) (subst (λ ds. may_name ds name ≡ true) lists known)) in
-    let space : option_map (λ i. (namespace_at names i).uri) (numbered_place tag.element.namespace) ≡ element_namespace (listed above (d ∷ [])) name =
-    subst (λ ds. option_map (λ i. (namespace_at names i).uri) (numbered_place tag.element.namespace) ≡ element_namespace ds name) lists (rw f.namespace named.is) in
+    let pairs : length (with_new names (listable_of ([] ++ d ∷ []))) ≤ most_pairs = rw stay few in
+    let took = taken_declared names view (holding [] []) (holding (d ∷ []) []) x.is (declared_new names view (holding [] []) x.tested refl pairs) in
+    let letter = xmlns_letter src one.start near.has in
+    let onward = near.onward in
+    let behind = near.has.behind in
+    let moves = near.read.plain.onward in
+    let left = length src - 1 in
+    let turns : length src ≡ suc left = omega arith in
     record {
-      tag = record { name = name; name_end = k; declarations = d ∷ []; attributes = [] };
-      read = λ context cut openings_left. rw empty (tag_made context cut above count names src i openings_left name k e.at (holding (d ∷ []) []) e.empty openings_left is other
-          (declares_alone src k one e names near onward ends spaces within x.is x.tested x.other x.scope.known few context cut openings_left) fine);
-      tagged = record {
-        name = refl;
-        name_end = name_end;
-        namespaces = sym (pairs_stay names d x.other x.scope.known);
-        few = below.few;
-        more = [];
-        lists_more = sym (append-nil _);
-        places = below.places;
-        scopes = below.scopes;
-        kept = below.kept;
-        once = rw f.scope scope.once;
-        element = record {
-          attributes = record { more = []; grown = sym (append-nil _); same = refl; within = tt };
-          attributes_from = f.attributes_from ∙ from_is;
-          attributes_until = f.attributes_until;
-          few = most;
-          local = ap (λ (l : Bor (List ℕ)). l.now) f.local;
-          namespace = space;
-          namespace_within = rw f.namespace named.within;
-          scope_within = rw f.scope x.scope.within;
-          lists = ap (scope_at (lists_in t)) f.scope ∙ lists;
-        };
-      };
-      starts = starts;
-      cut = cut;
+      scope = repeated_once t o.scope n d (scope_of_parent t o below) x.scope;
+      lists = x.scope.lists ∙ sym (lists_one d above x.other x.scope.absent);
+      pairs = stay;
+      turns = left;
+      enough = omega arith;
+      read = λ context cut openings_left. ap (λ (m : ℕ). attributes_at m context cut names src k openings_left (holding [] [])) turns
+          ∙ turn_is src k one.start left one (holding [] []) (holding (d ∷ []) []) context cut names openings_left near.read.plain (omega arith) near.spaces (λ same. omega (arith, same, onward))
+          (ap (λ (b : ℕ). b == 47) letter) (ap (λ (b : ℕ). b == 62) letter) took;
     }

@@ -46,7 +46,7 @@ use Rattle.rox_scopes.proofs.Remembering.{remembers_none}
 use Rattle.rox_reading.proofs.Lists.{all_append, all_weaker, map_same}
 use Rattle.rox_rows.proofs.Stable.{attribute-append}
 use Rattle.rox_attributes.specs.PlainAttribute.{AddsPlain, HasScope, IsPlainAttribute, few_in}
-use Rattle.rox_tags.specs.TagAttributes.{AreNoBindings, ArePlainAttributes, DeclaresIn, DeclaresInRoot, HasGrown, HasRootScope, HoldsSoFar, ListsDeclaration, MayBegin, PlainSoFar, first_places, holding}
+use Rattle.rox_tags.specs.TagAttributes.{AreNoBindings, ArePlainAttributes, DeclaresIn, DeclaresInRoot, HasGrown, HasRootScope, HoldsSoFar, ListsDeclaration, MayBegin, PlainSoFar, ReadsUpTo, first_places, holding}
 use Rattle.rox_tags.specs.declared.quick_tag.TagEnd.{TagEnd}
 use Rattle.rox_tags.specs.declared.own_declaration.TagScope.{TagScope}
 use Rattle.rox_bytes.proofs.RunLemmas.{stands_within}
@@ -159,7 +159,7 @@ taken_other known a held other = rw other refl
 pub taken_declared : (known : List NamespaceDecl) (a : Attribute) (held after : TagSoFar) → is_namespace_decl a.name ≡ true → declared known a held ≡ Ok after → taken known a held ≡ Ok after
 taken_declared known a held after is h = rw is h
 
-turn_is : (src : List ℕ) (i j n : ℕ) (a : UnresolvedAttribute) (held after : TagSoFar) (context : Values) (cut : Fault) (known : List NamespaceDecl) (openings_left : ℕ) → IsPlainAttribute src j a
+pub turn_is : (src : List ℕ) (i j n : ℕ) (a : UnresolvedAttribute) (held after : TagSoFar) (context : Values) (cut : Fault) (known : List NamespaceDecl) (openings_left : ℕ) → IsPlainAttribute src j a
     → i ≤ j → j ≡ spaces_end src i → (j ≡ i → ⊥) → (slice_index src j == 47) ≡ false → (slice_index src j == 62) ≡ false → taken known (unresolved_view a) held ≡ Ok after
     → attributes_at (suc n) context cut known src i openings_left held ≡ attributes_at n context cut known src a.end openings_left after
 turn_is src i j n a held after context cut known openings_left plain onward spaces some slash close h =
@@ -170,34 +170,33 @@ turn_is src i j n a held after context cut known openings_left plain onward spac
 
 -- ---- what is read so far
 
-plain_starts : (known namespaces scope : List NamespaceDecl) (src : List ℕ) (start : ℕ) (old : List AttributeRow) → PlainSoFar known namespaces scope [] src start old start old
-plain_starts known namespaces scope src start old = record {
+plain_starts : (declares : Bool) (known namespaces scope : List NamespaceDecl) (src : List ℕ) (start : ℕ) (old : List AttributeRow) → PlainSoFar declares known namespaces scope [] src start old start old
+plain_starts declares known namespaces scope src start old = record {
   written = [];
   more = [];
   rows = sym (append-nil old);
   within = tt;
   shown = refl;
   tested = λ rest. refl;
-  turns = length src;
+  turns = 0;
   enough = omega arith;
-  read = λ context cut openings_left. refl;
+  read = λ context cut openings_left rest before such.
+      let none : 0 + rest ≡ rest = omega arith in
+      rw (none, append-nil before) refl;
 }
 
 -- an attribute more
-plain_more : (known namespaces scope own : List NamespaceDecl) (few : Option (List ℕ)) (present : PrefixBindings) (src : List ℕ) (start : ℕ) (old : List AttributeRow) (i j : ℕ) (now next : List AttributeRow) (a : UnresolvedAttribute)
-    → PlainSoFar known namespaces scope own src start old i now → i ≤ j → j ≡ spaces_end src i → (j ≡ i → ⊥) → (slice_index src j == 47) ≡ false → (slice_index src j == 62) ≡ false
+plain_more : (declares : Bool) (known namespaces scope own : List NamespaceDecl) (few : Option (List ℕ)) (present : PrefixBindings) (src : List ℕ) (start : ℕ) (old : List AttributeRow) (i j : ℕ) (now next : List AttributeRow) (a : UnresolvedAttribute)
+    → PlainSoFar declares known namespaces scope own src start old i now → i ≤ j → j ≡ spaces_end src i → (j ≡ i → ⊥) → (slice_index src j == 47) ≡ false → (slice_index src j == 62) ≡ false
     → IsPlainAttribute src j a → is_namespace_decl (name_view a.name) ≡ false → FindsBinding namespaces few present scope → AddsResolved namespaces few present (length old) now next a
-    → PlainSoFar known namespaces scope own src start old a.end next
-plain_more known namespaces scope own few present src start old i j now next a g onward spaces some slash close plain other h r =
+    → PlainSoFar declares known namespaces scope own src start old a.end next
+plain_more declares known namespaces scope own few present src start old i j now next a g onward spaces some slash close plain other h r =
     let row = row_of_unresolved a r.namespace in
     let view = unresolved_view a in
     let on = plain.onward in
     let fits = plain.cut.0 in
     let enough = g.enough in
-    let n = g.turns - 1 in
-    let one : g.turns ≡ suc n = omega arith in
     let behind : drop (length old) now ≡ g.more = ap (drop (length old)) g.rows ∙ drop-append_seam old g.more in
-    let held = holding own g.written in
     record {
       written = g.written ++ view ∷ [];
       more = g.more ++ row ∷ [];
@@ -208,14 +207,17 @@ plain_more known namespaces scope own few present src start old i j now next a g
           ∙ sym (map-append (attribute_in scope) g.written (view ∷ []));
       tested = λ rest. ap (names_tested scope []) (append_assoc g.written (view ∷ []) rest) ∙ g.tested (view ∷ rest)
           ∙ r.tested scope g.written rest h (ap (map (attribute namespaces)) behind ∙ g.shown);
-      turns = n;
+      turns = g.turns + 1;
       enough = omega arith;
-      read = λ context cut openings_left. g.read context cut openings_left ∙ ap (λ (m : ℕ). attributes_at m context cut known src i openings_left held) one
-          ∙ turn_is src i j n a held _ context cut known openings_left plain onward spaces some slash close (taken_other known view held other);
+      read = λ context cut openings_left rest before such.
+          let one : g.turns + 1 + rest ≡ g.turns + suc rest = omega arith in
+          let held = holding (before ++ own) g.written in
+          ap (λ (m : ℕ). attributes_at m context cut known src start openings_left (holding before [])) one ∙ g.read context cut openings_left (suc rest) before such
+          ∙ turn_is src i j rest a held _ context cut known openings_left plain onward spaces some slash close (taken_other known view held other);
     }
 
-plain_passes : (known namespaces scope own : List NamespaceDecl) (src : List ℕ) (start : ℕ) (old : List AttributeRow) (i : ℕ) (now : List AttributeRow) (g : PlainSoFar known namespaces scope own src start old i now) → names_tested scope [] g.written ≡ Ok tt
-plain_passes known namespaces scope own src start old i now g = ap (names_tested scope []) (sym (append-nil g.written)) ∙ g.tested [] ∙ nothing_left scope g.written
+plain_passes : (declares : Bool) (known namespaces scope own : List NamespaceDecl) (src : List ℕ) (start : ℕ) (old : List AttributeRow) (i : ℕ) (now : List AttributeRow) (g : PlainSoFar declares known namespaces scope own src start old i now) → names_tested scope [] g.written ≡ Ok tt
+plain_passes declares known namespaces scope own src start old i now g = ap (names_tested scope []) (sym (append-nil g.written)) ∙ g.tested [] ∙ nothing_left scope g.written
 
 -- what is declared then
 declared_is : (a : Attribute) (h after : TagSoFar) → declared [] a h ≡ Ok after → after ≡ record { own = h.own ++ namespace_decl_of a ∷ []; attributes = h.attributes }
@@ -236,10 +238,10 @@ declared_is a h after is = tested (uri_tested a) is
 
 -- a declaration more, in a scope of which all is declared
 plain_declared : (namespaces next own after : List NamespaceDecl) (src : List ℕ) (start : ℕ) (old : List AttributeRow) (i j : ℕ) (now : List AttributeRow) (a : UnresolvedAttribute)
-    → (g : PlainSoFar [] namespaces (listable_of own) own src start old i now) → i ≤ j → j ≡ spaces_end src i → (j ≡ i → ⊥) → (slice_index src j == 47) ≡ false → (slice_index src j == 62) ≡ false
+    → (g : PlainSoFar true [] namespaces (listable_of own) own src start old i now) → i ≤ j → j ≡ spaces_end src i → (j ≡ i → ⊥) → (slice_index src j == 47) ≡ false → (slice_index src j == 62) ≡ false
     → IsPlainAttribute src j a → is_namespace_decl (name_view a.name) ≡ true → namespaces ≡ with_new [] (listable_of own) → next ≡ with_new [] (listable_of after)
     → declared [] (unresolved_view a) (holding own g.written) ≡ Ok (holding after g.written)
-    → PlainSoFar [] next (listable_of after) after src start old a.end now
+    → PlainSoFar true [] next (listable_of after) after src start old a.end now
 plain_declared namespaces next own after src start old i j now a g onward spaces some slash close plain is names named h =
     let view = unresolved_view a in
     let d = namespace_decl_of view in
@@ -247,15 +249,13 @@ plain_declared namespaces next own after src start old i j now a g onward spaces
     let on = plain.onward in
     let fits = plain.cut.0 in
     let enough = g.enough in
-    let n = g.turns - 1 in
-    let one : g.turns ≡ suc n = omega arith in
     let pushed : after ≡ own ++ d ∷ [] = ap (λ (x : TagSoFar). x.own) (declared_is view held (holding after g.written) h) in
     let scope : listable_of after ≡ listable_of own ++ listable_of (d ∷ []) = ap listable_of pushed ∙ filter-append (λ e. not (is_xml e.prefix)) own (d ∷ []) in
     let grown = with_new-front namespaces (listable_of (d ∷ [])) in
     let later = grown.0 in
     let is_more : next ≡ namespaces ++ later = named ∙ ap (with_new []) scope ∙ with_new-append [] (listable_of own) (listable_of (d ∷ [])) ∙ ap (λ ds. with_new ds (listable_of (d ∷ []))) (sym names) ∙ grown.1 in
     let long : length namespaces ≤ length next = omega (arith, ap length is_more, length-append namespaces later) in
-    let passed = plain_passes [] namespaces (listable_of own) own src start old i now g in
+    let passed = plain_passes true [] namespaces (listable_of own) own src start old i now g in
     record {
       written = g.written;
       more = g.more;
@@ -265,10 +265,12 @@ plain_declared namespaces next own after src start old i j now a g onward spaces
           ∙ map_same (attribute (namespaces ++ later)) (attribute namespaces) (λ (r : AttributeRow). NamespaceWithin (length namespaces) r.0.namespace) g.more (λ r k. attribute-append namespaces later r k) g.within
           ∙ g.shown ∙ sym (still_shown (listable_of own) (listable_of (d ∷ [])) g.written passed) ∙ ap (λ ds. map (attribute_in ds) g.written) (sym scope);
       tested = λ rest. rw scope (still_tested (listable_of own) (listable_of (d ∷ [])) g.written rest passed);
-      turns = n;
+      turns = g.turns + 1;
       enough = omega arith;
-      read = λ context cut openings_left. g.read context cut openings_left ∙ ap (λ (m : ℕ). attributes_at m context cut [] src i openings_left held) one
-          ∙ turn_is src i j n a held _ context cut [] openings_left plain onward spaces some slash close (taken_declared [] view held _ is h);
+      read = λ context cut openings_left rest before none.
+          let one : g.turns + 1 + rest ≡ g.turns + suc rest = omega arith in
+          rw none (ap (λ (m : ℕ). attributes_at m context cut [] src start openings_left (holding [] [])) one ∙ g.read context cut openings_left (suc rest) [] refl
+          ∙ turn_is src i j rest a held _ context cut [] openings_left plain onward spaces some slash close (taken_declared [] view held _ is h));
     }
   where
     within_more : (s : AttributeNamespace) (n m : ℕ) → n ≤ m → NamespaceWithin n s → NamespaceWithin m s
@@ -278,34 +280,29 @@ plain_declared namespaces next own after src start old i j now a g onward spaces
 
 -- ---- the end of the tag
 
-abbrev pub IsEnd : TagItem → Bool → Type 0
+abbrev IsEnd : TagItem → Bool → Type 0
 IsEnd (more raw) empty = ⊥
 IsEnd opened empty = empty ≡ false
 IsEnd closed empty = empty ≡ true
 
-pub end_is : (src : List ℕ) (i n j : ℕ) (item : TagItem) (empty : Bool) (held : TagSoFar) (context : Values) (cut : Fault) (known : List NamespaceDecl) (openings_left : ℕ) → i < length src → tag_item_at src i ≡ Ok (item, j)
+end_is : (src : List ℕ) (i n j : ℕ) (item : TagItem) (empty : Bool) (held : TagSoFar) (context : Values) (cut : Fault) (known : List NamespaceDecl) (openings_left : ℕ) → i < length src → tag_item_at src i ≡ Ok (item, j)
     → IsEnd item empty → attributes_at (suc n) context cut known src i openings_left held ≡ Ok (record { held = held; empty = empty; openings_left = openings_left }, j)
 unfolding attributes_at
 end_is src i n j (more raw) empty held context cut known openings_left within is h = absurd h
 end_is src i n j opened empty held context cut known openings_left within is h = let k = lt-leb (length src) i within in rw (k, is, h) refl
 end_is src i n j closed empty held context cut known openings_left within is h = let k = lt-leb (length src) i within in rw (k, is, h) refl
 
--- the whole of the tag is read
-abbrev ReadsWhole : (known own : List NamespaceDecl) (written : List Attribute) (src : List ℕ) (start end : ℕ) (empty : Bool) → Type 0
-ReadsWhole known own written src start end empty = (context : Values) (cut : Fault) (openings_left : ℕ) → attributes_at (length src) context cut known src start openings_left (holding [] [])
-    ≡ Ok (record { held = holding own written; empty = empty; openings_left = openings_left }, end)
-
-plain_ends : (known namespaces scope own : List NamespaceDecl) (src : List ℕ) (start : ℕ) (old : List AttributeRow) (i j : ℕ) (now : List AttributeRow) (item : TagItem) (empty : Bool)
-    → (g : PlainSoFar known namespaces scope own src start old i now) → i < length src → tag_item_at src i ≡ Ok (item, j) → IsEnd item empty → ReadsWhole known own g.written src start j empty
-plain_ends known namespaces scope own src start old i j now item empty g within is h = λ context cut openings_left.
+plain_ends : (declares : Bool) (known namespaces scope own : List NamespaceDecl) (src : List ℕ) (start : ℕ) (old : List AttributeRow) (i j : ℕ) (now : List AttributeRow) (item : TagItem) (empty : Bool)
+    → (g : PlainSoFar declares known namespaces scope own src start old i now) → i < length src → tag_item_at src i ≡ Ok (item, j) → IsEnd item empty → ReadsUpTo declares known own g.written src start j empty
+plain_ends declares known namespaces scope own src start old i j now item empty g within is h = λ context cut openings_left turns before fits such.
     let enough = g.enough in
-    let n = g.turns - 1 in
-    let one : g.turns ≡ suc n = omega arith in
-    g.read context cut openings_left ∙ ap (λ (m : ℕ). attributes_at m context cut known src i openings_left (holding own g.written)) one
-    ∙ end_is src i n j item empty (holding own g.written) context cut known openings_left within is h
+    let rest = turns - g.turns - 1 in
+    let one : turns ≡ g.turns + suc rest = omega arith in
+    ap (λ (m : ℕ). attributes_at m context cut known src start openings_left (holding before [])) one ∙ g.read context cut openings_left (suc rest) before such
+    ∙ end_is src i rest j item empty (holding (before ++ own) g.written) context cut known openings_left within is h
 
 holds_end : (tag : TagScope) (old t : ElementTables) (src : List ℕ) (start i end : ℕ) (empty : Bool) → (g : HoldsSoFar tag old t src start i)
-    → ReadsWhole (map namespace_view old.namespaces.items.items) g.own g.so_far.written src start end empty → ArePlainAttributes tag old t src start end empty
+    → ReadsUpTo tag.declares (map namespace_view old.namespaces.items.items) g.own g.so_far.written src start end empty → ArePlainAttributes tag old t src start end empty
 holds_end tag old t src start i end empty g h = record {
   own = g.own;
   declares = g.declares;
@@ -314,7 +311,7 @@ holds_end tag old t src start i end empty g h = record {
   rows = g.so_far.rows;
   within = g.so_far.within;
   shown = g.so_far.shown;
-  tested = plain_passes (map namespace_view old.namespaces.items.items) (map namespace_view t.namespaces.items.items) (scope_in_tables t tag.scope) g.own src start (attribute_rows old.attributes) i (attribute_rows t.attributes) g.so_far;
+  tested = plain_passes tag.declares (map namespace_view old.namespaces.items.items) (map namespace_view t.namespaces.items.items) (scope_in_tables t tag.scope) g.own src start (attribute_rows old.attributes) i (attribute_rows t.attributes) g.so_far;
   read = h;
 }
 
@@ -324,14 +321,14 @@ pub opens_there : (tag : TagScope) (old t : ElementTables) (src : List ℕ) (sta
 opens_there tag old t src start i j g onward spaces here =
     let within = stands_within src j 62 here (omega arith) in
     holds_end tag old t src start i (j + 1) false g
-    (plain_ends _ _ _ g.own src start _ i (j + 1) _ opened false g.so_far (omega arith) (item_opened src i j spaces here) refl)
+    (plain_ends tag.declares _ _ _ g.own src start _ i (j + 1) _ opened false g.so_far (omega arith) (item_opened src i j spaces here) refl)
 
 closes_there : (tag : TagScope) (old t : ElementTables) (src : List ℕ) (start i j : ℕ) → HoldsSoFar tag old t src start i → i ≤ j → j ≡ spaces_end src i → slice_index src j ≡ 47 → slice_index src (j + 1) ≡ 62
     → ArePlainAttributes tag old t src start (j + 2) true
 closes_there tag old t src start i j g onward spaces here behind =
     let within = stands_within src j 47 here (omega arith) in
     holds_end tag old t src start i (j + 2) true g
-    (plain_ends _ _ _ g.own src start _ i (j + 2) _ closed true g.so_far (omega arith) (item_closed src i j spaces here behind) refl)
+    (plain_ends tag.declares _ _ _ g.own src start _ i (j + 2) _ closed true g.so_far (omega arith) (item_closed src i j spaces here behind) refl)
 
 pub ends_or_not : (tag : TagScope) (old t : ElementTables) (src : List ℕ) (start i j : ℕ) (r : Option TagEnd) → HoldsSoFar tag old t src start i → i ≤ j → j ≡ spaces_end src i
     → IfSome r (λ e. e.empty ≡ false → (slice_index src j ≡ 62) × (e.at ≡ j + 1))
@@ -404,7 +401,7 @@ begins_in true t n (h, one) =
 pub holds_start : (tag : TagScope) (t : ElementTables) (src : List ℕ) (start : ℕ) → MayBegin tag.declares t tag.scope → HoldsSoFar tag t t src start start
 holds_start tag t src start h =
     let names = map namespace_view t.namespaces.items.items in
-    record { own = []; declares = begins_in tag.declares t tag.scope h; so_far = plain_starts names names (scope_in_tables t tag.scope) src start (attribute_rows t.attributes) }
+    record { own = []; declares = begins_in tag.declares t tag.scope h; so_far = plain_starts tag.declares names names (scope_in_tables t tag.scope) src start (attribute_rows t.attributes) }
 
 scope_by : (b : Bool) (old t : ElementTables) (n : ℕ) (own : List NamespaceDecl) → DeclaresIn b old t n own → HasScope t n
 scope_by false old t n own h = scope_stays old t n h.others h.scope
@@ -432,12 +429,12 @@ holds_more tag old t new src start from i k j g is at x onward spaces some slash
     let now = attribute_rows t.attributes in
     let next = attribute_rows new.attributes in
     let added : AddsResolved names few t.present (length rows) now next x.one = subst (λ (m : ℕ). AddsResolved names few t.present m now next x.one) at x.added in
-    let made = plain_more known names scope g.own few t.present src start rows i k now next x.one g.so_far onward spaces some slash close x.plain x.other (scope_found t tag.scope) added in
+    let made = plain_more tag.declares known names scope g.own few t.present src start rows i k now next x.one g.so_far onward spaces some slash close x.plain x.other (scope_found t tag.scope) added in
     record {
       own = g.own;
       declares = declares_on tag.declares old t new tag.scope g.own is g.declares;
-      so_far = subst (λ (u : ElementTables). PlainSoFar known (map namespace_view u.namespaces.items.items) (scope_in_tables u tag.scope) g.own src start rows j next) (sym is)
-          (subst (λ (e : ℕ). PlainSoFar known names scope g.own src start rows e next) x.end made);
+      so_far = subst (λ (u : ElementTables). PlainSoFar tag.declares known (map namespace_view u.namespaces.items.items) (scope_in_tables u tag.scope) g.own src start rows j next) (sym is)
+          (subst (λ (e : ℕ). PlainSoFar tag.declares known names scope g.own src start rows e next) x.end made);
     }
 
 pub holds_declared : (tag : TagScope) (old t new : ElementTables) (src : List ℕ) (start i k j : ℕ) → tag.declares ≡ true → HoldsSoFar tag old t src start i
@@ -453,8 +450,9 @@ holds_declared tag old t new src start i k j may g is scopes l onward spaces som
     let d : DeclaresInRoot old t tag.scope g.own = subst (λ (b : Bool). DeclaresIn b old t tag.scope g.own) may g.declares in
     let nothing : known ≡ [] = ap (map namespace_view) d.known in
     let scope : scope_in_tables t tag.scope ≡ listable_of g.own = ap (scope_in_tables t) d.root ∙ scope_declares t g.own d.scope d.declares in
-    let before : PlainSoFar [] names (listable_of g.own) g.own src start rows i now =
-    subst (λ (ds : List NamespaceDecl). PlainSoFar [] names ds g.own src start rows i now) scope (subst (λ (ds : List NamespaceDecl). PlainSoFar ds names (scope_in_tables t tag.scope) g.own src start rows i now) nothing g.so_far) in
+    let so_far : PlainSoFar true known names (scope_in_tables t tag.scope) g.own src start rows i now = subst (λ (b : Bool). PlainSoFar b known names (scope_in_tables t tag.scope) g.own src start rows i now) may g.so_far in
+    let before : PlainSoFar true [] names (listable_of g.own) g.own src start rows i now =
+    subst (λ (ds : List NamespaceDecl). PlainSoFar true [] names ds g.own src start rows i now) scope (subst (λ (ds : List NamespaceDecl). PlainSoFar true ds names (scope_in_tables t tag.scope) g.own src start rows i now) nothing so_far) in
     let listed = l.listed d.keys d.has in
     let made = listed.value [] [] (holding g.own before.written) refl d.declares in
     let read = plain_declared names after g.own made.0 src start rows i k now l.one before onward spaces some slash close l.plain l.is d.declares.names_are made.2.names_are made.1 in
@@ -466,10 +464,11 @@ holds_declared tag old t new src start i k j may g is scopes l onward spaces som
     record {
       own = made.0;
       declares = subst (λ (b : Bool). DeclaresIn b old new tag.scope made.0) (sym may) declares;
-      so_far = subst (λ (ds : List NamespaceDecl). PlainSoFar ds after (scope_in_tables new tag.scope) made.0 src start rows j (attribute_rows new.attributes)) (sym nothing)
-          (subst (λ (ds : List NamespaceDecl). PlainSoFar [] after ds made.0 src start rows j (attribute_rows new.attributes)) (sym lists)
-          (subst (λ (rs : List AttributeRow). PlainSoFar [] after (listable_of made.0) made.0 src start rows j rs) (sym same)
-          (subst (λ (e : ℕ). PlainSoFar [] after (listable_of made.0) made.0 src start rows e now) l.end read)));
+      so_far = subst (λ (b : Bool). PlainSoFar b known after (scope_in_tables new tag.scope) made.0 src start rows j (attribute_rows new.attributes)) (sym may)
+          (subst (λ (ds : List NamespaceDecl). PlainSoFar true ds after (scope_in_tables new tag.scope) made.0 src start rows j (attribute_rows new.attributes)) (sym nothing)
+          (subst (λ (ds : List NamespaceDecl). PlainSoFar true [] after ds made.0 src start rows j (attribute_rows new.attributes)) (sym lists)
+          (subst (λ (rs : List AttributeRow). PlainSoFar true [] after (listable_of made.0) made.0 src start rows j rs) (sym same)
+          (subst (λ (e : ℕ). PlainSoFar true [] after (listable_of made.0) made.0 src start rows e now) l.end read))));
     }
 
 -- how many scopes there are then

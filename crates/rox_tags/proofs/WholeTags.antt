@@ -1,5 +1,5 @@
 -- Plain start tags as a whole.
-use Rattle.std.proofs.Common.{◌≡◌, ℕ, ◌+◌, ◌<◌, ◌≤◌, true, false, List, [], length, map, bytes_eq, refl, sym, ap, subst, ◌∙◌, arith, Ok}
+use Rattle.std.proofs.Common.{◌≡◌, ℕ, ◌+◌, ◌<◌, ◌≤◌, true, false, List, [], ◌++◌, length, map, bytes_eq, refl, sym, ap, subst, ◌∙◌, arith, Ok}
 use Rattle.std.specs.Borrow.{Bor}
 use Rattle.std.specs.Option.{option_map}
 use Rattle.std.specs.Str.{IsUtf8, IsCharBoundary}
@@ -10,7 +10,8 @@ use Rattle.rox_grammar.specs.declared.fault.Word.TheVariants.{Xmlns}
 use Rattle.rox_grammar.specs.Document.{most_attributes}
 use Rattle.rox_grammar.specs.FixedTexts.{word_text}
 use Rattle.rox_grammar.specs.Failures.{name_view}
-use Rattle.rox_grammar.specs.Tree.{attribute_in, element_namespace, listed}
+use Rattle.rox_grammar.specs.Counts.{with_new}
+use Rattle.rox_grammar.specs.Tree.{attribute_in, element_namespace, listable_of, listed}
 use Rattle.rox_grammar.specs.WellNamed.{may_name}
 use Rattle.rox_grammar.specs.Written.{NamespaceDecl}
 use Rattle.rox_reading.specs.Lexical.{qname_at}
@@ -25,6 +26,7 @@ use Rattle.rox_names.specs.OpenElements.{IsNamespaceOf}
 use Rattle.rox_names.specs.declared.open_element.OpenElement.{OpenElement}
 use Rattle.rox_names.specs.declared.start_tag.StartTag.{StartTag}
 use Rattle.rox_starts.specs.ElementRow.{IsElementFrom}
+use Rattle.rox_attributes.specs.PlainAttribute.{HasScope}
 use Rattle.rox_tags.specs.PlainTag.{IsPlainTag, MayOpenBelow}
 use Rattle.rox_tags.specs.TagAttributes.{ArePlainAttributes, holding}
 use Rattle.rox_tags.specs.declared.own_declaration.TagScope.{TagScope}
@@ -32,66 +34,99 @@ use Rattle.rox_starts.proofs.Moving.{tag_moves}
 use Rattle.rox_starts.proofs.Starting.{tag_made, tested_known, tested_passes}
 use Rattle.rox_tags.proofs.TagAttributes.{plain_count}
 
--- a scope in which a tag declares nothing
-abbrev pub below_parent : ℕ → TagScope
-below_parent n = record { scope = n; declares = false }
+-- a scope in which a tag declares nothing more
+abbrev pub in_scope : ℕ → TagScope
+in_scope n = record { scope = n; declares = false }
+
+-- a tag whose parent has the scope `above` declares `own` between `k` and `j`, and has the scope `n` then, which is in the tables
+pub record Begins (t : ElementTables) (above n : ℕ) (own : List NamespaceDecl) (src : List ℕ) (k j : ℕ) : Type 0 where
+  pub scope : HasScope t n
+  pub lists : scope_in_tables t n ≡ listed (scope_in_tables t above) own
+  pub pairs : with_new (map namespace_view t.namespaces.items.items) (listable_of own) ≡ map namespace_view t.namespaces.items.items
+  pub turns : ℕ
+  pub enough : length src ≤ turns + j
+  pub read : (context : Values) (cut : Fault) (openings_left : ℕ)
+      → attributes_at (length src) context cut (map namespace_view t.namespaces.items.items) src k openings_left (holding [] []) ≡ attributes_at turns context cut (map namespace_view t.namespaces.items.items) src j openings_left (holding own [])
+
+pub scope_of_parent : (t : ElementTables) (o : OpenElement) → MayOpenBelow t o → HasScope t o.scope
+scope_of_parent t o below = record { places = below.places; scopes = below.scopes; within = below.parent.0; once = below.parent.1 }
 
 -- the tag of a child of an open element, whose attributes were read
-pub plain_tagged : (old new : ElementTables) (o : OpenElement) (src : List ℕ) (i k end : ℕ) (t : StartTag) (from namespace : ℕ) → MayOpenBelow old o
-    → ArePlainAttributes (below_parent o.scope) old new src k end t.empty
+pub begun_tagged : (old new : ElementTables) (o : OpenElement) (n : ℕ) (own : List NamespaceDecl) (src : List ℕ) (i k j end : ℕ) (t : StartTag) (from namespace : ℕ) → MayOpenBelow old o
+    → Begins old o.scope n own src k j → ArePlainAttributes (in_scope n) old new src j end t.empty
     → qname_at src (i + 1) ≡ Ok (name_view t.name, k) → bytes_eq (name_view t.name).prefix (word_text Xmlns) ≡ false → t.name_start ≡ i + 1 → t.name_end ≡ k
-    → IsElementFrom new t.name.local from o.scope namespace t.element → from ≡ length (attribute_rows old.attributes) → length (attribute_rows new.attributes) ≤ most_attributes
-    → IsNamespaceOf old o.scope (name_view t.name) (numbered_place namespace) → may_name (scope_in_tables old o.scope) (name_view t.name) ≡ true → IsCharBoundary src end
+    → IsElementFrom new t.name.local from n namespace t.element → from ≡ length (attribute_rows old.attributes) → length (attribute_rows new.attributes) ≤ most_attributes
+    → IsNamespaceOf old n (name_view t.name) (numbered_place namespace) → may_name (scope_in_tables old n) (name_view t.name) ≡ true → IsCharBoundary src end
     → IsPlainTag old new (scope_in_tables old o.scope) src i end t
-plain_tagged old new o src i k end t from namespace below x is other starts name_end e from_is most named known cut =
+begun_tagged old new o n own src i k j end t from namespace below b x is other starts name_end e from_is most named known cut =
     let above = scope_in_tables old o.scope in
+    let scope = listed above own in
     let names = map namespace_view old.namespaces.items.items in
     let count = length (attribute_rows old.attributes) in
     let name = name_view t.name in
     let others = x.declares.others in
-    let same : scope_in_tables new o.scope ≡ above = ap (λ (u : ElementTables). scope_in_tables u o.scope) others in
+    let lists : scope_in_tables new n ≡ scope = ap (λ (u : ElementTables). scope_in_tables u n) others ∙ b.lists in
     let spaces : map namespace_view new.namespaces.items.items ≡ names = ap (λ (u : ElementTables). map namespace_view u.namespaces.items.items) others in
-    let none : listed above [] ≡ above = listed-none above in
-    let counted = plain_count (below_parent o.scope) old new src k end t.empty x in
+    let counted = plain_count (in_scope n) old new src j end t.empty x in
     let fits : count + length x.written ≤ most_attributes = omega arith in
-    let tested : names_tested above [] x.written ≡ Ok tt = subst (λ (ds : List NamespaceDecl). names_tested ds [] x.written ≡ Ok tt) same x.tested in
-    let fine : tag_tested (listed above []) count i name x.written ≡ Ok tt =
-    tested_passes (listed above []) count i name x.written (rw none (tested_known above count (i + 1) name x.written fits tested known)) in
+    let tested : names_tested scope [] x.written ≡ Ok tt = subst (λ (ds : List NamespaceDecl). names_tested ds [] x.written ≡ Ok tt) lists x.tested in
+    let fine : tag_tested scope count i name x.written ≡ Ok tt =
+    tested_passes scope count i name x.written (tested_known scope count (i + 1) name x.written fits tested (subst (λ (ds : List NamespaceDecl). may_name ds name ≡ true) b.lists known)) in
+    let all : own ++ x.own ≡ own = ap (λ (ds : List NamespaceDecl). own ++ ds) x.declares.none ∙ append-nil own in
     let read : (context : Values) (cut : Fault) (openings_left : ℕ) → attributes_at (length src) context cut names src k openings_left (holding [] [])
-    ≡ Ok (record { held = holding [] x.written; empty = t.empty; openings_left = openings_left }, end) =
+    ≡ Ok (record { held = holding own x.written; empty = t.empty; openings_left = openings_left }, end) =
     λ context cut openings_left. subst (λ (ds : List NamespaceDecl). attributes_at (length src) context cut names src k openings_left (holding [] [])
-    ≡ Ok (record { held = holding ds x.written; empty = t.empty; openings_left = openings_left }, end)) x.declares.none (x.read context cut openings_left) in
-    let space : option_map (λ i. (namespace_at names i).uri) (numbered_place t.element.namespace) ≡ element_namespace above name = rw e.namespace named.is in
-    let within = below.parent in
+    ≡ Ok (record { held = holding ds x.written; empty = t.empty; openings_left = openings_left }, end)) all (b.read context cut openings_left ∙ x.read context cut openings_left b.turns own b.enough tt) in
+    let space : option_map (λ i. (namespace_at names i).uri) (numbered_place t.element.namespace) ≡ element_namespace scope name =
+    subst (λ (ds : List NamespaceDecl). option_map (λ i. (namespace_at names i).uri) (numbered_place t.element.namespace) ≡ element_namespace ds name) b.lists (rw e.namespace named.is) in
     record {
-      tag = record { name = name; name_end = k; declarations = []; attributes = x.written };
-      read = λ context cut openings_left. tag_made context cut above count names src i openings_left name k end (holding [] x.written) t.empty openings_left is other (read context cut openings_left) fine;
+      tag = record { name = name; name_end = k; declarations = own; attributes = x.written };
+      read = λ context cut openings_left. tag_made context cut above count names src i openings_left name k end (holding own x.written) t.empty openings_left is other (read context cut openings_left) fine;
       tagged = record {
         name = refl;
         name_end = name_end;
-        namespaces = spaces;
+        namespaces = spaces ∙ sym b.pairs;
         few = rw (ap (λ (u : ElementTables). u.namespaces) others) below.few;
         more = [];
         lists_more = ap lists_in others ∙ sym (append-nil _);
         places = rw others below.places;
         scopes = rw others below.scopes;
         kept = rw others below.kept;
-        once = rw (e.scope, others) within.1;
+        once = rw (e.scope, others) b.scope.once;
         element = record {
-          attributes = record { more = x.more; grown = x.rows; same = x.shown ∙ ap (λ (ds : List NamespaceDecl). map (attribute_in ds) x.written) (same ∙ sym none); within = x.within };
+          attributes = record { more = x.more; grown = x.rows; same = x.shown ∙ ap (λ (ds : List NamespaceDecl). map (attribute_in ds) x.written) lists; within = x.within };
           attributes_from = e.attributes_from ∙ from_is;
           attributes_until = e.attributes_until;
           few = most;
           local = ap (λ (l : Bor (List ℕ)). l.now) e.local;
-          namespace = rw (none, spaces) space;
+          namespace = rw spaces space;
           namespace_within = rw (ap (λ (u : ElementTables). length u.namespaces.items.items) others, e.namespace) named.within;
-          scope_within = rw (ap (λ (u : ElementTables). length u.scopes.items) others, e.scope) within.0;
-          lists = ap (scope_at (lists_in new)) e.scope ∙ same ∙ sym none;
+          scope_within = rw (ap (λ (u : ElementTables). length u.scopes.items) others, e.scope) b.scope.within;
+          lists = ap (scope_at (lists_in new)) e.scope ∙ lists;
         };
       };
       starts = starts;
       cut = cut;
     }
+
+-- a tag that declares nothing has the scope of its parent
+begins_plain : (t : ElementTables) (o : OpenElement) (src : List ℕ) (k : ℕ) → MayOpenBelow t o → Begins t o.scope o.scope [] src k k
+begins_plain t o src k below = record {
+  scope = scope_of_parent t o below;
+  lists = sym (listed-none (scope_in_tables t o.scope));
+  pairs = refl;
+  turns = length src;
+  enough = omega arith;
+  read = λ context cut openings_left. refl;
+}
+
+pub plain_tagged : (old new : ElementTables) (o : OpenElement) (src : List ℕ) (i k end : ℕ) (t : StartTag) (from namespace : ℕ) → MayOpenBelow old o
+    → ArePlainAttributes (in_scope o.scope) old new src k end t.empty
+    → qname_at src (i + 1) ≡ Ok (name_view t.name, k) → bytes_eq (name_view t.name).prefix (word_text Xmlns) ≡ false → t.name_start ≡ i + 1 → t.name_end ≡ k
+    → IsElementFrom new t.name.local from o.scope namespace t.element → from ≡ length (attribute_rows old.attributes) → length (attribute_rows new.attributes) ≤ most_attributes
+    → IsNamespaceOf old o.scope (name_view t.name) (numbered_place namespace) → may_name (scope_in_tables old o.scope) (name_view t.name) ≡ true → IsCharBoundary src end
+    → IsPlainTag old new (scope_in_tables old o.scope) src i end t
+plain_tagged old new o src i k end t from namespace below = begun_tagged old new o o.scope [] src i k k end t from namespace below (begins_plain old o src k below)
 
 -- a plain tag ends behind its start
 pub plain_moves : (old new : ElementTables) (above : List NamespaceDecl) (src : List ℕ) (i j : ℕ) (t : StartTag) → IsUtf8 src

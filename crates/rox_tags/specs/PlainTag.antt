@@ -1,4 +1,4 @@
--- Start tags that the fast path reads: without declarations, and with attributes whose values refer to no declared entity.
+-- Start tags that the fast path reads: their attributes have values that refer to no declared entity.
 use Rattle.std.specs.Prelude.{◌≡◌, ℕ, ◌+◌, ◌<◌, ◌≤◌, ◌^◌, false, List, ◌++◌, Option, Ok, length, map, slice_index, IfSome}
 use Rattle.std.specs.Str.{IsCharBoundary}
 use Rattle.rox_grammar.specs.declared.fault.Fault.{Fault}

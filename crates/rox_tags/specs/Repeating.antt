@@ -1,4 +1,4 @@
--- Start tags with one declaration alone, which an earlier tag had below the same namespaces.
+-- Start tags that have one declaration, before their attributes, as an earlier tag below the same namespaces had.
 use Rattle.std.specs.Prelude.{◌≡◌, ℕ, ◌<◌, true, false, List, ◌∷◌, Ok, length, map}
 use Rattle.rox_grammar.specs.Counts.{has_pair}
 use Rattle.rox_grammar.specs.Tree.{is_declared, is_xml}
@@ -24,7 +24,7 @@ pub record IsRepeated (t : ElementTables) (above : ℕ) (d : NamespaceDecl) (n :
   pub known : has_pair (map namespace_view t.namespaces.items.items) d ≡ true
   pub absent : is_declared d.prefix (scope_in_tables t above) ≡ false
 
--- `a` is a declaration, not of `xml`, that passes the tests. The scope `n` is that of a tag that has it alone.
+-- `a` is a declaration, not of `xml`, that passes the tests. The scope `n` is that of a tag that has it and no other.
 pub record Repeats (t : ElementTables) (above : ℕ) (a : Attribute) (n : ℕ) : Type 0 where
   pub is : is_namespace_decl a.name ≡ true
   pub tested : uri_tested a ≡ Ok tt

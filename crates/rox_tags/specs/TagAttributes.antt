@@ -8,6 +8,7 @@ use Rattle.rox_grammar.specs.declared.fault.Word.TheVariants.{Xmlns}
 use Rattle.rox_grammar.specs.Document.{most_attributes}
 use Rattle.rox_grammar.specs.Failures.{name_view}
 use Rattle.rox_grammar.specs.FixedTexts.{word_text}
+use Rattle.rox_grammar.specs.Names.{spaces_end}
 use Rattle.rox_grammar.specs.Tree.{attribute_in}
 use Rattle.rox_grammar.specs.Written.{Attribute, NamespaceDecl, is_namespace_decl}
 use Rattle.rox_reading.specs.Tags.{TagSoFar, Values, attributes_at, names_tested}
@@ -25,7 +26,6 @@ use Rattle.rox_seen.specs.declared.seen_names.SeenNames.{SeenNames}
 use Rattle.rox_names.specs.declared.unresolved_attribute.UnresolvedAttribute.{UnresolvedAttribute}
 use Rattle.rox_verbatim.specs.PlainNames.{IsAttributeName}
 use Rattle.rox_attributes.specs.PlainAttribute.{HasScope, IsPlainAttribute}
-use Rattle.rox_starts.specs.NearAttribute.{IsNearAttribute}
 use Rattle.rox_tags.specs.PlainParts.{EndsTag}
 use Rattle.rox_verbatim.specs.declared.quick_name.NameAt.{NameAt}
 use Rattle.rox_tags.specs.declared.quick_tag.TagEnd.{TagEnd}
@@ -43,16 +43,17 @@ pub record IsPlainDeclaration (src : List ℕ) (i : ℕ) (a : UnresolvedAttribut
   pub plain : IsPlainAttribute src i a
   pub is : is_namespace_decl (name_view a.name) ≡ true
 
--- The declaration `a` was read after the white space at `i`.
-pub record IsNearDeclaration (src : List ℕ) (i : ℕ) (a : UnresolvedAttribute) : Type 0 where
-  pub near : IsNearAttribute src i a
-  pub within : i + 1 < length src
-  pub is : is_namespace_decl (name_view a.name) ≡ true
-
 -- `xmlns` is at `i`, and a byte follows it.
 pub record HasXmlns (src : List ℕ) (i : ℕ) : Type 0 where
   pub here : slice_range src i (i + 5) ≡ word_text Xmlns
   pub behind : i + 5 < length src
+
+-- The declaration `a` was read after the white space at `i`.
+pub record IsNearDeclaration (src : List ℕ) (i : ℕ) (a : UnresolvedAttribute) : Type 0 where
+  pub spaces : a.start ≡ spaces_end src i
+  pub onward : i < a.start
+  pub has : HasXmlns src a.start
+  pub read : IsPlainDeclaration src a.start a
 
 -- If the result is true, `xmlns` is at `i`, and the tag may declare namespaces.
 pub record MayDeclareHere (src : List ℕ) (i : ℕ) (tag : TagScope) (result : Bool) : Type 0 where
@@ -115,21 +116,26 @@ pub record DeclaresOwn (old new : ElementTables) (s after : SeenNames) (src : Li
 abbrev pub holding : List NamespaceDecl → List Attribute → TagSoFar
 holding own written = record { own = own; attributes = written }
 
+-- What a tag may declare before what is read of it: anything if it declares nothing after that, otherwise nothing.
+abbrev pub MayFollow : Bool → List NamespaceDecl → Type 0
+MayFollow false before = Unit {0}
+MayFollow true before = before ≡ []
+
 -- The attributes and declarations of a tag from `start` up to `i` were read, each of them plain. They declare `own`, and the
 -- attributes are in the table, which had the rows `old` before, with their namespaces in `scope`. Before the tag, the namespaces
--- were `known`.
-pub record PlainSoFar (known namespaces scope own : List NamespaceDecl) (src : List ℕ) (start : ℕ) (old : List AttributeRow) (i : ℕ) (now : List AttributeRow) : Type 0 where
+-- were `known`. The tag may declare something before `start` if `declares` is false.
+pub record PlainSoFar (declares : Bool) (known namespaces scope own : List NamespaceDecl) (src : List ℕ) (start : ℕ) (old : List AttributeRow) (i : ℕ) (now : List AttributeRow) : Type 0 where
   pub written : List Attribute
   pub more : List AttributeRow
   pub rows : now ≡ old ++ more
   pub within : AllByRecursion (λ a. NamespaceWithin (length namespaces) a.0.namespace) more
   pub shown : map (attribute namespaces) more ≡ map (attribute_in scope) written
   pub tested : (rest : List Attribute) → names_tested scope [] (written ++ rest) ≡ names_tested scope written rest
-  -- At least `turns` turns are left for what follows.
+  -- They took `turns` turns.
   pub turns : ℕ
-  pub enough : length src ≤ turns + i
-  pub read : (context : Values) (cut : Fault) (openings_left : ℕ)
-      → attributes_at (length src) context cut known src start openings_left (holding [] []) ≡ attributes_at turns context cut known src i openings_left (holding own written)
+  pub enough : turns + start ≤ i
+  pub read : (context : Values) (cut : Fault) (openings_left rest : ℕ) (before : List NamespaceDecl) → MayFollow declares before
+      → attributes_at (turns + rest) context cut known src start openings_left (holding before []) ≡ attributes_at rest context cut known src i openings_left (holding (before ++ own) written)
 
 -- A tag declares nothing in its scope `n`. The tables `now` are `old` with other attributes.
 pub record DeclaresNothing (old now : ElementTables) (n : ℕ) (own : List NamespaceDecl) : Type 0 where
@@ -155,7 +161,14 @@ DeclaresIn true old now n own = DeclaresInRoot old now n own
 pub record HoldsSoFar (tag : TagScope) (old now : ElementTables) (src : List ℕ) (start i : ℕ) : Type 0 where
   pub own : List NamespaceDecl
   pub declares : DeclaresIn tag.declares old now tag.scope own
-  pub so_far : PlainSoFar (map namespace_view old.namespaces.items.items) (map namespace_view now.namespaces.items.items) (scope_in_tables now tag.scope) own src start (attribute_rows old.attributes) i (attribute_rows now.attributes)
+  pub so_far : PlainSoFar tag.declares (map namespace_view old.namespaces.items.items) (map namespace_view now.namespaces.items.items) (scope_in_tables now tag.scope) own src start (attribute_rows old.attributes) i (attribute_rows now.attributes)
+
+-- A tag has the attributes `written` from `start` up to its end at `end`, where it declares `own`, whatever the context. The turns
+-- that are left at `start` are enough, and the tag may declare something before if `declares` is false.
+abbrev pub ReadsUpTo : (declares : Bool) (known own : List NamespaceDecl) (written : List Attribute) (src : List ℕ) (start end : ℕ) (empty : Bool) → Type 0
+ReadsUpTo declares known own written src start end empty = (context : Values) (cut : Fault) (openings_left turns : ℕ) (before : List NamespaceDecl) → length src ≤ turns + start → MayFollow declares before
+    → attributes_at turns context cut known src start openings_left (holding before [])
+    ≡ Ok (record { held = holding (before ++ own) written; empty = empty; openings_left = openings_left }, end)
 
 -- The attributes and declarations of a tag were read, up to its end at `end`, into the tables `now`.
 pub record ArePlainAttributes (tag : TagScope) (old now : ElementTables) (src : List ℕ) (start end : ℕ) (empty : Bool) : Type 0 where
@@ -167,9 +180,7 @@ pub record ArePlainAttributes (tag : TagScope) (old now : ElementTables) (src : 
   pub within : AllByRecursion (λ a. NamespaceWithin (length (map namespace_view now.namespaces.items.items)) a.0.namespace) more
   pub shown : map (attribute (map namespace_view now.namespaces.items.items)) more ≡ map (attribute_in (scope_in_tables now tag.scope)) written
   pub tested : names_tested (scope_in_tables now tag.scope) [] written ≡ Ok tt
-  pub read : (context : Values) (cut : Fault) (openings_left : ℕ)
-      → attributes_at (length src) context cut (map namespace_view old.namespaces.items.items) src start openings_left (holding [] [])
-      ≡ Ok (record { held = holding own written; empty = empty; openings_left = openings_left }, end)
+  pub read : ReadsUpTo tag.declares (map namespace_view old.namespaces.items.items) own written src start end empty
 
 -- What is required of the tables before the attributes of a tag are read.
 abbrev pub MayBegin : Bool → ElementTables → ℕ → Type 0

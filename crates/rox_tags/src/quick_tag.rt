@@ -23,7 +23,6 @@ use rox_rows::row::namespace_number;
 use rox_scopes::scope::few_places;
 use rox_seen::seen_names::SeenNames;
 use rox_starts::tag::{MOST_ATTRIBUTES, element_of};
-use rox_starts::verbatim_attribute::byte_count;
 use rox_verbatim::quick_name::{NameAt, NamePlace, ascii_name, name_of_part, name_of_prefix};
 use rox_verbatim::quick_space::one_space_end;
 
@@ -96,7 +95,7 @@ fn tag_end(text: &str, at: usize) -> Option<TagEnd>
 
 /// Returns the end of a start tag, if it is at `at` and the document has no more attributes than it may have.
 #[inline(always)]
-pub(crate) fn attributes_end(text: &str, at: usize, elements: &ElementTables<'_>) -> Option<TagEnd>
+fn attributes_end(text: &str, at: usize, elements: &ElementTables<'_>) -> Option<TagEnd>
     ensures { EndsAttributes text.now at elements.now result }
 {
     if elements.attributes.len() > MOST_ATTRIBUTES {
@@ -138,7 +137,7 @@ pub fn tag_attributes<'input>(
 /// Like `tag_attributes`, but first tests whether white space follows the name. Many tags have no attributes, and then no white
 /// space follows.
 #[inline(always)]
-fn tag_attributes_if_any<'input>(
+pub(crate) fn tag_attributes_if_any<'input>(
     text: &'input str,
     start: usize,
     elements: &mut ElementTables<'input>,
@@ -320,7 +319,6 @@ pub fn start_tag_in_scope<'input>(
     ensures { ReadsTag elements.old elements.new parent.entry.now text.entry.now place.start
         result }
 {
-    let small = byte_count(text);
     let name_start = after_byte(text, place.start, b'<');
     let name = name_of_part(text, name_start, place.part)?;
     if same_text(name.name.prefix, "xmlns") {

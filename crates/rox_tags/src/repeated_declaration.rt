@@ -1,20 +1,19 @@
-//! Start tags, below the root element, that have one declaration and no attributes, by the quick reader. They are read if one of
-//! the last scopes lists just that declaration and what the parent lists: elements that are siblings often declare the same. No
-//! table changes then.
+//! Start tags, below the root element, that have one declaration, before their attributes, by the quick reader. They are read if one
+//! of the last scopes lists just that declaration and what the parent lists: elements that are siblings often declare the same.
+//! Only the table of attributes changes then.
 
 ghost use Rattle.std.specs.Prelude.{◌≡◌, IfSome, length, true};
 ghost use Rattle.rox_grammar.specs.Failures.{name_view};
 ghost use Rattle.rox_grammar.specs.Written.{is_namespace_decl};
 ghost use Rattle.rox_scopes.specs.Scopes.{ArePlaces, pair, prefix_view};
-ghost use Rattle.rox_names.specs.TagScopes.{scope_in_tables};
 ghost use Rattle.rox_names.specs.TagDeclarations.{unresolved_view};
 ghost use Rattle.rox_tags.specs.PlainParts.{MayReadPlainTag};
 ghost use Rattle.rox_attributes.specs.PlainAttribute.{HasScope};
-ghost use Rattle.rox_tags.specs.PlainTag.{IsPlainTag};
+ghost use Rattle.rox_tags.specs.PlainTag.{ReadsTag};
 ghost use Rattle.rox_tags.specs.Repeating.{AreOneMore, IsRepeated, Repeats};
 
-use crate::own_declaration::declaration_after;
-use crate::quick_tag::{PlainTag, attributes_end, namespace_in_scope};
+use crate::own_declaration::{TagScope, declaration_after};
+use crate::quick_tag::{PlainTag, namespace_in_scope, tag_attributes_if_any};
 use rox_bytes::runs::after_byte;
 use rox_compare::compare::same_text;
 use rox_names::open_element::OpenElement;
@@ -23,8 +22,8 @@ use rox_names::tables::ElementTables;
 use rox_names::unresolved_attribute::UnresolvedAttribute;
 use rox_scopes::namespace::Namespace;
 use rox_scopes::scope::{few_places, is_declared, is_xml, same_prefix};
+use rox_seen::seen_names::SeenNames;
 use rox_starts::tag::element_of;
-use rox_starts::verbatim_attribute::byte_count;
 use rox_verbatim::quick_name::{NamePlace, name_of_part};
 
 /// The number of scopes that are tried, from the last one on.
@@ -83,7 +82,7 @@ fn repeated_scope(
     None
 }
 
-/// Returns the scope of a tag that has the declaration `one` alone, if it is in order and one of the last scopes is that of
+/// Returns the scope of a tag that has the declaration `one` and no other, if it is in order and one of the last scopes is that of
 /// another such tag.
 #[inline(always)]
 fn scope_repeating<'input>(
@@ -105,30 +104,35 @@ fn scope_repeating<'input>(
     repeated_scope(elements, above, prefix, one.value.as_str())
 }
 
-/// Reads the start tag at `place`, a child of `parent`, if it has one declaration alone, which another tag had below the same
-/// namespaces.
+/// Reads the start tag at `place`, a child of `parent`, if it has one declaration, before its attributes, as an earlier tag below
+/// the same namespaces had. The attributes are read in the scope of that tag. If `None` is returned, the table may have some of
+/// them.
 #[inline(always)]
 pub fn start_tag_repeating<'input>(
     text: &'input str,
     place: NamePlace,
-    elements: &ElementTables<'input>,
+    elements: &mut ElementTables<'input>,
     parent: &OpenElement<'input>,
+    seen: &mut SeenNames,
 ) -> Option<PlainTag<'input>>
-    requires { MayReadPlainTag text.now place elements.now parent.now }
-    ensures { IfSome result (λ t. IsPlainTag elements.entry.now elements.entry.now
-        (scope_in_tables elements.entry.now parent.entry.now.scope) text.entry.now place.start t.end t.tag) }
+    requires { MayReadPlainTag text.now place elements.old parent.now }
+    ensures { ReadsTag elements.old elements.new parent.entry.now text.entry.now place.start
+        result }
 {
-    let small = byte_count(text);
     let name_start = after_byte(text, place.start, b'<');
     let name = name_of_part(text, name_start, place.part)?;
     if same_text(name.name.prefix, "xmlns") {
         return None;
     }
     let one = declaration_after(text, name.end)?;
-    let close = attributes_end(text, one.end, elements)?;
     let scope = scope_repeating(elements, parent.scope, &one)?;
     let namespace = namespace_in_scope(elements, name.name, name_start, scope)?;
     let from = elements.attributes.len();
+    let within = TagScope {
+        scope,
+        declares: false,
+    };
+    let close = tag_attributes_if_any(text, one.end, elements, within, seen)?;
     let element = element_of(elements, name.name.local, from, scope, namespace);
     let tag = StartTag {
         name: name.name,

@@ -13,7 +13,7 @@ use Rattle.rox_tags.specs.TagAttributes.{ArePlainAttributes}
 use Rattle.rox_bytes.proofs.RunLemmas.{stands_within}
 use Rattle.rox_verbatim.proofs.Verbatim.{no_space}
 use Rattle.rox_tags.proofs.TagAttributes.{holds_start, opens_there}
-use Rattle.rox_tags.proofs.WholeTags.{below_parent, plain_tagged}
+use Rattle.rox_tags.proofs.WholeTags.{in_scope, plain_tagged}
 use Rattle.rox_names.proofs.SpelledNames.{unprefixed_name}
 use Rattle.rox_tags.proofs.quick_tag.start_tag_of_name.Goals as goal
 
@@ -33,7 +33,7 @@ returns c =
     let here : slice_index src n ≡ 62 = c.requires.closed in
     let cut = part_cut src (i + 1) n c.utf8.text (rw (← start) c.after_byte-name_at.ensures.cut) c.requires.near.ends.onward c.requires.near.ends.within c.requires.near.ends.passes in
     let spaces = no_space src n c.utf8.text cut (stands_within src n 62 here (omega arith)) (omega (arith, here)) in
-    let tag = below_parent o.scope in
+    let tag = in_scope o.scope in
     let parent = c.requires.below.parent in
     let begins : HasScope t o.scope = record { places = c.requires.below.places; scopes = c.requires.below.scopes; within = parent.0; once = parent.1 } in
     let x : ArePlainAttributes tag t t src n j false =
