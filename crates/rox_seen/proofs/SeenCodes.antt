@@ -1,7 +1,7 @@
 -- Which codes of names were seen.
 use Rattle.std.proofs.Common.{◌≡◌, ℕ, ◌+◌, ◌<◌, ◌≤◌, ◌∷◌, ◌++◌, [], List, Bool, true, false, length, length-append, map, set, get_or, drop, bytes_eq, ◌*◌, ◌/◌, ◌%◌, ◌^◌, eqb, refl, sym, ap, ◌∙◌, subst, inl, inr, arith}
 use Rattle.std.specs.List.{AllByRecursion, list_any}
-use Rattle.std.proofs.lemmas.Bool.{cases_eq, and_right}
+use Rattle.std.proofs.lemmas.Bool.{cases_eq, eqb-true, and_right}
 use Rattle.std.specs.Int.{bit_at, w64}
 use Rattle.std.specs.Int.Bits.{bit_and, bit_or}
 use Rattle.std.proofs.lemmas.Nat.Bits.{shr_and_one, bit_at_set_same, bit_at_set_other}
@@ -28,6 +28,15 @@ not_there codes code clear has =
     let set : bit_and (get_or codes (code / 64) 0 / 2 ^ (code % 64)) 1 ≡ 1 = shr_and_one (get_or codes (code / 64) 0) (code % 64) ∙ has in
     cc (clear, ap (λ b. eqb b 1) set)
 
+-- a code whose bit is set is there
+pub is_there : (codes : List ℕ) (code : ℕ) → eqb (bit_and (get_or codes (code / 64) 0 / 2 ^ (code % 64)) 1) 1 ≡ true → HasCode codes code
+unfolding HasCode
+is_there codes code set = sym (shr_and_one (get_or codes (code / 64) 0) (code % 64)) ∙ eqb-true _ _ set
+
+-- two changes of the codes alone
+pub codes_alone : (a b c : SeenNames) → b ≡ record a { codes = b.codes } → c ≡ record b { codes = c.codes } → c ≡ record a { codes = c.codes }
+codes_alone a b c first second = second ∙ ap (λ (s : SeenNames). record s { codes = c.codes }) first
+
 module _ (codes : List ℕ) (code : ℕ) where
   abbrev word : ℕ
   word = get_or codes (code / 64) 0
@@ -41,16 +50,25 @@ module _ (codes : List ℕ) (code : ℕ) where
   unfolding HasCode
   put_there within = ap (λ w. bit_at w (code % 64)) (get_or-set_same codes (code / 64) _ 0 within) ∙ bit_at_set_same w64 word (code % 64) (omega arith)
 
-  -- and those that were there stay
+  -- the bit of another stays
+  bit_stays : code / 64 < length codes → (other : ℕ) → (other ≡ code → ⊥) → bit_at (get_or more (other / 64) 0) (other % 64) ≡ bit_at (get_or codes (other / 64) 0) (other % 64)
+  bit_stays within other apart = elim (cases_eq (other / 64) (code / 64)) [
+    | inl same ↦ ap (λ n. bit_at (get_or more n 0) (other % 64)) same ∙ ap (λ w. bit_at w (other % 64)) (get_or-set_same codes (code / 64) _ 0 within) ∙ bit_at_set_other w64 word (code % 64) (omega arith) (other % 64) (λ bit. apart (omega (arith, same, bit))) ∙ ap (λ n. bit_at (get_or codes n 0) (other % 64)) (sym same)
+    | inr differ ↦ ap (λ w. bit_at w (other % 64)) (get_or-set_other codes (code / 64) (other / 64) _ 0 differ)
+  ]
+
+  -- those that were there stay
   pub stays_there : code / 64 < length codes → (other : ℕ) → HasCode codes other → HasCode more other
   unfolding HasCode
-  stays_there within other has = elim (cases_eq (other / 64) (code / 64)) [
-    | inl same ↦ elim (cases_eq (other % 64) (code % 64)) [
-      | inl bit ↦ ap (λ n. bit_at (get_or more n 0) (other % 64)) same ∙ ap (bit_at (get_or more (code / 64) 0)) bit ∙ put_there within
-      | inr differ ↦ ap (λ n. bit_at (get_or more n 0) (other % 64)) same ∙ ap (λ w. bit_at w (other % 64)) (get_or-set_same codes (code / 64) _ 0 within) ∙ bit_at_set_other w64 word (code % 64) (omega arith) (other % 64) differ ∙ ap (λ n. bit_at (get_or codes n 0) (other % 64)) (sym same) ∙ has
-    ]
-    | inr apart ↦ ap (λ w. bit_at w (other % 64)) (get_or-set_other codes (code / 64) (other / 64) _ 0 apart) ∙ has
+  stays_there within other has = elim (cases_eq other code) [
+    | inl same ↦ subst (HasCode more) (sym same) (put_there within)
+    | inr apart ↦ bit_stays within other apart ∙ has
   ]
+
+  -- and no others are there
+  pub only_there : code / 64 < length codes → (other : ℕ) → HasCode more other → (other ≡ code → ⊥) → HasCode codes other
+  unfolding HasCode
+  only_there within other has apart = sym (bit_stays within other apart) ∙ has
 
 -- ---- attributes whose names were seen
 

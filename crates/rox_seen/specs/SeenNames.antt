@@ -46,15 +46,20 @@ pub record IsNameCode (local : List ℕ) (code : ℕ) : Type 0 where
   pub is : code ≡ name_code local
   pub within : code < 1024
 
+-- If more codes repeat, a tag is left to the general step.
+abbrev pub most_again : ℕ
+most_again = 32
+
 -- The codes stay, and so does the tag.
 pub record KeepsCodes (old new : SeenNames) : Type 0 where
   pub codes : new.codes ≡ old.codes
   pub from : new.from ≡ old.from
 
--- The codes of all attributes of the tag, which are the last of these rows, are recorded.
+-- The codes of all attributes of the tag, which are the last of these rows, are recorded. Nothing but codes changes.
 pub record SeesAll (old new : SeenNames) (rows : List AttributeRow) : Type 0 where
   pub coded : HaveCodes new rows
   pub from : new.from ≡ old.from
+  pub others : new ≡ record old { codes = new.codes }
 
 -- The name `local` of the tag is recorded, and the codes before stay.
 pub record SeesName (old new : SeenNames) (local : List ℕ) : Type 0 where
@@ -62,10 +67,13 @@ pub record SeesName (old new : SeenNames) (local : List ℕ) : Type 0 where
   pub kept : (code : ℕ) → HasCode old.codes code → HasCode new.codes code
   pub put : HasCode new.codes (name_code local)
 
--- The name `local` is recorded. If the result is false, its code was not recorded before.
+-- The name `local` is recorded, and nothing else changes. The result is whether its code was recorded before.
 pub record PutsCode (old new : SeenNames) (local : List ℕ) (result : Bool) : Type 0 where
   pub fresh : result ≡ false → HasCode old.codes (name_code local) → ⊥
+  pub again : result ≡ true → HasCode old.codes (name_code local)
   pub sees : SeesName old new local
+  pub only : (code : ℕ) → HasCode new.codes code → (code ≡ name_code local → ⊥) → HasCode old.codes code
+  pub others : new ≡ record old { codes = new.codes }
 
 -- The attributes of the tag are the last of these rows, at most four.
 pub record AreFirst (seen : SeenNames) (rows : List AttributeRow) : Type 0 where
@@ -73,11 +81,12 @@ pub record AreFirst (seen : SeenNames) (rows : List AttributeRow) : Type 0 where
   pub few : length rows ≤ seen.from + 4
 
 -- The result is false only if no attribute of the tag has the local name `local`. If a row of that name is appended, `AreSeen`
--- holds again.
+-- holds again. Nothing but codes changes.
 pub record TellsSeen (old new : SeenNames) (rows : List AttributeRow) (local : List ℕ) (result : Bool) : Type 0 where
   pub first : result ≡ false → (namespaces : List NamespaceDecl) (s : AttributeNamespace) → list_any (λ r. has_expanded namespaces s local r.0) (drop old.from rows) ≡ false
   pub seen : (row : AttributeRow) → row.0.local.now ≡ local → AreSeen new (rows ++ row ∷ [])
   pub from : new.from ≡ old.from
+  pub others : new ≡ record old { codes = new.codes }
 
 -- The attributes of the tag are recorded as in `AreSeen`, and the namespace of each is one of `namespaces`.
 pub record HoldsSeen (namespaces : ℕ) (seen : SeenNames) (rows : List AttributeRow) : Type 0 where

@@ -1,12 +1,12 @@
 //! A filter for the local names of a tag's attributes: it spares most of them a comparison with those before.
 
-ghost use Rattle.std.specs.Prelude.{◌≡◌, ◌+◌, ◌<◌, ◌≤◌, length, ◌++◌, ◌∷◌, [], List, bytes_eq, false, drop};
+ghost use Rattle.std.specs.Prelude.{◌≡◌, ◌+◌, ◌-◌, ◌^◌, ◌<◌, ◌≤◌, min, nat_lt, length, ◌++◌, ◌∷◌, [], List, replicate, None, bytes_eq, false, drop};
 ghost use Rattle.std.specs.List.{list_any};
 ghost use Rattle.rox_grammar.specs.Written.{NamespaceDecl};
 ghost use Rattle.rox_rows.specs.Rows.{AttributeRow, attribute_rows};
 ghost use Rattle.rox_seen.specs.SeenNames.{has_expanded};
 ghost use Rattle.rox_rows.specs.declared.row.AttributeNamespace.{AttributeNamespace};
-ghost use Rattle.rox_seen.specs.SeenNames.{name_sum, AreFirst, AreSeen, IsNameCode, KeepsCodes, PutsCode, SeesAll, TellsSeen};
+ghost use Rattle.rox_seen.specs.SeenNames.{most_again, name_sum, AreFirst, AreSeen, IsNameCode, PutsCode, SeesAll, TellsSeen};
 
 use crate::recent_texts::Recent;
 use rox_compare::compare::{WORD, word_at};
@@ -89,7 +89,16 @@ impl SeenNames {
     /// Returns the filter for a tag whose attributes begin at the row `from` of the table, without codes.
     #[inline(always)]
     pub fn new(from: usize) -> SeenNames
-        ensures { result.from ≡ from }
+        ensures from { result.from ≡ from }
+        ensures others { result
+            ≡ record {
+              from = result.from;
+              codes = replicate 16 0;
+              again = 0;
+              near = 0;
+              values = None;
+              lacking = false;
+            } }
     {
         SeenNames {
             from,
@@ -104,7 +113,8 @@ impl SeenNames {
     /// Begins a tag whose attributes begin at the row `from` of the table. The codes stay, as most tags need none.
     #[inline(always)]
     pub fn begin(&mut self, from: usize)
-        ensures { self.new.from ≡ from }
+        ensures from { self.new.from ≡ from }
+        ensures others { self.new ≡ record self.old { from = self.new.from; again = 0 } }
     {
         self.from = from;
         self.again = 0;
@@ -189,14 +199,16 @@ impl SeenNames {
     /// Counts a name whose code was recorded.
     #[inline(always)]
     pub fn count_again(&mut self)
-        ensures { KeepsCodes self.old self.new }
+        ensures { self.new ≡ record self.old { again = min (self.old.again + 1) (2 ^ 64 - 1) } }
     {
         self.again = self.again.saturating_add(1);
     }
 
     /// Returns whether so many codes repeat that a set is faster.
     #[inline(always)]
-    pub fn are_many_again(&self) -> bool {
+    pub fn are_many_again(&self) -> bool
+        ensures { result ≡ nat_lt most_again self.now.again }
+    {
         self.again > MOST_AGAIN
     }
 }

@@ -11,6 +11,7 @@ returns-else-count-eq-WITHOUT_CODES c =
     let new = c.put-3.new.self in
     record {
       from = search rules;
+      others = search rules;
       coded = three_seen new c.args.attributes.now c.index.result.now c.index-2.result.now c.index-3.result.now
           (let n = length_rows c.args.attributes.now in grind (arith, n)) (search rules) (search rules) (search rules)
           (third.kept _ (second.kept _ first.put)) (third.kept _ second.put) third.put;
@@ -25,6 +26,7 @@ returns-then-count-eq-WITHOUT_CODES c =
     let new = c.put-then-count-eq-WITHOUT_CODES.new.self in
     record {
       from = search rules;
+      others = search rules;
       coded = four_seen new c.args.attributes.now c.index.result.now c.index-2.result.now c.index-3.result.now c.index-then-count-eq-WITHOUT_CODES.result.now
           (grind arith) (search rules) (search rules) (search rules) (search rules)
           (fourth.kept _ (third.kept _ (second.kept _ first.put))) (fourth.kept _ (third.kept _ second.put)) (fourth.kept _ third.put) fourth.put;
