@@ -1,8 +1,8 @@
 -- What a first look at plain bytes tells of a text.
-use Rattle.std.proofs.Common.{◌≡◌, ℕ, zero, suc, ◌+◌, ◌-◌, ◌<◌, ◌≤◌, ◌==◌, ◌||◌, Bool, true, false, not, List, Ok, length, get_or, take, drop, slice_range, refl, sym, ap, subst, ◌∙◌, arith, inl, inr, get_or-drop, length-drop}
+use Rattle.std.proofs.Common.{◌≡◌, ℕ, zero, suc, ◌+◌, ◌-◌, ◌<◌, ◌≤◌, ◌==◌, ◌||◌, Bool, true, false, not, List, Ok, length, get_or, take, drop, slice_index, slice_range, refl, sym, ap, subst, ◌∙◌, arith, inl, inr, get_or-drop, length-drop}
 use Rattle.std.specs.List.{list_any, list_all}
 use Rattle.std.specs.Str.{IsUtf8, IsCharBoundary}
-use Rattle.std.proofs.lemmas.Bool.{and_parts, cases_eq, cases_lt, eqb-true, le-ltb, lt-leb}
+use Rattle.std.proofs.lemmas.Bool.{and_parts, cases_eq, cases_lt, eq-eqb, eqb-true, le-ltb, lt-leb}
 use Rattle.std.proofs.lemmas.Bool.Decides.{nat_tests}
 use Rattle.std.proofs.lemmas.List.{length-take, get_or-take, drop_more, drop_all, get_or_past}
 use Rattle.std.proofs.lemmas.List.Sums.{position_or_len_is}
@@ -12,13 +12,18 @@ use Rattle.rox_grammar.specs.Content.{is_verbatim_value}
 use Rattle.rox_grammar.specs.Runs.{run_end, begins}
 use Rattle.rox_grammar.specs.Search.{byte_from}
 use Rattle.rox_grammar.proofs.AtPlace.{run_at_end, space_ascii}
-use Rattle.rox_reading.specs.Lexical.{chars_up_to}
+use Rattle.rox_reading.specs.Lexical.{byte_at, chars_up_to}
 use Rattle.rox_reading.specs.Markup.{raw_value_at}
 use Rattle.rox_reading.specs.Values.{is_special}
 use Rattle.rox_bytes.specs.ByteSets.{is_char_byte, AllPass, is_value_byte, is_any_value_byte, is_quoted_byte, is_text_byte, is_comment_byte, is_ascii_comment_byte, is_part_byte, is_run_byte, is_stretch_byte}
-use Rattle.rox_bytes.proofs.RunLemmas.{begins_ascii, run_on_ascii, run_stops_ascii, space_on, space_stops}
+use Rattle.rox_bytes.proofs.RunLemmas.{begins_ascii, run_on_ascii, run_stops_ascii, space_on, space_stops, stands_within}
 use Rattle.rox_bytes.proofs.PlainLemmas.{plain_run}
 use Rattle.rox_bytes.proofs.EasedLemmas.{cut_before}
+
+-- a byte but 0 that is there is read
+pub byte_is : (src : List ℕ) (i b : ℕ) → slice_index src i ≡ b → 0 < b → byte_at b src i ≡ Ok (tt, i + 1)
+unfolding byte_at
+byte_is src i b is some = rw (lt-leb (length src) i (stands_within src i b is some), eq-eqb (slice_index src i) b is) refl
 
 pub value_is_plain : (b : ℕ) → is_value_byte b ≡ true → is_char_byte b ≡ true
 unfolding is_value_byte
@@ -229,15 +234,9 @@ run_changes : (b : ℕ) → is_run_byte b ≡ false → (b == 38 || b == 13) ≡
 unfolding is_run_byte
 run_changes b h = grind (arith, nat_tests)
 
-change_ascii : (b : ℕ) → (b == 38 || b == 13) ≡ true → b < 128
-change_ascii b h = grind (arith, nat_tests)
-
 -- the same of a run
 pub part_ends : (src : List ℕ) (i e : ℕ) → i ≤ e → e ≤ length src → AllPass is_run_byte src i e → (e < length src → is_run_byte (get_or src e 0) ≡ false) → byte_from (λ c. c == 38 || c == 13) src i ≡ e
 part_ends src i e le within all stops = near_found is_run_byte (λ c. c == 38 || c == 13) src i e le within all run_plain (λ more. run_changes _ (stops more))
-
-pub part_ends_cut : (src : List ℕ) (e : ℕ) → e ≤ length src → (e < length src → is_run_byte (get_or src e 0) ≡ false) → IsCharBoundary src e
-part_ends_cut src e within stops = (within, λ more wide. let ascii : get_or src e 0 < 128 = change_ascii (get_or src e 0) (run_changes (get_or src e 0) (stops more)) in absurd (omega (arith, ascii, wide)))
 
 -- a value ends at the quote that stands behind its plain bytes
 near_value : (src : List ℕ) (i e quote : ℕ) → (quote == 39 || quote == 34) ≡ true → i ≤ e → e < length src → get_or src e 0 ≡ quote → AllPass is_value_byte src i e → byte_from (λ c. c == quote || c == 60) src i ≡ e

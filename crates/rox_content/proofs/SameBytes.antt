@@ -1,13 +1,11 @@
 -- Two stretches of bytes that begin alike.
-use Rattle.std.proofs.Common.{◌≡◌, ℕ, ◌<◌, ◌^◌, ◌%◌, Bool, true, false, not, eqb, cond, List, map, length, get_or, sym, ap, subst, ◌∙◌, arith, inl, inr, w8}
-use Rattle.std.specs.Prelude.{bytes_eq}
+use Rattle.std.proofs.Common.{◌≡◌, ℕ, ◌<◌, ◌^◌, ◌%◌, Bool, false, not, eqb, cond, List, map, length, get_or, sym, ap, subst, ◌∙◌, arith, inl, inr, w8}
 use Rattle.std.specs.List.{prefix_len}
 use Rattle.std.specs.Simd.Lanes.{mask_l, top, zip2}
 use Rattle.std.proofs.lemmas.Bool.{cases_eq, eqb-true, not-false, not-true}
 use Rattle.std.proofs.lemmas.List.{map-id}
 use Rattle.std.proofs.lemmas.List.Sums.{prefix_len_passes}
 use Rattle.std.proofs.lemmas.Simd.{length-zip2, get_or-zip2, tops_compared, mask_l-mod, leading_from_mask_l, trailing_mask_l}
-use Rattle.std.proofs.lemmas.Slice.Eq.{bytes_eq-Decides}
 use lib.Count.{count_trailing_zeros}
 
 -- lanes that differ
@@ -42,6 +40,3 @@ agree_before us vs m k one other is few below =
     let at : m ≡ mask_l ms = is ∙ ap (λ ms. mask_l ms % 2 ^ 64) (tops_compared w8 differ us vs) ∙ mask_l-mod ms 64 (omega arith) in
     let apart = before_lowest ms k long few (subst (λ (n : ℕ). k < count_trailing_zeros 64 n) at below) in
     eqb-true _ _ (not-false _ (sym (get_or-zip2 differ us vs k 0 0 false (omega arith) (omega arith)) ∙ apart))
-
-pub bytes_same : (xs ys : List ℕ) → bytes_eq xs ys ≡ true → xs ≡ ys
-bytes_same xs ys h = (bytes_eq-Decides xs ys).0 h

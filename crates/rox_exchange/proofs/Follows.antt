@@ -31,10 +31,6 @@ module _ (m : Move) (src to : List ℕ) where
       let b : k + (j - i) ≡ moved m j = omega arith in
       subst (λ (x : ℕ). Follows m src j to x) b (subst (λ (x : ℕ). Follows m src x to (k + (j - i))) a (on i k (j - i) f))
 
-  -- From where it lands.
-  pub here : (i k : ℕ) → Follows m src i to k → Follows m src i to (moved m i)
-  here i k f = from i k i (omega arith) f
-
   -- A byte.
   pub byte_moves : (i k : ℕ) → Follows m src i to k → byte src i ≡ byte to k
   byte_moves i k f =
@@ -119,7 +115,3 @@ module _ (m : Move) (src to : List ℕ) where
       let at = f.at in
       let d : e - i ≡ moved m e - k = omega arith in
       ap (λ (n : ℕ). take n (drop i src)) d ∙ ap (take (moved m e - k)) f.same
-
--- The other way.
-pub back : (m : Move) (src to : List ℕ) (i k : ℕ) → Follows m src i to k → Follows (record { add = m.sub; sub = m.add }) to k src i
-back m src to i k f = let at = f.at in record { same = sym f.same; at = omega arith }

@@ -129,9 +129,6 @@ tree_of_text text limit tree is = let t = tree_parts is in record { written = t.
 
 module _ (text : List ℕ) (tree : Forest Node) (id : ℕ) (other_text : List ℕ) (other : Forest Node) (at : ℕ) (utf8 : IsUtf8 text) (utf8' : IsUtf8 other_text)
     (w : Whole text tree id) (w' : Whole other_text other at) where
-  abbrev hole : Forest Item
-  hole = Cons (Element w.found.start w.found.end w.found.tag) w.found.kids Nil
-
   abbrev one : Forest Item
   one = Cons (Element w'.found.start w'.found.end w'.found.tag) w'.found.kids Nil
 

@@ -23,7 +23,7 @@ use Rattle.rox_scopes.specs.Bindings.{FindsBinding}
 use Rattle.rox_scopes.specs.NamespaceViews.{namespace_view}
 use Rattle.rox_attributes.specs.PlainAttribute.{HasScope, few_in}
 use Rattle.rox_bytes.proofs.RunLemmas.{stands_within}
-use Rattle.rox_markup.proofs.PairLemmas.{byte_is}
+use Rattle.rox_bytes.proofs.NearLemmas.{byte_is}
 
 -- ---- what a tag holds next
 

@@ -14,7 +14,7 @@ use Rattle.rox_names.specs.TagScopes.{scope_in_tables}
 use Rattle.rox_names.specs.declared.tables.ElementTables.{ElementTables}
 use Rattle.rox_scopes.specs.declared.namespace.Namespace.{Namespace}
 use Rattle.rox_scopes.proofs.Listing.{same_prefix-sym}
-use Rattle.rox_scopes.proofs.Pairs.{same_prefix-refl}
+use Rattle.rox_scopes.proofs.Pairs.{namespace_at-get, same_prefix-refl}
 use Rattle.rox_scopes.proofs.Ropes.{scope_places}
 use Rattle.rox_names.specs.TagDeclarations.{unresolved_view}
 use Rattle.rox_names.specs.declared.open_element.OpenElement.{OpenElement}
@@ -50,11 +50,6 @@ pair_at [] i d within is = absurd (omega arith)
 pair_at (x ∷ xs) zero d within is = or_first (same_pair x d) (has_pair xs d) (ap (λ (e : NamespaceDecl). same_pair e d) is ∙ same_pair-refl d)
 pair_at (x ∷ xs) (suc i) d within is = or_second (same_pair x d) (has_pair xs d) (pair_at xs i d (omega arith) is)
 
-namespace_there : (rows : List Namespace) (i : ℕ) (m : Namespace) → i < length rows → namespace_at (map namespace_view rows) i ≡ namespace_view (get_or rows i m)
-namespace_there [] i m within = absurd (omega arith)
-namespace_there (x ∷ xs) zero m within = refl
-namespace_there (x ∷ xs) (suc i) m within = namespace_there xs i m (omega arith)
-
 -- the first of the places, and the others
 pub one_more : (table : List Namespace) (places around : List ℕ) (d : NamespaceDecl) (m : Namespace) → ArePlaces (length table) places → length places ≡ length around + 1 → m ≡ get_or table (get_or places 0 0) m
     → (namespace_view m).prefix ≡ d.prefix → (namespace_view m).uri ≡ d.uri → bytes_eq (take (length places - 1) (drop 1 places)) around ≡ true → AreOneMore table places d around
@@ -66,7 +61,7 @@ one_more table (x ∷ xs) around d m all long is prefix uri same =
       first = x;
       are = ap (λ ys. x ∷ ys) (sym (take_all (length xs) xs (omega arith)) ∙ others);
       within = all.0;
-      is = namespace_there table x m all.0 ∙ ap namespace_view (sym is) ∙ ap (λ p. pair p (namespace_view m).uri) prefix ∙ ap (λ u. pair d.prefix u) uri;
+      is = namespace_at-get table x m all.0 ∙ ap namespace_view (sym is) ∙ ap (λ p. pair p (namespace_view m).uri) prefix ∙ ap (λ u. pair d.prefix u) uri;
     }
 
 -- a scope that lists it and then what another one lists

@@ -1,12 +1,10 @@
 -- Where no entity is declared nothing is opened, however replacement texts are read.
-use Rattle.std.proofs.Common.{ℕ, [], true}
+use Rattle.std.proofs.Common.{ℕ, []}
 use Rattle.std.specs.Prelude.{Result}
-use Rattle.rox_grammar.specs.Entities.{Replacement, no_entities, most_deep}
+use Rattle.rox_grammar.specs.Entities.{Replacement, no_entities}
 use Rattle.rox_reading.specs.Refusals.{Refusal}
 use Rattle.rox_reading.specs.State.{State}
 use Rattle.rox_reading.specs.Values.{ValueInclusion}
-use Rattle.rox_reading.specs.Tags.{Values}
-use Rattle.rox_reading.specs.Machine.{values_of}
 use Rattle.rox_theory.specs.Openers.{AgreesValue, AgreesContent}
 
 -- In a value.
@@ -22,7 +20,3 @@ no_contents limit opener = record {
   sound = λ most name t after s u less found fine h. cc found;
   complete = λ name after c items s h fine. absurd h;
 }
-
--- How a tag of the main text is read there.
-abbrev pub alone : Values
-alone = values_of [] most_deep true

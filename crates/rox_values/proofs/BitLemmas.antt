@@ -15,7 +15,7 @@ use Rattle.rox_grammar.specs.declared.fault.Fault.{Fault}
 use Rattle.rox_grammar.specs.declared.fault.Fault.TheVariants.{InvalidAttributeValue}
 use Rattle.rox_grammar.specs.Constructs.{AreChars}
 use Rattle.rox_grammar.specs.Entities.{Entity}
-use Rattle.rox_reading.proofs.Stretches.{range_parts}
+use Rattle.rox_reading.proofs.Stretches.{range_parts, special_ascii}
 use Rattle.rox_reading.specs.Lexical.{chars_up_to}
 use Rattle.rox_reading.specs.Values.{ValueInclusion, character_of, is_special, bytes_of, reference_at, stretch_at, value_reference_at, value_bit_at, value_text}
 use Rattle.rox_scan.proofs.CharLemmas.{chars_all, all_chars}
@@ -71,9 +71,6 @@ bit_put : (main : Bool) (es : List Entity) (src old new bs : List ℕ) (stop i j
 bit_put main es src old new bs stop i j is put = rw (is, put) refl
 
 -- ---- white space
-
-special_ascii : (b : ℕ) → is_special b ≡ true → b < 128
-special_ascii b h = grind (arith, nat_tests)
 
 no_reference_is : (b : ℕ) → b ≢ 38 → (b == 38) ≡ false
 no_reference_is b h = grind (arith, nat_tests)

@@ -19,10 +19,6 @@ pub refuses : {A : Type 0} (e : Failure) (r : Result A Fault) → Fails e r → 
 refuses failure.Memory r h = tt
 refuses (failure.Fault f) r h = ap lifted h
 
-pub fails : {A : Type 0} (e : Failure) (r : Result A Fault) → IsFailure e (lifted r) → Fails e r
-fails failure.Memory r h = tt
-fails (failure.Fault f) r h = lifted_err r f h
-
 pub refused_too : {A : Type 0} (e : Failure) (r : Result A Refusal) → IsFailure e r → IsRefusal (of_failure e) r
 refused_too failure.Memory r h = tt
 refused_too (failure.Fault f) r h = h

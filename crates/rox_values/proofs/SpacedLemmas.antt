@@ -8,7 +8,7 @@ use Rattle.std.proofs.lemmas.Bool.Decides.{nat_tests}
 use Rattle.std.proofs.lemmas.List.{drop_more, ext_get_or, get_or-set_other, get_or-set_same, get_or-take, length-map, length-set, length-take-le, map-append}
 use Rattle.std.proofs.lemmas.Str.{IsCharBoundary-after_ascii}
 use Rattle.rox_grammar.specs.Entities.{Entity}
-use Rattle.rox_reading.proofs.Stretches.{range_parts}
+use Rattle.rox_reading.proofs.Stretches.{range_parts, special_ascii}
 use Rattle.rox_reading.specs.Values.{ValueInclusion, bytes_of, is_special, value_bit_at, value_text}
 use Rattle.rox_bytes.specs.ByteSets.{AllPass, EndsSet, is_run_byte, is_stretch_byte}
 use Rattle.rox_values.specs.PlainBits.{AreValueChars, IsTested, spaced_byte}
@@ -53,9 +53,6 @@ run_no_return b h = grind (arith, nat_tests)
 
 white : (b : ℕ) → is_special b ≡ true → b ≢ 38 → b ≢ 13 → spaced_byte b ≡ 32
 white b h no_reference no_return = grind (arith, nat_tests)
-
-white_ascii : (b : ℕ) → is_special b ≡ true → b < 128
-white_ascii b h = grind (arith, nat_tests)
 
 plain_stays : (b : ℕ) → is_stretch_byte b ≡ true → spaced_byte b ≡ b
 unfolding is_stretch_byte
@@ -117,7 +114,7 @@ spaced_read main es opener openings_left src stop (suc n) i utf8 few le from to 
         | inl special ↦
             let no_reference = run_no_reference _ here in
             let no_return = run_no_return _ here in
-            let mid : IsCharBoundary src (i + 1) = IsCharBoundary-after_ascii src i utf8 (omega arith) (white_ascii _ special) in
+            let mid : IsCharBoundary src (i + 1) = IsCharBoundary-after_ascii src i utf8 (omega arith) (special_ascii _ special) in
             let rest = spaced_read main es opener openings_left src stop n (i + 1) utf8 (omega arith) (omega arith) mid to (tested_on kind_of.Either src i (i + 1) stop utf8 from mid to (omega arith) tested) (λ k low high. all k (omega arith) high) in
             let read = item_read main es opener openings_left src (32 ∷ []) (map spaced_byte (slice_range src (i + 1) stop)) stop n i (i + 1) more (space_is main es src stop i special no_reference no_return) rest in
             read ∙ ap (λ (xs : List ℕ). Ok (xs, openings_left)) (white_read src i stop more within (white _ special no_reference no_return))

@@ -1,11 +1,11 @@
 -- Names, white space and values of attributes that are read at one look.
 use Rattle.std.proofs.Common.{◌≡◌, ◌≢◌, inl, inr, ℕ, ◌+◌, ◌-◌, ◌<◌, ◌≤◌, ◌||◌, ◌==◌, Bool, true, false, List, [], length, slice_index, slice_range, refl, sym, ap, subst, ◌∙◌, arith, Ok}
-use Rattle.std.proofs.lemmas.Bool.{lt-leb, eq-eqb, eqb-true, ne_eqb, cases_lt}
+use Rattle.std.proofs.lemmas.Bool.{lt-leb, eqb-true, ne_eqb, cases_lt}
 use Rattle.rox_grammar.specs.Content.{is_verbatim_value}
 use Rattle.rox_grammar.specs.Entities.{Entity}
 use Rattle.rox_grammar.specs.Names.{spaces_end}
 use Rattle.rox_grammar.specs.Written.{Name}
-use Rattle.rox_reading.specs.Lexical.{byte_at, qname_at, quote_at}
+use Rattle.rox_reading.specs.Lexical.{qname_at, quote_at}
 use Rattle.rox_reading.specs.Markup.{RawAttribute, more, attribute_at, raw_value_at, tag_item_at}
 use Rattle.rox_reading.specs.Values.{ValueInclusion, is_special, value_at}
 use Rattle.rox_verbatim.specs.PlainNames.{EndsFirstPart, EndsNear, EndsPrefix, IsLocalPart}
@@ -19,16 +19,12 @@ use Rattle.rox_bytes.specs.ByteSets.{AllPass, EndsSet, is_part_byte, is_value_by
 use Rattle.std.proofs.lemmas.Bool.{cases_eq}
 use Rattle.rox_scan.specs.Lookahead.{ends_value}
 use Rattle.rox_scan.proofs.LongerLemmas.{looked_on, looked_value, value_near}
-use Rattle.rox_bytes.proofs.NearLemmas.{near_plain, short_value, value_cut, part_cut, part_stops, part_ascii}
+use Rattle.rox_bytes.proofs.NearLemmas.{byte_is, near_plain, short_value, value_cut, part_cut, part_stops, part_ascii}
 use Rattle.rox_bytes.proofs.NearLemmas.{part_begins as letter_begins}
 use Rattle.rox_bytes.proofs.TableLemmas.{agree_below, agree_at}
 use Rattle.std.proofs.Common.{not, ◌&&◌, nat_lt}
 use Rattle.rox_grammar.specs.Runs.{begins, run_end}
 use Rattle.rox_bytes.proofs.RunLemmas.{begins_ascii, run_stops_ascii, space_on, space_stops, space_cut, stands_within}
-
-byte_is : (src : List ℕ) (i b : ℕ) → slice_index src i ≡ b → 0 < b → byte_at b src i ≡ Ok (tt, i + 1)
-unfolding byte_at
-byte_is src i b is some = rw (lt-leb (length src) i (stands_within src i b is some), eq-eqb (slice_index src i) b is) refl
 
 quote_is : (src : List ℕ) (i q : ℕ) → slice_index src i ≡ q → i < length src → (q == 39 || q == 34) ≡ true → quote_at src i ≡ Ok (q, i + 1)
 unfolding quote_at

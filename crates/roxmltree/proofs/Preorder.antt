@@ -237,9 +237,6 @@ pub no_first : (xs : List ℕ) → first xs ≡ None → length xs ≡ 0
 no_first [] e = refl
 no_first (x ∷ xs) e = cc
 
-pub parent_depth : (f : Forest Node) (i q : ℕ) → i < size f → parent f i ≡ Some q → length (place f i).above ≡ length (place f q).above + 1
-parent_depth f i q l e = omega (arith, ap length (parent_is f i q l e).1)
-
 pub depth_le : (f : Forest Node) (i : ℕ) → i < size f → length (place f i).above ≤ i
 depth_le f i l = let h = here f i l in rw (place_is f i h) h.deep
 
@@ -289,16 +286,6 @@ up_to_here f i q none some = ⊎_elim (λ low. up_to_root f i q (none low)) (λ 
 up_to_above : (f : Forest Node) (i p q : ℕ) → i < size f → parent f i ≡ Some p → (p ≡ q → ⊥) → up_to f i q ≡ up_to f p q
 unfolding up_to
 up_to_above f i p q l e ne = let k = parent_is f i p l e in rw k.1 (child_above i p (place f p).above q ne)
-
-pub up_to_parent : (f : Forest Node) (i p q r : ℕ) → i < size f → parent f i ≡ Some p → (i ≡ 0 → parent f i ≡ None) → (0 < i → parent f i ≡ Some r) → (r ≡ q → ⊥) → up_to f i q ≡ up_to f p q
-up_to_parent f i p q r l e none some ne =
-    ⊎_elim
-    (λ low. absurd (let z : None ≡ Some p = sym (none low) ∙ e in cc))
-    (λ high.
-    let z : Some r ≡ Some p = sym (some (omega arith)) ∙ e in
-    let same : r ≡ p = cc in
-    up_to_above f i p q l e (rw same at ne))
-    (cases_eq i 0)
 
 -- the node after these has what is behind it above it
 chain_at : (T : List Place) (xs : List ℕ) (i : ℕ) (up : List ℕ) → Chain T (xs ++ i ∷ up) → (at T i).above ≡ up
