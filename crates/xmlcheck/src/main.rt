@@ -10,9 +10,13 @@ use std::{env, fs, io};
 
 const HELP: &str = "usage: xmlcheck [--allow-dtd] FILE..
 Prints FILE:ROW:COLUMN: MESSAGE, the line and a caret for each file that is not well formed.
-  --allow-dtd  accepts document type declarations
+  --allow-dtd  accepts document type declarations in the files after it
+  -h, --help   prints this text
+A fault goes to the standard output, and a file that cannot be read to the standard error. A file
+that is not UTF-8 cannot be read. Control characters, except TAB, are printed as U+FFFD.
 The status is 0 if all files are well formed, 1 if one is not, and 2 if one cannot be read.";
 
+/// Runs the command, and reports an input or output that failed.
 fn main(rt: HostRuntime) -> ExitCode {
     match check_files(&rt) {
         Ok(status) => ExitCode::from(status),
@@ -32,7 +36,7 @@ fn check_files(rt: &HostRuntime) -> io::Result<u8> {
     for word in env::args(rt)?.skip(1) {
         match word.as_str() {
             "--allow-dtd" => options.allow_dtd = true,
-            "--help" => {
+            "-h" | "--help" => {
                 println!(rt; "{HELP}")?;
                 return Ok(0);
             }
@@ -53,10 +57,24 @@ fn check_files(rt: &HostRuntime) -> io::Result<u8> {
 
 /// Checks a file, and returns 0 if it is well formed, 1 if it is not, and 2 if it cannot be read.
 fn check_file(rt: &HostRuntime, file: &str, options: ParsingOptions) -> io::Result<u8> {
+    let name = visible(rt.alloc(), file)?;
     match fs::read_to_string(rt, file) {
-        Ok(text) => check_text(rt, file, text.as_str(), options),
-        Err(error) => eprintln!(rt; "{file}: {error}").map(|_| 2),
+        Ok(text) => check_text(rt, name.as_str(), text.as_str(), options),
+        Err(error) => eprintln!(rt; "{name}: {error}").map(|_| 2),
     }
+}
+
+/// Returns a text with U+FFFD for each control character except TAB, so that a terminal obeys none.
+fn visible(alloc: Global, text: &str) -> Result<String, AllocError> {
+    text.chars().map(visible_character).collect(alloc)
+}
+
+/// Returns U+FFFD for a control character other than TAB, and any other character as it is.
+fn visible_character(character: char) -> char {
+    if character != '\t' && character.is_control() {
+        return '\u{FFFD}';
+    }
+    character
 }
 
 /// Checks the text of a file, and returns 0 if it is well formed, and 1 if it is not.
@@ -73,10 +91,19 @@ fn check_text(rt: &HostRuntime, file: &str, text: &str, options: ParsingOptions)
 
 /// Prints why a text is refused, and where.
 fn print_error(rt: &HostRuntime, file: &str, text: &str, error: &Error) -> io::Result<()> {
-    let message = error.message();
+    let message = format!(in rt.alloc(); "{}", error.message())?;
+    let message = visible(rt.alloc(), message.as_str())?;
     match error.position() {
-        Some(place) => print_at(rt, (file, text), place, message),
-        None => println!(rt; "{file}: {message}"),
+        Some(place) => print_at(rt, (file, text), place, message.as_str()),
+        None => println!(rt; "{file}: {message}{}", remedy(error)),
+    }
+}
+
+/// Returns what is printed after the message of an error: the option that accepts the text, if there is one.
+fn remedy(error: &Error) -> &'static str {
+    match error {
+        Error::DtdDetected => "; --allow-dtd accepts it",
+        _ => "",
     }
 }
 
@@ -118,6 +145,7 @@ fn push_way(document: &Document<'_>, end: usize, way: &mut String) -> Result<usi
     Ok(start)
 }
 
+/// Adds a step of a way: a slash and the local name of an element.
 fn push_step(element: &Node<'_, '_>, way: &mut String) -> Result<(), AllocError> {
     way.push_str("/")?;
     way.push_str(element.tag_name().name())
@@ -141,7 +169,8 @@ fn print_at<M: Display + Drop>(
 
 /// Returns what is shown of a line, without what is skipped.
 fn shown_part(alloc: Global, line: &str, skipped: usize) -> Result<String, AllocError> {
-    line.chars().skip(skipped).take(78).collect(alloc)
+    let part = line.chars().skip(skipped).take(78);
+    part.map(visible_character).collect(alloc)
 }
 
 /// Returns what stands below the characters before a caret.
