@@ -251,7 +251,7 @@ impl ByteSet for SpaceByte {
 
 /// Returns a bit for each of the sixteen bytes from `at` on that is not in the set, the lowest for the first.
 #[inline(always)]
-fn others_at<C: ByteSet>(bytes: &[u8], at: usize) -> u64
+pub(crate) fn others_at<C: ByteSet>(bytes: &[u8], at: usize) -> u64
     requires { at + 16 ≤ length bytes.now }
     ensures { IsSeen C.test bytes.now at result }
 {
@@ -430,24 +430,6 @@ pub fn find_other<C: ByteSet>(text: &str, at: usize) -> Option<usize>
     ensures { IfSome result (StopsSet C.test text.entry.now at) }
 {
     other_in::<C>(text.as_bytes(), at)
-}
-
-/// Like `find_other`, but only among the first sixteen bytes. Returns `None` if there are fewer. It calls no function that is out
-/// of line.
-#[inline(always)]
-pub fn find_near<C: ByteSet>(text: &str, at: usize) -> Option<usize>
-    requires { at ≤ length text.now }
-    ensures { IfSome result (StopsSet C.test text.entry.now at) }
-{
-    let bytes = text.as_bytes();
-    if bytes.len() - at < 16 {
-        return None;
-    }
-    let others = others_at::<C>(bytes, at);
-    if others == 0 {
-        return None;
-    }
-    Some(at + before_first(others))
 }
 
 /// Returns the end of the bytes of the set after the byte at which `run` ends. The run starts at `at`. Most ends are among the

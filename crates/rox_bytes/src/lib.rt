@@ -3,6 +3,7 @@
 
 pub mod byte_set;
 pub mod chars;
+pub mod near;
 pub mod nibbles;
 pub mod runs;
 pub mod search;

@@ -17,8 +17,9 @@ ghost use Rattle.rox_bytes.specs.ScanResults.{HasCharAt, Has239At};
 use crate::cursor::Cursor;
 use crate::lookahead::{Lookahead, after_char, is_mark_at};
 use rox_bytes::byte_set::{
-    BEHIND_CONTROLS, ByteSet, find_near, find_other, non_ascii_first, skip_eased, skip_set,
+    BEHIND_CONTROLS, ByteSet, find_other, non_ascii_first, skip_eased, skip_set,
 };
+use rox_bytes::near::find_near;
 use rox_bytes::nibbles::by_low;
 use rox_bytes::runs::{after_byte, is_at};
 use rox_bytes::search::{before_either, byte_from, has_mark};

@@ -1,6 +1,6 @@
 use Rattle.std.proofs.Common.{◌<◌, arith}
 use Rattle.rox_bytes.proofs.LaneLemmas.{first_seen, first_there}
-use Rattle.rox_bytes.proofs.byte_set.find_near.Goals as goal
+use Rattle.rox_bytes.proofs.near.find_near.Goals as goal
 
 pub returns : goal.returns
 returns g c =
