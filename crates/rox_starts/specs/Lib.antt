@@ -1,4 +1,3 @@
 pub mod TagReadiness
 pub mod TagState
 pub mod ElementRow
-pub mod NearAttribute

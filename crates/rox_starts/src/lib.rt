@@ -1,5 +1,4 @@
-//! Start tags by the general reader, which finds each fault in order, and attributes that need no tables to be read.
+//! Start tags by the general reader, which finds each fault in order.
 #![tactic(auto)]
 
 pub mod tag;
-pub mod verbatim_attribute;

@@ -11,7 +11,6 @@ ghost use Rattle.rox_values.specs.Values.{piece_view};
 ghost use Rattle.rox_names.specs.TagDeclarations.{unresolved_view};
 ghost use Rattle.rox_starts.specs.TagState.{IsReadingTag, GivesAttribute, ReadsAttributes, ReadsTagPart, TakesAttribute, IsStored, value_of};
 
-use crate::verbatim_attribute::{byte_count, verbatim_attribute};
 use rox_compare::compare::same_text;
 use rox_grammar::failure::Failure;
 use rox_grammar::fault::Fault;
@@ -60,6 +59,16 @@ pub fn stored<'input>(
             Ok(text)
         }
     }
+}
+
+/// Returns the length of a text in bytes, which is always less than 2^63.
+#[inline]
+fn byte_count(text: &str) -> usize
+    ensures value { result ≡ length text.now }
+    ensures small { length text.now < 2 ^ 63 }
+{
+    let bytes = text.as_bytes();
+    bytes.len()
 }
 
 /// The context of a start tag. `above` is the scope of its parent. `cut` is the fault if the text ends right after its name or an
@@ -116,8 +125,7 @@ pub enum TagPart<'input> {
     End(bool),
 }
 
-/// Reads the next item of a start tag, in which `openings_left` replacement texts may be opened. Most often the fast path reads
-/// it: an attribute or a declaration.
+/// Reads the next item of a start tag, in which `openings_left` replacement texts may be opened.
 #[inline(always)]
 fn tag_part<'input>(
     alloc: Global,
@@ -129,10 +137,6 @@ fn tag_part<'input>(
     ensures { ReadsTagPart context.entry cursor.old cursor.new openings_left result }
 {
     let small = byte_count(cursor.text);
-    if let Some(one) = verbatim_attribute(cursor.text, cursor.pos) {
-        cursor.pos = one.end;
-        return Ok(TagPart::One(one, openings_left));
-    }
     match tag_item(cursor)? {
         TagItem::More(raw) => {
             let (one, left) = unresolved(alloc, cursor, &raw, context, openings_left, scratch)?;

@@ -2,18 +2,8 @@ use Rattle.std.proofs.Common.{◌≡◌, refl, ap, ◌∙◌, arith, rules, Ok}
 use Rattle.rox_reading.specs.Markup.{tag_item_at, more}
 use Rattle.rox_markup.specs.Views.{attribute_view, tag_item_view}
 use Rattle.rox_markup.specs.declared.tag.TagItem.{TagItem as CodeTagItem}
-use Rattle.rox_values.specs.DeclaredEntities.{values_in}
 use Rattle.rox_starts.proofs.Taking.{turn_gives}
 use Rattle.rox_starts.proofs.tag.tag_part.Goals as goal
-
-pub returns-in-Some : goal.returns-in-Some
-returns-in-Some c = record {
-  source = refl;
-  part = λ es declared.
-      let n = c.in-Some.ensures in
-      let v = values_in es c.args.context in
-      (n.raw, n.read, (_, n.value v.main v.entities v.opener c.args.openings_left, n.view));
-}
 
 pub unresolved-requires : goal.unresolved-requires
 unresolved-requires c =

@@ -1,5 +1,5 @@
 use Rattle.std.proofs.Common.{◌<◌, ◌*◌, ◌^◌, length, arith}
-use Rattle.rox_starts.proofs.verbatim_attribute.byte_count.Goals as goal
+use Rattle.rox_starts.proofs.tag.byte_count.Goals as goal
 
 pub returns-clause-small : goal.returns-clause-small
 returns-clause-small c =
