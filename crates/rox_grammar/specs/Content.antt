@@ -74,8 +74,8 @@ pub data Part (main : Bool) (src : List ℕ) (j : ℕ) : (i : ℕ) → List Data
 pub data IsCharacterData (src : List ℕ) (i j : ℕ) : Type 0 where
   character_data : i < j → j ≡ byte_from (λ c. c == code "<") src i → AreChars src i j → j ≤ first_text "]]>" src i → IsCharacterData src i j
 
--- The bytes of a character from a reference in a value. Departure: in a replacement text white space gives a space, where XML 3.3.3
--- keeps it.
+-- The bytes of a character from a reference in a value. In a replacement text white space gives a space. For a literal that is
+-- what XML 4.5 and 3.3.3 give. Departure: in an answer 3.3.3 keeps it.
 abbrev pub value_bytes : Bool → ℕ → List ℕ
 value_bytes main c = if not main && (c == code "\t" || (c == code "\n" || c == code "\r")) then code " " ∷ [] else encode_utf8 c
 

@@ -13,7 +13,7 @@ use Rattle.rox_grammar.specs.TextStart.{after_bom, MayHaveXmlDecl}
 use Rattle.rox_grammar.specs.Entities.{Replacement, Entity}
 
 -- XML 4.2.2: the request for an external entity: its public identifier, if it has one, and its system identifier, both as
--- written.
+-- written. Departures: 4.2.2 normalizes white space in a public identifier, and 2.11 replaces a CR in either.
 pub record Request : Type 0 where
   pub public_id : Option (List ℕ)
   pub uri : List ℕ
@@ -27,14 +27,15 @@ pub record Asked : Type 0 where
 abbrev pub Reply : Type 0
 Reply = Result (Option (List ℕ)) (List ℕ)
 
--- XML 4.3.1: an answer is a text, or none. The replacement text is what follows its byte order mark and its declaration.
+-- An answer is a text, or none. By XML 4.5 the replacement text is what follows its byte order mark (4.3.3) and its declaration
+-- (4.3.1).
 pub data GivesReplacement : Option (List ℕ) → Option Replacement → Type 0 where
   nothing : GivesReplacement None None
   the_rest : (text : List ℕ) (d : ℕ) → IsUtf8 text → MayHaveXmlDecl text (after_bom text) d → GivesReplacement (Some text) (Some (record { source = drop d text; start = 0 }))
 
 -- The entity of this name, or none if the resolver gave no text for it. Departures: without a text, a later declaration of the
--- name is binding, where XML 4.2 takes the first. Without an entity, a reference to the name is an error, where 4.4.3 lets it be
--- skipped.
+-- name is binding, where XML 4.2 takes the first. So a reference may be read that 3.1 (No External Entity References) or 4.1
+-- (Parsed Entity) forbids. Without an entity, a reference to the name is an error, where 4.4.3 lets it be skipped.
 abbrev pub entry : List ℕ → Option Replacement → List Entity
 entry name None = []
 entry name (Some text) = record { name = name; text = text } ∷ []
@@ -103,7 +104,7 @@ module _ (src : List ℕ) where
     an_item : (i j k : ℕ) (item : Item) (items : Forest Item) (asked : List Asked) (es : List Entity) → IsMisc src i j item → Subset j k items asked es
         → Subset i k (join (leaf item) items) asked es
     -- The declaration is skipped up to its first `>`, whatever it contains. So attributes have no defaults (3.3.2) and no types
-    -- (3.3.3).
+    -- (3.3.3), nor do they declare namespaces by default (NS 3).
     skipped_declaration : (i k : ℕ) (items : Forest Item) (asked : List Asked) (es : List Entity) → IsPassed i → byte_from (λ c. c == code ">") src i < length src
         → Subset (byte_from (λ c. c == code ">") src i + 1) k items asked es → Subset i k items asked es
     an_entity : (i j k : ℕ) (items : Forest Item) (first asked : List Asked) (one es : List Entity) → IsEntityDeclaration i j first one → Subset j k items asked es
@@ -124,7 +125,7 @@ module _ (src : List ℕ) where
   pub data SubsetTo (i p : ℕ) (items : Forest Item) (asked : List Asked) : Type 0 where
     subset_to : (s : ℕ) (declared : List Entity) → BeginsDoctype i s → byte src s ≡ code "[" → Subset (s + 1) p items asked declared → SubsetTo i p items asked
 
-  -- XML 2.8 [28] doctypedecl. Departure: its name need not be that of the root element, which 2.8 (Root Element Type) requires.
+  -- XML 2.8 [28] doctypedecl. Its name is not compared with the root element's: 2.8 (Root Element Type) is about validity.
   pub data IsDoctype : (i j : ℕ) → Forest Item → List Asked → List Entity → Type 0 where
     no_subset : (i s : ℕ) → BeginsDoctype i s → byte src s ≡ code ">" → IsDoctype i (s + 1) Nil [] []
     with_subset : (i s k : ℕ) (items : Forest Item) (asked : List Asked) (es : List Entity) → BeginsDoctype i s → byte src s ≡ code "[" → Subset (s + 1) k items asked es

@@ -81,7 +81,8 @@ pub data DueInPair (src : List ℕ) (i : ℕ) : (p : ℕ) → DueItem → Type 0
   equals : (name : Name) (n : ℕ) → IsQName src i name n → DueInPair src i (spaces_end src n) (a_byte (code "="))
   opening : (name : Name) (n v : ℕ) → IsQName src i name n → IsEq src n v → DueInPair src i v (one_of due.Quote)
   its_value : (name : Name) (n v : ℕ) → IsQName src i name n → IsEq src n v → IsQuote src v → DueInPair src i (v + 1) (chars_to (value_end src v))
-  -- The characters of a value are not tested if neither a quote nor a `<` ends it.
+  -- If neither a quote nor a `<` ends the value, both rows may hold: an attribute is then refused for its end, and a pair of a
+  -- declaration for its first character that is not a Char.
   closing : (name : Name) (n v : ℕ) → IsQName src i name n → IsEq src n v → IsQuote src v
       → (length src ≤ value_end src v) ⊎ AreChars src (v + 1) (value_end src v) → DueInPair src i (value_end src v) (a_byte (byte src v))
 

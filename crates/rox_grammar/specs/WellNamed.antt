@@ -11,7 +11,7 @@ use Rattle.rox_grammar.specs.Tree.{xml_uri, xmlns_uri, same_prefix, is_xml, is_d
 abbrev pub may_declare : NamespaceDecl → Bool
 may_declare d = not (bytes_eq d.uri xmlns_uri) && (if is_xml d.prefix then bytes_eq d.uri xml_uri else not (bytes_eq d.uri xml_uri))
 
--- Each declaration is allowed, and no two declare one prefix.
+-- Each declaration is allowed, and no two declare one prefix, as XML 3.1 (Unique Att Spec) requires.
 abbrev pub AreDeclarable : List NamespaceDecl → Type 0
 AreDeclarable ds = (list_all may_declare ds ≡ true) × IsDistinct (λ d e. same_prefix d.prefix e.prefix) ds
 
