@@ -169,7 +169,7 @@ def choose(kind, name, since):
 def put(kind, name, made, since, total):
     """Puts a program in its place, if its sources have that sum as they had it then, and none was touched since."""
     looked = now()
-    if made_from(kind, name) != total or touched(sources(kind, name), since):
+    if made_from(kind, name) != total or touched([f"{TOP}/{it}" for it in sources(kind, name)], since):
         raise Failed("a source was changed meanwhile: start it again")
     to = place(kind, name)
     for ending in (".sum", ".by-rattle"):
