@@ -59,7 +59,7 @@ def blocks(text):
                 header.append(lines[number])
             body = []
             if not header[-1].endswith(";"):
-                while lines[number] != "}" and not header[-1].endswith("{}"):
+                while lines[number] not in ("}", "{}") and not header[-1].endswith("{}"):
                     number += 1
                     body.append(lines[number])
             yield comment, attributes, header, body[:-1]

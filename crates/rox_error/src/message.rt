@@ -18,7 +18,10 @@ use std::fmt;
 /// assert!(rt; printed.as_str() == "expected 'a' tag, not 'b'");
 /// ```
 #[derive(Clone, Copy, Debug)]
-pub struct Message<'e>(pub &'e Error<'e>);
+pub struct Message<'e>(
+    /// The error that the message is of.
+    pub &'e Error<'e>,
+);
 
 impl Error<'_> {
     /// Returns the message of the error without its position, to be printed. `Display` of the error itself prints this message

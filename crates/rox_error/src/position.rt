@@ -17,7 +17,9 @@ use std::fmt;
 /// ```
 #[derive(Clone, Copy, Debug, PartialEq, Eq, Hash)]
 pub struct TextPos {
+    /// The row, from 1: one more than the line feeds before the position.
     pub row: u32,
+    /// The column, from 1: one more than the characters before the position in its row.
     pub col: u32,
 }
 

@@ -95,7 +95,9 @@ pub struct ResolveWith<
     'input,
     F: Fn(Option<&str>, &str) -> Result<Option<&'input str>, String> + Drop,
 > {
+    /// The closure that is asked, by the public identifier, if there is one, and the system identifier.
     pub by: F,
+    /// Takes no room: it binds the type to the lifetime of the closure's answers.
     pub answers: PhantomData<&'input str>,
 }
 

@@ -19,7 +19,9 @@ use rox_storage::storage::StringStorage;
 /// ```
 #[derive(Clone, Copy, Debug, PartialEq, Eq)]
 pub struct PI<'input> {
+    /// The name after `<?`.
     pub target: &'input str,
+    /// The text after the target and white space, up to `?>`, or `None` if it is empty.
     pub value: Option<&'input str>,
 }
 

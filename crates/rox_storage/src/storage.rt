@@ -18,7 +18,9 @@ use std::rc::RcStr;
 /// ```
 #[derive(Debug, Drop)]
 pub enum StringStorage<'input> {
+    /// A slice of the input: of the text that is parsed, or of a resolver's answer.
     Borrowed(&'input str),
+    /// An owned text. `RcStr` counts its holders.
     Owned(RcStr),
 }
 
@@ -43,7 +45,7 @@ pub fn is_owned(text: &StringStorage<'_>) -> bool
 }
 
 impl<'input> StringStorage<'input> {
-    /// Returns an owned text of the bytes of `s`.
+    /// Returns an owned text of the bytes of `s`. Fails only if memory runs out.
     pub fn new_owned(alloc: Global, s: &str) -> Result<Self, AllocError>
         ensures { IfOk result (IsOwnText s.now) }
     {

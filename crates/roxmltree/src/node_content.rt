@@ -27,9 +27,13 @@ use std::ops::Range;
 pub enum NodeType {
     /// The one node that is the ancestor of all others.
     Root,
+    /// An element (XML 1.0 section 3).
     Element,
+    /// A processing instruction (XML 1.0 section 2.6).
     PI,
+    /// A comment (XML 1.0 section 2.5).
     Comment,
+    /// A longest run of characters, references and CDATA sections.
     Text,
 }
 
