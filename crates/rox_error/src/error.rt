@@ -31,7 +31,7 @@ pub enum Error<'w> {
     /// A start tag declares a prefix twice, or the default namespace twice (XML 1.0 3.1). Keeps the prefix; for the default
     /// namespace the word `xmlns`.
     DuplicatedNamespace(String, TextPos),
-    /// A name has a prefix that is not declared (Namespaces in XML 5). Keeps the prefix.
+    /// A name has a prefix that is not declared (Namespaces in XML 5), or an element has the prefix `xml`. Keeps the prefix.
     UnknownNamespace(String, TextPos),
     /// The name of an end tag differs from that of the innermost open element (XML 1.0 3). Keeps the expected name, then the name
     /// in the tag.
@@ -44,8 +44,10 @@ pub enum Error<'w> {
     MalformedEntityReference(TextPos),
     /// References are nested more than ten deep, or a reference of the text opens more than 256 replacement texts.
     EntityReferenceLoop(TextPos),
-    /// The replacement text of an entity has a `<`, and a reference to it is in the value of an attribute (XML 1.0 3.1). For a `<`
-    /// in the value itself the error is `InvalidChar`.
+    /// The replacement text of an entity has a `<`, or a reference that gives one, and is included in the value of an attribute
+    /// (XML 1.0 3.1). An attribute that is written in a replacement text or an answer may have no such reference either. The
+    /// standard allows a reference that gives `<`, as in `<!ENTITY a '&lt;'>`. For a `<` in the value itself the error is
+    /// `InvalidChar`.
     InvalidAttributeValue(TextPos),
     /// Two attributes of an element have the same expanded name (Namespaces in XML 6.3). Keeps the local name.
     DuplicatedAttribute(String, TextPos),

@@ -139,6 +139,14 @@ impl<'a, 'input> Attribute<'a, 'input> {
     }
 
     /// Returns the range of bytes of its name in its source, the prefix included.
+    ///
+    /// ```
+    /// let document = Document::parse(alloc, "<e xmlns:n='urn:n' n:a='1'/>")?;
+    /// let a = document.root_element().attribute_local("a").expect(&rt, "an attribute");
+    /// // the bytes of `n:a`
+    /// assert!(rt; a.range_qname().start == 19);
+    /// assert!(rt; a.range_qname().end == 22);
+    /// ```
     #[inline]
     pub fn range_qname(&self) -> Range<usize>
         ensures start { result.start ≡ (attribute_of self.now).start }
@@ -184,7 +192,7 @@ impl fmt::Debug for Attribute<'_, '_> {
     }
 }
 
-/// An iterator, from both ends, over attributes of one element: a slice of the table of attributes.
+/// An iterator, from both ends, over the attributes of one element that are left.
 ///
 /// ```
 /// let document = Document::parse(alloc, "<e b='1' a='2'/>")?;
@@ -196,6 +204,7 @@ impl fmt::Debug for Attribute<'_, '_> {
 #[derive(Drop)]
 pub struct Attributes<'a, 'input> {
     pub(crate) tables: &'a Tables<'input>,
+    // a slice of the table of attributes
     pub(crate) rest: &'a [StoredAttribute<'input>],
 }
 

@@ -14,8 +14,7 @@ use std::alloc::AllocError;
 use std::fmt;
 use std::marker::Model;
 
-/// An iterator, from both ends, over namespaces that one element lists. Its items are those at the indices `from..until` of what
-/// its scope lists.
+/// An iterator, from both ends, over the namespaces of one element that are left.
 ///
 /// ```
 /// let document = Document::parse(alloc, "<r xmlns='urn:d' xmlns:p='urn:p'/>")?;
@@ -30,6 +29,7 @@ pub struct NamespaceIter<'a, 'input> {
     listed: &'a [u16],
     namespaces: &'a [Namespace<'input>],
     scope: u32,
+    // the namespaces at the indices `from..until` of what the scope lists are left
     from: usize,
     until: usize,
 }

@@ -39,19 +39,20 @@ pub data NameDue (text : List ℕ) (i : ℕ) : ℕ → Type 0 where
   behind_one : byte text i ≡ code "/" → byte text (i + 1) ≢ code "/" → NameDue text i (i + 1)
   behind_two : byte text i ≡ code "/" → byte text (i + 1) ≡ code "/" → NameDue text i (i + 2)
 
--- A name is required at `n`, and no name continues from this offset on: a local name is empty there, or `}` is missing after `{`.
+-- A name is required at `n`, and this is the offset of its fault: a local name is missing there, or it is that of a `{` without
+-- `}`.
 pub data IsBadName (text : List ℕ) (n : ℕ) : ℕ → Type 0 where
   no_local : byte text n ≢ code "{" → local_end text n ≡ n → IsBadName text n n
   no_brace : byte text n ≡ code "{" → uri_end text (n + 1) ≡ length text → IsBadName text n n
   no_local_behind : (u : ℕ) → byte text n ≡ code "{" → u ≡ uri_end text (n + 1) → u < length text → local_end text (u + 1) ≡ u + 1
       → IsBadName text n (u + 1)
 
--- A step is required at `i`, and no step continues from this offset on.
+-- A step is required at `i`, and this is the offset of its fault: `/` is missing there, or its name has a fault there.
 pub data IsBadStep (text : List ℕ) (i : ℕ) : ℕ → Type 0 where
   no_slash : byte text i ≢ code "/" → IsBadStep text i i
   no_name : (n k : ℕ) → NameDue text i n → IsBadName text n k → IsBadStep text i k
 
--- The text is not a path, and this is the first offset from which no path continues. A step is required at the start, and after
--- each step that ends before the text does.
+-- The text is not a path, and this is the offset where a required `/` or local name is missing, or that of a `{` without `}`. A
+-- step is required at the start, and after each step that ends before the text does.
 pub data IsBadAt (text : List ℕ) : ℕ → Type 0 where
   bad_step : (i k : ℕ) → StepsTo text i → (i ≡ 0) ⊎ (i < length text) → IsBadStep text i k → IsBadAt text k

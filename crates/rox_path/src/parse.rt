@@ -22,7 +22,8 @@ use std::fmt;
 /// ```
 #[derive(Clone, Copy, Debug, PartialEq, Eq)]
 pub enum PathError {
-    /// The text is not a path. The number is an offset in bytes, from 0: the first from which no path continues.
+    /// The text is not a path. The number is the offset in bytes, from 0, where a required `/` or local name is missing, or that
+    /// of a `{` without `}`.
     BadPath(usize),
     /// Memory ran out.
     OutOfMemory,

@@ -27,7 +27,7 @@ use roxmltree::{ExpandedName, Node};
 use std::alloc::{AllocError, Global};
 
 /// Returns the nodes that the steps reach from `start`, in document order, without duplicates. Without steps, it returns `start`
-/// alone.
+/// alone. Fails only if memory runs out.
 ///
 /// It takes one pass over the descendants of `start` for each step, whatever their depth.
 ///

@@ -54,7 +54,8 @@ impl<'a, 'input> Node<'a, 'input> {
 
     /// Returns the text of this document with the root element of `other` in place of this element. Both elements have to be
     /// self-contained (`is_self_contained`). The new text is a document: its tree is this one with that element exchanged. So
-    /// `Document::parse` returns it, unless memory runs out or its nodes, attributes or namespaces are too many.
+    /// `Document::parse` returns it, unless memory runs out or its nodes, attributes or namespaces are too many. `exchange`
+    /// itself fails only if memory runs out.
     ///
     /// ```
     /// let document = Document::parse(alloc, "<r><a>1</a></r>")?;

@@ -164,8 +164,7 @@ impl<'a, 'input> Iterator for AxisIter<'a, 'input> {
     }
 }
 
-/// An iterator, from both ends, over a node and its descendants in document order. It holds the rows that are left, and the id of
-/// the first. So each step goes from row to row.
+/// An iterator, from both ends, over those of a node and its descendants that are left, in document order.
 ///
 /// ```
 /// let document = Document::parse(alloc, "<r>one<a>two</a></r>")?;
@@ -177,6 +176,7 @@ impl<'a, 'input> Iterator for AxisIter<'a, 'input> {
 pub struct Descendants<'a, 'input> {
     pub(crate) document: &'a Document<'input>,
     pub(crate) tables: &'a Tables<'input>,
+    // the rows that are left, so that each step goes from row to row, and the id of the first
     pub(crate) rest: &'a [StoredNode<'input>],
     pub(crate) from: NodeId,
 }
@@ -301,7 +301,7 @@ impl<'a, 'input> DoubleEndedIterator for Descendants<'a, 'input> {
     }
 }
 
-/// An iterator, from both ends, over children of one node: those from the id `from` on that end before the id `until`.
+/// An iterator, from both ends, over the children of one node that are left.
 ///
 /// ```
 /// let document = Document::parse(alloc, "<r>one<a/>two</r>")?;
@@ -313,6 +313,7 @@ impl<'a, 'input> DoubleEndedIterator for Descendants<'a, 'input> {
 #[derive(Drop)]
 pub struct Children<'a, 'input> {
     pub(crate) document: &'a Document<'input>,
+    // the children from the id `from` on that end before the id `until` are left
     pub(crate) from: NodeId,
     pub(crate) until: NodeId,
     pub(crate) parent: NodeId,

@@ -18,6 +18,13 @@ use rox_rows::stored_node::KindRef;
 
 impl<'a, 'input> Node<'a, 'input> {
     /// Returns the expanded name of an element. For other nodes, returns the empty name without a namespace.
+    ///
+    /// ```
+    /// let document = Document::parse(alloc, "<p:e xmlns:p='urn:p'/>")?;
+    /// let name = document.root_element().tag_name();
+    /// assert!(rt; name.name() == "e");
+    /// assert!(rt; name.namespace() == Some("urn:p"));
+    /// ```
     #[inline]
     pub fn tag_name(&self) -> ExpandedName<'a, 'input>
         ensures { expanded result ≡ (namespace_of (item_of self.now), local_of (item_of self.now)) }
@@ -163,6 +170,13 @@ impl<'a, 'input> Node<'a, 'input> {
     }
 
     /// Returns the first attribute with this local name, whatever its namespace, or `None` if there is none.
+    ///
+    /// ```
+    /// let document = Document::parse(alloc, "<e xmlns:n='urn:n' n:a='1'/>")?;
+    /// let a = document.root_element().attribute_local("a").expect(&rt, "an attribute");
+    /// assert!(rt; a.value() == "1");
+    /// assert!(rt; a.namespace() == Some("urn:n"));
+    /// ```
     #[inline]
     pub fn attribute_local(&self, local: &str) -> Option<Attribute<'a, 'input>>
         ensures { option_map attribute_of result
@@ -173,6 +187,15 @@ impl<'a, 'input> Node<'a, 'input> {
 
     /// Returns the URI that is listed for the default namespace: `Some("")` if `xmlns=''` undeclares it. Returns `None` if none
     /// is listed, as on nodes that are not elements.
+    ///
+    /// ```
+    /// let document = Document::parse(alloc, "<r xmlns='urn:d'><a xmlns=''/></r>")?;
+    /// let r = document.root_element();
+    /// let a = r.first_child().expect(&rt, "a child");
+    /// assert!(rt; r.default_namespace() == Some("urn:d"));
+    /// assert!(rt; a.default_namespace() == Some(""));
+    /// assert!(rt; document.root().default_namespace().is_none());
+    /// ```
     #[inline]
     pub fn default_namespace(&self) -> Option<&'a str>
         ensures { option_map (λ s. s.now) result ≡ uri_of (listed_of (item_of self.now)) None }
@@ -203,6 +226,15 @@ impl<'a, 'input> Node<'a, 'input> {
 
     /// Returns the prefix of the first listed namespace with this URI, or `None` if it is the default or there is none. The URI
     /// of `xml` gives `xml` on every node (Namespaces in XML 1.0 section 3).
+    ///
+    /// ```
+    /// let document = Document::parse(alloc, "<r xmlns='urn:d' xmlns:p='urn:p'/>")?;
+    /// let r = document.root_element();
+    /// assert!(rt; r.lookup_prefix("urn:p") == Some("p"));
+    /// // the default namespace has no prefix
+    /// assert!(rt; r.lookup_prefix("urn:d").is_none());
+    /// assert!(rt; r.lookup_prefix("http://www.w3.org/XML/1998/namespace") == Some("xml"));
+    /// ```
     #[inline(always)]
     pub fn lookup_prefix(&self, uri: &str) -> Option<&'input str>
         ensures { option_map (λ s. s.now) result

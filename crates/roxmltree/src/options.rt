@@ -61,6 +61,15 @@ impl<R> ParsingOptions<R> {
     ghost use Rattle.std.specs.Prelude.{◌≡◌, Some, false};
 
     /// Returns the default options with this resolver. It is asked only if `allow_dtd` is set.
+    ///
+    /// ```
+    /// let resolver = ResolveWith::new(|_public_id, _uri| Ok(Some("hello")));
+    /// let mut options = ParsingOptions::with_resolver(resolver);
+    /// options.allow_dtd = true;
+    /// let text = "<!DOCTYPE r [<!ENTITY a SYSTEM 'a.xml'>]><r>&a;</r>";
+    /// let document = Document::parse_with_options(alloc, text, options)?;
+    /// assert!(rt; document.root_element().text() == Some("hello"));
+    /// ```
     pub fn with_resolver(resolver: R) -> ParsingOptions<R>
         ensures resolver { result.entity_resolver ≡ Some resolver }
         ensures others { (result.allow_dtd ≡ false) × (result.nodes_limit ≡ 4294967295)
