@@ -1,4 +1,18 @@
 //! A read-only tree of an XML document, in document order. `Document::parse` returns the tree of a text.
+//!
+//! ```
+//! let text = "<books><book id='a'><title>Emma</title></book><book id='b'/></books>";
+//! let document = Document::parse(alloc, text)?;
+//! let books = document.root_element();
+//! let book = books.first_element_child().expect(&rt, "a book");
+//! assert!(rt; book.has_tag_name("book".into()) && book.attribute("id".into()) == Some("a"));
+//! let title = book.first_element_child().expect(&rt, "a title");
+//! assert!(rt; title.text() == Some("Emma"));
+//! assert!(rt; books.children().count() == 2);
+//! // a refused text
+//! let refused = Document::parse(alloc, "<a>\n</b>").err().expect(&rt, "an error");
+//! assert!(rt; refused.position() == Some(TextPos::new(2, 1)));
+//! ```
 #![tactic(auto)]
 
 mod debug;

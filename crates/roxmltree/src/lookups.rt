@@ -161,6 +161,13 @@ impl<'a, 'input> Node<'a, 'input> {
     }
 
     /// Returns whether there is an attribute with this expanded name.
+    ///
+    /// ```
+    /// let document = Document::parse(alloc, "<e a='' xml:lang='en'/>")?;
+    /// let e = document.root_element();
+    /// assert!(rt; e.has_attribute("a".into()));
+    /// assert!(rt; e.has_attribute((NS_XML_URI, "lang").into()) && !e.has_attribute("lang".into()));
+    /// ```
     #[inline(always)]
     pub fn has_attribute(&self, name: ExpandedName<'_, '_>) -> bool
         ensures { result

@@ -149,8 +149,8 @@ impl<'a, 'input> Node<'a, 'input> {
         }
     }
 
-    /// Returns the text of an element's first child if that is a text node. Returns a comment's or a text node's own text.
-    /// Otherwise, and on other nodes, returns `None`.
+    /// Returns a text node's or a comment's own text, and the text of an element's first child if that is a text node. Otherwise,
+    /// and on other nodes, returns `None`.
     ///
     /// ```
     /// let document = Document::parse(alloc, "<r>one<a>two</a>three</r>")?;

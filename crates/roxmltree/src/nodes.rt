@@ -146,6 +146,15 @@ impl<'a, 'input> Node<'a, 'input> {
     }
 
     /// Returns the node that it is a child of, or `None` for the root node.
+    ///
+    /// ```
+    /// let document = Document::parse(alloc, "<r>one<a/>two</r>")?;
+    /// let r = document.root_element();
+    /// let a = r.first_element_child().expect(&rt, "an element");
+    /// assert!(rt; a.parent() == Some(r));
+    /// assert!(rt; a.prev_sibling() == r.first_child());
+    /// assert!(rt; a.next_sibling() == r.last_child());
+    /// ```
     #[inline]
     #[tactic(auto, using(crate::proofs::Preorder::parent_is))]
     pub fn parent(&self) -> Option<Node<'a, 'input>>
