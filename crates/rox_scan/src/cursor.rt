@@ -39,7 +39,7 @@ pub struct Quote {
 /// Returns the end of the name characters from `start` on. Most are ASCII bytes other than the colon, which are passed sixteen at a
 /// time.
 #[inline(always)]
-fn name_end(text: &str, start: usize) -> usize
+pub fn name_end(text: &str, start: usize) -> usize
     requires { IsCharBoundary text.now start }
     ensures { Finds text.now start result (run_end is_name_char text.now start) }
 {

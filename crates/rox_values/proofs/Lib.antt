@@ -3,7 +3,6 @@ pub mod NamedLemmas
 pub mod Naming
 pub mod ListedLemmas
 pub mod InnerBytes
-pub mod NameRuns
 pub mod Binding
 pub mod PartLemmas
 pub mod PlainTexts

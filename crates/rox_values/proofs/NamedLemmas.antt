@@ -16,7 +16,7 @@ use Rattle.rox_bytes.specs.ByteSets.{AllPass, is_part_byte}
 use Rattle.rox_bytes.proofs.NearLemmas.{part_begins}
 use Rattle.rox_bytes.proofs.RunLemmas.{run_stops_ascii, stands_within}
 use Rattle.rox_values.specs.Values.{IsBeforeSemicolon, NamesCharacter}
-use Rattle.rox_values.proofs.NameRuns.{name_goes_on}
+use Rattle.rox_scan.proofs.NameRuns.{name_goes_on}
 
 -- ---- the predefined names are of letters
 

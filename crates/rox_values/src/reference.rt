@@ -1,22 +1,18 @@
 //! References to characters and to entities, and the replacement text that one names (XML 1.0 sections 4.1 and 4.6).
 
 ghost use Rattle.std.specs.Prelude.{◌≡◌, ◌≤◌, ◌<◌, IfSome, List, length, slice_index};
-ghost use Rattle.std.specs.Str.{IsCharBoundary};
-ghost use Rattle.rox_grammar.specs.Chars.{is_char, is_name_char};
+ghost use Rattle.rox_grammar.specs.Chars.{is_char};
 ghost use Rattle.rox_grammar.specs.Entities.{Entity, text_of};
 ghost use Rattle.rox_grammar.specs.References as spec;
-ghost use Rattle.rox_grammar.specs.Runs as grammar;
 ghost use Rattle.rox_reading.specs.Values as reading;
-ghost use Rattle.rox_bytes.specs.ScanResults.{Finds};
 ghost use Rattle.rox_values.specs.DeclaredEntities.{AreDeclared};
 ghost use Rattle.rox_values.specs.Values.{AreDigits, FindsEntity, IsBeforeSemicolon, IsOnward, NamesCharacter, ReadsReference, TellsDigit, base_of, is_digit_of};
 
 use crate::context::Context;
-use rox_bytes::byte_set::{PartByte, skip_set};
-use rox_bytes::chars::{Class, NameChar, NameStart, XmlChar};
-use rox_bytes::runs::{after_byte, begins, is_at, run_end};
+use rox_bytes::chars::{Class, NameStart, XmlChar};
+use rox_bytes::runs::{after_byte, begins, is_at};
 use rox_grammar::fault::{Fault, Span};
-use rox_scan::cursor::Cursor;
+use rox_scan::cursor::{Cursor, name_end};
 
 /// What a reference names: a character, or an entity, by the span of its name and by its name.
 #[derive(Clone, Copy)]
@@ -138,17 +134,6 @@ fn predefined(name: &str) -> Option<char>
     }
 }
 
-/// Returns the end of the name that starts at the cursor. Its first ASCII bytes except colons, most often all, are passed by
-/// vectors.
-#[inline(always)]
-fn name_end(from: Cursor<'_>) -> usize
-    ensures { Finds from.entry.text.now from.entry.pos result
-        (grammar.run_end is_name_char from.entry.text.now from.entry.pos) }
-{
-    let text = from.text;
-    run_end::<NameChar>(text, skip_set::<PartByte>(text, from.pos))
-}
-
 /// Returns the character of the reference from `at` up to the `;` at `end` if it has one of the five predefined names, and the offset
 /// after it.
 #[inline(always)]
@@ -198,7 +183,7 @@ fn name_reference<'input>(cursor: &mut Cursor<'input>) -> Result<Reference<'inpu
     if !begins::<NameStart>(text, start) {
         return Err(Fault::MalformedEntityReference(reference));
     }
-    let end = name_end(Cursor { text, pos: start });
+    let end = name_end(text, start);
     if !is_at(text, end, b';') {
         return Err(Fault::MalformedEntityReference(reference));
     }
