@@ -6,7 +6,7 @@ ghost use Rattle.rox_scopes.specs.Bindings.{AreOnce, FindsPlace};
 
 use rox_compare::compare::{Pair, same_short};
 use rox_scopes::namespace::Namespace;
-use rox_scopes::scope::find_by_guess;
+use rox_scopes::scope::find_in_order;
 
 /// Returns the first bit of the slot of a prefix. Each of the sixteen slots has four bits. Few prefixes of a document have one
 /// slot, which depends on the first byte and on the length.
@@ -66,7 +66,7 @@ fn place_beyond(
     ensures { FindsPlace namespaces.now places.now (Some prefix.now) result }
 {
     let mut index = 0;
-    let found = find_by_guess(namespaces, places, prefix, &mut index);
+    let found = find_in_order(namespaces, places, Some(prefix), &mut index);
     *near = *near & !(15 << slot) | (index & 15) << slot;
     found
 }

@@ -1,5 +1,5 @@
 -- The table of pairs.
-use Rattle.std.proofs.Common.{◌≡◌, ℕ, zero, suc, ◌+◌, ◌<◌, ◌||◌, not, Bor, Bool, true, false, cond, List, [], ◌∷◌, ◌++◌, length, map, take, drop, get_or, add-one, drop-cons, is_some, refl, sym, ap, ◌∙◌, arith, Option, Some, None, inl, inr}
+use Rattle.std.proofs.Common.{◌≡◌, ℕ, zero, suc, ◌+◌, ◌<◌, ◌||◌, Bool, true, false, cond, List, [], ◌∷◌, ◌++◌, length, map, take, drop, get_or, add-one, drop-cons, is_some, refl, sym, ap, ◌∙◌, arith, Option, Some, None, inl, inr}
 use Rattle.std.proofs.lemmas.Bool.{cases_Bool}
 use Rattle.std.proofs.lemmas.List.{take_more, map-append, take-append-drop}
 use Rattle.rox_grammar.specs.Written.{NamespaceDecl}
@@ -8,14 +8,7 @@ pub use Rattle.rox_grammar.proofs.PairLemmas.{same_prefix-true, same_prefix-refl
 use Rattle.rox_scopes.specs.declared.namespace.Namespace.{Namespace}
 use Rattle.rox_reading.specs.AtIndex.{namespace_at}
 use Rattle.rox_scopes.specs.NamespaceViews.{namespace_view}
-use Rattle.rox_scopes.specs.Scopes.{prefix_view, entries, ArePlaces}
-
--- a prefix is the default if it is none
-pub none_same : (p : Option (Bor (List ℕ))) (b : Bool) → is_some p ≡ not b → same_prefix (prefix_view p) None ≡ b
-none_same None true h = refl
-none_same None false h = cc h
-none_same (Some p) true h = cc h
-none_same (Some p) false h = refl
+use Rattle.rox_scopes.specs.Scopes.{entries, ArePlaces}
 
 -- the entry of a row of the table
 pub namespace_at-get : (rows : List Namespace) (i : ℕ) (d : Namespace) → i < length rows → namespace_at (map namespace_view rows) i ≡ namespace_view (get_or rows i d)

@@ -7,13 +7,13 @@ ghost use Rattle.rox_scopes.specs.NamespaceViews.{namespace_view};
 ghost use Rattle.rox_scopes.specs.Scopes.{prefix_view, entries, ArePlaces, PrefixesOnce, others};
 ghost use Rattle.rox_scopes.specs.PrefixSet.{HasPrefixes, IsBelowFew};
 ghost use Rattle.rox_scopes.specs.Ropes.{GivesFew, IsScope};
-ghost use Rattle.rox_scopes.specs.Bindings.{AreOnce, FindsPlace, LooksUp, LooksWithin, places_view};
+ghost use Rattle.rox_scopes.specs.Bindings.{FindsPlace, LooksUp, LooksWithin, places_view};
 
 use crate::bindings::PrefixBindings;
 use crate::namespace::Namespace;
 use crate::prefix_set::{FEW, has_prefix};
 use crate::stored_scope::{OwnDeclarations, Scope, Stretch};
-use rox_compare::compare::{LONG, Pair, same_short, same_text};
+use rox_compare::compare::same_text;
 use std::alloc::AllocError;
 use std::collections::BTreeSet;
 
@@ -35,39 +35,6 @@ pub fn same_prefix(one: Option<&str>, other: Option<&str>) -> bool
     }
 }
 
-/// Returns whether `name` is `prefix`, not the default. It is meant for short prefixes.
-#[inline(always)]
-fn is_short_prefix(name: Option<&str>, prefix: &str) -> bool
-    ensures { result ≡ same_prefix (prefix_view name.entry) (Some prefix.now) }
-{
-    match name {
-        Some(name) => {
-            if name.len() != prefix.len() {
-                return false;
-            }
-            same_short(Pair {
-                one: name.as_bytes(),
-                other: prefix.as_bytes(),
-            })
-        }
-        None => false,
-    }
-}
-
-/// Returns the first of these places whose namespace is the default.
-#[inline(always)]
-pub fn default_place(namespaces: &[Namespace<'_>], places: &[u16]) -> Option<u16>
-    requires { ArePlaces (length namespaces.now) places.now }
-    ensures { FindsPlace namespaces.now places.now None result }
-{
-    for place in places {
-        if namespaces[*place as usize].name.is_none() {
-            return Some(*place);
-        }
-    }
-    None
-}
-
 /// Returns the listed places of a scope that lists few; otherwise `None`.
 #[inline(always)]
 pub fn few_places<'a>(scopes: &[Scope], listed: &'a [u16], scope: u32) -> Option<&'a [u16]>
@@ -80,80 +47,26 @@ pub fn few_places<'a>(scopes: &[Scope], listed: &'a [u16], scope: u32) -> Option
     }
 }
 
-/// Returns the first of these places whose namespace has this prefix. It is meant for long prefixes.
-#[cold]
+/// Returns the first of these places whose namespace has this prefix, or is the default for `None`. It stores the index of that
+/// place in `near`. It is out of line. In line, it would make the code that reads an attribute too large to be in line itself,
+/// which most attributes would pay for.
 #[inline(never)]
-fn place_of_long(namespaces: &[Namespace<'_>], places: &[u16], prefix: &str) -> Option<u16>
-    requires { ArePlaces (length namespaces.now) places.now }
-    ensures { FindsPlace namespaces.now places.now (Some prefix.now) result }
-{
-    for place in places {
-        if same_prefix(namespaces[*place as usize].name, Some(prefix)) {
-            return Some(*place);
-        }
-    }
-    None
-}
-
-/// Returns the first of these places whose namespace has this prefix. It is out of line. In line, it would make the code that
-/// reads an attribute too large to be in line itself, which most attributes would pay for.
-#[inline(never)]
-fn place_of_prefix(namespaces: &[Namespace<'_>], places: &[u16], prefix: &str) -> Option<u16>
-    requires { ArePlaces (length namespaces.now) places.now }
-    ensures { FindsPlace namespaces.now places.now (Some prefix.now) result }
-{
-    if prefix.len() >= LONG {
-        return place_of_long(namespaces, places, prefix);
-    }
-    for place in places {
-        if is_short_prefix(namespaces[*place as usize].name, prefix) {
-            return Some(*place);
-        }
-    }
-    None
-}
-
-/// Like `find_by_guess`, but searches all places in order, and stores the index of the one found in `near`. It is out of line:
-/// few attributes have another prefix than the one before them.
-#[inline(never)]
-fn find_in_order(
+pub fn find_in_order(
     namespaces: &[Namespace<'_>],
     places: &[u16],
-    prefix: &str,
+    prefix: Option<&str>,
     near: &mut usize,
 ) -> Option<u16>
     requires { ArePlaces (length namespaces.now) places.now }
-    ensures { FindsPlace namespaces.now places.now (Some prefix.now) result }
+    ensures { FindsPlace namespaces.now places.now (prefix_view prefix.entry) result }
 {
     for (index, place) in places.iter().enumerate() {
-        if same_prefix(namespaces[*place as usize].name, Some(prefix)) {
+        if same_prefix(namespaces[*place as usize].name, prefix) {
             *near = index;
             return Some(*place);
         }
     }
     None
-}
-
-/// Returns the one of these places whose namespace has this prefix. It first tries the index `near`, where the last search ended:
-/// most names of a tag have the same prefix.
-#[inline(always)]
-pub fn find_by_guess(
-    namespaces: &[Namespace<'_>],
-    places: &[u16],
-    prefix: &str,
-    near: &mut usize,
-) -> Option<u16>
-    requires { AreOnce namespaces.now places.now }
-    ensures { FindsPlace namespaces.now places.now (Some prefix.now) result }
-{
-    let guess = *near;
-    if guess < places.len() {
-        let place = places[guess];
-        if is_short_prefix(namespaces[place as usize].name, prefix) {
-            return Some(place);
-        }
-    }
-    find_in_order(namespaces, places, prefix, near)
 }
 
 /// Returns the place of a prefix: the first among the places `few`, or that of its binding in `present` if `few` is `None`.
@@ -168,7 +81,7 @@ pub fn find_prefix(
     ensures { LooksUp namespaces.now (places_view few.entry) present.now (Some prefix.now) result }
 {
     match few {
-        Some(places) => place_of_prefix(namespaces, places, prefix),
+        Some(places) => find_in_order(namespaces, places, Some(prefix), &mut 0),
         None => present.find(Some(prefix)),
     }
 }
@@ -184,7 +97,7 @@ pub fn find_default(
     ensures { LooksUp namespaces.now (places_view few.entry) present.now None result }
 {
     match few {
-        Some(places) => default_place(namespaces, places),
+        Some(places) => find_in_order(namespaces, places, None, &mut 0),
         None => match present.get(None) {
             Some(place) => Some(place.namespace),
             None => None,
@@ -200,11 +113,7 @@ pub fn is_declared(namespaces: &[Namespace<'_>], places: &[u16], prefix: Option<
     ensures { result ≡ is_declared (prefix_view prefix.entry)
         (entries (map namespace_view namespaces.now) places.now) }
 {
-    let place = match prefix {
-        Some(prefix) => place_of_prefix(namespaces, places, prefix),
-        None => default_place(namespaces, places),
-    };
-    match place {
+    match find_in_order(namespaces, places, prefix, &mut 0) {
         Some(_) => true,
         None => false,
     }

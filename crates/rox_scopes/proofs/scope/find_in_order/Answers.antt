@@ -1,6 +1,7 @@
-use Rattle.std.proofs.Common.{◌≡◌, ◌<◌, length, get_or, true, false, map, sym, ap, ◌∙◌, arith, Some}
+use Rattle.std.proofs.Common.{◌≡◌, ◌<◌, length, get_or, true, false, map, sym, ap, ◌∙◌, arith}
 use Rattle.rox_grammar.specs.Tree.{same_prefix}
 use Rattle.rox_scopes.specs.NamespaceViews.{namespace_view}
+use Rattle.rox_scopes.specs.Scopes.{prefix_view}
 use Rattle.rox_grammar.specs.Written.{NamespaceDecl}
 use Rattle.rox_scopes.proofs.Pairs.{namespace_at-get, place_at, uri_here, uri_none_more}
 use Rattle.rox_scopes.proofs.scope.find_in_order.Goals as goal
@@ -11,7 +12,7 @@ returns-then-same_prefix c =
     let places = c.args.places.now in
     let k = c.loop-index.index in
     let item = c.index-namespaces-place.result in
-    let p = Some c.args.prefix.now in
+    let p = prefix_view c.args.prefix in
     let place = get_or places k 0 in
     let lt : k < length places = omega arith in
     let here : place < length rows = place_at (length rows) places k 0 c.requires lt in
@@ -25,7 +26,7 @@ loop-index-preserved c =
     let places = c.args.places.now in
     let k = c.loop-index.index in
     let item = c.index-namespaces-place.result in
-    let p = Some c.args.prefix.now in
+    let p = prefix_view c.args.prefix in
     let place = get_or places k 0 in
     let lt : k < length places = omega arith in
     let here : place < length rows = place_at (length rows) places k 0 c.requires lt in
