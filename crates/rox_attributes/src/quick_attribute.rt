@@ -2,18 +2,15 @@
 //! 3.1 and 4.6). Nothing fails here: if an attribute is not read, the general reader reads its tag again, from its `<`.
 
 ghost use Rattle.std.specs.Prelude.{◌^◌, ◌≡◌, ◌<◌, ◌+◌, ◌-◌, ◌==◌, ◌||◌, IfSome, length, bytes_eq, false, []};
-ghost use Rattle.std.specs.Str.{IsCharBoundary};
 ghost use Rattle.rox_bytes.specs.ScanResults.{EndsNear as StartsNear};
-ghost use Rattle.rox_grammar.specs.Runs.{begins};
 ghost use Rattle.rox_grammar.specs.Failures.{name_view};
 ghost use Rattle.rox_grammar.specs.Written.{Name};
 ghost use Rattle.rox_attributes.specs.PlainAttribute.{HasScope, IsAttributeNamespace, IsPlainAttribute, MayPut, MayPutNamed, MayPutPart, PutsPlain, PutsSome};
 
 use crate::any_value::any_value;
 use crate::prefix_cache::find_in_slot;
-use rox_bytes::byte_set::{PartByte, ValueByte, part_end, part_end_beyond, skip_set};
-use rox_bytes::chars::NameStart;
-use rox_bytes::runs::{after_byte, begins, is_at};
+use rox_bytes::byte_set::{PartByte, ValueByte, part_end_beyond, skip_set};
+use rox_bytes::runs::{after_byte, is_at};
 use rox_bytes::window::{WIDTH, Window};
 use rox_compare::compare::same_text;
 use rox_grammar::name::QName;
@@ -26,11 +23,9 @@ use rox_rows::stored_attribute::EXPLICIT;
 use rox_scopes::scope::few_places;
 use rox_seen::recent_texts::Recent;
 use rox_seen::seen_names::SeenNames;
-use rox_storage::storage::StringStorage;
 use rox_verbatim::quick_name::{
     NameAt, NamePlace, name_of_part, name_without_prefix, prefixed_name, some_place,
 };
-use rox_verbatim::quick_space::one_space_end;
 use rox_verbatim::quick_value::{
     UnchangedValue, any_value_start, quote_after_equals, quote_before, quote_in_text,
     unchanged_value, unchanged_value_end, value_in_window,

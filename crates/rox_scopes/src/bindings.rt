@@ -2,7 +2,6 @@
 //! in it: the bindings of the scopes around. These are restored when one of those scopes is asked for.
 
 ghost use Rattle.std.specs.Prelude.{◌≡◌, ◌<◌, ◌≤◌, ◌+◌, ◌-◌, ◌++◌, ◌⊎◌, ℕ, List, Option, Some, None, true, length, map, take, reverse, slice_index, slice_range, OnOk, if◌then◌else◌};
-ghost use Rattle.rox_grammar.specs.Tree.{same_prefix};
 ghost use Rattle.rox_grammar.specs.Written.{NamespaceDecl};
 ghost use Rattle.rox_reading.specs.AtIndex.{namespace_at, scope_at};
 ghost use Rattle.rox_scopes.specs.ScopeRows.{lists_of};

@@ -4,10 +4,8 @@
 ghost use Rattle.std.specs.Prelude.{◌≡◌, ◌<◌, ◌≤◌, ◌∷◌, [], length, map, true, false, IfSome, IfNone, IfOk, Err};
 ghost use Rattle.rox_grammar.specs.Written.{NamespaceDecl};
 ghost use Rattle.rox_grammar.specs.Document.{same_pair, most_pairs};
-ghost use Rattle.rox_grammar.specs.Counts.{has_pair, with_new};
 ghost use Rattle.rox_grammar.specs.declared.fault.Fault.{Fault};
 ghost use Rattle.rox_storage.specs.Storage.{storage_bytes};
-ghost use Rattle.rox_reading.specs.AtIndex.{namespace_at};
 ghost use Rattle.rox_scopes.specs.NamespaceViews.{namespace_view};
 ghost use Rattle.rox_scopes.specs.Scopes.{prefix_view, pair};
 ghost use Rattle.rox_scopes.specs.PairIndex.{AddsPair, FindsPair, IsNewPair, PlacesOrRefuses, few_pairs, key_cmp, key_total, pair_cmp, place_among, place_behind, place_of};
