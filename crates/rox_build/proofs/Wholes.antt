@@ -14,7 +14,7 @@ use Rattle.rox_values.specs.declared.parse_error.ParseError.{ParseError}
 use Rattle.rox_values.proofs.PartLemmas.{refuses_by}
 use Rattle.rox_grammar.specs.Entities.{Entity}
 use Rattle.rox_values.proofs.Lifting.{lifted_ok, lifted_err}
-use Rattle.rox_theory.proofs.Basics.{bind_ok}
+use Rattle.rox_theory.proofs.Basics.{bind_ok, chosen}
 use Rattle.rox_prolog.proofs.Rooted.{branch_of, misc_open}
 
 -- ---- the root element and what follows it
@@ -48,10 +48,6 @@ pub a_body : (limit : ℕ) (es : List Entity) (context : Context) (src : List �
 a_body limit es context src s t u v main here tag inner after = let k = lifted_ok (misc limit (length src) src u) v after in begun limit es context src s main here ∙ rw (tag, inner, k) refl
 
 -- ---- nothing is open behind it
-
-chosen : {X P : Type 0} (b : Bool) (x y z : X) → (if b then x else y) ≡ z → (b ≡ true → x ≡ z → P) → (b ≡ false → y ≡ z → P) → P
-chosen true x y z h one other = one refl h
-chosen false x y z h one other = other refl h
 
 ok_is : {A E : Type 0} (x y : A) → ◌≡◌ {A = Result A E} (Ok x) (Ok y) → y ≡ x
 ok_is x y h = cc h

@@ -207,7 +207,7 @@ none_among p q src i e (suc n) same within all apart =
     let first : e - i ≡ suc (e - (i + 1)) = omega arith in
     rw (first, drop_more src i 0 (omega arith), apart _ (all i (omega arith) (omega arith))) (none_among p q src (i + 1) e n (omega arith) within (λ k low high. all k (omega arith) high) apart)
 
-either_first : (q : ℕ) → (q == q || q == 60) ≡ true
+pub either_first : (q : ℕ) → (q == q || q == 60) ≡ true
 either_first q = grind (arith, nat_tests)
 
 pub value_apart : (quote b : ℕ) → (quote == 39 || quote == 34) ≡ true → is_value_byte b ≡ true → (b == quote || b == 60) ≡ false

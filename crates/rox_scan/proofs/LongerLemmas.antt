@@ -2,7 +2,7 @@
 use Rattle.std.proofs.Common.{◌≡◌, ◌≢◌, ◌⊎◌, ◌++◌, append_assoc, ℕ, suc, ◌+◌, ◌-◌, ◌<◌, ◌≤◌, ◌==◌, ◌||◌, ◌&&◌, leb, Bool, true, false, not, List, ◌∷◌, Ok, length, length-drop, get_or-drop, get_or, drop, slice_range, refl, sym, ap, ◌∙◌, arith, inl, inr}
 use Rattle.std.specs.List.{list_any, starts_with}
 use Rattle.std.specs.Str.{IsUtf8, IsCharBoundary}
-use Rattle.std.proofs.lemmas.Bool.{cases_eq, cases_lt, eqb-true, le-leb, leb-true, le-ltb, lt-leb, ne_eqb, eq-eqb, false≢true}
+use Rattle.std.proofs.lemmas.Bool.{cases_eq, cases_lt, eqb-true, le-leb, leb-true, le-ltb, lt-leb, ne_eqb, eq-eqb, false≢true, not-true, or_parts}
 use Rattle.std.proofs.lemmas.Bool.Decides.{nat_tests, Decides-eqb}
 use Rattle.std.proofs.lemmas.Slice.Eq.{starts_is}
 use Rattle.std.proofs.lemmas.List.{drop_more, get_or_past, get_or-take, drop-drop, take-append-drop, drop-append-le}
@@ -17,7 +17,7 @@ use Rattle.rox_reading.specs.Markup.{raw_value_at, comment_at}
 use Rattle.rox_reading.specs.Values.{is_special}
 use Rattle.rox_bytes.specs.ByteSets.{is_char_byte, AllPass, EndsEased, is_value_byte, is_any_value_byte, is_quoted_byte, is_text_byte, is_comment_byte, is_ascii_comment_byte}
 use Rattle.rox_scan.specs.Lookahead.{IsLookahead, ends_value, ends_run, changes_run, is_changed_text_byte, is_changed_value_byte, ends_comment, none_changes}
-use Rattle.rox_bytes.proofs.NearLemmas.{near_chars, near_found, none_among, value_is_plain, value_cut, value_widens, any_value_is_plain, any_value_cut, quoted_is_plain, quoted_cut, text_is_plain, text_cut, comment_is_plain, comment_cut, ascii_comment_widens, ascii_comment_cut}
+use Rattle.rox_bytes.proofs.NearLemmas.{either_first, near_chars, near_found, none_among, not_zero, value_is_plain, value_cut, value_widens, any_value_is_plain, any_value_cut, quoted_is_plain, quoted_cut, text_is_plain, text_cut, comment_is_plain, comment_cut, ascii_comment_widens, ascii_comment_cut}
 use Rattle.rox_bytes.proofs.EasedLemmas.{eased_byte, eased_chars}
 use Rattle.rox_bytes.proofs.MarkLemmas.{before_mark_is, not_from_first, fails, stands_split, stands_from_split}
 use Rattle.rox_scan.proofs.CharLemmas.{chars_joined}
@@ -34,18 +34,6 @@ and_true false = refl
 not_either : (a b : Bool) → not (a || b) ≡ (not a && not b)
 not_either true b = refl
 not_either false b = refl
-
-not_true : (b : Bool) → not b ≡ true → b ≡ false
-not_true true h = cc h
-not_true false h = refl
-
-or_left : (a b : Bool) → (a || b) ≡ false → a ≡ false
-or_left true b h = cc h
-or_left false b h = refl
-
-or_more : (a b : Bool) → (a || b) ≡ false → b ≡ false
-or_more true b h = cc h
-or_more false b h = h
 
 -- a text that does not begin with the mark has no front that does
 no_front : (mark front whole rest : List ℕ) → whole ≡ front ++ rest → starts_with ◌==◌ whole mark ≡ false → starts_with ◌==◌ front mark ≡ false
@@ -190,12 +178,6 @@ pub value_char : (src : List ℕ) (quote i j n : ℕ) (verbatim : Bool) → IsUt
 value_char src quote i j n verbatim utf8 q start f some cut chars wide here =
     looked_on is_special (ends_value quote src) src i j n verbatim _ utf8 start f (char_looked is_special (ends_value quote src) src j n some cut chars wide wide_same (λ k h. wide_open quote _ q h) here)
 
-not_zero : (quote : ℕ) → (quote == 39 || quote == 34) ≡ true → 0 < quote
-not_zero quote q = grind (arith, nat_tests)
-
-either_first : (q : ℕ) → (q == q || q == 60) ≡ true
-either_first q = grind (arith, nat_tests)
-
 -- what a value is read as whose quote stands behind it
 pub looked_value : (src : List ℕ) (quote i e : ℕ) (verbatim : Bool) → (quote == 39 || quote == 34) ≡ true → IsLookahead (ends_value quote src) is_special src i e verbatim → (get_or src e 0 == quote) ≡ true
     → raw_value_at quote src i ≡ Ok (slice_range src i e, e)
@@ -203,7 +185,7 @@ unfolding raw_value_at chars_up_to
 looked_value src quote i e verbatim q f here =
     let at : get_or src e 0 ≡ quote = eqb-true _ _ here in
     let within : e < length src = elim (cases_lt e (length src)) [ inl more ↦ more | inr past ↦ absurd (omega (arith, at, get_or_past src e 0 past, not_zero quote q)) ] in
-    let found = near_found (λ b. not (b == quote || b == 60)) (λ c. c == quote || c == 60) src i e f.onward f.cut.0 (λ k low high. ap not (f.apart k low high)) (λ b h. not_true (b == quote || b == 60) h) (λ more. rw at (either_first quote)) in
+    let found = near_found (λ b. not (b == quote || b == 60)) (λ c. c == quote || c == 60) src i e f.onward f.cut.0 (λ k low high. ap not (f.apart k low high)) (λ b h. not-true (b == quote || b == 60) h) (λ more. rw at (either_first quote)) in
     rw (found, lt-leb (length src) e within, f.chars, le-ltb e e (omega arith)) refl
 
 -- ---- runs
@@ -313,7 +295,7 @@ run_eased src i e utf8 start f =
       cut = cut;
       chars = eased_chars is_text_byte src i e utf8 start f.onward cut f.passes text_is_plain;
       apart = λ k low high. eased_run_end src k (each k low high);
-      verbatim_is = sym (ap not (none_among (λ b. not (changes_run b)) changes_run src i e (e - i) (omega (arith, f.onward)) f.within (λ k low high. ap not (eased_run_byte _ (each k low high))) (λ b h. not_true (changes_run b) h)));
+      verbatim_is = sym (ap not (none_among (λ b. not (changes_run b)) changes_run src i e (e - i) (omega (arith, f.onward)) f.within (λ k low high. ap not (eased_run_byte _ (each k low high))) (λ b h. not-true (changes_run b) h)));
     }
 
 -- and of one character
@@ -340,8 +322,8 @@ pub looked_run : (src : List ℕ) (i e : ℕ) (verbatim : Bool) → IsLookahead 
     → (byte_from (λ c. c == 60) src i ≡ e) × (chars_up_to e src i ≡ Ok (slice_range src i e, e)) × (has_mark (word_text word.CDataEnd) (slice_range src i e) ≡ false)
 unfolding chars_up_to
 looked_run src i e verbatim f here =
-    let found = near_found (λ b. not (b == 60)) (λ c. c == 60) src i e f.onward f.cut.0 (λ k low high. ap not (or_left _ _ (f.apart k low high))) (λ b h. not_true (b == 60) h) (λ more. eq-eqb _ _ (here more)) in
-    let clear : has_mark (word_text word.CDataEnd) (slice_range src i e) ≡ false = mark_within (word_text word.CDataEnd) src i e (omega arith) f.cut.0 f.onward (λ k low high. or_more _ _ (f.apart k low high)) in
+    let found = near_found (λ b. not (b == 60)) (λ c. c == 60) src i e f.onward f.cut.0 (λ k low high. ap not (or_parts _ _ (f.apart k low high)).0) (λ b h. not-true (b == 60) h) (λ more. eq-eqb _ _ (here more)) in
+    let clear : has_mark (word_text word.CDataEnd) (slice_range src i e) ≡ false = mark_within (word_text word.CDataEnd) src i e (omega arith) f.cut.0 f.onward (λ k low high. (or_parts _ _ (f.apart k low high)).1) in
     (found, rw (f.chars, le-ltb e e (omega arith)) refl, clear)
 
 -- ---- comments

@@ -1,5 +1,6 @@
 -- Start tags that have one declaration, before their attributes, as an earlier tag below the same namespaces had.
-use Rattle.std.proofs.Common.{◌≡◌, ℕ, zero, suc, ◌+◌, ◌-◌, ◌<◌, ◌≤◌, ◌||◌, ◌==◌, not, filter, Bool, true, false, List, [], ◌∷◌, ◌++◌, Some, length, map, take, drop, get_or, bytes_eq, refl, sym, ap, subst, ◌∙◌, arith}
+use Rattle.std.proofs.Common.{◌≡◌, ℕ, zero, suc, ◌+◌, ◌-◌, ◌<◌, ◌≤◌, ◌==◌, not, filter, true, false, List, [], ◌∷◌, ◌++◌, Some, length, map, take, drop, get_or, bytes_eq, refl, sym, ap, subst, ◌∙◌, arith}
+use Rattle.std.proofs.lemmas.Bool.{or_left, or_parts, or_right}
 use Rattle.std.proofs.lemmas.Slice.Eq.{bytes_eq-Decides}
 use Rattle.std.proofs.lemmas.List.{length-map, take_all}
 use Rattle.rox_grammar.specs.Counts.{has_pair, with_new}
@@ -30,25 +31,14 @@ use Rattle.rox_tags.proofs.WholeTags.{Begins, scope_of_parent}
 
 -- ---- what the scope lists
 
-or_first : (a b : Bool) → a ≡ true → (a || b) ≡ true
-or_first a b h = rw h refl
-
-or_second : (a b : Bool) → b ≡ true → (a || b) ≡ true
-or_second true b h = refl
-or_second false b h = h
-
-or_parts : (a b : Bool) → (a || b) ≡ false → (a ≡ false) × (b ≡ false)
-or_parts true b h = cc h
-or_parts false b h = (refl, h)
-
 same_pair-refl : (d : NamespaceDecl) → same_pair d d ≡ true
 same_pair-refl d = rw (same_prefix-refl d.prefix, same_prefix-refl (Some d.uri)) refl
 
 -- a pair at a place is in the table
 pub pair_at : (ds : List NamespaceDecl) (i : ℕ) (d : NamespaceDecl) → i < length ds → namespace_at ds i ≡ d → has_pair ds d ≡ true
 pair_at [] i d within is = absurd (omega arith)
-pair_at (x ∷ xs) zero d within is = or_first (same_pair x d) (has_pair xs d) (ap (λ (e : NamespaceDecl). same_pair e d) is ∙ same_pair-refl d)
-pair_at (x ∷ xs) (suc i) d within is = or_second (same_pair x d) (has_pair xs d) (pair_at xs i d (omega arith) is)
+pair_at (x ∷ xs) zero d within is = or_left (same_pair x d) (has_pair xs d) (ap (λ (e : NamespaceDecl). same_pair e d) is ∙ same_pair-refl d)
+pair_at (x ∷ xs) (suc i) d within is = or_right (same_pair x d) (has_pair xs d) (pair_at xs i d (omega arith) is)
 
 -- the first of the places, and the others
 pub one_more : (table : List Namespace) (places around : List ℕ) (d : NamespaceDecl) (m : Namespace) → ArePlaces (length table) places → length places ≡ length around + 1 → m ≡ get_or table (get_or places 0 0) m

@@ -3,7 +3,7 @@ use Rattle.std.proofs.Common.{◌≡◌, ℕ, zero, suc, ◌+◌, ◌-◌, ◌<�
 use Rattle.std.specs.List.{AllByRecursion, list_any}
 use Rattle.std.specs.Borrow.{Bor}
 use Rattle.std.specs.Option.{IfSome}
-use Rattle.std.proofs.lemmas.Bool.{lt-leb}
+use Rattle.std.proofs.lemmas.Bool.{lt-leb, or_left}
 use Rattle.std.proofs.lemmas.List.{append-nil, length-map, map-append, take_all}
 use Rattle.std.proofs.lemmas.List.Elements.{filter-append}
 use Rattle.std.proofs.lemmas.List.Folds.{list_any-append}
@@ -56,11 +56,8 @@ use Rattle.rox_tags.proofs.PlainTags.{item_closed, item_opened, others_stay, sco
 
 -- ---- names in a scope that grows
 
-or_more : (a b : Bool) → a ≡ true → (a || b) ≡ true
-or_more a b h = rw h refl
-
 declared_more : (prefix : Option (List ℕ)) (ds later : List NamespaceDecl) → is_declared prefix ds ≡ true → is_declared prefix (ds ++ later) ≡ true
-declared_more prefix ds later h = list_any-append (λ d. same_prefix d.prefix prefix) ds later ∙ or_more (is_declared prefix ds) (is_declared prefix later) h
+declared_more prefix ds later h = list_any-append (λ d. same_prefix d.prefix prefix) ds later ∙ or_left (is_declared prefix ds) (is_declared prefix later) h
 
 uri_more : (prefix : Option (List ℕ)) (ds later : List NamespaceDecl) → is_declared prefix ds ≡ true → uri_of (ds ++ later) prefix ≡ uri_of ds prefix
 uri_more prefix [] later h = cc h
