@@ -1,5 +1,5 @@
 -- Where a construct is, nothing that is required in it lacks: so no fault of it is there.
-use Rattle.std.proofs.Common.{◌≡◌, ℕ, ◌+◌, ◌<◌, ◌⊎◌, true, List, [], ◌∷◌, take, refl, sym, ◌∙◌, subst, arith, inl, inr}
+use Rattle.std.proofs.Common.{◌≡◌, ℕ, ◌+◌, ◌<◌, ◌⊎◌, true, List, take, refl, sym, ◌∙◌, subst, arith, inl, inr}
 use Rattle.std.specs.Str.{IsUtf8, IsCharBoundary}
 use Rattle.std.proofs.lemmas.Bool.{true≢false}
 use Rattle.rox_grammar.specs.declared.fault.Fault.{Fault}
@@ -18,7 +18,7 @@ use Rattle.rox_grammar.specs.Due.{DueItem, a_name, a_qname, a_byte, a_text, char
 use Rattle.rox_faults.proofs.DueForms.{a_space}
 use Rattle.rox_grammar.specs.Due as due
 use Rattle.rox_grammar.specs.Faults.{InMisc, comment_lacks, double_dashes, a_declaration, instruction_lacks}
-use Rattle.rox_grammar.proofs.AtPlace.{run_at_end, space_ascii}
+use Rattle.rox_grammar.proofs.AtPlace.{mark_from_cut, run_at_end, space_ascii}
 use Rattle.rox_theory.proofs.Productions.{comment_parts, pi_parts}
 use Rattle.rox_theory.proofs.FirstMarks.{comment_ends}
 use Rattle.rox_theory.proofs.Basics.{within, run_end_le}
@@ -28,7 +28,7 @@ use Rattle.rox_theory.proofs.DeclarationLemmas.{stands_reads, stands_fits}
 use Rattle.rox_theory.proofs.Places.{stands_two}
 use Rattle.rox_theory.proofs.Constructions.{comment_bytes, instruction_bytes}
 use Rattle.rox_theory.proofs.FailedReadings.{chars_refuse}
-use Rattle.rox_faults.proofs.FaultRows.{mark_cut, behind}
+use Rattle.rox_faults.proofs.FaultRows.{behind}
 
 -- The declaration begins as a processing instruction does.
 pub declaration_bytes : (src : List ℕ) (i : ℕ) → at word.XmlDeclStart src i ≡ true → at word.PIStart src i ≡ true
@@ -83,7 +83,7 @@ module _ (src : List ℕ) (utf8 : IsUtf8 src) where
   comment_apart i e j q t f is due' lack =
       let three : i + 3 + 1 ≡ i + 4 = omega arith in
       let cut = subst (IsCharBoundary src) three (behind word.CommentStart src i 3 45 utf8 (comment_parts is).opens (omega arith) refl (omega arith) (omega arith)) in
-      text_stands expected.CommentEnd (i + 4) e q t f cut (mark_cut (word_text word.CommentEnd) 45 (45 ∷ 62 ∷ []) src (i + 4) refl (omega arith) cut.0) (comment_ends src (i + 4) e (comment_parts is).dashes (comment_parts is).closes) (comment_parts is).chars (comment_parts is).closes due' lack
+      text_stands expected.CommentEnd (i + 4) e q t f cut (mark_from_cut (word_text word.CommentEnd) src (i + 4) (omega arith) (omega arith) cut.0) (comment_ends src (i + 4) e (comment_parts is).dashes (comment_parts is).closes) (comment_parts is).chars (comment_parts is).closes due' lack
 
   -- In an instruction: its name ends in one place.
   instruction_apart : (i n e j q : ℕ) (t : DueItem) (f : Fault) → IsPI src i n e j → DueInPI src i q t → IsMissing src q t f → ⊥
@@ -94,7 +94,7 @@ module _ (src : List ℕ) (utf8 : IsUtf8 src) where
       let v = spaces_end src n in
       let at_value : IsCharBoundary src v = run_cut is_space src n utf8 (subst (IsCharBoundary src) (sym (pi_parts is).target.longest) (run_cut is_name_char src (i + 2) utf8 cut)) in
       let same : m ≡ n = name.longest ∙ sym (pi_parts is).target.longest in
-      text_stands expected.PIEnd v e q t f at_value (mark_cut (word_text word.PIEnd) 63 (62 ∷ []) src v refl (omega arith) at_value.0) (pi_parts is).end (pi_parts is).chars (pi_parts is).closes
+      text_stands expected.PIEnd v e q t f at_value (mark_from_cut (word_text word.PIEnd) src v (omega arith) (omega arith) at_value.0) (pi_parts is).end (pi_parts is).chars (pi_parts is).closes
       (subst (λ (m : ℕ). DueInText expected.PIEnd src (spaces_end src m) q t) same value) lack
 
   -- One of both begins where a fault of them is.

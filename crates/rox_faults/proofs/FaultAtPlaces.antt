@@ -1,6 +1,6 @@
 -- At a place on the way of a parse no fault stands but those of the limits, and where it is within the limits none; nor does one
 -- stand in a value of a start tag there.
-use Rattle.std.proofs.Common.{◌≡◌, ◌≢◌, ℕ, zero, suc, ◌+◌, ◌-◌, ◌<◌, ◌≤◌, ◌⊎◌, ◌==◌, Bool, true, false, List, [], ◌∷◌, length, Some, Ok, refl, sym, ap, ◌∙◌, subst, arith, inl, inr}
+use Rattle.std.proofs.Common.{◌≡◌, ◌≢◌, ℕ, zero, suc, ◌+◌, ◌-◌, ◌<◌, ◌≤◌, ◌⊎◌, ◌==◌, Bool, true, false, List, [], length, Some, Ok, refl, sym, ap, ◌∙◌, subst, arith, inl, inr}
 use Rattle.std.specs.Str.{IsUtf8, IsCharBoundary}
 use Rattle.std.proofs.lemmas.Str.{IsCharBoundary-before_ascii, IsCharBoundary-end}
 use Rattle.std.proofs.lemmas.Bool.{cases_Bool, lt-leb, le-leb, eq-eqb, eqb-true, ne_eqb}
@@ -42,7 +42,8 @@ use Rattle.rox_theory.proofs.Steps.{after, fine_leaf, fine_opened}
 use Rattle.rox_faults.proofs.PartFronts.{to_entity, SpendsOnce, value_front}
 use Rattle.rox_theory.proofs.FailedReadings.{ok_one, chars_refuse}
 use Rattle.rox_faults.proofs.FaultLimits.{IsOver, nodes_over}
-use Rattle.rox_faults.proofs.FaultRows.{mark_cut, behind, run_stops_cut}
+use Rattle.rox_grammar.proofs.AtPlace.{mark_from_cut}
+use Rattle.rox_faults.proofs.FaultRows.{behind, run_stops_cut}
 use Rattle.rox_faults.proofs.FaultPoints.{context_at}
 use Rattle.rox_faults.proofs.FaultPlaces.{Tagged}
 use Rattle.rox_faults.proofs.FaultApart.{byte_stands, chars_stand, misc_begins, misc_apart, text_stands}
@@ -130,7 +131,7 @@ module _ (opens : ℕ → Inclusion) (es : List Entity) (all : OpensAt opens es)
         let is = (there_by opens es all limit W k open_around src here r a_cdata below (cdata_kind src s.at opens')).2 in
         let eight : s.at + 8 + 1 ≡ s.at + 9 = omega arith in
         let cut = subst (IsCharBoundary src) eight (behind word.CDataStart src s.at 8 91 r.utf8 opens' (omega arith) refl (omega arith) (omega arith)) in
-        text_stands src r.utf8 expected.CDataEnd (s.at + 9) _ q t f cut (mark_cut (word_text word.CDataEnd) 93 (93 ∷ 62 ∷ []) src (s.at + 9) refl (omega arith) cut.0) (cdata_parts is).end (cdata_parts is).chars (cdata_parts is).closes due' lack
+        text_stands src r.utf8 expected.CDataEnd (s.at + 9) _ q t f cut (mark_from_cut (word_text word.CDataEnd) src (s.at + 9) (omega arith) (omega arith) cut.0) (cdata_parts is).end (cdata_parts is).chars (cdata_parts is).closes due' lack
 
     -- In a comment or an instruction.
     item_there : (at word.CommentStart src s.at ≡ true) ⊎ (at word.PIStart src s.at ≡ true) → (j : ℕ) × (item : Item) × IsMisc src s.at j item

@@ -1,10 +1,9 @@
 -- Each construct that fails: what is required in it, and is not there.
-use Rattle.std.proofs.Common.{◌≡◌, ℕ, zero, suc, ◌+◌, ◌-◌, ◌^◌, ◌<◌, ◌≤◌, ◌⊎◌, ◌==◌, ◌||◌, Bool, true, false, eqb, leb, List, [], ◌∷◌, ◌++◌, length, drop, get_or, refl, sym, ap, ◌∙◌, subst, arith, inl, inr, length-drop, get_or-drop}
+use Rattle.std.proofs.Common.{◌≡◌, ℕ, zero, suc, ◌+◌, ◌-◌, ◌^◌, ◌<◌, ◌≤◌, ◌⊎◌, ◌==◌, ◌||◌, Bool, true, false, eqb, leb, List, [], ◌∷◌, ◌++◌, length, get_or, refl, sym, ap, ◌∙◌, subst, arith, inl, inr}
 use Rattle.std.specs.Prelude.{Err, Option, Some, None, bytes_eq}
-use Rattle.std.specs.List.{starts_with}
 use Rattle.std.specs.Str.{IsUtf8, IsCharBoundary}
 use Rattle.std.proofs.lemmas.Str.{IsCharBoundary-before_ascii, IsCharBoundary-end}
-use Rattle.std.proofs.lemmas.Bool.{cases_lt, cases_Bool, eqb-true, cond_both}
+use Rattle.std.proofs.lemmas.Bool.{cases_lt, eqb-true}
 use Rattle.rox_grammar.specs.declared.fault.Fault.{Fault}
 use Rattle.rox_grammar.specs.declared.fault.Span.{Span}
 use Rattle.rox_grammar.specs.declared.fault.Word.{Word}
@@ -16,7 +15,7 @@ use Rattle.rox_grammar.specs.FixedTexts.{word_text, at}
 use Rattle.rox_grammar.specs.ExpectedTexts.{expected_text}
 use Rattle.rox_grammar.specs.Chars.{is_space, is_char, is_part_char, is_name_start, is_name_char}
 use Rattle.rox_grammar.specs.Runs.{run_end, begins}
-use Rattle.rox_grammar.specs.Search.{stands, before_mark, mark_from, byte_from}
+use Rattle.rox_grammar.specs.Search.{mark_from, byte_from}
 use Rattle.rox_grammar.specs.Written.{Name}
 use Rattle.rox_grammar.specs.NameParts.{local_span}
 use Rattle.rox_grammar.specs.Names.{byte, slice, spaces_end, IsName, IsQName, unprefixed, prefixed, colon_first}
@@ -24,12 +23,13 @@ use Rattle.rox_grammar.specs.Constructs.{AreChars}
 use Rattle.rox_grammar.specs.FixedTexts.{double_dash}
 use Rattle.rox_grammar.specs.References.{is_digit, is_hex_digit, number, bytes_end, character, entity_reference}
 use Rattle.rox_grammar.specs.Entities.{Replacement, Entity, text_of}
-use Rattle.rox_grammar.specs.Due.{DueItem, a_byte, a_text, a_qname, a_name, chars_to, IsMissing, Misses, no_name, DueInText, DueInPI, DueInEnd}
+use Rattle.rox_grammar.specs.Due.{a_byte, a_text, a_qname, a_name, chars_to, IsMissing, Misses, no_name, DueInText, DueInPI, DueInEnd}
 use Rattle.rox_grammar.specs.Due as due
 use Rattle.rox_grammar.specs.Faults.{SpanIs, spelled, InMisc, comment_lacks, double_dashes, a_declaration, instruction_lacks, InReferences, malformed, undeclared}
 use Rattle.rox_reading.specs.Lexical.{has_mark, byte_at, string_at, chars_up_to, text_to, qname_at, name_at}
 use Rattle.rox_reading.specs.Markup.{comment_at, instruction_at, cdata_at, end_tag_at}
 use Rattle.rox_reading.specs.Values.{Reference, number_at, name_reference_at, reference_at, entity_bit, reference_bit, expansion_at}
+use Rattle.rox_grammar.proofs.AtPlace.{mark_from_cut}
 use Rattle.rox_theory.proofs.Productions.{ncname_parts}
 use Rattle.rox_theory.proofs.FirstMarks.{dashes_before}
 use Rattle.rox_theory.proofs.Basics.{run_end_le, chosen, mark_from_le, chars_sound, text_sound, within}
@@ -50,44 +50,6 @@ first w src i = mark_from (word_text w) src i
 
 -- ---- where a character begins
 
--- A mark is found in the text or at its end.
-before_mark_le : (mark bs : List ℕ) → before_mark mark bs ≤ length bs
-before_mark_le mark [] = omega arith
-before_mark_le mark (b ∷ bs) =
-    let ih = before_mark_le mark bs in
-    cond_both (starts_with ◌==◌ (b ∷ bs) mark) 0 (1 + before_mark mark bs) (λ (k : ℕ). k ≤ suc (length bs)) (λ here. omega arith) (λ later. omega arith)
-
--- And its first byte is there.
-before_mark_is : (b : ℕ) (rest bs : List ℕ) → before_mark (b ∷ rest) bs < length bs → get_or bs (before_mark (b ∷ rest) bs) 0 ≡ b
-unfolding stands
-before_mark_is b rest [] some = absurd (omega arith)
-before_mark_is b rest (c ∷ cs) some =
-    elim (cases_Bool (starts_with ◌==◌ (c ∷ cs) (b ∷ rest))) as (λ s. get_or (c ∷ cs) (before_mark (b ∷ rest) (c ∷ cs)) 0 ≡ b) [
-      | inl here ↦ rw here (stands_reads (b ∷ rest) (c ∷ cs) 0 0 here (omega arith))
-      | inr later ↦ (let more : 1 + before_mark (b ∷ rest) cs < suc (length cs) = rw later at some in let e : 1 + before_mark (b ∷ rest) cs ≡ suc (before_mark (b ∷ rest) cs) = omega arith in rw (later, e) (before_mark_is b rest cs (omega arith)))
-    ]
-
--- A character begins where a mark is found whose first byte is ASCII.
-pub mark_cut : (mark : List ℕ) (b : ℕ) (rest src : List ℕ) (i : ℕ) → mark ≡ b ∷ rest → b < 128 → i ≤ length src → IsCharBoundary src (mark_from mark src i)
-unfolding mark_from
-mark_cut mark b rest src i is ascii inside =
-    let k = before_mark mark (drop i src) in
-    let le = before_mark_le mark (drop i src) in
-    let n = length-drop i src in
-    elim (cases_lt (i + k) (length src)) as (λ s. IsCharBoundary src (i + k)) [
-      | inl below ↦ (
-          let here : get_or (drop i src) k 0 ≡ b = entity_bit mark is (omega arith) in
-          let e : byte src (i + k) ≡ b = sym (get_or-drop i src k 0) ∙ here in
-          IsCharBoundary-before_ascii src (i + k) below (omega arith))
-      | inr past ↦ (let e : length src ≡ i + k = omega arith in subst (IsCharBoundary src) e (IsCharBoundary-end src))
-    ]
-  where
-    -- The byte that is found.
-    entity_bit : (mark : List ℕ) → mark ≡ b ∷ rest → before_mark mark (drop i src) < length (drop i src) → get_or (drop i src) (before_mark mark (drop i src)) 0 ≡ b
-    entity_bit mark is some =
-        let some' : before_mark (b ∷ rest) (drop i src) < length (drop i src) = rw is at some in
-        rw is (before_mark_is b rest (drop i src) some')
-
 -- The text up to a mark, and the mark.
 text_fails : (w : Expected) (b : ℕ) (rest src : List ℕ) (i : ℕ) (f : Fault) → expected_text w ≡ b ∷ rest → b < 128 → IsUtf8 src → IsCharBoundary src i → text_to w src i ≡ Err f
     → IsMissing src i (chars_to (mark_from (expected_text w) src i)) f ⊎ (AreChars src i (mark_from (expected_text w) src i) × IsMissing src (mark_from (expected_text w) src i) (a_text w) f)
@@ -96,7 +58,7 @@ text_fails w b rest src i f is ascii utf8 cut h =
     let e = mark_from (expected_text w) src i in
     let le = mark_from_le (expected_text w) src i in
     bind_err (chars_up_to e src i) _ f h
-    (λ bad. inl (chars_fails src i e f utf8 cut (mark_cut (expected_text w) b rest src i is ascii cut.0) le bad))
+    (λ bad. inl (chars_fails src i e f utf8 cut (mark_from_cut (expected_text w) src i (rw is (omega arith)) (rw is ascii) cut.0) le bad))
     (λ text read h.
     let c = chars_sound e src i text utf8 le read in
     bind_err (string_at w src text.1) _ f h
