@@ -5,36 +5,17 @@ use Rattle.std.specs.List.{list_all}
 use Rattle.std.specs.Str.{chars, IsUtf8, IsCharBoundary}
 use Rattle.std.proofs.Math.Utf8.{encodes}
 use Rattle.std.proofs.Math.Seq.{take-append_seam}
-use Rattle.std.proofs.lemmas.Bool.{and_parts, and_from, cases_Bool, cases_lt, cond-true, cond-false, le-leb, leb-true}
+use Rattle.std.proofs.lemmas.Bool.{and_parts, and_from, cases_lt, cond-true, cond-false, le-leb, leb-true}
 use Rattle.std.proofs.lemmas.List.{append-nil, drop-take, drop-drop, take-append-drop, get_or-drop}
 use Rattle.std.proofs.lemmas.List.Folds.{list_all-append}
-use Rattle.std.proofs.lemmas.Str.{chars-nil, chars-append, chars_past_char, encodes-chars, length-encode, len_utf8_bounds, len_utf8_ascii, IsUtf8-between, IsCharBoundary-before_ascii, IsCharBoundary-after_ascii}
+use Rattle.std.proofs.lemmas.Str.{chars-nil, chars-append, chars_past_char, encodes-chars, length-encode, len_utf8_ascii, IsUtf8-between, IsCharBoundary-before_ascii, IsCharBoundary-after_ascii}
 use Rattle.rox_reading.proofs.Stretches.{range_length, range_parts}
 use Rattle.rox_bytes.proofs.RunLemmas.{stands_ascii}
+use Rattle.rox_grammar.proofs.Passing.{all_pass, all_passing}
 use Rattle.rox_grammar.specs.Chars.{is_char}
 use Rattle.rox_grammar.specs.Runs.{run_end, passing, first_passes, begins, StandsAt}
 use Rattle.rox_grammar.specs.Constructs.{AreChars}
 use Rattle.rox_scan.specs.Lookahead.{IsStep}
-
--- if each passes, as many bytes pass as there are
-all_passing : (p : ℕ → Bool) (cs : List ℕ) → list_all p cs ≡ true → passing p cs ≡ length (encodes cs)
-all_passing p [] h = refl
-all_passing p (c ∷ cs) h =
-    let both = and_parts (p c) (list_all p cs) h in
-    let here = both.0 in
-    rw here (omega (arith, length-append (encode_utf8 c) (encodes cs), length-encode c, all_passing p cs both.1))
-
--- and the other way round
-all_pass : (p : ℕ → Bool) (cs : List ℕ) → length (encodes cs) ≤ passing p cs → list_all p cs ≡ true
-all_pass p [] h = refl
-all_pass p (c ∷ cs) h =
-    let long = length-append (encode_utf8 c) (encodes cs) in
-    let one = length-encode c in
-    let some = len_utf8_bounds c in
-    elim (cases_Bool (p c)) as (λ s. list_all p (c ∷ cs) ≡ true) [
-      | inl passes ↦ and_from (p c) (list_all p cs) passes (all_pass p cs (let h' = rw passes at h in omega arith))
-      | inr fails ↦ absurd (let h' = rw fails at h in omega arith)
-    ]
 
 -- what stands in front of j from i on
 front : (src : List ℕ) (i j : ℕ) → i ≤ j → drop i (take j src) ≡ slice_range src i j

@@ -1,15 +1,14 @@
 -- Where stretches of Chars are joined and cut, and the Chars of references.
-use Rattle.std.proofs.Common.{◌≡◌, ℕ, zero, suc, ◌+◌, ◌-◌, ◌<◌, ◌≤◌, ◌==◌, Bool, true, ◌||◌, ◌&&◌, leb, ltb, List, [], ◌∷◌, length, take, drop, refl, sym, ap, ◌∙◌, subst, arith, inl, inr, ◌⊎◌, length-append}
-use Rattle.std.specs.Char.{encode_utf8}
+use Rattle.std.proofs.Common.{◌≡◌, ℕ, zero, suc, ◌+◌, ◌-◌, ◌<◌, ◌≤◌, ◌==◌, Bool, true, ◌||◌, ◌&&◌, leb, ltb, List, [], ◌∷◌, length, take, drop, refl, sym, ap, ◌∙◌, subst, arith, inl, inr, ◌⊎◌}
 use Rattle.std.specs.List.{list_all, list_any}
 use Rattle.std.specs.Str.{chars, IsUtf8, IsCharBoundary}
-use Rattle.std.proofs.Math.Utf8.{encodes}
 use Rattle.std.proofs.lemmas.Bool.{and_parts, and_from, and_left, and_right, or_cases, or_right, leb-true, ltb-true, le-leb, lt-leb, not_from_false}
 use Rattle.std.proofs.lemmas.Bool.Decides.{nat_tests}
 use Rattle.std.proofs.lemmas.List.{drop-take}
-use Rattle.std.proofs.lemmas.Str.{encodes-chars, length-encode}
+use Rattle.std.proofs.lemmas.Str.{encodes-chars}
 use Rattle.rox_grammar.specs.Chars.{is_between, is_char, name_start_ranges, name_more_ranges, is_name_start, is_name_char}
-use Rattle.rox_grammar.specs.Runs.{run_end, passing}
+use Rattle.rox_grammar.specs.Runs.{run_end}
+use Rattle.rox_grammar.proofs.Passing.{all_passing}
 use Rattle.rox_grammar.specs.Names.{byte, slice}
 use Rattle.rox_grammar.specs.Constructs.{AreChars}
 use Rattle.rox_grammar.specs.References.{is_digit, is_hex_digit, IsNumber, IsReference, IsCharacter, decimal, hexadecimal, named}
@@ -21,14 +20,6 @@ use Rattle.rox_theory.proofs.NameLemmas.{slice_nil}
 use Rattle.rox_theory.proofs.StretchLemmas.{slice_cons}
 use Rattle.rox_theory.proofs.ReferenceLemmas.{bytes_pass, reference_opens}
 use Rattle.rox_theory.proofs.CharTexts.{IsCharText, no_text, texts_joined, byte_text, chars_between, chars_within, cut_behind, run_of_chars}
-
--- If each passes, as many bytes pass as there are.
-all_passing : (p : ℕ → Bool) (cs : List ℕ) → list_all p cs ≡ true → passing p cs ≡ length (encodes cs)
-all_passing p [] h = refl
-all_passing p (c ∷ cs) h =
-    let both = and_parts (p c) (list_all p cs) h in
-    let here = both.0 in
-    rw here (omega (arith, length-append (encode_utf8 c) (encodes cs), length-encode c, all_passing p cs both.1))
 
 -- A stretch that is a text of Chars.
 pub text_chars : (src : List ℕ) (i j : ℕ) → i ≤ j → j ≤ length src → IsCharText (slice src i j) → AreChars src i j

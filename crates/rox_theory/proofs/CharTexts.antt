@@ -8,9 +8,10 @@ use Rattle.std.proofs.Math.Seq.{take-append_seam, drop-append_seam}
 use Rattle.std.proofs.lemmas.Bool.{and_parts, and_from, cases_Bool}
 use Rattle.std.proofs.lemmas.List.{append-nil, drop-take, drop-drop}
 use Rattle.std.proofs.lemmas.List.Folds.{list_all-append}
-use Rattle.std.proofs.lemmas.Str.{chars-nil, chars-encodes, chars-append, encodes-chars, scalars-chars, encode_ascii, IsUtf8-nil, IsUtf8-append, IsUtf8-between, IsUtf8-drop, IsCharBoundary-from_drop, IsCharBoundary-before_ascii, IsCharBoundary-after_ascii, length-encode, len_utf8_bounds}
+use Rattle.std.proofs.lemmas.Str.{chars-nil, chars-encodes, chars-append, encodes-chars, scalars-chars, encode_ascii, IsUtf8-nil, IsUtf8-append, IsUtf8-between, IsUtf8-drop, IsCharBoundary-from_drop, IsCharBoundary-before_ascii, IsCharBoundary-after_ascii, length-encode}
 use Rattle.rox_grammar.specs.Chars.{is_char}
 use Rattle.rox_grammar.specs.Runs.{run_end, passing}
+use Rattle.rox_grammar.proofs.Passing.{all_pass}
 use Rattle.rox_grammar.specs.Names.{byte, slice}
 use Rattle.rox_grammar.specs.Constructs.{AreChars}
 use Rattle.rox_theory.proofs.Basics.{within}
@@ -59,18 +60,6 @@ cut_at src k b is some ascii = IsCharBoundary-before_ascii src k (within src k (
 pub cut_behind : (src : List ℕ) (k b j : ℕ) → IsUtf8 src → byte src k ≡ b → 0 < b → b < 128 → j ≡ k + 1 → IsCharBoundary src j
 cut_behind src k b j utf8 is some ascii e =
     subst (λ (m : ℕ). IsCharBoundary src m) (sym e) (IsCharBoundary-after_ascii src k utf8 (within src k (λ z. omega arith)) (omega arith))
-
--- Where as many bytes pass as there are, each character passes.
-all_pass : (p : ℕ → Bool) (cs : List ℕ) → length (encodes cs) ≤ passing p cs → list_all p cs ≡ true
-all_pass p [] h = refl
-all_pass p (c ∷ cs) h =
-    let long = length-append (encode_utf8 c) (encodes cs) in
-    let one = length-encode c in
-    let some = len_utf8_bounds c in
-    elim (cases_Bool (p c)) as (λ s. list_all p (c ∷ cs) ≡ true) [
-      | inl passes ↦ and_from (p c) (list_all p cs) passes (all_pass p cs (let h' = rw passes at h in omega arith))
-      | inr fails ↦ absurd (let h' = rw fails at h in omega arith)
-    ]
 
 -- What is between two places where characters begin, if the run of Chars reaches from one to the other.
 pub chars_between : (src : List ℕ) (i j : ℕ) → IsUtf8 src → IsCharBoundary src i → IsCharBoundary src j → AreChars src i j → IsCharText (slice src i j)
