@@ -62,11 +62,6 @@ pub record ReadsAt (read : machine.Context → List ℕ → State → Result Sta
   pub moves : j < 2 ^ 32 → i < j
   pub fine : IsConsistent after.tables after.opened.items
 
--- The construct at `i` was read as `read` does, up to `j`. Or nothing was, and the builder is unchanged.
-pub record ReadsWhole (read : machine.Context → List ℕ → State → Result State Refusal) (src : List ℕ) (i j : ℕ) (b after : Builder) : Type 0 where
-  pub reads : ReadsAt read src i j b after
-  pub other : 2 ^ 32 ≤ j → after ≡ b
-
 -- The call adds the piece `item` of a text after what the builder represents. The open elements and their tables stay.
 pub record AddsText (old new : Builder) (result : Result (Unit {0}) Failure) (item : Item) : Type 0 where
   pub value : (total at : ℕ) (s : State) → Represents total s.stack s.done old → Adds total result new (with_item old.nodes_limit s at item)
