@@ -1,7 +1,6 @@
 -- The place of a fault of content lies in its source.
 use Rattle.std.proofs.Common.{◌≡◌, ℕ, ◌+◌, ◌<◌, ◌≤◌, ◌==◌, Bool, true, false, List, [], ◌∷◌, ◌++◌, length, drop, sym, ap, subst, inl, inr, arith, length-append, length-drop}
 use Rattle.std.specs.Char.{encode_utf8, len_utf8}
-use Rattle.std.specs.List.{starts_with}
 use Rattle.std.specs.Str.{IsUtf8, IsCharBoundary}
 use Rattle.std.proofs.lemmas.Bool.{cases_Bool}
 use Rattle.rox_grammar.specs.declared.fault.Word.{Word}
@@ -14,7 +13,7 @@ use Rattle.rox_grammar.specs.Chars.{is_space, is_name_start, is_name_char}
 use Rattle.rox_grammar.specs.Runs.{StandsAt}
 use Rattle.rox_grammar.specs.FixedTexts.{word_text, at}
 use Rattle.rox_grammar.specs.ExpectedTexts.{expected_text}
-use Rattle.rox_grammar.specs.Search.{before_mark, mark_from, stands}
+use Rattle.rox_grammar.specs.Search.{mark_from, stands}
 use Rattle.rox_grammar.specs.Written.{Name, Attribute, NamespaceDecl, is_namespace_decl, plain_attributes_of}
 use Rattle.rox_grammar.specs.Names.{byte, spaces_end, IsName, IsQName, unprefixed, prefixed, colon_first}
 use Rattle.rox_grammar.specs.Constructs.{IsPair, MayBePair, DeclarationTo}
@@ -40,22 +39,15 @@ use Rattle.rox_theory.proofs.AttributeParts.{parts_of}
 use Rattle.rox_faults.proofs.NameSpans.{run_cut, cut_behind}
 use Rattle.rox_faults.proofs.PartFronts.{to_entity}
 use Rattle.rox_theory.proofs.PartLemmas.{encode_some}
+use Rattle.rox_grammar.proofs.AtPlace.{before_mark_le}
 use Rattle.rox_theory.proofs.Places.{begins_within}
 use Rattle.rox_laws.proofs.Counted.{IsPlaced}
 
 -- ---- what lies in a source
 
-before_le : (mark bs : List ℕ) → before_mark mark bs ≤ length bs
-before_le mark [] = omega arith
-before_le mark (b ∷ bs) =
-    elim (cases_Bool (starts_with ◌==◌ (b ∷ bs) mark)) as (λ q. before_mark mark (b ∷ bs) ≤ length (b ∷ bs)) [
-      | inl here ↦ rw here (omega arith)
-      | inr later ↦ (let le = before_le mark bs in rw later (omega arith))
-    ]
-
 first_le : (w : Expected) (src : List ℕ) (i : ℕ) → i ≤ length src → mark_from (expected_text w) src i ≤ length src
 unfolding mark_from
-first_le w src i le = omega (arith, before_le (expected_text w) (drop i src), length-drop i src)
+first_le w src i le = omega (arith, before_mark_le (expected_text w) (drop i src), length-drop i src)
 
 char_within : (c : ℕ) (src : List ℕ) (i : ℕ) → StandsAt c src i → i < length src
 char_within c src i is =
