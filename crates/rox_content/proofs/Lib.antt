@@ -2,5 +2,5 @@ pub mod RootTags
 pub mod RootElements
 pub mod SameBytes
 pub mod Closing
-pub mod PlainElements
 pub mod TakenBack
+pub mod PlainElements

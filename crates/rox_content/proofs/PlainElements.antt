@@ -1,5 +1,5 @@
 -- An element whose start tag the fast path read, below the innermost open element.
-use Rattle.std.proofs.Common.{◌≡◌, ◌+◌, ◌-◌, ◌<◌, ◌^◌, ℕ, Bool, true, false, [], Ok, List, length, take, get_or, slice_index, vec_len, vec_capacity, arith, refl, sym, ap, subst, ◌∙◌}
+use Rattle.std.proofs.Common.{◌≡◌, ◌+◌, ◌-◌, ◌<◌, ◌^◌, ℕ, Bool, true, false, Option, Some, [], ◌∷◌, ◌++◌, Ok, List, length, take, get_or, slice_index, vec_len, vec_capacity, arith, refl, sym, ap, subst, ◌∙◌}
 use Rattle.std.specs.Str.{IsUtf8}
 use Rattle.rox_grammar.specs.Written.{Element, Item, NamespaceDecl}
 use Rattle.rox_grammar.specs.Forest.{Forest}
@@ -22,7 +22,8 @@ use Rattle.rox_names.proofs.SameNames.{opened_named}
 use Rattle.rox_names.proofs.SpelledNames.{tag_is_named}
 use Rattle.rox_starts.specs.ElementRow.{Tagged}
 use Rattle.rox_verbatim.specs.PlainNames.{EndsNear}
-use Rattle.rox_tags.specs.PlainTag.{IsPlainTag}
+use Rattle.rox_rows.specs.Rows.{attribute_rows}
+use Rattle.rox_tags.specs.PlainTag.{HoldSame, IsPlainTag, MayOpenAt, ReadsTag}
 use Rattle.rox_tags.specs.declared.quick_tag.PlainTag.{PlainTag}
 use Rattle.rox_tags.proofs.WholeTags.{plain_moves}
 use Rattle.rox_builder.specs.BuilderState.{Adds, IsConsistent, IsNode, IsReady, IsReadyTo, Represents, ScansTo, last_row, opened_in}
@@ -33,6 +34,10 @@ use Rattle.rox_builder.proofs.Growing.{grown_shows}
 use Rattle.rox_builder.proofs.Showing.{split_at, innermost_row}
 use Rattle.rox_builder.proofs.Stepping.{top_scope}
 use Rattle.rox_content.specs.PlainElements.{MayPutElement, PutsElement}
+use Rattle.rox_sections.specs.PlainOutcomes.{MayReadPart}
+use Rattle.rox_builder.specs.Readiness.{HasRoom}
+use Rattle.rox_content.proofs.Closing.{below_last}
+use Rattle.rox_content.proofs.TakenBack.{cut_back, fine_same}
 use Rattle.rox_constructs.proofs.Opening.{grown_by, is_node, is_opening, fine_by, fine_kept, fine_more, namespace_by, tag_is, empty_stepped, open_stepped}
 
 -- the builder `m` is `b`, with other tables of elements
@@ -53,23 +58,6 @@ pub record ReadsBelow (b m : Builder) (above : List NamespaceDecl) (src : List �
   pub scope : (end : ℕ) (stack : Open) (done : Forest Item) → Represents end stack done b → above ≡ scope_of stack
   pub same : KeepsOthers b m
   pub read : IsPlainTag b.tables m.tables above src i t.end t.tag
-
--- where it is a child of the innermost open element `o`
-pub below : (b m : Builder) (src : List ℕ) (i n : ℕ) (o : OpenElement) (t : PlainTag) → IsUtf8 src → slice_index src i ≡ 60 → length src < 2 ^ 32 → IsConsistent b.tables b.opened.items
-    → n ≡ length b.opened.items → 0 < n → o ≡ get_or b.opened.items (n - 1) o → KeepsOthers b m → IsPlainTag b.tables m.tables (scope_in_tables b.tables o.scope) src i t.end t.tag
-    → ReadsBelow b m (scope_in_tables b.tables o.scope) src i t
-below b m src i n o t utf8 here short fine count some last same read = record {
-  utf8 = utf8;
-  here = here;
-  short = short;
-  fine = fine;
-  scope = λ end stack done shows. top_scope b.tables stack (take (n - 1) b.opened.items) o (sym (ap (opened_in b.tables) (split_at b.opened.items n o count some last)) ∙ shows.open_rows);
-  same = same;
-  read = read;
-}
-
-pub row_below : (t : ElementTables) (os : List OpenElement) (n : ℕ) (o : OpenElement) → n ≡ length os → 0 < n → o ≡ get_or os (n - 1) o → o.row ≡ last_row (opened_in t os)
-row_below t os n o count some last = sym (innermost_row t os (take (n - 1) os) o (split_at os n o count some last))
 
 any_values : Values
 any_values = record { main = true; entities = []; opener = λ text i openings_left. Ok ([], openings_left) }
@@ -162,3 +150,70 @@ element_reads b m u above src i j t g p = subst (λ (n : ℕ). ReadsAt tag_step 
     by_cases : (e : Bool) → t.tag.empty ≡ e → ReadsAt tag_step src i t.end b u
     by_cases true is = leaf_reads b m u above src i t g is (p.leaf is)
     by_cases false is = open_reads b m u above src i t g is (p.opens is)
+
+-- a start tag may be below the innermost of `n` open elements
+pub may_open_at : (src : List ℕ) (i n : ℕ) (b : Builder) (o : OpenElement) → slice_index src i ≡ 60 → HasRoom src b → n ≡ length b.opened.items → 0 < n → o ≡ get_or b.opened.items (n - 1) o → MayOpenAt src i b.tables o
+may_open_at src i n b o here room count some last =
+    record { here = here; short = room.short; below = below_last b.tables b.opened.items (take (n - 1) b.opened.items) o room.fine (split_at b.opened.items n o count some last) }
+
+-- The start tag at `i` is tried where its parent, the innermost open element, is `o`: the tables of elements become `tables`, and
+-- `found` is the tag, if it was read. There were `held` attributes, and there is room for one more open element.
+pub record IsTried (src : List ℕ) (i part : ℕ) (b : Builder) (o : OpenElement) (tables : ElementTables) (held : ℕ) (found : Option PlainTag) : Type 0 where
+  pub utf8 : IsUtf8 src
+  pub may : MayReadPart src i part b
+  pub room : vec_len b.opened < vec_capacity b.opened
+  pub outer : List OpenElement
+  pub innermost : b.opened.items ≡ outer ++ o ∷ []
+  pub held_all : held ≡ length (attribute_rows b.tables.attributes)
+  pub tag : ReadsTag b.tables tables o src i found
+
+tried_below : {src : List ℕ} {i part : ℕ} {b : Builder} {o : OpenElement} {tables : ElementTables} {held : ℕ} {found : Option PlainTag} (m : Builder) (t : PlainTag) → IsTried src i part b o tables held found → found ≡ Some t
+    → m.tables ≡ tables → KeepsOthers b m → ReadsBelow b m (scope_in_tables b.tables o.scope) src i t
+tried_below {src = src} {i = i} {b = b} {o = o} m t h is into others = record {
+  utf8 = h.utf8;
+  here = h.may.here;
+  short = h.may.room.short;
+  fine = h.may.room.fine;
+  scope = λ end stack done shows. top_scope b.tables stack h.outer o (sym (ap (opened_in b.tables) h.innermost) ∙ shows.open_rows);
+  same = others;
+  read = rw into (rw is at h.tag.read);
+}
+
+ready_one : (b m : Builder) → KeepsOthers b m → IsReady 1 b → IsReady 1 m
+ready_one b m k h = record { room = rw k.nodes h.room; few = rw (k.nodes, k.limit) h.few; small = rw k.nodes h.small; settled = rw k.pending h.settled }
+
+-- where a tag was found, it may be put
+pub tried_may_put : {src : List ℕ} {i part : ℕ} {b : Builder} {o : OpenElement} {tables : ElementTables} {held : ℕ} {found : Option PlainTag} (m : Builder) (t : PlainTag) → IsTried src i part b o tables held found → found ≡ Some t
+    → m.tables ≡ tables → KeepsOthers b m → m.opened ≡ b.opened → MayPutElement src i m o.row t
+tried_may_put {src = src} {i = i} {b = b} {o = o} m t h is into others opened =
+    let room = h.may.room in
+    let row : o.row ≡ last_row (opened_in m.tables m.opened.items) = sym (rw opened (innermost_row m.tables b.opened.items h.outer o h.innermost)) in
+    may_put b m _ src i o.row t (tried_below m t h is into others) row (ready_one b m others room.ready) (omega (arith, room.short, h.may.start.0)) (rw opened h.room)
+
+-- and is read once it is put
+pub tried_reads : {src : List ℕ} {i part : ℕ} {b : Builder} {o : OpenElement} {tables : ElementTables} {held : ℕ} {found : Option PlainTag} (m u : Builder) (j : ℕ) (t : PlainTag) → IsTried src i part b o tables held found → found ≡ Some t
+    → m.tables ≡ tables → KeepsOthers b m → PutsElement src i m u t j → ReadsAt tag_step src i j b u
+tried_reads {src = src} {i = i} {b = b} m u j t h is into others put = element_reads b m u _ src i j t (tried_below m t h is into others) put
+
+-- where none was, the attributes are taken back
+pub tried_back : {src : List ℕ} {i part : ℕ} {b : Builder} {o : OpenElement} {tables : ElementTables} {held : ℕ} {found : Option PlainTag} → IsTried src i part b o tables held found
+    → (after : ElementTables) → after ≡ record tables { attributes = after.attributes } → attribute_rows after.attributes ≡ take held (attribute_rows tables.attributes) → HoldSame b.tables after
+tried_back {b = b} {tables = tables} {held = held} h after others cut =
+    let grown = h.tag.grown in
+    cut_back b.tables tables after grown.more held grown.others grown.rows h.held_all others cut
+
+-- and the tag may be read again
+pub tried_again : {src : List ℕ} {i part : ℕ} {b : Builder} {o : OpenElement} {tables : ElementTables} {held : ℕ} {found : Option PlainTag} → IsTried src i part b o tables held found
+    → (u : Builder) → KeepsOthers b u → HoldSame b.tables u.tables → MayReadPart src i part u
+tried_again {b = b} h u others same =
+    let room = h.may.room in
+    record {
+      here = h.may.here;
+      start = h.may.start;
+      part = h.may.part;
+      room = record {
+        short = room.short;
+        ready = ready_one b u others room.ready;
+        fine = rw others.opened (fine_same b.tables u.tables b.opened.items same room.fine);
+      };
+    }

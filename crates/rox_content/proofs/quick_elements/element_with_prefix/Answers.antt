@@ -1,70 +1,47 @@
 use Rattle.std.proofs.Common.{◌+◌, ◌-◌, take, arith, refl}
-use Rattle.rox_names.specs.declared.tables.ElementTables.{ElementTables}
 use Rattle.rox_verbatim.proofs.Verbatim.{prefix_ends}
 use Rattle.rox_builder.proofs.Showing.{split_at}
-use Rattle.rox_content.proofs.Closing.{below_last}
-use Rattle.rox_content.proofs.TakenBack.{cut_back, fine_same}
-use Rattle.rox_content.proofs.PlainElements.{below, row_below, may_put, element_reads}
+use Rattle.rox_content.proofs.PlainElements.{may_open_at, IsTried, tried_may_put, tried_reads, tried_back, tried_again}
 use Rattle.rox_sections.proofs.PlainReads.{reads_kept, reads_not}
 use Rattle.rox_content.proofs.quick_elements.element_with_prefix.Goals as goal
+use Rattle.rox_content.proofs.quick_elements.element_with_prefix.Goals.{After-start_tag_with_prefix}
+
+tried : (c : After-start_tag_with_prefix) → IsTried c.args.text.now c.args.start c.args.run.at c.args.builder.now c.index-above.result.now c.start_tag_with_prefix.new.elements c.len-before.result c.start_tag_with_prefix.result
+tried c =
+    let os = c.args.builder.now.opened.items in
+    let o = c.index-above.result.now in
+    record {
+      utf8 = c.utf8.text;
+      may = record { here = c.requires.here; start = c.requires.start; part = (prefix_ends c.args.text.now (c.args.start + 1) c.args.run c.utf8.text c.requires.prefix).first.part; room = c.requires.room };
+      room = c.has_room_to_open.ensures c.if-not-has_room_to_open.false;
+      outer = take (c.len-depth.result - 1) os;
+      innermost = split_at os c.len-depth.result o (omega arith) (omega arith) c.index-above.ensures;
+      held_all = c.len-before.ensures;
+      tag = c.start_tag_with_prefix.ensures;
+    }
 
 pub start_tag_with_prefix-requires : goal.start_tag_with_prefix-requires
 start_tag_with_prefix-requires c = record {
-  here =
-      let b = c.args.builder.now in
-      let os = b.opened.items in
-      let o = c.index-above.result.now in
-      record {
-        here = c.requires.here;
-        short = c.requires.room.short;
-        below = below_last b.tables os (take (c.len-depth.result - 1) os) o c.requires.room.fine (split_at os c.len-depth.result o (omega arith) (omega arith) c.index-above.ensures);
-      };
+  here = may_open_at c.args.text.now c.args.start c.len-depth.result c.args.builder.now c.index-above.result.now c.requires.here c.requires.room (omega arith) (omega arith) c.index-above.ensures;
   prefix = c.requires.prefix;
 }
 
 pub put_element-requires : goal.put_element-requires
-put_element-requires c =
-    let r = c.requires.room.ready in
-    may_put c.args.builder.now _ _ c.args.text.now c.args.start _ c.in-Some.read
-    (below c.args.builder.now _ c.args.text.now c.args.start c.len-depth.result c.index-above.result.now c.in-Some.read c.utf8.text c.requires.here c.requires.room.short c.requires.room.fine (omega arith) (omega arith) c.index-above.ensures (record { nodes = refl; opened = refl; pending = refl; joined = refl; limit = refl; openings_left = refl }) c.in-Some.ensures.read)
-    (row_below c.start_tag_with_prefix.new.elements c.args.builder.now.opened.items c.len-depth.result c.index-above.result.now (omega arith) (omega arith) c.index-above.ensures)
-    (record { room = r.room; few = r.few; small = r.small; settled = r.settled }) (omega (arith, c.requires.room.short, c.requires.start.0)) (c.has_room_to_open.ensures c.if-not-has_room_to_open.false)
+put_element-requires c = tried_may_put _ c.in-Some.read (tried (goal.at.put_element-requires c).After-start_tag_with_prefix) c.in-Some.is refl (record { nodes = refl; opened = refl; pending = refl; joined = refl; limit = refl; openings_left = refl }) refl
 
 pub returns : goal.returns
-returns c =
-    element_reads c.args.builder.now _ _ _ c.args.text.now c.args.start _ c.in-Some.read
-    (below c.args.builder.now _ c.args.text.now c.args.start c.len-depth.result c.index-above.result.now c.in-Some.read c.utf8.text c.requires.here c.requires.room.short c.requires.room.fine (omega arith) (omega arith) c.index-above.ensures (record { nodes = refl; opened = refl; pending = refl; joined = refl; limit = refl; openings_left = refl }) c.in-Some.ensures.read)
-    c.put_element.ensures
+returns c = tried_reads _ _ _ c.in-Some.read (tried (goal.at.returns c).After-start_tag_with_prefix) c.in-Some.is refl (record { nodes = refl; opened = refl; pending = refl; joined = refl; limit = refl; openings_left = refl }) c.put_element.ensures
 
 pub returns-in_default : goal.returns-in_default
 returns-in_default c =
-    let old = c.args.builder.now.tables in
-    let put = c.start_tag_with_prefix.new.elements in
-    let left : ElementTables = record put { attributes = c.truncate.new.self } in
-    let grown = c.in_default.ensures.grown in
-    let same = cut_back old put left grown.more c.len-before.result grown.others grown.rows c.len-before.ensures refl c.truncate.ensures in
+    let same = tried_back (tried (goal.at.returns-in_default c).After-start_tag_with_prefix) (record c.start_tag_with_prefix.new.elements { attributes = c.truncate.new.self }) refl c.truncate.ensures in
     reads_kept _ _ _ _ c.args.builder.now _ _ (record { nodes = refl; opened = refl; pending = refl; joined = refl; limit = refl; openings_left = refl; others = same.others; attributes = same.attributes })
     c.element_repeating.ensures
 
 pub element_repeating-requires : goal.element_repeating-requires
 element_repeating-requires c =
-    let old = c.args.builder.now.tables in
-    let put = c.start_tag_with_prefix.new.elements in
-    let left : ElementTables = record put { attributes = c.truncate.new.self } in
-    let grown = c.in_default.ensures.grown in
-    let same = cut_back old put left grown.more c.len-before.result grown.others grown.rows c.len-before.ensures refl c.truncate.ensures in
-    record {
-      here = c.requires.here;
-      start = c.requires.start;
-      part = (prefix_ends c.args.text.now (c.args.start + 1) c.args.run c.utf8.text c.requires.prefix).first.part;
-      room =
-          let ready = c.requires.room.ready in
-          record {
-            short = c.requires.room.short;
-            ready = record { room = ready.room; few = ready.few; small = ready.small; settled = ready.settled };
-            fine = fine_same old left c.args.builder.now.opened.items same c.requires.room.fine;
-          };
-    }
+    let h = (tried (goal.at.element_repeating-requires c).After-start_tag_with_prefix) in
+    tried_again h _ (record { nodes = refl; opened = refl; pending = refl; joined = refl; limit = refl; openings_left = refl }) (tried_back h (record c.start_tag_with_prefix.new.elements { attributes = c.truncate.new.self }) refl c.truncate.ensures)
 
 pub returns-then-not-has_room_to_open : goal.returns-then-not-has_room_to_open
 returns-then-not-has_room_to_open c = reads_not _ _ _ _ _ _ (omega arith) (record { nodes = refl; opened = refl; pending = refl; joined = refl; limit = refl; openings_left = refl; others = refl; attributes = refl }) c.requires.room.fine

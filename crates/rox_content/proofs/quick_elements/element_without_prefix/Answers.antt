@@ -1,25 +1,28 @@
 use Rattle.std.proofs.Common.{◌-◌, take, arith, refl, rules}
 use Rattle.std.proofs.lemmas.Grind.{common_steps}
-use Rattle.rox_names.specs.declared.tables.ElementTables.{ElementTables}
 use Rattle.rox_builder.proofs.Showing.{split_at}
-use Rattle.rox_content.proofs.Closing.{below_last}
-use Rattle.rox_content.proofs.TakenBack.{cut_back, fine_same}
-use Rattle.rox_sections.proofs.PlainReads.{reads_kept}
-use Rattle.rox_content.proofs.PlainElements.{below, row_below, may_put, element_reads, part_near}
-use Rattle.rox_sections.proofs.PlainReads.{reads_not}
+use Rattle.rox_content.proofs.PlainElements.{may_open_at, IsTried, tried_may_put, tried_reads, tried_back, tried_again, part_near}
+use Rattle.rox_sections.proofs.PlainReads.{reads_kept, reads_not}
 use Rattle.rox_content.proofs.quick_elements.element_without_prefix.Goals as goal
+use Rattle.rox_content.proofs.quick_elements.element_without_prefix.Goals.{After-start_tag_without_prefix}
+
+tried : (c : After-start_tag_without_prefix) → IsTried c.args.text.now c.args.start c.args.near c.args.builder.now c.index-parent.result.now c.start_tag_without_prefix.new.elements c.len-from.result c.start_tag_without_prefix.result
+tried c =
+    let os = c.args.builder.now.opened.items in
+    let o = c.index-parent.result.now in
+    record {
+      utf8 = c.utf8.text;
+      may = record { here = c.requires.here; start = c.requires.start; part = part_near c.args.text.now c.args.start c.args.near c.utf8.text c.requires.here c.requires.near; room = c.requires.room };
+      room = c.has_room_to_open.ensures c.if-not-has_room_to_open.false;
+      outer = take (c.len-depth.result - 1) os;
+      innermost = split_at os c.len-depth.result o (omega arith) (omega arith) c.index-parent.ensures;
+      held_all = c.len-from.ensures;
+      tag = c.start_tag_without_prefix.ensures;
+    }
 
 pub start_tag_without_prefix-requires : goal.start_tag_without_prefix-requires
 start_tag_without_prefix-requires c = record {
-  here =
-      let b = c.args.builder.now in
-      let os = b.opened.items in
-      let o = c.index-parent.result.now in
-      record {
-        here = c.requires.here;
-        short = c.requires.room.short;
-        below = below_last b.tables os (take (c.len-depth.result - 1) os) o c.requires.room.fine (split_at os c.len-depth.result o (omega arith) (omega arith) c.index-parent.ensures);
-      };
+  here = may_open_at c.args.text.now c.args.start c.len-depth.result c.args.builder.now c.index-parent.result.now c.requires.here c.requires.room (omega arith) (omega arith) c.index-parent.ensures;
   near = c.requires.near;
   bare = first_of (search rules, grind (arith, common_steps));
 }
@@ -39,48 +42,21 @@ element_in_scope-requires c = record {
 }
 
 pub put_element-requires : goal.put_element-requires
-put_element-requires c =
-    let r = c.requires.room.ready in
-    may_put c.args.builder.now _ _ c.args.text.now c.args.start _ c.in-Some.read
-    (below c.args.builder.now _ c.args.text.now c.args.start c.len-depth.result c.index-parent.result.now c.in-Some.read c.utf8.text c.requires.here c.requires.room.short c.requires.room.fine (omega arith) (omega arith) c.index-parent.ensures (record { nodes = refl; opened = refl; pending = refl; joined = refl; limit = refl; openings_left = refl }) c.in-Some.ensures.read)
-    (row_below c.start_tag_without_prefix.new.elements c.args.builder.now.opened.items c.len-depth.result c.index-parent.result.now (omega arith) (omega arith) c.index-parent.ensures)
-    (record { room = r.room; few = r.few; small = r.small; settled = r.settled }) (omega (arith, c.requires.room.short, c.requires.start.0)) (c.has_room_to_open.ensures c.if-not-has_room_to_open.false)
+put_element-requires c = tried_may_put _ c.in-Some.read (tried (goal.at.put_element-requires c).After-start_tag_without_prefix) c.in-Some.is refl (record { nodes = refl; opened = refl; pending = refl; joined = refl; limit = refl; openings_left = refl }) refl
 
 pub returns : goal.returns
-returns c =
-    element_reads c.args.builder.now _ _ _ c.args.text.now c.args.start _ c.in-Some.read
-    (below c.args.builder.now _ c.args.text.now c.args.start c.len-depth.result c.index-parent.result.now c.in-Some.read c.utf8.text c.requires.here c.requires.room.short c.requires.room.fine (omega arith) (omega arith) c.index-parent.ensures (record { nodes = refl; opened = refl; pending = refl; joined = refl; limit = refl; openings_left = refl }) c.in-Some.ensures.read)
-    c.put_element.ensures
+returns c = tried_reads _ _ _ c.in-Some.read (tried (goal.at.returns c).After-start_tag_without_prefix) c.in-Some.is refl (record { nodes = refl; opened = refl; pending = refl; joined = refl; limit = refl; openings_left = refl }) c.put_element.ensures
 
 pub returns-in_default : goal.returns-in_default
 returns-in_default c =
-    let old = c.args.builder.now.tables in
-    let put = c.start_tag_without_prefix.new.elements in
-    let left : ElementTables = record put { attributes = c.truncate.new.self } in
-    let grown = c.in_default.ensures.grown in
-    let same = cut_back old put left grown.more c.len-from.result grown.others grown.rows c.len-from.ensures refl c.truncate.ensures in
+    let same = tried_back (tried (goal.at.returns-in_default c).After-start_tag_without_prefix) (record c.start_tag_without_prefix.new.elements { attributes = c.truncate.new.self }) refl c.truncate.ensures in
     reads_kept _ _ _ _ c.args.builder.now _ _ (record { nodes = refl; opened = refl; pending = refl; joined = refl; limit = refl; openings_left = refl; others = same.others; attributes = same.attributes })
     c.element_repeating.ensures
 
 pub element_repeating-requires : goal.element_repeating-requires
 element_repeating-requires c =
-    let old = c.args.builder.now.tables in
-    let put = c.start_tag_without_prefix.new.elements in
-    let left : ElementTables = record put { attributes = c.truncate.new.self } in
-    let grown = c.in_default.ensures.grown in
-    let same = cut_back old put left grown.more c.len-from.result grown.others grown.rows c.len-from.ensures refl c.truncate.ensures in
-    record {
-      here = c.requires.here;
-      start = c.requires.start;
-      part = part_near c.args.text.now c.args.start c.args.near c.utf8.text c.requires.here c.requires.near;
-      room =
-          let ready = c.requires.room.ready in
-          record {
-            short = c.requires.room.short;
-            ready = record { room = ready.room; few = ready.few; small = ready.small; settled = ready.settled };
-            fine = fine_same old left c.args.builder.now.opened.items same c.requires.room.fine;
-          };
-    }
+    let h = (tried (goal.at.element_repeating-requires c).After-start_tag_without_prefix) in
+    tried_again h _ (record { nodes = refl; opened = refl; pending = refl; joined = refl; limit = refl; openings_left = refl }) (tried_back h (record c.start_tag_without_prefix.new.elements { attributes = c.truncate.new.self }) refl c.truncate.ensures)
 
 pub returns-then-index : goal.returns-then-index
 returns-then-index c = record {
