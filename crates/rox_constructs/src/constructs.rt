@@ -6,7 +6,7 @@ ghost use Rattle.rox_grammar.specs.declared.fault.Word.TheVariants as word;
 ghost use Rattle.rox_reading.specs.Machine as machine;
 ghost use Rattle.rox_grammar.specs.Forest.{Forest};
 ghost use Rattle.rox_grammar.specs.Written.{Item};
-ghost use Rattle.rox_grammar.specs.NameParts.{local_span, same_qname};
+ghost use Rattle.rox_grammar.specs.NameParts.{same_qname};
 ghost use Rattle.rox_grammar.specs.State.{Open};
 ghost use Rattle.rox_reading.specs.Refusals.{lifted};
 ghost use Rattle.rox_builder.specs.BuilderState.{Represents};
@@ -103,23 +103,14 @@ pub fn element<'input>(
     parsed(builder.open_element(cursor.text, start, &tag))
 }
 
-/// Returns the span of the local part of a name that ends at `end`.
-fn local_span(name: NameBytes<'_>, end: usize) -> Span
-    ensures { result ≡ local_span (bytes_view name.entry) end }
-{
-    Span {
-        start: end.saturating_sub(name.local.len()),
-        end,
-    }
-}
-
 /// Returns the span of a name that ends at `end`, in a tag whose name may start at `start`. A name without prefix has no colon in
 /// its span.
 fn name_span(name: NameBytes<'_>, start: usize, end: usize) -> Span
     ensures { result ≡ machine.name_span (bytes_view name.entry) start end }
 {
     if name.prefix.is_empty() {
-        local_span(name, end)
+        let start = end.saturating_sub(name.local.len());
+        Span { start, end }
     } else {
         Span { start, end }
     }
