@@ -32,41 +32,59 @@ pub row_item : (t : Tables) (f : Forest Node) (i : ℕ) (x : NodeData) → Holds
 row_item t f i x h l e =
     bare_node (attribute_rows t.attributes) (names_of t) (scopes_of t) x.start x.end x.kind ∙ ap (λ r. stripped r.node) (row_line t f i x h (in_rows t f i h l) e)
 
--- The namespaces and attributes are no part of these.
+-- The namespaces and attributes of `i` are no part of these.
+record IsBare (i : Node) : Type 0 where
+  root : is_root_node i ≡ is_root_node (stripped i)
+  element : is_element_node i ≡ is_element_node (stripped i)
+  text : is_text_node i ≡ is_text_node (stripped i)
+  comment : is_comment_node i ≡ is_comment_node (stripped i)
+  pi : is_pi_node i ≡ is_pi_node (stripped i)
+  start : start_of i ≡ start_of (stripped i)
+  end : end_of i ≡ end_of (stripped i)
+  local : local_of i ≡ local_of (stripped i)
+  instruction : pi_of i ≡ pi_of (stripped i)
+  type : type_of i ≡ type_of (stripped i)
+  content : text_content i ≡ text_content (stripped i)
+
+is_bare : (i : Node) → IsBare i
+is_bare (Root end) = record { root = refl; element = refl; text = refl; comment = refl; pi = refl; start = refl; end = refl; local = refl; instruction = refl; type = refl; content = refl }
+is_bare (Element start end namespace local listed attributes) = record { root = refl; element = refl; text = refl; comment = refl; pi = refl; start = refl; end = refl; local = refl; instruction = refl; type = refl; content = refl }
+is_bare (Text start end value borrowed) = record { root = refl; element = refl; text = refl; comment = refl; pi = refl; start = refl; end = refl; local = refl; instruction = refl; type = refl; content = refl }
+is_bare (Comment start end text) = record { root = refl; element = refl; text = refl; comment = refl; pi = refl; start = refl; end = refl; local = refl; instruction = refl; type = refl; content = refl }
+is_bare (PI start end target value) = record { root = refl; element = refl; text = refl; comment = refl; pi = refl; start = refl; end = refl; local = refl; instruction = refl; type = refl; content = refl }
+
 pub says_root_bare : (i : Node) → is_root_node i ≡ is_root_node (stripped i)
-says_root_bare (Root end) = refl
-says_root_bare (Element start end namespace local listed attributes) = refl
-says_root_bare (Text start end value borrowed) = refl
-says_root_bare (Comment start end text) = refl
-says_root_bare (PI start end target value) = refl
+says_root_bare i = (is_bare i).root
 
 pub says_element_bare : (i : Node) → is_element_node i ≡ is_element_node (stripped i)
-says_element_bare (Root end) = refl
-says_element_bare (Element start end namespace local listed attributes) = refl
-says_element_bare (Text start end value borrowed) = refl
-says_element_bare (Comment start end text) = refl
-says_element_bare (PI start end target value) = refl
+says_element_bare i = (is_bare i).element
 
 pub says_text_bare : (i : Node) → is_text_node i ≡ is_text_node (stripped i)
-says_text_bare (Root end) = refl
-says_text_bare (Element start end namespace local listed attributes) = refl
-says_text_bare (Text start end value borrowed) = refl
-says_text_bare (Comment start end text) = refl
-says_text_bare (PI start end target value) = refl
+says_text_bare i = (is_bare i).text
 
 pub says_comment_bare : (i : Node) → is_comment_node i ≡ is_comment_node (stripped i)
-says_comment_bare (Root end) = refl
-says_comment_bare (Element start end namespace local listed attributes) = refl
-says_comment_bare (Text start end value borrowed) = refl
-says_comment_bare (Comment start end text) = refl
-says_comment_bare (PI start end target value) = refl
+says_comment_bare i = (is_bare i).comment
 
 pub says_pi_bare : (i : Node) → is_pi_node i ≡ is_pi_node (stripped i)
-says_pi_bare (Root end) = refl
-says_pi_bare (Element start end namespace local listed attributes) = refl
-says_pi_bare (Text start end value borrowed) = refl
-says_pi_bare (Comment start end text) = refl
-says_pi_bare (PI start end target value) = refl
+says_pi_bare i = (is_bare i).pi
+
+pub start_of_bare : (i : Node) → start_of i ≡ start_of (stripped i)
+start_of_bare i = (is_bare i).start
+
+pub end_of_bare : (i : Node) → end_of i ≡ end_of (stripped i)
+end_of_bare i = (is_bare i).end
+
+pub local_of_bare : (i : Node) → local_of i ≡ local_of (stripped i)
+local_of_bare i = (is_bare i).local
+
+pub pi_of_bare : (i : Node) → pi_of i ≡ pi_of (stripped i)
+pi_of_bare i = (is_bare i).instruction
+
+pub type_of_bare : (i : Node) → type_of i ≡ type_of (stripped i)
+type_of_bare i = (is_bare i).type
+
+pub text_content_bare : (i : Node) → text_content i ≡ text_content (stripped i)
+text_content_bare i = (is_bare i).content
 
 -- whether a row is an element's, or a text's, is whether its node is one
 element_row : (s e : ℕ) (k : NodeKind) → is_element k ≡ is_element_node (stripped_row s e k)
@@ -89,67 +107,16 @@ row_element t f i x h l e = element_row x.start x.end x.kind ∙ ap is_element_n
 pub row_text : (t : Tables) (f : Forest Node) (i : ℕ) (x : NodeData) → HoldsTree t f → i < size f → x ≡ get_or (node_rows t.nodes) i x → is_text x.kind ≡ is_text_node (place f i).item
 row_text t f i x h l e = text_row x.start x.end x.kind ∙ ap is_text_node (row_item t f i x h l e) ∙ sym (says_text_bare (place f i).item)
 
-pub start_of_bare : (i : Node) → start_of i ≡ start_of (stripped i)
-start_of_bare (Root end) = refl
-start_of_bare (Element start end namespace local listed attributes) = refl
-start_of_bare (Text start end value borrowed) = refl
-start_of_bare (Comment start end text) = refl
-start_of_bare (PI start end target value) = refl
-
-pub end_of_bare : (i : Node) → end_of i ≡ end_of (stripped i)
-end_of_bare (Root end) = refl
-end_of_bare (Element start end namespace local listed attributes) = refl
-end_of_bare (Text start end value borrowed) = refl
-end_of_bare (Comment start end text) = refl
-end_of_bare (PI start end target value) = refl
-
 -- a row without its places says the rest
+placed : (s e : ℕ) (k : NodeKind) (n : Node) → start_of (stripped n) ≡ s → end_of (stripped n) ≡ e → stripped_row s e k ≡ stripped n → stripped_row (start_of n) (end_of n) k ≡ stripped n
+placed s e k n starts ends h = rw (start_of_bare n ∙ starts, end_of_bare n ∙ ends) h
+
 pub stripped_again : (s e : ℕ) (k : NodeKind) (n : Node) → stripped_row s e k ≡ stripped n → stripped_row (start_of n) (end_of n) k ≡ stripped n
 stripped_again s e kind.Root n h = let b : end_of n ≡ e = end_of_bare n ∙ ap end_of (sym h) in rw b h
-stripped_again s e (kind.Element x) n h =
-    let a : start_of n ≡ s = start_of_bare n ∙ ap start_of (sym h) in
-    let b : end_of n ≡ e = end_of_bare n ∙ ap end_of (sym h) in
-    rw (a, b) h
-stripped_again s e (kind.Text x) n h =
-    let a : start_of n ≡ s = start_of_bare n ∙ ap start_of (sym h) in
-    let b : end_of n ≡ e = end_of_bare n ∙ ap end_of (sym h) in
-    rw (a, b) h
-stripped_again s e (kind.Comment x) n h =
-    let a : start_of n ≡ s = start_of_bare n ∙ ap start_of (sym h) in
-    let b : end_of n ≡ e = end_of_bare n ∙ ap end_of (sym h) in
-    rw (a, b) h
-stripped_again s e (kind.PI x) n h =
-    let a : start_of n ≡ s = start_of_bare n ∙ ap start_of (sym h) in
-    let b : end_of n ≡ e = end_of_bare n ∙ ap end_of (sym h) in
-    rw (a, b) h
-
-pub local_of_bare : (i : Node) → local_of i ≡ local_of (stripped i)
-local_of_bare (Root end) = refl
-local_of_bare (Element start end namespace local listed attributes) = refl
-local_of_bare (Text start end value borrowed) = refl
-local_of_bare (Comment start end text) = refl
-local_of_bare (PI start end target value) = refl
-
-pub pi_of_bare : (i : Node) → pi_of i ≡ pi_of (stripped i)
-pi_of_bare (Root end) = refl
-pi_of_bare (Element start end namespace local listed attributes) = refl
-pi_of_bare (Text start end value borrowed) = refl
-pi_of_bare (Comment start end text) = refl
-pi_of_bare (PI start end target value) = refl
-
-pub type_of_bare : (i : Node) → type_of i ≡ type_of (stripped i)
-type_of_bare (Root end) = refl
-type_of_bare (Element start end namespace local listed attributes) = refl
-type_of_bare (Text start end value borrowed) = refl
-type_of_bare (Comment start end text) = refl
-type_of_bare (PI start end target value) = refl
-
-pub text_content_bare : (i : Node) → text_content i ≡ text_content (stripped i)
-text_content_bare (Root end) = refl
-text_content_bare (Element start end namespace local listed attributes) = refl
-text_content_bare (Text start end value borrowed) = refl
-text_content_bare (Comment start end text) = refl
-text_content_bare (PI start end target value) = refl
+stripped_again s e (kind.Element x) n h = placed s e (kind.Element x) n (ap start_of (sym h)) (ap end_of (sym h)) h
+stripped_again s e (kind.Text x) n h = placed s e (kind.Text x) n (ap start_of (sym h)) (ap end_of (sym h)) h
+stripped_again s e (kind.Comment x) n h = placed s e (kind.Comment x) n (ap start_of (sym h)) (ap end_of (sym h)) h
+stripped_again s e (kind.PI x) n h = placed s e (kind.PI x) n (ap start_of (sym h)) (ap end_of (sym h)) h
 
 -- what a text's or a comment's row says of its text
 content_kind : (az : List AttributeRow) (namespaces : List NamespaceDecl) (lists : List (List NamespaceDecl)) (a n l start end : ℕ) (k : NodeKind) → KindWithin a n l k → content_in k ≡ content_of (node az namespaces lists start end k)
