@@ -31,6 +31,19 @@ class Failed(Exception):
         self.said = said.strip()
 
 
+def print_help(text):
+    """Prints what a tool says of itself, and ends it, if `--help` or `-h` is among its words."""
+    if {"--help", "-h"}.intersection(sys.argv[1:]):
+        print(text.strip())
+        sys.exit(0)
+
+
+def print_usage(text):
+    """Ends a tool that does not take the words it was given: its usage on standard error, and status 2."""
+    print(f"usage: {text}", file=sys.stderr)
+    sys.exit(2)
+
+
 @functools.lru_cache(maxsize=None)
 def kit():
     """The kit's folder."""
