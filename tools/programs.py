@@ -17,10 +17,11 @@ import subprocess
 import sys
 import time
 
-TOP = os.path.dirname(os.path.dirname(os.path.realpath(__file__)))
-# What each kind is made from: the parts of each crate, and files beside them.
+HERE = os.path.dirname(os.path.dirname(os.path.realpath(__file__)))
+# The repository of the programs: this one, unless another is named.
+TOP = HERE
+# What each kind is made from: the parts of each crate.
 PARTS = {"proved": ("src", "specs", "proofs"), "compiled": ("src",)}
-FILES = {"proved": ("crates.txt",), "compiled": ("crates.txt", "tools/unproved.py")}
 
 
 class Failed(Exception):
@@ -42,6 +43,17 @@ def print_usage(text):
     """Ends a tool that does not take the words it was given: its usage on standard error, and status 2."""
     print(f"usage: {text}", file=sys.stderr)
     sys.exit(2)
+
+
+def in_repository(words):
+    """The words after `--in REPOSITORY`, if a tool's words begin so: the programs are then those of that repository."""
+    global TOP
+    if words[:1] != ["--in"] or len(words) < 2:
+        return words
+    TOP = os.path.realpath(words[1])
+    if not os.path.isfile(f"{TOP}/crates.txt"):
+        raise Failed(f"{words[1]} has no crates.txt: tools/into puts the library there")
+    return words[2:]
 
 
 @functools.lru_cache(maxsize=None)
@@ -95,10 +107,15 @@ def place(kind, name):
     return f"{TOP}/out/{kind}/{name}"
 
 
+def files_beside(kind):
+    """The paths of the files that a program is made from beside the crates."""
+    return ["crates.txt", *([os.path.relpath(f"{HERE}/tools/unproved.py", TOP)] if kind == "compiled" else [])]
+
+
 def sources(kind, name):
     """The paths below the top that a program is made from, of files and folders."""
     parts = [f"crates/{it}/{part}" for it in crates_below(name, read_crates()) for part in PARTS[kind]]
-    return [*FILES[kind], *(it for it in parts if os.path.isdir(f"{TOP}/{it}"))]
+    return [*files_beside(kind), *(it for it in parts if os.path.isdir(f"{TOP}/{it}"))]
 
 
 def files_of(path):
@@ -170,7 +187,7 @@ def standing(name):
 
 def choose(kind, name, since):
     """Notes which program a start runs, as looked at since then."""
-    files = [it for of_kind in FILES.values() for it in of_kind]
+    files = [it for of_kind in PARTS for it in files_beside(of_kind)]
     paths = dict.fromkeys([*files, *(f"crates/{it}" for it in crates_below(name, read_crates()))])
     file = f"{TOP}/out/{name}.runs"
     # where it cannot be written each start looks at the files again
