@@ -6,11 +6,11 @@ use std::alloc::{AllocError, Global};
 use std::fmt::Display;
 use std::io::ErrorKind;
 use std::process::ExitCode;
-use std::{env, fs, io};
+use std::{env, fs, io, str};
 
 const HELP: &str = "usage: xmlcheck [--allow-dtd] FILE..
 Prints FILE:ROW:COLUMN: MESSAGE, the line and a caret for each file that is not well formed.
-  --allow-dtd  accepts document type declarations in the files after it
+  --allow-dtd  accepts document type declarations in all files
   -h, --help   prints this text
 A fault goes to the standard output, and a file that cannot be read to the standard error. A file
 that is not UTF-8 cannot be read. Control characters, except TAB, are printed as U+FFFD.
@@ -31,36 +31,72 @@ fn main(rt: HostRuntime) -> ExitCode {
 
 /// Checks the files that the arguments name, and returns the highest of their statuses.
 fn check_files(rt: &HostRuntime) -> io::Result<u8> {
+    match env::args(rt) {
+        Ok(words) => {
+            let words: Vec<String> = words.skip(1).collect(rt.alloc())?;
+            check_words(rt, &words)
+        }
+        Err(error) if error.kind() == ErrorKind::InvalidData => {
+            eprintln!(rt; "xmlcheck: an argument is not UTF-8: no file was checked")?;
+            Ok(2)
+        }
+        Err(error) => Err(error),
+    }
+}
+
+/// Reads all words, then checks the files among them. An option holds for all files, and a wrong one leaves them unchecked.
+fn check_words(rt: &HostRuntime, words: &[String]) -> io::Result<u8> {
     let mut options = ParsingOptions::default();
-    let mut highest = None;
-    for word in env::args(rt)?.skip(1) {
+    let mut files = Vec::new(rt.alloc());
+    for word in words {
         match word.as_str() {
             "--allow-dtd" => options.allow_dtd = true,
-            "-h" | "--help" => {
-                println!(rt; "{HELP}")?;
-                return Ok(0);
-            }
-            file if !file.starts_with('-') => {
-                highest = highest.max(Some(check_file(rt, file, options)?));
-            }
-            _ => {
-                highest = None;
-                break;
-            }
+            "-h" | "--help" => return println!(rt; "{HELP}").map(|_| 0),
+            option if option.starts_with('-') => return refuse_option(rt, option),
+            file => files.push(file)?,
         }
     }
-    if highest.is_none() {
-        eprintln!(rt; "{HELP}")?;
+    if files.is_empty() {
+        return eprintln!(rt; "{HELP}").map(|_| 2);
     }
-    Ok(highest.unwrap_or(2))
+    let mut highest = 0;
+    for file in files {
+        highest = highest.max(check_file(rt, file, options)?);
+    }
+    Ok(highest)
+}
+
+/// Reports an unknown option, and returns 2.
+fn refuse_option(rt: &HostRuntime, option: &str) -> io::Result<u8> {
+    let option = visible(rt.alloc(), option)?;
+    eprintln!(rt; "xmlcheck: unknown option {option}\n{HELP}").map(|_| 2)
 }
 
 /// Checks a file, and returns 0 if it is well formed, 1 if it is not, and 2 if it cannot be read.
 fn check_file(rt: &HostRuntime, file: &str, options: ParsingOptions) -> io::Result<u8> {
     let name = visible(rt.alloc(), file)?;
-    match fs::read_to_string(rt, file) {
-        Ok(text) => check_text(rt, name.as_str(), text.as_str(), options),
+    match fs::read(rt, file) {
+        Ok(bytes) => check_bytes(rt, name.as_str(), &bytes, options),
         Err(error) => eprintln!(rt; "{name}: {error}").map(|_| 2),
+    }
+}
+
+/// Checks the bytes of a file, and returns what `check_file` does.
+fn check_bytes(
+    rt: &HostRuntime,
+    file: &str,
+    bytes: &[u8],
+    options: ParsingOptions,
+) -> io::Result<u8> {
+    match str::from_utf8(bytes) {
+        Ok(text) => check_text(rt, file, text, options),
+        Err(_) if bytes.starts_with(&[0xFE, 0xFF]) || bytes.starts_with(&[0xFF, 0xFE]) => {
+            eprintln!(rt; "{file}: UTF-16 is not read (iconv -f UTF-16 -t UTF-8)").map(|_| 2)
+        }
+        Err(error) => {
+            let offset = error.valid_up_to();
+            eprintln!(rt; "{file}: not UTF-8 at offset {offset}").map(|_| 2)
+        }
     }
 }
 
@@ -83,7 +119,7 @@ fn check_text(rt: &HostRuntime, file: &str, text: &str, options: ParsingOptions)
         Ok(_) => Ok(0),
         Err(error) => {
             print_error(rt, file, text, &error)?;
-            print_open(rt, file, front(text, &error), options)?;
+            print_open(rt, file, front(text, &error))?;
             Ok(1)
         }
     }
@@ -107,18 +143,14 @@ fn remedy(error: &Error) -> &'static str {
     }
 }
 
-/// Prints the way to the innermost element that a text leaves open, if it does.
-fn print_open(
-    rt: &HostRuntime,
-    file: &str,
-    text: Option<&str>,
-    options: ParsingOptions,
-) -> io::Result<()> {
+/// Prints the way to the innermost element that a text leaves open, if it does. A document type declaration is refused here: its
+/// entities could slow each parse.
+fn print_open(rt: &HostRuntime, file: &str, text: Option<&str>) -> io::Result<()> {
     let Some(text) = text else {
         return Ok(());
     };
-    let closed = with_end_tags(rt.alloc(), text, options)?;
-    match Document::parse_with_options(rt.alloc(), closed.as_str(), options) {
+    let closed = with_end_tags(rt.alloc(), text)?;
+    match Document::parse(rt.alloc(), closed.as_str()) {
         Ok(document) => print_way(rt, file, text, &document),
         Err(_) => Ok(()),
     }
@@ -145,10 +177,17 @@ fn push_way(document: &Document<'_>, end: usize, way: &mut String) -> Result<usi
     Ok(start)
 }
 
-/// Adds a step of a way: a slash and the local name of an element.
+/// Adds a step of a way: a slash and the local name of an element. Of a long name it adds 60 characters and `…`.
 fn push_step(element: &Node<'_, '_>, way: &mut String) -> Result<(), AllocError> {
-    way.push_str("/")?;
-    way.push_str(element.tag_name().name())
+    way.push('/')?;
+    let name = element.tag_name().name();
+    for character in name.chars().take(60) {
+        way.push(character)?;
+    }
+    if name.chars().nth(60).is_some() {
+        way.push('…')?;
+    }
+    Ok(())
 }
 
 /// Prints a message, the line of its position, and a caret below the character there. Of a long line it prints a part.
@@ -214,11 +253,11 @@ fn offset(text: &str, place: TextPos) -> usize {
 }
 
 /// Returns the text with the end tags that it lacks.
-fn with_end_tags(alloc: Global, text: &str, options: ParsingOptions) -> Result<String, AllocError> {
+fn with_end_tags(alloc: Global, text: &str) -> Result<String, AllocError> {
     let mut closed = String::from_str(alloc, text)?;
     // each takes a parse
     for _ in 0..64 {
-        if !push_end_tag(alloc, &mut closed, options)? {
+        if !push_end_tag(alloc, &mut closed)? {
             break;
         }
     }
@@ -227,12 +266,8 @@ fn with_end_tags(alloc: Global, text: &str, options: ParsingOptions) -> Result<S
 
 /// Adds the end tag of the innermost element that is open, if this is why the text is refused, and returns whether it is. An end tag
 /// of another name is refused with the one that is expected.
-fn push_end_tag(
-    alloc: Global,
-    text: &mut String,
-    options: ParsingOptions,
-) -> Result<bool, AllocError> {
-    match &refusal(alloc, text, options)? {
+fn push_end_tag(alloc: Global, text: &mut String) -> Result<bool, AllocError> {
+    match &refusal(alloc, text)? {
         Some(Error::UnexpectedCloseTag(name, _, _)) => write!(text, "</{name}>")?,
         None | Some(Error::UnclosedRootNode) => text.push_str("</_>")?,
         Some(_) => return Ok(false),
@@ -241,11 +276,7 @@ fn push_end_tag(
 }
 
 /// Returns why a text is refused with the end tag of `_` behind it, or `None` if it is read.
-fn refusal(
-    alloc: Global,
-    text: &String,
-    options: ParsingOptions,
-) -> Result<Option<Error>, AllocError> {
+fn refusal(alloc: Global, text: &String) -> Result<Option<Error>, AllocError> {
     let tried = format!(in alloc; "{text}</_>")?;
-    Ok(Document::parse_with_options(alloc, tried.as_str(), options).err())
+    Ok(Document::parse(alloc, tried.as_str()).err())
 }
