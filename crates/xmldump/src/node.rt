@@ -8,7 +8,7 @@ use std::io::Write;
 /// Writes the first line of a node.
 pub fn write_node<W: Write>(node: &Node<'_, '_>, out: &mut Output<'_, W>) {
     write_number(node.id().get() as u64, out);
-    out.text(kind_name(node.node_type()));
+    write_kind(node.node_type(), out);
     write_links(node, out);
     write_range(" range=", node.range(), out);
     if node.is_element() {
@@ -22,14 +22,10 @@ pub fn write_node<W: Write>(node: &Node<'_, '_>, out: &mut Output<'_, W>) {
     out.text("\n");
 }
 
-// The name of a kind, behind a space.
-fn kind_name(kind: NodeType) -> &'static str {
-    match kind {
-        NodeType::Root => " Root",
-        NodeType::Element => " Element",
-        NodeType::PI => " PI",
-        NodeType::Comment => " Comment",
-        NodeType::Text => " Text",
+// Writes the name of a kind, behind a space.
+fn write_kind<W: Write>(kind: NodeType, out: &mut Output<'_, W>) {
+    if out.result.is_ok() {
+        out.result = write!(out.writer, " {kind:?}");
     }
 }
 
