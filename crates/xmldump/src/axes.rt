@@ -1,9 +1,11 @@
 //! The second line of a node: its nearest elements, and what stands along each axis.
 
+ghost use Rattle.std.specs.Iterator.{IsFinite};
+
 use crate::node::write_link;
 use rox_dump::output::{write_number, write_truth};
 use rox_programs::output::Output;
-use roxmltree::{AxisIter, Node};
+use roxmltree::Node;
 use std::io::Write;
 
 /// Writes the second line of a node.
@@ -12,8 +14,6 @@ pub fn write_axes<W: Write>(node: &Node<'_, '_>, out: &mut Output<'_, W>) {
     write_truth(" sib=", node.has_siblings(), out);
     write_truth(" kids=", node.has_children(), out);
     write_ways(node, out);
-    write_children(node, out);
-    write_children_back(node, out);
     out.text(" desc=");
     write_number(node.descendants().len() as u64, out);
     out.text("\n");
@@ -28,45 +28,29 @@ fn write_elements<W: Write>(node: &Node<'_, '_>, out: &mut Output<'_, W>) {
 }
 
 fn write_ways<W: Write>(node: &Node<'_, '_>, out: &mut Output<'_, W>) {
-    write_way(node.ancestors(), " anc=", out);
-    write_way(node.prev_siblings(), " prevs=", out);
-    write_way(node.next_siblings(), " nexts=", out);
-    write_way(node.first_children(), " firsts=", out);
-    write_way(node.last_children(), " lasts=", out);
+    write_ids(" anc=", node.ancestors(), out);
+    write_ids(" prevs=", node.prev_siblings(), out);
+    write_ids(" nexts=", node.next_siblings(), out);
+    write_ids(" firsts=", node.first_children(), out);
+    write_ids(" lasts=", node.last_children(), out);
+    write_ids(" children=", node.children(), out);
+    write_ids(" children_back=", node.children().rev(), out);
 }
 
-// Writes a label and the ids of the nodes along an axis.
-fn write_way<W: Write>(nodes: AxisIter<'_, '_>, label: &str, out: &mut Output<'_, W>) {
+/// Writes a label and the ids of some nodes, with commas between them.
+pub fn write_ids<'a, I: Iterator<Item = Node<'a, 'a>>, W: Write>(
+    label: &str,
+    nodes: I,
+    out: &mut Output<'_, W>,
+)
+    requires can { I.can_next nodes }
+    requires finite { IsFinite (I.remaining nodes) }
+{
     out.text(label);
     let mut is_first = true;
     for node in nodes {
-        write_id(&node, is_first, out);
+        out.text(if is_first { "" } else { "," });
+        write_number(node.id().get() as u64, out);
         is_first = false;
     }
-}
-
-fn write_children<W: Write>(node: &Node<'_, '_>, out: &mut Output<'_, W>) {
-    out.text(" children=");
-    let mut is_first = true;
-    for child in node.children() {
-        write_id(&child, is_first, out);
-        is_first = false;
-    }
-}
-
-fn write_children_back<W: Write>(node: &Node<'_, '_>, out: &mut Output<'_, W>) {
-    out.text(" children_back=");
-    let mut children = node.children();
-    for at in 0..u64::MAX {
-        let Some(child) = children.next_back() else {
-            break;
-        };
-        write_id(&child, at == 0, out);
-    }
-}
-
-/// Writes the id of a node, behind a comma if it is not the first one.
-pub fn write_id<W: Write>(node: &Node<'_, '_>, is_first: bool, out: &mut Output<'_, W>) {
-    out.text(if is_first { "" } else { "," });
-    write_number(node.id().get() as u64, out);
 }

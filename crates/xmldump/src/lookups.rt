@@ -1,7 +1,7 @@
 //! The look-ups of a node: its rows and columns, what is found by prefix, by URI and by name, and what its iterators give from
 //! their backs.
 
-use crate::axes::write_id;
+use crate::axes::write_ids;
 use rox_dump::output::{gap, write_name, write_number, write_text, write_truth};
 use rox_programs::output::Output;
 use roxmltree::{Attribute, ExpandedName, NS_XML_URI, Node, TextPos};
@@ -128,58 +128,26 @@ fn write_own_name<W: Write>(node: &Node<'_, '_>, out: &mut Output<'_, W>) {
 fn write_backs<W: Write>(node: &Node<'_, '_>, out: &mut Output<'_, W>) {
     write_attributes_back(node, out);
     write_prefixes_back(node, out);
-    write_order(node, out);
-    write_order_back(node, out);
+    write_ids(" order=", node.descendants(), out);
+    write_ids(" order_back=", node.descendants().rev(), out);
 }
 
 fn write_attributes_back<W: Write>(node: &Node<'_, '_>, out: &mut Output<'_, W>) {
     out.text(" attrs_back=[");
-    let mut attributes = node.attributes();
-    for at in 0..u64::MAX {
-        let Some(attribute) = attributes.next_back() else {
-            break;
-        };
-        write_expanded_name(&attribute, at == 0, out);
+    let mut is_first = true;
+    for attribute in node.attributes().rev() {
+        write_name(gap(is_first), attribute.namespace(), attribute.name(), out);
+        is_first = false;
     }
     out.text("]");
-}
-
-fn write_expanded_name<W: Write>(
-    attribute: &Attribute<'_, '_>,
-    is_first: bool,
-    out: &mut Output<'_, W>,
-) {
-    write_name(gap(is_first), attribute.namespace(), attribute.name(), out);
 }
 
 fn write_prefixes_back<W: Write>(node: &Node<'_, '_>, out: &mut Output<'_, W>) {
     out.text(" ns_back=[");
-    let mut namespaces = node.namespaces();
-    for at in 0..u64::MAX {
-        let Some(namespace) = namespaces.next_back() else {
-            break;
-        };
-        write_text(gap(at == 0), namespace.name(), out);
-    }
-    out.text("]");
-}
-
-fn write_order<W: Write>(node: &Node<'_, '_>, out: &mut Output<'_, W>) {
-    out.text(" order=");
     let mut is_first = true;
-    for node in node.descendants() {
-        write_id(&node, is_first, out);
+    for namespace in node.namespaces().rev() {
+        write_text(gap(is_first), namespace.name(), out);
         is_first = false;
     }
-}
-
-fn write_order_back<W: Write>(node: &Node<'_, '_>, out: &mut Output<'_, W>) {
-    out.text(" order_back=");
-    let mut nodes = node.descendants();
-    for at in 0..u64::MAX {
-        let Some(node) = nodes.next_back() else {
-            break;
-        };
-        write_id(&node, at == 0, out);
-    }
+    out.text("]");
 }
