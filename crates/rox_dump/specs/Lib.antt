@@ -2,5 +2,4 @@ pub mod Answers
 pub mod Batch
 pub mod Command
 pub mod Escaped
-pub mod Fault
 pub mod Numbers

@@ -6,7 +6,6 @@ pub mod answers;
 pub mod arguments;
 pub mod cases;
 pub mod escape;
-pub mod fault;
 pub mod numbers;
 pub mod options;
 pub mod output;

@@ -1,4 +1,4 @@
-//! The reasons why a program does not do what it was asked, as far as all programs share them.
+//! The reasons why a program does not do what it was asked. All programs share them, except that `xmldump` alone reads batches.
 
 ghost use Rattle.std.specs.Prelude.{◌≡◌};
 ghost use Rattle.rox_programs.specs.declared.program_error.ProgramError.TheVariants.{CannotWrite, OutOfMemory};
@@ -13,6 +13,8 @@ pub enum ProgramError {
     CannotRead,
     /// The input is not UTF-8.
     NotUtf8,
+    /// The input is not a batch of texts.
+    NotBatch,
     /// The output could not be written to its end.
     CannotWrite,
     /// Memory ran out.
@@ -24,6 +26,7 @@ impl fmt::Display for ProgramError {
         let text = match self {
             ProgramError::CannotRead => "cannot read input",
             ProgramError::NotUtf8 => "input is not UTF-8",
+            ProgramError::NotBatch => "input is no batch of texts",
             ProgramError::CannotWrite => "cannot write output",
             ProgramError::OutOfMemory => "out of memory",
         };
@@ -65,7 +68,10 @@ impl ProgramError {
     {
         match self {
             ProgramError::OutOfMemory => 1,
-            ProgramError::CannotRead | ProgramError::NotUtf8 | ProgramError::CannotWrite => 2,
+            ProgramError::CannotRead
+            | ProgramError::NotUtf8
+            | ProgramError::NotBatch
+            | ProgramError::CannotWrite => 2,
         }
     }
 }

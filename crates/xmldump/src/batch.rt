@@ -4,7 +4,6 @@ ghost use Rattle.std.specs.Prelude.{◌≡◌};
 
 use crate::sources::{Sources, write_text};
 use rox_dump::cases::first_case;
-use rox_dump::fault::Fault;
 use rox_dump::options::Options;
 use rox_programs::input::decode;
 use rox_programs::program_error::ProgramError;
@@ -19,12 +18,12 @@ pub fn write_batch<W: Write>(
     sources: &Sources,
     options: Options,
     out: &mut W,
-) -> Result<(), Fault> {
+) -> Result<(), ProgramError> {
     let mut count: usize = 0;
     let mut rest = batch;
     while !rest.is_empty() {
         let Some(case) = first_case(rest) else {
-            return Err(Fault::NoBatch);
+            return Err(ProgramError::NotBatch);
         };
         let length = case.text.len();
         writeln!(out, "CASE {count} {length}")?;

@@ -4,7 +4,6 @@ ghost use Rattle.std.specs.Prelude.{◌≡◌, ◌≤◌, IsNone, IsErrOf};
 
 use crate::batch::write_batch;
 use crate::sources::{Sources, write_text};
-use rox_dump::fault::Fault;
 use rox_dump::options::Options;
 use rox_programs::input::{decode, read_all};
 use rox_programs::program_error::ProgramError;
@@ -45,8 +44,8 @@ fn write_input<I: Read + Drop, O: Write>(
     sources: &Sources,
     input: Option<I>,
     out: &mut O,
-) -> Result<(), Fault>
-    ensures { IsNone input → IsErrOf result (Fault.Program ProgramError.CannotRead) }
+) -> Result<(), ProgramError>
+    ensures { IsNone input → IsErrOf result ProgramError.CannotRead }
 {
     let bytes = read_all(alloc, input)?;
     write_buffered(alloc, &bytes, sources, options, out)
@@ -67,15 +66,13 @@ fn write_buffered<O: Write>(
     sources: &Sources,
     options: Options,
     out: &mut O,
-) -> Result<(), Fault> {
+) -> Result<(), ProgramError> {
     let mut buffered = match BufWriter::with_capacity(alloc, BUFFER, out) {
         Ok(buffered) => buffered,
-        Err(_) => return Err(Fault::Program(ProgramError::OutOfMemory)),
+        Err(_) => return Err(ProgramError::OutOfMemory),
     };
     let written = match write_dumps(alloc, bytes, sources, options, &mut buffered) {
-        Ok(()) => buffered
-            .flush()
-            .map_err(|_| Fault::Program(ProgramError::CannotWrite)),
+        Ok(()) => buffered.flush().map_err(|_| ProgramError::CannotWrite),
         Err(fault) => Err(fault),
     };
     let (_out, _unwritten) = buffered.into_parts();
@@ -88,10 +85,10 @@ fn write_dumps<W: Write>(
     sources: &Sources,
     options: Options,
     out: &mut W,
-) -> Result<(), Fault> {
+) -> Result<(), ProgramError> {
     if options.batch {
         return write_batch(alloc, bytes, sources, options, out);
     }
     let text = decode(bytes)?;
-    Ok(write_text(alloc, text, sources, options, out)?)
+    write_text(alloc, text, sources, options, out)
 }
