@@ -7,9 +7,8 @@ ghost use Rattle.rox_measures.specs.Fault.{status_of};
 use rox_measures::arguments::{Command, USAGE, read};
 use rox_measures::fault::Fault;
 use rox_measures::run;
-use rox_programs::program_error::ProgramError;
-use std::env;
-use std::io::{ErrorKind, Write};
+use rox_programs::arguments::words;
+use std::io::Write;
 use std::process::ExitCode;
 
 fn main(rt: HostRuntime) -> ExitCode {
@@ -26,15 +25,9 @@ fn main(rt: HostRuntime) -> ExitCode {
 
 // The command of the program's arguments. One that is not UTF-8 is a wrong argument.
 fn asked_for(rt: &HostRuntime) -> Result<Option<Command>, Fault> {
-    match env::args(rt) {
-        Ok(words) => {
-            let words: Vec<String> = words.skip(1).collect(rt.alloc())?;
-            Ok(read(&words)?)
-        }
-        Err(error) if error.kind() == ErrorKind::OutOfMemory => Err(Fault::Program(
-            ProgramError::OutOfMemory,
-        )),
-        Err(_) => Ok(None),
+    match words(rt)? {
+        Some(words) => Ok(read(&words)?),
+        None => Ok(None),
     }
 }
 

@@ -1,4 +1,4 @@
-//! The reasons why a program does not do what it was asked. All programs share them, except that `xmldump` alone reads batches.
+//! The reasons why a program does not do what it was asked, as far as all programs share them. `xmldump` alone reads batches.
 
 ghost use Rattle.std.specs.Prelude.{◌≡◌};
 ghost use Rattle.rox_programs.specs.declared.program_error.ProgramError.TheVariants.{CannotWrite, OutOfMemory};

@@ -16,10 +16,10 @@ use crate::sources::Sources;
 use rox_dump::answers::Answer;
 use rox_dump::arguments::{USAGE, command};
 use rox_dump::options::{AnswerWord, Command};
+use rox_programs::arguments::words;
 use rox_programs::program_error::ProgramError;
-use std::env;
 use std::fs::File;
-use std::io::{ErrorKind, Write};
+use std::io::Write;
 use std::process::ExitCode;
 
 fn main(rt: HostRuntime) -> ExitCode {
@@ -35,14 +35,9 @@ fn main(rt: HostRuntime) -> ExitCode {
 
 // An argument that is not UTF-8 is wrong.
 fn run_words(rt: &HostRuntime) -> Result<u8, ProgramError> {
-    let words = match env::args(rt) {
-        Ok(words) => words,
-        Err(error) if error.kind() == ErrorKind::OutOfMemory => return Err(
-            ProgramError::OutOfMemory,
-        ),
-        Err(_) => return Ok(refuse(rt)),
+    let Some(words) = words(rt)? else {
+        return Ok(refuse(rt));
     };
-    let words: Vec<String> = words.skip(1).collect(rt.alloc())?;
     match command(rt.alloc(), &words)? {
         Some(command) => run_with_files(rt, &command),
         None => Ok(refuse(rt)),

@@ -5,13 +5,11 @@ ghost use Rattle.std.specs.Prelude.{◌≡◌, ◌≤◌, IsNone, IsErrOf};
 use crate::batch::write_batch;
 use crate::sources::{Sources, write_text};
 use rox_dump::options::Options;
+use rox_programs::buffered::write_buffered;
 use rox_programs::input::{decode, read_all};
 use rox_programs::program_error::ProgramError;
 use std::alloc::Global;
-use std::io::{BufWriter, Read, Write};
-
-/// How many bytes are gathered before they are written.
-const BUFFER: usize = 65536;
+use std::io::{Read, Write};
 
 /// Reads the input and writes the dump of its text, or of each text of a batch. The answer is the exit status. A fault is a
 /// line on `err`: status 1 for want of memory, 2 for input that cannot be read, that is not UTF-8 or no batch, and for output
@@ -48,7 +46,9 @@ fn write_input<I: Read + Drop, O: Write>(
     ensures { IsNone input → IsErrOf result ProgramError.CannotRead }
 {
     let bytes = read_all(alloc, input)?;
-    write_buffered(alloc, &bytes, sources, options, out)
+    write_buffered(alloc, out, |out| {
+        write_dumps(alloc, &bytes, sources, options, out)
+    })
 }
 
 /// The text of a file.
@@ -57,26 +57,6 @@ pub fn read_text<I: Read + Drop>(alloc: Global, input: Option<I>) -> Result<Stri
 {
     let bytes = read_all(alloc, input)?;
     String::from_utf8(bytes).map_err(|_| ProgramError::NotUtf8)
-}
-
-// After a fault nothing more is written: what is still in the buffer is let go.
-fn write_buffered<O: Write>(
-    alloc: Global,
-    bytes: &[u8],
-    sources: &Sources,
-    options: Options,
-    out: &mut O,
-) -> Result<(), ProgramError> {
-    let mut buffered = match BufWriter::with_capacity(alloc, BUFFER, out) {
-        Ok(buffered) => buffered,
-        Err(_) => return Err(ProgramError::OutOfMemory),
-    };
-    let written = match write_dumps(alloc, bytes, sources, options, &mut buffered) {
-        Ok(()) => buffered.flush().map_err(|_| ProgramError::CannotWrite),
-        Err(fault) => Err(fault),
-    };
-    let (_out, _unwritten) = buffered.into_parts();
-    written
 }
 
 fn write_dumps<W: Write>(

@@ -11,10 +11,10 @@ mod run;
 
 use crate::arguments::{USAGE, command};
 use crate::options::Command;
+use rox_programs::arguments::words;
 use rox_programs::program_error::ProgramError;
-use std::env;
 use std::fs::File;
-use std::io::{ErrorKind, Write};
+use std::io::Write;
 use std::process::ExitCode;
 
 fn main(rt: HostRuntime) -> ExitCode {
@@ -31,13 +31,9 @@ fn main(rt: HostRuntime) -> ExitCode {
 
 // The command of the program's arguments. One that is not UTF-8 is a wrong argument.
 fn asked_for(rt: &HostRuntime) -> Result<Option<Command>, ProgramError> {
-    match env::args(rt) {
-        Ok(words) => {
-            let words: Vec<String> = words.skip(1).collect(rt.alloc())?;
-            Ok(command(rt.alloc(), &words)?)
-        }
-        Err(error) if error.kind() == ErrorKind::OutOfMemory => Err(ProgramError::OutOfMemory),
-        Err(_) => Ok(None),
+    match words(rt)? {
+        Some(words) => Ok(command(rt.alloc(), &words)?),
+        None => Ok(None),
     }
 }
 

@@ -9,14 +9,12 @@ use crate::fault::Fault;
 use crate::listing;
 use crate::options::Command;
 use rox_path::{Step, parse_path, select};
+use rox_programs::buffered::write_buffered;
 use rox_programs::input;
 use rox_programs::program_error::ProgramError;
 use roxmltree::{Document, ParsingOptions};
 use std::alloc::Global;
-use std::io::{BufWriter, Read, Write};
-
-/// The number of bytes collected before they are written.
-const BUFFER: usize = 65536;
+use std::io::{Read, Write};
 
 /// Reads the path, if there is one, and the input. Parses the input and prints the listing of its tree, or a line for each node
 /// that the path reaches from the root node. An `input` of `None` is a file that could not be opened.
@@ -77,28 +75,11 @@ fn print_text<O: Write>(
     let mut options = ParsingOptions::default();
     options.allow_dtd = allow_dtd;
     match Document::parse_with_options(alloc, text, options) {
-        Ok(document) => Ok(write_buffered(alloc, &document, steps, out)?),
+        Ok(document) => Ok(write_buffered(alloc, out, |out| {
+            write_asked(alloc, &document, steps, out)
+        })?),
         Err(error) => Err(Fault::Refused(error)),
     }
-}
-
-// Writes what is asked for through a buffer. After a fault nothing more is written: the rest of the buffer is discarded.
-fn write_buffered<O: Write>(
-    alloc: Global,
-    document: &Document<'_>,
-    steps: Option<&Vec<Step<'_>>>,
-    out: &mut O,
-) -> Result<(), ProgramError> {
-    let mut buffered = match BufWriter::with_capacity(alloc, BUFFER, out) {
-        Ok(buffered) => buffered,
-        Err(_) => return Err(ProgramError::OutOfMemory),
-    };
-    let written = match write_asked(alloc, document, steps, &mut buffered) {
-        Ok(()) => buffered.flush().map_err(|_| ProgramError::CannotWrite),
-        Err(fault) => Err(fault),
-    };
-    let (_out, _unwritten) = buffered.into_parts();
-    written
 }
 
 fn write_asked<O: Write>(

@@ -1,0 +1,29 @@
+//! Output through a buffer.
+
+use crate::program_error::ProgramError;
+use std::alloc::Global;
+use std::io::{BufWriter, Write};
+
+/// The number of bytes collected before they are written.
+const BUFFER: usize = 65536;
+
+/// Calls `write` with a writer that collects bytes for `out`. After an error nothing more is written: the rest of the buffer is
+/// discarded.
+pub fn write_buffered<O: Write, F: FnOnce(&mut BufWriter<&mut O>) -> Result<(), ProgramError>>(
+    alloc: Global,
+    out: &mut O,
+    write: F,
+) -> Result<(), ProgramError>
+    requires { F.IsAlwaysCallable write }
+{
+    let mut buffered = match BufWriter::with_capacity(alloc, BUFFER, out) {
+        Ok(buffered) => buffered,
+        Err(_) => return Err(ProgramError::OutOfMemory),
+    };
+    let written = match write(&mut buffered) {
+        Ok(()) => buffered.flush().map_err(|_| ProgramError::CannotWrite),
+        Err(error) => Err(error),
+    };
+    let (_out, _unwritten) = buffered.into_parts();
+    written
+}
