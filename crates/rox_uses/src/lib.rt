@@ -17,6 +17,6 @@ pub use crate::exchanges::with_copy;
 pub use crate::ids::element_by_id;
 pub use crate::paths::{QueryError, records_at};
 pub use crate::qualified::resolve;
-pub use crate::records::{Record, RecordsError, read_records};
+pub use crate::records::{Record, RecordsError};
 pub use crate::resolvers::{parse_answered, parse_named};
 pub use crate::walks::{element_source, first_with_id, last_with_id, levels, source_of};
