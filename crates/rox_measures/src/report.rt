@@ -1,15 +1,17 @@
 //! What is printed.
 //!
 //! ```
-//! use rox_measures::report::{write_held, write_parse, write_walk};
+//! use rox_measures::report::{Size, write_held, write_turns};
 //! use rox_measures::turns::Turns;
 //!
 //! // Four turns in which the work was done twice. The median is the third one, and digits are cut off.
 //! let mut out = Vec::new(alloc);
 //! let times = Vec::from_array(alloc, [3_000, 1_000, 2_500, 2_000])?;
-//! assert!(rt; write_parse(alloc, &mut out, "parse", 100, Turns { repeats: 2, times }).is_ok());
+//! let turns = Turns { repeats: 2, times };
+//! assert!(rt; write_turns(alloc, &mut out, "parse", Size::Bytes(100), turns).is_ok());
 //! let times = Vec::from_array(alloc, [3_000, 1_000, 2_500, 2_000])?;
-//! assert!(rt; write_walk(alloc, &mut out, "walk", 30, Turns { repeats: 2, times }).is_ok());
+//! let turns = Turns { repeats: 2, times };
+//! assert!(rt; write_turns(alloc, &mut out, "walk", Size::Nodes(30), turns).is_ok());
 //! assert!(rt; write_held(&mut out, 100, Some(266)).is_ok());
 //! assert!(rt; write_held(&mut out, 100, None).is_ok());
 //! let wanted = "\
@@ -27,96 +29,59 @@ use crate::turns::Turns;
 use std::alloc::Global;
 use std::io::Write;
 
-/// The times of a work's turns, in short.
+/// How much a work goes over each time.
 #[derive(Clone, Copy)]
-struct Summary {
-    best: u64,
-    median: u64,
-    repeats: u32,
-    turns: usize,
+pub enum Size {
+    /// So many bytes of text.
+    Bytes(u64),
+    /// So many nodes of a document.
+    Nodes(u64),
 }
 
-/// The rates of the best turn and of the median one, and their unit.
-#[derive(Clone, Copy)]
-struct Rates<'a> {
-    best: Tenths,
-    median: Tenths,
-    unit: &'a str,
-}
-
-fn summed_up(turns: &mut Turns) -> Summary {
-    Summary {
-        best: best(&turns.times).unwrap_or(0),
-        median: median(&mut turns.times).unwrap_or(0),
-        repeats: turns.repeats,
-        turns: turns.times.len(),
-    }
-}
-
-/// Writes the line of a work over a text of so many bytes, with its speed in megabytes a second.
-pub fn write_parse<W: Write>(
+/// Writes the line of a work: its speed in megabytes a second, or its time for a node.
+pub fn write_turns<W: Write>(
     alloc: Global,
     out: &mut W,
     name: &str,
-    bytes: u64,
+    size: Size,
     mut turns: Turns,
 ) -> Result<(), Fault> {
-    let told = summed_up(&mut turns);
-    let rates = Rates {
-        best: megabytes_per_second(bytes, told.repeats, told.best),
-        median: megabytes_per_second(bytes, told.repeats, told.median),
-        unit: "MB/s",
-    };
-    write_line(alloc, out, name, told, rates)
-}
-
-/// Writes the line of a work over so many nodes, with its time for a node.
-pub fn write_walk<W: Write>(
-    alloc: Global,
-    out: &mut W,
-    name: &str,
-    nodes: u64,
-    mut turns: Turns,
-) -> Result<(), Fault> {
-    let told = summed_up(&mut turns);
-    let visits = nodes.saturating_mul(told.repeats as u64);
-    let rates = Rates {
-        best: share(told.best, visits),
-        median: share(told.median, visits),
-        unit: "ns a node",
-    };
-    write_line(alloc, out, name, told, rates)
-}
-
-fn write_line<W: Write>(
-    alloc: Global,
-    out: &mut W,
-    name: &str,
-    told: Summary,
-    rates: Rates<'_>,
-) -> Result<(), Fault> {
-    let (turns, repeats) = (told.turns, told.repeats);
-    let best = share(told.best, repeats as u64);
-    let median = share(told.median, repeats as u64);
+    let (repeats, count) = (turns.repeats, turns.times.len());
+    let best = best(&turns.times).unwrap_or(0);
+    let median = median(&mut turns.times).unwrap_or(0);
     write!(out, "{name:<14}")?;
-    write_figures(alloc, out, "best", [best, rates.best], rates.unit)?;
-    write_figures(alloc, out, "median", [median, rates.median], rates.unit)?;
-    writeln!(out, " {turns} turns of {repeats}")?;
+    write_figures(alloc, out, "best", best, repeats, size)?;
+    write_figures(alloc, out, "median", median, repeats, size)?;
+    writeln!(out, " {count} turns of {repeats}")?;
     Ok(())
 }
 
-// A time and a rate, each right-justified.
+// Of a turn: the time of one repeat, and the rate, each right-justified.
 fn write_figures<W: Write>(
     alloc: Global,
     out: &mut W,
     label: &str,
-    [time, rate]: [Tenths; 2],
-    unit: &str,
+    time: u64,
+    repeats: u32,
+    size: Size,
 ) -> Result<(), Fault> {
-    let time = format!(in alloc; "{time}")?;
+    let (rate, unit) = rate_of(time, repeats, size);
+    let each = share(time, repeats as u64);
+    let each = format!(in alloc; "{each}")?;
     let rate = format!(in alloc; "{rate}")?;
-    write!(out, " {label} {time:>13} ns {rate:>8} {unit},")?;
+    write!(out, " {label} {each:>13} ns {rate:>8} {unit},")?;
     Ok(())
+}
+
+// The rate of a turn, and its unit.
+fn rate_of(time: u64, repeats: u32, size: Size) -> (Tenths, &'static str) {
+    match size {
+        Size::Bytes(bytes) => (megabytes_per_second(bytes, repeats, time), "MB/s"),
+        Size::Nodes(nodes) => {
+            let visits = nodes.saturating_mul(repeats as u64);
+            (share(time, visits), "ns a node")
+        }
+    }
 }
 
 /// Writes how many bytes a document of so many bytes of text holds.

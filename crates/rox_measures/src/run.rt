@@ -2,7 +2,7 @@
 
 use crate::arguments::Command;
 use crate::fault::Fault;
-use crate::report::{write_held, write_parse, write_walk};
+use crate::report::{Size, write_held, write_turns};
 use crate::turns::measure;
 use crate::walk::{Census, count, walk, walk_links};
 use crate::work::{Parse, ParseAndDrop, Walk, WalkLinks};
@@ -74,11 +74,11 @@ fn measure_parses<R: AllocGlobal + CpuClock, O: Write>(
     budget: u64,
     out: &mut O,
 ) -> Result<(), Fault> {
-    let (alloc, length) = (rt.alloc(), text.len() as u64);
+    let (alloc, size) = (rt.alloc(), Size::Bytes(text.len() as u64));
     let turns = measure(alloc, rt, &ParseAndDrop { alloc, text }, budget)?;
-    write_parse(alloc, out, "parse and drop", length, turns)?;
+    write_turns(alloc, out, "parse and drop", size, turns)?;
     let turns = measure(alloc, rt, &Parse { alloc, text }, budget)?;
-    write_parse(alloc, out, "parse", length, turns)
+    write_turns(alloc, out, "parse", size, turns)
 }
 
 fn measure_walks<R: AllocGlobal + CpuClock, O: Write>(
@@ -90,9 +90,9 @@ fn measure_walks<R: AllocGlobal + CpuClock, O: Write>(
 ) -> Result<(), Fault> {
     let (alloc, sum) = (rt.alloc(), walk(document, 0));
     let turns = measure(alloc, rt, &Walk { document, sum }, budget)?;
-    write_walk(alloc, out, "walk", nodes, turns)?;
+    write_turns(alloc, out, "walk", Size::Nodes(nodes), turns)?;
     let turns = measure(alloc, rt, &WalkLinks { document, nodes }, budget)?;
-    write_walk(alloc, out, "walk by links", nodes, turns)?;
+    write_turns(alloc, out, "walk by links", Size::Nodes(nodes), turns)?;
     writeln!(out, "{:<14} {sum}", "sum of a walk")?;
     Ok(())
 }
