@@ -1,7 +1,7 @@
 //! Attributes by the quick reader, put into their table: those whose values refer only to predefined entities (XML 1.0 sections
 //! 3.1 and 4.6). Nothing fails here: if an attribute is not read, the general reader reads its tag again, from its `<`.
 
-ghost use Rattle.std.specs.Prelude.{◌^◌, ◌≡◌, ◌<◌, ◌+◌, ◌-◌, ◌==◌, ◌||◌, IfSome, length, bytes_eq, false, []};
+ghost use Rattle.std.specs.Prelude.{◌≡◌, ◌<◌, ◌+◌, ◌-◌, ◌==◌, IfSome, length, bytes_eq, false, []};
 ghost use Rattle.rox_bytes.specs.ScanResults.{EndsNear as StartsNear};
 ghost use Rattle.rox_grammar.specs.Failures.{name_view};
 ghost use Rattle.rox_grammar.specs.Written.{Name};
@@ -26,10 +26,7 @@ use rox_seen::seen_names::SeenNames;
 use rox_verbatim::quick_name::{
     NameAt, NamePlace, name_of_part, name_without_prefix, prefixed_name, some_place,
 };
-use rox_verbatim::quick_value::{
-    UnchangedValue, any_value_start, quote_after_equals, quote_before, quote_in_text,
-    unchanged_value, unchanged_value_end, value_in_window,
-};
+use rox_verbatim::quick_value::{UnchangedValue, any_value_start, quote_after_equals, quote_before, quote_in_text, unchanged_value, value_in_window};
 use std::alloc::Global;
 
 /// The longest name, in bytes, that fits into a 16-byte window with `=` and a quote.

@@ -11,7 +11,7 @@ ghost use Rattle.std.specs.String.{string_bytes};
 ghost use Rattle.rox_values.specs.Values.{IsItsSlice, piece_view};
 
 use crate::builder::Builder;
-use crate::pending::{JoinedText, Pending};
+use crate::pending::Pending;
 use rox_bytes::runs::is_at;
 use rox_grammar::failure::Failure;
 use rox_rows::node_table::NodeTable;

@@ -1,6 +1,6 @@
 //! Runs of plain bytes, sixteen at a time: the first look at names, values, character data and comments.
 
-ghost use Rattle.std.specs.Prelude.{IfSome, ◌≡◌, ◌+◌, ◌<◌, ◌≤◌, ℕ, Bool, true, false, not, map, take, drop, length, slice_index};
+ghost use Rattle.std.specs.Prelude.{IfSome, ◌≡◌, ◌+◌, ◌<◌, ◌≤◌, ℕ, Bool, not, map, take, drop, length};
 ghost use Rattle.std.specs.Str.{IsCharBoundary};
 ghost use Rattle.std.specs.Int.{w64, trailing_zeros};
 ghost use Rattle.std.specs.Simd.Lanes.{mask_l};

@@ -1,14 +1,11 @@
 //! The first offset of a byte or of a fixed text.
 ghost use Rattle.std.specs.Prelude.{◌≡◌, ◌+◌, ◌<◌, ◌≤◌, ◌||◌, ◌==◌, not, length};
-ghost use Rattle.std.specs.Str.{IsCharBoundary};
 ghost use Rattle.rox_grammar.specs.Search as spec;
 ghost use Rattle.rox_reading.specs.Lexical.{has_mark};
-ghost use Rattle.rox_grammar.specs.ExpectedTexts.{expected_text};
 ghost use Rattle.rox_bytes.specs.ByteSets.{EndsSet};
 ghost use Rattle.rox_bytes.specs.ScanResults.{Finds, FindsAscii, FindsByte, MaySeek, MaySeekEither};
 
-use memchr::{memchr, memchr2, memmem};
-use rox_grammar::fault::Expected;
+use memchr::{memchr, memchr2};
 
 /// Returns the offset of the first `byte` from `at` on, or the end.
 #[inline]

@@ -1,7 +1,7 @@
 //! Laws of locality: content and elements are wherever the same bytes follow, and in each source with the same bytes up to
 //! their end. So are the constructs that they are made of, as lemmas.
 
-ghost use Rattle.std.specs.Prelude.{◌≡◌, ℕ, ◌<◌, ◌≤◌, ◌+◌, List, true};
+ghost use Rattle.std.specs.Prelude.{ℕ, ◌<◌, ◌≤◌, ◌+◌, List, true};
 ghost use Rattle.rox_grammar.specs.Forest.{Forest};
 ghost use Rattle.rox_grammar.specs.Written.{Item};
 ghost use Rattle.rox_grammar.specs.Content.{Content, IsElement};

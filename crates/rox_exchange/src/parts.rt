@@ -3,7 +3,7 @@
 ghost use Rattle.std.specs.Prelude.{◌≡◌, ℕ, ◌≤◌, ◌-◌, List, [], IsUtf8, true};
 ghost use Rattle.rox_grammar.specs.Forest.{Forest, Nil, Cons};
 ghost use Rattle.rox_grammar.specs.Written.{Item, Tag, Element};
-ghost use Rattle.rox_grammar.specs.Tree.{Node, Root, resolved};
+ghost use Rattle.rox_grammar.specs.Tree.{Root, resolved};
 ghost use Rattle.rox_grammar.specs.Names.{slice};
 ghost use Rattle.rox_grammar.specs.Content.{IsElement};
 ghost use Rattle.rox_grammar.specs.Entities.{no_entities};

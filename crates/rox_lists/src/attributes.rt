@@ -2,7 +2,6 @@
 
 ghost use Rattle.std.specs.Prelude.{◌≡◌, ◌≤◌, ◌-◌, None, length, bytes_eq};
 ghost use Rattle.std.specs.Option.{option_map, option_eq};
-ghost use Rattle.rox_scopes.specs.NamespaceViews.{namespace_view};
 ghost use Rattle.rox_rows.specs.StoredAttributes.{data_of, place_bound};
 ghost use Rattle.rox_lists.specs.NamespaceBound.{namespace_bound};
 

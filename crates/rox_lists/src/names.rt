@@ -3,7 +3,7 @@
 ghost use Rattle.std.specs.Prelude.{◌≡◌, ◌≤◌, length, Some, None, bytes_eq};
 ghost use Rattle.std.specs.Option.{option_map, option_eq};
 ghost use Rattle.rox_compare.specs.Words.{HasLength};
-ghost use Rattle.rox_lists.specs.ExpandedNames.{expanded, same_expanded_name};
+ghost use Rattle.rox_lists.specs.ExpandedNames.{expanded};
 
 use rox_compare::compare::{
     LONG_WORD, Pair, STRETCH, WORD, same_bytes, same_long_word, same_long_words, same_sixteen,

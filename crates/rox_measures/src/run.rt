@@ -4,7 +4,7 @@ use crate::arguments::Command;
 use crate::fault::Fault;
 use crate::report::{Size, write_held, write_turns};
 use crate::turns::measure;
-use crate::walk::{Census, count, walk, walk_links};
+use crate::walk::{Census, count, walk};
 use crate::work::{Parse, ParseAndDrop, Walk, WalkLinks};
 use crate::{input, memory};
 use rox_programs::input::decode;

@@ -1,7 +1,6 @@
 //! The expanded names of the attributes of a tag that has many.
 
-ghost use Rattle.std.specs.Prelude.{◌≡◌, ℕ, List, Option, IfOk, false, ◌||◌};
-ghost use Rattle.rox_scopes.specs.Scopes.{prefix_view};
+ghost use Rattle.std.specs.Prelude.{Option, IfOk};
 ghost use Rattle.rox_names.specs.ExpandedNames.{PutsKey};
 
 use std::alloc::AllocError;

@@ -1,7 +1,7 @@
 //! The declarations of a start tag, one by one (XML 1.0 section 3.1, Namespaces in XML 1.0 section 3).
 
-ghost use Rattle.std.specs.Prelude.{◌≡◌, ◌<◌, ◌+◌, ◌-◌, ◌^◌, List, ℕ, length, map, true, Ok, Err, IfOk, OnOk};
-ghost use Rattle.rox_grammar.specs.Written.{Attribute, NamespaceDecl, Name, is_namespace_decl};
+ghost use Rattle.std.specs.Prelude.{◌≡◌, ◌<◌, ◌+◌, ◌-◌, ◌^◌, map, true, Ok, Err, IfOk};
+ghost use Rattle.rox_grammar.specs.Written.{Attribute, Name, is_namespace_decl};
 ghost use Rattle.rox_grammar.specs.NameParts.{local_span, prefix_span};
 ghost use Rattle.rox_grammar.specs.Tree.{is_declared};
 ghost use Rattle.rox_reading.specs.Tags as spec;

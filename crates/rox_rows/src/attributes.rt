@@ -1,6 +1,6 @@
 //! The table of attributes.
 
-ghost use Rattle.std.specs.Prelude.{◌≡◌, ◌<◌, ◌≤◌, ◌+◌, ◌-◌, ◌^◌, ◌/◌, ◌∷◌, [], true, false, length, take, min, vec_len, vec_capacity, if◌then◌else◌, is_ok, IfOk, OnOk};
+ghost use Rattle.std.specs.Prelude.{◌≡◌, ◌<◌, ◌≤◌, ◌+◌, ◌-◌, ◌/◌, ◌∷◌, [], true, false, length, take, vec_len, vec_capacity, if◌then◌else◌, is_ok};
 ghost use Rattle.rox_rows.specs.StoredAttributes.{AreNumbered, AreNumbered-prop, TakesBack, TakesLastRow, explicit_count, own_place, owned_places};
 ghost use Rattle.std.proofs.Props.{props};
 ghost use Rattle.rox_rows.specs.Puts.{Puts};

@@ -1,6 +1,6 @@
 //! The table of nodes.
 
-ghost use Rattle.std.specs.Prelude.{◌≡◌, ◌<◌, ◌≤◌, ◌+◌, ◌-◌, ◌^◌, ◌∷◌, [], true, length, get_or, vec_len, vec_capacity, if◌then◌else◌, is_ok, IfOk, OnOk, OnErr};
+ghost use Rattle.std.specs.Prelude.{◌≡◌, ◌<◌, ◌≤◌, ◌+◌, ◌-◌, ◌^◌, ◌∷◌, [], true, length, get_or, vec_len, vec_capacity, if◌then◌else◌, is_ok, IfOk};
 ghost use Rattle.std.proofs.Props.{props};
 ghost use Rattle.rox_rows.specs.StoredNodes as stored;
 ghost use Rattle.rox_rows.specs.StoredNodes.{are_within};

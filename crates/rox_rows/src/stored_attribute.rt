@@ -1,6 +1,6 @@
 //! An attribute as its table stores it.
 
-ghost use Rattle.std.specs.Prelude.{◌≡◌, ◌==◌, false, ◌<◌, ◌≤◌, ◌+◌, ◌^◌, length, IfSome};
+ghost use Rattle.std.specs.Prelude.{◌≡◌, ◌==◌, ◌<◌, ◌+◌, ◌^◌, length, IfSome};
 ghost use Rattle.std.specs.Mem.{manually_drop_value};
 ghost use Rattle.rox_storage.specs.Storage.{storage_bytes};
 ghost use Rattle.rox_rows.specs.CompactPlaces.{IsCompact, compact_places};

@@ -1,13 +1,9 @@
 //! Character data as it is written (XML 1.0 section 2.4). There is a first look, at plain bytes, a look beyond them, from a byte
 //! that may be valid, and the fault of `]]>`.
 
-ghost use Rattle.std.specs.Prelude.{◌≡◌, ◌==◌, ◌||◌, ◌&&◌, ◌+◌, ◌<◌, ◌≤◌, ℕ, IfOk, IfSome, OnOk, Ok, false, true, length, slice_index, slice_range};
+ghost use Rattle.std.specs.Prelude.{◌≡◌, ◌==◌, ◌||◌, ◌&&◌, ◌+◌, ◌<◌, ◌≤◌, IfSome, Ok, true, length, slice_index};
 ghost use Rattle.std.specs.Str.{IsCharBoundary};
-ghost use Rattle.rox_grammar.specs.Chars.{is_char};
-ghost use Rattle.rox_grammar.specs.Runs.{begins};
-ghost use Rattle.rox_grammar.specs.Constructs.{AreChars};
 ghost use Rattle.rox_grammar.specs.Content as content;
-ghost use Rattle.rox_reading.specs.Values as spec;
 ghost use Rattle.rox_bytes.specs.ByteSets as near;
 ghost use Rattle.rox_scan.specs.Lookahead as longer;
 ghost use Rattle.rox_scan.specs.Lookahead.{EndsLine, EndsRun, GoesOnLooking, IsChangedRun, IsLineRun, IsLookahead, IsStep, LooksAhead, SeesRun};

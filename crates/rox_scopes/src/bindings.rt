@@ -1,12 +1,12 @@
 //! The binding of each prefix for a scope that lists many namespaces. It is a map for the innermost scope, with what was replaced
 //! in it: the bindings of the scopes around. These are restored when one of those scopes is asked for.
 
-ghost use Rattle.std.specs.Prelude.{◌≡◌, ◌<◌, ◌≤◌, ◌+◌, ◌-◌, ◌++◌, ◌⊎◌, ℕ, List, Option, Some, None, true, length, map, take, reverse, slice_index, slice_range, OnOk, if◌then◌else◌};
+ghost use Rattle.std.specs.Prelude.{◌≡◌, ◌<◌, ◌-◌, List, Option, Some, None, true, length, map, reverse, slice_range, OnOk, if◌then◌else◌};
 ghost use Rattle.rox_grammar.specs.Written.{NamespaceDecl};
-ghost use Rattle.rox_reading.specs.AtIndex.{namespace_at, scope_at};
+ghost use Rattle.rox_reading.specs.AtIndex.{scope_at};
 ghost use Rattle.rox_scopes.specs.ScopeRows.{lists_of};
 ghost use Rattle.rox_scopes.specs.NamespaceViews.{namespace_view};
-ghost use Rattle.rox_scopes.specs.Scopes.{prefix_view, entries, ArePlaces};
+ghost use Rattle.rox_scopes.specs.Scopes.{prefix_view, entries};
 ghost use Rattle.rox_scopes.specs.Ropes.{IsScopeOf};
 
 use crate::namespace::Namespace;
@@ -52,7 +52,7 @@ pub struct PrefixBindings<'input> {
 }
 
 impl<'input> PrefixBindings<'input> {
-    ghost use Rattle.std.specs.Prelude.{◌∷◌, [], ◌&&◌};
+    ghost use Rattle.std.specs.Prelude.{◌&&◌};
     ghost use Rattle.rox_scopes.specs.Bindings.{bound_place, place_in, AreBindingsOf, BindsListed, IsBound, IsCleared, IsEntered, IsPosition, IsStretchFrom, LeavesInner, LeavesScope, MakesInnermost, PutsPlace, SetsPlace, TellsInnermost};
     ghost use Rattle.rox_scopes.specs.declared.bindings.ScopeFrame.{ScopeFrame};
 

@@ -1,7 +1,7 @@
 //! The table of the distinct pairs of a prefix, or the default, and a URI. A search compares the first few pairs one by one and
 //! then looks in a map of the others. So a text of few pairs makes no map.
 
-ghost use Rattle.std.specs.Prelude.{◌≡◌, ◌<◌, ◌≤◌, ◌∷◌, [], length, map, true, false, IfSome, IfNone, IfOk, Err};
+ghost use Rattle.std.specs.Prelude.{◌≡◌, ◌<◌, ◌≤◌, [], length, map, IfOk, Err};
 ghost use Rattle.rox_grammar.specs.Written.{NamespaceDecl};
 ghost use Rattle.rox_grammar.specs.Document.{same_pair, most_pairs};
 ghost use Rattle.rox_grammar.specs.declared.fault.Fault.{Fault};

@@ -1,7 +1,7 @@
 //! Scopes that list many namespaces: ropes of stretches of the listed places. A row is a leaf or joins two earlier rows, so that
 //! a scope shares what it inherits with its parent's.
 
-ghost use Rattle.std.specs.Prelude.{◌≡◌, ◌<◌, ◌≤◌, ◌+◌, ◌-◌, ◌++◌, ℕ, length, take, drop, reverse, slice_index, slice_range, IfOk, IfSome};
+ghost use Rattle.std.specs.Prelude.{◌≡◌, ◌<◌, ◌≤◌, ◌+◌, ◌-◌, ◌++◌, length, take, drop, reverse, slice_range, IfOk, IfSome};
 ghost use Rattle.rox_scopes.specs.ScopeRows.{count_at};
 ghost use Rattle.rox_scopes.specs.Scopes.{places_in};
 ghost use Rattle.rox_scopes.specs.Ropes.{AddsRow, AreJoinable, IsAmongRow, IsAmongScope, IsAmongStretch, IsPlaceOf, IsPositionOf, IsRope, IsRow, Joins};

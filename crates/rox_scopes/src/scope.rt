@@ -4,7 +4,7 @@
 ghost use Rattle.std.specs.Prelude.{◌≡◌, ◌<◌, ◌++◌, ℕ, List, length, map, drop, slice_range, false, OnOk, Some, None, ◌&&◌, ◌||◌};
 ghost use Rattle.rox_grammar.specs.Tree.{same_prefix, is_declared, is_xml};
 ghost use Rattle.rox_scopes.specs.NamespaceViews.{namespace_view};
-ghost use Rattle.rox_scopes.specs.Scopes.{prefix_view, entries, ArePlaces, PrefixesOnce, others};
+ghost use Rattle.rox_scopes.specs.Scopes.{prefix_view, entries, ArePlaces, others};
 ghost use Rattle.rox_scopes.specs.PrefixSet.{HasPrefixes, IsBelowFew};
 ghost use Rattle.rox_scopes.specs.Ropes.{GivesFew, IsScope};
 ghost use Rattle.rox_scopes.specs.Bindings.{FindsPlace, LooksUp, LooksWithin, places_view};

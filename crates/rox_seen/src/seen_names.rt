@@ -1,11 +1,7 @@
 //! A filter for the local names of a tag's attributes: it spares most of them a comparison with those before.
 
-ghost use Rattle.std.specs.Prelude.{◌≡◌, ◌+◌, ◌-◌, ◌^◌, ◌<◌, ◌≤◌, min, nat_lt, length, ◌++◌, ◌∷◌, [], List, replicate, None, bytes_eq, false, drop};
-ghost use Rattle.std.specs.List.{list_any};
-ghost use Rattle.rox_grammar.specs.Written.{NamespaceDecl};
-ghost use Rattle.rox_rows.specs.Rows.{AttributeRow, attribute_rows};
-ghost use Rattle.rox_seen.specs.SeenNames.{has_expanded};
-ghost use Rattle.rox_rows.specs.declared.row.AttributeNamespace.{AttributeNamespace};
+ghost use Rattle.std.specs.Prelude.{◌≡◌, ◌+◌, ◌-◌, ◌^◌, ◌<◌, min, nat_lt, length, List, replicate, None, bytes_eq, false};
+ghost use Rattle.rox_rows.specs.Rows.{attribute_rows};
 ghost use Rattle.rox_seen.specs.SeenNames.{most_again, name_sum, AreFirst, AreSeen, IsNameCode, PutsCode, SeesAll, TellsSeen};
 
 use crate::recent_texts::Recent;

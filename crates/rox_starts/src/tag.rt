@@ -27,7 +27,6 @@ use rox_scan::cursor::Cursor;
 use rox_scan::raw_attribute::RawAttribute;
 use rox_scopes::scope::few_places;
 use rox_scopes::stored_scope::OwnDeclarations;
-use rox_seen::seen_names::SeenNames;
 use rox_storage::growth::push_with_room;
 use rox_storage::storage::StringStorage;
 use rox_values::attribute_value::value;
@@ -35,7 +34,6 @@ use rox_values::context::Context;
 use rox_values::parse_error::ParseError;
 use rox_values::text_value::TextValue;
 use std::alloc::{AllocError, Global};
-use std::collections::BTreeSet;
 
 /// The maximum number of attributes in a document.
 pub const MOST_ATTRIBUTES: usize = 4294967294;

@@ -1,6 +1,6 @@
 //! The context of a text: what differs between the main text and replacement texts.
 
-ghost use Rattle.std.specs.Prelude.{◌≡◌, ◌-◌, ◌<◌, IfOk, false, true};
+ghost use Rattle.std.specs.Prelude.{◌≡◌, ◌-◌, ◌<◌, false, true};
 ghost use Rattle.rox_reading.specs.Machine.{left_behind};
 ghost use Rattle.rox_values.specs.DeclaredEntities.{OpensWithin};
 

@@ -1,6 +1,6 @@
 //! Self-contained elements: parsed alone, and exchanged for others.
 
-ghost use Rattle.std.specs.Prelude.{◌≡◌, ℕ, true, false, IfOk, IfErr};
+ghost use Rattle.std.specs.Prelude.{◌≡◌, true, false, IfOk, IfErr};
 ghost use Rattle.rox_grammar.specs.Names.{slice};
 ghost use Rattle.roxmltree.specs.NodeParts.{listed_of};
 ghost use Rattle.rox_grammar.specs.Exchange.{none_of, start_at, end_at, IsReparse, IsExchange};

@@ -1,6 +1,6 @@
 //! Iterators over nodes. After its end, each returns `None` again.
 
-ghost use Rattle.std.specs.Prelude.{◌≡◌, ◌∷◌, [], ◌++◌};
+ghost use Rattle.std.specs.Prelude.{◌≡◌, ◌∷◌};
 
 use crate::nodes::{Node, NodeId};
 use crate::tree::Document;

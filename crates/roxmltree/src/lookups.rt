@@ -3,9 +3,8 @@
 ghost use Rattle.std.specs.Prelude.{◌≡◌, ◌&&◌, ◌<◌, ◌^◌, length, bytes_eq};
 ghost use Rattle.std.specs.Option.{option_map, is_some};
 ghost use Rattle.rox_grammar.specs.Tree.{uri_of};
-ghost use Rattle.rox_scopes.specs.NamespaceViews.{namespace_view};
 ghost use Rattle.roxmltree.specs.NodeParts.{is_element_node, local_of, namespace_of, listed_of, attributes_of};
-ghost use Rattle.rox_lists.specs.ExpandedNames.{expanded, same_expanded_name, named, named_locally, prefix_of, first_prefix};
+ghost use Rattle.rox_lists.specs.ExpandedNames.{expanded, same_expanded_name, named, named_locally, prefix_of};
 ghost use Rattle.rox_lists.specs.ElementLists.{attribute_of};
 ghost use Rattle.roxmltree.specs.NodeRef.{item_of};
 

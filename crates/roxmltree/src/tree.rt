@@ -1,12 +1,12 @@
 //! A document: the tables of its nodes, which callers see as the one tree that they hold.
 
-ghost use Rattle.std.specs.Prelude.{◌≡◌, ◌^◌, ◌<◌, ◌≤◌, ℕ, List, length, Some, None, IfSome, IfNone};
+ghost use Rattle.std.specs.Prelude.{◌≡◌, ◌^◌, ◌<◌, ◌≤◌, List, length, Some, None, IfSome, IfNone};
 ghost use Rattle.std.specs.Option.{option_map};
 ghost use Rattle.rox_grammar.specs.Forest.{Forest, size};
 ghost use Rattle.rox_grammar.specs.Tree.{uri_of};
 ghost use Rattle.rox_scopes.specs.NamespaceViews.{namespace_view};
 ghost use Rattle.roxmltree.specs.Places.{place, children};
-ghost use Rattle.roxmltree.specs.NodeParts.{node_at, is_element_node, is_text_node, start_of, end_of, content_of, namespace_of, listed_of, attributes_of};
+ghost use Rattle.roxmltree.specs.NodeParts.{start_of, end_of, content_of, namespace_of, listed_of, attributes_of};
 ghost use Rattle.rox_lists.specs.ExpandedNames.{first_prefix};
 
 use crate::iterators::Descendants;

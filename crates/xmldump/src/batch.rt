@@ -1,6 +1,5 @@
 //! The dumps of a batch of texts.
 
-ghost use Rattle.std.specs.Prelude.{◌≡◌};
 
 use crate::sources::{Sources, write_text};
 use rox_dump::cases::first_case;

@@ -14,7 +14,7 @@ pub fn write_refusal<W: Write>(
 ) -> Result<(), ProgramError> {
     let (text, pos) = (error.to_string(alloc)?, error.pos());
     let debug = format!(in alloc; "{error:?}")?;
-    // The kind has its fields between parentheses behind it, unless it has none.
+    // The kind has its fields between parentheses after it, unless it has none.
     let kind = debug
         .split_once('(')
         .map_or(debug.as_str(), |(kind, _fields)| kind);
