@@ -52,13 +52,7 @@ spaced_looked src quote i j k e utf8 q start le within front rest low high here 
     let ends = ends_value quote src in
     let first = near_looked is_value_byte none_changes ends src i j utf8 start le (value_cut src i j utf8 start le within front) front value_is_plain (λ b h. refl) (λ n h. value_apart quote _ q h) in
     let look = looked_on none_changes ends src i j e true true utf8 start first rest in
-    record {
-      onward = look.onward;
-      cut = look.cut;
-      chars = look.chars;
-      apart = look.apart;
-      verbatim_is = sym (ap not (changed_among src i k e (omega arith) high look.cut.0 here));
-    }
+    grind (arith, changed_among)
 
 pub value_goes_on : (b : ℕ) → is_value_byte b ≡ true → is_stretch_byte b ≡ true
 unfolding is_stretch_byte is_value_byte
@@ -78,7 +72,6 @@ plain_looked src quote i j k e utf8 q start le within front rest stretch high =
     let ends = ends_value quote src in
     let first = near_looked is_value_byte none_changes ends src i j utf8 start le (value_cut src i j utf8 start le within front) front value_is_plain (λ b h. refl) (λ n h. value_apart quote _ q h) in
     let look = looked_on none_changes ends src i j e true true utf8 start first rest in
-    let on = look.onward in
     let all : AllPass is_stretch_byte src i e = λ m above below. elim (cases_lt m j) [
       | inl less ↦ value_goes_on _ (front m above less)
       | inr past ↦ stretch m past (omega arith)
@@ -107,13 +100,7 @@ pub record EndsBefore (src : List ℕ) (i j e : ℕ) : Type 0 where
   pub stops : j < e → is_stretch_byte (slice_index src j) ≡ false
 
 pub ends_before : (src : List ℕ) (i j e : ℕ) → e ≤ length src → EndsSet is_stretch_byte (take e src) i j → EndsBefore src i j e
-ends_before src i j e le f =
-    let within : j ≤ e = omega (arith, f.within, length-take-le e src le) in
-    record {
-      within = within;
-      passes = λ k above below. ap is_stretch_byte (sym (get_or-take e src k 0 (omega arith))) ∙ f.passes k above below;
-      stops = λ less. ap is_stretch_byte (sym (get_or-take e src j 0 less)) ∙ f.stops (omega (arith, length-take-le e src le));
-    }
+ends_before src i j e le f = grind (arith, length-take-le, get_or-take)
 
 -- a value that is not as it stands
 pub value_spaced : (main : Bool) (es : List Entity) (opener : ValueInclusion) (src v : List ℕ) (i j openings_left : ℕ) → is_verbatim_value (slice_range src i j) ≡ false

@@ -26,7 +26,10 @@ use rox_seen::seen_names::SeenNames;
 use rox_verbatim::quick_name::{
     NameAt, NamePlace, name_of_part, name_without_prefix, prefixed_name, some_place,
 };
-use rox_verbatim::quick_value::{UnchangedValue, any_value_start, quote_after_equals, quote_before, quote_in_text, unchanged_value, value_in_window};
+use rox_verbatim::quick_value::{
+    UnchangedValue, any_value_start, quote_after_equals, quote_before, quote_in_text,
+    unchanged_value, value_in_window,
+};
 use std::alloc::Global;
 
 /// The longest name, in bytes, that fits into a 16-byte window with `=` and a quote.

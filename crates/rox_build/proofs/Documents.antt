@@ -1,5 +1,5 @@
 -- The parts of a whole text, put together.
-use Rattle.std.proofs.Common.{◌≡◌, ℕ, ◌<◌, ◌≤◌, Bool, true, false, List, Result, Ok, Err, length, refl, ap, ◌∙◌, subst, lt-ltb, le-ltb, if◌then◌else◌}
+use Rattle.std.proofs.Common.{◌≡◌, ℕ, ◌<◌, ◌≤◌, Bool, true, false, List, Result, Ok, Err, length, refl, ap, ◌∙◌, lt-ltb, le-ltb, if◌then◌else◌, arith}
 use Rattle.std.specs.Prelude.{string_bytes}
 use Rattle.rox_grammar.specs.declared.fault.Fault.{Fault}
 use Rattle.rox_grammar.specs.declared.fault.Fault.TheVariants as fault
@@ -24,16 +24,12 @@ use Rattle.rox_prolog.specs.PrologParts.{start_state}
 use Rattle.rox_build.specs.WholeTexts.{root_read}
 use Rattle.rox_values.specs.declared.parse_error.ParseError.{ParseError}
 use Rattle.rox_values.specs.declared.parse_error.ParseError.TheVariants as code
-use Rattle.rox_theory.proofs.Basics.{bind_ok}
 use Rattle.rox_theory.proofs.FailedReadings.{bind_err}
 
 -- ---- one after the other
 
 refuses_first : {A B : Type 0} (r : Result A Refusal) (f : A → Result B Refusal) (e : ParseError) → IsRefusal e r → IsRefusal e (r >>= f)
-refuses_first r f code.Memory h = tt
-refuses_first r f (code.Fault g) h = ap (λ (q : Result _ Refusal). q >>= f) h
-refuses_first r f (code.FaultIn source g) h = ap (λ (q : Result _ Refusal). q >>= f) h
-refuses_first r f (code.Resolver at message) h = (h.0, ap (λ (q : Result _ Refusal). q >>= f) h.1)
+refuses_first r f e h = grind arith
 
 -- ---- the root element and what follows it
 
@@ -66,11 +62,7 @@ module _ (limit : ℕ) (es : List Entity) (src : List ℕ) (s t : State) (some :
 module _ (limit : ℕ) (allow : Bool) (src : List ℕ) (i : ℕ) (is : prolog src (after_bom src) ≡ Ok i) (s : State) (before : misc limit (length src) src (start_state i) ≡ Ok s) (asked : List Asked) (d : Dtd)
     (read : Answered (doctype_run limit allow src (before_doctype limit allow src i is s before)) asked d) where
   root_stops : (r : Refusal) → root_read limit d.entities src d.state ≡ Err r → Stops (whole_run limit allow src) asked r
-  root_stops r h = bind_err (body limit d.entities src d.state) _ r h (λ e. body_stops limit allow src i is s before asked d read r e) (λ x one e. by_finish x one (finished src x) refl e)
-    where
-      by_finish : (x : State × Bool) → body limit d.entities src d.state ≡ Ok x → (q : Result (Forest Item) Fault) → finished src x ≡ q → lifted q ≡ Err r → Stops (whole_run limit allow src) asked r
-      by_finish x one (Ok tops) same e = cc e
-      by_finish x one (Err f) same e = let k : here f ≡ r = cc in subst (Stops (whole_run limit allow src) asked) k (finished_stops limit allow src i is s before asked d read x f one same)
+  root_stops r h = grind (arith, body_stops, finished_stops)
 
   -- nothing is asked behind the declaration
   not_refused : (request : Request) (p : ℕ) (message : List ℕ) → root_read limit d.entities src d.state ≡ Err (refused request p message) → ⊥
@@ -85,8 +77,4 @@ module _ (limit : ℕ) (allow : Bool) (src : List ℕ) (i : ℕ) (is : prolog sr
   root_fails allows (code.Resolver p message) h = absurd (not_refused h.0 p (string_bytes message) h.1)
 
   pub root_ends : (tops : Forest Item) → root_read limit d.entities src d.state ≡ Ok tops → Yields (whole_run limit allow src) asked tops
-  root_ends tops h = bind_ok (body limit d.entities src d.state) _ tops h (λ x one e. whole_read limit allow src i is s before asked d read x tops one (by_finish (finished src x) e))
-    where
-      by_finish : (q : Result (Forest Item) Fault) → lifted q ≡ Ok tops → q ≡ Ok tops
-      by_finish (Ok y) e = cc e
-      by_finish (Err f) e = cc e
+  root_ends tops h = grind (arith, whole_read)

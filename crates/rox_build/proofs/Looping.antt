@@ -86,14 +86,10 @@ drive_past context src n k s t utf8 (one_more j _ r _ inner within read rest) en
 pub drives_past : (context : Context) (end : ℕ) (src : List ℕ) (whole : Result State Refusal) (turns k : ℕ) (c d : Cursor) (b u : Builder) (g : Driving context end src whole turns c b)
     → IsUtf8 src → Reads context end k d u src g.s
     → Driving context end src whole turns d u
-drives_past context end src whole turns k c d b u g utf8 x =
-    let past = drive_past context src g.n k g.s x.behind utf8 x.steps g.enough in
-    record { s = x.behind; sees = x.sees; n = past.0; same = sym past.1 ∙ g.same; enough = past.2; onward = omega (arith, g.onward, past.3) }
+drives_past context end src whole turns k c d b u g utf8 x = grind (arith, drive_past context src g.n k g.s x.behind utf8 x.steps g.enough)
 
 -- and has moved on
 pub drives_beyond : (context : Context) (end : ℕ) (src : List ℕ) (whole : Result State Refusal) (turns k : ℕ) (c d : Cursor) (b u : Builder) (g : Driving context end src whole turns c b)
     → IsUtf8 src → Reads context end k d u src g.s → (i : ℕ) → i ≡ g.s.at → i < d.pos
     → Driving context end src whole (turns + 1) d u
-drives_beyond context end src whole turns k c d b u g utf8 x i stood less =
-    let past = drive_past context src g.n k g.s x.behind utf8 x.steps g.enough in
-    record { s = x.behind; sees = x.sees; n = past.0; same = sym past.1 ∙ g.same; enough = past.2; onward = omega (arith, g.onward, stood, less, x.sees.here) }
+drives_beyond context end src whole turns k c d b u g utf8 x i stood less = grind (arith, drive_past context src g.n k g.s x.behind utf8 x.steps g.enough)

@@ -1,5 +1,5 @@
 -- A root element with what follows it, and a whole text, are read as their parts are.
-use Rattle.std.proofs.Common.{◌≡◌, ℕ, zero, suc, Bool, true, false, List, length, refl, sym, ap, subst, ◌∙◌, Result, Ok, slice_index, nat_lt, if◌then◌else◌, ◌==◌}
+use Rattle.std.proofs.Common.{◌≡◌, ℕ, zero, suc, Bool, true, false, List, length, refl, sym, ap, subst, ◌∙◌, Result, Ok, slice_index, nat_lt, ◌==◌}
 use Rattle.std.proofs.lemmas.Bool.{ne_eqb, eq-eqb}
 use Rattle.rox_reading.specs.Refusals.{lifted}
 use Rattle.rox_reading.specs.Lexical.{◌>>=◌}

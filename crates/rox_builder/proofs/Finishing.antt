@@ -1,10 +1,10 @@
 -- The tables at the end of a text.
-use Rattle.std.proofs.Common.{◌≡◌, ℕ, ◌+◌, ◌<◌, ◌^◌, [], ◌∷◌, length, set, get_or, sym, ap, ◌∙◌, arith}
+use Rattle.std.proofs.Common.{◌≡◌, ℕ, ◌+◌, ◌<◌, ◌^◌, length, set, get_or, sym, ap, ◌∙◌, arith}
 use Rattle.std.proofs.Math.ListN.{get_or-map}
 use Rattle.std.proofs.lemmas.List.{append-nil, map-set, length-set}
 use Rattle.rox_grammar.specs.Forest.{Forest, size}
 use Rattle.rox_grammar.specs.Written.{Item, merge}
-use Rattle.rox_grammar.specs.Tree.{Node, resolved, document_tree}
+use Rattle.rox_grammar.specs.Tree.{Node, document_tree}
 use Rattle.rox_grammar.specs.State.{root}
 use Rattle.rox_reading.proofs.Forests.{size-resolved}
 use Rattle.rox_rows.specs.Rows.{RowView, preorder_rows, attribute_rows}
@@ -19,10 +19,7 @@ use Rattle.rox_builder.proofs.Showing.{rows_count, within_set, within_at, some_r
 
 root_closed : (end : ℕ) (f : Forest Item) (n : ℕ) → n ≡ 0 + 1 + size f
     → set (so_far end root f) 0 (record (root_line end) { subtree_end = n }) ≡ preorder_rows 0 0 (document_tree end f)
-root_closed end f n h =
-    let k : n ≡ 1 + size (resolved [] f) = h ∙ ap (λ (m : ℕ). 1 + m) (sym (size-resolved [] f)) in
-    ap (λ (m : ℕ). record (root_line end) { subtree_end = m } ∷ preorder_rows 0 1 (resolved [] f)) k
-    ∙ ap (λ xs. record (root_line end) { subtree_end = 1 + size (resolved [] f) } ∷ xs) (sym (append-nil (preorder_rows 0 1 (resolved [] f))))
+root_closed end f n h = grind (arith, size-resolved, append-nil)
 
 finish_with : (end : ℕ) (done : Forest Item) (b : Builder) (u : Tables) (d : NodeData) → RepresentsFlushed end root done b → AreSound b.tables → length (node_rows b.nodes) < 2 ^ 32
     → (node_rows u.nodes) ≡ set (node_rows b.nodes) 0 (record (get_or (node_rows b.nodes) 0 d) { subtree_end = length (node_rows b.nodes) }) → u.attributes ≡ b.tables.attributes → u.namespaces ≡ b.tables.namespaces.items

@@ -1,5 +1,5 @@
 -- What the builder shows stays as its tables grow.
-use Rattle.std.proofs.Common.{◌≡◌, ℕ, refl, Option, Some, None, ◌<◌, ◌≤◌, List, ◌++◌, length, map, sym, ap, subst, ◌∙◌, arith, length-append}
+use Rattle.std.proofs.Common.{◌≡◌, ℕ, Option, ◌<◌, ◌≤◌, List, ◌++◌, length, map, sym, ap, subst, ◌∙◌, arith, length-append}
 use Rattle.std.specs.List.{AllByRecursion}
 use Rattle.std.specs.Option.{option_map}
 use Rattle.std.proofs.lemmas.List.{length-map}
@@ -35,22 +35,12 @@ lists_count t = length-lists (names_in t) t.listed.items t.scopes.items
 
 pub grown_counts : (old new : ElementTables) → Grown old new
     → (length (attribute_rows old.attributes) ≤ length (attribute_rows new.attributes)) × (length old.namespaces.items.items ≤ length new.namespaces.items.items) × (length old.scopes.items ≤ length new.scopes.items)
-grown_counts old new g =
-    let a = ap length g.attributes ∙ length-append (attribute_rows old.attributes) g.more_attributes in
-    let n = ap length g.namespaces ∙ length-append (names_in old) g.more_names in
-    let l = ap length g.lists ∙ length-append (lists_in old) g.more_lists in
-    let x = names_count old in let y = names_count new in
-    let v = lists_count old in let w = lists_count new in
-    (omega arith, omega arith, omega arith)
+grown_counts old new g = grind (arith, length-append, names_count, lists_count)
 
 -- a namespace in the table is that at its place still
 uri_kept : (old new : ElementTables) (o : Option ℕ) → Grown old new → OptionWithin (length old.namespaces.items.items) o
     → option_map (λ i. (namespace_at (names_in new) i).uri) o ≡ option_map (λ i. (namespace_at (names_in old) i).uri) o
-uri_kept old new None g within = refl
-uri_kept old new (Some i) g within =
-    let n = names_count old in
-    let same = ap (λ ds. namespace_at ds i) g.namespaces ∙ namespace_at-append (names_in old) g.more_names i (omega arith) in
-    ap (λ (d : NamespaceDecl). Some d.uri) same
+uri_kept old new o g within = grind (arith, names_count, namespace_at-append)
 
 pub grown_elements : (old new : ElementTables) (os : List OpenElement) → Grown old new → AllByRecursion (IsOpenWithin old) os → AllByRecursion (IsOpenWithin new) os
 grown_elements old new os g h =
@@ -73,13 +63,8 @@ grown_elements old new os g h =
 pub grown_empty : (old new : ElementTables) → Grown old new → HasEmpty old → HasEmpty new
 grown_empty old new g h =
     let k = grown_counts old new g in
-    let some = h.there in
     let n = lists_count old in
-    let within : 0 < length (lists_in old) = omega arith in
-    record {
-      there = omega arith;
-      none = ap (λ ls. scope_at ls 0) g.lists ∙ scope_at-append (lists_in old) g.more_lists 0 within ∙ h.none;
-    }
+    grind (arith, scope_at-append)
 
 pub grown_shows : (end : ℕ) (o : Open) (done : Forest Item) (b u : Builder) → Represents end o done b → AreSound b.tables → AllByRecursion (IsOpenWithin b.tables) b.opened.items
     → Grown b.tables u.tables → u.nodes ≡ b.nodes → u.opened.items ≡ b.opened.items → u.pending ≡ b.pending → u.joined ≡ b.joined
@@ -93,18 +78,12 @@ grown_shows end o done b u h sound elements g nodes opens waits joined =
     let all_rows : AllByRecursion (λ (r : NodeData). KindWithin (length (attribute_rows t.attributes)) (length (names_in t)) (length (lists_in t)) r.kind) (node_rows b.nodes) =
     subst (λ (m : ℕ). AllByRecursion (λ (r : NodeData). KindWithin (length (attribute_rows t.attributes)) (length (names_in t)) m r.kind) (node_rows b.nodes)) (sym m)
     (subst (λ (n : ℕ). AllByRecursion (λ (r : NodeData). KindWithin (length (attribute_rows t.attributes)) n (length t.scopes.items) r.kind) (node_rows b.nodes)) (sym n) h.within) in
-    let all_opened : AllByRecursion (λ (o : OpenElement). o.scope < length (lists_in t)) b.opened.items =
-    subst (λ (m : ℕ). AllByRecursion (λ (o : OpenElement). o.scope < m) b.opened.items) (sym m)
-    (all_weaker (IsOpenWithin t) (λ (o : OpenElement). o.scope < length t.scopes.items) b.opened.items (λ o x. x.0) elements) in
     let rows : map (line_in u.tables) (node_rows b.nodes) ≡ map (line_in t) (node_rows b.nodes) =
     ap (λ (xs : List AttributeRow). map (row_view xs (names_in u.tables) (lists_in u.tables)) (node_rows b.nodes)) g.attributes
     ∙ ap (λ (ns : List NamespaceDecl). map (row_view ((attribute_rows t.attributes) ++ g.more_attributes) ns (lists_in u.tables)) (node_rows b.nodes)) g.namespaces
     ∙ ap (λ (ls : List (List NamespaceDecl)). map (row_view ((attribute_rows t.attributes) ++ g.more_attributes) (names_in t ++ g.more_names) ls) (node_rows b.nodes)) g.lists
     ∙ lines-append (attribute_rows t.attributes) g.more_attributes (names_in t) g.more_names (lists_in t) g.more_lists (node_rows b.nodes) all_attributes all_rows in
-    let os : opened_in u.tables b.opened.items ≡ opened_in t b.opened.items =
-    ap (λ (ls : List (List NamespaceDecl)). map (opened ls) b.opened.items) g.lists
-    ∙ map_same (opened (lists_in t ++ g.more_lists)) (opened (lists_in t)) (λ (o : OpenElement). o.scope < length (lists_in t)) b.opened.items
-    (λ o x. opened-append (lists_in t) g.more_lists o x) all_opened in
+    let os : opened_in u.tables b.opened.items ≡ opened_in t b.opened.items = grind (arith, map_same, opened-append) in
     let k = grown_counts t u.tables g in
     let w = all_weaker (λ (r : NodeData). IsRowWithin t r.kind) (λ (r : NodeData). IsRowWithin u.tables r.kind) (node_rows b.nodes)
     (λ r x. kind_more (length (attribute_rows t.attributes)) (length t.namespaces.items.items) (length t.scopes.items) (length (attribute_rows u.tables.attributes)) (length u.tables.namespaces.items.items) (length u.tables.scopes.items) r.kind k.0 k.1 k.2 x) h.within in

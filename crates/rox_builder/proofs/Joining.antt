@@ -20,7 +20,6 @@ use Rattle.rox_reading.specs.Machine.{Context, with_item, with_piece, opener, dr
 use Rattle.rox_scan.specs.declared.cursor.Cursor.{Cursor}
 use Rattle.rox_grammar.specs.declared.failure.Failure.{Failure}
 use Rattle.rox_values.specs.Values.{AppendsPart, next_view, text_behind}
-use Rattle.rox_values.proofs.PartLemmas.{pair_ok}
 use Rattle.rox_builder.specs.BuilderState.{Represents, IsPending, Adds, HoldsState, ParsesToHeld}
 use Rattle.rox_builder.specs.PendingText.{waiting, written, text_before}
 use Rattle.rox_builder.specs.declared.pending.Pending.TheVariants as pending
@@ -40,8 +39,7 @@ ok_same : {E : Type 0} (s t : State) → ◌≡◌ {A = Result State E} (Ok s) (
 ok_same s t h = cc h
 
 behind_ok : (front new : List ℕ) (r : Result (List ℕ × Next) Fault) (n : Next) → text_behind front r ≡ Ok (new, n) → (bs : List ℕ) × (r ≡ Ok (bs, n)) × (new ≡ front ++ bs)
-behind_ok front new (Ok (bs, m)) n h = let k = pair_ok (front ++ bs) new m n h in (bs, ap (λ (x : Next). Ok (bs, x)) k.1, sym k.0)
-behind_ok front new (Err f) n h = cc h
+behind_ok front new r n h = grind arith
 
 -- it has no byte
 kept_part : (total : ℕ) (s : State) (b m : Builder) (before : ℕ) → Represents total s.stack s.done b → HasPart before [] b m → Represents total s.stack s.done m
@@ -66,18 +64,14 @@ kept_part total s b m before sh h = by_cases b.pending refl
     by_cases pending.Written e = absurd (let w : written pending.Written ≡ 0 = ap written e ∙ h.unwritten in omega (arith, w))
     by_cases pending.Joined e =
         let waits : m.pending ≡ pending.Joined = h.pending ∙ sym e in
-        let same : string_bytes m.joined.text ≡ string_bytes b.joined.text =
-        h.bytes ∙ append-nil (text_before b.pending (string_bytes b.joined.text)) ∙ ap (λ (p : Pending). text_before p (string_bytes b.joined.text)) (sym e) in
+        let same : string_bytes m.joined.text ≡ string_bytes b.joined.text = grind (arith, append-nil) in
         with_last (rw (waits, h.start, h.end, same, h.slice) (joined_is total s.stack s.done b sh (sym e)))
 
 -- none was appended
 pub part_none : (total : ℕ) (s : State) (b m : Builder) (before start stop : ℕ) (bs : List ℕ) → Represents total s.stack s.done b → HasPart before bs b m → length (string_bytes m.joined.text) ≡ before
     → Adds total (Ok tt) m (with_piece m.nodes_limit s start stop bs)
 part_none total s b m before start stop [] sh h same = (s, refl, kept_part total s b m before sh h)
-part_none total s b m before start stop (x ∷ xs) sh h same =
-    let front = text_before b.pending (string_bytes b.joined.text) in
-    let n = ap length h.bytes ∙ length-append front (x ∷ xs) in
-    absurd (omega (arith, n, h.count, same))
+part_none total s b m before start stop (x ∷ xs) sh h same = grind (arith, length-append)
 
 some_there : (b m : Builder) (before : ℕ) → HasPart before [] b m → (length (string_bytes m.joined.text) ≡ before → ⊥) → ⊥
 some_there b m before h more = more (ap length (h.bytes ∙ append-nil (text_before b.pending (string_bytes b.joined.text))) ∙ sym h.count)
@@ -94,8 +88,6 @@ part_joins total s b m u before start stop (x ∷ xs) sh h more waits nodes tabl
     let n = more_count total s.stack s.done b start stop v false sh was in
     let w = ap waiting was in
     let len = count_nodes b.nodes in
-    let most = b.counted in
-    let some = b.shallow in
     let bytes = joined ∙ h.bytes ∙ ap (λ (p : Pending). text_before p (string_bytes b.joined.text) ++ v) was in
     (t, fits_counted m.nodes_limit t (omega (arith, h.limit)), piece_more total s.stack s.done b u start stop v false sh was (nodes ∙ h.nodes) (tables ∙ h.tables) (opens ∙ h.opened) (still ∙ waits) (from ∙ h.start) (until ∙ h.end) bytes own)
 
@@ -136,18 +128,7 @@ part_with context src start stop s t bs next main read piece = rw (read, main, p
 -- its piece, as the builder holds it
 piece_rests : (limit end : ℕ) (s : State) (b u : Builder) (x : Unit {0}) (start stop : ℕ) (bs : List ℕ) → HoldsState limit end s b → u.tables ≡ b.tables → u.nodes_limit ≡ b.nodes_limit → u.openings_left ≡ b.openings_left
     → Adds end (Ok x) u (with_piece b.nodes_limit s start stop bs) → (t : State) × (with_piece limit s start stop bs ≡ Ok t) × HoldsState limit end t u
-piece_rests limit end s b u x start stop [] h tables same openings_left (t, is, shows) =
-    let e : s ≡ t = ok_same s t is in (
-      s,
-      refl,
-      record {
-        limit_is = same ∙ h.limit_is;
-        shows = subst (λ (z : State). Represents end z.stack z.done u) (sym e) shows;
-        namespaces = rw tables h.namespaces;
-        attributes = rw tables h.attributes;
-        openings_left_is = openings_left ∙ h.openings_left_is;
-      },
-    )
+piece_rests limit end s b u x start stop [] h tables same openings_left (t, is, shows) = grind arith
 piece_rests limit end s b u x start stop (y ∷ ys) h tables same openings_left adds = text_rests limit end s b u x start stop (y ∷ ys) false h tables same openings_left adds
 
 -- a part that was appended to the text that waits, or begins one
@@ -161,20 +142,12 @@ part_appended context end src start stop s front new c b u x next main rests tab
     let m = piece_rests context.limit end s b u x start stop e.0 rests tables same openings_left (adds e.0 e.2) in
     (m.0, part_with context src start stop s m.0 e.0 (next_view next c.pos) main e.1 m.1, m.2)
 
-part_without : (context : Context) (src : List ℕ) (start stop : ℕ) (s : State) (bs : List ℕ) (next : Next) (f : Fault) → context.values.main ≡ true
-    → data_part context.values.main context.values.entities (stop - s.at) src stop s.at ≡ Ok (bs, next) → with_piece context.limit s start stop bs ≡ Err f → next_part context src start stop s ≡ Err f
-part_without context src start stop s bs next f main read piece = rw (read, main, piece) refl
-
 -- its piece is refused
 pub part_piece_over : (context : Context) (end : ℕ) (src : List ℕ) (start stop : ℕ) (s : State) (front new : List ℕ) (c : Cursor) (b : Builder) (e : Failure) (next : Option Cursor) → context.values.main ≡ true
     → HoldsState context.limit end s b → ((bs : List ℕ) → new ≡ front ++ bs → Fails e (with_piece b.nodes_limit s start stop bs))
     → AppendsPart front new c (Ok next) (data_part context.values.main context.values.entities (stop - s.at) src stop s.at)
     → Fails e (next_part context src start stop s)
-part_piece_over context end src start stop s front new c b failure.Memory next main rests adds h = tt
-part_piece_over context end src start stop s front new c b (failure.Fault f) next main rests adds h =
-    let e = behind_ok front new (data_part context.values.main context.values.entities (stop - s.at) src stop s.at) (next_view next c.pos) h in
-    let read : with_piece context.limit s start stop e.0 ≡ Err f = subst (λ (n : ℕ). with_piece n s start stop e.0 ≡ Err f) rests.limit_is (adds e.0 e.2) in
-    part_without context src start stop s e.0 (next_view next c.pos) f main e.1 read
+part_piece_over context end src start stop s front new c b e next main rests adds h = grind arith
 
 -- ---- a replacement text of the main text
 
@@ -209,8 +182,7 @@ nothing_opened limit end es depth_left main t after s b is some h past = (
 
 -- a state is counted by its items alone
 counted_too : (b : Bool) (x y t : State) (f : Fault) → cond b (Ok x) (Err f) ≡ Ok t → cond b (Ok y) (Err f) ≡ Ok y
-counted_too true x y t f h = refl
-counted_too false x y t f h = cc h
+counted_too b x y t f h = grind arith
 
 pub run_opened : (limit end : ℕ) (es : List Entity) (depth_left : ℕ) (main : Bool) (t : Replacement) (after : ℕ) (s : State) (b u : Builder) → main ≡ true → (depth_left ≡ 0 → ⊥) → HoldsState limit end s b
     → u.tables ≡ b.tables → u.nodes_limit ≡ b.nodes_limit → u.openings_left ≡ b.openings_left

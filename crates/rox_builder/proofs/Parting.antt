@@ -1,27 +1,24 @@
 -- The parts of a run, one after another, and the replacement texts between them.
-use Rattle.std.proofs.Common.{◌≡◌, ℕ, suc, ◌-◌, Bool, false, List, [], ◌∷◌, Result, Ok, Err, refl, sym, ap, subst, ◌∙◌, arith}
+use Rattle.std.proofs.Common.{◌≡◌, ℕ, suc, ◌-◌, Bool, false, List, [], Result, Ok, Err, refl, sym, ap, subst, ◌∙◌, arith}
 use Rattle.std.proofs.lemmas.List.{append-nil}
 use Rattle.rox_grammar.specs.declared.fault.Fault.{Fault}
 use Rattle.rox_grammar.specs.Entities.{Replacement}
-use Rattle.rox_grammar.specs.Forest.{Nil, join}
-use Rattle.rox_grammar.specs.Written.{Item, Text, leaf}
-use Rattle.rox_grammar.specs.State.{pairs_so_far, attributes_so_far}
+use Rattle.rox_grammar.specs.Written.{Text}
 use Rattle.rox_reading.specs.Lexical.{◌>>=◌}
 use Rattle.rox_reading.specs.Refusals.{Refusal, lifted}
 use Rattle.rox_reading.specs.State.{State}
 use Rattle.rox_reading.specs.Values.{Next, at_end, opening, data_part, part_text}
-use Rattle.rox_reading.specs.Machine.{Context, counted, with_item, with_piece, after_part, at_place, data_parts}
+use Rattle.rox_reading.specs.Machine.{Context, with_item, with_piece, after_part, at_place, data_parts}
 use Rattle.rox_grammar.specs.Failures.{Fails}
 use Rattle.rox_scan.specs.declared.cursor.Cursor.{Cursor}
 use Rattle.rox_grammar.specs.declared.failure.Failure.{Failure}
 use Rattle.rox_grammar.specs.declared.failure.Failure.TheVariants as failure
 use Rattle.rox_values.specs.Refusals.{IsRefusal, of_failure}
 use Rattle.rox_builder.specs.DataParts.{next_part}
-use Rattle.rox_builder.specs.BuilderState.{Represents, Adds, IsInState, HoldsState}
+use Rattle.rox_builder.specs.BuilderState.{Adds, IsInState, HoldsState}
 use Rattle.rox_values.specs.declared.parse_error.ParseError.{ParseError}
 use Rattle.rox_builder.specs.declared.builder.Builder.{Builder}
 use Rattle.rox_values.proofs.PartLemmas.{refuses_by}
-use Rattle.rox_builder.proofs.Stepping.{counted_is}
 use Rattle.rox_theory.proofs.Standing.{pairs-item}
 use Rattle.rox_theory.proofs.Standing.{attributes-item}
 
@@ -36,23 +33,7 @@ sees_at limit end s c b here h = record { here = here; limit_is = h.limit_is; sh
 -- a piece of text adds no declaration and no attribute
 pub text_rests : (limit end : ℕ) (s : State) (b u : Builder) (x : Unit {0}) (start stop : ℕ) (text : List ℕ) (borrowed : Bool) → HoldsState limit end s b → u.tables ≡ b.tables → u.nodes_limit ≡ b.nodes_limit → u.openings_left ≡ b.openings_left
     → Adds end (Ok x) u (with_item b.nodes_limit s stop (Text start stop text borrowed)) → (t : State) × (with_item limit s stop (Text start stop text borrowed) ≡ Ok t) × HoldsState limit end t u
-text_rests limit end s b u x start stop text borrowed h tables same openings_left adds =
-    let i : Item = Text start stop text borrowed in
-    let t : State = record { at = stop; done = join s.done (leaf i); stack = s.stack; openings_left = s.openings_left } in
-    let a : Adds end (Ok x) u (counted limit t) = subst (λ (n : ℕ). Adds end (Ok x) u (counted n t)) h.limit_is adds in
-    let e = counted_is limit t a.0 a.1 in
-    let p : pairs_so_far s.stack (join s.done (leaf i)) ≡ pairs_so_far s.stack s.done = pairs-item s.stack s.done i Nil ∙ append-nil (pairs_so_far s.stack s.done) in
-    let n : attributes_so_far s.stack (join s.done (leaf i)) ≡ attributes_so_far s.stack s.done = omega (arith, attributes-item s.stack s.done i Nil) in (
-      t,
-      a.1 ∙ ap (λ (s : State). Ok s) e,
-      record {
-        limit_is = same ∙ h.limit_is;
-        shows = subst (λ (s : State). Represents end s.stack s.done u) e a.2;
-        namespaces = rw (tables, p) h.namespaces;
-        attributes = rw (tables, n) h.attributes;
-        openings_left_is = openings_left ∙ h.openings_left_is;
-      },
-    )
+text_rests limit end s b u x start stop text borrowed h tables same openings_left adds = grind (arith, pairs-item, append-nil, attributes-item)
 
 -- it is refused
 pub text_refused : (limit end : ℕ) (s : State) (b u : Builder) (e : Failure) (start stop : ℕ) (text : List ℕ) (borrowed : Bool) → HoldsState limit end s b
@@ -61,15 +42,9 @@ text_refused limit end s b u e start stop text borrowed h adds = subst (λ (n : 
 
 -- ---- one part
 
-piece_of : (limit : ℕ) (s : State) (start stop : ℕ) (text : List ℕ) → (text ≡ [] → ⊥) → with_piece limit s start stop text ≡ with_item limit s stop (Text start stop text false)
-piece_of limit s start stop [] some = absurd (some refl)
-piece_of limit s start stop (b ∷ bs) some = refl
-
 with_text : (context : Context) (src : List ℕ) (start stop : ℕ) (s : State) (bs text : List ℕ) (next : Next) → data_part context.values.main context.values.entities (stop - s.at) src stop s.at ≡ Ok (bs, next)
     → text ≡ part_text context.values.main bs → (text ≡ [] → ⊥) → next_part context src start stop s ≡ (with_item context.limit s stop (Text start stop text false) >>= λ t. Ok (t, next))
-with_text context src start stop s bs text next h is some =
-    rw h (ap (λ (xs : List ℕ). with_piece context.limit s start stop xs >>= λ t. Ok (t, next)) (sym is)
-    ∙ ap (λ (r : Result State Fault). r >>= λ t. Ok (t, next)) (piece_of context.limit s start stop text some))
+with_text context src start stop s bs text next h is some = grind arith
 
 pub part_piece_is : (context : Context) (src : List ℕ) (start stop : ℕ) (s t : State) (bs text : List ℕ) (next : Next) → data_part context.values.main context.values.entities (stop - s.at) src stop s.at ≡ Ok (bs, next)
     → text ≡ part_text context.values.main bs → (text ≡ [] → ⊥) → with_item context.limit s stop (Text start stop text false) ≡ Ok t → next_part context src start stop s ≡ Ok (t, next)
@@ -77,9 +52,7 @@ part_piece_is context src start stop s t bs text next h is some read = with_text
 
 pub part_piece_fails : (context : Context) (src : List ℕ) (start stop : ℕ) (s : State) (bs text : List ℕ) (next : Next) (e : Failure) → data_part context.values.main context.values.entities (stop - s.at) src stop s.at ≡ Ok (bs, next)
     → text ≡ part_text context.values.main bs → (text ≡ [] → ⊥) → Fails e (with_item context.limit s stop (Text start stop text false)) → Fails e (next_part context src start stop s)
-part_piece_fails context src start stop s bs text next failure.Memory h is some read = tt
-part_piece_fails context src start stop s bs text next (failure.Fault f) h is some read =
-    with_text context src start stop s bs text next h is some ∙ ap (λ (r : Result State Fault). r >>= λ t. Ok (t, next)) read
+part_piece_fails context src start stop s bs text next e h is some read = grind arith
 
 -- ---- and the others
 
@@ -87,14 +60,12 @@ abbrev paired : {Y Z : Type 0} → Y → Result Z Fault → Result (Z × Y) Faul
 paired y r = r >>= λ t. Ok (t, y)
 
 beside : {Y Z : Type 0} (r : Result Z Fault) (y : Y) (h : Z → Y → Result Z Refusal) → (lifted r >>= λ t. h t y) ≡ (lifted (paired y r) >>= λ p. h p.0 p.1)
-beside (Ok t) y h = refl
-beside (Err f) y h = refl
+beside r y h = grind arith
 
 -- the parts of a run are one and those behind it
 grouped : {X Y Z : Type 0} (r : Result (X × Y) Fault) (g : X → Result Z Fault) (h : Z → Y → Result Z Refusal)
     → (lifted r >>= λ x. lifted (g x.0) >>= λ t. h t x.1) ≡ (lifted (r >>= λ x. paired x.1 (g x.0)) >>= λ p. h p.0 p.1)
-grouped (Err f) g h = refl
-grouped (Ok x) g h = beside (g x.0) x.1 h
+grouped r g h = grind arith
 
 parts_step : (context : Context) (n m : ℕ) (src : List ℕ) (start stop : ℕ) (s : State) → n ≡ suc m
     → data_parts context n src start stop s ≡ (lifted (next_part context src start stop s) >>= λ p. after_part context (λ u. data_parts context m src start stop u) stop p.0 p.1)

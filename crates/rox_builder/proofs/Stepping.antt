@@ -4,25 +4,25 @@ use Rattle.rox_grammar.specs.Search.{stands}
 use Rattle.rox_grammar.specs.FixedTexts.{word_text}
 use Rattle.rox_grammar.specs.declared.fault.Word.TheVariants as word
 use Rattle.std.specs.List.{starts_with}
-use Rattle.rox_rows.specs.Rows.{AttributeRow, attribute_rows, row_view}
+use Rattle.rox_rows.specs.Rows.{attribute_rows}
 use Rattle.rox_reading.specs.AtIndex.{scope_at}
 use Rattle.std.specs.List.{AllByRecursion}
 use Rattle.rox_rows.specs.declared.row.NodeData.{NodeData}
 use Rattle.rox_names.specs.TagScopes.{lists_in}
 use Rattle.std.specs.Prelude.{nat_lt, ◌^◌, ◌-◌}
-use Rattle.std.proofs.Common.{eqb, eq-eqb, ne_eqb, if◌then◌else◌, slice_index, ◌≡◌, ℕ, zero, suc, ◌+◌, ◌<◌, Bool, true, false, List, [], ◌∷◌, ◌++◌, length, map, leb, refl, sym, ap, subst, ◌∙◌, arith, Result, Ok, Err, length-append}
+use Rattle.std.proofs.Common.{eqb, eq-eqb, ne_eqb, if◌then◌else◌, slice_index, ◌≡◌, ℕ, zero, suc, ◌+◌, ◌<◌, true, false, List, [], ◌∷◌, ◌++◌, length, map, leb, refl, sym, ap, subst, ◌∙◌, arith, Result, Ok, Err, length-append}
 use Rattle.std.proofs.lemmas.List.{append-nil, length-map, map-append, same_from_push}
 use Rattle.rox_grammar.specs.declared.fault.Fault.{Fault}
 use Rattle.rox_grammar.specs.declared.fault.Span.{Span}
 use Rattle.rox_grammar.specs.declared.fault.Fault.TheVariants as fault
 use Rattle.rox_grammar.specs.Forest.{Forest, Nil, Cons, join, size}
-use Rattle.rox_grammar.specs.Written.{Name, Tag, Item, Element, Text, Comment, PI, NamespaceDecl, merge, leaf}
+use Rattle.rox_grammar.specs.Written.{Name, Tag, Item, Element, Text, Comment, PI, NamespaceDecl, merge}
 use Rattle.rox_grammar.specs.NameParts.{same_qname}
 use Rattle.rox_grammar.specs.Counts.{own_pairs, own_attributes, distinct_pairs, listable}
 use Rattle.rox_reading.specs.State.{State, depth_of}
 use Rattle.rox_reading.specs.Refusals as refusal
 use Rattle.rox_reading.specs.Refusals.{lifted}
-use Rattle.rox_grammar.specs.State.{Open, root, inside, scope_of, nodes_so_far, pairs_so_far, attributes_so_far}
+use Rattle.rox_grammar.specs.State.{Open, root, inside, scope_of, pairs_so_far, attributes_so_far}
 use Rattle.rox_reading.specs.Machine.{Context, data_parts, counted, with_item, comment_step, instruction_step, cdata_step, character_data_step, end_step, tag_step, step, closed_by, name_span}
 use Rattle.rox_reading.specs.Markup.{Instruction, EndTag, comment_at, instruction_at, cdata_at, end_tag_at}
 use Rattle.rox_grammar.specs.Content.{is_verbatim}
@@ -36,7 +36,6 @@ use Rattle.rox_grammar.specs.Tree.{listed}
 use Rattle.rox_bytes.proofs.MarkLemmas.{stands_fits, stands_reads}
 use Rattle.rox_scan.specs.declared.cursor.Cursor.{Cursor}
 use Rattle.rox_grammar.specs.declared.failure.Failure.{Failure}
-use Rattle.rox_values.proofs.Lifting.{refuses}
 use Rattle.rox_builder.specs.Putting.{KeepsRows}
 use Rattle.rox_builder.specs.BuilderState.{OpenRow, opened, tag_row, opened_in, open_lines, line_in, names_in, IsRowWithin, Represents, Adds, IsConsistent, IsInState, KeepsOpen, KeepsState, ScansTo}
 use Rattle.rox_names.specs.OpenElements.{name_length, open_name}
@@ -46,30 +45,18 @@ use Rattle.rox_theory.proofs.Standing.{attributes-item, pairs-item}
 
 -- the state, if it is counted
 pub counted_is : (limit : ℕ) (t s : State) → counted limit t ≡ Ok s → s ≡ t
-counted_is limit t s h = by_cases (leb (nodes_so_far t.stack t.done) limit) refl
-  where
-    by_cases : (b : Bool) → b ≡ leb (nodes_so_far t.stack t.done) limit → s ≡ t
-    by_cases true e = let k : Ok t ≡ Ok s = rw (sym e) at h in cc k
-    by_cases false e = cc h
+counted_is limit t s h = grind arith
 
 -- what a builder adds is what is read
 pub adds_stepped : (limit end : ℕ) (t : State) (c : Cursor) (u : Builder) (r : Result (Unit {0}) Failure) → Adds end r u (counted limit t) → c.pos ≡ t.at → u.nodes_limit ≡ limit
     → names_in u.tables ≡ distinct_pairs (pairs_so_far t.stack t.done) → length (attribute_rows u.tables.attributes) ≡ attributes_so_far t.stack t.done → u.openings_left ≡ t.openings_left
     → ScansTo limit end r c u (lifted (counted limit t))
-adds_stepped limit end t c u (Ok x) (s, is, shows) here l namespaces attributes openings_left =
-    let e = counted_is limit t s is in
-    (t, ap lifted (is ∙ ap (λ (s : State). Ok s) e), record { here = here; limit_is = l; shows = subst (λ (s : State). Represents end s.stack s.done u) e shows; namespaces = namespaces; attributes = attributes; openings_left_is = openings_left })
-adds_stepped limit end t c u (Err e) h here l namespaces attributes openings_left = refuses e (counted limit t) h
+adds_stepped limit end t c u r h here l namespaces attributes openings_left = grind arith
 
 -- an item with nothing below it that declares nothing
 pub item_stepped : (limit end : ℕ) (s : State) (c d : Cursor) (b u : Builder) (r : Result (Unit {0}) Failure) (i : Item) → IsInState limit end s c b → own_pairs i ≡ [] → own_attributes i ≡ 0
     → u.tables ≡ b.tables → u.nodes_limit ≡ b.nodes_limit → u.openings_left ≡ b.openings_left → Adds end r u (with_item b.nodes_limit s d.pos i) → ScansTo limit end r d u (lifted (with_item limit s d.pos i))
-item_stepped limit end s c d b u r i h no_pairs no_attributes tables same openings_left adds =
-    let t : State = record { at = d.pos; done = join s.done (leaf i); stack = s.stack; openings_left = s.openings_left } in
-    let a : Adds end r u (counted limit t) = subst (λ (n : ℕ). Adds end r u (counted n t)) h.limit_is adds in
-    let p : pairs_so_far s.stack (join s.done (leaf i)) ≡ pairs_so_far s.stack s.done = pairs-item s.stack s.done i Nil ∙ ap (λ (xs : List NamespaceDecl). pairs_so_far s.stack s.done ++ (xs ++ [])) no_pairs ∙ append-nil (pairs_so_far s.stack s.done) in
-    let n : attributes_so_far s.stack (join s.done (leaf i)) ≡ attributes_so_far s.stack s.done = omega (arith, attributes-item s.stack s.done i Nil) in
-    adds_stepped limit end t d u r a refl (same ∙ h.limit_is) (rw (tables, p) h.namespaces) (rw (tables, n) h.attributes) (openings_left ∙ h.openings_left_is)
+item_stepped limit end s c d b u r i h no_pairs no_attributes tables same openings_left adds = grind (arith, pairs-item, append-nil, attributes-item)
 
 -- ---- what one construct is read as
 
@@ -176,8 +163,7 @@ closed_at_root t (inside start tag before up) i n j name done openings_left h = 
 -- what is kept of the innermost open element
 pub top_view : (t : ElementTables) (start : ℕ) (tag : Tag) (before : Forest Item) (up : Open) (outer : List OpenElement) (x : OpenElement) → opened_in t (outer ++ x ∷ []) ≡ open_lines (inside start tag before up)
     → opened (lists_in t) x ≡ tag_row (top up + 1 + size (merge before)) start tag (listed (scope_of up) tag.declarations)
-top_view t start tag before up outer x h =
-    (same_from_push (map (opened (lists_in t)) outer) (open_lines up) (opened (lists_in t) x) _ (sym (map-append (opened (lists_in t)) outer (x ∷ [])) ∙ h)).1
+top_view t start tag before up outer x h = grind (arith, same_from_push, map-append)
 
 outer_not_nil : (t : ElementTables) (outer : List OpenElement) (x : OpenElement) → opened_in t (outer ++ x ∷ []) ≡ [] → ⊥
 outer_not_nil t [] x h = cc h
@@ -305,10 +291,7 @@ state_kept limit end s c d b u h same k =
     let v = u.tables in
     let namespaces : names_in v ≡ names_in t = ap names_in k.others in
     let lists : lists_in v ≡ lists_in t = ap lists_in k.others in
-    let rows : map (line_in v) (node_rows b.nodes) ≡ map (line_in t) (node_rows b.nodes) =
-    ap (λ (xs : List AttributeRow). map (row_view xs (names_in v) (lists_in v)) (node_rows b.nodes)) k.attributes
-    ∙ ap (λ (ns : List NamespaceDecl). map (row_view (attribute_rows t.attributes) ns (lists_in v)) (node_rows b.nodes)) namespaces
-    ∙ ap (λ (ls : List (List NamespaceDecl)). map (row_view (attribute_rows t.attributes) (names_in t) ls) (node_rows b.nodes)) lists in
+    let rows : map (line_in v) (node_rows b.nodes) ≡ map (line_in t) (node_rows b.nodes) = cc in
     let within : AllByRecursion (λ (r : NodeData). IsRowWithin v r.kind) (node_rows b.nodes) =
     rw (k.attributes, ap (λ (t : ElementTables). length t.namespaces.items.items) k.others, ap (λ (t : ElementTables). length t.scopes.items) k.others) h.shows.within in
     record {
@@ -331,14 +314,7 @@ state_kept limit end s c d b u h same k =
 
 -- so it does where it has other room for rows
 pub rows_kept : (limit end : ℕ) (s : State) (c : Cursor) (b u : Builder) → KeepsRows b u → IsInState limit end s c b → IsInState limit end s c u
-rows_kept limit end s c b u k h = record {
-  here = h.here;
-  limit_is = k.kept.limit ∙ h.limit_is;
-  shows = k.shows end s.stack s.done h.shows;
-  namespaces = ap names_in k.kept.tables ∙ h.namespaces;
-  attributes = ap (λ (t : ElementTables). length (attribute_rows t.attributes)) k.kept.tables ∙ h.attributes;
-  openings_left_is = k.kept.openings_left ∙ h.openings_left_is;
-}
+rows_kept limit end s c b u k h = grind arith
 
 pub fine_open : (b u : Builder) → KeepsOpen b u → IsConsistent b.tables b.opened.items → IsConsistent u.tables u.opened.items
 fine_open b u k fine = rw (k.tables, k.opened) fine

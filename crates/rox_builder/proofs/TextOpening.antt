@@ -44,10 +44,7 @@ pub opens_reads : (limit : ℕ) (es : List Entity) (depth_left d : ℕ) (main : 
 opens_reads limit es depth_left d main t after s u r below h read = opens_ok limit es depth_left d main t after s r below h ∙ rw read refl
 
 refused_there : (source : Bor (List ℕ)) (main : Bool) (after : ℕ) (s : State) (e : ParseError) (read : Result State Refusal) → IsRefusal e read → IsRefusal (seen_from source e) (behind_it main after s source.now read)
-refused_there source main after s refused.Memory read h = tt
-refused_there source main after s (refused.Fault f) read h = rw h refl
-refused_there source main after s (refused.FaultIn o f) read h = rw h refl
-refused_there source main after s (refused.Resolver at message) read (request, h) = (request, rw h refl)
+refused_there source main after s e read h = grind arith
 
 pub opens_refuses : (limit : ℕ) (es : List Entity) (depth_left d : ℕ) (main : Bool) (source : Bor (List ℕ)) (start after : ℕ) (s : State) (r : ℕ) (e : ParseError) → d ≡ depth_left - 1 → opened_at depth_left main after s.openings_left ≡ Ok r
     → IsRefusal e (drive_text (inner_context limit es d s) (length source.now) source.now (inner_state (record { source = source.now; start = start }) s r))

@@ -4,11 +4,10 @@ use Rattle.std.specs.Char.{encode_utf8}
 use Rattle.std.specs.Simd.Lanes.{sel_l, top, zip2}
 use Rattle.std.specs.Str.{chars, IsCharBoundary}
 use Rattle.std.proofs.Math.Utf8.{encodes}
-use Rattle.std.proofs.lemmas.Bool.{and_parts, and_from, cases_Bool, cases_eq, cases_lt, eqb-true, false≢true, or_right}
+use Rattle.std.proofs.lemmas.Bool.{and_parts, and_from, cases_eq, cases_lt, false≢true}
 use Rattle.std.proofs.lemmas.Bool.Decides.{nat_tests}
 use Rattle.std.proofs.lemmas.List.{length-take, get_or-take, drop_more, drop_all, get_or_past}
 use Rattle.std.proofs.lemmas.Str.{encode_ascii, length-encode, encodes-chars, IsUtf8-drop, IsUtf8-take}
-use mathlib.Core.Bool.{and-false, or-true}
 use Rattle.rox_grammar.specs.Chars.{is_char}
 use Rattle.rox_grammar.specs.Runs.{passing, run_end}
 use Rattle.rox_bytes.specs.ByteSets.{eased, is_char_byte, leads_char, passes_eased}
@@ -26,10 +25,7 @@ drop_eased (suc i) [] = refl
 drop_eased (suc i) (b ∷ bs) = drop_eased i bs
 
 lane : (e f : Bool) → top 7 (bit_and (cond e 255 0) (cond (not f) 255 0)) ≡ (e && not f)
-lane true true = refl
-lane true false = refl
-lane false true = refl
-lane false false = refl
+lane e f = grind arith
 
 pub eased_lanes : (n : ℕ) (src : List ℕ) → n < length src
     → sel_l (map (top 7) (zip2 bit_and (zip2 equals (take n src) (replicate n 239)) (zip2 differs (take n (drop 1 src)) (replicate n 191)))) (replicate n 255) (take n src) ≡ take n (eased src)
@@ -43,27 +39,13 @@ get_eased [] k less = absurd (omega (arith, less))
 get_eased (b ∷ bs) zero less = refl
 get_eased (b ∷ bs) (suc k) less = get_eased bs k (omega (arith, less))
 
-pass_by : (p : ℕ → Bool) (b : ℕ) (e f : Bool) → p (cond (e && f) 255 b) ≡ true → (p b || (e && f)) ≡ true
-pass_by p b true true h = or-true (p b)
-pass_by p b true false h = rw h refl
-pass_by p b false f h = rw h refl
-
-stop_by : (p : ℕ → Bool) (b : ℕ) (e f : Bool) → p (cond (e && f) 255 b) ≡ false → (p b && not e) ≡ false
-stop_by p b true f h = and-false (p b)
-stop_by p b false f h = rw h refl
-
 -- what passes among the eased bytes
 pub eased_passes : (p : ℕ → Bool) (src : List ℕ) (k : ℕ) → k < length src → p (get_or (eased src) k 0) ≡ true → passes_eased p src k ≡ true
-eased_passes p src k less h =
-    let next : k + 1 ≡ suc k = omega arith in
-    let at : p (cond (leads_char (get_or src k 0) (get_or src (suc k) 0)) 255 (get_or src k 0)) ≡ true = rw (get_eased src k less) at h in
-    rw next (pass_by p (get_or src k 0) (get_or src k 0 == 239) (not (get_or src (suc k) 0 == 191)) at)
+eased_passes p src k less h = grind (arith, get_eased)
 
 -- and what stops there
 pub eased_stops : (p : ℕ → Bool) (src : List ℕ) (k : ℕ) → k < length src → p (get_or (eased src) k 0) ≡ false → (p (get_or src k 0) && not (get_or src k 0 == 239)) ≡ false
-eased_stops p src k less h =
-    let at : p (cond (leads_char (get_or src k 0) (get_or src (suc k) 0)) 255 (get_or src k 0)) ≡ false = rw (get_eased src k less) at h in
-    stop_by p (get_or src k 0) (get_or src k 0 == 239) (not (get_or src (suc k) 0 == 191)) at
+eased_stops p src k less h = grind (arith, get_eased)
 
 -- ---- their characters
 
@@ -99,8 +81,7 @@ fair_char c rest h =
 
 fair_passing : (cs : List ℕ) → fair (encodes cs) ≡ true → passing is_char cs ≡ length (encodes cs)
 fair_passing [] h = refl
-fair_passing (c ∷ cs) h =
-    rw (fair_char c (encodes cs) h, fair_passing cs (fair_behind (encode_utf8 c) (encodes cs) h), length-append (encode_utf8 c) (encodes cs), length-encode c) refl
+fair_passing (c ∷ cs) h = grind (arith, fair_passing cs (fair_behind (encode_utf8 c) (encodes cs) h), fair_char, length-append, length-encode)
 
 fair_run : (src : List ℕ) (i : ℕ) → IsUtf8 src → IsCharBoundary src i → fair (drop i src) ≡ true → run_end is_char src i ≡ length src
 unfolding run_end
@@ -110,16 +91,7 @@ fair_run src i utf8 cut h =
     omega (arith, run, ap length back, length-drop i src, cut.0)
 
 fair_here : (p : ℕ → Bool) (b m n : ℕ) → (p b ≡ true → is_char_byte b ≡ true) → (p b || leads_char b m) ≡ true → (n ≡ m) ⊎ (n ≡ 0) → (is_char_byte b || leads_char b n) ≡ true
-fair_here p b m n are h next =
-    elim (cases_Bool (p b)) [
-      | inl passes ↦ rw (are passes) refl
-      | inr fails ↦ (
-          let lead : leads_char b m ≡ true = rw fails at h in
-          elim next [
-            | inl same ↦ ap (λ (k : ℕ). is_char_byte b || leads_char b k) same ∙ or_right (is_char_byte b) (leads_char b m) lead
-            | inr none ↦ ap (λ (k : ℕ). is_char_byte b || leads_char b k) none ∙ or_right (is_char_byte b) (leads_char b 0) (and_from _ _ (and_parts (b == 239) (not (m == 191)) lead).0 refl)
-          ])
-    ]
+fair_here p b m n are h next = grind arith
 
 all_fair : (p : ℕ → Bool) (src : List ℕ) (i e n : ℕ) → i + n ≡ e → e ≤ length src → ((k : ℕ) → i ≤ k → k < e → passes_eased p src k ≡ true) → ((b : ℕ) → p b ≡ true → is_char_byte b ≡ true) → fair (drop i (take e src)) ≡ true
 all_fair p src i e zero same within all are = let long = length-take e src in rw (drop_all i (take e src) (omega (arith, long))) refl
@@ -128,20 +100,14 @@ all_fair p src i e (suc n) same within all are =
     let read : get_or (take e src) i 0 ≡ get_or src i 0 = get_or-take e src i 0 (omega (arith, long)) in
     let zero : i + 1 + 0 ≡ i + 1 = omega arith in
     let behind : get_or (drop (i + 1) (take e src)) 0 0 ≡ get_or (take e src) (i + 1) 0 = get_or-drop (i + 1) (take e src) 0 0 ∙ ap (λ (k : ℕ). get_or (take e src) k 0) zero in
-    let next : (get_or (drop (i + 1) (take e src)) 0 0 ≡ get_or src (i + 1) 0) ⊎ (get_or (drop (i + 1) (take e src)) 0 0 ≡ 0) =
-    elim (cases_lt (i + 1) e) [
-      | inl more ↦ inl (behind ∙ get_or-take e src (i + 1) 0 (omega (arith, long)))
-      | inr past ↦ inr (behind ∙ get_or_past (take e src) (i + 1) 0 (omega (arith, long)))
-    ] in
+    let next : (get_or (drop (i + 1) (take e src)) 0 0 ≡ get_or src (i + 1) 0) ⊎ (get_or (drop (i + 1) (take e src)) 0 0 ≡ 0) = grind (arith, get_or-take, get_or_past) in
     let here = fair_here p (get_or src i 0) (get_or src (i + 1) 0) _ (are (get_or src i 0)) (all i (omega arith) (omega arith)) next in
     let rest = all_fair p src (i + 1) e n (omega arith) within (λ k low high. all k (omega arith) high) are in
     rw (drop_more (take e src) i 0 (omega (arith, long)), read) (and_from _ _ here rest)
 
 -- a place before the end of a front is one between characters of the front
 pub cut_before : (src : List ℕ) (i e : ℕ) → i ≤ e → e ≤ length src → IsCharBoundary src i → IsCharBoundary (take e src) i
-cut_before src i e le within cut =
-    let long = length-take e src in
-    (omega (arith, long), λ more wide. let read = get_or-take e src i 0 (omega (arith, long)) in rw read (cut.1 (omega (arith, long)) (rw read at wide)))
+cut_before src i e le within cut = grind (arith, length-take, get_or-take)
 
 -- eased bytes are of Chars
 pub eased_chars : (p : ℕ → Bool) (src : List ℕ) (i e : ℕ) → IsUtf8 src → IsCharBoundary src i → i ≤ e → IsCharBoundary src e → ((k : ℕ) → i ≤ k → k < e → passes_eased p src k ≡ true) → ((b : ℕ) → p b ≡ true → is_char_byte b ≡ true) → run_end is_char (take e src) i ≡ e
@@ -152,8 +118,4 @@ eased_chars p src i e utf8 start le cut all are =
 
 -- such a byte passes, or it is a 239
 pub eased_byte : (p : ℕ → Bool) (src : List ℕ) (k : ℕ) → passes_eased p src k ≡ true → (p (get_or src k 0) ≡ true) ⊎ (get_or src k 0 ≡ 239)
-eased_byte p src k h =
-    elim (cases_Bool (p (get_or src k 0))) [
-      | inl passes ↦ inl passes
-      | inr fails ↦ inr (let lead : leads_char (get_or src k 0) (get_or src (k + 1) 0) ≡ true = rw fails at h in eqb-true _ _ (and_parts _ _ lead).0)
-    ]
+eased_byte p src k h = grind arith

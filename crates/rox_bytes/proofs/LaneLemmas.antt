@@ -1,5 +1,5 @@
 -- Blocks of bytes, seen through a mask that has a bit for each byte that is not in a set.
-use Rattle.std.proofs.Common.{◌≡◌, ℕ, zero, suc, ◌+◌, ◌-◌, ◌*◌, ◌/◌, ◌%◌, ◌^◌, ◌<◌, ◌≤◌, Bool, true, false, not, cond, eqb, ltb, leb, List, [], ◌∷◌, map, length, get_or, replicate, refl, sym, ap, ap₂, ◌∙◌, arith, inl, inr, w8, Fits, shr-shr, take, drop, lt-ltb, ◌||◌, subst}
+use Rattle.std.proofs.Common.{◌≡◌, ℕ, zero, suc, ◌+◌, ◌-◌, ◌*◌, ◌/◌, ◌%◌, ◌^◌, ◌<◌, ◌≤◌, Bool, true, false, not, cond, eqb, ltb, leb, List, [], ◌∷◌, map, length, get_or, replicate, refl, sym, ap, ap₂, ◌∙◌, arith, inl, inr, w8, Fits, shr-shr, drop, lt-ltb, ◌||◌, subst}
 use Rattle.std.specs.List.{prefix_len}
 use Rattle.std.specs.Simd.Lanes.{mask_l, top, zip2, chunk, Each1}
 use Rattle.std.proofs.lemmas.Simd.{Each1-weaker, Each1-zip2, Each2-splat, below_from_Fits, length-zip2, swz_l, SwzOk, SwzOk-from_below, SwzOk-from_Each1, length-swz_l, get_or-swz_l, zip2_splat, zip2_of_maps, map-map, mask_l-mod, length-chunk, leading_from_mask_l, trailing_mask_l, run_in_chunk_fails, run_in_chunk_stops}
@@ -39,8 +39,7 @@ either f g v p q = zip2_of_maps bit_or f g v p q
 
 -- a comparison of computed lanes with one number, which stands on the right
 pub against : (h : ℕ → ℕ → ℕ) (f : ℕ → ℕ) (y n : ℕ) (v : List ℕ) {a : List ℕ} → length v ≡ n → a ≡ map f v → zip2 h a (replicate n y) ≡ map (λ x. h (f x) y) v
-against h f y n v long p =
-    ap (λ a. zip2 h a (replicate n y)) p ∙ zip2_splat h (map f v) n y (length-map v f ∙ long) ∙ map-map (λ x. h x y) f v
+against h f y n v long p = grind (arith, zip2_splat, length-map, map-map)
 
 splat_left : (h : ℕ → ℕ → ℕ) (y : ℕ) (xs : List ℕ) → zip2 h (replicate (length xs) y) xs ≡ map (h y) xs
 splat_left h y [] = refl
@@ -48,8 +47,7 @@ splat_left h y (x ∷ xs) = ap (λ r. h y x ∷ r) (splat_left h y xs)
 
 -- or on the left
 pub from : (h : ℕ → ℕ → ℕ) (f : ℕ → ℕ) (y n : ℕ) (v : List ℕ) {a : List ℕ} → length v ≡ n → a ≡ map f v → zip2 h (replicate n y) a ≡ map (λ x. h y (f x)) v
-from h f y n v long p =
-    ap (zip2 h (replicate n y)) p ∙ ap (λ k. zip2 h (replicate k y) (map f v)) (sym (length-map v f ∙ long)) ∙ splat_left h y (map f v) ∙ map-map (h y) f v
+from h f y n v long p = grind (arith, length-map, splat_left, map-map)
 
 -- where no bit is set, all of the block passes
 pub counted_none : (q : ℕ → Bool) (src : List ℕ) (i n : ℕ) → i + n ≤ length src → mask_l (map q (chunk i n src)) ≡ 0 → n ≡ prefix_len (λ b. not (q b)) (chunk i n src)
@@ -61,8 +59,7 @@ counted_some : (q : ℕ → Bool) (src : List ℕ) (i n : ℕ) → i + n ≤ len
 counted_some q src i n room few some = trailing_mask_l q 64 (chunk i n src) (omega (arith, length-chunk i n src room)) some
 
 first : (b : Bool) (n m l : ℕ) → 0 < cond b 1 0 + 2 * n → (0 < n → m < l) → cond (not b) (1 + m) 0 < suc l
-first true n m l some f = omega arith
-first false n m l some f = omega (arith, f (omega arith))
+first b n m l some f = grind arith
 
 -- which are fewer than the block has
 some_left : (q : ℕ → Bool) (xs : List ℕ) → 0 < mask_l (map q xs) → prefix_len (λ b. not (q b)) xs < length xs
@@ -78,12 +75,7 @@ passes_on p src i e j before behind k low high = elim (cases_lt k e) [ inl less 
 
 -- where they end behind those that pass
 pub ends_on : (p : ℕ → Bool) (src : List ℕ) (i e j : ℕ) → i ≤ e → AllPass p src i e → EndsSet p src e j → EndsSet p src i j
-ends_on p src i e j le before behind = record {
-  onward = omega (arith, le, behind.onward);
-  within = behind.within;
-  passes = passes_on p src i e j before behind.passes;
-  stops = behind.stops;
-}
+ends_on p src i e j le before behind = grind arith
 
 block_stops : (p : ℕ → Bool) (src : List ℕ) (i n r : ℕ) → i + n ≤ length src → r ≡ prefix_len (λ b. not (not (p b))) (chunk i n src) → r < n → p (get_or src (i + r) 0) ≡ false
 block_stops p src i n r room counted short = not-true _ (run_in_chunk_stops (λ b. not (p b)) src i n r 0 room counted short)
@@ -189,8 +181,7 @@ abbrev pub differs : ℕ → ℕ → ℕ
 differs a b = cond (not (eqb a b)) 255 0
 
 halved : (b : Bool) (m : ℕ) → (cond b 1 0 + 2 * m) / 2 ^ 1 ≡ m
-halved true m = omega arith
-halved false m = omega arith
+halved b m = grind arith
 
 -- a mask moved down is that of what is left behind so many
 mask_down : (ms : List Bool) (k : ℕ) → mask_l ms / 2 ^ k ≡ mask_l (drop k ms)
@@ -205,5 +196,4 @@ mask_down (b ∷ bs) (suc k) =
 pub mask_from : (q : ℕ → Bool) (src : List ℕ) (i n k : ℕ) → k ≤ n → mask_l (map q (chunk i n src)) / 2 ^ k ≡ mask_l (map q (chunk (i + k) (n - k) src))
 mask_from q src i n k le =
     let split : n ≡ k + (n - k) = omega arith in
-    mask_down (map q (chunk i n src)) k
-    ∙ ap mask_l (drop-map q k (chunk i n src) ∙ ap (map q) (ap (λ m. drop k (take m (drop i src))) split ∙ drop-take k (n - k) (drop i src) ∙ ap (take (n - k)) (drop-drop k i src)))
+    grind (arith, mask_down, drop-map, drop-take, drop-drop)

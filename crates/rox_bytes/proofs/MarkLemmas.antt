@@ -1,5 +1,5 @@
 -- Where a fixed text stands.
-use Rattle.std.proofs.Common.{◌≡◌, ℕ, zero, suc, ◌+◌, ◌<◌, ◌≤◌, ◌==◌, Bool, true, false, List, [], ◌∷◌, ◌++◌, length, get_or, drop, Option, Some, None, unwrap_or, refl, sym, inl, inr, add-zero, arith, add_assoc, lit<, ap, get_or-drop}
+use Rattle.std.proofs.Common.{◌≡◌, ℕ, zero, suc, ◌+◌, ◌<◌, ◌≤◌, ◌==◌, Bool, true, false, List, [], ◌∷◌, ◌++◌, length, get_or, drop, Option, Some, None, unwrap_or, refl, sym, inl, inr, add-zero, arith, add_assoc, ap, get_or-drop}
 use Rattle.std.specs.List.{starts_with, position_or_len}
 use Rattle.std.specs.Str.{IsUtf8, IsCharBoundary}
 use Rattle.std.proofs.lemmas.Str.{IsCharBoundary-after_ascii, IsCharBoundary-before_ascii, IsCharBoundary-end}
@@ -14,7 +14,6 @@ use Rattle.memchr.specs.Find.{IsFirstByte, FindsNeedle, OccursAt}
 use Rattle.memchr.proofs.lemmas.MatchLemmas.{OccursAt-split}
 use Rattle.rox_grammar.specs.Search.{stands, before_mark, mark_from}
 use Rattle.rox_grammar.specs.declared.fault.Expected.{Expected}
-use Rattle.rox_grammar.specs.declared.fault.Expected.TheVariants as expected
 use Rattle.rox_grammar.specs.ExpectedTexts.{expected_text}
 pub use Rattle.rox_grammar.proofs.AtPlace.{stands_split, stands_reads, stands_fits}
 use Rattle.rox_bytes.specs.ScanResults.{Finds}
@@ -54,18 +53,12 @@ not_from_first mark hay j some apart =
     apart (rw add-zero at (at_reads 0 hay mark j _ ((starts_is Decides-eqb (drop j hay) mark true (sym h)).0 refl) 0 some)))
 
 pub none_below : (mark hay : List ℕ) (at next : ℕ) → 0 < length mark → ((j : ℕ) → j < at → starts_with ◌==◌ (drop j hay) mark ≡ false) → ((k : ℕ) → at ≤ k → k < next → get_or hay k 0 ≡ get_or mark 0 0 → ⊥) → (j : ℕ) → j < next → starts_with ◌==◌ (drop j hay) mark ≡ false
-none_below mark hay at next some below apart j lt =
-    elim (cases_lt j at) [
-      | inl low ↦ below j low
-      | inr high ↦ not_from_first mark hay j some (apart j high lt)
-    ]
+none_below mark hay at next some below apart j lt = grind (arith, not_from_first)
 
 pub first_byte_found : (p : ℕ → Bool) (hay : List ℕ) (r : Option ℕ) → IsFirstByte p hay r → position_or_len p hay ≡ unwrap_or r (length hay)
 first_byte_found p hay None h =
     position_or_len_is p hay (length hay) 0 (omega arith) (λ j below. fails (p (get_or hay j 0)) (h j (omega arith) below)) (λ more. absurd (omega arith))
-first_byte_found p hay (Some k) h =
-    let high = h.0.high in
-    position_or_len_is p hay k 0 (omega arith) (λ j below. fails (p (get_or hay j 0)) (h.0.before j (omega arith) below)) (λ more. h.1)
+first_byte_found p hay (Some k) h = grind (arith, position_or_len_is)
 
 -- where a needle occurs the mark stands, and the other way round
 occurs_stands : (mark hay : List ℕ) (k : ℕ) → OccursAt hay mark k → starts_with ◌==◌ (drop k hay) mark ≡ true
@@ -75,10 +68,7 @@ stands_occurs : (mark hay : List ℕ) (k : ℕ) → 0 < length mark → starts_w
 stands_occurs mark hay k some h =
     let split = (starts_is Decides-eqb (drop k hay) mark true (sym h)).0 refl in
     let fits = front_fits (drop k hay) mark _ split in
-    record {
-      fits = omega (arith, fits, length-drop k hay);
-      reads = λ j within. at_reads 0 hay mark k _ split j within;
-    }
+    grind (arith, length-drop, at_reads)
 
 -- what a search for the mark finds
 pub found_before : (mark hay : List ℕ) (r : Option ℕ) → 0 < length mark → FindsNeedle hay mark 0 r → before_mark mark hay ≡ unwrap_or r (length hay)
@@ -87,19 +77,16 @@ found_before mark hay None some h =
     (λ j below. fails _ (λ here. h j (omega arith) (omega arith) (stands_occurs mark hay j some here)))
     (λ more. absurd (omega arith))
 found_before mark hay (Some k) some h =
-    let fits = h.1.fits in
     before_mark_is mark hay k (omega arith)
     (λ j below. fails _ (λ here. h.0.before j (omega arith) below (stands_occurs mark hay j some here)))
     (λ more. occurs_stands mark hay k h.1)
 
 -- the first byte of the mark stands there
 pub found_reads : (mark hay : List ℕ) (r : Option ℕ) → 0 < length mark → FindsNeedle hay mark 0 r → unwrap_or r (length hay) < length hay → get_or hay (unwrap_or r (length hay)) 0 ≡ get_or mark 0 0
-found_reads mark hay None some h more = absurd (omega arith)
-found_reads mark hay (Some k) some h more = rw add-zero at (h.1.reads 0 some)
+found_reads mark hay r some h more = grind arith
 
 pub found_within : (mark hay : List ℕ) (r : Option ℕ) → FindsNeedle hay mark 0 r → unwrap_or r (length hay) ≤ length hay
-found_within mark hay None h = omega arith
-found_within mark hay (Some k) h = omega (arith, h.1.fits)
+found_within mark hay r h = grind arith
 
 -- after the ASCII byte n of a fixed text that stands at i
 pub stands_front_cut : (mark src : List ℕ) (i n : ℕ) → n < length mark → IsUtf8 src → get_or mark n 0 < 128 → stands mark src i ≡ true → IsCharBoundary src (i + (n + 1))
@@ -110,10 +97,7 @@ stands_front_cut mark src i n within utf8 ascii h =
 
 -- a fixed text begins with an ASCII byte
 pub word_first : (w : Expected) → (0 < length (expected_text w)) × (get_or (expected_text w) 0 0 < 128)
-word_first expected.CommentEnd = (lit< tt, lit< tt)
-word_first expected.PIEnd = (lit< tt, lit< tt)
-word_first expected.CDataEnd = (lit< tt, lit< tt)
-word_first expected.Version = (lit< tt, lit< tt)
+word_first w = grind arith
 
 -- where a search behind a place finds the mark
 pub mark_found : (mark src : List ℕ) (i : ℕ) (r : Option ℕ) → IsCharBoundary src i → 0 < length mark → get_or mark 0 0 < 128 → FindsNeedle (drop i src) mark 0 r

@@ -1,10 +1,10 @@
 -- What a mask of sixteen bytes tells of those behind the first that is not in the set.
-use Rattle.std.proofs.Common.{◌≡◌, ◌+◌, ◌-◌, ◌<◌, ◌≤◌, ◌/◌, ◌%◌, ◌^◌, ℕ, zero, suc, Bool, true, false, not, cond, List, map, length, get_or, bit_and, refl, sym, ap, subst, ◌∙◌, arith, inl, inr, w64}
+use Rattle.std.proofs.Common.{◌≡◌, ◌+◌, ◌-◌, ◌<◌, ◌≤◌, ◌/◌, ◌%◌, ◌^◌, ℕ, zero, suc, Bool, true, false, not, cond, List, map, length, get_or, bit_and, sym, ap, subst, ◌∙◌, arith, inl, inr, w64}
 use Rattle.std.specs.Int.{bit_at, trailing_zeros}
 use Rattle.std.specs.Simd.Lanes.{chunk, mask_l}
-use Rattle.std.proofs.lemmas.Bool.{cases_eq, cases_lt}
+use Rattle.std.proofs.lemmas.Bool.{cases_lt}
 use Rattle.std.proofs.lemmas.List.{get_or-map, length-map}
-use Rattle.std.proofs.lemmas.Nat.Bits.{bit_at-suc, bit_at-trailing_zeros, bit_at-zero, bit_at_above, bit_at_and, bit_at_lowest}
+use Rattle.std.proofs.lemmas.Nat.Bits.{bit_at-suc, bit_at-trailing_zeros, bit_at_above, bit_at_and, bit_at_lowest}
 use Rattle.std.proofs.lemmas.Simd.{bit_mask_l, get_or-chunk, length-chunk, mask_l-lt}
 use Rattle.rox_bytes.specs.ByteSets.{AllPass, EndsSet, StopsSet}
 use Rattle.rox_bytes.specs.Windows.{IsSeen}
@@ -27,9 +27,7 @@ none_there v (suc n) low = bit_at-suc (v - 1) n ∙ ap (λ m. bit_at m n) (half_
 
 same_above : (v n k : ℕ) → IsLowest v n → n < k → bit_at (v - 1) k ≡ bit_at v k
 same_above v zero zero low above = absurd (omega arith)
-same_above v zero (suc k) low above =
-    let half : (v - 1) / 2 ≡ v / 2 = omega (arith, bit_at_lowest v, low.0) in
-    bit_at-suc (v - 1) k ∙ ap (λ m. bit_at m k) half ∙ sym (bit_at-suc v k)
+same_above v zero (suc k) low above = grind (arith, bit_at-suc)
 same_above v (suc n) zero low above = absurd (omega arith)
 same_above v (suc n) (suc k) low above =
     bit_at-suc (v - 1) k ∙ ap (λ m. bit_at m k) (half_less v n low) ∙ same_above (v / 2) n k (half_lowest v n low) (omega arith) ∙ sym (bit_at-suc v k)
@@ -56,12 +54,10 @@ tells p src i others k seen few =
     ∙ ap (λ b. cond b 1 0) (get_or-map q (chunk i 16 src) k 0 false (omega (arith, length-chunk i 16 src seen.within)) ∙ ap q (get_or-chunk i 16 src k 0 few))
 
 by_none : (b : Bool) → bit_of b ≡ 0 → b ≡ true
-by_none true none = refl
-by_none false none = absurd (omega (arith, none))
+by_none b none = grind arith
 
 by_one : (b : Bool) → bit_of b ≡ 1 → b ≡ false
-by_one true one = absurd (omega (arith, one))
-by_one false one = refl
+by_one b one = grind arith
 
 few_bits : (p : ℕ → Bool) (src : List ℕ) (i others : ℕ) → IsSeen p src i others → others < 2 ^ 16
 few_bits p src i others seen =
@@ -98,10 +94,7 @@ module _ (p : ℕ → Bool) (src : List ℕ) (i others before : ℕ) (seen : IsS
   pub less : (others + 18446744073709551615) % 18446744073709551616 ≡ others - 1
   less =
       let small = few_bits p src i others seen in
-      elim (cases_eq others 0) [
-        | inl none ↦ absurd (omega (arith, lowest.0, ap (λ m. bit_at m (before - 1)) none, bit_at-zero (before - 1)))
-        | inr is ↦ omega (arith, small, is)
-      ]
+      grind (arith, lowest)
 
   -- what has no bit behind it passes
   pub passes : (e : ℕ) → e ≤ 16 → ((k : ℕ) → k < e → bit_at (bit_and others (others - 1)) k ≡ 0) → AllPass p src (i + before) (i + e)

@@ -162,9 +162,7 @@ spaces_cut src i e utf8 cut le within all = ascii_cut is_space src i e utf8 cut 
 
 spaces_from : (src : List ℕ) (i e n : ℕ) → i + n ≡ e → e ≤ length src → IsUtf8 src → AllPass is_space src i e → run_end is_space src e ≡ run_end is_space src i
 spaces_from src i e zero same within utf8 all = let at : e ≡ i = omega arith in rw at refl
-spaces_from src i e (suc n) same within utf8 all =
-    spaces_from src (i + 1) e n (omega arith) within utf8 (λ k low high. all k (omega arith) high)
-    ∙ space_on src i utf8 (omega arith) (all i (omega arith) (omega arith))
+spaces_from src i e (suc n) same within utf8 all = grind (arith, spaces_from src (i + 1) e n (omega arith) within utf8 (λ k low high. all k (omega arith) high), space_on)
 
 -- white space ends where another byte stands, or the text
 pub spaces_end_there : (src : List ℕ) (i e : ℕ) → IsUtf8 src → IsCharBoundary src i → i ≤ e → e ≤ length src → AllPass is_space src i e → (e < length src → is_space (get_or src e 0) ≡ false) → e ≡ run_end is_space src i
@@ -185,10 +183,7 @@ all_plain p src i e (suc n) same within all are =
 
 -- plain bytes are of Chars
 pub near_chars : (p : ℕ → Bool) (src : List ℕ) (i e : ℕ) → IsUtf8 src → IsCharBoundary src i → i ≤ e → IsCharBoundary src e → AllPass p src i e → ((b : ℕ) → p b ≡ true → is_char_byte b ≡ true) → run_end is_char (take e src) i ≡ e
-near_chars p src i e utf8 start le cut all are =
-    let long = length-take e src in
-    let whole = plain_run (take e src) i (IsUtf8-take src e utf8 cut) (cut_before src i e le cut.0 start) (all_plain p src i e (e - i) (omega arith) cut.0 all are) in
-    omega (arith, whole, long)
+near_chars p src i e utf8 start le cut all are = grind (arith, length-take e src, plain_run (take e src) i (IsUtf8-take src e utf8 cut) (cut_before src i e le cut.0 start) (all_plain p src i e (e - i) (omega arith) cut.0 all are))
 
 -- a search for a byte that is not in the set ends where the set does, if one stands there
 pub near_found : (p q : ℕ → Bool) (src : List ℕ) (i e : ℕ) → i ≤ e → e ≤ length src → AllPass p src i e → ((b : ℕ) → p b ≡ true → q b ≡ false) → (e < length src → q (get_or src e 0) ≡ true) → byte_from q src i ≡ e

@@ -4,7 +4,6 @@ use Rattle.std.specs.Char.{len_utf8}
 use Rattle.std.specs.Str.{chars, IsUtf8, IsCharBoundary}
 use Rattle.std.proofs.Math.Utf8.{encodes}
 use Rattle.std.proofs.lemmas.Bool.{cases_lt}
-use Rattle.std.proofs.lemmas.Bool.Decides.{nat_tests}
 use Rattle.std.proofs.lemmas.Str.{chars-nil, encodes-chars, chars_past_char, encode_ascii, len_utf8_ascii, IsUtf8-drop, IsCharBoundary-start, IsCharBoundary-before_ascii, IsCharBoundary-after_ascii}
 use Rattle.std.proofs.lemmas.List.{drop_more, drop_all, get_or_past}
 use Rattle.rox_grammar.specs.Chars.{is_space}
@@ -26,8 +25,7 @@ run_stops p src i c utf8 cut stands fails = rw (chars_at src i c utf8 cut stands
 
 -- an ASCII byte is a character
 pub stands_ascii : (src : List ℕ) (i : ℕ) → i < length src → get_or src i 0 < 128 → StandsAt (get_or src i 0) src i
-stands_ascii src i within ascii =
-    rw (encode_ascii (get_or src i 0) ascii, len_utf8_ascii (get_or src i 0) ascii) (drop_more src i 0 within)
+stands_ascii src i within ascii = grind (arith, encode_ascii, drop_more)
 
 pub run_on_ascii : (p : ℕ → Bool) (src : List ℕ) (i : ℕ) → IsUtf8 src → i < length src → get_or src i 0 < 128 → p (get_or src i 0) ≡ true → run_end p src (i + 1) ≡ run_end p src i
 run_on_ascii p src i utf8 within ascii passes =
@@ -38,13 +36,9 @@ pub run_stops_ascii : (p : ℕ → Bool) (src : List ℕ) (i : ℕ) → IsUtf8 s
 run_stops_ascii p src i utf8 within ascii fails =
     run_stops p src i (get_or src i 0) utf8 (IsCharBoundary-before_ascii src i within ascii) (stands_ascii src i within ascii) fails
 
-wide_is_none : (c : ℕ) → 128 ≤ c → is_space c ≡ false
-wide_is_none c wide = grind (arith, nat_tests)
-
 none_passes : (cs : List ℕ) → 128 ≤ get_or (encodes cs) 0 0 → passing is_space cs ≡ 0
 none_passes [] wide = refl
-none_passes (c ∷ cs) wide =
-    elim (cases_lt c 128) [ inl ascii ↦ absurd (omega (arith, rw (encode_ascii c ascii) at wide)) | inr more ↦ rw (wide_is_none c more) refl ]
+none_passes (c ∷ cs) wide = grind (arith, encode_ascii)
 
 wide_stops : (src : List ℕ) (i : ℕ) → IsUtf8 src → IsCharBoundary src i → 128 ≤ get_or src i 0 → run_end is_space src i ≡ i
 unfolding run_end
@@ -92,5 +86,4 @@ pub ruleset first_cuts = (lead_at_start, lead_after_first)
 
 -- a byte but 0 stands in the text
 pub stands_within : (src : List ℕ) (p b : ℕ) → slice_index src p ≡ b → 0 < b → p < length src
-stands_within src p b is some =
-    elim (cases_lt p (length src)) as (λ x. p < length src) [ inl l ↦ l | inr l ↦ let out : slice_index src p ≡ 0 = get_or_past src p 0 l in absurd (omega arith) ]
+stands_within src p b is some = grind (arith, get_or_past)

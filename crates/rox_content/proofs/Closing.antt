@@ -1,7 +1,5 @@
 -- The innermost open element, and the end tag that closes it.
-use Rattle.std.proofs.Common.{◌≡◌, ℕ, ◌+◌, true, List, [], ◌∷◌, ◌++◌, Ok, take, drop, slice_index, refl, sym, subst, arith}
-use Rattle.std.specs.Prelude.{bytes_eq}
-use Rattle.std.specs.List.{AllByRecursion}
+use Rattle.std.proofs.Common.{◌≡◌, ℕ, ◌+◌, true, List, [], ◌∷◌, ◌++◌, Ok, take, drop, slice_index, refl, sym, arith}
 use Rattle.std.proofs.lemmas.Slice.Eq.{bytes_eq-Decides}
 use Rattle.std.specs.Str.{IsUtf8}
 use Rattle.rox_grammar.specs.Chars.{is_space}
@@ -13,26 +11,17 @@ use Rattle.rox_bytes.proofs.RunLemmas.{run_stops_ascii, stands_within}
 use Rattle.rox_tags.proofs.PlainTags.{end_tag_is}
 use Rattle.rox_builder.specs.BuilderState.{IsConsistent}
 use Rattle.rox_constructs.proofs.Opening.{all_last}
-use Rattle.rox_names.specs.OpenElements.{name_length, HasName, IsOpenWithin, open_name}
+use Rattle.rox_names.specs.OpenElements.{name_length, HasName, open_name}
 use Rattle.rox_tags.specs.PlainTag.{MayOpenBelow}
 use Rattle.rox_names.specs.declared.tables.ElementTables.{ElementTables}
 use Rattle.rox_names.specs.declared.open_element.OpenElement.{OpenElement}
 
 -- below the innermost open element
 pub below_last : (t : ElementTables) (os outer : List OpenElement) (o : OpenElement) → IsConsistent t os → os ≡ outer ++ o ∷ [] → MayOpenBelow t o
-below_last t os outer o h split = record {
-  places = h.sound.listed;
-  few = h.few_names;
-  scopes = h.sound.scopes;
-  kept = h.kept;
-  parent = all_last (IsOpenWithin t) outer o (subst (AllByRecursion (IsOpenWithin t)) split h.elements);
-}
+below_last t os outer o h split = grind (arith, all_last)
 
 pub same_itself : (name : Name) → same_qname name name ≡ true
-same_itself name =
-    let p : bytes_eq name.prefix name.prefix ≡ true = (bytes_eq-Decides name.prefix name.prefix).1 refl in
-    let l : bytes_eq name.local name.local ≡ true = (bytes_eq-Decides name.local name.local).1 refl in
-    rw (p, l) refl
+same_itself name = grind (arith, bytes_eq-Decides)
 
 -- it has the bytes of the name of the element that it closes
 pub end_tag_close : (src : List ℕ) (i j : ℕ) (o : OpenElement) → HasName o → IsUtf8 src → take (name_length o) o.source.now ≡ take (name_length o) (drop (i + 2) src) → slice_index src (i + 2 + name_length o) ≡ 62 → j ≡ i + 2 + name_length o + 1

@@ -169,15 +169,7 @@ pub record IsTried (src : List ℕ) (i part : ℕ) (b : Builder) (o : OpenElemen
 
 tried_below : {src : List ℕ} {i part : ℕ} {b : Builder} {o : OpenElement} {tables : ElementTables} {held : ℕ} {found : Option PlainTag} (m : Builder) (t : PlainTag) → IsTried src i part b o tables held found → found ≡ Some t
     → m.tables ≡ tables → KeepsOthers b m → ReadsBelow b m (scope_in_tables b.tables o.scope) src i t
-tried_below {src = src} {i = i} {b = b} {o = o} m t h is into others = record {
-  utf8 = h.utf8;
-  here = h.may.here;
-  short = h.may.room.short;
-  fine = h.may.room.fine;
-  scope = λ end stack done shows. top_scope b.tables stack h.outer o (sym (ap (opened_in b.tables) h.innermost) ∙ shows.open_rows);
-  same = others;
-  read = rw into (rw is at h.tag.read);
-}
+tried_below {src = src} {i = i} {b = b} {o = o} m t h is into others = grind (arith, top_scope)
 
 ready_one : (b m : Builder) → KeepsOthers b m → IsReady 1 b → IsReady 1 m
 ready_one b m k h = record { room = rw k.nodes h.room; few = rw (k.nodes, k.limit) h.few; small = rw k.nodes h.small; settled = rw k.pending h.settled }
@@ -198,9 +190,7 @@ tried_reads {src = src} {i = i} {b = b} m u j t h is into others put = element_r
 -- where none was, the attributes are taken back
 pub tried_back : {src : List ℕ} {i part : ℕ} {b : Builder} {o : OpenElement} {tables : ElementTables} {held : ℕ} {found : Option PlainTag} → IsTried src i part b o tables held found
     → (after : ElementTables) → after ≡ record tables { attributes = after.attributes } → attribute_rows after.attributes ≡ take held (attribute_rows tables.attributes) → HoldSame b.tables after
-tried_back {b = b} {tables = tables} {held = held} h after others cut =
-    let grown = h.tag.grown in
-    cut_back b.tables tables after grown.more held grown.others grown.rows h.held_all others cut
+tried_back {b = b} {tables = tables} {held = held} h after others cut = grind (arith, cut_back)
 
 -- and the tag may be read again
 pub tried_again : {src : List ℕ} {i part : ℕ} {b : Builder} {o : OpenElement} {tables : ElementTables} {held : ℕ} {found : Option PlainTag} → IsTried src i part b o tables held found

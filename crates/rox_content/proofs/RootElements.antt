@@ -1,5 +1,5 @@
 -- The root element's start tag at one look: what the builder shows where it is read, and where it is not.
-use Rattle.std.proofs.Common.{◌≡◌, ℕ, List, [], ◌∷◌, Result, Ok, Err, false, length, refl, sym, ap, subst, ◌∙◌, arith, length-append}
+use Rattle.std.proofs.Common.{◌≡◌, ℕ, List, [], ◌∷◌, Result, false, length, refl, sym, ap, subst, ◌∙◌, arith, length-append}
 use Rattle.std.specs.List.{AllByRecursion}
 use Rattle.std.specs.Result.{OnOk, is_err}
 use Rattle.std.proofs.lemmas.List.{append-nil, length-map}
@@ -8,8 +8,6 @@ use Rattle.rox_reading.specs.State.{State}
 use Rattle.rox_scan.specs.declared.cursor.Cursor.{Cursor}
 use Rattle.rox_rows.specs.Rows.{AttributeRow, NamespaceWithin, attribute_rows}
 use Rattle.rox_reading.specs.AtIndex.{scope_at}
-use Rattle.rox_scopes.specs.NamespaceViews.{namespace_view}
-use Rattle.rox_scopes.specs.Scopes.{PrefixesOnce}
 use Rattle.rox_names.specs.declared.tables.ElementTables.{ElementTables}
 use Rattle.rox_builder.specs.BuilderState.{Grown, IsConsistent, IsInState, last_row, open_lines, opened_in}
 use Rattle.rox_starts.specs.TagReadiness.{MayReadBelow}
@@ -35,8 +33,7 @@ lists_nothing t os (inside start tag before up) none h =
     absurd (omega (arith, count))
 
 pub not_err : {E P : Type 0} (r : Result (Unit {0}) E) → is_err r ≡ false → OnOk r P → P
-not_err (Ok x) h p = p
-not_err (Err e) h p = cc h
+not_err r h p = grind arith
 
 -- ---- tables that hold the same
 
@@ -53,15 +50,7 @@ alike_grown old now h = record {
 pub alike_state : (limit end : ℕ) (s : State) (c : Cursor) (b u : Builder) → IsConsistent b.tables b.opened.items
     → HoldAlike b.tables u.tables → u.nodes ≡ b.nodes → u.opened ≡ b.opened → u.pending ≡ b.pending → u.joined ≡ b.joined
     → u.nodes_limit ≡ b.nodes_limit → u.openings_left ≡ b.openings_left → IsInState limit end s c b → IsInState limit end s c u
-alike_state limit end s c b u fine held nodes opens pending joined most left h = record {
-  here = h.here;
-  limit_is = most ∙ h.limit_is;
-  shows = grown_shows end s.stack s.done b u h.shows fine.sound fine.elements (alike_grown b.tables u.tables held) nodes
-      (ap (λ o. o.items) opens) pending joined;
-  namespaces = held.names ∙ h.namespaces;
-  attributes = ap length held.rows ∙ h.attributes;
-  openings_left_is = left ∙ h.openings_left_is;
-}
+alike_state limit end s c b u fine held nodes opens pending joined most left h = grind (arith, grown_shows, alike_grown)
 
 abbrev AreWithin : ℕ → List AttributeRow → Type 0
 AreWithin n rows = AllByRecursion (λ a. NamespaceWithin n a.0.namespace) rows
@@ -70,20 +59,9 @@ AreWithin n rows = AllByRecursion (λ a. NamespaceWithin n a.0.namespace) rows
 pub alike_fine : (old now : ElementTables) (os : List OpenElement) → length os ≡ 0 → HoldAlike old now → IsConsistent old os
     → IsConsistent now os
 alike_fine old now os none held fine =
-    let once : PrefixesOnce [] = tt in
-    let before : MayReadBelow old 0 = record {
-      places = fine.sound.listed;
-      few = fine.few_names;
-      few_attributes = fine.few_attributes;
-      scopes = fine.sound.scopes;
-      above = fine.empty.there;
-      once = subst PrefixesOnce (sym fine.empty.none) once;
-      kept = fine.kept;
-    } in
+    let before : MayReadBelow old 0 = grind arith in
     let below = held.below 0 before in
-    let names : length now.namespaces.items.items ≡ length old.namespaces.items.items =
-    sym (length-map now.namespaces.items.items namespace_view) ∙ ap length held.names
-    ∙ length-map old.namespaces.items.items namespace_view in
+    let names : length now.namespaces.items.items ≡ length old.namespaces.items.items = grind (arith, length-map) in
     subst (IsConsistent now) (sym (none_open os none)) (record {
       sound = record {
         attributes = subst (λ (n : ℕ). AreWithin n (attribute_rows now.attributes)) (sym names)

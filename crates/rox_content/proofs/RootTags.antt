@@ -1,7 +1,5 @@
 -- Start tags of root elements that the fast path reads.
-use Rattle.std.proofs.Common.{◌≡◌, ℕ, zero, suc, ◌+◌, ◌<◌, ◌≤◌, false, true, List, [], ◌∷◌, ◌++◌, length, map, get_or, refl, sym, ap, subst, ◌∙◌, arith, Ok, bytes_eq}
-use Rattle.std.specs.Borrow.{Bor}
-use Rattle.std.specs.Option.{option_map}
+use Rattle.std.proofs.Common.{◌≡◌, ℕ, ◌+◌, ◌≤◌, false, true, List, [], ◌∷◌, ◌++◌, length, map, refl, sym, ap, subst, ◌∙◌, arith, Ok, bytes_eq}
 use Rattle.std.specs.Str.{IsCharBoundary}
 use Rattle.std.proofs.lemmas.List.{append-nil}
 use Rattle.rox_grammar.specs.declared.fault.Fault.{Fault}
@@ -10,13 +8,13 @@ use Rattle.rox_grammar.specs.Document.{most_attributes}
 use Rattle.rox_grammar.specs.Failures.{name_view}
 use Rattle.rox_grammar.specs.FixedTexts.{word_text}
 use Rattle.rox_grammar.specs.Written.{NamespaceDecl}
-use Rattle.rox_grammar.specs.Tree.{attribute_in, element_namespace, listable_of, listed}
+use Rattle.rox_grammar.specs.Tree.{listable_of, listed}
 use Rattle.rox_grammar.specs.WellNamed.{may_name}
 use Rattle.rox_reading.specs.Lexical.{qname_at}
 use Rattle.rox_reading.specs.Tags.{Values, attributes_at, names_tested, tag_tested}
 use Rattle.rox_rows.specs.Rows.{attribute_rows, numbered_place}
 use Rattle.rox_reading.specs.AtIndex.{namespace_at, scope_at}
-use Rattle.rox_scopes.specs.ScopeRows.{AreRows, AreScopes, IsRow, lists_of}
+use Rattle.rox_scopes.specs.ScopeRows.{lists_of}
 use Rattle.rox_scopes.specs.NamespaceViews.{namespace_view}
 use Rattle.rox_scopes.specs.Scopes.{ArePlaces, PrefixesOnce, entries}
 use Rattle.rox_names.specs.TagScopes.{lists_in, scope_in_tables}
@@ -27,11 +25,11 @@ use Rattle.rox_names.specs.OpenElements.{IsNamespaceOf}
 use Rattle.rox_names.specs.declared.start_tag.StartTag.{StartTag}
 use Rattle.rox_starts.specs.ElementRow.{IsElementFrom}
 use Rattle.rox_tags.specs.PlainTag.{IsPlainTag}
-use Rattle.rox_tags.specs.TagAttributes.{AreNoBindings, ArePlainAttributes, HasRootScope, first_places, holding}
+use Rattle.rox_tags.specs.TagAttributes.{AreNoBindings, ArePlainAttributes, HasRootScope, holding}
 use Rattle.rox_tags.specs.declared.own_declaration.TagScope.{TagScope}
 use Rattle.rox_starts.proofs.Starting.{tag_made, tested_known, tested_passes}
-use Rattle.rox_tags.proofs.TagAttributes.{has_scope, plain_count, root_scopes, root_within, scope_declares, slice_whole}
-use Rattle.rox_content.specs.RootTag.{HoldAlike, IsBlank}
+use Rattle.rox_tags.proofs.TagAttributes.{has_scope, plain_count, root_scopes, scope_declares, slice_whole}
+use Rattle.rox_content.specs.RootTag.{IsBlank}
 
 -- ---- the scope of a root element
 
@@ -52,23 +50,12 @@ none_of [] h = refl
 none_of (x ∷ xs) h = absurd (omega arith)
 
 pub blank : (t : ElementTables) → length t.namespaces.items.items ≡ 0 → length t.listed.items ≡ 0 → length t.scopes.items ≡ 1 → AreNoBindings t.present → IsBlank t
-blank t n l s p =
-    let names = none_of t.namespaces.items.items n in
-    let listed = none_of t.listed.items l in
-    record {
-      namespaces = names;
-      listed = listed;
-      lists = ap (λ ns. lists_of (map namespace_view ns) t.listed.items t.scopes.items) names ∙ ap (λ ls. lists_of [] ls t.scopes.items) listed ∙ blank_lists t.scopes.items s;
-      scopes = s;
-      present = p;
-    }
+blank t n l s p = grind (arith, none_of, blank_lists)
 
 -- ---- the tag as a whole
 
 root_lists : (t : ElementTables) → HasRootScope t → lists_in t ≡ [] ∷ entries (map namespace_view t.namespaces.items.items) t.listed.items ∷ []
-root_lists t h =
-    let ns = map namespace_view t.namespaces.items.items in
-    ap (λ ss. lists_of ns t.listed.items ss) h.scopes ∙ ap (λ (ps : List ℕ). [] ∷ entries ns ps ∷ []) (slice_whole t.listed.items)
+root_lists t h = grind (arith, slice_whole)
 
 listed_nothing : (own : List NamespaceDecl) → listed [] own ≡ listable_of own
 listed_nothing own = append-nil (listable_of own)
@@ -96,11 +83,7 @@ root_tagged blank old new src i n end t from namespace none same x is other star
     tested_passes (listed [] x.own) (length (attribute_rows blank.attributes)) i name x.written
     (tested_known (listed [] x.own) (length (attribute_rows blank.attributes)) (i + 1) name x.written fits passed (subst (λ ds. may_name ds name ≡ true) lists known)) in
     let read : (context : Values) (cut : Fault) (openings_left : ℕ) → attributes_at (length src) context cut [] src n openings_left (holding [] [])
-    ≡ Ok (record { held = holding x.own x.written; empty = t.empty; openings_left = openings_left }, end) =
-    λ context cut openings_left. subst (λ (ds : List NamespaceDecl). attributes_at (length src) context cut ds src n openings_left (holding [] [])
-    ≡ Ok (record { held = holding x.own x.written; empty = t.empty; openings_left = openings_left }, end)) (ap (map namespace_view) d.known) (x.read context cut openings_left (length src) [] (omega arith) refl) in
-    let space : option_map (λ i. (namespace_at ns i).uri) (numbered_place t.element.namespace) ≡ element_namespace (listed [] x.own) name =
-    subst (λ ds. option_map (λ i. (namespace_at ns i).uri) (numbered_place t.element.namespace) ≡ element_namespace ds name) lists (rw e.namespace named.is) in
+    ≡ Ok (record { held = holding x.own x.written; empty = t.empty; openings_left = openings_left }, end) = grind arith in
     record {
       tag = record { name = name; name_end = n; declarations = x.own; attributes = x.written };
       read = λ context cut openings_left. rw nothing (tag_made context cut [] (length (attribute_rows blank.attributes)) [] src i openings_left name n end (holding x.own x.written) t.empty openings_left is other (read context cut openings_left) fine);
@@ -115,47 +98,10 @@ root_tagged blank old new src i n end t from namespace none same x is other star
         scopes = root_scopes new d.scope;
         kept = d.scope.present ns (lists_in new);
         once = subst (λ (k : ℕ). PrefixesOnce (scope_at (lists_in new) k)) (sym e.scope) (has_scope new d.keys d.has d.scope).once;
-        element = record {
-          attributes = record { more = x.more; grown = x.rows ∙ ap (λ rs. rs ++ x.more) (sym same); same = x.shown ∙ ap (λ ds. map (attribute_in ds) x.written) lists; within = x.within };
-          attributes_from = e.attributes_from ∙ from_is ∙ sym count;
-          attributes_until = e.attributes_until;
-          few = most;
-          local = ap (λ (l : Bor (List ℕ)). l.now) e.local;
-          namespace = space;
-          namespace_within = rw e.namespace named.within;
-          scope_within = rw e.scope (root_within new d.scope);
-          lists = rw e.scope lists;
-        };
+        element = grind arith;
       };
       starts = starts;
       cut = cut;
     }
 
 -- ---- tables that hold the same
-
-pub alike_blank : (old now : ElementTables) → IsBlank old → attribute_rows now.attributes ≡ attribute_rows old.attributes → now.namespaces.items.items ≡ [] → now.listed.items ≡ []
-    → now.scopes.items ≡ first_places 0 ∷ [] → AreNoBindings now.present → HoldAlike old now
-alike_blank old now blank rows names listed scopes present =
-    let none : IsBlank now = record { namespaces = names; listed = listed; lists = ap (λ ns. lists_of (map namespace_view ns) now.listed.items now.scopes.items) names ∙ ap (λ ls. lists_of [] ls now.scopes.items) listed ∙ blank_lists now.scopes.items (ap length scopes); scopes = ap length scopes; present = present } in
-    let lists = none.lists ∙ sym blank.lists in
-    record {
-      rows = rows;
-      names = ap (map namespace_view) (names ∙ sym blank.namespaces);
-      lists = lists;
-      below = λ above h. record {
-        places = subst (ArePlaces (length now.namespaces.items.items)) (sym listed) tt;
-        few = omega (arith, ap length names);
-        few_attributes = subst (λ rs. length rs ≤ most_attributes) (sym rows) h.few_attributes;
-        scopes = subst (AreScopes (length now.listed.items)) (sym scopes) (record { rows = one_row; within = (omega arith, tt) });
-        above = omega (arith, h.above, blank.scopes, ap length scopes);
-        once = subst (λ ls. PrefixesOnce (scope_at ls above)) (sym lists) h.once;
-        kept = present (map namespace_view now.namespaces.items.items) (lists_in now);
-      };
-    }
-  where
-    one_row : AreRows (first_places 0 ∷ [])
-    one_row = record { each = which }
-      where
-        which : (i : ℕ) (s : Scope) → i < length (first_places 0 ∷ []) → s ≡ get_or (first_places 0 ∷ []) i s → IsRow (first_places 0 ∷ []) i s
-        which zero s within is = subst (λ (x : Scope). IsRow (first_places 0 ∷ []) 0 x) (sym is) (omega arith)
-        which (suc i) s within is = absurd (omega arith)

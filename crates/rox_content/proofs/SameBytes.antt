@@ -1,8 +1,8 @@
 -- Two stretches of bytes that begin alike.
-use Rattle.std.proofs.Common.{◌≡◌, ℕ, ◌<◌, ◌^◌, ◌%◌, Bool, false, not, eqb, cond, List, map, length, get_or, sym, ap, subst, ◌∙◌, arith, inl, inr, w8}
+use Rattle.std.proofs.Common.{◌≡◌, ℕ, ◌<◌, ◌^◌, ◌%◌, Bool, false, not, eqb, cond, List, map, length, get_or, sym, ap, subst, ◌∙◌, arith, w8}
 use Rattle.std.specs.List.{prefix_len}
 use Rattle.std.specs.Simd.Lanes.{mask_l, top, zip2}
-use Rattle.std.proofs.lemmas.Bool.{cases_eq, eqb-true, not-false, not-true}
+use Rattle.std.proofs.lemmas.Bool.{eqb-true, not-false, not-true}
 use Rattle.std.proofs.lemmas.List.{map-id}
 use Rattle.std.proofs.lemmas.List.Sums.{prefix_len_passes}
 use Rattle.std.proofs.lemmas.Simd.{length-zip2, get_or-zip2, tops_compared, mask_l-mod, leading_from_mask_l, trailing_mask_l}
@@ -19,17 +19,7 @@ differs a b = cond (not (eqb a b)) 255 0
 before_lowest : (ms : List Bool) (k : ℕ) → length ms ≡ 16 → k < 16 → k < count_trailing_zeros 64 (mask_l ms) → get_or ms k false ≡ false
 before_lowest ms k long few below =
     let e = map-id ms in
-    let passes : k < prefix_len (λ (b : Bool). not b) ms = elim (cases_eq (mask_l ms) 0) [
-      | inl none ↦ (
-          let none' : mask_l (map (λ (b : Bool). b) ms) ≡ 0 = ap mask_l e ∙ none in
-          let all = leading_from_mask_l (λ (b : Bool). b) ms none' in
-          omega arith)
-      | inr some ↦ (
-          let some' : 0 < mask_l (map (λ (b : Bool). b) ms) = rw e (omega arith) in
-          let t = trailing_mask_l (λ (b : Bool). b) 64 ms (omega arith) some' in
-          let t' : count_trailing_zeros 64 (mask_l ms) ≡ prefix_len (λ (b : Bool). not b) ms = rw e at t in
-          omega arith)
-    ] in
+    let passes : k < prefix_len (λ (b : Bool). not b) ms = grind (arith, leading_from_mask_l, trailing_mask_l) in
     not-true _ (prefix_len_passes (λ (b : Bool). not b) ms k false passes)
 
 -- bytes before the first of sixteen that differs

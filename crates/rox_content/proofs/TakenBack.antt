@@ -1,5 +1,5 @@
 -- Attributes of a tag that was given up are taken back.
-use Rattle.std.proofs.Common.{◌≡◌, ℕ, List, [], ◌++◌, length, sym, ap, subst, ◌∙◌}
+use Rattle.std.proofs.Common.{◌≡◌, ℕ, List, [], ◌++◌, length, sym, subst, ◌∙◌, arith}
 use Rattle.std.proofs.lemmas.List.{append-nil}
 use Rattle.std.proofs.Math.Seq.{take-append_seam}
 use Rattle.std.proofs.Common.{take}
@@ -12,10 +12,7 @@ use Rattle.rox_builder.proofs.Growing.{grown_elements, grown_empty}
 
 pub cut_back : (old new after : ElementTables) (more : List AttributeRow) (n : ℕ) → new ≡ record old { attributes = new.attributes } → attribute_rows new.attributes ≡ attribute_rows old.attributes ++ more
     → n ≡ length (attribute_rows old.attributes) → after ≡ record new { attributes = after.attributes } → attribute_rows after.attributes ≡ take n (attribute_rows new.attributes) → HoldSame old after
-cut_back old new after more n grown rows count others cut = record {
-  others = others ∙ ap (λ (t : ElementTables). record t { attributes = after.attributes }) grown;
-  attributes = cut ∙ rw (rows, count) (take-append_seam (attribute_rows old.attributes) more);
-}
+cut_back old new after more n grown rows count others cut = grind (arith, take-append_seam)
 
 -- so it is where only the room for attributes is another
 pub fine_same : (old new : ElementTables) (os : List OpenElement) → HoldSame old new → IsConsistent old os → IsConsistent new os

@@ -10,9 +10,9 @@ use Rattle.rox_grammar.specs.FixedTexts.{word_text, at}
 use Rattle.rox_grammar.specs.Search.{stands}
 use Rattle.rox_grammar.specs.Forest.{Forest, Nil, Cons}
 use Rattle.rox_grammar.specs.Written.{Item}
-use Rattle.rox_grammar.specs.Tree.{Node, Root, resolved, document_tree}
+use Rattle.rox_grammar.specs.Tree.{Root, resolved, document_tree}
 use Rattle.rox_grammar.specs.Names.{byte, slice}
-use Rattle.rox_grammar.specs.Content.{IsElement, empty, nest, start_tag}
+use Rattle.rox_grammar.specs.Content.{IsElement}
 use Rattle.rox_grammar.specs.WellNamed.{AreWellNamed}
 use Rattle.rox_grammar.specs.TextStart.{after_bom, MayHaveXmlDecl, not_declared, bom}
 use Rattle.rox_grammar.specs.Entities.{no_entities}
@@ -32,8 +32,7 @@ use Rattle.rox_exchange.proofs.Context.{join_nil}
 
 -- The first two bytes of an element.
 pub element_begins : (src : List ℕ) (i j b c : ℕ) (one : Forest Item) → IsElement true no_entities src i j b c one → (byte src i ≡ 60) × (byte src (i + 1) ≢ 63)
-element_begins src i j b c one (empty _ _ _ _ _ (start_tag n last name written begin is_name list end)) = let k = name_byte src (i + 1) name n is_name in (begin, k.no_question)
-element_begins src i j b c one (nest _ k m p _ _ d _ _ kids (start_tag n last name written begin is_name list end) inner close) = let k = name_byte src (i + 1) name n is_name in (begin, k.no_question)
+element_begins src i j b c one g = grind (arith, name_byte)
 
 -- No declaration begins with it.
 pub undeclared : (src : List ℕ) (i j b c : ℕ) (one : Forest Item) → IsElement true no_entities src i j b c one → at word.XmlDeclStart src i ≡ false
@@ -63,7 +62,6 @@ alone_utf8 src s e openings_left one utf8 is =
     let first = element_begins src s e 255 openings_left one is in
     let n = length-take e src in
     let same = get_or-take e src s 0 lt in
-    let here = first.0 in
     let start = IsCharBoundary-before_ascii (take e src) s (omega arith) (omega arith) in
     let q : s + (e - s) ≡ e = omega arith in
     let d : drop s (take e src) ≡ slice src s e = ap (λ (k : ℕ). drop s (take k src)) (sym q) ∙ drop-take s (e - s) src in
@@ -75,28 +73,16 @@ pub element_alone : (src : List ℕ) (s e openings_left : ℕ) (one : Forest Ite
 element_alone src s e openings_left one utf8 is =
     let mv : Move = record { add = 0; sub = s } in
     let a = alone_utf8 src s e openings_left one utf8 is in
-    let inside = a.0 in
-    let lt = element_lt src true no_entities s e 255 openings_left one is in
     let z : s + 0 - s ≡ 0 = omega arith in
-    let z' : e + 0 - s ≡ e - s = omega arith in
     let f : Follows mv src s (drop s src) (s + 0 - s) = record { same = ap (λ (k : ℕ). drop k (drop s src)) (sym z); at = omega arith } in
     let there = element_moves mv src (drop s src) s e 255 openings_left one f is in
-    let front : Fronts (drop s src) (slice src s e) (e - s) = record {
-      same = sym (take-take (e - s) (e - s) (drop s src) (omega arith));
-      inside = omega (arith, length-drop s src);
-      utf8 = a.1;
-    } in
+    let front : Fronts (drop s src) (slice src s e) (e - s) = grind (arith, take-take, length-drop) in
     let cut = element_cut (drop s src) (slice src s e) (e - s) front (s + 0 - s) (e + 0 - s) 255 openings_left (moved_items mv one) (omega arith) there in
-    subst (λ (k : ℕ). IsElement true no_entities (slice src s e) k (e - s) 255 openings_left (moved_items mv one)) z
-    (subst (λ (k : ℕ). IsElement true no_entities (slice src s e) (s + 0 - s) k 255 openings_left (moved_items mv one)) z' cut)
+    grind arith
 
 -- How long it is.
 alone_long : (src : List ℕ) (s e openings_left : ℕ) (one : Forest Item) → IsUtf8 src → IsElement true no_entities src s e 255 openings_left one → e - s ≡ length (slice src s e)
-alone_long src s e openings_left one utf8 is =
-    let a = alone_utf8 src s e openings_left one utf8 is in
-    let inside = a.0 in
-    let lt = element_lt src true no_entities s e 255 openings_left one is in
-    omega (arith, length-take (e - s) (drop s src), length-drop s src)
+alone_long src s e openings_left one utf8 is = grind (arith, alone_utf8, length-take, length-drop)
 
 -- A parse of it.
 pub parse_alone : (src : List ℕ) (s e openings_left : ℕ) (one : Forest Item) → IsUtf8 src → IsElement true no_entities src s e 255 openings_left one → AreWellNamed [] one
@@ -123,17 +109,9 @@ parse_alone src s e openings_left one utf8 is named =
 -- Its tree.
 pub shown_alone : (src : List ℕ) (s e openings_left : ℕ) (one : Forest Item) → IsUtf8 src → IsElement true no_entities src s e 255 openings_left one
     → Cons (Root (e - s)) (shifted (record { add = 0; sub = s }) (resolved [] one)) Nil ≡ document_tree (length (slice src s e)) (moved_items (record { add = 0; sub = s }) one)
-shown_alone src s e openings_left one utf8 is =
-    let mv : Move = record { add = 0; sub = s } in
-    ap (λ (k : ℕ). Cons (Root k) (shifted mv (resolved [] one)) Nil) (alone_long src s e openings_left one utf8 is)
-    ∙ ap (λ (f : Forest Node). Cons (Root (length (slice src s e))) f Nil) (sym (moved_resolved mv [] one))
+shown_alone src s e openings_left one utf8 is = grind (arith, alone_long, moved_resolved)
 
 -- A document of it.
 pub reparse_at : (src : List ℕ) (s e openings_left : ℕ) (one : Forest Item) → IsUtf8 src → IsElement true no_entities src s e 255 openings_left one → AreWellNamed [] one
     → HasTree (slice src s e) (Cons (Root (e - s)) (shifted (record { add = 0; sub = s }) (resolved [] one)) Nil)
-reparse_at src s e openings_left one utf8 is named =
-    record {
-      written = moved_items (record { add = 0; sub = s }) one;
-      parse = parse_with (slice src s e) (moved_items (record { add = 0; sub = s }) one) (parse_alone src s e openings_left one utf8 is named);
-      shown = shown_alone src s e openings_left one utf8 is;
-    }
+reparse_at src s e openings_left one utf8 is named = grind (arith, parse_with, parse_alone, shown_alone)

@@ -20,7 +20,6 @@ around_le src i j items (an_item _ k _ item more is rest) = omega (arith, misc_l
 pub around_moves : (m : Move) (src to : List ℕ) (i j : ℕ) (items : Forest Item) → Follows m src i to (moved m i) → Misc src i j items → Misc to (moved m i) (moved m j) (moved_items m items)
 around_moves m src to i j items f (no_misc _) = no_misc (moved m i)
 around_moves m src to i j items f (space _ _ _ white rest) =
-    let at = f.at in
     let e : moved m (i + 1) ≡ moved m i + 1 = omega arith in
     let more = around_moves m src to (i + 1) j items (from m src to i (moved m i) (i + 1) (omega arith) f) rest in
     space (moved m i) (moved m j) (moved_items m items) (ap is_space (sym (byte_moves m src to i (moved m i) f)) ∙ white) (subst (λ (k : ℕ). Misc to k (moved m j) (moved_items m items)) e more)

@@ -1,11 +1,10 @@
 -- An element within an element, and another in its place.
-use Rattle.std.proofs.Common.{◌≡◌, ℕ, ◌+◌, ◌<◌, ◌≤◌, ◌==◌, Bool, true, false, List, [], ◌∷◌, nat_lt, lt-ltb, le-ltb, refl, sym, ap, ◌∙◌, subst, arith, inl, inr}
-use Rattle.std.proofs.lemmas.Bool.{cases_Bool, eq-eqb, ne_eqb}
+use Rattle.std.proofs.Common.{◌≡◌, ℕ, ◌+◌, ◌<◌, ◌≤◌, Bool, true, false, List, lt-ltb, refl, sym, ap, ◌∙◌, subst, arith}
+use Rattle.std.proofs.lemmas.Bool.{eq-eqb, ne_eqb}
 use Rattle.rox_grammar.specs.Forest.{Forest, Nil, Cons, join}
 use Rattle.rox_grammar.specs.Written.{Tag, Item, Element, Text, Comment, PI, glue, merge}
 use Rattle.rox_grammar.specs.Entities.{no_entities}
-use Rattle.rox_grammar.specs.References.{entity_reference}
-use Rattle.rox_grammar.specs.Content.{DataByte, piece, last_part, then_entity, comment, instruction, IsElement, empty, nest, Content, ends, run, cdata, misc, node}
+use Rattle.rox_grammar.specs.Content.{comment, instruction, IsElement, nest, Content, ends, run, cdata, misc, node}
 use Rattle.rox_grammar.specs.RunParts.{Parts}
 use Rattle.rox_grammar.specs.Exchange.{Move, moved}
 use Rattle.rox_exchange.specs.Local.{Follows, Fronts, moved_items}
@@ -42,33 +41,22 @@ up_to_join s (Cons (Text x z v borrowed) children rest) g a b = up_to_join s res
 up_to_join s (Cons (Comment x z v) children rest) g a b = up_to_join s rest g a b
 up_to_join s (Cons (PI x z v o) children rest) g a b = up_to_join s rest g a b
 
-piece_up_to : (s start stop : ℕ) (borrowed : Bool) (ss : List DataByte) → EndUpTo s (piece start stop borrowed ss)
-piece_up_to s start stop borrowed [] = tt
-piece_up_to s start stop borrowed (x ∷ ss) = tt
-
 module _ (src : List ℕ) where
   parts_up_to : (s start stop i b c : ℕ) (items : Forest Item) → Parts true no_entities src start stop i b c items → EndUpTo s items
-  parts_up_to s start stop i b c items (last_part _ _ ss is) = piece_up_to s start stop _ ss
-  parts_up_to s start stop i b c items (then_entity _ p j _ d _ _ ss one more is (entity_reference n reference name) opens rest) = absurd opens
+  parts_up_to s start stop i b c items h = grind arith
 
   -- An element is one item.
   pub one_element : (i j b c : ℕ) (one : Forest Item) → IsElement true no_entities src i j b c one → (t : Tag) × (kids : Forest Item) × (one ≡ Cons (Element i j t) kids Nil)
-  one_element i j b c one (empty _ _ _ _ t is) = (t, Nil, refl)
-  one_element i j b c one (nest _ k n p _ _ d _ t kids is inner end) = (t, merge kids, refl)
+  one_element i j b c one f = grind arith
 
   -- Content holds no element that ends after it.
   pub content_up_to : (s i j b c : ℕ) (items : Forest Item) → j ≤ s → Content true no_entities src i j b c items → EndUpTo s items
   content_up_to s i j b c items fits (ends _ _) = tt
-  content_up_to s i j b c items fits (run _ k _ _ d _ one more is parts rest) =
-      up_to_join s one more (parts_up_to s i k i b d one parts) (content_up_to s k j d c more fits rest)
+  content_up_to s i j b c items fits (run _ k _ _ d _ one more is parts rest) = grind (arith, content_up_to s k j d c more fits rest, up_to_join, parts_up_to)
   content_up_to s i j b c items fits (cdata _ e k _ _ _ more is rest) = content_up_to s k j b c more fits rest
   content_up_to s i j b c items fits (misc _ k _ _ _ _ more (comment _ e _ is) rest) = content_up_to s k j b c more fits rest
   content_up_to s i j b c items fits (misc _ k _ _ _ _ more (instruction _ n e _ is) rest) = content_up_to s k j b c more fits rest
-  content_up_to s i j b c items fits (node _ k _ _ d _ one more is rest) =
-      let o = one_element i k b d one is in
-      let lt = element_lt src true no_entities i k b d one is in
-      let le = content_le src true no_entities k j d c more rest in
-      rw o.2 (lt, omega arith, content_up_to s k j d c more fits rest)
+  content_up_to s i j b c items fits (node _ k _ _ d _ one more is rest) = grind (arith, one_element i k b d one is, element_lt src true no_entities i k b d one is, content_le src true no_entities k j d c more rest, content_up_to s k j d c more fits rest)
 
   -- Content and content after it.
   pub content_join : (i j l b c d : ℕ) (f g : Forest Item) → Content true no_entities src i j b c f → Content true no_entities src j l c d g → Content true no_entities src i l b d (join f g)
@@ -109,10 +97,7 @@ module _ (mv : Move) (one : Forest Item) (s : ℕ) where
   -- What is before it stays.
   pub past_front : (f g : Forest Item) → EndUpTo s f → exchanged_items mv one s (join f g) ≡ join f (exchanged_items mv one s g)
   past_front Nil g up = refl
-  past_front (Cons (Element a z t) children rest) g (lt, le, more) =
-      let here = ne_eqb a s (λ e. omega arith) in
-      let over = le-ltb s z le in
-      rw (here, over) (ap (Cons (Element a z t) children) (past_front rest g more))
+  past_front (Cons (Element a z t) children rest) g (lt, le, more) = grind (arith, past_front rest g more)
   past_front (Cons (Text a z v borrowed) children rest) g up = ap (Cons (Text a z v borrowed) children) (past_front rest g up)
   past_front (Cons (Comment a z v) children rest) g up = ap (Cons (Comment a z v) children) (past_front rest g up)
   past_front (Cons (PI a z v o) children rest) g up = ap (Cons (PI a z v o) children) (past_front rest g up)
@@ -121,31 +106,13 @@ module _ (mv : Move) (s x y : ℕ) (tag : Tag) (below : Forest Item) where
   -- A text in front of it.
   exchanged_glue : (a z : ℕ) (v : List ℕ) (borrowed : Bool) (under f : Forest Item)
       → exchanged_items mv (Cons (Element x y tag) below Nil) s (glue (Text a z v borrowed) under f) ≡ glue (Text a z v borrowed) under (exchanged_items mv (Cons (Element x y tag) below Nil) s f)
-  exchanged_glue a z v borrowed under Nil = refl
-  exchanged_glue a z v borrowed under (Cons (Text b w u p) children rest) = refl
-  exchanged_glue a z v borrowed under (Cons (Element b w t) children rest) =
-      elim (cases_Bool (b == s)) as (λ q. exchanged_items mv (Cons (Element x y tag) below Nil) s (glue (Text a z v borrowed) under (Cons (Element b w t) children rest)) ≡ glue (Text a z v borrowed) under (exchanged_items mv (Cons (Element x y tag) below Nil) s (Cons (Element b w t) children rest))) [
-        | inl is ↦ rw is refl
-        | inr differs ↦ elim (cases_Bool (nat_lt s w)) as (λ q. exchanged_items mv (Cons (Element x y tag) below Nil) s (glue (Text a z v borrowed) under (Cons (Element b w t) children rest)) ≡ glue (Text a z v borrowed) under (exchanged_items mv (Cons (Element x y tag) below Nil) s (Cons (Element b w t) children rest))) [
-          | inl within ↦ rw (differs, within) refl
-          | inr behind ↦ rw (differs, behind) refl
-        ]
-      ]
-  exchanged_glue a z v borrowed under (Cons (Comment b w u) children rest) = refl
-  exchanged_glue a z v borrowed under (Cons (PI b w u o) children rest) = refl
+  exchanged_glue a z v borrowed under f = grind arith
 
   -- Texts that touch.
   pub exchanged_merge : (f : Forest Item) → exchanged_items mv (Cons (Element x y tag) below Nil) s (merge f) ≡ merge (exchanged_items mv (Cons (Element x y tag) below Nil) s f)
   exchanged_merge Nil = refl
   exchanged_merge (Cons (Text a z v borrowed) children rest) = exchanged_glue a z v borrowed children (merge rest) ∙ ap (glue (Text a z v borrowed) children) (exchanged_merge rest)
-  exchanged_merge (Cons (Element a z t) children rest) =
-      elim (cases_Bool (a == s)) as (λ q. exchanged_items mv (Cons (Element x y tag) below Nil) s (merge (Cons (Element a z t) children rest)) ≡ merge (exchanged_items mv (Cons (Element x y tag) below Nil) s (Cons (Element a z t) children rest))) [
-        | inl is ↦ rw is (ap (Cons (Element x y tag) below) (moved_merge mv rest))
-        | inr differs ↦ elim (cases_Bool (nat_lt s z)) as (λ q. exchanged_items mv (Cons (Element x y tag) below Nil) s (merge (Cons (Element a z t) children rest)) ≡ merge (exchanged_items mv (Cons (Element x y tag) below Nil) s (Cons (Element a z t) children rest))) [
-          | inl within ↦ rw (differs, within) (ap (Cons (Element a (moved mv z) t) (exchanged_items mv (Cons (Element x y tag) below Nil) s children)) (moved_merge mv rest))
-          | inr behind ↦ rw (differs, behind) (ap (Cons (Element a z t) children) (exchanged_merge rest))
-        ]
-      ]
+  exchanged_merge (Cons (Element a z t) children rest) = grind (arith, exchanged_merge rest, moved_merge)
   exchanged_merge (Cons (Comment a z v) children rest) = ap (Cons (Comment a z v) children) (exchanged_merge rest)
   exchanged_merge (Cons (PI a z v o) children rest) = ap (Cons (PI a z v o) children) (exchanged_merge rest)
 

@@ -3,6 +3,7 @@ use Rattle.std.proofs.Common.{◌≡◌, ℕ, zero, suc, ◌+◌, ◌-◌, ◌<�
 use Rattle.std.specs.List.{position_or_len, starts_with}
 use Rattle.std.proofs.lemmas.Bool.{cases_Bool}
 use Rattle.std.proofs.lemmas.List.{drop-take, take-take, get_or-take}
+use Rattle.std.proofs.lemmas.Grind.{common_steps}
 use Rattle.rox_grammar.specs.Search.{stands, before_mark, mark_from, byte_from}
 use Rattle.std.specs.Char.{encode_utf8, len_utf8}
 use Rattle.std.specs.Str.{chars, IsUtf8, IsCharBoundary, encode_utf8_all}
@@ -16,8 +17,7 @@ use Rattle.rox_grammar.specs.declared.fault.Word.TheVariants as word
 use Rattle.rox_grammar.specs.Names.{byte, slice}
 use Rattle.rox_grammar.specs.Constructs.{AreChars, IsComment, IsAttValue}
 use Rattle.rox_grammar.specs.FixedTexts.{double_dash}
-use Rattle.rox_grammar.specs.Content.{IsCharacterData, character_data}
-use Rattle.rox_reading.specs.Lexical.{has_mark}
+use Rattle.rox_grammar.specs.Content.{IsCharacterData}
 use Rattle.rox_theory.proofs.Productions.{comment_parts, comment_made, char_data_parts}
 use Rattle.rox_theory.proofs.FirstMarks.{mark_behind, unmarked_run, starts_take}
 use Rattle.rox_theory.proofs.RunLemmas.{run_inside}
@@ -106,15 +106,12 @@ module _ (src to : List ℕ) (m : ℕ) (same : take m src ≡ take m to) where
   -- A slice.
   pub slice_cut : (i j : ℕ) → i ≤ j → j ≤ m → slice src i j ≡ slice to i j
   slice_cut i j le fits =
-      let e : i + (j - i) ≡ j = omega arith in
       let f = front (i + (j - i)) (omega arith) in
       sym (drop-take i (j - i) src) ∙ ap (drop i) f ∙ drop-take i (j - i) to
 
   -- A place within both.
   pub within_cut : (e : ℕ) → e < m → e < length src → e < length to
-  within_cut e lt inside =
-      let n : length (take m src) ≡ length (take m to) = ap length same in
-      omega (arith, length-take m src, length-take m to)
+  within_cut e lt inside = grind (arith, common_steps)
 
   -- ---- constructs
 
@@ -153,13 +150,11 @@ module _ (src to : List ℕ) (m : ℕ) (same : take m src ≡ take m to) where
   -- A run that `<` ends.
   pub run_cut : (i j : ℕ) → j < m → IsCharacterData src i j → IsCharacterData to i j
   run_cut i j fits is =
-      let some = (char_data_parts is).some in
       let inside = (run_inside src i j is).0 in
       let n : length (take m src) ≡ length (take m to) = ap length same in
       let end = byte_from_cut (λ c. c == 60) i j (char_data_parts is).end fits in
       let none = mark_behind (word_text word.CDataEnd) src i j (char_data_parts is).unmarked in
-      character_data some end (chars_cut i j (omega arith) (char_data_parts is).chars)
-      (unmarked_run to i j end (omega (arith, length-take m src, length-take m to)) (ap (has_mark (word_text word.CDataEnd)) (sym (slice_cut i j (omega arith) (omega arith))) ∙ none))
+      grind (arith, chars_cut, unmarked_run, length-take, slice_cut)
 
 -- ---- runs of characters
 

@@ -1,6 +1,5 @@
 -- A declaration is in each source with the same front. It ends in `>`, and no word in it but the last has that byte.
-use Rattle.std.proofs.Common.{◌≡◌, ◌≢◌, ℕ, zero, suc, ◌+◌, ◌-◌, ◌<◌, ◌≤◌, ◌==◌, ◌&&◌, Bool, true, false, List, [], ◌∷◌, take, drop, length, get_or, refl, sym, ap, ◌∙◌, subst, arith, inl, inr, get_or-drop}
-use Rattle.std.proofs.lemmas.Bool.{ne_eqb}
+use Rattle.std.proofs.Common.{◌≡◌, ◌≢◌, ℕ, zero, suc, ◌+◌, ◌-◌, ◌<◌, ◌≤◌, ◌==◌, ◌&&◌, Bool, true, List, [], ◌∷◌, take, drop, length, get_or, refl, sym, ap, ◌∙◌, subst, arith, get_or-drop}
 use Rattle.std.specs.List.{starts_with}
 use Rattle.std.specs.Str.{IsCharBoundary}
 use Rattle.rox_grammar.specs.declared.fault.Word.{Word}
@@ -36,11 +35,7 @@ starts_before c [] some none n k xs ys same below is = refl
 starts_before c (w ∷ ws) some (no_end, none) zero k xs ys same below is = absurd (omega arith)
 starts_before c (w ∷ ws) some (no_end, none) (suc n) k [] ys same below is = (let z : 0 ≡ c = is in absurd (omega arith))
 starts_before c (w ∷ ws) some (no_end, none) (suc n) k (x ∷ xs) [] same below is = cc same
-starts_before c (w ∷ ws) some (no_end, none) (suc n) zero (x ∷ xs) (y ∷ ys) same below is =
-    let both = heads n x y xs ys same in
-    let differs : (w == x) ≡ false = ne_eqb w x (λ e. no_end (e ∙ is)) in
-    let differs' : (w == y) ≡ false = ne_eqb w y (λ e. no_end (e ∙ sym both.0 ∙ is)) in
-    starts_on x w xs ws ∙ ap (λ (b : Bool). b && starts_with ◌==◌ xs ws) differs ∙ sym (ap (λ (b : Bool). b && starts_with ◌==◌ ys ws) differs') ∙ sym (starts_on y w ys ws)
+starts_before c (w ∷ ws) some (no_end, none) (suc n) zero (x ∷ xs) (y ∷ ys) same below is = grind arith
 starts_before c (w ∷ ws) some (no_end, none) (suc n) (suc k) (x ∷ xs) (y ∷ ys) same below is =
     let both = heads n x y xs ys same in
     let more = starts_before c ws some none n k xs ys both.1 (omega arith) is in
@@ -65,20 +60,15 @@ module _ (src to : List ℕ) (m : ℕ) (f : Fronts src to m) where
       (get_or-drop i src (q - i) 0 ∙ ap (byte src) e ∙ is)
 
   pair_lt : (i n v e j : ℕ) (name : Name) → IsPair src i name n v e j → i < j
-  pair_lt i n v e j name (is_name, eq, literal) =
-      let next = literal.0.3 in
-      omega (arith, qname_le src i name n is_name, eq_lt src n v eq, literal_lt src v e j literal)
+  pair_lt i n v e j name (is_name, eq, literal) = omega (arith, qname_le src i name n is_name, eq_lt src n v eq, literal_lt src v e j literal)
 
   may_le : (w : Word) (i j : ℕ) → MayBePair (word_text w) src i j → i ≤ j
-  may_le w i j (is_pair name n v e k here is gap) = omega (arith, pair_lt i n v e k name is, run_end_le is_space src k)
-  may_le w i j (no_pair none) = omega arith
+  may_le w i j d = grind (arith, pair_lt, run_end_le)
 
   -- Where `>` is at q, and white space or the end of the declaration is left before it.
   module _ (q : ℕ) (below : q < m) (is_end : byte src q ≡ 62) (inside : q < length src) where
     gap_cut : (i : ℕ) → i ≤ spaces_end src i → spaces_end src i + 1 ≤ q → spaces_end src i ≡ spaces_end to i → IsFollowed src i → IsFollowed to i
-    gap_cut i on le same (inl some) = inl (omega (arith, same))
-    gap_cut i on le same (inr (inl close)) = inr (inl (sym (stands_cut src to m f.same (word_text word.PIEnd) i (omega arith)) ∙ close))
-    gap_cut i on le same (inr (inr out)) = absurd (omega arith)
+    gap_cut i on le same e = grind (arith, stands_cut)
 
     may_cut : (w : Word) (i j : ℕ) → IsMissing 62 (word_text w) → IsCharBoundary (take m src) i → j + 1 ≤ q → MayBePair (word_text w) src i j → MayBePair (word_text w) to i j × IsCharBoundary (take m src) j
     may_cut w i j lacks cut le (is_pair name n v e k here is gap) =

@@ -33,9 +33,7 @@ module _ (src to : List ℕ) (m : ℕ) (f : Fronts src to m) where
 
   -- A name.
   pub name_cut : (i j : ℕ) → IsCharBoundary (take m src) i → j < m → IsName src i j → IsName to i j × IsCharBoundary (take m src) j
-  name_cut i j cut below is =
-      let r = run_cuts src to m f is_name_char i j cut below is.longest in
-      (record { starts = sym (begins_cut src to m f is_name_start i cut (omega (arith, name_le src i j is))) ∙ is.starts; longest = r.0 }, r.1)
+  name_cut i j cut below is = grind (arith, run_cuts src to m f is_name_char i j cut below is.longest, begins_cut, name_le)
 
   -- A name without colon.
   pub ncname_cut : (i j : ℕ) → IsCharBoundary (take m src) i → j < m → IsNCName src i j → IsNCName to i j × IsCharBoundary (take m src) j
@@ -71,7 +69,6 @@ module _ (src to : List ℕ) (m : ℕ) (f : Fronts src to m) where
   -- Eq.
   pub eq_cut : (i j : ℕ) → IsCharBoundary (take m src) i → j < m → IsEq src i j → IsEq to i j
   eq_cut i j cut below is =
-      let next = is.1 in
       let le = run_end_le is_space src (spaces_end src i + 1) in
       let s = space_cut i (spaces_end src i) cut (omega arith) refl in
       let r = space_cut (spaces_end src i + 1) j (behind src to m f 61 (spaces_end src i) (omega arith) is.0 (omega arith)) below is.1 in
@@ -109,10 +106,7 @@ module _ (src to : List ℕ) (m : ℕ) (f : Fronts src to m) where
 
   -- Its name.
   pub reference_same : (i n j : ℕ) → j ≤ m → IsReference src i n j → slice src (i + 1) n ≡ slice to (i + 1) n
-  reference_same i n j fits is =
-      let next = (reference_parts is).next in
-      let lt = reference_lt src i n j is in
-      slice_cut src to m f.same (i + 1) n (omega arith) (omega arith)
+  reference_same i n j fits is = grind (arith, reference_parts, slice_cut)
 
   -- A reference to a character.
   pub character_cut : (i c j : ℕ) → j ≤ m → IsCharacter src i c j → IsCharacter to i c j
@@ -134,19 +128,7 @@ module _ (src to : List ℕ) (m : ℕ) (f : Fronts src to m) where
         | inr far ↦ (sym (stands_cut src to m f.same (word_text word.XmlDeclStart) i (omega arith)) ∙ before)
         | inl near ↦ elim (cases_Bool (at word.XmlDeclStart to i)) as (λ s. at word.XmlDeclStart to i ≡ false) [
           | inr out ↦ out
-          | inl stands_there ↦ (
-              let two = stands_reads (word_text word.XmlDeclStart) to i 2 stands_there (omega arith) in
-              let three = stands_reads (word_text word.XmlDeclStart) to i 3 stands_there (omega arith) in
-              elim (cases_lt e (i + 3)) as (λ s. at word.XmlDeclStart to i ≡ false) [
-                | inl first ↦ (
-                    let is : e ≡ i + 2 = omega arith in
-                    let no_x : byte to e ≡ 120 = ap (byte to) is ∙ two in
-                    absurd (omega arith))
-                | inr second ↦ (
-                    let is : e ≡ i + 3 = omega arith in
-                    let no_m : byte to e ≡ 109 = ap (byte to) is ∙ three in
-                    absurd (omega arith))
-              ])
+          | inl stands_there ↦ grind (arith, stands_reads (word_text word.XmlDeclStart) to i 2 stands_there (omega arith), stands_reads (word_text word.XmlDeclStart) to i 3 stands_there (omega arith))
         ]
       ]
 
@@ -155,8 +137,6 @@ module _ (src to : List ℕ) (m : ℕ) (f : Fronts src to m) where
   pi_cut i n e j fits is =
       let next = (pi_parts is).next in
       let le = pi_le src i n e j is in
-      let le0 = le.0 in
-      let le1 = le.1 in
       let le2 = run_end_le is_space src n in
       let question = stands_reads (word_text word.PIStart) src i 1 (pi_parts is).opens (omega arith) in
       let close = stands_reads (word_text word.PIEnd) src e 0 (pi_parts is).closes (omega arith) in
@@ -200,10 +180,4 @@ module _ (src to : List ℕ) (m : ℕ) (f : Fronts src to m) where
       let one : i + 1 + 1 ≡ i + 2 = omega arith in
       let t = qname_cut (i + 2) name n (subst (IsCharBoundary (take m src)) one (behind src to m f 47 (i + 1) (omega arith) slash (omega arith))) (omega arith) (end_parts is).is_name in
       let s = space_cut n (spaces_end src n) t.1 (omega arith) refl in
-      let same = s.0 in
-      end_made (record {
-        opens = sym (stands_cut src to m f.same (word_text word.EndTagStart) i (omega arith)) ∙ (end_parts is).opens;
-        is_name = t.0;
-        closes = ap (byte to) (sym same) ∙ has_byte 62 (spaces_end src n) (omega arith) (end_parts is).closes;
-        next = omega arith;
-      })
+      grind (arith, end_made, stands_cut, has_byte)

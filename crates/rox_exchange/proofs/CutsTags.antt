@@ -1,7 +1,8 @@
 -- Character data, values, attributes and tags are in each source with the same front.
 use Rattle.std.proofs.Common.{◌≡◌, ◌≢◌, ℕ, ◌+◌, ◌<◌, ◌≤◌, ◌⊎◌, ◌==◌, Bool, true, false, List, ◌∷◌, take, refl, sym, ap, ◌∙◌, subst, arith, inl, inr}
 use Rattle.std.specs.Str.{IsCharBoundary}
-use Rattle.std.proofs.lemmas.Bool.{eqb-true, cases_lt}
+use Rattle.std.proofs.lemmas.Bool.{eqb-true}
+use Rattle.std.proofs.lemmas.Grind.{common_steps}
 use Rattle.rox_grammar.specs.Chars.{is_space}
 use Rattle.rox_grammar.specs.Written.{Name, Attribute, Tag}
 use Rattle.rox_grammar.specs.Names.{byte, spaces_end}
@@ -42,13 +43,7 @@ module _ (src to : List ℕ) (m : ℕ) (f : Fronts src to m) where
       is_white lt (inr (inl line)) = inr (inl (has_byte src to m f 10 i (omega arith) line))
       is_white lt (inr (inr (cr, inl last))) = inr (inr (has_byte src to m f 13 i (omega arith) cr, inl last))
       is_white lt (inr (inr (cr, inr more))) =
-          inr (inr (
-            has_byte src to m f 13 i (omega arith) cr,
-            elim (cases_lt (i + 1) j) as (λ s. (j ≡ i + 1) ⊎ (byte to (i + 1) ≢ 10)) [
-              | inl inside ↦ inr (has_other src to m f 10 (i + 1) (omega arith) more)
-              | inr past ↦ inl (omega arith)
-            ],
-          ))
+          inr (grind (arith, common_steps))
   value_cut main Includes j i b c v fits (other _ _ _ w lt x₁ x₂ x₃ x₄ x₅ more) =
       let n : (b : ℕ) → byte src i ≢ b → byte to i ≢ b = λ b. has_other src to m f b i (omega arith) in
       subst (λ (x : ℕ). Value main Includes to j i b c (x ∷ w)) (sym (byte_cut src to m f.same i (omega arith)))
@@ -66,7 +61,6 @@ module _ (src to : List ℕ) (m : ℕ) (f : Fronts src to m) where
   behind_literal i e j fits is =
       let next = is.0.3 in
       let end = is.0.1 in
-      let inside = is.0.2 in
       let q = from_here (λ c. c == byte src i) src (i + 1) (omega arith) in
       let same : byte src e ≡ byte src i = eqb-true _ _ (subst (λ (x : ℕ). (byte src x == byte src i) ≡ true) (sym end) q) in
       let small : byte src i < 128 = elim is.0.0 as (λ s. byte src i < 128) [ inl one ↦ omega arith | inr two ↦ omega arith ] in
@@ -75,8 +69,6 @@ module _ (src to : List ℕ) (m : ℕ) (f : Fronts src to m) where
   -- A pair ends in its quote.
   pub pair_cut : (i n v e j : ℕ) (name : Name) → IsCharBoundary (take m src) i → j ≤ m → IsPair src i name n v e j → IsPair to i name n v e j × IsCharBoundary (take m src) j
   pair_cut i n v e j name cut fits (is_name, eq, text) =
-      let next = text.0.3 in
-      let a = qname_le src i name n is_name in
       let b = eq_lt src n v eq in
       let c = literal_lt src v e j text in
       let named = qname_cut src to m f i name n cut (omega arith) is_name in
@@ -86,7 +78,6 @@ module _ (src to : List ℕ) (m : ℕ) (f : Fronts src to m) where
   pub attribute_cut : (main : Bool) (Includes : Inclusion) (i j b c : ℕ) (a : Attribute) → IsCharBoundary (take m src) i → j ≤ m → IsAttribute main Includes src i j b c a
       → IsAttribute main Includes to i j b c a × IsCharBoundary (take m src) j
   attribute_cut main Includes i j b c a cut fits (attribute n v e name value is read) =
-      let next = is.2.0.3 in
       let lt = literal_lt src v e j is.2 in
       let there = pair_cut i n v e j name cut fits is in
       let same = slice_cut src to m f.same (v + 1) e (omega arith) (omega arith) in

@@ -1,5 +1,5 @@
 -- A document with another element in the place of one of its own.
-use Rattle.std.proofs.Common.{◌≡◌, ℕ, zero, suc, ◌+◌, ◌-◌, ◌<◌, ◌≤◌, ◌==◌, Bool, true, false, List, [], ◌∷◌, ◌++◌, length, take, drop, get_or, lt-ltb, refl, sym, ap, ◌∙◌, subst, arith, inl, inr, cond, length-drop, length-append}
+use Rattle.std.proofs.Common.{◌≡◌, ℕ, suc, ◌+◌, ◌-◌, ◌≤◌, Bool, true, false, List, [], ◌∷◌, length, sym, ap, ◌∙◌, subst, arith, inl, inr, cond, length-drop, length-append}
 use Rattle.std.specs.Str.{IsUtf8}
 use Rattle.std.proofs.lemmas.Bool.{cases_Bool, cases_lt}
 use Rattle.rox_grammar.specs.declared.fault.Word.TheVariants as word
@@ -25,13 +25,13 @@ use Rattle.rox_exchange.proofs.Follows.{from}
 use Rattle.rox_exchange.proofs.Cuts.{stands_cut}
 use Rattle.rox_exchange.proofs.CutsDeclaration.{IsMissing, word_cut, declaration_cut}
 use Rattle.rox_exchange.proofs.MovedItems.{moved_named}
-use Rattle.rox_exchange.proofs.Context.{join_nil, EndUpTo, past_front, one_element, element_bounds}
+use Rattle.rox_exchange.proofs.Context.{EndUpTo, past_front, one_element, element_bounds}
 use Rattle.rox_exchange.proofs.Found.{stands_join, in_none, no_misc_item, element_found}
 use Rattle.rox_exchange.proofs.Alone.{element_begins, undeclared}
 use Rattle.rox_exchange.proofs.Around.{around_le, around_moves, around_cut}
 use Rattle.rox_exchange.proofs.Named.{named_exchanged}
 use Rattle.rox_exchange.proofs.Ordered.{Ordered, ordered_join, wider, around_ordered, element_ordered}
-use Rattle.rox_exchange.proofs.Put.{sizes, parts, put, behind, in_front, exchanged_whole}
+use Rattle.rox_exchange.proofs.Put.{sizes, put, behind, in_front, exchanged_whole}
 
 -- ---- in front of the root element
 
@@ -41,14 +41,6 @@ lacks_bom = ((λ e. omega arith), ((λ e. omega arith), ((λ e. omega arith), tt
 -- After its first byte the start of a declaration has no `<`.
 abbrev behind_first : List ℕ
 behind_first = 63 ∷ 120 ∷ 109 ∷ 108 ∷ 32 ∷ []
-
-no_second : (j : ℕ) → get_or behind_first j 0 ≡ 60 → ⊥
-no_second zero e = omega arith
-no_second (suc zero) e = omega arith
-no_second (suc (suc zero)) e = omega arith
-no_second (suc (suc (suc zero))) e = omega arith
-no_second (suc (suc (suc (suc zero)))) e = omega arith
-no_second (suc (suc (suc (suc (suc j))))) e = cc e
 
 module _ (src to : List ℕ) (s : ℕ) (f : Fronts src to (s + 1)) (begins : byte src s ≡ 60) (begins' : byte to s ≡ 60) (none_there : at word.XmlDeclStart to s ≡ false) where
   -- A byte order mark.
@@ -63,13 +55,7 @@ module _ (src to : List ℕ) (s : ℕ) (f : Fronts src to (s + 1)) (begins : byt
         | inr out ↦ out
         | inl here ↦ elim (cases_lt s (i + 6)) as (λ q. at word.XmlDeclStart to i ≡ false) [
           | inr far ↦ sym (stands_cut src to (s + 1) f.same (word_text word.XmlDeclStart) i (omega arith)) ∙ none
-          | inl near ↦ elim (cases_lt i s) as (λ q. at word.XmlDeclStart to i ≡ false) [
-            | inr at_once ↦ (let e : s ≡ i = omega arith in subst (λ (k : ℕ). at word.XmlDeclStart to k ≡ false) e none_there)
-            | inl before ↦ (
-                let e : i + suc (s - i - 1) ≡ s = omega arith in
-                let read = stands_reads (word_text word.XmlDeclStart) to i (suc (s - i - 1)) here (omega arith) in
-                absurd (no_second (s - i - 1) (sym read ∙ ap (byte to) e ∙ begins')))
-          ]
+          | inl near ↦ grind (arith, stands_reads (word_text word.XmlDeclStart) to i (suc (s - i - 1)) here (omega arith))
         ]
       ]
 
@@ -88,14 +74,7 @@ module _ (src : List ℕ) (s e : ℕ) (t : Tag) (kids : Forest Item) where
 
   -- So an element of the document is in the root element.
   pub in_root : (tops : Forest Item) (p : ParseWithout src tops) → StandsInEach s e t kids tops → StandsInEach s e t kids p.one
-  in_root tops p is =
-      elim (stands_join s e t kids p.before (join p.one p.after) (subst (StandsInEach s e t kids) p.is_tree is)) as (λ q. StandsInEach s e t kids p.one) [
-        | inl early ↦ absurd (none_around p.prolog.0 p.start p.before p.prolog.2 early)
-        | inr later ↦ elim (stands_join s e t kids p.one p.after later) as (λ q. StandsInEach s e t kids p.one) [
-          | inl within ↦ within
-          | inr late ↦ absurd (none_around p.end (length src) p.after p.misc_after late)
-        ]
-      ]
+  in_root tops p is = grind (arith, stands_join, none_around)
 
 up_to_around : (src : List ℕ) (s i j : ℕ) (items : Forest Item) → Misc src i j items → EndUpTo s items
 up_to_around src s i j items (no_misc _) = tt
@@ -109,15 +88,6 @@ tops_ordered src tops p =
     let one = ordered_join p.start p.end (length src) p.one p.after (element_ordered src p.start p.end 255 p.openings_left p.one p.element) (around_ordered src p.end (length src) p.after p.misc_after) in
     let all = ordered_join p.prolog.0 p.start (length src) p.before (join p.one p.after) (around_ordered src p.prolog.0 p.start p.before p.prolog.2) one in
     subst (Ordered 0 (length src)) (sym p.is_tree) (wider p.prolog.0 (length src) 0 (length src) (join p.before (join p.one p.after)) (omega arith) (omega arith) all)
-
--- A row that one element begins, with another within it.
-exchanged_front : (mv : Move) (new : Forest Item) (s i j : ℕ) (t : Tag) (kids after : Forest Item) → i ≤ s → s < j
-    → exchanged_items mv new s (join (Cons (Element i j t) kids Nil) after) ≡ join (exchanged_items mv new s (Cons (Element i j t) kids Nil)) (moved_items mv after)
-exchanged_front mv new s i j t kids after le lt =
-    elim (cases_Bool (i == s)) as (λ q. exchanged_items mv new s (join (Cons (Element i j t) kids Nil) after) ≡ join (exchanged_items mv new s (Cons (Element i j t) kids Nil)) (moved_items mv after)) [
-      | inl same ↦ rw (same, join_nil new) refl
-      | inr other ↦ (let over = lt-ltb s j lt in rw (other, over) refl)
-    ]
 
 -- ---- the whole document
 
@@ -133,29 +103,11 @@ module _ (src other : List ℕ) (s e a z : ℕ) (t : Tag) (kids one : Forest Ite
   -- The items of the new text.
   items_are : exchanged_items (record { add = z - a; sub = e - s }) (moved_items (record { add = s; sub = a }) one) s tops
       ≡ join p.before (join (exchanged_items (record { add = z - a; sub = e - s }) (moved_items (record { add = s; sub = a }) one) s p.one) (moved_items (record { add = z - a; sub = e - s }) p.after))
-  items_are =
-      let mv : Move = record { add = z - a; sub = e - s } in
-      let put_in = moved_items (record { add = s; sub = a }) one in
-      let b = element_bounds src s e hole p.start p.end p.one placed.0 in
-      let b0 = b.0 in
-      let b1 = b.1 in
-      let lt = element_lt src true no_entities s e 255 255 hole placed.1 in
-      let o = one_element src p.start p.end 255 p.openings_left p.one p.element in
-      let front = subst (λ (f : Forest Item). exchanged_items mv put_in s (join f p.after) ≡ join (exchanged_items mv put_in s f) (moved_items mv p.after)) (sym o.2)
-      (exchanged_front mv put_in s p.start p.end o.0 o.1 p.after b0 (omega arith)) in
-      ap (exchanged_items mv put_in s) p.is_tree ∙ past_front mv put_in s p.before (join p.one p.after) (up_to_around src s p.prolog.0 p.start p.before p.prolog.2) ∙ ap (join p.before) front
+  items_are = grind (arith, element_bounds, placed, element_lt, one_element, past_front, up_to_around)
 
   -- How long it is.
   pub long_exchanged : moved (record { add = z - a; sub = e - s }) (length src) ≡ length (replaced src s e (slice other a z))
-  long_exchanged =
-      let n = sizes src other s e a z utf8 utf8' hole one placed.1 new in
-      let n0 = n.0 in
-      let n1 = n.1 in
-      let n2 = n.2 in
-      let long = n.6 in
-      let size : length (replaced src s e (slice other a z)) ≡ s + (z - a) + (length src - e) =
-      ap length (parts src other s e a z utf8 utf8' hole one placed.1 new) ∙ omega (arith, length-append (take s src ++ slice other a z) (drop e src), length-drop e src) in
-      omega arith
+  long_exchanged = grind (arith, sizes, placed, length-append, length-drop)
 
   pub parse_exchanged : ParseWithout (replaced src s e (slice other a z)) (exchanged_items (record { add = z - a; sub = e - s }) (moved_items (record { add = s; sub = a }) one) s tops)
   parse_exchanged =
@@ -165,13 +117,7 @@ module _ (src other : List ℕ) (s e a z : ℕ) (t : Tag) (kids one : Forest Ite
       let with_hole = placed.0 in
       let is_hole = placed.1 in
       let b = element_bounds src s e hole p.start p.end p.one with_hole in
-      let b0 = b.0 in
       let b1 = b.1 in
-      let n = sizes src other s e a z utf8 utf8' hole one is_hole new in
-      let n0 = n.0 in
-      let n1 = n.1 in
-      let n2 = n.2 in
-      let long = n.6 in
       let there = put src other s e a z utf8 utf8' hole one is_hole new in
       let front = in_front src other s e a z utf8 utf8' hole one is_hole new in
       let back = behind src other s e a z utf8 utf8' hole one is_hole new in
@@ -179,7 +125,6 @@ module _ (src other : List ℕ) (s e a z : ℕ) (t : Tag) (kids one : Forest Ite
       let second = element_begins text s (moved mv e) 255 255 put_in there in
       let none_there = undeclared text s (moved mv e) 255 255 put_in there in
       let le_root = around_le src p.prolog.0 p.start p.before p.prolog.2 in
-      let le_after = around_le src p.end (length src) p.after p.misc_after in
       let mark = bom_cut src text s front first.0 second.0 none_there in
       record {
         start = p.start;

@@ -6,9 +6,8 @@ use Rattle.std.proofs.lemmas.List.{append_assoc, drop-drop}
 use Rattle.std.proofs.Math.Seq.{drop-append_seam}
 use Rattle.rox_grammar.specs.Forest.{Forest, Nil, Cons, size}
 use Rattle.rox_grammar.specs.Written.{NamespaceDecl, Item, Element, Text, Comment, PI}
-use Rattle.rox_grammar.specs.Tree as tree
 use Rattle.rox_grammar.specs.Tree.{Node, listed, resolved, document_tree}
-use Rattle.rox_grammar.specs.NodeRanges.{is_element_node, start_of, end_of}
+use Rattle.rox_grammar.specs.NodeRanges.{is_element_node}
 use Rattle.rox_grammar.specs.Names.{slice}
 use Rattle.rox_grammar.specs.Exchange.{Move, moved, moved_node, shifted, subtree, exchanged, lists_none, none_of, self_contained, row_start, row_end, start_at, end_at, replaced, HasTree, change, with_other, text_with}
 use Rattle.rox_exchange.specs.ExchangeLaws.{AreSeparate, id_after, StaysContained, GoesBack, Commutes}
@@ -41,25 +40,9 @@ single (Cons node children rest) (suc k) is =
           (s.0, s.1, rw out s.2, s.3))
     ]
 
-moved_start : (m : Move) (node : Node) → is_element_node node ≡ true → start_of (moved_node m node) ≡ moved m (start_of node)
-moved_start m (tree.Root end) is = cc is
-moved_start m (tree.Element start end namespace local listed attributes) is = refl
-moved_start m (tree.Text start end value borrowed) is = cc is
-moved_start m (tree.Comment start end text) is = cc is
-moved_start m (tree.PI start end target value) is = cc is
-
-moved_end : (m : Move) (node : Node) → is_element_node node ≡ true → end_of (moved_node m node) ≡ moved m (end_of node)
-moved_end m (tree.Root end) is = cc is
-moved_end m (tree.Element start end namespace local listed attributes) is = refl
-moved_end m (tree.Text start end value borrowed) is = cc is
-moved_end m (tree.Comment start end text) is = cc is
-moved_end m (tree.PI start end target value) is = cc is
-
 -- Where a self-contained node starts and ends once it has moved.
 row_moved : (m : Move) (f : Forest Node) (k : ℕ) → self_contained f k ≡ true → (row_start (shifted m (subtree f k)) ≡ moved m (start_at f k)) × (row_end (shifted m (subtree f k)) ≡ moved m (end_at f k))
-row_moved m f k is =
-    let s = single f k is in
-    subst (λ (g : Forest Node). (row_start (shifted m g) ≡ moved m (row_start g)) × (row_end (shifted m g) ≡ moved m (row_end g))) (sym s.2) (moved_start m s.0 s.3, moved_end m s.0 s.3)
+row_moved m f k is = grind (arith, single)
 
 -- ---- on trees
 
@@ -125,20 +108,13 @@ module _ (f : Forest Node) (id : ℕ) (other : Forest Node) (at : ℕ) (is : sel
 -- ---- of two self-contained nodes the one after the other starts where the other ends, or later
 
 bounds : (i j : ℕ) (f : Forest Item) (k : ℕ) → Ordered i j f → self_contained (resolved [] f) k ≡ true → (i ≤ start_at (resolved [] f) k) × (end_at (resolved [] f) k ≤ j)
-bounds i j f k order is =
-    let found = find i j f k order is in
-    let w = found.within in
-    subst (λ (g : Forest Node). (i ≤ row_start g) × (row_end g ≤ j)) (sym found.alone) (w.0, w.2)
+bounds i j f k order is = grind (arith, find i j f k order is)
 
 apart_in : (i j : ℕ) (f : Forest Item) (k l : ℕ) → Ordered i j f → self_contained (resolved [] f) k ≡ true → self_contained (resolved [] f) l ≡ true
     → k + size (subtree (resolved [] f) k) ≤ l → end_at (resolved [] f) k ≤ start_at (resolved [] f) l
 apart_in i j Nil k l order is is' le = cc is
 apart_in i j (Cons (Element a z t) children rest) zero zero order is is' le = absurd (omega arith)
-apart_in i j (Cons (Element a z t) children rest) zero (suc l) (below, lt, low, next) is is' le =
-    let n = size (resolved (listed [] t.declarations) children) in
-    let out = le-ltb l n (omega arith) in
-    let there : self_contained (resolved [] rest) (l - n) ≡ true = rw out at is' in
-    rw out (bounds z j rest (l - n) next there).0
+apart_in i j (Cons (Element a z t) children rest) zero (suc l) (below, lt, low, next) is is' le = grind (arith, bounds)
 apart_in i j (Cons (Element a z t) children rest) (suc k) zero order is is' le = absurd (omega arith)
 apart_in i j (Cons (Element a z t) children rest) (suc k) (suc l) (below, lt, low, next) is is' le =
     let scope = listed [] t.declarations in
@@ -158,8 +134,7 @@ apart_in i j (Cons (Element a z t) children rest) (suc k) (suc l) (below, lt, lo
                 let l_is = subst (λ (ds : List NamespaceDecl). self_contained (resolved ds children) l ≡ true) bare parts'.1 in
                 let le' : suc k + size (subtree (resolved scope children) k) ≤ suc l = rw k_in at le in
                 let le_bare = subst (λ (ds : List NamespaceDecl). suc k + size (subtree (resolved ds children) k) ≤ suc l) bare le' in
-                rw (k_in, l_in) (subst (λ (ds : List NamespaceDecl). end_at (resolved ds children) k ≤ start_at (resolved ds children) l) (sym bare)
-                (apart_in (a + 1) z children k l low k_is l_is (omega arith))))
+                rw (k_in, l_in) (grind (arith, apart_in (a + 1) z children k l low k_is l_is (omega arith))))
             | inr l_past ↦ (
                 let l_out = le-ltb l n l_past in
                 let l_is : self_contained (resolved [] rest) (l - n) ≡ true = rw l_out at is' in
@@ -263,19 +238,13 @@ two_places t one two s e s' e' n le mid le' inside long =
     let ly : length y ≡ e - s = range_length t s e le (omega arith) in
     let lm : length m ≡ s' - e = range_length t e s' mid (omega arith) in
     let ly' : length y' ≡ e' - s' = range_length t s' e' le' inside in
-    let whole_t : t ≡ x ++ (y ++ (m ++ (y' ++ v))) =
-    sym (ap (λ (l : List ℕ). x ++ (y ++ (m ++ l))) (rejoin t s' e' le') ∙ ap (λ (l : List ℕ). x ++ (y ++ l)) (rejoin t e s' mid) ∙ ap (λ (l : List ℕ). x ++ l) (rejoin t s e le) ∙ take-append-drop s t) in
-    let left : replaced t s e one ≡ (x ++ (one ++ m)) ++ (y' ++ v) =
-    ap (λ (l : List ℕ). replaced l s e one) whole_t ∙ replace_mid x y (m ++ (y' ++ v)) one s e (sym lx) (omega arith) ∙ sym (assoc_three x one m (y' ++ v)) in
+    let whole_t : t ≡ x ++ (y ++ (m ++ (y' ++ v))) = grind (arith, rejoin, take-append-drop) in
     let n1 : length (x ++ (one ++ m)) ≡ s' + n - (e - s) = omega (arith, length-append x (one ++ m), length-append one m) in
     let right : replaced t s' e' two ≡ x ++ (y ++ (m ++ (two ++ v))) =
     ap (λ (l : List ℕ). replaced l s' e' two) (whole_t ∙ sym (assoc_three x y m (y' ++ v)))
     ∙ replace_mid (x ++ (y ++ m)) y' v two s' e' (omega (arith, length-append x (y ++ m), length-append y m)) (omega (arith, length-append x (y ++ m), length-append y m))
     ∙ assoc_three x y m (two ++ v) in
-    ap (λ (l : List ℕ). replaced l (s' + n - (e - s)) (e' + n - (e - s)) two) left
-    ∙ replace_mid (x ++ (one ++ m)) y' v two (s' + n - (e - s)) (e' + n - (e - s)) (sym n1) (omega arith)
-    ∙ assoc_three x one m (two ++ v)
-    ∙ sym (ap (λ (l : List ℕ). replaced l s e one) right ∙ replace_mid x y (m ++ (two ++ v)) one s e (sym lx) (omega arith))
+    grind (arith, replace_mid, assoc_three)
 
 -- ---- on documents
 
@@ -296,9 +265,7 @@ module _ (text : List ℕ) (f : Forest Node) (id : ℕ) (other_text : List ℕ) 
 
   -- Where what was put in is.
   starts_there : start_at (with_other f id other at) id ≡ start_at f id
-  starts_there =
-      let r = (row_moved (record { add = start_at f id; sub = start_at other at }) other at is').0 in
-      ap row_start (put_in_there f id other at is is') ∙ r ∙ omega arith
+  starts_there = grind (arith, row_moved, put_in_there)
 
   ends_there : end_at (with_other f id other at) id ≡ start_at f id + (end_at other at - start_at other at)
   ends_there =
@@ -307,20 +274,7 @@ module _ (text : List ℕ) (f : Forest Node) (id : ℕ) (other_text : List ℕ) 
       ap row_end (put_in_there f id other at is is') ∙ r ∙ omega arith
 
   text_back : text_with (with_other f id other at) (text_with f text id other other_text at) id f text id ≡ text
-  text_back =
-      let cut = cut_is text f id utf8 w in
-      let cut' = cut_is other_text other at utf8' w' in
-      let s = start_at f id in
-      let e = end_at f id in
-      let inside : s ≤ length text = cut.1.0 in
-      let inside' : end_at other at ≤ length other_text = cut'.2.0 in
-      let lt : s < e = cut.0 in
-      let lt' : start_at other at < end_at other at = cut'.0 in
-      let new = slice other_text (start_at other at) (end_at other at) in
-      let lx : length (take s text) ≡ s = omega (arith, length-take s text) in
-      let ln : length new ≡ end_at other at - start_at other at = range_length other_text (start_at other at) (end_at other at) (omega arith) inside' in
-      replace_mid (take s text) new (drop e text) (slice text s e) (start_at (with_other f id other at) id) (end_at (with_other f id other at) id) (starts_there ∙ sym lx) (ends_there ∙ omega arith)
-      ∙ ap (λ (l : List ℕ). take s text ++ l) (rejoin text s e (omega arith)) ∙ take-append-drop s text
+  text_back = grind (arith, cut_is text f id utf8 w, cut_is other_text other at utf8' w', length-take, range_length, replace_mid, starts_there, ends_there, rejoin, take-append-drop)
 
   pub goes_back : GoesBack f text id other other_text at
   goes_back = record {
@@ -365,25 +319,14 @@ module _ (text : List ℕ) (f : Forest Node) (i : ℕ) (one_text : List ℕ) (on
       let cut_i = cut_is text f i utf8 (whole text f i h is_i) in
       let cut_j = cut_is text f j utf8 (whole text f j h is_j) in
       let cut_a = cut_is one_text one a utf8_one (whole one_text one a h_one is_a) in
-      let s = start_at f i in
-      let e = end_at f i in
       let s' = start_at f j in
       let e' = end_at f j in
-      let lt : s < e = cut_i.0 in
-      let lt' : s' < e' = cut_j.0 in
-      let lt_a : start_at one a < end_at one a = cut_a.0 in
-      let inside : e' ≤ length text = cut_j.2.0 in
-      let inside_a : end_at one a ≤ length one_text = cut_a.2.0 in
       let m : Move = change f i one a in
-      let put_one = slice one_text (start_at one a) (end_at one a) in
       let put_two = slice two_text (start_at two b) (end_at two b) in
       let r = row_moved m f j is_j in
       let starts : start_at (with_other f i one a) (id_after f i one a j) ≡ moved m s' = ap row_start j_there ∙ r.0 in
       let stops : end_at (with_other f i one a) (id_after f i one a j) ≡ moved m e' = ap row_end j_there ∙ r.1 in
-      ap (λ (k : ℕ). replaced (replaced text s e put_one) k (end_at (with_other f i one a) (id_after f i one a j)) put_two) starts
-      ∙ ap (λ (k : ℕ). replaced (replaced text s e put_one) (moved m s') k put_two) stops
-      ∙ two_places text put_one put_two s e s' e' (end_at one a - start_at one a) (omega arith) in_order (omega arith) inside (range_length one_text (start_at one a) (end_at one a) (omega arith) inside_a)
-      ∙ sym (ap (λ (g : Forest Node). replaced (replaced text s' e' put_two) (row_start g) (row_end g) put_one) i_there)
+      grind (arith, two_places, in_order, range_length, i_there)
 
   pub commutes_behind : Commutes f text i one one_text a j two two_text b
   commutes_behind = record {
@@ -410,6 +353,4 @@ pub commutes : (text : List ℕ) (f : Forest Node) (i : ℕ) (one_text : List �
     → self_contained f i ≡ true → self_contained f j ≡ true → self_contained one a ≡ true → self_contained two b ≡ true → AreSeparate f i j → Commutes f text i one one_text a j two two_text b
 commutes text f i one_text one a j two_text two b utf8 u_one u_two h h_one h_two is_i is_j is_a is_b (inl behind) =
     commutes_behind text f i one_text one a j two_text two b utf8 u_one u_two h h_one h_two is_i is_j is_a is_b behind
-commutes text f i one_text one a j two_text two b utf8 u_one u_two h h_one h_two is_i is_j is_a is_b (inr behind) =
-    let c = commutes_behind text f j two_text two b i one_text one a utf8 u_two u_one h h_two h_one is_j is_i is_b is_a behind in
-    record { text_is = sym c.text_is; tree_is = sym c.tree_is }
+commutes text f i one_text one a j two_text two b utf8 u_one u_two h h_one h_two is_i is_j is_a is_b (inr behind) = grind (arith, commutes_behind text f j two_text two b i one_text one a utf8 u_two u_one h h_two h_one is_j is_i is_b is_a behind)

@@ -1,8 +1,9 @@
 -- Where nodes stand once a node has been exchanged for an element, and what is said of them: on trees alone.
-use Rattle.std.proofs.Common.{◌≡◌, ℕ, zero, suc, ◌+◌, ◌-◌, ◌<◌, ◌≤◌, ◌&&◌, Bool, true, lt-ltb, le-ltb, refl, ap, ◌∙◌, arith, inl, inr}
+use Rattle.std.proofs.Common.{◌≡◌, ℕ, zero, suc, ◌+◌, ◌-◌, ◌<◌, ◌≤◌, ◌&&◌, true, lt-ltb, le-ltb, refl, arith, inl, inr}
 use Rattle.std.proofs.lemmas.Bool.{cases_lt, and_parts}
+use Rattle.std.proofs.lemmas.Bool.Decides.{nat_tests}
 use Rattle.rox_grammar.specs.Forest.{Forest, Nil, Cons, size}
-use Rattle.rox_grammar.specs.Tree.{Node, Root, Element, Text, Comment, PI}
+use Rattle.rox_grammar.specs.Tree.{Node}
 use Rattle.rox_grammar.specs.NodeRanges.{is_element_node}
 use Rattle.rox_grammar.specs.Exchange.{Move, moved_node, shifted, stretched, subtree, exchanged, lists_none, self_contained}
 
@@ -11,49 +12,25 @@ shifted_size m Nil = refl
 shifted_size m (Cons node children rest) = omega (arith, shifted_size m children, shifted_size m rest)
 
 moved_lists : (m : Move) (node : Node) → lists_none (moved_node m node) ≡ lists_none node
-moved_lists m (Root end) = refl
-moved_lists m (Element start end namespace local listed attributes) = refl
-moved_lists m (Text start end value borrowed) = refl
-moved_lists m (Comment start end text) = refl
-moved_lists m (PI start end target value) = refl
+moved_lists m b = grind (arith, nat_tests)
 
 pub moved_element : (m : Move) (node : Node) → is_element_node (moved_node m node) ≡ is_element_node node
-moved_element m (Root end) = refl
-moved_element m (Element start end namespace local listed attributes) = refl
-moved_element m (Text start end value borrowed) = refl
-moved_element m (Comment start end text) = refl
-moved_element m (PI start end target value) = refl
+moved_element m b = grind (arith, nat_tests)
 
 stretched_lists : (m : Move) (node : Node) → lists_none (stretched m node) ≡ lists_none node
-stretched_lists m (Root end) = refl
-stretched_lists m (Element start end namespace local listed attributes) = refl
-stretched_lists m (Text start end value borrowed) = refl
-stretched_lists m (Comment start end text) = refl
-stretched_lists m (PI start end target value) = refl
-
-stretched_element : (m : Move) (node : Node) → is_element_node (stretched m node) ≡ is_element_node node
-stretched_element m (Root end) = refl
-stretched_element m (Element start end namespace local listed attributes) = refl
-stretched_element m (Text start end value borrowed) = refl
-stretched_element m (Comment start end text) = refl
-stretched_element m (PI start end target value) = refl
+stretched_lists m b = grind (arith, nat_tests)
 
 -- What moves stays self-contained.
 shifted_contained : (m : Move) (f : Forest Node) (k : ℕ) → self_contained (shifted m f) k ≡ self_contained f k
 shifted_contained m Nil k = refl
 shifted_contained m (Cons node children rest) zero = moved_element m node
-shifted_contained m (Cons node children rest) (suc k) =
-    rw (shifted_size m children, moved_lists m node, shifted_contained m children k, shifted_contained m rest (k - size children)) refl
+shifted_contained m (Cons node children rest) (suc k) = grind (arith, nat_tests, shifted_contained m children k, shifted_contained m rest (k - size children), shifted_size, moved_lists)
 
 -- And is what it was, moved.
 shifted_subtree : (m : Move) (f : Forest Node) (k : ℕ) → subtree (shifted m f) k ≡ shifted m (subtree f k)
 shifted_subtree m Nil k = refl
 shifted_subtree m (Cons node children rest) zero = refl
-shifted_subtree m (Cons node children rest) (suc k) =
-    elim (cases_lt k (size children)) as (λ q. subtree (shifted m (Cons node children rest)) (suc k) ≡ shifted m (subtree (Cons node children rest) (suc k))) [
-      | inl lt ↦ (let in' = lt-ltb k (size children) lt in rw (shifted_size m children, in') (shifted_subtree m children k))
-      | inr le ↦ (let out = le-ltb k (size children) le in rw (shifted_size m children, out) (shifted_subtree m rest (k - size children)))
-    ]
+shifted_subtree m (Cons node children rest) (suc k) = grind (arith, nat_tests, cases_lt k (size children), shifted_subtree m children k, shifted_subtree m rest (k - size children), lt-ltb, shifted_size, le-ltb)
 
 -- A node is there.
 pub subtree_some : (f : Forest Node) (k : ℕ) → k < size f → 0 < size (subtree f k)
@@ -99,22 +76,13 @@ module _ (m : Move) (new : Node) (below : Forest Node) where
   exchanged_size (Cons node children rest) zero lt = omega (arith, shifted_size m rest)
   exchanged_size (Cons node children rest) (suc id) lt =
       elim (cases_lt id (size children)) as (λ q. size (exchanged m one (Cons node children rest) (suc id)) + size (subtree (Cons node children rest) (suc id)) ≡ size (Cons node children rest) + size one) [
-        | inl under ↦ (
-            let in' = lt-ltb id (size children) under in
-            let n = exchanged_size children id under in
-            rw in' (omega (arith, shifted_size m rest)))
-        | inr past ↦ (
-            let out = le-ltb id (size children) past in
-            let n = exchanged_size rest (id - size children) (omega arith) in
-            rw out (omega arith))
+        | inl under ↦ grind (arith, nat_tests, exchanged_size children id under, lt-ltb, shifted_size)
+        | inr past ↦ grind (arith, nat_tests, le-ltb id (size children) past, exchanged_size rest (id - size children) (omega arith), exchanged_size rest (id - size children) (omega arith))
       ]
 
   -- The node itself is there still.
   stays_under : (f : Forest Node) (id k : ℕ) → id < size f → k ≤ id → k < size (exchanged m one f id)
-  stays_under f id k lt le =
-      let n = exchanged_size f id lt in
-      let e = subtree_ends f id lt in
-      omega arith
+  stays_under f id k lt le = grind (arith, nat_tests, exchanged_size, subtree_ends)
 
   -- What was put in.
   pub itself_contained : (f : Forest Node) (id : ℕ) → self_contained f id ≡ true → self_contained (exchanged m one f id) id ≡ is_element_node new
@@ -139,10 +107,7 @@ module _ (m : Move) (new : Node) (below : Forest Node) where
   itself_there (Cons node children rest) zero lt = refl
   itself_there (Cons node children rest) (suc id) lt =
       elim (cases_lt id (size children)) as (λ q. subtree (exchanged m one (Cons node children rest) (suc id)) (suc id) ≡ one) [
-        | inl under ↦ (
-            let in' = lt-ltb id (size children) under in
-            let in_new = lt-ltb id (size (exchanged m one children id)) (stays_under children id id under (omega arith)) in
-            rw (in', in_new) (itself_there children id under))
+        | inl under ↦ grind (arith, nat_tests, lt-ltb id (size children) under, lt-ltb id (size (exchanged m one children id)) (stays_under children id id under (omega arith)), itself_there children id under)
         | inr past ↦ (let out = le-ltb id (size children) past in rw out (rw out (itself_there rest (id - size children) (omega arith))))
       ]
 
@@ -150,27 +115,13 @@ module _ (m : Move) (new : Node) (below : Forest Node) where
   pub before_contained : (f : Forest Node) (id k : ℕ) → id < size f → k < id → self_contained (exchanged m one f id) k ≡ self_contained f k
   before_contained Nil id k lt before = absurd (omega arith)
   before_contained (Cons node children rest) zero k lt before = absurd (omega arith)
-  before_contained (Cons node children rest) (suc id) zero lt before =
-      elim (cases_lt id (size children)) as (λ q. self_contained (exchanged m one (Cons node children rest) (suc id)) 0 ≡ is_element_node node) [
-        | inl under ↦ (let in' = lt-ltb id (size children) under in rw in' (stretched_element m node))
-        | inr past ↦ (let out = le-ltb id (size children) past in rw out refl)
-      ]
+  before_contained (Cons node children rest) (suc id) zero lt before = grind (arith, nat_tests)
   before_contained (Cons node children rest) (suc id) (suc k) lt before =
       elim (cases_lt id (size children)) as (λ q. self_contained (exchanged m one (Cons node children rest) (suc id)) (suc k) ≡ self_contained (Cons node children rest) (suc k)) [
-        | inl under ↦ (
-            let in' = lt-ltb id (size children) under in
-            let k_in = lt-ltb k (size children) (omega arith) in
-            let in_new = lt-ltb k (size (exchanged m one children id)) (stays_under children id k under (omega arith)) in
-            rw (in', in_new, k_in, stretched_lists m node) (ap (λ (b : Bool). lists_none node && b) (before_contained children id k under (omega arith))))
+        | inl under ↦ grind (arith, nat_tests, lt-ltb id (size children) under, lt-ltb k (size children) (omega arith), lt-ltb k (size (exchanged m one children id)) (stays_under children id k under (omega arith)), before_contained children id k under (omega arith))
         | inr past ↦ elim (cases_lt k (size children)) as (λ q. self_contained (exchanged m one (Cons node children rest) (suc id)) (suc k) ≡ self_contained (Cons node children rest) (suc k)) [
-          | inl k_under ↦ (
-              let out = le-ltb id (size children) past in
-              let k_in = lt-ltb k (size children) k_under in
-              rw out (rw k_in refl))
-          | inr k_past ↦ (
-              let out = le-ltb id (size children) past in
-              let k_out = le-ltb k (size children) k_past in
-              rw out (rw k_out (before_contained rest (id - size children) (k - size children) (omega arith) (omega arith))))
+          | inl k_under ↦ grind (arith, nat_tests)
+          | inr k_past ↦ grind (arith, nat_tests, le-ltb id (size children) past, le-ltb k (size children) k_past, before_contained rest (id - size children) (k - size children) (omega arith) (omega arith))
         ]
       ]
 
@@ -178,9 +129,7 @@ module _ (m : Move) (new : Node) (below : Forest Node) where
   pub before_there : (f : Forest Node) (id k : ℕ) → id < size f → k + size (subtree f k) ≤ id → k < id → subtree (exchanged m one f id) k ≡ subtree f k
   before_there Nil id k lt before less = absurd (omega arith)
   before_there (Cons node children rest) zero k lt before less = absurd (omega arith)
-  before_there (Cons node children rest) (suc id) zero lt before less =
-      let out = le-ltb id (size children) (omega arith) in
-      rw out refl
+  before_there (Cons node children rest) (suc id) zero lt before less = grind (arith, nat_tests)
   before_there (Cons node children rest) (suc id) (suc k) lt before less =
       elim (cases_lt id (size children)) as (λ q. subtree (exchanged m one (Cons node children rest) (suc id)) (suc k) ≡ subtree (Cons node children rest) (suc k)) [
         | inl under ↦ (
@@ -190,10 +139,7 @@ module _ (m : Move) (new : Node) (below : Forest Node) where
             let in_new = lt-ltb k (size (exchanged m one children id)) (stays_under children id k under (omega arith)) in
             rw (in', in_new, k_in) (before_there children id k under (omega arith) (omega arith)))
         | inr past ↦ elim (cases_lt k (size children)) as (λ q. subtree (exchanged m one (Cons node children rest) (suc id)) (suc k) ≡ subtree (Cons node children rest) (suc k)) [
-          | inl k_under ↦ (
-              let out = le-ltb id (size children) past in
-              let k_in = lt-ltb k (size children) k_under in
-              rw out (rw k_in refl))
+          | inl k_under ↦ grind (arith, nat_tests)
           | inr k_past ↦ (
               let out = le-ltb id (size children) past in
               let k_out = le-ltb k (size children) k_past in
@@ -209,13 +155,7 @@ module _ (m : Move) (new : Node) (below : Forest Node) where
   pub behind_contained : (f : Forest Node) (id k : ℕ) → id < size f → id + size (subtree f id) ≤ k → self_contained (exchanged m one f id) (later f id k) ≡ self_contained f k
   behind_contained Nil id k lt behind = absurd (omega arith)
   behind_contained (Cons node children rest) zero zero lt behind = absurd (omega arith)
-  behind_contained (Cons node children rest) zero (suc k) lt behind =
-      let out = le-ltb k (size children) (omega arith) in
-      let r = k - size children in
-      let e : later (Cons node children rest) 0 (suc k) ≡ suc (size below + r) = omega arith in
-      let past = le-ltb (size below + r) (size below) (omega arith) in
-      let e' : size below + r - size below ≡ r = omega arith in
-      ap (self_contained (Cons new below (shifted m rest))) e ∙ rw (past, e', out) (shifted_contained m rest r)
+  behind_contained (Cons node children rest) zero (suc k) lt behind = grind (arith, nat_tests, le-ltb, shifted_contained)
   behind_contained (Cons node children rest) (suc id) zero lt behind = absurd (omega arith)
   behind_contained (Cons node children rest) (suc id) (suc k) lt behind =
       elim (cases_lt id (size children)) as (λ q. self_contained (exchanged m one (Cons node children rest) (suc id)) (later (Cons node children rest) (suc id) (suc k)) ≡ self_contained (Cons node children rest) (suc k)) [
@@ -223,26 +163,14 @@ module _ (m : Move) (new : Node) (below : Forest Node) where
             let in' = lt-ltb id (size children) under in
             let behind' : suc id + size (subtree children id) ≤ suc k = rw in' at behind in
             let n = exchanged_size children id under in
-            let ends = subtree_ends children id under in
-            let some = subtree_some children id under in
-            let e : suc k + size one - size (subtree children id) ≡ suc (later children id k) = omega arith in
             elim (cases_lt k (size children)) as (λ q. self_contained (exchanged m one (Cons node children rest) (suc id)) (later (Cons node children rest) (suc id) (suc k)) ≡ self_contained (Cons node children rest) (suc k)) [
-              | inl k_under ↦ (
-                  let k_in = lt-ltb k (size children) k_under in
-                  let in_new = lt-ltb (later children id k) (size (exchanged m one children id)) (omega arith) in
-                  rw (in', e, in_new, k_in, stretched_lists m node) (ap (λ (b : Bool). lists_none node && b) (behind_contained children id k under (omega arith))))
-              | inr k_past ↦ (
-                  let k_out = le-ltb k (size children) k_past in
-                  let out_new = le-ltb (later children id k) (size (exchanged m one children id)) (omega arith) in
-                  let r : later children id k - size (exchanged m one children id) ≡ k - size children = omega arith in
-                  rw (in', e, out_new, k_out, r) (shifted_contained m rest (k - size children)))
+              | inl k_under ↦ grind (arith, nat_tests, lt-ltb k (size children) k_under, lt-ltb (later children id k) (size (exchanged m one children id)) (omega arith), behind_contained children id k under (omega arith))
+              | inr k_past ↦ grind (arith, nat_tests, le-ltb, shifted_contained)
             ])
         | inr past ↦ (
             let out = le-ltb id (size children) past in
             let behind' : suc id + size (subtree rest (id - size children)) ≤ suc k = rw out at behind in
             let k_out = le-ltb k (size children) (omega arith) in
-            let ends = subtree_ends rest (id - size children) (omega arith) in
-            let some = subtree_some rest (id - size children) (omega arith) in
             let e : suc k + size one - size (subtree rest (id - size children)) ≡ suc (size children + later rest (id - size children) (k - size children)) = omega arith in
             let new_out = le-ltb (size children + later rest (id - size children) (k - size children)) (size children) (omega arith) in
             let e' : size children + later rest (id - size children) (k - size children) - size children ≡ later rest (id - size children) (k - size children) = omega arith in
@@ -252,13 +180,7 @@ module _ (m : Move) (new : Node) (below : Forest Node) where
   pub behind_there : (f : Forest Node) (id k : ℕ) → id < size f → id + size (subtree f id) ≤ k → subtree (exchanged m one f id) (later f id k) ≡ shifted m (subtree f k)
   behind_there Nil id k lt behind = absurd (omega arith)
   behind_there (Cons node children rest) zero zero lt behind = absurd (omega arith)
-  behind_there (Cons node children rest) zero (suc k) lt behind =
-      let out = le-ltb k (size children) (omega arith) in
-      let r = k - size children in
-      let e : later (Cons node children rest) 0 (suc k) ≡ suc (size below + r) = omega arith in
-      let past = le-ltb (size below + r) (size below) (omega arith) in
-      let e' : size below + r - size below ≡ r = omega arith in
-      ap (subtree (Cons new below (shifted m rest))) e ∙ rw (past, e', out) (shifted_subtree m rest r)
+  behind_there (Cons node children rest) zero (suc k) lt behind = grind (arith, nat_tests, le-ltb, shifted_subtree)
   behind_there (Cons node children rest) (suc id) zero lt behind = absurd (omega arith)
   behind_there (Cons node children rest) (suc id) (suc k) lt behind =
       elim (cases_lt id (size children)) as (λ q. subtree (exchanged m one (Cons node children rest) (suc id)) (later (Cons node children rest) (suc id) (suc k)) ≡ shifted m (subtree (Cons node children rest) (suc k))) [
@@ -266,26 +188,14 @@ module _ (m : Move) (new : Node) (below : Forest Node) where
             let in' = lt-ltb id (size children) under in
             let behind' : suc id + size (subtree children id) ≤ suc k = rw in' at behind in
             let n = exchanged_size children id under in
-            let ends = subtree_ends children id under in
-            let some = subtree_some children id under in
-            let e : suc k + size one - size (subtree children id) ≡ suc (later children id k) = omega arith in
             elim (cases_lt k (size children)) as (λ q. subtree (exchanged m one (Cons node children rest) (suc id)) (later (Cons node children rest) (suc id) (suc k)) ≡ shifted m (subtree (Cons node children rest) (suc k))) [
-              | inl k_under ↦ (
-                  let k_in = lt-ltb k (size children) k_under in
-                  let in_new = lt-ltb (later children id k) (size (exchanged m one children id)) (omega arith) in
-                  rw (in', e, in_new, k_in) (behind_there children id k under (omega arith)))
-              | inr k_past ↦ (
-                  let k_out = le-ltb k (size children) k_past in
-                  let out_new = le-ltb (later children id k) (size (exchanged m one children id)) (omega arith) in
-                  let r : later children id k - size (exchanged m one children id) ≡ k - size children = omega arith in
-                  rw (in', e, out_new, k_out, r) (shifted_subtree m rest (k - size children)))
+              | inl k_under ↦ grind (arith, nat_tests, lt-ltb k (size children) k_under, lt-ltb (later children id k) (size (exchanged m one children id)) (omega arith), behind_there children id k under (omega arith))
+              | inr k_past ↦ grind (arith, nat_tests, le-ltb, shifted_subtree)
             ])
         | inr past ↦ (
             let out = le-ltb id (size children) past in
             let behind' : suc id + size (subtree rest (id - size children)) ≤ suc k = rw out at behind in
             let k_out = le-ltb k (size children) (omega arith) in
-            let ends = subtree_ends rest (id - size children) (omega arith) in
-            let some = subtree_some rest (id - size children) (omega arith) in
             let e : suc k + size one - size (subtree rest (id - size children)) ≡ suc (size children + later rest (id - size children) (k - size children)) = omega arith in
             let new_out = le-ltb (size children + later rest (id - size children) (k - size children)) (size children) (omega arith) in
             let e' : size children + later rest (id - size children) (k - size children) - size children ≡ later rest (id - size children) (k - size children) = omega arith in

@@ -1,8 +1,9 @@
 -- What is at a place of a source stands wherever the same bytes follow: bytes, runs, marks, slices.
-use Rattle.std.proofs.Common.{◌≡◌, ℕ, ◌+◌, ◌-◌, ◌≤◌, ◌==◌, Bool, List, length, take, drop, get_or, sym, ap, ◌∙◌, subst, arith, length-drop, get_or-drop}
+use Rattle.std.proofs.Common.{◌≡◌, ℕ, ◌+◌, ◌-◌, ◌≤◌, ◌==◌, Bool, List, length, take, drop, sym, ap, ◌∙◌, subst, arith, length-drop}
 use Rattle.std.specs.List.{position_or_len, starts_with, prefix_len}
 use Rattle.std.specs.Str.{chars}
 use Rattle.std.proofs.lemmas.List.{drop-drop, drop-take}
+use Rattle.std.proofs.lemmas.Grind.{common_steps}
 use Rattle.rox_grammar.specs.Chars.{is_char}
 use Rattle.rox_grammar.specs.Runs.{run_end, passing, begins, first_passes}
 use Rattle.rox_grammar.specs.Search.{stands, before_mark, mark_from, byte_from}
@@ -15,9 +16,7 @@ use Rattle.rox_exchange.specs.Local.{Follows}
 module _ (m : Move) (src to : List ℕ) where
   -- So it does further on.
   pub on : (i k n : ℕ) → Follows m src i to k → Follows m src (i + n) to (k + n)
-  on i k n f =
-      let is = f.at in
-      record { same = sym (drop-drop n i src) ∙ ap (drop n) f.same ∙ drop-drop n k to; at = omega arith }
+  on i k n f = record { same = sym (drop-drop n i src) ∙ ap (drop n) f.same ∙ drop-drop n k to; at = omega arith }
 
   -- Where a place moves to.
   pub lands : (i k : ℕ) → Follows m src i to k → moved m i ≡ k
@@ -26,17 +25,13 @@ module _ (m : Move) (src to : List ℕ) where
   -- And from each later place on.
   pub from : (i k j : ℕ) → i ≤ j → Follows m src i to k → Follows m src j to (moved m j)
   from i k j le f =
-      let is = f.at in
       let a : i + (j - i) ≡ j = omega arith in
       let b : k + (j - i) ≡ moved m j = omega arith in
       subst (λ (x : ℕ). Follows m src j to x) b (subst (λ (x : ℕ). Follows m src x to (k + (j - i))) a (on i k (j - i) f))
 
   -- A byte.
   pub byte_moves : (i k : ℕ) → Follows m src i to k → byte src i ≡ byte to k
-  byte_moves i k f =
-      let z : i + 0 ≡ i = omega arith in
-      let y : k + 0 ≡ k = omega arith in
-      ap (byte src) (sym z) ∙ sym (get_or-drop i src 0 0) ∙ ap (λ (bs : List ℕ). get_or bs 0 0) f.same ∙ get_or-drop k to 0 0 ∙ ap (byte to) y
+  byte_moves i k f = grind (arith, common_steps)
 
   -- How much is left.
   pub rest_moves : (i k : ℕ) → Follows m src i to k → length src - i ≡ length to - k
@@ -87,7 +82,6 @@ module _ (m : Move) (src to : List ℕ) where
   -- What is up to a place, from another on.
   pub front_moves : (i k e : ℕ) → i ≤ e → Follows m src i to k → drop i (take e src) ≡ drop k (take (moved m e) to)
   front_moves i k e le f =
-      let at = f.at in
       let d = e - i in
       let a : i + d ≡ e = omega arith in
       let b : k + d ≡ moved m e = omega arith in
@@ -111,7 +105,4 @@ module _ (m : Move) (src to : List ℕ) where
 
   -- A slice.
   pub slice_moves : (i k e : ℕ) → i ≤ e → Follows m src i to k → slice src i e ≡ slice to k (moved m e)
-  slice_moves i k e le f =
-      let at = f.at in
-      let d : e - i ≡ moved m e - k = omega arith in
-      ap (λ (n : ℕ). take n (drop i src)) d ∙ ap (take (moved m e - k)) f.same
+  slice_moves i k e le f = grind arith

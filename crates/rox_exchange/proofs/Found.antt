@@ -1,12 +1,12 @@
 -- Each element among the items of an element has its place in the derivation.
-use Rattle.std.proofs.Common.{◌≡◌, ℕ, ◌+◌, ◌==◌, Bool, true, false, not, List, [], ◌∷◌, ◌++◌, ◌⊎◌, inl, inr, refl, subst}
+use Rattle.std.proofs.Common.{◌≡◌, ℕ, ◌+◌, ◌==◌, Bool, true, false, not, List, [], ◌++◌, ◌⊎◌, inl, inr, subst, arith}
 use Rattle.rox_grammar.specs.Forest.{Forest, Nil, Cons, join}
 use Rattle.rox_grammar.specs.Written.{Tag, Item, Element, Text, Comment, PI, glue, merge, leaf}
 use Rattle.rox_grammar.specs.Entities.{no_entities}
 use Rattle.std.specs.List.{list_any}
 use Rattle.rox_grammar.specs.Names.{slice}
 use Rattle.rox_grammar.specs.References.{entity_reference}
-use Rattle.rox_grammar.specs.Content.{DataByte, literals, line_ends, piece, last_part, then_entity, IsMisc, comment, instruction, IsElement, empty, nest, Content, ends, run, cdata, misc, node}
+use Rattle.rox_grammar.specs.Content.{DataByte, literals, line_ends, piece, last_part, then_entity, IsMisc, IsElement, empty, nest, Content, ends, run, cdata, misc, node}
 use Rattle.rox_grammar.specs.RunParts.{Parts}
 use Rattle.rox_theory.proofs.Following.{tag_free}
 use Rattle.rox_exchange.specs.ElementWith.{ElementWith, here, inside, ContentWith, between}
@@ -16,9 +16,7 @@ use Rattle.rox_exchange.specs.SourceKinds.{StandsInEach, first, below, beside}
 -- The element in front, or one further on.
 cases_front : (s e : ℕ) (t : Tag) (kids : Forest Item) (i j : ℕ) (u : Tag) (low rest : Forest Item) → StandsInEach s e t kids (Cons (Element i j u) low rest)
     → ((s ≡ i) × (e ≡ j) × (t ≡ u) × (kids ≡ low)) ⊎ (StandsInEach s e t kids low ⊎ StandsInEach s e t kids rest)
-cases_front s e t kids i j u low rest (first _) = inl (refl, refl, refl, refl)
-cases_front s e t kids i j u low rest (below _ _ _ is) = inr (inl is)
-cases_front s e t kids i j u low rest (beside _ _ _ is) = inr (inr is)
+cases_front s e t kids i f u low rest j = grind arith
 
 module _ (s e : ℕ) (t : Tag) (kids : Forest Item) where
   pub stands_join : (f g : Forest Item) → StandsInEach s e t kids (join f g) → StandsInEach s e t kids f ⊎ StandsInEach s e t kids g
@@ -30,8 +28,7 @@ module _ (s e : ℕ) (t : Tag) (kids : Forest Item) where
 
   -- After a text.
   past_text : (a z : ℕ) (v : List ℕ) (borrowed : Bool) (under f : Forest Item) → StandsInEach s e t kids (Cons (Text a z v borrowed) under f) → StandsInEach s e t kids under ⊎ StandsInEach s e t kids f
-  past_text a z v borrowed under f (below _ _ _ is) = inl is
-  past_text a z v borrowed under f (beside _ _ _ is) = inr is
+  past_text a z v borrowed under f g = grind arith
 
   stands_glue : (a z : ℕ) (v : List ℕ) (borrowed : Bool) (under f : Forest Item) → StandsInEach s e t kids (glue (Text a z v borrowed) under f) → StandsInEach s e t kids under ⊎ StandsInEach s e t kids f
   stands_glue a z v borrowed under Nil is = past_text a z v borrowed under Nil is
@@ -69,12 +66,7 @@ module _ (s e : ℕ) (t : Tag) (kids : Forest Item) where
 
   -- A part has none.
   no_piece : (start stop : ℕ) (borrowed : Bool) (ss : List DataByte) → StandsInEach s e t kids (piece start stop borrowed ss) → ⊥
-  no_piece start stop borrowed [] is = in_none is
-  no_piece start stop borrowed (x ∷ ss) is = nowhere _ _ _ _ is
-    where
-      nowhere : (a z : ℕ) (v : List ℕ) (p : Bool) → StandsInEach s e t kids (leaf (Text a z v p)) → ⊥
-      nowhere a z v p (below _ _ _ is) = in_none is
-      nowhere a z v p (beside _ _ _ is) = in_none is
+  no_piece start stop borrowed d is = grind arith
 
 module _ (src : List ℕ) where
   -- ---- without entities a derivation takes none of its budget
@@ -106,18 +98,13 @@ module _ (src : List ℕ) (s e : ℕ) (t : Tag) (kids : Forest Item) where
 
   -- An item that is not an element.
   pub no_misc_item : (i k : ℕ) (item : Item) → IsMisc src i k item → StandsInEach s e t kids (leaf item) → ⊥
-  no_misc_item i k item (comment _ x _ is) (below _ _ _ low) = in_none s e t kids low
-  no_misc_item i k item (comment _ x _ is) (beside _ _ _ low) = in_none s e t kids low
-  no_misc_item i k item (instruction _ n x _ is) (below _ _ _ low) = in_none s e t kids low
-  no_misc_item i k item (instruction _ n x _ is) (beside _ _ _ low) = in_none s e t kids low
+  no_misc_item i k item d e = grind (arith, in_none)
 
   no_text : (a z : ℕ) (v : List ℕ) (p : Bool) → StandsInEach s e t kids (leaf (Text a z v p)) → ⊥
-  no_text a z v p (below _ _ _ low) = in_none s e t kids low
-  no_text a z v p (beside _ _ _ low) = in_none s e t kids low
+  no_text a z v p e = grind arith
 
   no_parts : (start stop i b c : ℕ) (items : Forest Item) → Parts true no_entities src start stop i b c items → StandsInEach s e t kids items → ⊥
-  no_parts start stop i b c items (last_part _ _ ss is) stands = no_piece s e t kids start stop _ ss stands
-  no_parts start stop i b c items (then_entity _ p j _ x _ _ ss one more is (entity_reference n reference name) opens rest) stands = absurd opens
+  no_parts start stop i b c items g stands = grind (arith, no_piece)
 
   mutual
     -- An element among the items has its place, and is an element.

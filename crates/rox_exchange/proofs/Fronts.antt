@@ -87,7 +87,6 @@ module _ (src to : List ℕ) (m : ℕ) (f : Fronts src to m) where
   -- A character begins after a byte that is ASCII.
   pub behind : (b i : ℕ) → i < m → byte src i ≡ b → b < 128 → IsCharBoundary (take m src) (i + 1)
   behind b i below is ascii =
-      let inside = f.inside in
       let n = long in
       let same = get_or-take m src i 0 below in
       IsCharBoundary-after_ascii (take m src) i f.utf8 (omega arith) (omega arith)

@@ -3,10 +3,9 @@ use Rattle.std.proofs.Common.{◌≡◌, ℕ, zero, suc, ◌+◌, ◌-◌, ◌<�
 use Rattle.std.proofs.lemmas.Bool.{cases_Bool, and_parts, eq-eqb, ne_eqb}
 use Rattle.rox_grammar.specs.Forest.{Forest, Nil, Cons, join, size}
 use Rattle.rox_grammar.specs.Written.{NamespaceDecl, Tag, Item, Element, Text, Comment, PI}
-use Rattle.rox_grammar.specs.Tree as tree
-use Rattle.rox_grammar.specs.Tree.{Node, listed, node_in, resolved}
+use Rattle.rox_grammar.specs.Tree.{listed, node_in, resolved}
 use Rattle.rox_grammar.specs.WellNamed.{AreWellNamed}
-use Rattle.rox_grammar.specs.Exchange.{Move, moved, shifted, stretched, subtree, exchanged, none_of, self_contained}
+use Rattle.rox_grammar.specs.Exchange.{Move, subtree, exchanged, none_of, self_contained}
 use Rattle.rox_reading.proofs.Forests.{resolved-join}
 use Rattle.rox_exchange.specs.Local.{moved_items}
 use Rattle.rox_exchange.specs.ElementWith.{exchanged_items}
@@ -51,9 +50,7 @@ found_below : (i j a z : ℕ) (t : Tag) (children rest : Forest Item) (id : ℕ)
     → nat_lt id (size (resolved (listed [] t.declarations) children)) ≡ true → Found (a + 1) z children id → Found i j (Cons (Element a z t) children rest) (suc id)
 found_below i j a z t children rest id bare (le, lt, low, next) inside found =
     let w = found.within in
-    let w0 = w.0 in
     let w1 = w.1 in
-    let w2 = w.2 in
     let s = found.start in
     let other = ne_eqb a s (λ e. omega arith) in
     let over = lt-ltb s z (omega arith) in
@@ -67,12 +64,7 @@ found_below i j a z t children rest id bare (le, lt, low, next) inside found =
       alone = rw inside (subst (λ (ds : List NamespaceDecl). subtree (resolved ds children) id ≡ resolved [] (Cons (Element s found.end found.tag) found.kids Nil)) (sym bare) found.alone);
       contained = rw (other, over) (subst (λ (ds : List NamespaceDecl). (none_of ds && is_contained s children) ≡ true) (sym bare) found.contained);
       named = λ (own, under, others). found.named (subst (λ (ds : List NamespaceDecl). AreWellNamed ds children) bare under);
-      exchange = λ mv one.
-          rw (other, over, inside) (
-          subst (λ (ds : List NamespaceDecl). Cons (node_in (listed [] t.declarations) (Element a (moved mv z) t)) (resolved ds (exchanged_items mv one s children)) (resolved [] (moved_items mv rest))
-          ≡ Cons (stretched mv (node_in (listed [] t.declarations) (Element a z t))) (exchanged mv (resolved [] one) (resolved ds children) id) (shifted mv (resolved [] rest))) (sym bare)
-          (ap (λ (low : Forest Node). Cons (node_in (listed [] t.declarations) (Element a (moved mv z) t)) low (resolved [] (moved_items mv rest))) (found.exchange mv one)
-          ∙ ap (Cons (stretched mv (node_in (listed [] t.declarations) (Element a z t))) (exchanged mv (resolved [] one) (resolved [] children) id)) (moved_resolved mv [] rest)));
+      exchange = grind (arith, moved_resolved);
     }
 
 -- One of those after the first.
@@ -80,7 +72,6 @@ found_beside : (i j a z : ℕ) (t : Tag) (children rest : Forest Item) (id : ℕ
     → nat_lt id (size (resolved (listed [] t.declarations) children)) ≡ false → Found z j rest (id - size (resolved (listed [] t.declarations) children)) → Found i j (Cons (Element a z t) children rest) (suc id)
 found_beside i j a z t children rest id (le, lt, low, next) outside found =
     let w = found.within in
-    let w0 = w.0 in
     let w1 = w.1 in
     let w2 = w.2 in
     let s = found.start in
@@ -117,8 +108,7 @@ found_leaf i j item rest id free same is more =
       alone = rw out found.alone;
       contained = free found.start ∙ found.contained;
       named = λ (own, under, others). found.named others;
-      exchange = λ mv one.
-          ap (resolved []) (same mv one found.start) ∙ rw out (ap (Cons (node_in (tree.scope_in [] item) item) Nil) (found.exchange mv one));
+      exchange = grind arith;
     }
 
 pub find : (i j : ℕ) (f : Forest Item) (id : ℕ) → Ordered i j f → self_contained (resolved [] f) id ≡ true → Found i j f id

@@ -1,5 +1,5 @@
 -- An element of a document has no more than the document: nodes, attributes, distinct pairs of a prefix and a URI.
-use Rattle.std.proofs.Common.{◌≡◌, ℕ, ◌≤◌, ◌||◌, Bool, true, false, List, [], ◌∷◌, ◌++◌, length, sym, ap, ◌∙◌, arith, inl, inr, length-append, append_assoc}
+use Rattle.std.proofs.Common.{◌≡◌, ℕ, ◌≤◌, true, List, [], ◌∷◌, ◌++◌, length, sym, ap, ◌∙◌, arith, inl, inr, length-append, append_assoc}
 use Rattle.std.proofs.lemmas.Bool.{cases_Bool}
 use Rattle.std.proofs.lemmas.List.{append-nil}
 use mathlib.Core.Bool.{or_comm}
@@ -17,14 +17,7 @@ use Rattle.rox_exchange.specs.SourceKinds.{StandsInEach, first, below, beside}
 -- Lists that hold the same pairs, and as many, are joined by as many.
 as_many : (ds bs es : List NamespaceDecl) → length ds ≡ length bs → ((x : NamespaceDecl) → has_pair ds x ≡ has_pair bs x) → length (with_new ds es) ≡ length (with_new bs es)
 as_many ds bs [] long same = long
-as_many ds bs (e ∷ es) long same =
-    elim (cases_Bool (has_pair ds e)) as (λ q. length (with_new ds (e ∷ es)) ≡ length (with_new bs (e ∷ es))) [
-      | inl there ↦ (let there' : has_pair bs e ≡ true = sym (same e) ∙ there in rw (there, there') (as_many ds bs es long same))
-      | inr new ↦ (
-          let new' : has_pair bs e ≡ false = sym (same e) ∙ new in
-          rw (new, new') (as_many (ds ++ e ∷ []) (bs ++ e ∷ []) es (omega (arith, length-append ds (e ∷ []), length-append bs (e ∷ [])))
-          (λ x. has_last ds e x ∙ ap (λ (b : Bool). b || same_pair e x) (same x) ∙ sym (has_last bs e x))))
-    ]
+as_many ds bs (e ∷ es) long same = grind (arith, as_many ds bs es long same, as_many (ds ++ e ∷ []) (bs ++ e ∷ []) es (omega (arith, length-append ds (e ∷ []), length-append bs (e ∷ []))), has_last)
 
 -- With one pair more there are no fewer.
 one_more : (d : NamespaceDecl) (ds es : List NamespaceDecl) → length (with_new ds es) ≤ length (with_new (d ∷ ds) es)
@@ -33,11 +26,7 @@ one_more d ds (e ∷ es) =
     elim (cases_Bool (has_pair ds e)) as (λ q. length (with_new ds (e ∷ es)) ≤ length (with_new (d ∷ ds) (e ∷ es))) [
       | inl there ↦ rw (there, or_comm (same_pair d e) true) (one_more d ds es)
       | inr new ↦ elim (cases_Bool (same_pair d e)) as (λ q. length (with_new ds (e ∷ es)) ≤ length (with_new (d ∷ ds) (e ∷ es))) [
-        | inl same ↦ (
-            let q = same_pair-true d e same in
-            let n = as_many (ds ++ e ∷ []) (d ∷ ds) es (omega (arith, length-append ds (e ∷ [])))
-            (λ x. has_last ds e x ∙ or_comm (has_pair ds x) (same_pair e x) ∙ ap (λ (c : NamespaceDecl). same_pair c x || has_pair ds x) (sym q)) in
-            rw (new, same) (omega (arith, n)))
+        | inl same ↦ grind (arith, same_pair-true d e same, as_many, length-append, has_last)
         | inr other ↦ rw (new, other) (one_more d (ds ++ e ∷ []) es)
       ]
     ]
@@ -48,10 +37,7 @@ more_before (d ∷ ds) es = omega (arith, more_before ds es, one_more d ds es)
 
 -- Of a part of a list there are no more.
 distinct_part : (before part after : List NamespaceDecl) → length (distinct_pairs part) ≤ length (distinct_pairs (before ++ (part ++ after)))
-distinct_part before part after =
-    let n = more_before (distinct_pairs before) (part ++ after) in
-    let e = ap length (distinct-append before (part ++ after)) in
-    omega (arith, distinct-grows part after)
+distinct_part before part after = grind (arith, more_before, distinct-append, distinct-grows)
 
 -- ---- an element among items
 
@@ -92,15 +78,7 @@ module _ (s e : ℕ) (t : Tag) (kids : Forest Item) where
   -- It is within the limits that they are within.
   pub part_within : (limit : ℕ) (f : Forest Item) → StandsInEach s e t kids f → IsWithinLimits limit f → IsWithinLimits limit one
   part_within limit f is within =
-      let nodes = within.nodes in
       let counts = limits_counted limit f within in
-      let attributes = counts.attributes in
-      let namespaces = counts.namespaces in
       let p = part_of_pairs f is in
       let n = distinct_part p.0 (pairs one) p.1 in
-      let q = ap (λ (ds : List NamespaceDecl). length (distinct_pairs ds)) p.2 in
-      counts_limited limit one (record {
-        nodes = omega (arith, fewer_nodes f is);
-        attributes = omega (arith, fewer_attributes f is);
-        namespaces = omega arith;
-      })
+      counts_limited limit one (grind (arith, fewer_nodes, fewer_attributes))

@@ -1,10 +1,10 @@
 -- Items that move: rows of them, texts that touch, names in their namespaces, limits.
-use Rattle.std.proofs.Common.{◌≡◌, ℕ, Bool, false, List, [], ◌∷◌, ◌++◌, map, length, refl, ap, ◌∙◌, subst, arith}
+use Rattle.std.proofs.Common.{◌≡◌, ℕ, Bool, List, [], ◌∷◌, ◌++◌, map, length, refl, ap, ◌∙◌, subst, arith}
 use Rattle.std.specs.List.{list_any}
 use Rattle.rox_grammar.specs.Forest.{Forest, Nil, Cons, join, size}
 use Rattle.rox_grammar.specs.Written.{Attribute, NamespaceDecl, Item, Element, Text, Comment, PI, glue, merge}
 use Rattle.rox_grammar.specs.Tree as tree
-use Rattle.rox_grammar.specs.Tree.{Node, attribute_in, scope_in, node_in, resolved}
+use Rattle.rox_grammar.specs.Tree.{attribute_in, scope_in, node_in, resolved}
 use Rattle.rox_grammar.specs.WellNamed.{same_expanded, ItemWellNamed, AreWellNamed}
 use Rattle.rox_grammar.proofs.NamesApart.{DistinctBehind, distinct_behind, are_distinct}
 use Rattle.rox_grammar.specs.Counts.{own_pairs, pairs, own_attributes, attribute_count}
@@ -19,17 +19,12 @@ module _ (m : Move) where
 
   -- A text in front.
   pub moved_glue : (a e : ℕ) (v : List ℕ) (borrowed : Bool) (below f : Forest Item) → moved_items m (glue (Text a e v borrowed) below f) ≡ glue (Text (moved m a) (moved m e) v borrowed) (moved_items m below) (moved_items m f)
-  moved_glue a e v borrowed below Nil = refl
-  moved_glue a e v borrowed below (Cons (Text x y w p) children rest) = ap (λ (g : Forest Item). Cons (Text (moved m a) (moved m e) (v ++ w) false) g (moved_items m rest)) (moved_join below children)
-  moved_glue a e v borrowed below (Cons (Element x y t) children rest) = refl
-  moved_glue a e v borrowed below (Cons (Comment x y t) children rest) = refl
-  moved_glue a e v borrowed below (Cons (PI x y t o) children rest) = refl
+  moved_glue a e v borrowed below f = grind (arith, moved_join)
 
   -- Texts that touch.
   pub moved_merge : (f : Forest Item) → moved_items m (merge f) ≡ merge (moved_items m f)
   moved_merge Nil = refl
-  moved_merge (Cons (Text a e v borrowed) children rest) =
-      moved_glue a e v borrowed children (merge rest) ∙ ap (glue (Text (moved m a) (moved m e) v borrowed) (moved_items m children)) (moved_merge rest)
+  moved_merge (Cons (Text a e v borrowed) children rest) = grind (arith, moved_merge rest, moved_glue)
   moved_merge (Cons (Element a e t) children rest) = ap (Cons (Element (moved m a) (moved m e) (moved_tag m t)) (moved_items m children)) (moved_merge rest)
   moved_merge (Cons (Comment a e t) children rest) = ap (Cons (Comment (moved m a) (moved m e) t) (moved_items m children)) (moved_merge rest)
   moved_merge (Cons (PI a e t o) children rest) = ap (Cons (PI (moved m a) (moved m e) t o) (moved_items m children)) (moved_merge rest)
@@ -41,23 +36,12 @@ module _ (m : Move) where
 
   -- An item as its readers see it.
   node_seen : (scope : List NamespaceDecl) (item : Item) → node_in scope (moved_item m item) ≡ moved_node m (node_in scope item)
-  node_seen scope (Element a e t) = ap (tree.Element (moved m a) (moved m e) (tree.element_namespace scope t.name) t.name.local scope) (attributes_seen scope t.attributes)
-  node_seen scope (Text a e v borrowed) = refl
-  node_seen scope (Comment a e t) = refl
-  node_seen scope (PI a e t o) = refl
-
-  -- What it lists.
-  pub same_scope : (above : List NamespaceDecl) (item : Item) → scope_in above (moved_item m item) ≡ scope_in above item
-  same_scope above (Element a e t) = refl
-  same_scope above (Text a e v borrowed) = refl
-  same_scope above (Comment a e t) = refl
-  same_scope above (PI a e t o) = refl
+  node_seen scope b = grind (arith, attributes_seen)
 
   -- A row as its readers see it.
   pub moved_resolved : (above : List NamespaceDecl) (f : Forest Item) → resolved above (moved_items m f) ≡ shifted m (resolved above f)
   moved_resolved above Nil = refl
-  moved_resolved above (Cons item children rest) =
-      rw (same_scope above item, node_seen (scope_in above item) item, moved_resolved (scope_in above item) children, moved_resolved above rest) refl
+  moved_resolved above (Cons item children rest) = grind (arith, moved_resolved (scope_in above item) children, moved_resolved above rest, node_seen)
 
   -- How many.
   pub moved_size : (f : Forest Item) → size (moved_items m f) ≡ size f
@@ -88,16 +72,12 @@ module _ (m : Move) where
 
   pub moved_named : (above : List NamespaceDecl) (f : Forest Item) → AreWellNamed above f → AreWellNamed above (moved_items m f)
   moved_named above Nil is = is
-  moved_named above (Cons item children rest) (one, below, beside) =
-      (rw (same_scope above item) (item_named (scope_in above item) item one), rw (same_scope above item) (moved_named (scope_in above item) children below), moved_named above rest beside)
+  moved_named above (Cons item children rest) (one, below, beside) = grind (arith, moved_named (scope_in above item) children below, moved_named above rest beside, item_named)
 
   -- ---- limits
 
   same_pairs : (item : Item) → own_pairs (moved_item m item) ≡ own_pairs item
-  same_pairs (Element a e t) = refl
-  same_pairs (Text a e v borrowed) = refl
-  same_pairs (Comment a e t) = refl
-  same_pairs (PI a e t o) = refl
+  same_pairs a = grind arith
 
   pub moved_pairs : (f : Forest Item) → pairs (moved_items m f) ≡ pairs f
   moved_pairs Nil = refl
@@ -108,10 +88,7 @@ module _ (m : Move) where
   map_length (a ∷ as') = omega (arith, map_length as')
 
   same_attributes : (item : Item) → own_attributes (moved_item m item) ≡ own_attributes item
-  same_attributes (Element a e t) = map_length t.attributes
-  same_attributes (Text a e v borrowed) = refl
-  same_attributes (Comment a e t) = refl
-  same_attributes (PI a e t o) = refl
+  same_attributes a = grind (arith, map_length)
 
   pub moved_attributes : (f : Forest Item) → attribute_count (moved_items m f) ≡ attribute_count f
   moved_attributes Nil = refl

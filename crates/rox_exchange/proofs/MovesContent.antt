@@ -1,5 +1,5 @@
 -- Elements and content without entities stand wherever the same bytes follow, and their items move.
-use Rattle.std.proofs.Common.{◌≡◌, ℕ, ◌+◌, ◌≤◌, ◌==◌, Bool, true, false, not, List, [], ◌∷◌, refl, sym, subst, arith}
+use Rattle.std.proofs.Common.{◌≡◌, ℕ, ◌+◌, ◌≤◌, ◌==◌, Bool, true, false, not, List, sym, subst, arith}
 use Rattle.std.specs.List.{list_any}
 use Rattle.rox_grammar.specs.Forest.{Forest, join}
 use Rattle.rox_grammar.specs.Written.{Item, Text, Comment, PI, leaf}
@@ -21,8 +21,7 @@ use Rattle.rox_theory.proofs.Productions.{cdata_parts, char_data_parts}
 module _ (m : Move) (src to : List ℕ) where
   -- The text of a part.
   piece_moves : (start stop : ℕ) (borrowed : Bool) (ss : List DataByte) → moved_items m (piece start stop borrowed ss) ≡ piece (moved m start) (moved m stop) borrowed ss
-  piece_moves start stop borrowed [] = refl
-  piece_moves start stop borrowed (s ∷ ss) = refl
+  piece_moves start stop borrowed d = grind arith
 
   -- The parts of a run.
   pub parts_move : (main : Bool) (start stop i b c : ℕ) (items : Forest Item) → start ≤ stop → Follows m src start to (moved m start) → Follows m src i to (moved m i)

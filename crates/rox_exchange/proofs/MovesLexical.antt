@@ -1,21 +1,21 @@
 -- Names, references and the constructs that hold no others stand wherever the same bytes follow.
-use Rattle.std.proofs.Common.{◌≡◌, ◌≢◌, ℕ, ◌+◌, ◌^◌, ◌<◌, ◌≤◌, ◌⊎◌, ◌==◌, Bool, List, [], refl, sym, ap, ◌∙◌, subst, arith}
+use Rattle.std.proofs.Common.{◌≡◌, ◌≢◌, ℕ, ◌+◌, ◌^◌, ◌<◌, Bool, List, [], refl, sym, ap, ◌∙◌, subst, arith}
 use Rattle.std.specs.Prelude.{codes}
 use Rattle.rox_grammar.specs.declared.fault.Word.TheVariants as word
 use Rattle.rox_grammar.specs.FixedTexts.{word_text}
 use Rattle.rox_grammar.specs.Chars.{is_space, is_name_start, is_name_char, is_part_char}
-use Rattle.rox_grammar.specs.Search.{mark_from, byte_from}
+use Rattle.rox_grammar.specs.Search.{mark_from}
 use Rattle.rox_grammar.specs.Written.{Name}
 use Rattle.rox_grammar.specs.Names.{byte, slice, spaces_end, IsName, IsNCName, IsQName, unprefixed, prefixed, colon_first}
 use Rattle.rox_grammar.specs.References.{is_digit, is_hex_digit, number, character, predefined, IsNumber, IsReference, IsCharacter, decimal, hexadecimal, named}
 use Rattle.rox_grammar.specs.Constructs.{IsComment, IsPI, IsCData, IsEq, IsAttValue, IsEnd}
 use Rattle.rox_grammar.specs.FixedTexts.{double_dash}
-use Rattle.rox_grammar.specs.Content.{IsCharacterData, character_data}
+use Rattle.rox_grammar.specs.Content.{IsCharacterData}
 use Rattle.rox_grammar.specs.Exchange.{Move, moved}
 use Rattle.rox_exchange.specs.Local.{Follows}
 use Rattle.rox_exchange.proofs.Follows.{on, from, byte_moves, rest_moves, stands_moves, mark_moves, byte_from_moves, bytes_end_moves, run_end_moves, begins_moves, chars_move, markup_moves, slice_moves}
 use Rattle.rox_exchange.proofs.Order.{ncname_le, qname_le, literal_lt, comment_le, cdata_le, pi_le, reference_lt}
-use Rattle.rox_theory.proofs.Productions.{ncname_parts, ncname_made, number_parts, number_made, reference_parts, reference_made, comment_parts, comment_made, pi_parts, pi_made, cdata_parts, cdata_made, end_parts, end_made, char_data_parts}
+use Rattle.rox_theory.proofs.Productions.{ncname_parts, ncname_made, number_parts, number_made, reference_parts, reference_made, comment_parts, comment_made, pi_parts, pi_made, cdata_parts, cdata_made, end_parts, end_made}
 use Rattle.rox_theory.proofs.Basics.{run_end_le}
 
 module _ (m : Move) (src to : List ℕ) where
@@ -80,7 +80,6 @@ module _ (m : Move) (src to : List ℕ) where
   pub number_moves : (base : ℕ) (p : ℕ → Bool) (d k c j : ℕ) → Follows m src d to k → IsNumber base p src d c j → IsNumber base p to k c (moved m j)
   number_moves base p d k c j f is =
       let e = (number_parts is).e in
-      let at = f.at in
       let some = (number_parts is).some in
       let next = (number_parts is).next in
       let s = slice_moves m src to d k e (omega arith) f in
@@ -98,7 +97,6 @@ module _ (m : Move) (src to : List ℕ) where
   -- A reference.
   pub reference_moves : (i k n j : ℕ) → Follows m src i to k → IsReference src i n j → IsReference to k (moved m n) (moved m j)
   reference_moves i k n j f is =
-      let at = f.at in
       let next = (reference_parts is).next in
       let lt = reference_lt src i n j is in
       reference_made (record {
@@ -126,7 +124,6 @@ module _ (m : Move) (src to : List ℕ) where
   -- A comment.
   pub comment_moves : (i k e j : ℕ) → Follows m src i to k → IsComment src i e j → IsComment to k (moved m e) (moved m j)
   comment_moves i k e j f is =
-      let at = f.at in
       let next = (comment_parts is).next in
       let le = comment_le src i e j is in
       let g = on m src to i k 4 f in
@@ -141,10 +138,8 @@ module _ (m : Move) (src to : List ℕ) where
   -- A processing instruction.
   pub pi_moves : (i k n e j : ℕ) → Follows m src i to k → IsPI src i n e j → IsPI to k (moved m n) (moved m e) (moved m j)
   pi_moves i k n e j f is =
-      let at = f.at in
       let next = (pi_parts is).next in
       let le = pi_le src i n e j is in
-      let le0 = le.0 in
       let le1 = le.1 in
       let g = from m src to i k n (omega arith) f in
       let s = space_end n (moved m n) g in
@@ -162,7 +157,6 @@ module _ (m : Move) (src to : List ℕ) where
   -- A CDATA section.
   pub cdata_moves : (i k e j : ℕ) → Follows m src i to k → IsCData src i e j → IsCData to k (moved m e) (moved m j)
   cdata_moves i k e j f is =
-      let at = f.at in
       let next = (cdata_parts is).next in
       let le = cdata_le src i e j is in
       let g = on m src to i k 9 f in
@@ -177,43 +171,22 @@ module _ (m : Move) (src to : List ℕ) where
   -- A literal.
   pub literal_moves : (i k e j : ℕ) → Follows m src i to k → IsAttValue src i e j → IsAttValue to k (moved m e) (moved m j)
   literal_moves i k e j f is =
-      let at = f.at in
-      let next = is.0.3 in
-      let inside = is.0.2 in
       let lt = literal_lt src i e j is in
-      let le : i + 1 ≤ e = omega arith in
       let g = on m src to i k 1 f in
       let first = byte_moves m src to i k f in
-      let left = rest_moves m src to i k f in (
-        (
-          subst (λ (b : ℕ). (b ≡ 39) ⊎ (b ≡ 34)) first is.0.0,
-          byte_from_moves m src to (λ c. c == byte src i) (i + 1) (k + 1) e g is.0.1 ∙ ap (λ (q : ℕ). byte_from (λ c. c == q) to (k + 1)) first,
-          omega arith,
-          omega arith,
-        ),
-        chars_move m src to (i + 1) (k + 1) e le g is.1,
-        markup_moves m src to (λ c. c == 60) (i + 1) (k + 1) e le g is.2,
-      )
+      let left = rest_moves m src to i k f in grind (arith, byte_from_moves, chars_move, markup_moves)
 
   -- A run.
   pub run_moves : (i k j : ℕ) → Follows m src i to k → IsCharacterData src i j → IsCharacterData to k (moved m j)
-  run_moves i k j f is =
-      let at = f.at in
-      let some = (char_data_parts is).some in
-      let le : i ≤ j = omega arith in
-      let unmarked = (char_data_parts is).unmarked in
-      let first = mark_moves m src to (word_text word.CDataEnd) i k (mark_from (word_text word.CDataEnd) src i) f refl in
-      character_data (omega arith) (byte_from_moves m src to (λ c. c == 60) i k j f (char_data_parts is).end) (chars_move m src to i k j le f (char_data_parts is).chars) (omega arith)
+  run_moves i k j f is = grind (arith, mark_moves m src to (word_text word.CDataEnd) i k (mark_from (word_text word.CDataEnd) src i) f refl, byte_from_moves, chars_move)
 
   -- An end tag.
   pub end_moves : (i k : ℕ) (name : Name) (n j : ℕ) → Follows m src i to k → IsEnd src i name n j → IsEnd to k name (moved m n) (moved m j)
   end_moves i k name n j f is =
-      let at = f.at in
       let next = (end_parts is).next in
       let le = qname_le src (i + 2) name n (end_parts is).is_name in
       let g = from m src to i k n (omega arith) f in
       let s = space_end n (moved m n) g in
-      let at' = s.at in
       end_made (record {
         opens = sym (stands_moves m src to (word_text word.EndTagStart) i k f) ∙ (end_parts is).opens;
         is_name = qname_moves (i + 2) (k + 2) name n (on m src to i k 2 f) (end_parts is).is_name;

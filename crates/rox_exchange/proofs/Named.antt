@@ -1,5 +1,5 @@
 -- Names stay well named where an element above which nothing is listed is exchanged for one whose names are declared within it.
-use Rattle.std.proofs.Common.{◌≡◌, ℕ, ◌==◌, ◌&&◌, true, List, [], ◌∷◌, nat_lt, refl, sym, subst, inl, inr}
+use Rattle.std.proofs.Common.{◌≡◌, ℕ, ◌==◌, ◌&&◌, true, List, [], nat_lt, subst, inl, inr, arith}
 use Rattle.std.proofs.lemmas.Bool.{cases_Bool, and_parts}
 use Rattle.rox_grammar.specs.Forest.{Forest, Nil, Cons}
 use Rattle.rox_grammar.specs.Written.{NamespaceDecl, Item, Element, Text, Comment, PI}
@@ -13,8 +13,7 @@ use Rattle.rox_exchange.proofs.MovedItems.{moved_named}
 use Rattle.rox_exchange.specs.SelfContained.{is_contained}
 
 pub none_listed : (ds : List NamespaceDecl) → none_of ds ≡ true → ds ≡ []
-none_listed [] is = refl
-none_listed (d ∷ ds) is = cc
+none_listed a is = grind arith
 
 module _ (mv : Move) (one : Forest Item) (s : ℕ) (new : AreWellNamed [] one) where
   pub named_exchanged : (f : Forest Item) → is_contained s f ≡ true → AreWellNamed [] f → AreWellNamed [] (exchanged_items mv one s f)
@@ -27,9 +26,7 @@ module _ (mv : Move) (one : Forest Item) (s : ℕ) (new : AreWellNamed [] one) w
               let both : (none_of (listed [] t.declarations) && is_contained s children) ≡ true = rw (other, inside) at within in
               let above = and_parts _ _ both in
               let bare = none_listed (listed [] t.declarations) above.0 in
-              let low : AreWellNamed (listed [] t.declarations) (exchanged_items mv one s children) =
-              subst (λ (ds : List NamespaceDecl). AreWellNamed ds (exchanged_items mv one s children)) (sym bare)
-              (named_exchanged children above.1 (subst (λ (ds : List NamespaceDecl). AreWellNamed ds children) bare below)) in
+              let low : AreWellNamed (listed [] t.declarations) (exchanged_items mv one s children) = grind (arith, named_exchanged children above.1 (subst (λ (ds : List NamespaceDecl). AreWellNamed ds children) bare below)) in
               rw (other, inside) (own, low, moved_named mv [] rest beside))
           | inr behind ↦ (
               let next : is_contained s rest ≡ true = rw (other, behind) at within in

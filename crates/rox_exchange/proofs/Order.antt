@@ -4,11 +4,11 @@ use Rattle.rox_grammar.specs.Content.{attribute}
 use Rattle.rox_grammar.specs.Chars.{is_char, is_space, is_name_char, is_part_char}
 use Rattle.rox_grammar.specs.Forest.{Forest}
 use Rattle.rox_grammar.specs.Written.{Name, Attribute, Tag, Item}
-use Rattle.rox_grammar.specs.Names.{spaces_end, IsName, IsNCName, IsQName, unprefixed, prefixed, colon_first}
-use Rattle.rox_grammar.specs.References.{IsReference, IsCharacter, decimal, hexadecimal, named}
+use Rattle.rox_grammar.specs.Names.{spaces_end, IsName, IsNCName, IsQName}
+use Rattle.rox_grammar.specs.References.{IsReference, IsCharacter}
 use Rattle.rox_grammar.specs.Constructs.{AreChars, IsComment, IsPI, IsCData, IsEq, IsAttValue, IsEnd}
-use Rattle.rox_grammar.specs.Content.{Inclusion, IsAttribute, Attributes, no_more, one_more, TagEnds, opened, closed, IsTag, IsMisc, comment, instruction, IsElement, empty, nest, Content, ends, run, cdata, misc, node, attribute, start_tag}
-use Rattle.rox_theory.proofs.Productions.{ncname_parts, number_parts, reference_parts, comment_parts, pi_parts, cdata_parts, end_parts, char_data_parts}
+use Rattle.rox_grammar.specs.Content.{Inclusion, IsAttribute, Attributes, no_more, one_more, TagEnds, IsTag, IsMisc, IsElement, empty, nest, Content, ends, run, cdata, misc, node, attribute, start_tag}
+use Rattle.rox_theory.proofs.Productions.{ncname_parts, reference_parts, comment_parts, pi_parts, cdata_parts, end_parts, char_data_parts}
 use Rattle.rox_theory.proofs.Basics.{run_end_le}
 
 module _ (src : List ℕ) where
@@ -22,9 +22,7 @@ module _ (src : List ℕ) where
   ncname_le i j is = let l = (ncname_parts is).longest in omega (arith, run_end_le is_part_char src i)
 
   pub qname_le : (i : ℕ) (name : Name) (j : ℕ) → IsQName src i name j → i ≤ j
-  qname_le i name j (unprefixed _ _ n last) = ncname_le i j n
-  qname_le i name j (prefixed _ k _ n colon rest last) = omega (arith, ncname_le i k n, ncname_le (k + 1) j rest)
-  qname_le i name j (colon_first _ _ colon n last) = omega (arith, ncname_le (i + 1) j n)
+  qname_le i name j d = grind (arith, ncname_le)
 
   pub eq_lt : (i j : ℕ) → IsEq src i j → i < j
   eq_lt i j is = let l = is.1 in omega (arith, run_end_le is_space src i, run_end_le is_space src (spaces_end src i + 1))
@@ -45,43 +43,27 @@ module _ (src : List ℕ) where
   reference_lt i n j is = omega (arith, name_le (i + 1) n (reference_parts is).name)
 
   pub character_lt : (i c j : ℕ) → IsCharacter src i c j → i < j
-  character_lt i c j (decimal opens is) = let some = (number_parts is).some in let next = (number_parts is).next in omega arith
-  character_lt i c j (hexadecimal opens is) = let some = (number_parts is).some in let next = (number_parts is).next in omega arith
-  character_lt i c j (named n is known) = let next = (reference_parts is).next in omega (arith, reference_lt i n j is)
+  character_lt i c j d = grind arith
 
   pub attribute_lt : (main : Bool) (Includes : Inclusion) (i j b c : ℕ) (a : Attribute) → IsAttribute main Includes src i j b c a → i < j
   attribute_lt main Includes i j b c a (attribute n v e name value (is_name, eq, literal) read) =
-      let next = literal.0.3 in
       omega (arith, qname_le i name n is_name, eq_lt n v eq, literal_lt v e j literal)
 
   pub attributes_le : (main : Bool) (Includes : Inclusion) (i j b c : ℕ) (as' : List Attribute) → Attributes main Includes src i j b c as' → i ≤ j
   attributes_le main Includes i j b c as' (no_more _ _) = omega arith
-  attributes_le main Includes i j b c as' (one_more _ k _ _ d _ a rest spaces is more) =
-      omega (arith, attribute_lt main Includes (spaces_end src i) k b d a is, attributes_le main Includes k j d c rest more)
+  attributes_le main Includes i j b c as' (one_more _ k _ _ d _ a rest spaces is more) = grind (arith, attributes_le main Includes k j d c rest more, attribute_lt)
 
   pub tag_ends_lt : (i : ℕ) (is_empty : Bool) (j : ℕ) → TagEnds src i is_empty j → spaces_end src i < j
-  tag_ends_lt i is_empty j (opened _ close) = omega arith
-  tag_ends_lt i is_empty j (closed _ slash close) = omega arith
+  tag_ends_lt i is_empty j d = grind arith
 
   pub tag_lt : (main : Bool) (Includes : Inclusion) (i j b c : ℕ) (is_empty : Bool) (t : Tag) → IsTag main Includes src i j b c is_empty t → i < j
-  tag_lt main Includes i j b c is_empty _ (start_tag n last name written begin is_name list end) =
-      omega (
-        arith,
-        qname_le (i + 1) name n is_name,
-        attributes_le main Includes n last b c written list,
-        tag_ends_lt last is_empty j end,
-        run_end_le is_space src last,
-      )
+  tag_lt main Includes i j b c is_empty _ (start_tag n last name written begin is_name list end) = grind (arith, qname_le, attributes_le, tag_ends_lt, run_end_le)
 
   pub end_lt : (i : ℕ) (name : Name) (n j : ℕ) → IsEnd src i name n j → i < j
   end_lt i name n j is = let next = (end_parts is).next in omega (arith, qname_le (i + 2) name n (end_parts is).is_name, run_end_le is_space src n)
 
   pub misc_lt : (i j : ℕ) (item : Item) → IsMisc src i j item → i < j
-  misc_lt i j item (comment _ e _ is) = let next = (comment_parts is).next in omega (arith, comment_le i e j is)
-  misc_lt i j item (instruction _ n e _ is) =
-      let next = (pi_parts is).next in
-      let le = pi_le i n e j is in
-      omega (arith, le.0, le.1, run_end_le is_space src n)
+  misc_lt i j item d = grind (arith, run_end_le)
 
   mutual
     pub content_le : (main : Bool) (Includes : Inclusion) (i j b c : ℕ) (items : Forest Item) → Content main Includes src i j b c items → i ≤ j

@@ -1,9 +1,8 @@
 -- Elements stand one after the other and within one another, and nothing else has items below it.
-use Rattle.std.proofs.Common.{◌≡◌, ℕ, ◌+◌, ◌<◌, ◌≤◌, Bool, true, false, List, [], ◌∷◌, refl, arith}
+use Rattle.std.proofs.Common.{◌≡◌, ℕ, ◌+◌, ◌<◌, ◌≤◌, Bool, true, false, List, refl, arith}
 use Rattle.rox_grammar.specs.Forest.{Forest, Nil, Cons, join}
 use Rattle.rox_grammar.specs.Written.{Item, Element, Text, Comment, PI, glue, merge}
-use Rattle.rox_grammar.specs.References.{entity_reference}
-use Rattle.rox_grammar.specs.Content.{DataByte, piece, last_part, then_entity, IsMisc, comment, instruction, IsElement, empty, nest, Content, ends, run, cdata, misc, node}
+use Rattle.rox_grammar.specs.Content.{IsMisc, IsElement, empty, nest, Content, ends, run, cdata, misc, node}
 use Rattle.rox_grammar.specs.RunParts.{Parts}
 use Rattle.rox_grammar.specs.Entities.{no_entities}
 use Rattle.rox_grammar.specs.Document.{Misc, no_misc, space, an_item}
@@ -42,11 +41,7 @@ ordered_join i j k (Cons (PI a z v o) children rest) g (bare, beside) more = (ba
 
 -- A text in front.
 ordered_glue : (i j a z : ℕ) (v : List ℕ) (borrowed : Bool) (f : Forest Item) → Ordered i j f → Ordered i j (glue (Text a z v borrowed) Nil f)
-ordered_glue i j a z v borrowed Nil is = (refl, is)
-ordered_glue i j a z v borrowed (Cons (Text x y w p) children rest) is = is
-ordered_glue i j a z v borrowed (Cons (Element x y t) children rest) is = (refl, is)
-ordered_glue i j a z v borrowed (Cons (Comment x y t) children rest) is = (refl, is)
-ordered_glue i j a z v borrowed (Cons (PI x y t o) children rest) is = (refl, is)
+ordered_glue i j a z v borrowed g is = grind arith
 
 pub ordered_merge : (i j : ℕ) (f : Forest Item) → Ordered i j f → Ordered i j (merge f)
 ordered_merge i j Nil is = is
@@ -55,18 +50,12 @@ ordered_merge i j (Cons (Element a z t) children rest) (le, lt, low, beside) = (
 ordered_merge i j (Cons (Comment a z t) children rest) (bare, beside) = (bare, ordered_merge i j rest beside)
 ordered_merge i j (Cons (PI a z t o) children rest) (bare, beside) = (bare, ordered_merge i j rest beside)
 
-piece_ordered : (i j start stop : ℕ) (borrowed : Bool) (ss : List DataByte) → i ≤ j → Ordered i j (piece start stop borrowed ss)
-piece_ordered i j start stop borrowed [] le = le
-piece_ordered i j start stop borrowed (s ∷ ss) le = (refl, le)
-
 module _ (src : List ℕ) where
   misc_ordered : (i j : ℕ) (item : Item) (rest : Forest Item) (k l : ℕ) → IsMisc src i j item → Ordered k l rest → Ordered k l (Cons item Nil rest)
-  misc_ordered i j item rest k l (comment _ e _ is) more = (refl, more)
-  misc_ordered i j item rest k l (instruction _ n e _ is) more = (refl, more)
+  misc_ordered i j item rest k l g more = grind arith
 
   parts_ordered : (start stop i b c k l : ℕ) (items : Forest Item) → k ≤ l → Parts true no_entities src start stop i b c items → Ordered k l items
-  parts_ordered start stop i b c k l items le (last_part _ _ ss is) = piece_ordered k l start stop _ ss le
-  parts_ordered start stop i b c k l items le (then_entity _ p j _ d _ _ ss one more is (entity_reference n reference name) opens rest) = absurd opens
+  parts_ordered start stop i b c k l items le j = grind arith
 
   mutual
     pub content_ordered : (i j b c : ℕ) (items : Forest Item) → Content true no_entities src i j b c items → Ordered i j items
@@ -96,5 +85,4 @@ module _ (src : List ℕ) where
   pub around_ordered : (i j : ℕ) (items : Forest Item) → Misc src i j items → Ordered i j items
   around_ordered i j items (no_misc _) = omega arith
   around_ordered i j items (space _ _ _ white rest) = wider (i + 1) j i j items (omega arith) (omega arith) (around_ordered (i + 1) j items rest)
-  around_ordered i j items (an_item _ k _ item more is rest) =
-      misc_ordered i k item more i j is (wider k j i j more (omega (arith, misc_lt src i k item is)) (omega arith) (around_ordered k j more rest))
+  around_ordered i j items (an_item _ k _ item more is rest) = grind (arith, around_ordered k j more rest, misc_ordered, wider, misc_lt)

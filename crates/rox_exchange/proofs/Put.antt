@@ -4,6 +4,7 @@ use Rattle.std.specs.Str.{IsUtf8}
 use Rattle.std.proofs.lemmas.List.{append_assoc}
 use Rattle.std.proofs.lemmas.Str.{IsUtf8-take, IsUtf8-append, IsCharBoundary-before_ascii, IsCharBoundary-after_ascii}
 use Rattle.std.proofs.Math.Seq.{drop-append_seam}
+use Rattle.std.proofs.lemmas.Grind.{common_steps}
 use Rattle.rox_grammar.specs.Forest.{Forest}
 use Rattle.rox_grammar.specs.Written.{Item}
 use Rattle.rox_grammar.specs.Names.{slice}
@@ -29,9 +30,7 @@ take_suc zero (x ∷ xs) lt = refl
 take_suc (suc n) (x ∷ xs) lt = ap (λ (l : List ℕ). x ∷ l) (take_suc n xs (omega arith))
 
 take_more : (n : ℕ) (xs : List ℕ) → n < length xs → take (n + 1) xs ≡ take n xs ++ get_or xs n 0 ∷ []
-take_more n xs lt =
-    let e : n + 1 ≡ suc n = omega arith in
-    ap (λ (k : ℕ). take k xs) e ∙ take_suc n xs lt
+take_more n xs lt = grind (arith, take_suc)
 
 module _ (src other : List ℕ) (s e a z : ℕ) (utf8 : IsUtf8 src) (utf8' : IsUtf8 other) (hole one : Forest Item)
     (is : IsElement true no_entities src s e 255 255 hole) (new : IsElement true no_entities other a z 255 255 one) where
@@ -46,16 +45,7 @@ module _ (src other : List ℕ) (s e a z : ℕ) (utf8 : IsUtf8 src) (utf8' : IsU
 
   -- How long its parts are.
   pub sizes : (s < e) × (e ≤ length src) × (a < z) × (z ≤ length other) × (length (take s src) ≡ s) × (length (slice other a z) ≡ z - a) × (length (take s src ++ slice other a z) ≡ s + (z - a))
-  sizes =
-      let lt = element_lt src true no_entities s e 255 255 hole is in
-      let lt' = element_lt other true no_entities a z 255 255 one new in
-      let u = alone_utf8 src s e 255 hole utf8 is in
-      let u' = alone_utf8 other a z 255 one utf8' new in
-      let in_src = u.0 in
-      let in_other = u'.0 in
-      let n : length (take s src) ≡ s = omega (arith, length-take s src) in
-      let n' : length (slice other a z) ≡ z - a = omega (arith, length-take (z - a) (drop a other), length-drop a other) in
-      (lt, in_src, lt', in_other, n, n', omega (arith, length-append (take s src) (slice other a z)))
+  sizes = grind (arith, element_lt, alone_utf8, length-take, length-drop, length-append)
 
   -- In three parts.
   pub parts : own ≡ (take s src ++ slice other a z) ++ drop e src
@@ -63,46 +53,24 @@ module _ (src other : List ℕ) (s e a z : ℕ) (utf8 : IsUtf8 src) (utf8' : IsU
 
   -- After it the old source continues.
   pub behind : Follows grows src e own (moved grows e)
-  behind =
-      let n = sizes in
-      let lt = n.0 in
-      let long = n.6 in
-      let at : moved grows e ≡ length (take s src ++ slice other a z) = omega arith in
-      record {
-        same = sym (drop-append_seam (take s src ++ slice other a z) (drop e src)) ∙ ap (drop (length (take s src ++ slice other a z))) (sym parts) ∙ ap (λ (k : ℕ). drop k own) (sym at);
-        at = omega arith;
-      }
+  behind = grind (arith, common_steps, sizes)
 
   -- It is in its place.
   pub put : IsElement true no_entities own s (moved grows e) 255 255 (moved_items goes one)
   put =
       let n = sizes in
-      let lt = n.0 in
-      let lt' = n.2 in
-      let in_src = n.1 in
-      let in_other = n.3 in
-      let short = n.4 in
-      let long = n.6 in
       let wide = take s src ++ drop a other in
       let split : drop a other ≡ slice other a z ++ drop (z - a) (drop a other) = sym (take-append-drop (z - a) (drop a other)) in
       let wide_parts : wide ≡ (take s src ++ slice other a z) ++ drop (z - a) (drop a other) = ap (λ (l : List ℕ). take s src ++ l) split ∙ sym (append_assoc (take s src) (slice other a z) (drop (z - a) (drop a other))) in
       let starts : a + s - a ≡ s = omega arith in
       let stops : z + s - a ≡ moved grows e = omega arith in
-      let here : Follows goes other a wide (a + s - a) = record {
-        same = sym (drop-append_seam (take s src) (drop a other)) ∙ ap (λ (k : ℕ). drop k wide) (short ∙ sym starts);
-        at = omega arith;
-      } in
+      let here : Follows goes other a wide (a + s - a) = grind (arith, drop-append_seam) in
       let moved_there = element_moves goes other wide a z 255 255 one here new in
       let first = element_begins src s e 255 255 hole is in
-      let lead = first.0 in
       let front_utf8 : IsUtf8 (take s src ++ slice other a z) = IsUtf8-append (take s src) (slice other a z) (IsUtf8-take src s utf8 (IsCharBoundary-before_ascii src s (omega arith) (omega arith))) (alone_utf8 other a z 255 one utf8' new).1 in
       let one_front : take (length (take s src ++ slice other a z)) wide ≡ take s src ++ slice other a z = ap (take (length (take s src ++ slice other a z))) wide_parts ∙ take_seam (take s src ++ slice other a z) (drop (z - a) (drop a other)) in
       let two_front : take (length (take s src ++ slice other a z)) own ≡ take s src ++ slice other a z = ap (take (length (take s src ++ slice other a z))) parts ∙ take_seam (take s src ++ slice other a z) (drop e src) in
-      let front : Fronts wide own (length (take s src ++ slice other a z)) = record {
-        same = one_front ∙ sym two_front;
-        inside = omega (arith, length-append (take s src) (drop a other), length-drop a other);
-        utf8 = subst IsUtf8 (sym one_front) front_utf8;
-      } in
+      let front : Fronts wide own (length (take s src ++ slice other a z)) = grind (arith, length-append) in
       let cut = element_cut wide own (length (take s src ++ slice other a z)) front (a + s - a) (z + s - a) 255 255 (moved_items goes one) (omega arith) moved_there in
       subst (λ (k : ℕ). IsElement true no_entities own k (moved grows e) 255 255 (moved_items goes one)) starts
       (subst (λ (k : ℕ). IsElement true no_entities own (a + s - a) k 255 255 (moved_items goes one)) stops cut)
@@ -111,11 +79,7 @@ module _ (src other : List ℕ) (s e a z : ℕ) (utf8 : IsUtf8 src) (utf8' : IsU
   pub in_front : Fronts src own (s + 1)
   in_front =
       let n = sizes in
-      let lt = n.0 in
-      let in_src = n.1 in
-      let lt' = n.2 in
       let short = n.4 in
-      let long = n.6 in
       let first = element_begins src s e 255 255 hole is in
       let second = element_begins own s (moved grows e) 255 255 (moved_items goes one) put in
       let lead = first.0 in

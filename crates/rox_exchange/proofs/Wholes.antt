@@ -1,18 +1,17 @@
 -- A document, its elements as documents, and an element of another document in the place of one of its own: by ids.
-use Rattle.std.proofs.Common.{◌≡◌, ℕ, zero, suc, ◌-◌, ◌<◌, ◌≤◌, true, false, List, [], ◌++◌, length, take, drop, nat_lt, refl, sym, ap, ◌∙◌, subst, arith, inl, inr}
+use Rattle.std.proofs.Common.{◌≡◌, ℕ, suc, ◌-◌, ◌<◌, true, false, List, [], ◌++◌, length, take, drop, nat_lt, sym, ap, ◌∙◌, subst, arith}
 use Rattle.std.specs.Str.{IsUtf8, IsCharBoundary}
-use Rattle.std.proofs.lemmas.Bool.{cases_Bool}
-use Rattle.std.proofs.lemmas.Str.{IsUtf8-take, IsUtf8-drop, IsUtf8-append, IsCharBoundary-before_ascii}
+use Rattle.std.proofs.lemmas.Str.{IsUtf8-take, IsUtf8-drop, IsUtf8-append}
+use Rattle.std.proofs.lemmas.Grind.{common_steps}
 use Rattle.rox_grammar.specs.Forest.{Forest, Nil, Cons, size}
-use Rattle.rox_grammar.specs.Written.{NamespaceDecl, Item, Element}
+use Rattle.rox_grammar.specs.Written.{Item, Element}
 use Rattle.rox_grammar.specs.Tree.{Node, Root, resolved, document_tree}
 use Rattle.rox_grammar.specs.Names.{slice}
 use Rattle.rox_grammar.specs.Content.{IsElement}
 use Rattle.rox_grammar.specs.WellNamed.{AreWellNamed}
 use Rattle.rox_grammar.specs.Entities.{no_entities}
 use Rattle.rox_grammar.proofs.CountForms.{limits_counted, counts_limited}
-use Rattle.rox_grammar.specs.Document.{most_pairs, IsWithinLimits, IsTreeOf}
-use Rattle.rox_grammar.specs.Counts.{distinct_pairs}
+use Rattle.rox_grammar.specs.Document.{IsWithinLimits, IsTreeOf}
 use Rattle.rox_grammar.specs.Exchange.{Move, moved, shifted, subtree, exchanged, self_contained, row_start, row_end, start_at, end_at, replaced, HasTree, with_other, text_with}
 use Rattle.rox_theory.specs.WithoutDoctype.{ParseWithout}
 use Rattle.rox_theory.proofs.Without.{parse_without, parse_with}
@@ -21,7 +20,6 @@ use Rattle.rox_theory.proofs.Around.{element_ends, ends_cut}
 use Rattle.rox_theory.proofs.ParseParts.{tree_parts, parts_tree}
 use Rattle.rox_exchange.specs.Local.{moved_items}
 use Rattle.rox_exchange.specs.ElementWith.{exchanged_items}
-use Rattle.rox_exchange.proofs.Order.{element_lt}
 use Rattle.rox_exchange.proofs.MovedItems.{moved_resolved, moved_size, moved_pairs, moved_attributes}
 use Rattle.rox_exchange.proofs.Found.{element_found}
 use Rattle.rox_exchange.proofs.Alone.{element_begins, alone_utf8, parse_alone, shown_alone, reparse_at}
@@ -40,14 +38,7 @@ pub record Whole (text : List ℕ) (tree : Forest Node) (id : ℕ) : Type 0 wher
   pub found : Found 0 (length text) tops below
 
 whole_at : (text : List ℕ) (tops : Forest Item) (id : ℕ) → ParseWithout text tops → self_contained (document_tree (length text) tops) id ≡ true → Whole text (document_tree (length text) tops) id
-whole_at text tops zero p is = cc is
-whole_at text tops (suc k) p is =
-    elim (cases_Bool (nat_lt k (size (resolved [] tops)))) as (λ q. Whole text (document_tree (length text) tops) (suc k)) [
-      | inl inside ↦ (
-          let there : self_contained (resolved [] tops) k ≡ true = rw inside at is in
-          record { tops = tops; parse = p; shown = refl; below = k; is_below = refl; inside = inside; found = find 0 (length text) tops k (tops_ordered text tops p) there })
-      | inr outside ↦ (let none : false ≡ true = rw outside at is in cc none)
-    ]
+whole_at text tops c p is = grind (arith, find, tops_ordered)
 
 pub whole : (text : List ℕ) (tree : Forest Node) (id : ℕ) → HasTree text tree → self_contained tree id ≡ true → Whole text tree id
 whole text tree id h is =
@@ -58,9 +49,7 @@ module _ (text : List ℕ) (tree : Forest Node) (id : ℕ) (utf8 : IsUtf8 text) 
   own = Cons (Element w.found.start w.found.end w.found.tag) w.found.kids Nil
 
   pub subtree_is : subtree tree id ≡ resolved [] own
-  subtree_is =
-      let inside = w.inside in
-      ap (λ (f : Forest Node). subtree f id) w.shown ∙ ap (subtree (document_tree (length text) w.tops)) w.is_below ∙ rw inside w.found.alone
+  subtree_is = cc
 
   pub element_is : IsElement true no_entities text w.found.start w.found.end 255 255 own
   element_is =
@@ -77,21 +66,13 @@ module _ (text : List ℕ) (tree : Forest Node) (id : ℕ) (utf8 : IsUtf8 text) 
   -- Alone it is a document.
   pub reparse_whole : HasTree (slice text (start_at tree id) (end_at tree id))
       (Cons (Root (end_at tree id - start_at tree id)) (shifted (record { add = 0; sub = start_at tree id }) (subtree tree id)) Nil)
-  reparse_whole =
-      subst (λ (f : Forest Node). HasTree (slice text (row_start f) (row_end f)) (Cons (Root (row_end f - row_start f)) (shifted (record { add = 0; sub = row_start f }) f) Nil))
-      (sym subtree_is) (reparse_at text w.found.start w.found.end 255 own utf8 element_is named_is)
+  reparse_whole = grind (arith, reparse_at, element_is)
 
   -- Within the limits that the whole is within.
   own_within : (limit : ℕ) → IsWithinLimits limit w.tops → IsWithinLimits limit (moved_items back own)
   own_within limit within =
       let part = limits_counted limit own (part_within w.found.start w.found.end w.found.tag w.found.kids limit w.tops w.found.stands within) in
-      let nodes = part.nodes in
-      let attributes = part.attributes in
-      counts_limited limit (moved_items back own) (record {
-        nodes = omega (arith, moved_size back own);
-        attributes = omega (arith, moved_attributes back own);
-        namespaces = subst (λ (ds : List NamespaceDecl). length (distinct_pairs ds) ≤ most_pairs) (sym (moved_pairs back own)) part.namespaces;
-      })
+      counts_limited limit (moved_items back own) (grind (arith, common_steps, moved_size, moved_attributes, moved_pairs))
 
   pub reparse_within : (limit : ℕ) → IsTreeOf text false [] limit tree → IsTreeOf (slice text (start_at tree id) (end_at tree id)) false [] limit
       (Cons (Root (end_at tree id - start_at tree id)) (shifted (record { add = 0; sub = start_at tree id }) (subtree tree id)) Nil)
@@ -108,20 +89,11 @@ module _ (text : List ℕ) (tree : Forest Node) (id : ℕ) (utf8 : IsUtf8 text) 
 
   -- It begins and ends between characters of the text.
   pub cut_is : (start_at tree id < end_at tree id) × IsCharBoundary text (start_at tree id) × IsCharBoundary text (end_at tree id)
-  cut_is =
-      let lt = element_lt text true no_entities w.found.start w.found.end 255 255 own element_is in
-      let ends = ends_cut text w.found.end utf8 (element_ends true no_entities text w.found.start w.found.end 255 255 own element_is) in
-      let inside = ends.0 in
-      let first = element_begins text w.found.start w.found.end 255 255 own element_is in
-      let lead = first.0 in
-      let starts = IsCharBoundary-before_ascii text w.found.start (omega arith) (omega arith) in
-      subst (λ (f : Forest Node). (row_start f < row_end f) × IsCharBoundary text (row_start f) × IsCharBoundary text (row_end f)) (sym subtree_is) (lt, starts, ends)
+  cut_is = grind (arith, element_is, ends_cut, element_ends, element_begins)
 
 -- A text has one tree.
 pub same_tree : (text : List ℕ) (s t : Forest Node) → IsUtf8 text → HasTree text s → HasTree text t → s ≡ t
-same_tree text s t utf8 a b =
-    let same = one_plain_parse text utf8 [] [] a.written b.written a.parse b.parse in
-    a.shown ∙ ap (document_tree (length text)) same ∙ sym b.shown
+same_tree text s t utf8 a b = grind (arith, one_plain_parse text utf8 [] [] a.written b.written a.parse b.parse)
 
 -- The tree of a text, the limits aside.
 pub tree_of_text : (text : List ℕ) (limit : ℕ) (tree : Forest Node) → IsTreeOf text false [] limit tree → HasTree text tree
@@ -144,10 +116,8 @@ module _ (text : List ℕ) (tree : Forest Node) (id : ℕ) (other_text : List �
   shown_exchanged : exchanged grows (shifted goes (resolved [] one)) tree id
       ≡ document_tree (length (replaced text w.found.start w.found.end (slice other_text w'.found.start w'.found.end))) (exchanged_items grows (moved_items goes one) w.found.start w.tops)
   shown_exchanged =
-      let inside = w.inside in
       let put_in = moved_items goes one in
-      let all : exchanged grows (resolved [] put_in) (document_tree (length text) w.tops) (suc w.below) ≡ document_tree (moved grows (length text)) (exchanged_items grows put_in w.found.start w.tops) =
-      rw inside (ap (λ (f : Forest Node). Cons (Root (moved grows (length text))) f Nil) (sym (w.found.exchange grows put_in))) in
+      let all : exchanged grows (resolved [] put_in) (document_tree (length text) w.tops) (suc w.below) ≡ document_tree (moved grows (length text)) (exchanged_items grows put_in w.found.start w.tops) = grind arith in
       ap (λ (f : Forest Node). exchanged grows f tree id) (sym (moved_resolved goes [] one)) ∙ ap (λ (f : Forest Node). exchanged grows (resolved [] put_in) f id) w.shown
       ∙ ap (exchanged grows (resolved [] put_in) (document_tree (length text) w.tops)) w.is_below ∙ all
       ∙ ap (λ (n : ℕ). document_tree n (exchanged_items grows put_in w.found.start w.tops))

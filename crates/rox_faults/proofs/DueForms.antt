@@ -1,5 +1,5 @@
 -- What is required by its kind, as proofs speak of it: the kinds one by one.
-use Rattle.std.proofs.Common.{◌≡◌, ◌≢◌, ℕ, ◌<◌, ◌⊎◌, true, false, List, length, refl, inl, inr}
+use Rattle.std.proofs.Common.{◌≡◌, ◌≢◌, ℕ, ◌<◌, ◌⊎◌, true, false, List, length, refl, arith}
 use Rattle.std.proofs.lemmas.Bool.{ne_eqb}
 use Rattle.rox_grammar.specs.declared.fault.Due.TheVariants as kinds
 use Rattle.rox_grammar.specs.declared.fault.Fault.TheVariants as fault
@@ -44,20 +44,16 @@ no_definition {src} {p} inside no_double no_single no_s no_p =
 -- ---- a byte that is of it
 
 pub quote_is : (b : ℕ) → (b ≡ 39) ⊎ (b ≡ 34) → is_of kinds.Quote b ≡ true
-quote_is b (inl is) = rw is refl
-quote_is b (inr is) = rw is refl
+quote_is b h = grind arith
 
 pub quote_defines : (b : ℕ) → (b ≡ 39) ⊎ (b ≡ 34) → is_of kinds.EntityDefinition b ≡ true
-quote_defines b (inl is) = rw is refl
-quote_defines b (inr is) = rw is refl
+quote_defines b h = grind arith
 
 pub letter_defines : (b : ℕ) → (b ≡ 83) ⊎ (b ≡ 80) → is_of kinds.EntityDefinition b ≡ true
-letter_defines b (inl is) = rw is refl
-letter_defines b (inr is) = rw is refl
+letter_defines b h = grind arith
 
 pub subset_or_end_is : (b : ℕ) → (b ≡ 62) ⊎ (b ≡ 91) → is_of kinds.SubsetOrEnd b ≡ true
-subset_or_end_is b (inl is) = rw is refl
-subset_or_end_is b (inr is) = rw is refl
+subset_or_end_is b h = grind arith
 
 pub end_is : (b : ℕ) → b ≡ 62 → is_of kinds.End b ≡ true
 end_is b is = rw is refl

@@ -1,5 +1,5 @@
 -- Where a construct is, nothing that is required in it lacks: so no fault of it is there.
-use Rattle.std.proofs.Common.{◌≡◌, ℕ, ◌+◌, ◌<◌, ◌⊎◌, true, List, take, refl, sym, ◌∙◌, subst, arith, inl, inr}
+use Rattle.std.proofs.Common.{◌≡◌, ℕ, ◌+◌, ◌<◌, ◌⊎◌, true, List, take, refl, sym, ◌∙◌, subst, arith}
 use Rattle.std.specs.Str.{IsUtf8, IsCharBoundary}
 use Rattle.std.proofs.lemmas.Bool.{true≢false}
 use Rattle.rox_grammar.specs.declared.fault.Fault.{Fault}
@@ -13,11 +13,11 @@ use Rattle.rox_grammar.specs.Chars.{is_char, is_space, is_name_char}
 use Rattle.rox_grammar.specs.Written.{Name, Item}
 use Rattle.rox_grammar.specs.Names.{byte, spaces_end, IsName, IsQName}
 use Rattle.rox_grammar.specs.Constructs.{AreChars, IsComment, IsPI}
-use Rattle.rox_grammar.specs.Content.{IsMisc, comment, instruction}
-use Rattle.rox_grammar.specs.Due.{DueItem, a_name, a_qname, a_byte, a_text, chars_to, IsMissing, no_name, no_qname, other_byte, other_text, no_char, no_byte, none_left, DueInText, DueInPI, none_of}
+use Rattle.rox_grammar.specs.Content.{IsMisc}
+use Rattle.rox_grammar.specs.Due.{DueItem, a_name, a_qname, a_byte, a_text, chars_to, IsMissing, no_name, no_qname, other_text, no_char, none_left, DueInText, DueInPI, none_of}
 use Rattle.rox_faults.proofs.DueForms.{a_space}
 use Rattle.rox_grammar.specs.Due as due
-use Rattle.rox_grammar.specs.Faults.{InMisc, comment_lacks, double_dashes, a_declaration, instruction_lacks}
+use Rattle.rox_grammar.specs.Faults.{InMisc}
 use Rattle.rox_grammar.proofs.AtPlace.{mark_from_cut, run_at_end, space_ascii}
 use Rattle.rox_theory.proofs.Productions.{comment_parts, pi_parts}
 use Rattle.rox_theory.proofs.FirstMarks.{comment_ends}
@@ -52,8 +52,7 @@ qname_stands src q n name f is (no_qname none) = none name n is
 
 -- A byte.
 pub byte_stands : (src : List ℕ) (b q : ℕ) (f : Fault) → 0 < b → byte src q ≡ b → IsMissing src q (a_byte b) f → ⊥
-byte_stands src b q f some is (other_byte _ below apart) = apart is
-byte_stands src b q f some is (no_byte _ past) = let l = within src q (λ z. omega arith) in absurd (omega arith)
+byte_stands src b q f some is p = grind (arith, within)
 
 -- A fixed text.
 pub word_stands : (src : List ℕ) (w : Expected) (q : ℕ) (f : Fault) → stands (expected_text w) src q ≡ true → IsMissing src q (a_text w) f → ⊥
@@ -80,10 +79,7 @@ module _ (src : List ℕ) (utf8 : IsUtf8 src) where
 
   -- In a comment.
   comment_apart : (i e j q : ℕ) (t : DueItem) (f : Fault) → IsComment src i e j → DueInText expected.CommentEnd src (i + 4) q t → IsMissing src q t f → ⊥
-  comment_apart i e j q t f is due' lack =
-      let three : i + 3 + 1 ≡ i + 4 = omega arith in
-      let cut = subst (IsCharBoundary src) three (behind word.CommentStart src i 3 45 utf8 (comment_parts is).opens (omega arith) refl (omega arith) (omega arith)) in
-      text_stands expected.CommentEnd (i + 4) e q t f cut (mark_from_cut (word_text word.CommentEnd) src (i + 4) (omega arith) (omega arith) cut.0) (comment_ends src (i + 4) e (comment_parts is).dashes (comment_parts is).closes) (comment_parts is).chars (comment_parts is).closes due' lack
+  comment_apart i e j q t f is due' lack = grind (arith, comment_parts, comment_ends)
 
   -- In an instruction: its name ends in one place.
   instruction_apart : (i n e j q : ℕ) (t : DueItem) (f : Fault) → IsPI src i n e j → DueInPI src i q t → IsMissing src q t f → ⊥
@@ -93,28 +89,12 @@ module _ (src : List ℕ) (utf8 : IsUtf8 src) where
       let cut = subst (IsCharBoundary src) one (behind word.PIStart src i 1 63 utf8 (pi_parts is).opens (omega arith) refl (omega arith) (omega arith)) in
       let v = spaces_end src n in
       let at_value : IsCharBoundary src v = run_cut is_space src n utf8 (subst (IsCharBoundary src) (sym (pi_parts is).target.longest) (run_cut is_name_char src (i + 2) utf8 cut)) in
-      let same : m ≡ n = name.longest ∙ sym (pi_parts is).target.longest in
-      text_stands expected.PIEnd v e q t f at_value (mark_from_cut (word_text word.PIEnd) src v (omega arith) (omega arith) at_value.0) (pi_parts is).end (pi_parts is).chars (pi_parts is).closes
-      (subst (λ (m : ℕ). DueInText expected.PIEnd src (spaces_end src m) q t) same value) lack
+      grind (arith, text_stands, mark_from_cut, pi_parts)
 
   -- One of both begins where a fault of them is.
   pub misc_begins : (i : ℕ) (f : Fault) → InMisc src i f → (at word.CommentStart src i ≡ true) ⊎ (at word.PIStart src i ≡ true)
-  misc_begins i f (comment_lacks _ opens lacks) = inl opens
-  misc_begins i f (double_dashes e opens to before) = inl opens
-  misc_begins i f (a_declaration opens) = inr (declaration_bytes src i opens)
-  misc_begins i f (instruction_lacks _ opens none lacks) = inr opens
+  misc_begins i f h = grind (arith, declaration_bytes)
 
   -- A fault of them is in none that is there.
   pub misc_apart : (i j : ℕ) (item : Item) (f : Fault) → IsMisc src i j item → InMisc src i f → ⊥
-  misc_apart i j item f (comment _ e _ is) (comment_lacks _ opens (q, t, due', lack)) = comment_apart i e j q t f is due' lack
-  misc_apart i j item f (comment _ e _ is) (double_dashes k opens (end, chars, closes) before) =
-      let p = comment_parts is in
-      let same = comment_ends src (i + 4) e p.dashes p.closes in
-      let dashes = p.dashes in
-      omega arith
-  misc_apart i j item f (comment _ e _ is) (a_declaration opens) = not_both src i (comment_parts is).opens (declaration_bytes src i opens)
-  misc_apart i j item f (comment _ e _ is) (instruction_lacks _ opens none lacks) = not_both src i (comment_parts is).opens opens
-  misc_apart i j item f (instruction _ n e _ is) (comment_lacks _ opens lacks) = not_both src i opens (pi_parts is).opens
-  misc_apart i j item f (instruction _ n e _ is) (double_dashes k opens to before) = not_both src i opens (pi_parts is).opens
-  misc_apart i j item f (instruction _ n e _ is) (a_declaration opens) = true≢false (sym opens ∙ (pi_parts is).no_declaration)
-  misc_apart i j item f (instruction _ n e _ is) (instruction_lacks _ opens none (q, t, due', lack)) = instruction_apart i n e j q t f is due' lack
+  misc_apart i j item f h k = grind (arith, comment_apart, comment_parts, comment_ends, not_both, declaration_bytes, pi_parts, instruction_apart)

@@ -1,15 +1,15 @@
 -- At a place on the way of a parse no fault stands but those of the limits, and where it is within the limits none; nor does one
 -- stand in a value of a start tag there.
-use Rattle.std.proofs.Common.{◌≡◌, ◌≢◌, ℕ, zero, suc, ◌+◌, ◌-◌, ◌<◌, ◌≤◌, ◌⊎◌, ◌==◌, Bool, true, false, List, [], length, Some, Ok, refl, sym, ap, ◌∙◌, subst, arith, inl, inr}
+use Rattle.std.proofs.Common.{◌≡◌, ◌≢◌, ℕ, suc, ◌+◌, ◌-◌, ◌<◌, ◌≤◌, ◌⊎◌, ◌==◌, Bool, true, false, List, [], length, Some, Ok, refl, sym, ap, ◌∙◌, subst, arith, inl, inr}
 use Rattle.std.specs.Str.{IsUtf8, IsCharBoundary}
 use Rattle.std.proofs.lemmas.Str.{IsCharBoundary-before_ascii, IsCharBoundary-end}
-use Rattle.std.proofs.lemmas.Bool.{cases_Bool, lt-leb, le-leb, eq-eqb, eqb-true, ne_eqb}
+use Rattle.std.proofs.lemmas.Bool.{cases_Bool, lt-leb, le-leb, eq-eqb, eqb-true}
 use Rattle.rox_grammar.specs.declared.fault.Fault.{Fault}
 use Rattle.rox_grammar.specs.declared.fault.Word.TheVariants as word
 use Rattle.rox_grammar.specs.declared.fault.Expected.TheVariants as expected
 use Rattle.rox_grammar.specs.FixedTexts.{word_text, at}
 use Rattle.rox_grammar.specs.Search.{byte_from}
-use Rattle.rox_grammar.specs.Forest.{Forest, Nil, join}
+use Rattle.rox_grammar.specs.Forest.{Forest, join}
 use Rattle.rox_grammar.specs.Written.{Name, Attribute, Tag, Item, Element}
 use Rattle.rox_grammar.specs.Tree.{listed}
 use Rattle.rox_grammar.specs.Names.{byte, slice, spaces_end, IsQName}
@@ -18,10 +18,10 @@ use Rattle.rox_grammar.specs.Content.{Inclusion, IsMisc, Value}
 use Rattle.rox_grammar.specs.Entities.{Replacement, Entity, text_of, most_deep}
 use Rattle.rox_grammar.specs.State as grammar
 use Rattle.rox_grammar.specs.WellNamed.{IsWellNamed}
-use Rattle.rox_grammar.specs.State.{Open, root, inside, is_root, depth_of, scope_of}
+use Rattle.rox_grammar.specs.State.{Open, root, inside, depth_of, scope_of}
 use Rattle.rox_grammar.specs.Due.{DueItem, IsMissing, no_qname, DueInText}
 use Rattle.rox_grammar.specs.Due as due
-use Rattle.rox_grammar.specs.ContentPoints.{is_main, is_content, TagBegins, of_root, in_content, IsSpent, MayOpen, ValuePart, itself, opened, TagTo}
+use Rattle.rox_grammar.specs.ContentPoints.{is_main, is_content, TagBegins, IsSpent, MayOpen, ValuePart, itself, opened, TagTo}
 use Rattle.rox_grammar.specs.Faults.{InMisc, InRun, no_char, end_mark, in_reference, too_many, InValue, less, InEnd, lacks, other_name, none_open, Stands, in_run, in_section, in_misc, in_tag, in_end, unknown, unclosed, too_many_nodes, too_many_pieces}
 use Rattle.rox_grammar.specs.Faults as faults
 use Rattle.rox_reading.specs.State.{State}
@@ -32,7 +32,7 @@ use Rattle.rox_theory.specs.ValidState.{AreNamed, IsValidState, state}
 use Rattle.rox_theory.proofs.Productions.{cdata_parts, end_parts, char_data_parts}
 use Rattle.rox_theory.proofs.Basics.{within}
 use Rattle.rox_theory.proofs.CharTexts.{cut_behind}
-use Rattle.rox_theory.proofs.LiteralLemmas.{from_here, quote_ascii}
+use Rattle.rox_theory.proofs.LiteralLemmas.{from_here}
 use Rattle.rox_theory.proofs.MarkupLemmas as markup
 use Rattle.rox_theory.proofs.Constructions.{a_comment, a_cdata, an_instruction, an_end, a_tag, nothing, kind_at, comment_kind, cdata_kind, instruction_kind, end_kind, comment_bytes, cdata_bytes, instruction_bytes, end_bytes}
 use Rattle.rox_theory.proofs.Standing.{item-named}
@@ -50,7 +50,7 @@ use Rattle.rox_faults.proofs.FaultApart.{byte_stands, chars_stand, misc_begins, 
 use Rattle.rox_faults.proofs.FaultPairs.{one_qname}
 use Rattle.rox_faults.proofs.FaultReferences.{run_reference_apart, value_reference_apart, value_gives_less, value_no_less}
 use Rattle.rox_faults.proofs.FaultInTags.{tag_apart, value_there}
-use Rattle.rox_faults.proofs.FaultWay.{state_of, OpensAt, may_deep, may_once, same_text, Trail, stays, follows, Ends, Reached, step_there, there_by, one_step, place_within, takes_there, run_there, opened_there}
+use Rattle.rox_faults.proofs.FaultWay.{state_of, OpensAt, may_deep, same_text, Trail, stays, follows, Ends, Reached, step_there, there_by, one_step, place_within, takes_there, run_there, opened_there}
 use Rattle.rox_faults.proofs.StateCounts.{too_many_counted}
 
 -- Where a text may be opened the openings are not spent.
@@ -59,13 +59,10 @@ spent_apart k b r may spent = spent r may
 
 -- Where a start tag begins in content, one is read.
 tag_here : (src : List ℕ) (i : ℕ) (x : Bool) → TagBegins src i x → x ≡ true → kind_at src i ≡ a_tag
-tag_here src i x (of_root opens) inner = cc inner
-tag_here src i x (in_content opens inside' no_mark no_question no_slash) inner =
-    rw (eq-eqb _ _ opens, lt-leb (length src) (i + 1) inside', ne_eqb _ _ no_mark, ne_eqb _ _ no_question, ne_eqb _ _ no_slash) refl
+tag_here src i x h inner = grind arith
 
 tag_less : (src : List ℕ) (i : ℕ) (x : Bool) → TagBegins src i x → byte src i ≡ 60
-tag_less src i x (of_root opens) = opens
-tag_less src i x (in_content opens inside' no_mark no_question no_slash) = opens
+tag_less src i x h = grind arith
 
 -- The tag of the innermost open element.
 tag_of : Tag → Open → Tag
@@ -78,22 +75,12 @@ end_one src i j k m n x y a b =
     let e = ok_one (record { name = x; name_end = m }, j) (record { name = y; name_end = n }, k) (end_tag_at src i) (markup.end_complete src i j m x a) (markup.end_complete src i k n y b) in
     (ap (λ (t : EndTag × ℕ). t.0.name) e, ap (λ (t : EndTag × ℕ). t.0.name_end) e)
 
--- Where content ends, no element is open in it.
-root_depth : (stack : Open) → is_root stack ≡ true → depth_of stack ≡ 0
-root_depth root is = refl
-root_depth (inside start tag before up) is = cc is
-
 ends_depth : (k open_around : ℕ) (src : List ℕ) (e : State) → Ends k open_around src e → depth_of e.stack ≤ open_around
-ends_depth zero open_around src e ends = omega (arith, root_depth e.stack ends)
-ends_depth (suc k) open_around src e ends = omega (arith, ends.1)
+ends_depth k open_around src e ends = grind arith
 
 module _ (opens : ℕ → Inclusion) (es : List Entity) (all : OpensAt opens es) (limit : ℕ) (W : Type 0) where
   abbrev There : (k open_around : ℕ) → List ℕ → State → Type 0
   There k open_around src s = Reached opens es all limit W k open_around src s
-
-  -- A declared entity has a text.
-  content_declared : (k : ℕ) (name : List ℕ) (b c : ℕ) (items : Forest Item) → (opens k).content name b items c → (t : Replacement) × (text_of es name ≡ Some t)
-  content_declared k name b c items h = let x = all.content k b c name items h in (x.0, x.3)
 
   value_declared : (k : ℕ) (name : List ℕ) (b c : ℕ) (v : List ℕ) → (opens k).value name b v c → (t : Replacement) × (text_of es name ≡ Some t)
   value_declared k name b c v h = let x = all.value k b c name v h in (x.0, x.3)
@@ -109,15 +96,8 @@ module _ (opens : ℕ → Inclusion) (es : List Entity) (all : OpensAt opens es)
     run_apart f below other (faults.InRun.no_char _ lack) =
         let run = run_there opens es all limit W k open_around b src s r below other in
         chars_stand src r.utf8 s.at (byte_from (λ c. c == 60) src s.at) f r.cut (run_stops_cut src s.at below) (subst (λ (e : ℕ). AreChars src s.at e) (char_data_parts run.1).end (char_data_parts run.1).chars) lack
-    run_apart f below other (end_mark e is chars before) =
-        let run = run_there opens es all limit W k open_around b src s r below other in
-        let same : e ≡ run.0 = is ∙ sym (char_data_parts run.1).end in
-        let none = (char_data_parts run.1).unmarked in
-        omega arith
-    run_apart f below other (faults.InRun.in_reference e q _ is from inside' ill) =
-        let run = run_there opens es all limit W k open_around b src s r below other in
-        let below' : q < run.0 = subst (λ (j : ℕ). q < j) ((char_data_parts is).end ∙ sym (char_data_parts run.1).end) inside' in
-        run_reference_apart es (is_main k) (opens k) src r.utf8 (content_declared k) s.at run.0 b run.2.openings_left q run.2.items f run.2.parts from below' ill
+    run_apart f below other (end_mark e is chars before) = grind (arith, run_there opens es all limit W k open_around b src s r below other)
+    run_apart f below other (faults.InRun.in_reference e q _ is from inside' ill) = grind (arith, run_there opens es all limit W k open_around b src s r below other, run_reference_apart)
     run_apart f below other (faults.InRun.too_many run spent) =
         let refers = to_entity es src run.reference run.after run.replacement run.refers in
         let found = (opened_there opens es all limit W k open_around b src s r run.run_end run.reference run.openings_left run.after run.front run.replacement run.is_run run.is_front run.within_run refers).1 in
@@ -183,8 +163,7 @@ module _ (opens : ℕ → Inclusion) (es : List Entity) (all : OpensAt opens es)
 
     -- And that it is well named.
     tag_named : (j c : ℕ) (x : Tag) (empty : Bool) → AreNamed (after here j x empty c).stack (after here j x empty c).done → IsWellNamed (listed (scope_of s.stack) x.declarations) x
-    tag_named j c x true named = (item-named s.stack s.done (Element s.at j x) Nil named).1
-    tag_named j c x false named = named.1
+    tag_named j c x empty named = grind (arith, item-named)
 
     -- Holds no fault.
     read_tag_apart : (t : State) (f : Fault) → Tagged (is_main k) (opens k) src open_around here t → (W → IsValidState limit t) → AreNamed t.stack t.done → faults.InTag (is_main k) (opens k) src s b f → IsOver W f
@@ -227,7 +206,6 @@ module _ (opens : ℕ → Inclusion) (es : List Entity) (all : OpensAt opens es)
         let there = step_there opens es all limit W k open_around src here r below in
         nodes_over W (λ w.
         (let fine = subst (IsValidState limit) (one_step opens es all limit W k open_around src here r (state_of t c) (takes_there opens es all limit W k open_around b src s r t c takes) below) (there.fine w) in
-        let nodes = fine.nodes in
         omega arith))
     stands_apart f (too_many_pieces to inner named many) =
         let q = to.reference in
@@ -278,10 +256,7 @@ module _ (opens : ℕ → Inclusion) (es : List Entity) (all : OpensAt opens es)
       let x = all.value m c there.1 name there.0 there.2 in
       let text = all.texts name t refers.3 in
       let text_is : x.0 ≡ t = same_text es name x.0 t x.3 refers.3 in
-      let openings_left_is : x.1 ≡ d = may_once m c x.1 d x.4 may in
-      let value : Value false (opens (suc m)) t.source (length t.source) t.start d x.2 there.0 =
-      subst (λ (r : ℕ). Value false (opens (suc m)) t.source (length t.source) t.start r x.2 there.0) openings_left_is
-      (subst (λ (t : Replacement). Value false (opens (suc m)) t.source (length t.source) t.start x.1 x.2 there.0) text_is x.6) in
+      let value : Value false (opens (suc m)) t.source (length t.source) t.start d x.2 there.0 = grind arith in
       record {
         depth = most_deep - suc m;
         deep = let more = may_deep m c d may in omega arith;
@@ -318,7 +293,6 @@ module _ (opens : ℕ → Inclusion) (es : List Entity) (all : OpensAt opens es)
           let adds : W → Adds (state_of s b) (Element s.at j' x) = λ w. tag_adds k open_around b src s r j' c' x empty (subst (IsValidState limit) leads (fine w)) in
           let well_named = tag_named k open_around b src s r j' c' x empty (subst (λ (u : State). AreNamed u.stack u.done) leads named') in
           let value = value_there (context_at limit es r.d k open_around).values (opens k) (all.values r.d k r.deep) src r.utf8 s j' b c' empty x is' well_named W (λ w. (adds w).attributes) (λ w. (adds w).pairs) p c n v e j tag_name as' name to named eq literal in
-          let low = quote_ascii (byte src v) literal.0.0 in
           let end = literal.0.1 in let closes = literal.0.2 in
           let h = from_here (λ c. c == byte src v) src (v + 1) (rw (← end) closes) in
           let same : byte src e ≡ byte src v = eqb-true _ _ (rw (← end) at h) in

@@ -9,10 +9,10 @@ use Rattle.rox_grammar.specs.declared.fault.Word.TheVariants as word
 use Rattle.rox_grammar.specs.Chars.{is_space, is_name_start}
 use Rattle.rox_grammar.specs.Runs.{begins}
 use Rattle.rox_grammar.specs.Search.{byte_from}
-use Rattle.rox_grammar.specs.FixedTexts.{word_text, at}
+use Rattle.rox_grammar.specs.FixedTexts.{at}
 use Rattle.rox_grammar.specs.Names.{byte, spaces_end}
 use Rattle.rox_grammar.specs.Doctype.{Request, IsExternalID, BeginsEntity, IsSpace}
-use Rattle.rox_grammar.specs.Due.{DueItem, a_name, a_byte, IsMissing, Misses, no_name, no_external_id, none_left, DueInLiteral, DueInExternalID, DueInEntity, DueInDoctype}
+use Rattle.rox_grammar.specs.Due.{a_name, a_byte, IsMissing, Misses, no_name, no_external_id, none_left, DueInLiteral, DueInExternalID, DueInEntity, DueInDoctype}
 use Rattle.rox_faults.proofs.DueForms.{a_space, a_quote, a_definition, no_space, no_definition}
 use Rattle.rox_grammar.specs.Due as dues
 use Rattle.rox_reading.specs.Lexical.{byte_at, space_at, quote_at, name_at}
@@ -170,11 +170,7 @@ definition_fails src i n m d parameter f begins' h =
 
 -- No external id begins past the end.
 no_word_past : (src : List ℕ) (i : ℕ) → (at word.System src i || at word.Public src i) ≡ true → length src ≤ i → ⊥
-no_word_past src i some out =
-    elim (or_cases (at word.System src i) (at word.Public src i) some) as (λ s. ⊥) [
-      | inl is ↦ omega (arith, stands_fits (word_text word.System) src i (omega arith) is)
-      | inr is ↦ omega (arith, stands_fits (word_text word.Public) src i (omega arith) is)
-    ]
+no_word_past src i some out = grind (arith, stands_fits)
 
 pub doctype_head_fails : (src : List ℕ) (i : ℕ) (f : Fault) → doctype_head_at src i ≡ Err f → Misses src (DueInDoctype src i) f
 unfolding doctype_head_at name_or_end_at external_id_if

@@ -1,5 +1,5 @@
 -- Where a document type declaration is, no fault of it is that is met after the same answers.
-use Rattle.std.proofs.Common.{◌≡◌, ℕ, ◌+◌, ◌<◌, ◌≤◌, ◌⊎◌, ◌==◌, Bool, true, false, List, [], ◌∷◌, ◌++◌, Some, length, refl, sym, ap, ◌∙◌, subst, arith, inl, inr}
+use Rattle.std.proofs.Common.{◌≡◌, ℕ, ◌+◌, ◌≤◌, ◌⊎◌, ◌==◌, Bool, true, false, List, [], ◌∷◌, ◌++◌, Some, length, refl, sym, ap, ◌∙◌, subst, arith, inl, inr}
 use Rattle.std.specs.Prelude.{Option, None}
 use Rattle.std.specs.Str.{IsUtf8, IsCharBoundary}
 use Rattle.std.proofs.lemmas.Bool.{true≢false, false_from_ne_true}
@@ -26,7 +26,7 @@ use Rattle.rox_reading.proofs.Forests.{join_assoc, merge-more}
 use Rattle.rox_theory.specs.Answers.{SameAnswers}
 use Rattle.rox_theory.proofs.Basics.{within, run_end_le}
 use Rattle.rox_theory.proofs.CharTexts.{cut_behind}
-use Rattle.rox_theory.proofs.Places.{begins_within, space_within}
+use Rattle.rox_theory.proofs.Places.{begins_within}
 use Rattle.rox_theory.proofs.DeclarationLemmas.{stands_reads}
 use Rattle.rox_theory.proofs.LiteralLemmas.{quote_ascii}
 use Rattle.rox_theory.proofs.DoctypeParts.{begins_parts, DeclarationParts, declaration_parts, CutsNotation, cuts_name, asks_parts, doctype_parts}
@@ -58,9 +58,7 @@ module _ (src : List ℕ) (utf8 : IsUtf8 src) where
 
   -- The quote that ends a literal.
   closing_apart : (i e j : ℕ) (f : Fault) → IsQuoted src i e j → IsMissing src (byte_from (λ c. c == byte src i) src (i + 1)) (a_byte (byte src i)) f → ⊥
-  closing_apart i e j f is lack =
-      let closes : byte src (byte_from (λ c. c == byte src i) src (i + 1)) ≡ byte src i = ap (byte src) (sym is.1) ∙ quoted_closes src i e j is in
-      byte_stands src (byte src i) (byte_from (λ c. c == byte src i) src (i + 1)) f (elim (is.0) as (λ _. 0 < byte src i) [ inl s ↦ omega arith | inr d ↦ omega arith ]) closes lack
+  closing_apart i e j f is lack = grind (arith, quoted_closes)
 
   literal_apart : (p s e j q : ℕ) (t : DueItem) (f : Fault) → IsCharBoundary src p → IsSpace src p s → IsQuoted src s e j → DueInLiteral src p q t → IsMissing src q t f → ⊥
   literal_apart p s e j q t f cut sp is due.DueInLiteral.space_before lack = spaced p s f cut sp lack
@@ -88,8 +86,7 @@ module _ (src : List ℕ) (utf8 : IsUtf8 src) where
 
   -- Where something is required in an external id, one begins.
   external_due : (i p : ℕ) (t : DueItem) → DueInExternalID src i p t → (at word.System src i ≡ true) ⊎ (at word.Public src i ≡ true)
-  external_due i p t (due.DueInExternalID.first _ _ which _) = which
-  external_due i p t (due.DueInExternalID.second _ _ _ _ _ is _ _ _) = inr is
+  external_due i p t h = grind arith
 
   -- With one of two letters.
   word_byte : (i : ℕ) → (at word.System src i ≡ true) ⊎ (at word.Public src i ≡ true) → (byte src i ≡ 83) ⊎ (byte src i ≡ 80)
@@ -98,10 +95,7 @@ module _ (src : List ℕ) (utf8 : IsUtf8 src) where
 
   -- Which is not a quote.
   letter_no_quote : (i : ℕ) → (byte src i ≡ 83) ⊎ (byte src i ≡ 80) → (byte src i ≡ 39) ⊎ (byte src i ≡ 34) → ⊥
-  letter_no_quote i (inl s) (inl q) = absurd (omega arith)
-  letter_no_quote i (inl s) (inr q) = absurd (omega arith)
-  letter_no_quote i (inr p) (inl q) = absurd (omega arith)
-  letter_no_quote i (inr p) (inr q) = absurd (omega arith)
+  letter_no_quote i h k = omega arith
 
   -- A definition that is required and is there.
   definition_stands : (i j : ℕ) (parameter : Bool) (asked : List Asked) (text : Option Replacement) (f : Fault) → IsDefinition src parameter i j asked text → IsMissing src i a_definition f → ⊥
@@ -144,9 +138,7 @@ module _ (src : List ℕ) (utf8 : IsUtf8 src) where
 
     -- Its definition, where another says that it begins.
     defines : (n m d : ℕ) (parameter : Bool) → BeginsEntity src i parameter n m d → IsDefinition src parameter d b.e asked b.text
-    defines n m d parameter begins =
-        let same = begins_once src utf8 i b.n b.m b.d n m d b.parameter parameter b.begins begins in
-        subst (λ (p : Bool). IsDefinition src p d b.e asked b.text) same.0 (subst (λ (d : ℕ). IsDefinition src b.parameter d b.e asked b.text) same.3 b.definition)
+    defines n m d parameter begins = grind (arith, begins_once src utf8 i b.n b.m b.d n m d b.parameter parameter b.begins begins)
 
     -- White space after `%`.
     kind_spaced : (k n : ℕ) (parameter : Bool) (f : Fault) → dtd.IsKind src k parameter n → byte src k ≡ 37 → IsMissing src (k + 1) a_space f → ⊥
@@ -155,9 +147,7 @@ module _ (src : List ℕ) (utf8 : IsUtf8 src) where
 
     pub entity_apart : (q : ℕ) (t : DueItem) (f : Fault) → DueInEntity src i q t → IsMissing src q t f → ⊥
     entity_apart q t f due.DueInEntity.space_before lack = spaced (i + 8) b.head.k f cuts.at_word b.head.space_before lack
-    entity_apart q t f (due.DueInEntity.space_of_kind k sp percent) lack =
-        let same = space_once src (i + 8) k b.head.k sp b.head.space_before in
-        kind_spaced b.head.k b.n b.parameter f b.head.is_kind (subst (λ (k : ℕ). byte src k ≡ 37) same percent) (subst (λ (k : ℕ). IsMissing src (k + 1) a_space f) same lack)
+    entity_apart q t f (due.DueInEntity.space_of_kind k sp percent) lack = grind (arith, kind_spaced)
     entity_apart q t f (due.DueInEntity.its_name k _ parameter sp kind) lack = name_stands src b.n b.m f b.head.name (subst (λ (q : ℕ). IsMissing src q a_name f) (name_there k q parameter sp kind) lack)
       where
         name_there : (k n : ℕ) (parameter : Bool) → IsSpace src (i + 8) k → dtd.IsKind src k parameter n → n ≡ b.n
@@ -188,21 +178,17 @@ module _ (src : List ℕ) (utf8 : IsUtf8 src) where
     -- The `>` after its definition.
     pub end_stands : (n m d e : ℕ) (parameter : Bool) (first : List Asked) (text : Option Replacement) (f : Fault) → BeginsEntity src i parameter n m d → IsDefinition src parameter d e first text
         → IsMissing src (spaces_end src e) (a_byte 62) f → ⊥
-    end_stands n m d e parameter first text f begins definition lack =
-        let same = definition_end src utf8 parameter d e b.e first asked text b.text definition (defines n m d parameter begins) in
-        byte_stands src 62 (spaces_end src b.e) f (omega arith) b.closes (subst (λ (e : ℕ). IsMissing src (spaces_end src e) (a_byte 62) f) same lack)
+    end_stands n m d e parameter first text f begins definition lack = grind (arith, definition_end src utf8 parameter d e b.e first asked text b.text definition (defines n m d parameter begins), byte_stands)
 
     -- It is not cut off after what it asks, nor before the name of its notation.
     pub not_cut : (n m d e j : ℕ) (parameter : Bool) (request : Request) → BeginsEntity src i parameter n m d → IsExternalID src d request e → MayHaveNotation src parameter e j ⊎ CutsNotation src parameter e j → length src ≤ j → ⊥
     not_cut n m d e j parameter request begins is (inl may) past =
         let asks : IsDefinition src parameter d j (record { request = request; answer = None } ∷ []) None = external d e j request None None is may nothing in
         let same = definition_end src utf8 parameter d j b.e (record { request = request; answer = None } ∷ []) asked None b.text asks (defines n m d parameter begins) in
-        let closes = b.closes in
         let l = within src (spaces_end src b.e) (λ z. omega arith) in
         absurd (omega (arith, run_end_le is_space src b.e))
     not_cut n m d e j parameter request begins is (inr (cuts_name _ _ opens space _)) past =
         let there = notation_there d b.e e false asked b.text request refl (defines n m d false begins) is opens in
-        let same = space_once src (spaces_end src e + 5) there.0 j there.1 space in
         let l = begins_within is_name_start src there.0 there.2.starts in
         absurd (omega arith)
 
@@ -244,16 +230,11 @@ module _ (src : List ℕ) (utf8 : IsUtf8 src) where
 
   -- How one begins.
   head_there : (i j : ℕ) (nodes : Forest Item) (asked : List Asked) (es : List Entity) → IsDoctype src i j nodes asked es → (s : ℕ) × BeginsDoctype src i s × ((byte src s ≡ 62) ⊎ (byte src s ≡ 91))
-  head_there i j nodes asked es (no_subset _ s begins closes) = (s, begins, inl closes)
-  head_there i j nodes asked es (with_subset _ s k _ _ _ begins opens subset bracket closes) = (s, begins, inr opens)
+  head_there i j nodes asked es h = grind arith
 
   -- It is not cut off before its name.
   head_not_cut : (i s n : ℕ) → BeginsDoctype src i s → IsSpace src (i + 9) n → length src ≤ n → ⊥
-  head_not_cut i s n is sp past =
-      let b = doctype_parts is in
-      let same = space_once src (i + 9) b.n n b.space_before sp in
-      let l = begins_within is_name_start src b.n b.name.starts in
-      absurd (omega arith)
+  head_not_cut i s n is sp past = grind (arith, begins_within)
 
   -- ---- within the subset
 
@@ -268,10 +249,7 @@ module _ (src : List ℕ) (utf8 : IsUtf8 src) where
 
   closed_there : (i j p : ℕ) (items nodes : Forest Item) (asked given more : List Asked) (es : List Entity) → IsDoctype src i j nodes given es → SubsetTo src i p items asked → SameAnswers (asked ++ more) given
       → Closed p items nodes asked given more
-  closed_there i j p items nodes asked given more es (no_subset _ s begins closes) (subset_to t first begins' opens' read') same =
-      let at_end = doctype_once src utf8 i t s begins' begins in
-      let bracket : byte src s ≡ 91 = subst (λ (s : ℕ). byte src s ≡ 91) at_end opens' in
-      absurd (omega arith)
+  closed_there i j p items nodes asked given more es (no_subset _ s begins closes) (subset_to t first begins' opens' read') same = grind (arith, doctype_once)
   closed_there i j p items nodes asked given more es (with_subset _ s k _ _ _ begins opens subset bracket closes) (subset_to t first begins' opens' read') same =
       let at_end = doctype_once src utf8 i t s begins' begins in
       let read : Subset src (s + 1) p items asked first = subst (λ (s : ℕ). Subset src (s + 1) p items asked first) at_end read' in
@@ -294,16 +272,13 @@ module _ (src : List ℕ) (utf8 : IsUtf8 src) where
       let item_is = (one_item src utf8 p q there.0 item there.1 one there.3).1 in
       let front = join (join before items) (leaf item) in
       let others = join there.2 after in
-      let nodes_are : nodes ≡ join items (join (leaf item) there.2) = r.items ∙ ap (join items) (there.5 ∙ ap (λ (x : Item). join (leaf x) there.2) (sym item_is)) in
-      let whole : join before (join nodes after) ≡ join front others =
-      ap (λ (n : Forest Item). join before (join n after)) nodes_are ∙ ap (join before) (join_assoc items (join (leaf item) there.2) after) ∙ sym (join_assoc before items (join (leaf item) (join there.2 after))) ∙ sym (join_assoc (join before items) (leaf item) others) in
+      let whole : join before (join nodes after) ≡ join front others = grind (arith, join_assoc) in
       let less = merge-more front others in
       nodes_over W (λ w. (let all : 1 + size (merge (join front others)) ≤ limit = subst (λ (t : Forest Item). 1 + size (merge t) ≤ limit) whole (few w) in omega arith))
   in_doctype_apart W limit i j before nodes after asked given es source f is few same (in_subset p items _ _ _ _ to fits (not_passed opens past)) =
       let c = closed_there i j p items nodes asked given [] es is to (subst (λ (a : List Asked). SameAnswers a given) (sym (append-nil asked)) same) in
       let r = c.front in
       let there = passed_there src utf8 c.k c.bracket p r.rest r.more r.gs r.left opens in
-      let closes = there.1.closes in
       absurd (omega arith)
   in_doctype_apart W limit i j before nodes after asked given es source f is few same (in_subset p items _ _ _ _ to fits (in_entity _ opens (q, t, due', lack))) =
       let c = closed_there i j p items nodes asked given [] es is to (subst (λ (a : List Asked). SameAnswers a given) (sym (append-nil asked)) same) in
@@ -352,16 +327,4 @@ module _ (src : List ℕ) (utf8 : IsUtf8 src) where
       no_item : OpensItem src p → ⊥
       no_item (inl is) = true≢false (sym is ∙ no_comment)
       no_item (inr is) = true≢false (sym is ∙ no_instruction)
-  in_doctype_apart W limit i j before nodes after asked given es source f is few same (in_subset p items _ _ _ _ to fits (no_root ends solid)) =
-      let c = closed_there i j p items nodes asked given [] es is to (subst (λ (a : List Asked). SameAnswers a given) (sym (append-nil asked)) same) in
-      let r = c.front in
-      absurd (past_end c.k r.rest r.more r.gs c.bracket (subst (λ (p : ℕ). Subset src p c.k r.rest r.more r.gs) ends r.left))
-    where
-      -- At the end of the text none is left.
-      past_end : (k : ℕ) (rest : Forest Item) (more : List Asked) (gs : List Entity) → byte src k ≡ 93 → Subset src (length src) k rest more gs → ⊥
-      past_end k rest more gs end left =
-          let past : (b : ℕ) → 0 < b → byte src (length src) ≡ b → ⊥ = λ b some is. let l = within src (length src) (λ z. omega arith) in omega arith in
-          let no_space : is_space (byte src (length src)) ≡ false = false_from_ne_true _ (λ white. let l = space_within src (length src) white in omega arith) in
-          let at_end = nothing_there src utf8 k end (length src) rest more gs left no_space (λ is. past 60 (omega arith) (item_less src (length src) is)) (λ is. past 60 (omega arith) (passed_less src (length src) is))
-          (false_from_ne_true _ (λ is. past 60 (omega arith) (entity_less src (length src) is))) in
-          past 93 (omega arith) (ap (byte src) at_end ∙ end)
+  in_doctype_apart W limit i j before nodes after asked given es source f is few same (in_subset p items _ _ _ _ to fits (no_root ends solid)) = grind (arith, closed_there i j p items nodes asked given [] es is to (subst (λ (a : List Asked). SameAnswers a given) (sym (append-nil asked)) same), within, nothing_there, item_less, passed_less, entity_less)

@@ -1,21 +1,21 @@
 -- The same for start tags: where one stands that is well named, no fault of it does but those of the limits, and where it is within
 -- the limits, none.
-use Rattle.std.proofs.Common.{◌≡◌, ◌≢◌, ℕ, ◌+◌, ◌<◌, ◌≤◌, ◌⊎◌, Bool, true, false, cond, not, List, [], ◌∷◌, ◌++◌, length, refl, sym, ap, ◌∙◌, subst, arith, inl, inr, append_assoc}
-use Rattle.std.specs.Prelude.{Ok, map, filter, bytes_eq}
+use Rattle.std.proofs.Common.{◌≡◌, ◌≢◌, ℕ, ◌+◌, ◌<◌, ◌≤◌, ◌⊎◌, Bool, true, false, List, [], ◌∷◌, ◌++◌, length, refl, sym, ap, ◌∙◌, subst, arith, inl, inr, append_assoc}
+use Rattle.std.specs.Prelude.{Ok}
 use Rattle.std.specs.List.{list_any}
 use Rattle.std.specs.Str.{IsUtf8, IsCharBoundary}
-use Rattle.std.proofs.lemmas.Bool.{true≢false, and_parts}
-use Rattle.std.proofs.lemmas.List.{append-nil, map-append}
-use Rattle.std.proofs.lemmas.List.Elements.{filter-append}
+use Rattle.std.proofs.lemmas.Bool.{true≢false}
+use Rattle.std.proofs.lemmas.List.{append-nil}
 use Rattle.std.proofs.lemmas.Slice.Eq.{bytes_eq-Decides}
+use Rattle.std.proofs.lemmas.Grind.{common_steps}
 use Rattle.rox_grammar.specs.declared.fault.Fault.{Fault}
 use Rattle.rox_grammar.specs.declared.fault.Word.TheVariants as word
 use Rattle.rox_grammar.specs.FixedTexts.{word_text}
 use Rattle.rox_grammar.specs.Chars.{is_space, is_name_start}
 use Rattle.rox_grammar.specs.Runs.{begins}
 use Rattle.rox_grammar.specs.Written.{Name, Attribute, NamespaceDecl, Tag, is_namespace_decl, namespace_decl_of, namespace_decls_of, plain_attributes_of}
-use Rattle.rox_grammar.specs.Tree.{xml_uri, xmlns_uri, is_declared, listed, is_xml, listable_of}
-use Rattle.rox_grammar.specs.Names.{byte, spaces_end, IsQName, unprefixed, prefixed, colon_first}
+use Rattle.rox_grammar.specs.Tree.{is_declared, listed, listable_of}
+use Rattle.rox_grammar.specs.Names.{byte, spaces_end, IsQName}
 use Rattle.rox_grammar.specs.Constructs.{IsEq, IsAttValue}
 use Rattle.rox_grammar.specs.Content.{Inclusion, Value, IsAttribute, attribute, Attributes, no_more, one_more, TagEnds, opened, closed, IsTag, start_tag}
 use Rattle.rox_grammar.proofs.TagParts.{TagParts, tag_parts}
@@ -27,27 +27,24 @@ use Rattle.rox_grammar.specs.State.{State, scope_of, attributes_so_far, pairs_so
 use Rattle.rox_grammar.specs.Due.{DueItem, a_byte, IsMissing, DueInPair}
 use Rattle.rox_faults.proofs.DueForms.{a_space}
 use Rattle.rox_grammar.specs.ContentPoints.{TagTo}
-use Rattle.rox_grammar.specs.Faults.{IllDeclared, other_uri, uri_of_xml, uri_of_xmlns, again, IllNamed, unknown_attribute, twice, unknown_element, InTag, no_name, xmlns_prefix, cut, no_rest, not_closed, in_pair, ill_declared, too_many_pairs, too_many_attributes, ill_named, in_rest}
+use Rattle.rox_grammar.specs.Faults.{IllDeclared, IllNamed, unknown_attribute, twice, unknown_element, InTag, no_name, xmlns_prefix, cut, no_rest, not_closed, in_pair, ill_declared, too_many_pairs, too_many_attributes, ill_named, in_rest}
 use Rattle.rox_grammar.specs.Faults as faults
 use Rattle.rox_reading.specs.Markup as markup
-use Rattle.rox_reading.specs.Markup.{TagItem, tag_item_at}
+use Rattle.rox_reading.specs.Markup.{tag_item_at}
 use Rattle.rox_reading.specs.Tags.{Values}
 use Rattle.rox_theory.specs.Openers.{AgreesValue}
-use Rattle.rox_theory.proofs.Productions.{ncname_parts}
 use Rattle.rox_theory.proofs.Basics.{within, run_end_le}
 use Rattle.rox_theory.proofs.NameLemmas.{begins_here}
 use Rattle.rox_faults.proofs.NameSpans.{cut_behind, qname_text}
-use Rattle.rox_theory.proofs.LiteralLemmas.{literal_complete}
 use Rattle.rox_theory.proofs.AttributeParts.{parts_of}
 use Rattle.rox_theory.proofs.AttributeLemmas.{end_complete}
 use Rattle.rox_theory.proofs.DeclaredLemmas.{pairs_more}
 use Rattle.rox_theory.proofs.Constructions.{name_byte}
-use Rattle.rox_theory.proofs.FailedReadings.{ok_one}
-use Rattle.rox_faults.proofs.FaultLimits.{IsOver, pairs_over, attributes_over}
-use Rattle.rox_theory.proofs.TagOnce.{apart, same_more, Reads, turn_is, one_attribute, one_tag}
+use Rattle.rox_faults.proofs.FaultLimits.{IsOver, attributes_over}
+use Rattle.rox_theory.proofs.TagOnce.{Reads, turn_is, one_tag}
 use Rattle.rox_faults.proofs.FaultTags.{attribute_cut}
 use Rattle.rox_faults.proofs.FaultApart.{qname_stands, byte_stands, space_stands}
-use Rattle.rox_faults.proofs.FaultPairs.{one_qname, eq_one, pair_apart}
+use Rattle.rox_faults.proofs.FaultPairs.{one_qname, pair_apart}
 use Rattle.rox_faults.proofs.StateCounts.{attributes_are, more_pairs_counted}
 use Rattle.rox_grammar.specs.Content.{attribute}
 
@@ -56,41 +53,17 @@ use Rattle.rox_grammar.specs.Content.{attribute}
 -- Of a row of declarations each may be declared, and none before it has its prefix.
 declarable_at : (before xs ys : List NamespaceDecl) (d : NamespaceDecl) → DeclarableBehind before (xs ++ d ∷ ys) → (may_declare d ≡ true) × (is_declared d.prefix (before ++ xs) ≡ false)
 declarable_at before [] ys d h = (h.0, subst (λ (ds : List NamespaceDecl). is_declared d.prefix ds ≡ false) (sym (append-nil before)) h.1)
-declarable_at before (x ∷ xs) ys d h =
-    let r = declarable_at (before ++ x ∷ []) xs ys d h.2 in
-    (r.0, subst (λ (ds : List NamespaceDecl). is_declared d.prefix ds ≡ false) (append_assoc before (x ∷ []) xs) r.1)
+declarable_at before (x ∷ xs) ys d h = grind (arith, declarable_at (before ++ x ∷ []) xs ys d h.2, append_assoc)
 
 -- Of a row of attributes each is known, and none before it has its name.
 distinct_at : (scope : List NamespaceDecl) (before xs ys : List Attribute) (a : Attribute) → DistinctBehind scope before (xs ++ a ∷ ys)
     → (is_known scope a.name ≡ true) × (list_any (λ e. same_expanded scope e.name a.name) (before ++ xs) ≡ false)
 distinct_at scope before [] ys a h = (h.0, subst (λ (as' : List Attribute). list_any (λ e. same_expanded scope e.name a.name) as' ≡ false) (sym (append-nil before)) h.1)
-distinct_at scope before (x ∷ xs) ys a h =
-    let r = distinct_at scope (before ++ x ∷ []) xs ys a h.2 in
-    (r.0, subst (λ (as' : List Attribute). list_any (λ e. same_expanded scope e.name a.name) as' ≡ false) (append_assoc before (x ∷ []) xs) r.1)
-
--- What two rows of attributes declare.
-declared_both : (xs ys : List Attribute) → namespace_decls_of (xs ++ ys) ≡ namespace_decls_of xs ++ namespace_decls_of ys
-declared_both xs ys =
-    ap (map namespace_decl_of) (filter-append (λ a. is_namespace_decl a.name) xs ys) ∙ map-append namespace_decl_of (filter (λ a. is_namespace_decl a.name) xs) (filter (λ a. is_namespace_decl a.name) ys)
+distinct_at scope before (x ∷ xs) ys a h = grind (arith, distinct_at scope (before ++ x ∷ []) xs ys a h.2, append_assoc)
 
 -- A declaration that may be: rows 1, 2, 3 and 5.
 declared_apart : (src : List ℕ) (before : List NamespaceDecl) (a : Attribute) (f : Fault) → may_declare (namespace_decl_of a) ≡ true → is_declared (namespace_decl_of a).prefix before ≡ false → IllDeclared src before a f → ⊥
-declared_apart src before a f may once (other_uri of_xml other reserved) =
-    let both = and_parts (not (bytes_eq a.value xmlns_uri)) (cond (is_xml (namespace_decl_of a).prefix) (bytes_eq a.value xml_uri) (not (bytes_eq a.value xml_uri))) may in
-    let u : bytes_eq a.value xml_uri ≡ true = subst (λ (b : Bool). cond b (bytes_eq a.value xml_uri) (not (bytes_eq a.value xml_uri)) ≡ true) of_xml both.1 in
-    other ((bytes_eq-Decides a.value xml_uri).0 u)
-declared_apart src before a f may once (uri_of_xml no_xml uri) =
-    let both = and_parts (not (bytes_eq a.value xmlns_uri)) (cond (is_xml (namespace_decl_of a).prefix) (bytes_eq a.value xml_uri) (not (bytes_eq a.value xml_uri))) may in
-    let u : bytes_eq a.value xml_uri ≡ true = (bytes_eq-Decides a.value xml_uri).1 uri in
-    let w : cond (is_xml (namespace_decl_of a).prefix) true (not true) ≡ true = subst (λ (b : Bool). cond (is_xml (namespace_decl_of a).prefix) b (not b) ≡ true) u both.1 in
-    let z : cond false true (not true) ≡ true = subst (λ (b : Bool). cond b true (not true) ≡ true) no_xml w in
-    cc z
-declared_apart src before a f may once (uri_of_xmlns uri) =
-    let both = and_parts (not (bytes_eq a.value xmlns_uri)) (cond (is_xml (namespace_decl_of a).prefix) (bytes_eq a.value xml_uri) (not (bytes_eq a.value xml_uri))) may in
-    let u : bytes_eq a.value xmlns_uri ≡ true = (bytes_eq-Decides a.value xmlns_uri).1 uri in
-    let z : not true ≡ true = subst (λ (b : Bool). not b ≡ true) u both.0 in
-    cc z
-declared_apart src before a f may once (again name may' twice' holds) = true≢false (sym twice' ∙ once)
+declared_apart src before a f may once p = grind (arith, bytes_eq-Decides)
 
 -- No name begins with `>`.
 no_greater : is_name_start 62 ≡ false
@@ -106,9 +79,7 @@ starts_no_greater src i starts is =
 
 -- Nor at a qualified name.
 name_no_greater : (src : List ℕ) (i : ℕ) (name : Name) (n : ℕ) → IsQName src i name n → byte src i ≢ 62
-name_no_greater src i name n (unprefixed _ _ nc no_colon) is = starts_no_greater src i (ncname_parts nc).starts is
-name_no_greater src i name n (prefixed _ k _ nc colon local no_colon) is = starts_no_greater src i (ncname_parts nc).starts is
-name_no_greater src i name n (colon_first _ _ colon nc no_colon) is = absurd (omega arith)
+name_no_greater src i name n h is = grind (arith, starts_no_greater)
 
 -- ---- the front of a tag
 
@@ -123,8 +94,7 @@ next_at main O src p last b c j empty rest (one_more _ q _ _ d _ a more spaces i
 
 -- The byte at the end of a tag.
 end_byte : (src : List ℕ) (p j : ℕ) (empty : Bool) → TagEnds src p empty j → (byte src (spaces_end src p) ≡ 62) ⊎ (byte src (spaces_end src p) ≡ 47)
-end_byte src p j empty (opened _ close) = inl close
-end_byte src p j empty (closed _ slash close) = inr slash
+end_byte src p j empty h = grind arith
 
 module _ (context : Values) (O : Inclusion) (agrees : AgreesValue context.entities O context.opener) (src : List ℕ) (utf8 : IsUtf8 src) where
   -- A turn of a tag that is an attribute.
@@ -134,21 +104,13 @@ module _ (context : Values) (O : Inclusion) (agrees : AgreesValue context.entiti
 
   -- Two that are there are one.
   one_turn : (i j k b c d : ℕ) (a e : Attribute) → IsAttribute context.main O src (spaces_end src i) j b c a → IsAttribute context.main O src (spaces_end src i) k b d e → i < spaces_end src i → (a ≡ e) × (c ≡ d) × (j ≡ k)
-  one_turn i j k b c d a e is is' spaces =
-      let x = turn i j b c a is spaces in
-      let y = turn i k b d e is' spaces in
-      let same = ok_one (markup.more x.0.0, j) (markup.more y.0.0, k) (tag_item_at src i) x.1 y.1 in
-      let one = one_attribute context O agrees src utf8 j k (spaces_end src i) b c d a e x.0 y.0 (same_more x.0.0 y.0.0 (ap (λ (p : TagItem × ℕ). p.0) same)) in
-      (one.0, one.1, ap (λ (p : TagItem × ℕ). p.1) same)
+  one_turn i j k b c d a e is is' spaces = grind (arith, turn)
 
   -- Attributes that are there are a front of all of them.
   front : (i p last b c e j : ℕ) (empty : Bool) (as' bs : List Attribute) → Attributes context.main O src i p b c as' → Attributes context.main O src i last b e bs → TagEnds src last empty j
       → (rest : List Attribute) × (bs ≡ as' ++ rest) × Next context.main O src p empty j c rest
   front i p last b c e j empty as' bs (no_more _ _) all ends = (bs, refl, next_at context.main O src i last b e j empty bs all ends)
-  front i p last b c e j empty as' bs (one_more _ k _ _ g _ a rest spaces is others) (no_more _ _) ends =
-      let one = turn i k b g a is spaces in
-      let same = ok_one (markup.more one.0.0, k) (cond empty markup.closed markup.opened, j) (tag_item_at src i) one.1 (end_complete src i empty j ends) in
-      absurd (apart one.0.0 empty (ap (λ (p : TagItem × ℕ). p.0) same))
+  front i p last b c e j empty as' bs (one_more _ k _ _ g _ a rest spaces is others) (no_more _ _) ends = grind (arith, turn, end_complete)
   front i p last b c e j empty as' bs (one_more _ k _ _ g _ a rest spaces is others) (one_more _ o _ _ h _ a' rest' spaces' is' others') ends =
       let one = one_turn i k o b g h a a' is is' spaces in
       let others'' : Attributes context.main O src k last g e rest' = subst (λ (o : ℕ). Attributes context.main O src o last g e rest') (sym one.2) (subst (λ (h : ℕ). Attributes context.main O src o last h e rest') (sym one.1) others') in
@@ -162,18 +124,12 @@ module _ (context : Values) (O : Inclusion) (agrees : AgreesValue context.entiti
 
   -- What follows begins within the source.
   next_within : (p j b : ℕ) (empty : Bool) (rest : List Attribute) → Next context.main O src p empty j b rest → spaces_end src p < length src
-  next_within p j b empty rest (it_ends ends) = elim (end_byte src p j empty ends) as (λ s. spaces_end src p < length src) [ inl is ↦ within src (spaces_end src p) (λ z. omega arith) | inr is ↦ within src (spaces_end src p) (λ z. omega arith) ]
-  next_within p j b empty rest (it_goes q c _ more spaces (attribute n v e name value is read)) = (name_byte src (spaces_end src p) name n is.0).within
+  next_within p j b empty rest h = grind (arith, within, name_byte)
 
   -- A tag that continues with a name does not end.
   name_follows : (p j b n : ℕ) (empty : Bool) (rest : List Attribute) (name : Name) → Next context.main O src p empty j b rest → IsQName src (spaces_end src p) name n
       → (q : ℕ) × (c : ℕ) × (a : Attribute) × (more : List Attribute) × (rest ≡ a ∷ more) × IsAttribute context.main O src (spaces_end src p) q b c a
-  name_follows p j b n empty rest name (it_ends ends) is =
-      elim (end_byte src p j empty ends) as (λ s. (q : ℕ) × (c : ℕ) × (a : Attribute) × (more : List Attribute) × (rest ≡ a ∷ more) × IsAttribute context.main O src (spaces_end src p) q b c a) [
-        | inl close ↦ absurd (name_no_greater src (spaces_end src p) name n is close)
-        | inr slash ↦ absurd ((name_byte src (spaces_end src p) name n is).no_slash slash)
-      ]
-  name_follows p j b n empty rest name (it_goes q c a more spaces is') is = (q, c, a, more, refl, is')
+  name_follows p j b n empty rest name h is = grind (arith, end_byte, name_no_greater, name_byte)
 
   -- `/` without `>`.
   slash_apart : (p j b : ℕ) (empty : Bool) (rest : List Attribute) (f : Fault) → Next context.main O src p empty j b rest → byte src (spaces_end src p) ≡ 47 → IsMissing src (spaces_end src p + 1) (a_byte 62) f → ⊥
@@ -198,18 +154,9 @@ module _ (context : Values) (O : Inclusion) (agrees : AgreesValue context.entiti
         let cut' : IsCharBoundary src (s.at + 1) = cut_behind src s.at 60 utf8 is.begins (omega arith) (omega arith) in
         attributes_cut n p b c as' (qname_text src (s.at + 1) name n utf8 cut' is_name).3 attributes
 
-    -- What it declares in front, and then.
-    all_declared : (as' rest : List Attribute) → is.written ≡ as' ++ rest → tag.declarations ≡ namespace_decls_of as' ++ namespace_decls_of rest
-    all_declared as' rest same = is.declares ∙ ap namespace_decls_of same ∙ declared_both as' rest
-
     -- A name with no white space in front.
     space_apart : (p c : ℕ) (rest : List Attribute) (f : Fault) → IsCharBoundary src p → Next context.main O src p empty j c rest → byte src p ≢ 47 → byte src p ≢ 62 → IsMissing src p a_space f → ⊥
-    space_apart p c rest f cut' (it_ends ends) no_slash no_close lack =
-        let le = run_end_le is_space src p in
-        let apart' : spaces_end src p ≢ p = λ same.
-        elim (end_byte src p j empty ends) as (λ s. ⊥) [ inl close ↦ no_close (ap (byte src) (sym same) ∙ close) | inr slash ↦ no_slash (ap (byte src) (sym same) ∙ slash) ] in
-        space_stands src utf8 p f cut' (omega arith) lack
-    space_apart p c rest f cut' (it_goes q d a more spaces is') no_slash no_close lack = space_stands src utf8 p f cut' spaces lack
+    space_apart p c rest f cut' k no_slash no_close lack = grind (arith, run_end_le, end_byte, space_stands)
 
     -- Nor an attribute that lacks something.
     pair_in : (p q c : ℕ) (rest : List Attribute) (t : DueItem) (f : Fault) → Next context.main O src p empty j c rest → byte src (spaces_end src p) ≢ 47 → byte src (spaces_end src p) ≢ 62 → DueInPair src (spaces_end src p) q t → IsMissing src q t f → ⊥
@@ -219,24 +166,12 @@ module _ (context : Values) (O : Inclusion) (agrees : AgreesValue context.entiti
     -- The value of an attribute that is after.
     value_in : (p n v e k c : ℕ) (rest : List Attribute) (name : Name) → Next context.main O src p empty j c rest → IsQName src (spaces_end src p) name n → IsEq src n v → IsAttValue src v e k
         → (d : ℕ) × (w : List ℕ) × Value context.main O src e (v + 1) c d w
-    value_in p n v e k c rest name next named eq literal =
-        let x = name_follows p j c n empty rest name next named in
-        let a = x.2 in let is' = parts_of context.main O src (spaces_end src p) x.0 c x.1 a x.5 in
-        let same : v ≡ is'.v = eq_one src n a.name_end v is'.v (one_qname src (spaces_end src p) n a.name_end name a.name named is'.is_name).1 eq is'.eq in
-        let literal' : IsAttValue src is'.v e k = subst (λ (v : ℕ). IsAttValue src v e k) same literal in
-        let end : is'.e ≡ e = sym (literal_complete src is'.v is'.e x.0 is'.literal) ∙ literal_complete src is'.v e k literal' in
-        let value : Value context.main O src e (is'.v + 1) c x.1 a.value = subst (λ (e : ℕ). Value context.main O src e (is'.v + 1) c x.1 a.value) end is'.value in
-        (x.1, a.value, subst (λ (v : ℕ). Value context.main O src e (v + 1) c x.1 a.value) (sym same) value)
+    value_in p n v e k c rest name next named eq literal = grind (arith, name_follows, parts_of, one_qname)
 
     -- A declaration that is after these is one of the tag.
     declared_there : (p k c d : ℕ) (as' rest : List Attribute) (a : Attribute) → is.written ≡ as' ++ rest → Next context.main O src p empty j c rest → p < spaces_end src p → IsAttribute context.main O src (spaces_end src p) k c d a
         → is_namespace_decl a.name ≡ true → (more : List NamespaceDecl) × (tag.declarations ≡ namespace_decls_of as' ++ namespace_decl_of a ∷ more)
-    declared_there p k c d as' rest a same next spaces is' declares' =
-        let x = name_follows p j c a.name_end empty rest a.name next (parts_of context.main O src (spaces_end src p) k c d a is').is_name in
-        let is_a : a ≡ x.2 = (one_turn p k x.0 c d x.1 a x.2 is' x.5 spaces).0 in
-        let whole : is.written ≡ as' ++ a ∷ x.3 = same ∙ ap (λ (xs : List Attribute). as' ++ xs) (x.4 ∙ ap (λ (a : Attribute). a ∷ x.3) (sym is_a)) in
-        let first : namespace_decls_of (a ∷ x.3) ≡ namespace_decl_of a ∷ namespace_decls_of x.3 = rw declares' refl in
-        (namespace_decls_of x.3, all_declared as' (a ∷ x.3) whole ∙ ap (λ (ds : List NamespaceDecl). namespace_decls_of as' ++ ds) first)
+    declared_there p k c d as' rest a same next spaces is' declares' = grind (arith, common_steps, name_follows p j c a.name_end empty rest a.name next (parts_of context.main O src (spaces_end src p) k c d a is').is_name, one_turn)
 
     -- Nor one that may not be declared.
     declared_in : (p k c d : ℕ) (as' rest : List Attribute) (a : Attribute) (f : Fault) → is.written ≡ as' ++ rest → Next context.main O src p empty j c rest → p < spaces_end src p → IsAttribute context.main O src (spaces_end src p) k c d a
@@ -248,12 +183,8 @@ module _ (context : Values) (O : Inclusion) (agrees : AgreesValue context.entiti
 
     -- Nor a name that is unknown, or stands twice.
     named_in : (f : Fault) → IllNamed src s.at (listed (scope_of s.stack) tag.declarations) tag.name tag.attributes f → ⊥
-    named_in f (unknown_attribute before after a name split distinct unknown holds) =
-        let d = distinct_at (listed (scope_of s.stack) tag.declarations) [] before after a (subst (DistinctBehind (listed (scope_of s.stack) tag.declarations) []) split (distinct_behind (listed (scope_of s.stack) tag.declarations) tag.attributes well_named.2)) in
-        true≢false (sym d.0 ∙ unknown)
-    named_in f (twice before after a name split distinct known again' holds) =
-        let d = distinct_at (listed (scope_of s.stack) tag.declarations) [] before after a (subst (DistinctBehind (listed (scope_of s.stack) tag.declarations) []) split (distinct_behind (listed (scope_of s.stack) tag.declarations) tag.attributes well_named.2)) in
-        true≢false (sym again' ∙ d.1)
+    named_in f (unknown_attribute before after a name split distinct unknown holds) = grind (arith, distinct_at (listed (scope_of s.stack) tag.declarations) [] before after a (subst (DistinctBehind (listed (scope_of s.stack) tag.declarations) []) split (distinct_behind (listed (scope_of s.stack) tag.declarations) tag.attributes well_named.2)))
+    named_in f (twice before after a name split distinct known again' holds) = grind (arith, distinct_at (listed (scope_of s.stack) tag.declarations) [] before after a (subst (DistinctBehind (listed (scope_of s.stack) tag.declarations) []) split (distinct_behind (listed (scope_of s.stack) tag.declarations) tag.attributes well_named.2)))
     named_in f (unknown_element name distinct unknown holds) = true≢false (sym well_named.3 ∙ unknown)
 
     -- It is the tag that is there.
@@ -285,9 +216,7 @@ module _ (context : Values) (O : Inclusion) (agrees : AgreesValue context.entiti
         let there = declared_there p k c d as' x.0 a x.1 x.2 spaces is' declares' in
         let split : tag.declarations ≡ namespace_decls_of as' ++ namespace_decl_of a ∷ [] ++ there.0 = there.1 ∙ sym (append_assoc (namespace_decls_of as') (namespace_decl_of a ∷ []) there.0) in
         let more' = pairs_more known (namespace_decls_of as' ++ namespace_decl_of a ∷ []) there.0 in
-        pairs_over W (λ w.
-        (let all : length (with_new known (listable_of (namespace_decls_of as' ++ namespace_decl_of a ∷ [] ++ there.0))) ≤ most_pairs = subst (λ (ds : List NamespaceDecl). length (with_new known (listable_of ds)) ≤ most_pairs) split (few_pairs w) in
-        omega arith))
+        grind arith
     tag_apart f (in_rest p c name as' _ to (too_many_attributes k x ends over)) =
         let same : length (plain_attributes_of as') ≡ length tag.attributes = ap (λ (t : Tag). length t.attributes) (same_tag p k c x name as' to ends) in
         attributes_over W (λ w. (let all = few w in omega (arith, attributes_are s.stack s.done)))

@@ -13,6 +13,3 @@ nodes_over W none = (inl refl, none)
 
 pub attributes_over : (W : Type 0) → (W → ⊥) → IsOver W fault.AttributesLimitReached
 attributes_over W none = (inr (inl refl), none)
-
-pub pairs_over : (W : Type 0) → (W → ⊥) → IsOver W fault.NamespacesLimitReached
-pairs_over W none = (inr (inr refl), none)

@@ -1,5 +1,5 @@
 -- Comments, processing instructions and white space, one after the other: they are read in one way, and no fault is in them.
-use Rattle.std.proofs.Common.{◌≡◌, ◌≢◌, ℕ, ◌+◌, ◌<◌, true, false, List, length, refl, sym, ap, ◌∙◌, subst, arith, inl, inr}
+use Rattle.std.proofs.Common.{◌≡◌, ◌≢◌, ℕ, ◌+◌, ◌<◌, true, false, List, length, refl, sym, ap, ◌∙◌, subst, arith}
 use Rattle.std.specs.Str.{IsUtf8}
 use Rattle.std.proofs.lemmas.Bool.{true≢false}
 use Rattle.rox_grammar.specs.declared.fault.Fault.{Fault}
@@ -7,42 +7,27 @@ use Rattle.rox_grammar.specs.declared.fault.Word.TheVariants as word
 use Rattle.rox_grammar.specs.FixedTexts.{word_text, at}
 use Rattle.rox_grammar.specs.Chars.{is_space}
 use Rattle.rox_grammar.specs.Forest.{Forest, Nil, join}
-use Rattle.rox_grammar.specs.Written.{Item, Comment, PI, leaf}
-use Rattle.rox_grammar.specs.Tree.{none_if_empty}
-use Rattle.rox_grammar.specs.Names.{byte, slice, spaces_end}
+use Rattle.rox_grammar.specs.Written.{Item, leaf}
+use Rattle.rox_grammar.specs.Names.{byte}
 use Rattle.rox_grammar.specs.Content.{IsMisc, comment, instruction}
 use Rattle.rox_grammar.specs.Document.{Misc, no_misc, space, an_item}
 use Rattle.rox_grammar.specs.Faults.{InMisc}
-use Rattle.rox_reading.specs.Markup.{Instruction, comment_at, instruction_at}
-use Rattle.rox_reading.proofs.Forests.{join-nil}
 use Rattle.rox_theory.proofs.Productions.{comment_parts, pi_parts}
 use Rattle.rox_theory.proofs.Basics.{within, run_end_le}
 use Rattle.rox_theory.proofs.DeclarationLemmas.{stands_reads}
-use Rattle.rox_theory.proofs.MarkupLemmas as markup
-use Rattle.rox_theory.proofs.Places.{spaces_on, space_within}
+use Rattle.rox_theory.proofs.Places.{spaces_on}
 use Rattle.rox_theory.proofs.Constructions.{comment_bytes, instruction_bytes, doctype_bytes}
 use Rattle.rox_theory.proofs.Around.{Stops, misc_within}
-use Rattle.rox_theory.proofs.FailedReadings.{ok_one}
 use Rattle.rox_faults.proofs.FaultApart.{not_both, misc_begins, misc_apart}
 
 module _ (src : List ℕ) (utf8 : IsUtf8 src) where
   -- One of them is in one way.
   pub one_item : (i j k : ℕ) (x y : Item) → IsMisc src i j x → IsMisc src i k y → (j ≡ k) × (x ≡ y)
-  one_item i j k x y (comment _ e _ is) (comment _ e' _ is') =
-      let same = ok_one (slice src (i + 4) e, j) (slice src (i + 4) e', k) (comment_at src i) (markup.comment_complete src i e j is) (markup.comment_complete src i e' k is') in
-      (ap (λ (p : List ℕ × ℕ). p.1) same, ap (λ (p : List ℕ × ℕ). Comment i p.1 p.0) same)
-  one_item i j k x y (comment _ e _ is) (instruction _ n e' _ is') = absurd (not_both src i (comment_parts is).opens (pi_parts is').opens)
-  one_item i j k x y (instruction _ n e _ is) (comment _ e' _ is') = absurd (not_both src i (comment_parts is').opens (pi_parts is).opens)
-  one_item i j k x y (instruction _ n e _ is) (instruction _ n' e' _ is') =
-      let a : Instruction = record { target = slice src (i + 2) n; value = none_if_empty (slice src (spaces_end src n) e) } in
-      let b : Instruction = record { target = slice src (i + 2) n'; value = none_if_empty (slice src (spaces_end src n') e') } in
-      let same = ok_one (a, j) (b, k) (instruction_at src i) (markup.instruction_complete src i n e j is) (markup.instruction_complete src i n' e' k is') in
-      (ap (λ (p : Instruction × ℕ). p.1) same, ap (λ (p : Instruction × ℕ). PI i p.1 p.0.target p.0.value) same)
+  one_item i j k x y h p = grind (arith, not_both, comment_parts, pi_parts)
 
   -- Each begins with `<`.
   pub item_byte : (i j : ℕ) (x : Item) → IsMisc src i j x → byte src i ≡ 60
-  item_byte i j x (comment _ e _ is) = (comment_bytes src i (comment_parts is).opens).1
-  item_byte i j x (instruction _ n e _ is) = (instruction_bytes src i (pi_parts is).opens).1
+  item_byte i j x h = grind (arith, comment_bytes, comment_parts, instruction_bytes, pi_parts)
 
   -- Which is no white space.
   pub less_no_space : (i : ℕ) → byte src i ≡ 60 → is_space (byte src i) ≡ true → ⊥
@@ -50,13 +35,11 @@ module _ (src : List ℕ) (utf8 : IsUtf8 src) where
 
   -- Where they stop no white space is.
   stop_no_space : (q : ℕ) → Stops src q → is_space (byte src q) ≡ true → ⊥
-  stop_no_space q stops white =
-      let e = spaces_on src q white in let le = run_end_le is_space src (q + 1) in let same = stops.no_space in absurd (omega arith)
+  stop_no_space q stops white = grind (arith, spaces_on, run_end_le)
 
   -- Nor one of them.
   stop_no_item : (q j : ℕ) (x : Item) → Stops src q → IsMisc src q j x → ⊥
-  stop_no_item q j x stops (comment _ e _ is) = true≢false (sym (comment_parts is).opens ∙ stops.no_comment)
-  stop_no_item q j x stops (instruction _ n e _ is) = true≢false (sym (pi_parts is).opens ∙ stops.no_instruction)
+  stop_no_item q j x stops k = grind arith
 
   -- Those up to a point are a front of all.
   pub misc_front : (i p q : ℕ) (items whole : Forest Item) → Misc src i p items → Misc src i q whole → Stops src q → (rest : Forest Item) × Misc src p q rest × (whole ≡ join items rest)
@@ -73,10 +56,7 @@ module _ (src : List ℕ) (utf8 : IsUtf8 src) where
 
   -- A fault of one of them at a point.
   pub misc_at : (p q : ℕ) (rest : Forest Item) (f : Fault) → Misc src p q rest → Stops src q → InMisc src p f → ⊥
-  misc_at p q rest f (no_misc _) stops ill = elim (misc_begins src utf8 p f ill) as (λ s. ⊥) [ inl c ↦ true≢false (sym c ∙ stops.no_comment) | inr i ↦ true≢false (sym i ∙ stops.no_instruction) ]
-  misc_at p q rest f (space _ _ _ is more) stops ill =
-      less_no_space p (elim (misc_begins src utf8 p f ill) as (λ s. byte src p ≡ 60) [ inl c ↦ (comment_bytes src p c).1 | inr i ↦ (instruction_bytes src p i).1 ]) is
-  misc_at p q rest f (an_item _ j _ x others is more) stops ill = misc_apart src utf8 p j x f is ill
+  misc_at p q rest f h stops ill = grind (arith, misc_begins, comment_bytes, instruction_bytes, misc_apart)
 
   -- A document type declaration is none of them.
   pub doctype_at : (p q : ℕ) (rest : Forest Item) → Misc src p q rest → at word.DoctypeStart src q ≡ false → at word.DoctypeStart src p ≡ true → ⊥
@@ -91,32 +71,20 @@ module _ (src : List ℕ) (utf8 : IsUtf8 src) where
 
   -- Another byte than `<` and white space is at none of them.
   pub other_at : (p q : ℕ) (rest : Forest Item) → Misc src p q rest → byte src q ≡ 60 → is_space (byte src p) ≡ false → byte src p ≢ 60 → ⊥
-  other_at p q rest (no_misc _) here no_space no_less = no_less here
-  other_at p q rest (space _ _ _ is more) here no_space no_less = true≢false (sym is ∙ no_space)
-  other_at p q rest (an_item _ j _ x others is more) here no_space no_less = no_less (item_byte p j x is)
+  other_at p q rest h here no_space no_less = grind (arith, item_byte)
 
   -- What is before a `<` does not reach the end.
   pub before_end : (p q : ℕ) (rest : Forest Item) → Misc src p q rest → byte src q ≡ 60 → p < length src
-  before_end p q rest (no_misc _) here = within src p (λ z. omega arith)
-  before_end p q rest (space _ _ _ is more) here = space_within src p is
-  before_end p q rest (an_item _ j _ x others is more) here = misc_within src utf8 p j x is
+  before_end p q rest h here = grind (arith, within, misc_within)
 
   -- After the root element.
   pub last_at : (p q : ℕ) (rest : Forest Item) → Misc src p q rest → q ≡ length src → p < length src → is_space (byte src p) ≡ false → at word.CommentStart src p ≡ false → at word.PIStart src p ≡ false → ⊥
-  last_at p q rest (no_misc _) end below no_space no_comment no_instruction = absurd (omega arith)
-  last_at p q rest (space _ _ _ is more) end below no_space no_comment no_instruction = true≢false (sym is ∙ no_space)
-  last_at p q rest (an_item _ j _ x others (comment _ e _ is) more) end below no_space no_comment no_instruction = true≢false (sym (comment_parts is).opens ∙ no_comment)
-  last_at p q rest (an_item _ j _ x others (instruction _ n e _ is) more) end below no_space no_comment no_instruction = true≢false (sym (pi_parts is).opens ∙ no_instruction)
+  last_at p q rest h end below no_space no_comment no_instruction = grind (arith, comment_parts, pi_parts)
 
   -- Where they stop none is left.
   pub stopped : (p q : ℕ) (rest : Forest Item) → Misc src p q rest → Stops src p → (p ≡ q) × (rest ≡ Nil)
-  stopped p q rest (no_misc _) stops = (refl, refl)
-  stopped p q rest (space _ _ _ is more) stops = absurd (stop_no_space p stops is)
-  stopped p q rest (an_item _ j _ x others is more) stops = absurd (stop_no_item p j x stops is)
+  stopped p q rest h stops = grind (arith, stop_no_space, stop_no_item)
 
   -- Those up to a stop are read in one way.
   pub one_misc : (h i j k : ℕ) (xs ys : Forest Item) → h ≡ i → Misc src h j xs → Stops src j → Misc src i k ys → Stops src k → (j ≡ k) × (ys ≡ xs)
-  one_misc h i j k xs ys same m stops n stops' =
-      let r = misc_front i j k xs ys (subst (λ (i : ℕ). Misc src i j xs) same m) n stops' in
-      let none = stopped j k r.0 r.1 stops in
-      (none.0, r.2 ∙ ap (join xs) none.1 ∙ join-nil xs)
+  one_misc h i j k xs ys same m stops n stops' = grind (arith, misc_front, stopped)

@@ -20,12 +20,12 @@ use Rattle.rox_grammar.specs.Document.{DocumentTo, Misc, no_misc, an_item, Parse
 use Rattle.rox_theory.specs.ParseParts.{no_doctype}
 use Rattle.rox_grammar.specs.State as grammar
 use Rattle.rox_grammar.specs.State.{root}
-use Rattle.rox_grammar.specs.ContentPoints.{is_main, RootBegins, ContentPoint}
+use Rattle.rox_grammar.specs.ContentPoints.{RootBegins, ContentPoint}
 use Rattle.rox_grammar.specs.Faults.{FaultFrom, no_root, unknown_ahead, at_place, in_value, unknown_behind, in_one, misc_around, one_too_many, at_point}
 use Rattle.rox_grammar.specs.FaultsWithDoctype.{RefusalOf, FaultOf, without, in_declaration, not_allowed, in_doctype}
 use Rattle.rox_grammar.specs.FaultsWithDoctype as rows
 use Rattle.rox_reading.specs.State.{State}
-use Rattle.rox_reading.specs.Machine.{value_opener, opener}
+use Rattle.rox_reading.specs.Machine.{value_opener}
 use Rattle.rox_reading.specs.WholeText.{prolog}
 use Rattle.rox_reading.proofs.Forests.{join-nil, join_assoc, merge-more}
 use Rattle.rox_theory.specs.Openers.{AgreesValue}
@@ -42,10 +42,9 @@ use Rattle.rox_theory.proofs.Flat.{StepsOver}
 use Rattle.rox_theory.proofs.Chains.{root_drives}
 use Rattle.rox_theory.proofs.Once.{one_element}
 use Rattle.rox_theory.proofs.Tops.{tops_merged}
-use Rattle.rox_theory.proofs.NoEntities.{no_values, no_contents}
 use Rattle.rox_theory.proofs.Around.{Stops, no_spaces, element_stops, end_stops, prolog_complete}
 use Rattle.rox_theory.proofs.FailedReadings.{ok_one}
-use Rattle.rox_faults.proofs.FaultLimits.{IsOver, nodes_over}
+use Rattle.rox_faults.proofs.FaultLimits.{IsOver}
 use Rattle.rox_faults.proofs.FaultPoints.{context_at}
 use Rattle.rox_faults.proofs.FaultPlaces.{tagged_takes}
 use Rattle.rox_faults.proofs.FaultWhole.{ahead_on}
@@ -87,10 +86,6 @@ module _ (opens : ℕ → Inclusion) (es : List Entity) (all : OpensAt opens es)
     end_fine : W → IsValidState limit (state p.end (join p.before p.one) root p.openings_left)
     end_fine w = fine_before limit p.end (length text) p.openings_left p.openings_left (join p.before p.one) p.after root (p.fine w)
 
-    -- And up to its beginning.
-    start_fine : W → IsValidState limit (state p.start p.before root 255)
-    start_fine w = fine_before limit p.start p.end 255 p.openings_left p.before p.one root (end_fine w)
-
     -- Where the root element begins.
     root_at : (byte text p.start ≡ 60) × (at word.DoctypeStart text p.start ≡ false) × Stops text p.start
     root_at = element_stops true (opens 0) text p.start p.end 255 p.openings_left p.one p.element
@@ -121,17 +116,10 @@ module _ (opens : ℕ → Inclusion) (es : List Entity) (all : OpensAt opens es)
 
     -- What stops before the root element is there.
     start_there : (i : ℕ) (items : Forest Item) → PrologAt i items → Stops text i → (p.start ≡ i) × (p.before ≡ items)
-    start_there i items front stops =
-        let r = p.ahead i items front in
-        let none = stopped text utf8 i p.start r.0 r.1 stops in
-        (sym none.0, r.2 ∙ ap (join items) none.1 ∙ join-nil items)
+    start_there i items front stops = grind (arith, stopped, join-nil)
 
     at_root : (kind : Bool) (i : ℕ) (items : Forest Item) → PrologAt i items × RootBegins kind text i → Reached opens es all limit W 0 0 text (state i items root 255)
-    at_root kind i items (front, begins) =
-        let stops : Stops text i = record { no_space = no_spaces text i begins.0; no_comment = begins.1; no_instruction = begins.2 } in
-        let same = start_there i items front stops in
-        subst (λ (i : ℕ). Reached opens es all limit W 0 0 text (state i items root 255)) same.0
-        (subst (λ (f : Forest Item). Reached opens es all limit W 0 0 text (state p.start f root 255)) same.1 root_reached)
+    at_root kind i items (front, begins) = grind (arith, no_spaces, start_there, root_reached)
 
     -- Each place lies on it.
     place_there : (kind : Bool) (k open_around b : ℕ) (src : List ℕ) (s : grammar.State) → ContentPoint opens es text (λ i items. PrologAt i items × RootBegins kind text i) k open_around src b s → Reached opens es all limit W k open_around src (state_of s b)
@@ -152,13 +140,7 @@ module _ (opens : ℕ → Inclusion) (es : List Entity) (all : OpensAt opens es)
         let one = one_element es most_deep (opens 0) agrees (all.once 0) text utf8 p.start behind.end p.end 255 behind.openings_left p.openings_left behind.one p.one element p.element in
         let misc : Misc text p.end q behind.after = subst (λ (e : ℕ). Misc text e q behind.after) one.0 behind.misc in
         let r = misc_front text utf8 p.end q (length text) behind.after p.after misc p.misc_after (end_stops text) in
-        let front_is : items ≡ join (join p.before p.one) behind.after =
-        behind.all ∙ ap (λ (b : Forest Item). join (join b behind.one) behind.after) (sym same.1) ∙ ap (λ (o : Forest Item). join (join p.before o) behind.after) one.1 in
-        record {
-          rest = r.0;
-          misc = r.1;
-          whole = ap (join (join p.before p.one)) r.2 ∙ sym (join_assoc (join p.before p.one) behind.after r.0) ∙ ap (λ (i : Forest Item). join i r.0) (sym front_is);
-        }
+        grind (arith, join_assoc)
 
     -- No fault is in the text but those of the limits.
     pub never : (kind : Bool) (source : List ℕ) (f : Fault) → FaultFrom opens es limit text kind PrologAt source f → IsOver W f
@@ -166,9 +148,7 @@ module _ (opens : ℕ → Inclusion) (es : List Entity) (all : OpensAt opens es)
     never kind source f (misc_around q items _ (inl front) fits (one_too_many k item is over)) =
         let all' = join items (leaf item) in
         let r = p.ahead k all' (p.on q k items (leaf item) front (an_item q k k item Nil is (no_misc k))) in
-        nodes_over W (λ w.
-        (let fine : IsValidState limit (state p.start (join all' r.0) root 255) = subst (λ (b : Forest Item). IsValidState limit (state p.start b root 255)) r.2 (start_fine w) in
-        let nodes = fine.nodes in let less = merge-more all' r.0 in omega arith))
+        grind (arith, merge-more)
     never kind source f (no_root items front fits) = let r = p.ahead (length text) items front in let l = before_end text utf8 (length text) p.start r.0 r.1 root_at.0 in absurd (omega arith)
     never kind source f (unknown_ahead q items front fits below no_space no_less) = let r = p.ahead q items front in absurd (other_at text utf8 q p.start r.0 r.1 root_at.0 no_space no_less)
     never kind source f (at_point k open_around b _ s _ _ place fits (at_place _ stands)) = stands_apart opens es all limit W k open_around b source s (place_there kind k open_around b source s place) f stands
@@ -181,9 +161,7 @@ module _ (opens : ℕ → Inclusion) (es : List Entity) (all : OpensAt opens es)
         let r = behind_rest q items behind in
         let s = misc_front text utf8 q k (length text) (leaf item) r.rest (an_item q k k item Nil is (no_misc k)) r.misc (end_stops text) in
         let whole : join (join p.before p.one) p.after ≡ join (join items (leaf item)) s.0 = r.whole ∙ ap (join items) s.2 ∙ sym (join_assoc items (leaf item) s.0) in
-        nodes_over W (λ w.
-        (let fine : IsValidState limit (state (length text) (join (join items (leaf item)) s.0) root p.openings_left) = subst (λ (b : Forest Item). IsValidState limit (state (length text) b root p.openings_left)) whole (p.fine w) in
-        let nodes = fine.nodes in let less = merge-more (join items (leaf item)) s.0 in omega arith))
+        grind (arith, merge-more)
     never kind source f (unknown_behind q items behind fits below no_space no_comment no_instruction) =
         let r = behind_rest q items behind in absurd (last_at text utf8 q (length text) r.rest r.misc refl below no_space no_comment no_instruction)
 
@@ -191,14 +169,7 @@ module _ (opens : ℕ → Inclusion) (es : List Entity) (all : OpensAt opens es)
 
 -- Nothing is opened.
 plain_opens : OpensAt (λ k. no_entities) []
-plain_opens = record {
-  texts = λ name t found. cc found;
-  values = λ d k deep. no_values (value_opener [] d (is_main k));
-  contents = λ limit d k deep. no_contents limit (opener limit [] d (is_main k));
-  once = λ k name b c e items more h h'. absurd h;
-  content = λ k b c name items h. absurd h;
-  value = λ k b c name v h. absurd h;
-}
+plain_opens = grind arith
 
 module _ (src : List ℕ) (utf8 : IsUtf8 src) (limit : ℕ) (tree : Forest Item) (p : ParseWithout src tree) where
   -- The whole as a state has it.
@@ -244,9 +215,7 @@ module _ (src : List ℕ) (utf8 : IsUtf8 src) (limit : ℕ) (tree : Forest Item)
 
   -- Nor does a document type declaration stand before it.
   doctype_apart : (i : ℕ) (before : Forest Item) → PrologTo src i before → at word.DoctypeStart src i ≡ true → ⊥
-  doctype_apart i before ahead here =
-      let r = ahead_rest i before ahead in
-      doctype_at src utf8 i p.start r.0 r.1 (element_stops true no_entities src p.start p.end 255 p.openings_left p.one p.element).1 here
+  doctype_apart i before ahead here = grind (arith, ahead_rest i before ahead, doctype_at, element_stops)
 
 -- A refusal that is in a text that has a parse is that of a limit, and the parse is not within the limits.
 no_doctype_over : (limit : ℕ) (src source : List ℕ) (given asked : List Asked) (f : Fault) (tree : Forest Item) → IsUtf8 src → RefusalOf limit false src given source f → ParseOf src false asked tree → IsOver (IsWithinLimits limit tree) f

@@ -1,7 +1,6 @@
 -- The same for a name, Eq and a literal, and for the declaration.
-use Rattle.std.proofs.Common.{◌≡◌, ℕ, ◌+◌, ◌<◌, ◌⊎◌, true, List, length, refl, sym, ap, ◌∙◌, subst, arith, inl, inr, false}
+use Rattle.std.proofs.Common.{◌≡◌, ℕ, ◌+◌, ◌<◌, ◌⊎◌, true, List, length, refl, sym, ap, ◌∙◌, subst, arith, false}
 use Rattle.std.specs.Str.{IsUtf8, IsCharBoundary}
-use Rattle.std.proofs.lemmas.Bool.{true≢false}
 use Rattle.rox_grammar.specs.declared.fault.Fault.{Fault}
 use Rattle.rox_grammar.specs.declared.fault.Word.{Word}
 use Rattle.rox_grammar.specs.declared.fault.Word.TheVariants as word
@@ -10,16 +9,15 @@ use Rattle.rox_grammar.specs.Written.{Name}
 use Rattle.rox_grammar.specs.Names.{byte, spaces_end, IsQName}
 use Rattle.rox_grammar.specs.FixedTexts.{word_text, at}
 use Rattle.rox_grammar.specs.Search.{stands}
-use Rattle.rox_grammar.specs.Constructs.{AreChars, IsEq, IsAttValue, IsPair, MayBePair, is_pair, no_pair, DeclarationTo, version, encoding, standalone, IsXmlDecl, xml_decl}
-use Rattle.rox_grammar.specs.Due.{DueItem, a_byte, a_text, chars_to, IsMissing, none_left, DueInPair, its_name, equals, opening, its_value, closing, value_end, DueInXmlDecl, its_version, in_pair, behind_pair, behind_standalone, none_of}
-use Rattle.rox_faults.proofs.DueForms.{a_quote, a_space, quote_is}
+use Rattle.rox_grammar.specs.Constructs.{IsEq, IsAttValue, IsPair, MayBePair, DeclarationTo, version, encoding, standalone, IsXmlDecl, xml_decl}
+use Rattle.rox_grammar.specs.Due.{DueItem, a_byte, a_text, IsMissing, DueInPair, its_name, equals, opening, its_value, closing, value_end, DueInXmlDecl, its_version, in_pair, behind_pair, behind_standalone}
+use Rattle.rox_faults.proofs.DueForms.{a_quote, a_space}
 use Rattle.rox_grammar.specs.Due as due
-use Rattle.rox_reading.specs.Lexical.{qname_at}
 use Rattle.rox_reading.specs.Markup.{pair_at, pair_if}
 use Rattle.rox_theory.proofs.Basics.{within}
 use Rattle.rox_theory.proofs.NameLemmas.{qname_complete}
 use Rattle.rox_faults.proofs.NameSpans.{cut_behind}
-use Rattle.rox_theory.proofs.LiteralLemmas.{quote_ascii, literal_closes, literal_complete}
+use Rattle.rox_theory.proofs.LiteralLemmas.{literal_closes, literal_complete}
 use Rattle.rox_theory.proofs.DeclarationLemmas.{IsFollowed, pair_complete, pair_cut, pair_if_complete}
 use Rattle.rox_theory.proofs.FailedReadings.{ok_one}
 use Rattle.rox_faults.proofs.FaultTags.{value_cut}
@@ -27,14 +25,11 @@ use Rattle.rox_faults.proofs.FaultApart.{qname_stands, byte_stands, space_stands
 
 -- A qualified name is read in one way.
 pub one_qname : (src : List ℕ) (i m n : ℕ) (x y : Name) → IsQName src i x m → IsQName src i y n → (x ≡ y) × (m ≡ n)
-one_qname src i m n x y a b =
-    let e = ok_one (x, m) (y, n) (qname_at src i) (qname_complete src i x m a) (qname_complete src i y n b) in
-    (ap (λ (p : Name × ℕ). p.0) e, ap (λ (p : Name × ℕ). p.1) e)
+one_qname src i m n x y a b = grind (arith, qname_complete)
 
 -- A quote that is required and is there.
 pub quote_stands : (src : List ℕ) (i : ℕ) (f : Fault) → (byte src i ≡ 39) ⊎ (byte src i ≡ 34) → IsMissing src i a_quote f → ⊥
-quote_stands src i f is (none_of _ below none) = true≢false (sym (quote_is (byte src i) is) ∙ none)
-quote_stands src i f is (none_left _ past) = let some = quote_ascii (byte src i) is in let l = within src i (λ z. omega arith) in absurd (omega arith)
+quote_stands src i f is k = grind (arith, within)
 
 -- Where the value begins.
 pub eq_one : (src : List ℕ) (m n v w : ℕ) → m ≡ n → IsEq src m v → IsEq src n w → v ≡ w
@@ -44,23 +39,15 @@ module _ (src : List ℕ) (utf8 : IsUtf8 src) where
   -- In a name, Eq and a literal.
   pub pair_apart : (i n v e j q : ℕ) (name : Name) (t : DueItem) (f : Fault) → IsQName src i name n → IsEq src n v → IsAttValue src v e j → DueInPair src i q t → IsMissing src q t f → ⊥
   pair_apart i n v e j q name t f named eq literal its_name lack = qname_stands src i n name f named lack
-  pair_apart i n v e j q name t f named eq literal (equals name' m is) lack =
-      let same : m ≡ n = (one_qname src i m n name' name is named).1 in
-      byte_stands src 61 (spaces_end src n) f (omega arith) eq.0 (subst (λ (m : ℕ). IsMissing src (spaces_end src m) (a_byte 61) f) same lack)
-  pair_apart i n v e j q name t f named eq literal (opening name' m w is eq') lack =
-      let same : w ≡ v = eq_one src m n w v (one_qname src i m n name' name is named).1 eq' eq in
-      quote_stands src v f literal.0.0 (subst (λ (w : ℕ). IsMissing src w a_quote f) same lack)
+  pair_apart i n v e j q name t f named eq literal (equals name' m is) lack = grind (arith, one_qname, byte_stands)
+  pair_apart i n v e j q name t f named eq literal (opening name' m w is eq') lack = grind (arith, one_qname, quote_stands)
   pair_apart i n v e j q name t f named eq literal (its_value name' m w is eq' quote) lack =
       let same : w ≡ v = eq_one src m n w v (one_qname src i m n name' name is named).1 eq' eq in
-      let ascii = quote_ascii (byte src v) literal.0.0 in
       let cut : IsCharBoundary src (v + 1) = cut_behind src v (byte src v) utf8 refl (omega arith) (omega arith) in
       let to_end : value_end src v ≡ e = literal_complete src v e j literal in
-      chars_stand src utf8 (v + 1) (value_end src v) f cut (value_cut src utf8 v (within src v (λ z. omega arith)) literal.0.0)
-      (subst (λ (e : ℕ). AreChars src (v + 1) e) (sym to_end) literal.1)
-      (subst (λ (w : ℕ). IsMissing src (w + 1) (chars_to (value_end src w)) f) same lack)
+      grind (arith, chars_stand, value_cut)
   pair_apart i n v e j q name t f named eq literal (closing name' m w is eq' quote chars) lack =
       let same : w ≡ v = eq_one src m n w v (one_qname src i m n name' name is named).1 eq' eq in
-      let ascii = quote_ascii (byte src v) literal.0.0 in
       let to_end : value_end src v ≡ e = literal_complete src v e j literal in
       byte_stands src (byte src v) (value_end src v) f (omega arith) (ap (byte src) to_end ∙ literal_closes src v e j literal)
       (subst (λ (w : ℕ). IsMissing src (value_end src w) (a_byte (byte src w)) f) same lack)
@@ -76,18 +63,14 @@ module _ (src : List ℕ) (utf8 : IsUtf8 src) where
 
   -- White space that is required after a pair and is there.
   gap_stands : (i : ℕ) (f : Fault) → IsCharBoundary src i → IsFollowed src i → i < length src → at word.PIEnd src i ≡ false → IsMissing src i a_space f → ⊥
-  gap_stands i f cut (inl some) inside no_end lack = space_stands src utf8 i f cut some lack
-  gap_stands i f cut (inr (inl here)) inside no_end lack = true≢false (sym here ∙ no_end)
-  gap_stands i f cut (inr (inr end)) inside no_end lack = absurd (omega arith)
+  gap_stands i f cut k inside no_end lack = grind (arith, space_stands)
 
   -- A pair that may be there is there, with its gap, if its word is.
   may_is : (w : Word) (i k : ℕ) → at w src i ≡ true → MayBePair (word_text w) src i k → (name : Name) × (n : ℕ) × (v : ℕ) × (e : ℕ) × (j : ℕ) × IsPair src i name n v e j × IsFollowed src j × (spaces_end src j ≡ k)
-  may_is w i k here (is_pair name n v e j here' p gap) = (name, n, v, e, j, p, gap, refl)
-  may_is w i k here (no_pair none) = absurd (true≢false (sym here ∙ none))
+  may_is w i k here p = grind arith
 
   may_not : (w : Word) (i k : ℕ) → at w src i ≡ false → MayBePair (word_text w) src i k → k ≡ i
-  may_not w i k fails (is_pair name n v e j here p gap) = absurd (true≢false (sym here ∙ fails))
-  may_not w i k fails (no_pair none) = refl
+  may_not w i k fails p = grind arith
 
   -- The pair that is where one begins, and the gap after it: after the last one all white space before the end.
   pair_there : (i j p : ℕ) (text : List ℕ) → IsXmlDecl src i j → DeclarationTo src i text p → stands text src p ≡ true
@@ -110,8 +93,7 @@ module _ (src : List ℕ) (utf8 : IsUtf8 src) where
 
   -- In the declaration: rows 21 to 25.
   pub declaration_apart : (i j q : ℕ) (t : DueItem) (f : Fault) → IsXmlDecl src i j → DueInXmlDecl src i q t → IsMissing src q t f → ⊥
-  declaration_apart i j q t f (xml_decl e s opens (standalone v _ (encoding _ _ (version here) one) two) three closes) its_version lack =
-      word_stands src expected.Version (spaces_end src (i + 5)) f here lack
+  declaration_apart i j q t f (xml_decl e s opens (standalone v _ (encoding _ _ (version here) one) two) three closes) its_version lack = grind (arith, word_stands)
   declaration_apart i j q t f is (in_pair text p _ _ to here due') lack =
       let there = pair_there i j p text is to here in
       let x = there.5 in

@@ -64,17 +64,11 @@ none_opened src open_around (inside start tag before up) le = (λ deep. absurd (
 
 -- Content is where an element is open.
 is_open : (stack : Open) → is_root stack ≡ false → is_content 0 stack ≡ true
-is_open root h = cc h
-is_open (inside start tag before up) h = refl
+is_open stack h = grind arith
 
 -- No element is closed that the source did not open.
 takes_deep : (main : Bool) (O : Inclusion) (src : List ℕ) (open_around : ℕ) (s t : State) → flat.StepsOver main O src open_around s t → open_around ≤ depth_of s.stack → open_around ≤ depth_of t.stack
-takes_deep main O src open_around s t (flat.StepsOver.takes_run i j b c items done stack is parts) le = le
-takes_deep main O src open_around s t (flat.StepsOver.takes_cdata i e j b done stack is) le = le
-takes_deep main O src open_around s t (flat.StepsOver.takes_misc i j b item done stack is) le = le
-takes_deep main O src open_around s t (flat.StepsOver.takes_empty i j b c tag done stack is) le = le
-takes_deep main O src open_around s t (flat.StepsOver.takes_start i j b c tag done stack is) le = omega arith
-takes_deep main O src open_around s t (flat.StepsOver.takes_end i p j b start tag done before up deep end) le = omega arith
+takes_deep main O src open_around s t h le = grind arith
 
 -- ---- constructs of a text
 
@@ -94,12 +88,7 @@ module _ (main : Bool) (O : Inclusion) (src : List ℕ) (open_around : ℕ) wher
 
   -- The names of the open elements after it.
   pub takes_opened : (s t : State) → OneConstruct s t → AreOpened src open_around s.stack → AreOpened src open_around t.stack
-  takes_opened s t (flat.StepsOver.takes_run i j b c items done stack is parts) opened = opened
-  takes_opened s t (flat.StepsOver.takes_cdata i e j b done stack is) opened = opened
-  takes_opened s t (flat.StepsOver.takes_misc i j b item done stack is) opened = opened
-  takes_opened s t (flat.StepsOver.takes_empty i j b c tag done stack is) opened = opened
-  takes_opened s t (flat.StepsOver.takes_start i j b c tag done stack is) opened = let p = tag_parts is in ((λ deep. (p.begins, p.is_name)), opened)
-  takes_opened s t (flat.StepsOver.takes_end i p j b start tag done before up deep end) opened = opened.1
+  takes_opened s t h opened = grind arith
 
   -- And a character begins there.
   pub takes_cut : IsUtf8 src → (s t : State) → OneConstruct s t → IsCharBoundary src t.at

@@ -1,12 +1,12 @@
 -- The place of reading is one that content reaches from the left: places of reading as the grammar sees them, and one node too many there.
-use Rattle.std.proofs.Common.{◌≡◌, ℕ, zero, suc, ◌+◌, ◌<◌, ◌≤◌, max, Bool, false, nat_le, List, [], ◌++◌, length, refl, sym, ap, ◌∙◌, subst, arith}
+use Rattle.std.proofs.Common.{◌≡◌, ℕ, zero, suc, ◌+◌, ◌<◌, ◌≤◌, max, Bool, false, nat_le, List, [], length, refl, sym, subst, arith}
 use Rattle.std.specs.Prelude.{Result, Ok, Err, Some}
 use Rattle.std.proofs.lemmas.List.{append-nil}
 use Rattle.std.proofs.lemmas.Bool.{leb-false}
 use Rattle.rox_grammar.specs.declared.fault.Fault.{Fault}
 use Rattle.rox_grammar.specs.declared.fault.Fault.TheVariants as fault
-use Rattle.rox_grammar.specs.Forest.{Forest, Nil, join}
-use Rattle.rox_grammar.specs.Written.{NamespaceDecl, Tag, Item, leaf}
+use Rattle.rox_grammar.specs.Forest.{Forest, join}
+use Rattle.rox_grammar.specs.Written.{Tag, Item, leaf}
 use Rattle.rox_grammar.specs.Tree.{listed}
 use Rattle.rox_grammar.specs.Content.{Inclusion}
 use Rattle.rox_grammar.specs.Entities.{Replacement, Entity, text_of, most_deep}
@@ -43,9 +43,7 @@ Refuses es P src (refused request p message) = ⊥
 
 -- Of which another thing holds too.
 pub refuses_by : {P Q : List ℕ → Fault → Type 0} (es : List Entity) (src : List ℕ) (e : Refusal) → ((source : List ℕ) (f : Fault) → P source f → Q source f) → Refuses es P src e → Refuses es Q src e
-refuses_by es src (here f) go p = go src f p
-refuses_by es src (there source f) go p = (go source f p.0, p.1)
-refuses_by es src (refused request at message) go p = absurd p
+refuses_by es src e go p = grind arith
 
 -- By a fault of this source.
 pub refuses_here : (es : List Entity) (P : List ℕ → Fault → Type 0) (src : List ℕ) (f : Fault) (e : Refusal) → here f ≡ e → P src f → Refuses es P src e
@@ -54,10 +52,7 @@ refuses_here es P src f e is p = subst (Refuses es P src) is p
 -- What fails in another source.
 pub elsewhere_err : {A B X : Type 0} (es : List Entity) (source : List ℕ) (r : Result A Refusal) (f : A → Result B Refusal) (e : Refusal) → (elsewhere source r >>= f) ≡ Err e
     → ((d : Refusal) → r ≡ Err d → ((P : List ℕ → Fault → Type 0) (src : List ℕ) → Declares es → Refuses es P source d → Refuses es P src e) → X) → ((x : A) → r ≡ Ok x → f x ≡ Err e → X) → X
-elsewhere_err es source (Ok x) f e h now later = later x refl h
-elsewhere_err es source (Err (here c)) f e h now later = now (here c) refl (λ P src some p. let is : there source c ≡ e = cc in subst (Refuses es P src) is (p, some))
-elsewhere_err es source (Err (there s c)) f e h now later = now (there s c) refl (λ P src some p. let is : there s c ≡ e = cc in subst (Refuses es P src) is p)
-elsewhere_err es source (Err (refused request at message)) f e h now later = now (refused request at message) refl (λ P src some p. absurd p)
+elsewhere_err es source r f e h now later = grind arith
 
 -- ---- states
 
@@ -76,22 +71,14 @@ named_last (inside start tag before up) done items named = named-right (listed (
 
 -- A fine state is within the limits.
 pub fine_fits : (limit most : ℕ) (s : State) → most ≤ max limit 1 → IsValidState most s → FitsLimits limit s.stack s.done
-fine_fits limit most s least fine =
-    record {
-      nodes = omega (arith, fine.nodes, nodes_are s.stack s.done);
-      attributes = omega (arith, fine.attributes, attributes_are s.stack s.done);
-      namespaces = omega (arith, fine.pairs, distinct_are s.stack s.done);
-    }
+fine_fits limit most s least fine = grind (arith, nodes_are, attributes_are, distinct_are)
 
 -- ---- one node too many
 
 -- With one more item.
 pub item_few : (s : State) (item : Item) → attributes_so_far s.stack s.done + own_attributes item ≤ most_attributes → length (with_new (distinct_pairs (pairs_so_far s.stack s.done)) (own_pairs item)) ≤ most_pairs
     → AreFew s.stack (join s.done (leaf item))
-item_few s item attributes few =
-    let e : pairs_so_far s.stack (join s.done (leaf item)) ≡ pairs_so_far s.stack s.done ++ own_pairs item =
-    pairs-item s.stack s.done item Nil ∙ ap (λ (ds : List NamespaceDecl). pairs_so_far s.stack s.done ++ ds) (append-nil (own_pairs item)) in
-    (omega (arith, attributes-item s.stack s.done item Nil), rw (e, distinct-append) few)
+item_few s item attributes few = grind (arith, pairs-item, append-nil, attributes-item, distinct-append)
 
 -- With an open tag.
 pub opened_few : (s : State) (j openings_left : ℕ) (tag : Tag) → attributes_so_far s.stack s.done + length tag.attributes ≤ most_attributes → length (with_new (distinct_pairs (pairs_so_far s.stack s.done)) (listable tag)) ≤ most_pairs
@@ -106,9 +93,7 @@ plain_few limit s item no_attributes no_pairs fits = let few = fits_few limit s.
 
 -- What is left where none may be opened.
 pub spent_here : (l after openings_left : ℕ) (f : Fault) → budget (is_main l) after openings_left ≡ Err f → IsSpent l openings_left × (fault.EntityReferenceLoop after ≡ f)
-spent_here zero after openings_left f h = no_fault _ f h
-spent_here (suc l) after zero f h = (λ r may. omega (arith, may.3.0), cc h)
-spent_here (suc l) after (suc r) f h = no_fault _ f h
+spent_here l after openings_left f h = grind arith
 
 -- And where one may.
 pub may_open : (l after openings_left r : ℕ) → l < most_deep → budget (is_main l) after openings_left ≡ Ok r → MayOpen l openings_left r

@@ -15,7 +15,7 @@ use Rattle.rox_grammar.specs.RunParts.{Parts}
 use Rattle.rox_grammar.specs.Entities.{Replacement, Entity, text_of}
 use Rattle.rox_grammar.specs.Faults.{InReferences, malformed, undeclared}
 use Rattle.rox_theory.proofs.ReferenceStarts.{hash_bytes, hex_bytes}
-use Rattle.rox_theory.proofs.Productions.{number_parts, reference_parts}
+use Rattle.rox_theory.proofs.Productions.{reference_parts}
 use Rattle.rox_theory.proofs.Basics.{within}
 use Rattle.rox_theory.proofs.CharLemmas.{run_within}
 use Rattle.rox_theory.proofs.ReferenceLemmas.{bytes_pass, name_no_hash, character_opens}
@@ -42,13 +42,7 @@ less_no_part = record { ascii = omega arith; no_name = refl; no_digit = refl; no
 module _ (b : ℕ) (none : NoPart b) (src : List ℕ) (utf8 : IsUtf8 src) where
   -- Not in a number.
   number_apart : (base : ℕ) (is : ℕ → Bool) (d c j q : ℕ) → is b ≡ false → IsNumber base is src d c j → d ≤ q → q < j → byte src q ≡ b → ⊥
-  number_apart base is d c j q fails m from below here =
-      let e = (number_parts m).e in
-      let end = (number_parts m).end in let next = (number_parts m).next in let closes = (number_parts m).closes in
-      elim (cases_lt q e) as (λ s. ⊥) [
-        | inl l ↦ true≢false (sym (bytes_pass is src d q from (omega arith)) ∙ ap is here ∙ fails)
-        | inr g ↦ (let same : q ≡ e = omega arith in none.no_semicolon (sym here ∙ ap (byte src) same ∙ closes))
-      ]
+  number_apart base is d c j q fails m from below here = grind (arith, bytes_pass)
 
   -- Nor in a name.
   name_apart : (i n j q : ℕ) → IsReference src i n j → i < q → q < j → byte src q ≡ b → ⊥
@@ -65,19 +59,10 @@ module _ (b : ℕ) (none : NoPart b) (src : List ℕ) (utf8 : IsUtf8 src) where
   character_apart : (i c j q : ℕ) → IsCharacter src i c j → i < q → q < j → byte src q ≡ b → ⊥
   character_apart i c j q (decimal opens m) from below here =
       let hash = (hash_bytes src i opens).1 in
-      elim (cases_eq q (i + 1)) as (λ s. ⊥) [
-        | inl same ↦ none.no_hash (sym here ∙ ap (byte src) same ∙ hash)
-        | inr apart ↦ number_apart 10 is_digit (i + 2) c j q none.no_digit m (omega arith) below here
-      ]
+      grind (arith, number_apart)
   character_apart i c j q (hexadecimal opens m) from below here =
       let bytes = hex_bytes src i opens in let hash = bytes.1 in let hex = bytes.2 in
-      elim (cases_eq q (i + 1)) as (λ s. ⊥) [
-        | inl same ↦ none.no_hash (sym here ∙ ap (byte src) same ∙ hash)
-        | inr apart ↦ elim (cases_eq q (i + 2)) as (λ s. ⊥) [
-          | inl same ↦ none.no_x (sym here ∙ ap (byte src) same ∙ hex)
-          | inr apart' ↦ number_apart 16 is_hex_digit (i + 3) c j q none.no_hex m (omega arith) below here
-        ]
-      ]
+      grind (arith, number_apart)
   character_apart i c j q (named n r is) from below here = name_apart i n j q r from below here
 
 -- A reference to a character is neither malformed nor undeclared.
@@ -85,23 +70,16 @@ character_stands : (es : List Entity) (src : List ℕ) (p c j : ℕ) (f : Fault)
 character_stands es src p c j f is (malformed amp no_character no_reference) = no_character c j is
 character_stands es src p c j f (decimal opens m) (undeclared k _ name (entity_reference n ref none) nothing holds) = name_no_hash src (p + 1) (reference_parts ref).name.starts (hash_bytes src p opens).1
 character_stands es src p c j f (hexadecimal opens m) (undeclared k _ name (entity_reference n ref none) nothing holds) = name_no_hash src (p + 1) (reference_parts ref).name.starts (hex_bytes src p opens).1
-character_stands es src p c j f (named m r is) (undeclared k _ name (entity_reference n ref none) nothing holds) =
-    let same : m ≡ n = (reference_parts r).name.longest ∙ sym (reference_parts ref).name.longest in
-    let is' : predefined (slice src (p + 1) n) ≡ Some c = subst (λ (m : ℕ). predefined (slice src (p + 1) m) ≡ Some c) same is in
-    cc (sym none ∙ is')
+character_stands es src p c j f (named m r is) (undeclared k _ name (entity_reference n ref none) nothing holds) = grind (arith, reference_parts)
 
 -- Nor is one to an entity that is declared.
 entity_stands : (es : List Entity) (src : List ℕ) (p n j : ℕ) (t : Replacement) (f : Fault) → IsReference src p n j → text_of es (slice src (p + 1) n) ≡ Some t → InReferences es src p f → ⊥
 entity_stands es src p n j t f r found (malformed amp no_character no_reference) = no_reference n j r
-entity_stands es src p n j t f r found (undeclared k _ name (entity_reference m ref none) nothing holds) =
-    let same : n ≡ m = (reference_parts r).name.longest ∙ sym (reference_parts ref).name.longest in
-    let found' : text_of es (slice src (p + 1) m) ≡ Some t = subst (λ (n : ℕ). text_of es (slice src (p + 1) n) ≡ Some t) same found in
-    cc (sym nothing ∙ found')
+entity_stands es src p n j t f r found (undeclared k _ name (entity_reference m ref none) nothing holds) = grind (arith, reference_parts)
 
 -- A fault of a reference begins with `&`.
 reference_opens : (es : List Entity) (src : List ℕ) (p : ℕ) (f : Fault) → InReferences es src p f → byte src p ≡ 38
-reference_opens es src p f (malformed amp no_character no_reference) = amp
-reference_opens es src p f (undeclared k _ name (entity_reference n ref none) nothing holds) = (reference_parts ref).opens
+reference_opens es src p f h = grind (arith, reference_parts)
 
 -- What an `&` begins: a reference to such a character, or to a declared entity.
 data Begins (es : List Entity) (src : List ℕ) (Allowed : ℕ → Type 0) (q : ℕ) : Type 0 where
@@ -161,12 +139,6 @@ module _ (es : List Entity) (main : Bool) (O : Inclusion) (src : List ℕ) (utf8
   abbrev Given : ℕ → Type 0
   Given c = (main ≡ true) ⊎ (c ≢ 60)
 
-  -- White space and the end of a line are none of these bytes.
-  white_byte : (e i : ℕ) → (byte src i ≡ 9) ⊎ ((byte src i ≡ 10) ⊎ ((byte src i ≡ 13) × ((e ≡ i + 1) ⊎ (byte src (i + 1) ≢ 10)))) → byte src i ≤ 13
-  white_byte e i (inl is) = omega arith
-  white_byte e i (inr (inl is)) = omega arith
-  white_byte e i (inr (inr (is, end))) = omega arith
-
   module _ (declared : (name : List ℕ) (b c : ℕ) (v : List ℕ) → O.value name b v c → (t : Replacement) × (text_of es name ≡ Some t)) where
     value_amp : (e i q b c : ℕ) (v : List ℕ) → Value main O src e i b c v → i ≤ q → q < e → byte src q ≡ 38 → Begins es src Given q
     value_amp e i q b c v (value_ends _) from below amp = absurd (omega arith)
@@ -174,7 +146,6 @@ module _ (es : List Entity) (main : Bool) (O : Inclusion) (src : List ℕ) (utf8
         let apart : q ≢ i = λ same. let h : byte src q ≡ 13 = ap (byte src) same ∙ cr in absurd (omega arith) in
         value_amp e (i + 1) q b c v rest (omega arith) below amp
     value_amp e i q b c v (white _ _ _ w more is rest) from below amp =
-        let low = white_byte e i is in
         let apart : q ≢ i = λ same. let h : byte src i ≡ 38 = ap (byte src) (sym same) ∙ amp in absurd (omega arith) in
         value_amp e (i + 1) q b c w rest (omega arith) below amp
     value_amp e i q b c v (other _ _ _ w more no_amp x₂ x₃ x₄ x₅ rest) from below amp =
@@ -220,7 +191,6 @@ module _ (es : List Entity) (main : Bool) (O : Inclusion) (src : List ℕ) (utf8
       let apart : q ≢ i = λ same. let h : byte src q ≡ 13 = ap (byte src) same ∙ cr in absurd (omega arith) in
       value_no_less e (i + 1) q b c v rest (omega arith) below here
   value_no_less e i q b c v (white _ _ _ w more is rest) from below here =
-      let low = white_byte e i is in
       let apart : q ≢ i = λ same. let h : byte src i ≡ 60 = ap (byte src) (sym same) ∙ here in absurd (omega arith) in
       value_no_less e (i + 1) q b c w rest (omega arith) below here
   value_no_less e i q b c v (other _ _ _ w more x₁ x₂ x₃ x₄ no_less rest) from below here =

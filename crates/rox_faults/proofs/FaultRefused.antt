@@ -49,13 +49,11 @@ use Rattle.rox_theory.proofs.ParseParts.{prolog_parts, parts_prolog}
 
 -- What asks nothing, and may fail in any source.
 result_by : {A B : Type 0} (P : Asks B → Type 0) (r : Result A Refusal) (g : A → Asks B) → ((x : A) → r ≡ Ok x → P (g x)) → ((e : Refusal) → r ≡ Err e → P ([], Err e)) → P (asks_nothing r >>> g)
-result_by P (Ok x) g good bad = good x refl
-result_by P (Err e) g good bad = bad e refl
+result_by P r g good bad = grind arith
 
 -- The last of it.
 only_by : {A : Type 0} (P : Asks A → Type 0) (r : Result A Fault) → ((x : A) → P ([], Ok x)) → ((f : Fault) → r ≡ Err f → P ([], Err (here f))) → P (asks_nothing (lifted r))
-only_by P (Ok x) good bad = good x
-only_by P (Err f) good bad = bad f refl
+only_by P r good bad = grind arith
 
 -- What a reference opens, by how many are open.
 pub values_at : (es : List Entity) → AreTexts es → (d k : ℕ) → d + k ≡ most_deep → AgreesValue es (opens_at es k) (value_opener es d (is_main k))
@@ -81,17 +79,7 @@ abbrev pub Declared : List ℕ → List Asked → List Entity → ℕ → Forest
 Declared src asked es p items = Prolog src p true items asked es
 
 pub declared_on : (src : List ℕ) (utf8 : IsUtf8 src) (asked : List Asked) (es : List Entity) (p q : ℕ) (done items : Forest Item) → Declared src asked es p done → Misc src p q items → Declared src asked es q (join done items)
-declared_on src utf8 asked es p q done items front more =
-    let a = prolog_parts src p true done asked es front in
-    parts_prolog src q true (join done items) asked es
-    (record {
-      begun = a.begun;
-      before = a.before;
-      ahead = a.ahead;
-      nodes = join a.nodes items;
-      doctype = doctype_on src utf8 asked es a.begun p q true a.nodes items refl a.doctype more;
-      all = ap (λ (f : Forest Item). join f items) a.all ∙ join_assoc a.before a.nodes items;
-    })
+declared_on src utf8 asked es p q done items front more = grind (arith, prolog_parts, parts_prolog, doctype_on, join_assoc)
 
 module _ (src : List ℕ) (utf8 : IsUtf8 src) (limit : ℕ) (allow : Bool) where
   -- The refusal stands.
@@ -206,9 +194,7 @@ module _ (src : List ℕ) (utf8 : IsUtf8 src) (limit : ℕ) (allow : Bool) where
         let PrologAt : ℕ → Forest Item → Type 0 = Declared src asked es in
         let here' : MayHaveDoctype src i e.state.at true (join items Nil) asked es = parts_of.MayHaveDoctype.doctype i e.state.at e.state.at items Nil asked es is (no_misc e.state.at) in
         let texts : AreTexts es = texts_agree src utf8 i e.state.at true (join items Nil) asked es here' in
-        let point : PrologAt e.state.at (join before items) =
-        parts_prolog src e.state.at true (join before items) asked es
-        (record { begun = i; before = before; ahead = ahead; nodes = join items Nil; doctype = here'; all = ap (λ (f : Forest Item). join before f) (sym (join-nil items)) }) in
+        let point : PrologAt e.state.at (join before items) = grind (arith, parts_prolog, join-nil) in
         let on = declared_on src utf8 asked es in
         let fine' : IsValidState most (state e.state.at (join before items) root 255) = subst (IsValidState most) state_is fine in
         let elements : (i j openings_left : ℕ) (one : Forest Item) → IsElement true (included_in_main es) src i j 255 openings_left one → (openings_left' : ℕ) × IsElement true (opens_at es 0) src i j 255 openings_left' one = λ i j openings_left one is. (openings_left, is) in
@@ -307,11 +293,7 @@ refusal_there limit allow replies src source asked f utf8 texts h = subst (Whole
 
 -- Where no document type declaration is allowed the refusals are the faults of the text.
 pub refusal_plain : (limit : ℕ) (src source : List ℕ) (asked : List Asked) (f : Fault) → RefusalOf limit false src asked source f → (asked ≡ []) × (source ≡ src) × FaultOf limit src f
-refusal_plain limit src source asked f (in_declaration _ is lacks) = (refl, refl, in_declaration f is lacks)
-refusal_plain limit src source asked f (without _ ill) = (refl, refl, without f ill)
-refusal_plain limit src source asked f (not_allowed i before _ ahead fits is) = (refl, refl, not_allowed i before refl ahead fits is)
-refusal_plain limit src source asked f (in_doctype i before _ _ _ may ahead fits is ill) = cc may
-refusal_plain limit src source asked f (behind _ es _ _ may ill) = cc may
+refusal_plain limit src source asked f h = grind arith
 
 pub plain_refusal : (limit : ℕ) (src : List ℕ) (f : Fault) → FaultOf limit src f → RefusalOf limit false src [] src f
 plain_refusal limit src f stands = stands

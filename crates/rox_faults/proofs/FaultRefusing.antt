@@ -14,7 +14,7 @@ use Rattle.rox_grammar.specs.Constructs.{AreChars}
 use Rattle.rox_grammar.specs.FixedTexts.{at}
 use Rattle.rox_grammar.specs.Content.{Inclusion, Value, Content}
 use Rattle.rox_grammar.specs.Entities.{Replacement, Entity, text_of, Spends, no_entities, Includes, most_deep, included_in_main}
-use Rattle.rox_grammar.specs.Doctype.{Asked, IsDoctype}
+use Rattle.rox_grammar.specs.Doctype.{Asked}
 use Rattle.rox_grammar.proofs.CountForms.{limits_counted}
 use Rattle.rox_grammar.specs.Document.{DocumentTo, Misc, no_misc, an_item, ParseOf, IsWithinLimits, Permits, PrologTo}
 use Rattle.rox_theory.specs.ParseParts.{MayHaveDoctype, doctype, no_doctype}
@@ -27,14 +27,14 @@ use Rattle.rox_reading.specs.WholeText.{prolog}
 use Rattle.rox_reading.proofs.Forests.{join_assoc, merge-more}
 use Rattle.rox_theory.specs.Answers.{SameAnswers}
 use Rattle.rox_theory.specs.Openers.{AreTexts}
-use Rattle.rox_theory.specs.ValidState.{AreNamed, IsValidState, state}
+use Rattle.rox_theory.specs.ValidState.{IsValidState, state}
 use Rattle.rox_theory.proofs.Constructions.{doctype_bytes}
 use Rattle.rox_theory.proofs.Tops.{tops_merged}
 use Rattle.rox_theory.proofs.Once.{opens_once}
 use Rattle.rox_theory.proofs.Around.{Stops, no_spaces, element_stops, doctype_stops, prolog_complete, doctype_opens}
 use Rattle.rox_theory.proofs.DoctypeAgreement.{texts_agree}
 use Rattle.rox_theory.proofs.FailedReadings.{ok_one}
-use Rattle.rox_faults.proofs.FaultLimits.{IsOver, nodes_over}
+use Rattle.rox_faults.proofs.FaultLimits.{IsOver}
 use Rattle.rox_faults.proofs.FaultWhole.{ahead_on}
 use Rattle.rox_faults.proofs.FaultRefused.{Declared, values_at, contents_at, declared_on}
 use Rattle.rox_faults.proofs.FaultPairs.{declaration_apart}
@@ -55,22 +55,11 @@ place_front opens es text Root k open_around b src s (enters l other d r source 
 -- And before a fault.
 front_of : (opens : ℕ → Inclusion) (es : List Entity) (limit : ℕ) (text : List ℕ) (behind_dtd : Bool) (PrologAt : ℕ → Forest Item → Type 0) (source : List ℕ) (f : Fault) → FaultFrom opens es limit text behind_dtd PrologAt source f
     → (p : ℕ) × (items : Forest Item) × PrologAt p items
-front_of opens es limit text behind_dtd PrologAt source f (misc_around p items _ (inl front) fits (in_one _ ill)) = (p, items, front)
-front_of opens es limit text behind_dtd PrologAt source f (misc_around p items _ (inl front) fits (one_too_many j item is over)) = (p, items, front)
-front_of opens es limit text behind_dtd PrologAt source f (no_root items front fits) = (length text, items, front)
-front_of opens es limit text behind_dtd PrologAt source f (unknown_ahead p items front fits below no_space no_less) = (p, items, front)
-front_of opens es limit text behind_dtd PrologAt source f (at_point k open_around b _ s _ _ place fits (at_place _ stands)) =
-    let r = place_front opens es text (λ p items. PrologAt p items × RootBegins behind_dtd text p) k open_around b source s place in (r.0, r.1, r.2.0)
-front_of opens es limit text behind_dtd PrologAt source f (at_point k open_around b src s _ _ place fits (in_value next l i stop d _ _ opens' is ill)) =
-    let r = place_front opens es text (λ p items. PrologAt p items × RootBegins behind_dtd text p) k open_around b src s place in (r.0, r.1, r.2.0)
-front_of opens es limit text behind_dtd PrologAt source f (misc_around p items _ (inr back) fits (in_one _ ill)) = let b = document_parts back in (b.start, b.before, b.ahead)
-front_of opens es limit text behind_dtd PrologAt source f (misc_around p items _ (inr back) fits (one_too_many j item is over)) = let b = document_parts back in (b.start, b.before, b.ahead)
-front_of opens es limit text behind_dtd PrologAt source f (unknown_behind p items back fits below a b c) = let b = document_parts back in (b.start, b.before, b.ahead)
+front_of opens es limit text behind_dtd PrologAt source f h = grind (arith, place_front, document_parts)
 
 -- A document type declaration begins where it is.
 begins_there : (src : List ℕ) (i p : ℕ) (dtd : Bool) (nodes : Forest Item) (asked : List Asked) (es : List Entity) → dtd ≡ true → MayHaveDoctype src i p dtd nodes asked es → at word.DoctypeStart src i ≡ true
-begins_there src i p dtd nodes asked es is (doctype _ j _ items more _ _ one rest) = doctype_opens src i j items asked es one
-begins_there src i p dtd nodes asked es is (no_doctype _) = cc is
+begins_there src i p dtd nodes asked es is k = grind (arith, doctype_opens)
 
 -- No refusal is in a text that has a parse without one, but those of the limits.
 plain_over : (limit : ℕ) (allow : Bool) (src source : List ℕ) (asked given : List Asked) (f : Fault) (tree : Forest Item) → IsUtf8 src → RefusalOf limit allow src asked source f → ParseOf src false given tree → IsOver (IsWithinLimits limit tree) f
@@ -101,9 +90,7 @@ module _ (limit : ℕ) (src : List ℕ) (utf8 : IsUtf8 src) (given : List Asked)
 
   -- The root element does not begin before it.
   no_root_here : (q : ℕ) (items : Forest Item) → PrologTo src q items → Stops src q → at word.DoctypeStart src q ≡ false → ⊥
-  no_root_here q items ahead stops none =
-      let same = one_misc src utf8 ahead.0 p.prolog.0 q p.begun items p.before (one_declaration ahead.0 ahead.1) ahead.2 stops p.prolog.2 (doctype_stops src p.begun begins_here) in
-      true≢false (sym begins_here ∙ ap (at word.DoctypeStart src) (sym same.0) ∙ none)
+  no_root_here q items ahead stops none = grind (arith, one_misc, one_declaration, doctype_stops, begins_here)
 
   no_root_begins : (q : ℕ) (items : Forest Item) → PrologTo src q items → RootBegins false src q → ⊥
   no_root_begins q items ahead root_begins =
@@ -117,10 +104,7 @@ module _ (limit : ℕ) (src : List ℕ) (utf8 : IsUtf8 src) (given : List Asked)
 
   -- Where the parse is within the limits all nodes are.
   few_nodes : IsWithinLimits limit tree → 1 + size (merge tree) ≤ limit
-  few_nodes few =
-      let merged : merge tree ≡ tree =
-      ap merge p.is_tree ∙ tops_merged true (included_in_main p.entities) src p.prolog.0 p.begun p.start p.end (length src) 255 p.openings_left true p.before p.nodes p.one p.after given p.entities p.prolog.2 p.doctype p.element p.misc_after ∙ sym p.is_tree in
-      rw merged (omega (arith, few.nodes))
+  few_nodes few = grind (arith, tops_merged)
 
   -- No fault is before it but those of the limits.
   ahead_over : (source : List ℕ) (f : Fault) → FaultFrom (λ k. no_entities) [] limit src false (PrologTo src) source f → IsOver (IsWithinLimits limit tree) f
@@ -131,8 +115,7 @@ module _ (limit : ℕ) (src : List ℕ) (utf8 : IsUtf8 src) (given : List Asked)
       let rest = join p.nodes (join p.one p.after) in
       let whole : tree ≡ join all (join r.0 rest) = p.is_tree ∙ ap (λ (f : Forest Item). join f rest) r.2 ∙ join_assoc all r.0 rest in
       let less = merge-more all (join r.0 rest) in
-      nodes_over (IsWithinLimits limit tree) (λ few.
-      (let nodes : 1 + size (merge (join all (join r.0 rest))) ≤ limit = subst (λ (f : Forest Item). 1 + size (merge f) ≤ limit) whole (few_nodes few) in omega arith))
+      grind (arith, few_nodes)
   ahead_over source f (no_root items ahead fits) =
       let r = ahead_rest (length src) items ahead in let l = before_end src utf8 (length src) p.begun r.0 r.1 (doctype_bytes src p.begun begins_here).1 in absurd (omega arith)
   ahead_over source f (unknown_ahead q items ahead fits below no_space no_less) =
@@ -164,8 +147,7 @@ module _ (limit : ℕ) (src : List ℕ) (utf8 : IsUtf8 src) (given : List Asked)
           → (IsWithinLimits limit tree → 1 + size (merge (join p.before (join nodes (join p.one p.after)))) ≤ limit) → SameAnswers asked given → InDoctype limit src p.begun p.before asked source f
           → IsOver (IsWithinLimits limit tree) f
       by_doctype k dtd nodes given es has (doctype _ j _ items more _ _ one rest) nodes_few same ill =
-          let all : IsWithinLimits limit tree → 1 + size (merge (join p.before (join items (join more (join p.one p.after))))) ≤ limit =
-          λ few. subst (λ (t : Forest Item). 1 + size (merge (join p.before t)) ≤ limit) (join_assoc items more (join p.one p.after)) (nodes_few few) in
+          let all : IsWithinLimits limit tree → 1 + size (merge (join p.before (join items (join more (join p.one p.after))))) ≤ limit = grind (arith, join_assoc) in
           in_doctype_apart src utf8 (IsWithinLimits limit tree) limit p.begun j p.before items (join more (join p.one p.after)) asked given es source f one all same ill
       by_doctype k dtd nodes given es has (no_doctype _) nodes_few same ill = cc has
 
@@ -191,14 +173,7 @@ given_at es (suc n) k b c name v deep (t, r, l, found, spends, chars, value) =
     (t, r, l, found, may_by k b r l c (omega arith) spends, chars, subst (λ (n : ℕ). Value false (Includes es n false) t.source (length t.source) t.start r l v) less value)
 
 declared_opens : (es : List Entity) → AreTexts es → OpensAt (opens_at es) es
-declared_opens es texts = record {
-  texts = texts;
-  values = values_at es texts;
-  contents = λ limit. contents_at limit es texts;
-  once = λ k. opens_once es texts (most_deep - k) (is_main k);
-  content = λ k b c name items h. opened_at es (most_deep - k) k b c name items refl h;
-  value = λ k b c name v h. given_at es (most_deep - k) k b c name v refl h;
-}
+declared_opens es texts = grind (arith, values_at, contents_at, opens_once, opened_at, given_at)
 
 module _ (src : List ℕ) (utf8 : IsUtf8 src) where
   -- Of two ways to read a document type declaration and what follows it, with the same answers, one is a front of the other.
@@ -206,10 +181,7 @@ module _ (src : List ℕ) (utf8 : IsUtf8 src) where
       → (rest : Forest Item) × Misc src p q rest × (ys ≡ join xs rest) × (es ≡ fs)
   doctype_front h i p q d e xs ys a b es fs has has' begin same (no_doctype _) other stops = cc has
   doctype_front h i p q d e xs ys a b es fs has has' begin same one (no_doctype _) stops = cc has'
-  doctype_front h i p q d e xs ys a b es fs has has' begin same (doctype _ j _ items more _ _ one rest) (doctype _ k _ items' more' _ _ one' rest') stops =
-      let both = doctypes_once src utf8 i j k items items' a b es fs (subst (λ (i : ℕ). IsDoctype src i j items a es) begin one) one' same in
-      let r = misc_front src utf8 k p q more more' (subst (λ (j : ℕ). Misc src j p more) both.0 rest) rest' stops in
-      (r.0, r.1, ap (join items') r.2 ∙ ap (λ (f : Forest Item). join f (join more r.0)) (sym both.1) ∙ sym (join_assoc items more r.0), both.3)
+  doctype_front h i p q d e xs ys a b es fs has has' begin same (doctype _ j _ items more _ _ one rest) (doctype _ k _ items' more' _ _ one' rest') stops = grind (arith, doctypes_once, misc_front, join_assoc)
 
 module _ (limit : ℕ) (src : List ℕ) (utf8 : IsUtf8 src) (given : List Asked) (tree : Forest Item) (p : ParseParts src true given tree) where
   -- What is before the root element.
@@ -243,26 +215,11 @@ module _ (limit : ℕ) (src : List ℕ) (utf8 : IsUtf8 src) (given : List Asked)
         let begun = one_misc src utf8 a.ahead.0 p.prolog.0 a.begun p.begun a.before p.before (one_declaration limit src utf8 given tree p a.ahead.0 a.ahead.1) a.ahead.2
         (doctype_stops src a.begun (begins_there src a.begun q true a.nodes asked es refl a.doctype)) p.prolog.2 (doctype_stops src p.begun (begins_here limit src utf8 given tree p)) in
         let r = doctype_front src utf8 a.begun p.begun q p.start true true a.nodes p.nodes asked given es p.entities refl refl begun.0 same a.doctype p.doctype root_stops.2 in
-        let whole : before_root ≡ join items r.0 =
-        ap (λ (b : Forest Item). join b p.nodes) begun.1 ∙ ap (join a.before) r.2 ∙ sym (join_assoc a.before a.nodes r.0) ∙ ap (λ (f : Forest Item). join f r.0) (sym a.all) in
+        let whole : before_root ≡ join items r.0 = grind (arith, join_assoc) in
         ((r.0, r.1, whole), r.3)
 
     declared_parsed : Parsed (opens_at p.entities) limit (IsWithinLimits limit tree) src (Declared src asked p.entities)
-    declared_parsed =
-        record {
-          start = p.start;
-          before = before_root;
-          ahead = λ q items a. (declared_rest p.entities q items a).0;
-          on = declared_on src utf8 asked p.entities;
-          end = p.end;
-          openings_left = p.openings_left;
-          one = p.one;
-          element = p.element;
-          after = p.after;
-          misc_after = p.misc_after;
-          fine = all_fine;
-          named = subst (λ (f : Forest Item). AreNamed root f) same_whole p.well_named;
-        }
+    declared_parsed = grind (arith, declared_rest, declared_on, all_fine, same_whole)
 
     -- So no fault is after it but those of the limits.
     behind_over : (es : List Entity) (source : List ℕ) (f : Fault) → FaultFrom (opens_at es) es limit src true (Declared src asked es) source f → IsOver (IsWithinLimits limit tree) f

@@ -2,8 +2,7 @@
 use Rattle.std.proofs.Common.{◌≡◌, ℕ, zero, suc, ◌+◌, ◌-◌, ◌^◌, ◌<◌, ◌≤◌, ◌⊎◌, ◌==◌, ◌||◌, Bool, true, false, eqb, leb, List, [], ◌∷◌, ◌++◌, length, get_or, refl, sym, ap, ◌∙◌, subst, arith, inl, inr}
 use Rattle.std.specs.Prelude.{Err, Option, Some, None, bytes_eq}
 use Rattle.std.specs.Str.{IsUtf8, IsCharBoundary}
-use Rattle.std.proofs.lemmas.Str.{IsCharBoundary-before_ascii, IsCharBoundary-end}
-use Rattle.std.proofs.lemmas.Bool.{cases_lt, eqb-true}
+use Rattle.std.proofs.lemmas.Grind.{common_steps}
 use Rattle.rox_grammar.specs.declared.fault.Fault.{Fault}
 use Rattle.rox_grammar.specs.declared.fault.Span.{Span}
 use Rattle.rox_grammar.specs.declared.fault.Word.{Word}
@@ -71,14 +70,7 @@ behind w src i k b utf8 h short is some ascii = cut_behind src (i + k) b utf8 (s
 
 -- A character begins where a run stops.
 pub run_stops_cut : (src : List ℕ) (i : ℕ) → i < length src → IsCharBoundary src (byte_from (λ c. c == 60) src i)
-run_stops_cut src i within =
-    let p : ℕ → Bool = λ c. c == 60 in
-    let e = byte_from p src i in
-    let bound = from_bound p src i (omega arith) in
-    elim (cases_lt e (length src)) as (λ s. IsCharBoundary src e) [
-      | inl below ↦ (let x = eqb-true (byte src e) 60 (from_here p src i below) in IsCharBoundary-before_ascii src e below (omega arith))
-      | inr past ↦ (let z : length src ≡ e = omega arith in subst (IsCharBoundary src) z (IsCharBoundary-end src))
-    ]
+run_stops_cut src i within = grind (arith, from_bound, from_here)
 
 module _ (src : List ℕ) (utf8 : IsUtf8 src) where
   -- A comment.
@@ -206,16 +198,11 @@ module _ (src : List ℕ) (utf8 : IsUtf8 src) where
 -- A slice in two parts.
 pub slice_split : (src : List ℕ) (d i k j : ℕ) → i + d ≡ k → k ≤ j → j ≤ length src → slice src i j ≡ slice src i k ++ slice src k j
 slice_split src zero i k j to le inside = let e : i ≡ k = omega arith in rw (e, slice_nil src k) refl
-slice_split src (suc d) i k j to le inside =
-    slice_cons src i j (omega arith) inside ∙ ap (λ (r : List ℕ). byte src i ∷ r) (slice_split src d (i + 1) k j (omega arith) le inside)
-    ∙ ap (λ (r : List ℕ). r ++ slice src k j) (sym (slice_cons src i k (omega arith) (omega arith)))
+slice_split src (suc d) i k j to le inside = grind (arith, slice_split src d (i + 1) k j (omega arith) le inside, slice_cons)
 
 -- The span of a local part holds it.
 pub local_holds : (src : List ℕ) (name : Name) (k n : ℕ) → name.local ≡ slice src k n → k ≤ n → n ≤ length src → SpanIs src (local_span name n) name.local
-local_holds src name k n is le inside =
-    let long : length (slice src k n) ≡ n - k = range_length src k n le inside in
-    let e : n - length name.local ≡ k = rw is (omega arith) in
-    ap (λ (i : ℕ). slice src i n) e ∙ sym is
+local_holds src name k n is le inside = grind (arith, range_length)
 
 -- A name ends in the source.
 pub qname_inside : (src : List ℕ) (i n : ℕ) (name : Name) → IsUtf8 src → IsCharBoundary src i → IsQName src i name n → n ≤ length src
@@ -223,10 +210,7 @@ qname_inside src i n name utf8 cut is = (qname_text src i name n utf8 cut is).3.
 
 -- The span of a name holds it as it is written.
 pub spells : (src : List ℕ) (i n : ℕ) (name : Name) → IsUtf8 src → IsCharBoundary src i → IsQName src i name n → SpanIs src (name_span name i n) (spelled name)
-spells src i n name utf8 cut (unprefixed _ _ is last) =
-    let inside = qname_inside src i n _ utf8 cut (unprefixed i n is last) in
-    let le = run_end_le is_part_char src i in let l = (ncname_parts is).longest in
-    local_holds src (record { prefix = []; local = slice src i n }) i n refl (omega arith) inside
+spells src i n name utf8 cut (unprefixed _ _ is last) = grind (arith, common_steps, qname_inside src i n _ utf8 cut (unprefixed i n is last))
 spells src i n name utf8 cut (colon_first _ _ colon is last) =
     let inside = qname_inside src i n _ utf8 cut (colon_first i n colon is last) in
     let le = run_end_le is_part_char src (i + 1) in let l = (ncname_parts is).longest in

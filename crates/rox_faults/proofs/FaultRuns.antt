@@ -1,5 +1,5 @@
 -- Runs that fail: in what they hold, by one node too many, or in a replacement text that is opened.
-use Rattle.std.proofs.Common.{◌≡◌, ◌≢◌, ℕ, zero, suc, ◌+◌, ◌-◌, ◌<◌, ◌≤◌, max, ◌==◌, Bool, true, false, eqb, ltb, nat_le, List, [], ◌∷◌, length, refl, sym, ap, ◌∙◌, subst, arith}
+use Rattle.std.proofs.Common.{◌≡◌, ◌≢◌, ℕ, zero, suc, ◌+◌, ◌-◌, ◌<◌, ◌≤◌, max, ◌==◌, Bool, true, false, eqb, ltb, nat_le, List, length, refl, sym, ap, ◌∙◌, subst, arith}
 use Rattle.std.specs.Prelude.{Result, Err, Some, None}
 use Rattle.std.specs.Str.{IsUtf8, IsCharBoundary}
 use Rattle.std.proofs.lemmas.Bool.{eqb-true, ltb-true, leb-false}
@@ -24,7 +24,7 @@ use Rattle.rox_grammar.specs.Faults.{InReferences, InRun, no_char, end_mark, in_
 use Rattle.rox_reading.specs.Lexical.{has_mark, chars_up_to}
 use Rattle.rox_reading.specs.Refusals.{Refusal}
 use Rattle.rox_reading.specs.State.{State}
-use Rattle.rox_reading.specs.Values.{Bit, bytes_of, opens as a_text, data_bit_at, Next, after_bit, data_part, part_text, raw_character_data_at}
+use Rattle.rox_reading.specs.Values.{Bit, data_bit_at, Next, after_bit, data_part, part_text, raw_character_data_at}
 use Rattle.rox_reading.specs.Machine.{with_item, with_piece, after_part, data_parts, character_data_step, opener}
 use Rattle.rox_reading.proofs.Forests.{join-nil, join_assoc, named-join}
 use Rattle.rox_theory.specs.Openers.{IsStop, AgreesContent}
@@ -34,7 +34,7 @@ use Rattle.rox_theory.proofs.Basics.{chosen, chars_sound}
 use Rattle.rox_theory.proofs.LiteralLemmas.{from_le}
 use Rattle.rox_theory.proofs.ReferenceLemmas.{reference_opens}
 use Rattle.rox_theory.proofs.PartLemmas.{part_le, Ends, ends_run, ends_entity, texts_line_ends, bit_moves, run_bit_sound, run_part_sound}
-use Rattle.rox_theory.proofs.RunLemmas.{IsPiece, piece_read, raw_sound, run_inside, piece_whole, plain_part}
+use Rattle.rox_theory.proofs.RunLemmas.{IsPiece, piece_read, raw_sound, run_inside, plain_part}
 use Rattle.rox_theory.proofs.Standing.{AreNamed, IsValidState}
 use Rattle.rox_theory.proofs.Leaves.{state, with_leaf}
 use Rattle.rox_theory.proofs.FailedReadings.{bind_err, lifted_err, lifted_only, no_fault, chars_fails}
@@ -45,8 +45,7 @@ use Rattle.rox_faults.proofs.StateCounts.{too_many_there}
 module _ (src : List ℕ) (utf8 : IsUtf8 src) (es : List Entity) (main : Bool) where
   -- What follows a bit fails.
   bit_fails : {P : Type 0} (more : ℕ → Result (List ℕ × Next) Fault) (bit : Bit) (j : ℕ) (f : Fault) → after_bit more bit j ≡ Err f → (more j ≡ Err f → P) → P
-  bit_fails more (bytes_of bs) j f h go = bind_err (more j) _ f h go (λ rest read h. no_fault _ f h)
-  bit_fails more (a_text t) j f h go = no_fault _ f h
+  bit_fails more bit j f h go = grind arith
 
   -- The references of a run.
   part_fails : (stop n i p : ℕ) (f : Fault) → stop ≤ length src → (stop < length src → IsStop (byte src stop)) → i ≤ p → data_part main es n src stop p ≡ Err f → (q : ℕ) × (i ≤ q) × (q < stop) × InReferences es src q f
@@ -66,8 +65,7 @@ module _ (src : List ℕ) (utf8 : IsUtf8 src) (es : List Entity) (main : Bool) w
 
 -- A piece that is one node too many.
 piece_fails : (limit : ℕ) (s : State) (i j : ℕ) (bs : List ℕ) (f : Fault) → with_piece limit s i j bs ≡ Err f → (0 < length bs) × (with_item limit s j (Text i j bs false) ≡ Err f)
-piece_fails limit s i j [] f h = no_fault _ f h
-piece_fails limit s i j (b ∷ bs) f h = (omega arith, h)
+piece_fails limit s i j bs f h = grind arith
 
 -- An item that is one too many.
 item_over : (limit : ℕ) (s : State) (j : ℕ) (item : Item) (f : Fault) → with_item limit s j item ≡ Err f → (limit < nodes_so_far s.stack (join s.done (leaf item))) × (fault.NodesLimitReached ≡ f)
@@ -111,8 +109,7 @@ module _ (opens : ℕ → Inclusion) (es : List Entity) (limit : ℕ) (text : Li
           → (opens k).content (slice src (q + 1) n) u.openings_left items c → v.at ≡ j → v.openings_left ≡ c → v.stack ≡ u.stack → v.done ≡ join (join u.done (piece s.at stop false ss)) items → Begun v
       begun_more u v b q n j c ss items part ref none opened at openings_left stack done =
           let one = piece s.at stop false ss in
-          let whole : (more : Forest Item) → join b.front (join one (join items more)) ≡ join (join b.front (join one items)) more =
-          λ more. ap (λ (f : Forest Item). join b.front f) (sym (join_assoc one items more)) ∙ sym (join_assoc b.front (join one items) more) in
+          let whole : (more : Forest Item) → join b.front (join one (join items more)) ≡ join (join b.front (join one items)) more = grind (arith, join_assoc) in
           record {
             front = join b.front (join one items);
             done = done ∙ ap (λ (f : Forest Item). join (join f one) items) b.done ∙ join_assoc (join s.done b.front) one items ∙ join_assoc s.done b.front (join one items);
@@ -166,15 +163,11 @@ module _ (opens : ℕ → Inclusion) (es : List Entity) (limit : ℕ) (text : Li
           let w = piece_fails limit u s.at stop v f bad in
           let item = Text s.at stop v false in
           let many = item_over limit u stop item f w.1 in
-          let one : piece s.at stop false ss ≡ leaf item = piece_whole s.at stop false ss v text w.0 in
-          let done : join u.done (leaf item) ≡ join s.done (join b.front (piece s.at stop false ss)) =
-          ap (λ (f : Forest Item). join f (leaf item)) b.done ∙ join_assoc s.done b.front (leaf item) ∙ ap (λ (f : Forest Item). join s.done (join b.front f)) (sym one) in
-          let named : AreWellNamed (scope_of s.stack) (join b.front (piece s.at stop false ss)) =
-          named-join (scope_of s.stack) b.front (piece s.at stop false ss) (front_named u b fine') (subst (AreWellNamed (scope_of s.stack)) (sym one) (tt, tt, tt)) in
+          let done : join u.done (leaf item) ≡ join s.done (join b.front (piece s.at stop false ss)) = grind (arith, join_assoc) in
+          let named : AreWellNamed (scope_of s.stack) (join b.front (piece s.at stop false ss)) = grind (arith, named-join, front_named) in
           let few : AreFew s.stack (join s.done (join b.front (piece s.at stop false ss))) =
           subst (λ (o : Open). AreFew o (join s.done (join b.front (piece s.at stop false ss)))) b.stack (subst (AreFew u.stack) done (plain_few limit u item refl refl (fine_fits limit most u least fine'))) in
-          let over' : limit < nodes_so_far s.stack (join s.done (join b.front (piece s.at stop false ss))) =
-          subst (λ (o : Open). limit < nodes_so_far o (join s.done (join b.front (piece s.at stop false ss)))) b.stack (subst (λ (f : Forest Item). limit < nodes_so_far u.stack f) done many.0) in
+          let over' : limit < nodes_so_far s.stack (join s.done (join b.front (piece s.at stop false ss))) = grind arith in
           subst (P src) many.1 (by_end u b q ss next part ends named few over')
 
       -- The parts after an opened text.
@@ -191,8 +184,7 @@ module _ (opens : ℕ → Inclusion) (es : List Entity) (limit : ℕ) (text : Li
           let refers : RefersTo es src q j r = (name, entity_reference n ref none, found) in
           let to' : PartsTo (is_main k) (opens k) src s.at stop s.at q s.openings_left t.openings_left (join b.front one) =
           subst (λ (c : ℕ). PartsTo (is_main k) (opens k) src s.at stop s.at q s.openings_left c (join b.front one)) (sym is.openings_left) (b.to q u.openings_left one (last_part u.at u.openings_left ss part)) in
-          let named : AreWellNamed (scope_of s.stack) (join b.front one) =
-          named_last s.stack s.done (join b.front one) (subst (λ (o : Open). AreNamed o (join s.done (join b.front one))) t_stack (subst (AreNamed t.stack) t_done fine'.named)) in
+          let named : AreWellNamed (scope_of s.stack) (join b.front one) = grind (arith, named_last) in
           let below : q < stop = omega (arith, moves.2) in
           let run_to : RunTo es (is_main k) (opens k) src s.at s.openings_left =
           record {

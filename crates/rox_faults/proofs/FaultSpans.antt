@@ -1,10 +1,10 @@
 -- The names in each refusal of reading are texts of the source that it counts in: the main text, a replacement text or an answer.
-use Rattle.std.proofs.Common.{◌≡◌, ℕ, zero, suc, ◌+◌, ◌-◌, ◌<◌, ◌≤◌, ◌==◌, ◌||◌, max, not, Bool, true, false, cond, eqb, leb, ltb, List, [], ◌∷◌, length, refl, sym, ap, ◌∙◌, subst, arith}
-use Rattle.std.specs.Prelude.{Result, Ok, Err, Option, Some, None, slice_index, nat_le, bytes_eq}
+use Rattle.std.proofs.Common.{◌≡◌, ℕ, zero, suc, ◌+◌, ◌-◌, ◌<◌, ◌≤◌, ◌==◌, ◌||◌, max, not, Bool, true, false, cond, leb, ltb, List, [], length, refl, ap, subst, arith}
+use Rattle.std.specs.Prelude.{Result, Ok, Err, Option, Some, None, slice_index, nat_le}
 use Rattle.std.specs.List.{list_any}
 use Rattle.std.specs.Str.{IsUtf8, IsCharBoundary}
 use Rattle.std.proofs.lemmas.Str.{IsCharBoundary-after_ascii}
-use Rattle.std.proofs.lemmas.Bool.{cond_both, eqb-true, leb-false, not-false}
+use Rattle.std.proofs.lemmas.Bool.{eqb-true, leb-false, not-false}
 use Rattle.rox_grammar.specs.declared.fault.Fault.{Fault}
 use Rattle.rox_grammar.specs.declared.fault.Word.{Word}
 use Rattle.rox_grammar.specs.declared.fault.Expected.{Expected}
@@ -18,7 +18,7 @@ use Rattle.rox_grammar.specs.Runs.{begins}
 use Rattle.rox_grammar.specs.Search.{stands, mark_from, byte_from}
 use Rattle.rox_grammar.specs.Forest.{Forest, Nil, join}
 use Rattle.rox_grammar.specs.Written.{Name, Tag, Item, Element, Text, Comment, PI, leaf}
-use Rattle.rox_grammar.specs.NameParts.{local_span, same_qname}
+use Rattle.rox_grammar.specs.NameParts.{same_qname}
 use Rattle.rox_grammar.specs.Names.{byte, spaces_end}
 use Rattle.rox_grammar.specs.FixedTexts.{double_dash}
 use Rattle.rox_grammar.specs.Content.{is_verbatim, literals, line_ends}
@@ -31,10 +31,10 @@ use Rattle.rox_reading.specs.Refusals.{Refusal, here, there, lifted, elsewhere}
 use Rattle.rox_reading.specs.State.{State, depth_of}
 use Rattle.rox_reading.specs.Lexical.{has_mark, byte_at, space_at, quote_at, name_at, string_at, chars_up_to, text_to, qname_at}
 use Rattle.rox_reading.specs.Markup.{comment_at, Instruction, instruction_at, cdata_at, EndTag, end_tag_at, pair_at, gap_at, pair_if, xml_decl_at}
-use Rattle.rox_reading.specs.Values.{Next, at_end, opening, data_part, part_text, raw_character_data_at, ReadText, value_at}
+use Rattle.rox_reading.specs.Values.{Next, data_part, part_text, raw_character_data_at, ReadText, value_at}
 use Rattle.rox_reading.specs.Tags.{TagRead, tag_at}
 use Rattle.rox_reading.specs.Machine.{Context, counted, with_item, comment_step, instruction_step, cdata_step, with_piece, at_place, after_part, data_parts, character_data_step, cut_off_fault, opened_by, tag_step, name_span, closed_by, end_step, step, drive, text_ends, drive_text, budget, values_of, opener, main_text}
-use Rattle.rox_reading.specs.Doctype.{Reply, AreTextReplies, Asks, asks_nothing, ◌>>>◌, quoted_at, system_at, public_at, external_id_at, name_or_end_at, notation_at, Definition, inner as text_inside, outer, definition_at, EntityHead, kind_at, entity_head_at, answer_text, Dtd, next_reply, replied, defined, entity_step, skipped_declaration, with_state, subset_end, subset, external_id_if, doctype_head_at, doctype_step}
+use Rattle.rox_reading.specs.Doctype.{Reply, AreTextReplies, Asks, asks_nothing, ◌>>>◌, quoted_at, system_at, public_at, external_id_at, name_or_end_at, notation_at, Definition, definition_at, EntityHead, kind_at, entity_head_at, answer_text, Dtd, replied, defined, entity_step, skipped_declaration, with_state, subset_end, subset, external_id_if, doctype_head_at, doctype_step}
 use Rattle.rox_reading.specs.WholeText.{misc, body, finished, prolog, doctype, reading}
 use Rattle.rox_theory.specs.ValidState.{IsValidState, state}
 use Rattle.rox_theory.specs.Openers.{AreTexts}
@@ -313,9 +313,7 @@ module _ (src : List ℕ) (bottom : Open) where
 
   -- A tag that is cut off.
   cut_off_spans : (main : Bool) (stack : Open) → NamesText src (cut_off_fault main stack)
-  cut_off_spans true root = tt
-  cut_off_spans true (inside start tag before up) = tt
-  cut_off_spans false stack = tt
+  cut_off_spans main stack = grind arith
 
   -- After a start tag with a name.
   opened_spans : (limit : ℕ) (s : State) (tag : Tag) (empty : Bool) (openings_left j : ℕ) → IsTextSpan src (name_span tag.name (s.at + 1) tag.name_end) → StateNamed s
@@ -333,8 +331,7 @@ module _ (src : List ℕ) (bottom : Open) where
 
   -- The piece of a part.
   piece_spans : (limit : ℕ) (s : State) (i j : ℕ) (bs : List ℕ) → StateNamed s → Spanned State src StateNamed (with_piece limit s i j bs)
-  piece_spans limit s i j [] named = record { holds = named }
-  piece_spans limit s i j (b ∷ bs) named = item_spans limit s j (Text i j (b ∷ bs) false) named
+  piece_spans limit s i j bs named = grind arith
 
   -- The bytes of a run.
   raw_spans : (i : ℕ) → FaultSpanned src (raw_character_data_at src i)
@@ -353,9 +350,7 @@ module _ (src : List ℕ) (bottom : Open) where
     -- After a part.
     after_part_told : (more : State → Result State Refusal) → ((u : State) → StateNamed u → Told State src StateNamed (more u)) → (stop : ℕ) (s : State) (next : Next) → StateNamed s → NextIsSource src utf8 next
         → Told State src StateNamed (after_part context more stop s next)
-    after_part_told more rest stop s at_end named is = record { tells = named }
-    after_part_told more rest stop s (opening t j) named is =
-        told_bind src (λ (u : State). u.stack ≡ s.stack) _ (context.opener t j s) _ (opens t j s is) (λ u read same. rest u (subst (Rests src bottom) (sym same) named))
+    after_part_told more rest stop s next named is = grind arith
 
     -- The parts of a run.
     run_parts_told : (n start stop : ℕ) (s : State) → StateNamed s → Told State src StateNamed (data_parts context n src start stop s)
@@ -378,9 +373,7 @@ module _ (src : List ℕ) (bottom : Open) where
 
     -- A qualified name, written with its colon or without.
     written_spans : (i : ℕ) (name : Name) (n : ℕ) → IsCharBoundary src i → qname_at src i ≡ Ok (name, n) → IsTextSpan src (name_span name i n)
-    written_spans i name n cut read =
-        let spans = qname_spans src i name n utf8 cut read in
-        cond_both (bytes_eq name.prefix []) (local_span name n) (record { start = i; end = n }) (IsTextSpan src) (λ h. spans.1) (λ h. spans.2)
+    written_spans i name n cut read = grind (arith, qname_spans src i name n utf8 cut read)
 
     -- A character begins after `</`.
     end_cut : (i : ℕ) → byte src (i + 1) ≡ 47 → IsCharBoundary src (i + 2)
@@ -440,8 +433,7 @@ module _ (src : List ℕ) (bottom : Open) where
 
     -- A replacement text ends where as many elements are open as before it.
     ends_told : (s : State) → StateNamed s → Told State src (λ (u : State). u.stack ≡ bottom) (text_ends context s)
-    ends_told s named =
-        told_cond src _ (eqb (depth_of s.stack) context.open_around) _ _ (λ same. record { tells = rests_same src bottom s.stack named (eqb-true _ _ same ∙ open_around) }) (λ h. record { tells = tt })
+    ends_told s named = grind (arith, rests_same)
 
     -- Content of a replacement text up to its end.
     drive_text_told : (n : ℕ) (s : State) → StateNamed s → Told State src (λ (u : State). u.stack ≡ bottom) (drive_text context n src s)
@@ -473,19 +465,16 @@ opener_told limit es texts (suc d) main src t after s utf8 =
 
 -- Of what is asked and what comes of it.
 told_asks : {A B : Type 0} (src : List ℕ) (P : A → Type 0) (Q : B → Type 0) (r : Asks A) (f : A → Asks B) → Told A src P r.1 → ((x : A) → r.1 ≡ Ok x → P x → Told B src Q (f x).1) → Told B src Q (r >>> f).1
-told_asks src P Q (asked, Ok x) f h go = go x refl h.tells
-told_asks src P Q (asked, Err e) f h go = record { tells = h.tells }
+told_asks src P Q r f h go = grind arith
 
 -- And of a choice.
 asks_cond : {A : Type 0} (src : List ℕ) (P : A → Type 0) (b : Bool) (x y : Asks A) → (b ≡ true → Told A src P x.1) → (b ≡ false → Told A src P y.1) → Told A src P (cond b x y).1
-asks_cond src P true x y holds fails = holds refl
-asks_cond src P false x y holds fails = fails refl
+asks_cond src P b x y holds fails = grind arith
 
 -- What opens nothing.
 asks_lifted : {A B : Type 0} (src : List ℕ) (P : A → Type 0) (Q : B → Type 0) (r : Result A Fault) (f : A → Asks B) → Spanned A src P r → ((x : A) → r ≡ Ok x → P x → Told B src Q (f x).1)
     → Told B src Q (asks_nothing (lifted r) >>> f).1
-asks_lifted src P Q (Ok x) f h go = go x refl h.holds
-asks_lifted src P Q (Err e) f h go = record { tells = h.holds }
+asks_lifted src P Q r f h go = grind arith
 
 module _ (src : List ℕ) where
   -- No element is open.
@@ -506,9 +495,7 @@ module _ (src : List ℕ) where
   replied_told request p (Ok answer) = answer_told answer
 
   defined_told : (definition : Definition) (p : ℕ) (replies : List Reply) → Told (Option Replacement × List Reply) src (λ x. Unit {0}) (defined definition p replies).1
-  defined_told (text_inside t) p replies = record { tells = tt }
-  defined_told (outer request) p replies =
-      told_asks src (λ (x : Option Replacement). Unit {0}) _ (replied request p (next_reply replies)) _ (replied_told request p (next_reply replies)) (λ t read h. record { tells = tt })
+  defined_told definition p replies = grind (arith, replied_told)
 
   -- An entity.
   entity_told : (d : Dtd) → AtTop d → Told Dtd src AtTop (entity_step src d).1

@@ -58,14 +58,12 @@ use Rattle.rox_faults.proofs.FaultDeclared.{head_fails, definition_fails, doctyp
 
 -- What asks nothing.
 pub nothing_by : {A B : Type 0} (P : Asks B → Type 0) (r : Result A Fault) (g : A → Asks B) → ((x : A) → r ≡ Ok x → P (g x)) → ((f : Fault) → r ≡ Err f → P ([], Err (here f))) → P (asks_nothing (lifted r) >>> g)
-nothing_by P (Ok x) g good bad = good x refl
-nothing_by P (Err f) g good bad = bad f refl
+nothing_by P r g good bad = grind arith
 
 -- And what asks.
 pub asks_by : {A B : Type 0} (P : Asks B → Type 0) (r : Asks A) (g : A → Asks B) → ((asked : List Asked) (x : A) → r ≡ (asked, Ok x) → P (asked ++ (g x).0, (g x).1))
     → ((asked : List Asked) (e : Refusal) → r ≡ (asked, Err e) → P (asked, Err e)) → P (r >>> g)
-asks_by P (asked, Ok x) g good bad = good asked x refl
-asks_by P (asked, Err e) g good bad = bad asked e refl
+asks_by P r g good bad = grind arith
 
 -- A request, by its reply and the text that it gives.
 outer_by : {B : Type 0} (P : Asks B → Type 0) (request : Request) (j : ℕ) (reply : Reply) (rs : List Reply) (g : Option Replacement × List Reply → Asks B) → ((message : List ℕ) → P ([], Err (refused request j message)))
@@ -73,11 +71,7 @@ outer_by : {B : Type 0} (P : Asks B → Type 0) (request : Request) (j : ℕ) (r
     → ((answer : Option (List ℕ)) (text : Option Replacement) → reply ≡ Ok answer → answer_text answer ≡ Ok text → P (once request answer ++ (g (text, rs)).0, (g (text, rs)).1))
     → P (replied request j reply >>> (λ t. ([], Ok (t, rs))) >>> g)
 outer_by P request j (Err message) rs g own ill good = own message
-outer_by P request j (Ok answer) rs g own ill good = by_text (answer_text answer) refl
-  where
-    by_text : (r : Result (Option Replacement) Refusal) → answer_text answer ≡ r → P ((once request answer, r) >>> (λ t. ([], Ok (t, rs))) >>> g)
-    by_text (Ok text) is = good answer text refl is
-    by_text (Err e) is = ill answer e refl is
+outer_by P request j (Ok answer) rs g own ill good = grind arith
 
 -- What an answer's declaration lacks.
 answer_fails : (answer : Option (List ℕ)) (e : Refusal) → IsTextReply (Ok answer) → answer_text answer ≡ Err e
@@ -225,8 +219,7 @@ module _ (src : List ℕ) (utf8 : IsUtf8 src) (limit most : ℕ) (less : limit �
 
   -- After more that is asked.
   outcome_after : (a b : List Asked) (r : Asks Dtd) → Outcome (a ++ b) r → Outcome a (b ++ r.0, r.1)
-  outcome_after a b (asked, Ok e) h = subst (λ (l : List Asked). Ended l e) (append_assoc a b asked) h
-  outcome_after a b (asked, Err e) h = subst (λ (l : List Asked). Stands l e) (append_assoc a b asked) h
+  outcome_after a b r h = grind (arith, append_assoc)
 
   module _ (s : ℕ) (begins : BeginsDoctype src i s) (bracket : byte src s ≡ 91) where
     -- One turn: what is after white space.
@@ -239,18 +232,10 @@ module _ (src : List ℕ) (utf8 : IsUtf8 src) (limit most : ℕ) (less : limit �
       read_to =
           let k = spaces_end src d.state.at in
           let white : Subset src d.state.at k Nil [] [] = (over_spaces src (λ (m : ℕ). Subset src m k Nil [] []) d.state.at utf8 cut (λ m is rest. space m k Nil [] [] is rest)).1 (no_more k) in
-          subst (λ (f : Forest Item). Subset src (s + 1) k f asked0 d.entities) (join-nil so.items)
-          (subst (λ (a : List Asked). Subset src (s + 1) k (join so.items Nil) a d.entities) (append-nil asked0)
-          (subst (λ (es : List Entity). Subset src (s + 1) k (join so.items Nil) (asked0 ++ []) es) (append-nil d.entities) (subset_then src (s + 1) d.state.at k so.items Nil asked0 [] d.entities [] so.read white)))
+          grind (arith, join-nil, append-nil, subset_then)
 
       to_here : SubsetTo src i (spaces_end src d.state.at) so.items asked0
       to_here = subset_to s d.entities begins bracket read_to
-
-      done_is : d.state.done ≡ join before so.items
-      done_is = ap (λ (s : State). s.done) so.state_is
-
-      stack_is : d.state.stack ≡ root
-      stack_is = ap (λ (s : State). s.stack) so.state_is
 
       fits : FitsLimits limit root (join before so.items)
       fits = fine_fits limit most (state d.state.at (join before so.items) root 255) least (subst (IsValidState most) so.state_is fine)
@@ -270,23 +255,12 @@ module _ (src : List ℕ) (utf8 : IsUtf8 src) (limit most : ℕ) (less : limit �
           let plain = misc_plain src utf8 k j item is in
           let added' : with_item limit (state k (join before so.items) root 255) j item ≡ Ok t = subst (λ (u : State). with_item limit u j item ≡ Ok t) place_is added in
           let r = item_read limit most (state k (join before so.items) root 255) t j item less plain.0 plain.1 (plain.2 (scope_in [] item)) fine_here added' in
-          let at_is : t.at ≡ j = ap (λ (s : State). s.at) r.0 in
           let one : Subset src k j (leaf item) [] [] = an_item k j j item Nil [] [] is (no_more j) in
           let read' : Subset src (s + 1) j (join so.items (leaf item)) asked0 d.entities =
           subst (λ (a : List Asked). Subset src (s + 1) j (join so.items (leaf item)) a d.entities) (append-nil asked0)
           (subst (λ (es : List Entity). Subset src (s + 1) j (join so.items (leaf item)) (asked0 ++ []) es) (append-nil d.entities) (subset_then src (s + 1) k j so.items (leaf item) asked0 [] d.entities [] read_to one)) in
           let moves = misc_moves src utf8 k j item is in
-          let far = run_end_le is_space src d.state.at in (
-            record {
-              items = join so.items (leaf item);
-              read = subst (λ (j : ℕ). Subset src (s + 1) j (join so.items (leaf item)) asked0 d.entities) (sym at_is) read';
-              state_is = r.0 ∙ ap (λ (f : Forest Item). state j f root 255) (join_assoc before so.items (leaf item)) ∙ ap (λ (j : ℕ). state j (join before (join so.items (leaf item))) root 255) (sym at_is);
-              solid = subst (λ (j : ℕ). is_space (byte src (j - 1)) ≡ false) (sym at_is) (misc_last src k j item is);
-            },
-            subst (IsCharBoundary src) (sym at_is) (ends_cut src j utf8 (misc_ends src k j item is)),
-            r.1,
-            omega arith,
-          )
+          grind (arith, run_end_le, join_assoc, misc_last, ends_cut, misc_ends)
 
       item_over : (j : ℕ) (item : Item) (f : Fault) → IsMisc src (spaces_end src d.state.at) j item → with_item limit spaced.state j item ≡ Err f → In (asked0 ++ []) src f
       item_over j item f is bad =
@@ -364,10 +338,7 @@ module _ (src : List ℕ) (utf8 : IsUtf8 src) (limit most : ℕ) (less : limit �
           where_it_is inside =
               let k = spaces_end src d.state.at in
               let Q : ℕ → Type 0 = λ m. (m ≡ k) ⊎ (is_space (byte src (k - 1)) ≡ true) in
-              let from = (over_spaces src Q d.state.at utf8 cut (λ m is q. elim q as (λ _. Q m) [
-                | inl e ↦ (let last : m ≡ k - 1 = omega arith in inr (subst (λ (m : ℕ). is_space (byte src m) ≡ true) last is))
-                | inr stands ↦ inr stands
-              ])).1 (inl refl) in
+              let from = (over_spaces src Q d.state.at utf8 cut (λ m is q. grind arith)).1 (inl refl) in
               elim from as (λ _. (k < length src) ⊎ (is_space (byte src (k - 1)) ≡ true)) [ inl e ↦ inl (omega arith) | inr stands ↦ inr stands ]
 
       -- A declaration that is passed over.
@@ -408,17 +379,7 @@ module _ (src : List ℕ) (utf8 : IsUtf8 src) (limit most : ℕ) (less : limit �
           subst (λ (f : Forest Item). Subset src (s + 1) j f (asked0 ++ first) e.entities) (join-nil so.items)
           (subst (λ (es : List Entity). Subset src (s + 1) j (join so.items Nil) (asked0 ++ first) es) (sym o.entities_are) (subset_then src (s + 1) k j so.items Nil asked0 first d.entities o.es read_to one')) in
           let is = declaration_parts o.is in
-          let closes = is.closes in (
-            record {
-              items = so.items;
-              read = read';
-              state_is = o.state_is ∙ ap (λ (t : State). state j t.done t.stack t.openings_left) so.state_is;
-              solid = solid_behind src j (spaces_end src is.e) 62 is.next closes refl;
-            },
-            moves.3,
-            subst (IsValidState most) (sym o.state_is) (fine_there most d.state (at_place j d.state) refl refl fine),
-            omega (arith, moves.1),
-          )
+          grind arith
 
       -- The text ends right after `[` or an item.
       out_outcome : length src ≤ d.state.at → Ended asked0 d

@@ -1,10 +1,9 @@
 -- A start tag that fails: which of its rows stands.
-use Rattle.std.proofs.Common.{◌≡◌, ◌≢◌, ℕ, zero, suc, ◌+◌, ◌-◌, ◌<◌, ◌≤◌, ◌⊎◌, ◌==◌, ◌||◌, Bool, true, false, not, eqb, ltb, leb, List, [], ◌∷◌, ◌++◌, length, refl, sym, ap, ◌∙◌, subst, arith, inl, inr, append_assoc, filter, map}
+use Rattle.std.proofs.Common.{◌≡◌, ◌≢◌, ℕ, zero, suc, ◌+◌, ◌-◌, ◌<◌, ◌≤◌, ◌⊎◌, ◌==◌, ◌||◌, Bool, true, false, not, eqb, ltb, leb, List, [], ◌∷◌, ◌++◌, length, refl, sym, ap, ◌∙◌, subst, arith, inl, inr, append_assoc, filter}
 use Rattle.std.specs.Prelude.{Ok, Err, bytes_eq}
 use Rattle.std.specs.List.{list_any}
 use Rattle.std.specs.Str.{IsUtf8, IsCharBoundary}
-use Rattle.std.proofs.lemmas.Str.{IsCharBoundary-before_ascii, IsCharBoundary-end}
-use Rattle.std.proofs.lemmas.Bool.{cases_lt, eqb-true, eqb-false, leb-false, leb-true, ltb-true, ltb-false, or_cases, or_parts, not-true, not-false, cond_both, false_from_ne_true}
+use Rattle.std.proofs.lemmas.Bool.{eqb-true, eqb-false, leb-false, leb-true, ltb-true, ltb-false, or_parts, not-true, not-false, cond_both, false_from_ne_true}
 use Rattle.std.proofs.lemmas.Slice.Eq.{bytes_eq-Decides}
 use Rattle.std.proofs.lemmas.List.{append-nil, map-append}
 use Rattle.std.proofs.lemmas.List.Elements.{filter-append}
@@ -25,8 +24,7 @@ use Rattle.rox_grammar.proofs.NamesApart.{DeclarableBehind, DistinctBehind, decl
 use Rattle.rox_grammar.specs.Document.{attributes_in, most_attributes, most_pairs}
 use Rattle.rox_grammar.specs.Counts.{with_new, distinct_pairs}
 use Rattle.rox_grammar.specs.Entities.{Entity, most_deep}
-use Rattle.rox_grammar.specs.State as grammar
-use Rattle.rox_grammar.specs.State.{Open, root, State, scope_of, attributes_so_far, pairs_so_far}
+use Rattle.rox_grammar.specs.State.{Open, State, scope_of, attributes_so_far, pairs_so_far}
 use Rattle.rox_grammar.specs.OpenElements.{tree_so_far}
 use Rattle.rox_grammar.specs.Due.{a_byte, a_qname, chars_to, IsMissing, Misses, no_byte, none_left, DueInPair, its_name, equals, opening, its_value, closing, value_end}
 use Rattle.rox_faults.proofs.DueForms.{a_quote, no_space, no_quote}
@@ -82,13 +80,7 @@ name_holds src i n name utf8 cut' (colon_first _ _ colon is last) =
     let le = run_end_le is_part_char src (i + 1) in let l = (ncname_parts is).longest in
     let z : i + 0 ≡ i = omega arith in
     (ap (slice src i) z ∙ slice_nil src i, local_holds src (record { prefix = []; local = slice src (i + 1) n }) (i + 1) n refl (omega arith) inside)
-name_holds src i n name utf8 cut' (prefixed _ k _ front colon is last) =
-    let inside = qname_inside src i n _ utf8 cut' (prefixed i k n front colon is last) in
-    let le = run_end_le is_part_char src i in let l = (ncname_parts front).longest in
-    let le' = run_end_le is_part_char src (k + 1) in let l' = (ncname_parts is).longest in
-    let long : length (slice src i k) ≡ k - i = range_length src i k (omega arith) (omega arith) in
-    let z : i + length (slice src i k) ≡ k = omega arith in
-    (ap (slice src i) z, local_holds src (record { prefix = slice src i k; local = slice src (k + 1) n }) (k + 1) n refl (omega arith) inside)
+name_holds src i n name utf8 cut' (prefixed _ k _ front colon is last) = grind (arith, qname_inside src i n _ utf8 cut' (prefixed i k n front colon is last), run_end_le, ncname_parts, range_length)
 
 -- An attribute whose name is where a character begins.
 pub record NameAt (src : List ℕ) (a : Attribute) : Type 0 where
@@ -110,14 +102,12 @@ all_filtered src p (a ∷ as') all = cond_both (p a) (a ∷ filter p as') (filte
 distinct_more : (scope : List NamespaceDecl) (before as' : List Attribute) (a : Attribute) → DistinctBehind scope before as' → is_known scope a.name ≡ true → list_any (λ e. same_expanded scope e.name a.name) (before ++ as') ≡ false
     → DistinctBehind scope before (as' ++ a ∷ [])
 distinct_more scope before [] a all known once = (known, subst (λ (xs : List Attribute). list_any (λ e. same_expanded scope e.name a.name) xs ≡ false) (append-nil before) once, tt)
-distinct_more scope before (x ∷ xs) a all known once =
-    (all.0, all.1, distinct_more scope (before ++ x ∷ []) xs a all.2 known (subst (λ (ys : List Attribute). list_any (λ e. same_expanded scope e.name a.name) ys ≡ false) (sym (append_assoc before (x ∷ []) xs)) once))
+distinct_more scope before (x ∷ xs) a all known once = grind (arith, distinct_more scope (before ++ x ∷ []) xs a all.2 known (subst (λ (ys : List Attribute). list_any (λ e. same_expanded scope e.name a.name) ys ≡ false) (sym (append_assoc before (x ∷ []) xs)) once))
 
 -- One more declaration that may be there.
 declarable_more : (before ds : List NamespaceDecl) (d : NamespaceDecl) → DeclarableBehind before ds → may_declare d ≡ true → is_declared d.prefix (before ++ ds) ≡ false → DeclarableBehind before (ds ++ d ∷ [])
 declarable_more before [] d all may once = (may, subst (λ (ds : List NamespaceDecl). is_declared d.prefix ds ≡ false) (append-nil before) once, tt)
-declarable_more before (e ∷ es) d all may once =
-    (all.0, all.1, declarable_more (before ++ e ∷ []) es d all.2 may (subst (λ (ds : List NamespaceDecl). is_declared d.prefix ds ≡ false) (sym (append_assoc before (e ∷ []) es)) once))
+declarable_more before (e ∷ es) d all may once = grind (arith, declarable_more (before ++ e ∷ []) es d all.2 may (subst (λ (ds : List NamespaceDecl). is_declared d.prefix ds ≡ false) (sym (append_assoc before (e ∷ []) es)) once))
 
 -- A name that is not known, or comes again: rows 6 and 13.
 names_fails : (src : List ℕ) (i : ℕ) (scope : List NamespaceDecl) (n : Name) (all before as' : List Attribute) (f : Fault) → all ≡ before ++ as' → DistinctBehind scope [] before → AllAt src as'
@@ -161,18 +151,7 @@ module _ (src : List ℕ) (utf8 : IsUtf8 src) where
 
   -- A character begins where a value ends.
   pub value_cut : (v : ℕ) → v < length src → (byte src v ≡ 39) ⊎ (byte src v ≡ 34) → IsCharBoundary src (value_end src v)
-  value_cut v inside quote =
-      let p : ℕ → Bool = λ c. c == byte src v || c == 60 in
-      let e = value_end src v in
-      let q = quote_ascii (byte src v) quote in
-      let bound = from_bound p src (v + 1) (omega arith) in
-      elim (cases_lt e (length src)) as (λ s. IsCharBoundary src e) [
-        | inl below ↦ IsCharBoundary-before_ascii src e below (elim (or_cases (byte src e == byte src v) (byte src e == 60) (from_here p src (v + 1) below)) as (λ s. byte src e < 128) [
-          | inl same ↦ (let x = eqb-true _ _ same in omega arith)
-          | inr less ↦ (let x = eqb-true _ _ less in omega arith)
-        ])
-        | inr past ↦ (let z : length src ≡ e = omega arith in subst (IsCharBoundary src) z (IsCharBoundary-end src))
-      ]
+  value_cut v inside quote = grind (arith, from_bound, from_here)
 
   -- An attribute: what is required in it.
   attribute_fails : (i : ℕ) (f : Fault) → attribute_at src i ≡ Err f → Misses src (DueInPair src i) f
@@ -222,9 +201,7 @@ tag_values es d k = values_of es d (is_main k)
 
 -- One fault in two words.
 cut_same : (main : Bool) (stack : Open) → cut_off main stack ≡ machine.cut_off_fault main stack
-cut_same true root = refl
-cut_same true (grammar.Open.inside start tag before up) = refl
-cut_same false stack = refl
+cut_same main stack = cc
 
 -- A tag that is cut off.
 cut_stands : (main : Bool) (O : Inclusion) (src : List ℕ) (s : State) (b p c : ℕ) (name : Name) (as' : List Attribute) → TagTo main O src s p b c name as' → length src ≤ p → InTag main O src s b (machine.cut_off_fault main s.stack)
@@ -240,7 +217,6 @@ attributes_more main O src k d i j b c as' a (one_more _ m _ _ e _ first rest sp
 -- A character begins after an attribute.
 pub attribute_cut : (main : Bool) (O : Inclusion) (src : List ℕ) (utf8 : IsUtf8 src) (i j b c : ℕ) (a : Attribute) → IsAttribute main O src i j b c a → IsCharBoundary src j
 attribute_cut main O src utf8 i j b c a (attribute n v e name value (is_name, eq, literal) read) =
-    let quote = quote_ascii (byte src v) literal.0.0 in
     let next = literal.0.3 in
     rw next (cut_behind src e (byte src v) utf8 (literal_closes src v e j literal) (omega arith) (omega arith))
 
@@ -252,27 +228,20 @@ module _ (opens : ℕ → Inclusion) (es : List Entity) (agrees : (d l : ℕ) �
 
   -- The name of an attribute.
   attribute_named : (i j b c : ℕ) (a : Attribute) → IsCharBoundary src i → IsAttribute (is_main level) (opens level) src i j b c a → NameAt src a
-  attribute_named i j b c a cut' (attribute n v e name value is read) =
-      let both = name_holds src i n name utf8 cut' is.0 in
-      record { prefix = both.0; local = both.1 }
+  attribute_named i j b c a cut' (attribute n v e name value is read) = grind (arith, name_holds)
 
   -- And of all of them.
   attributes_named : (i j b c : ℕ) (as' : List Attribute) → IsCharBoundary src i → Attributes (is_main level) (opens level) src i j b c as' → AllAt src as'
   attributes_named i j b c as' cut' (no_more _ _) = tt
-  attributes_named i j b c as' cut' (one_more _ k _ _ d _ a rest spaces is others) =
-      let cut'' = run_cut is_space src i utf8 cut' in
-      (attribute_named (spaces_end src i) k b d a cut'' is, attributes_named k j d c rest (attribute_cut (is_main level) (opens level) src utf8 (spaces_end src i) k b d a is) others)
+  attributes_named i j b c as' cut' (one_more _ k _ _ d _ a rest spaces is others) = grind (arith, attributes_named k j d c rest (attribute_cut (is_main level) (opens level) src utf8 (spaces_end src i) k b d a is) others, run_cut, attribute_named)
 
   -- What one more declares.
   declares_more : (as' : List Attribute) (a : Attribute) → is_namespace_decl a.name ≡ true → namespace_decls_of (as' ++ a ∷ []) ≡ namespace_decls_of as' ++ namespace_decl_of a ∷ []
-  declares_more as' a is =
-      ap (map namespace_decl_of) (filter-append (λ a. is_namespace_decl a.name) as' (a ∷ [])) ∙ map-append namespace_decl_of (filter (λ a. is_namespace_decl a.name) as') (filter (λ a. is_namespace_decl a.name) (a ∷ []))
-      ∙ ap (λ (ds : List NamespaceDecl). namespace_decls_of as' ++ ds) (rw is refl)
+  declares_more as' a is = grind (arith, filter-append, map-append)
 
   -- One that does not declare.
   declares_same : (as' : List Attribute) (a : Attribute) → is_namespace_decl a.name ≡ false → namespace_decls_of (as' ++ a ∷ []) ≡ namespace_decls_of as'
-  declares_same as' a is =
-      ap (map namespace_decl_of) (filter-append (λ a. is_namespace_decl a.name) as' (a ∷ []) ∙ ap (λ (xs : List Attribute). filter (λ a. is_namespace_decl a.name) as' ++ xs) (rw is refl) ∙ append-nil (filter (λ a. is_namespace_decl a.name) as'))
+  declares_same as' a is = grind (arith, filter-append, append-nil)
 
   module _ (s : State) (b : ℕ) (few : length (distinct_pairs (pairs_so_far s.stack s.done)) ≤ most_pairs) where
     abbrev Fails : Fault → Type 0
@@ -380,7 +349,6 @@ module _ (opens : ℕ → Inclusion) (es : List Entity) (agrees : (d l : ℕ) �
         let stands = turn_sound src utf8 p (more raw, j) turn in
         let spaces = stands.0 in
         let r = stands.1 in
-        let closes = r.literal.0.2 in
         bind_err (value_at (is_main level) es alone.opener src raw.value_start raw.value_end c) _ e bad
         (λ ill. let start = r.value_start in
         let w = value_fails opens es level src raw.value_start raw.value_end c agrees texts deeper e deep utf8 (omega arith) (λ z. literal_stop src r.v raw.value_end j r.literal)

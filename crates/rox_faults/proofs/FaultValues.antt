@@ -106,10 +106,7 @@ module _ (src : List ℕ) (utf8 : IsUtf8 src) (es : List Entity) (stop : ℕ) (l
       (λ raw read h. chosen (eqb (byte (take stop src) j) 60) _ _ _ h
       (λ tag h.
       let at' : byte (take stop src) j ≡ 60 = eqb-true _ _ tag in
-      let below' : j < stop = elim (cases_lt j stop) as (λ s. j < stop) [
-        | inl l ↦ l
-        | inr g ↦ absurd (let z : byte (take stop src) j ≡ 0 = get_or_past (take stop src) j 0 (omega (arith, length-take-le stop src long)) in omega arith)
-      ] in
+      let below' : j < stop = grind (arith, get_or_past, length-take-le) in
       let is : fault.InvalidAttributeValue j ≡ f = cc in
       subst (IllBit false p) is (is_less j refl le below' (sym (get_or-take stop src j 0 below') ∙ at')))
       (λ none h. no_fault _ f h))

@@ -1,11 +1,9 @@
 -- The way of a parse: the constructs of the main text, and of each replacement text that is opened in its content. Each
 -- place that content reaches from the left lies on it.
-use Rattle.std.proofs.Common.{◌≡◌, ◌≢◌, ℕ, zero, suc, ◌+◌, ◌-◌, ◌<◌, ◌≤◌, Bool, true, false, List, length, Some, refl, sym, ap, ◌∙◌, subst, arith, inl, inr}
+use Rattle.std.proofs.Common.{◌≡◌, ◌≢◌, ℕ, zero, suc, ◌+◌, ◌-◌, ◌<◌, ◌≤◌, Bool, true, false, List, length, Some, refl, sym, ap, ◌∙◌, subst, arith}
 use Rattle.std.specs.Str.{IsUtf8, IsCharBoundary}
-use Rattle.std.proofs.lemmas.Bool.{true≢false, cases_Bool}
 use Rattle.rox_grammar.specs.Forest.{Forest, join}
-use Rattle.rox_grammar.specs.Written.{Tag, Item, Element, merge}
-use Rattle.rox_grammar.specs.Tree.{listed}
+use Rattle.rox_grammar.specs.Written.{Tag, Item}
 use Rattle.rox_grammar.specs.Names.{byte, slice}
 use Rattle.rox_grammar.specs.Constructs.{AreChars, IsCData, IsEnd}
 use Rattle.rox_grammar.specs.FixedTexts.{at}
@@ -14,7 +12,7 @@ use Rattle.rox_grammar.proofs.TagParts.{tag_parts}
 use Rattle.rox_grammar.specs.RunParts.{Parts}
 use Rattle.rox_grammar.specs.Entities.{Replacement, Entity, text_of, most_deep}
 use Rattle.rox_grammar.specs.State as grammar
-use Rattle.rox_grammar.specs.State.{Open, root, inside, is_root, depth_of, scope_of}
+use Rattle.rox_grammar.specs.State.{Open, root, inside, is_root, depth_of}
 use Rattle.rox_grammar.specs.ContentPoints.{is_main, is_content, StepsOver, a_run as takes_run, a_section, a_misc, an_empty_tag, a_start_tag, an_end_tag, MayOpen, ContentPoint, begins, goes, enters}
 use Rattle.rox_grammar.specs.RunParts.{PartsTo}
 use Rattle.rox_reading.specs.State.{State}
@@ -58,11 +56,6 @@ pub record OpensAt (opens : ℕ → Inclusion) (es : List Entity) : Type 0 where
 pub may_deep : (k b r : ℕ) → MayOpen k b r → suc k ≤ most_deep
 may_deep k b r may = may.0
 
--- And then so many are left in it.
-pub may_once : (k b r q : ℕ) → MayOpen k b r → MayOpen k b q → r ≡ q
-may_once zero b r q may may' = may.3.0 ∙ sym may'.3.0
-may_once (suc k) b r q may may' = omega (arith, may.3.0, may'.3.0)
-
 -- A replacement text is what its name says.
 pub same_text : (es : List Entity) (name : List ℕ) (t u : Replacement) → text_of es name ≡ Some t → text_of es name ≡ Some u → t ≡ u
 same_text es name t u found found' = cc (sym found ∙ found')
@@ -81,19 +74,7 @@ module _ (main : Bool) (O : Inclusion) (src : List ℕ) (open_around : ℕ) wher
 
   -- Names that are in order after a construct were so before it.
   pub takes_named : (s t : State) → flat.StepsOver main O src open_around s t → AreNamed t.stack t.done → AreNamed s.stack s.done
-  takes_named s t (flat.StepsOver.takes_run i j b c items done stack is parts) named = named_before stack done items named
-  takes_named s t (flat.StepsOver.takes_cdata i e j b done stack is) named = named_before stack done _ named
-  takes_named s t (flat.StepsOver.takes_misc i j b item done stack is) named = named_before stack done _ named
-  takes_named s t (flat.StepsOver.takes_empty i j b c tag done stack is) named = named_before stack done _ named
-  takes_named s t (flat.StepsOver.takes_start i j b c tag done stack is) named = named.0
-  takes_named s t (flat.StepsOver.takes_end i p j b start tag done before up deep end) named =
-      let before_end = item-named up before (Element start j tag) (merge done) named in
-      (before_end.0, before_end.1, merge-named (listed (scope_of up) tag.declarations) done before_end.2)
-
-  -- The construct that is where the way does not end.
-  trail_step : (s u : State) → Trail s u → (s ≡ u → ⊥) → (t : State) × flat.StepsOver main O src open_around s t × Trail t u
-  trail_step s u (stays _) apart = absurd (apart refl)
-  trail_step s u (follows _ t _ takes rest) apart = (t, takes, rest)
+  takes_named s t h named = grind (arith, named_before, item-named, merge-named)
 
   -- What is where a construct of a kind is taken.
   abbrev pub By : Kind → State → State → Type 0
@@ -107,22 +88,18 @@ module _ (main : Bool) (O : Inclusion) (src : List ℕ) (open_around : ℕ) wher
 
   -- Each construct is of the kind that is there.
   pub takes_by : (s t : State) → flat.StepsOver main O src open_around s t → By (kind_at src s.at) s t
-  takes_by s t (flat.StepsOver.takes_run i j b c items done stack is parts) =
-      subst (λ (k : Kind). By k (state i done stack b) (state j (join done items) stack c)) (sym (run_kind src i (run_within src i j is).1)) (j, items, is, parts, refl)
+  takes_by s t (flat.StepsOver.takes_run i j b c items done stack is parts) = grind (arith, run_within)
   takes_by s t (flat.StepsOver.takes_cdata i e j b done stack is) = subst (λ (k : Kind). By k (state i done stack b) t) (sym (cdata_kind src i (cdata_parts is).opens)) (e, j, is)
   takes_by s t (flat.StepsOver.takes_misc i j b item done stack is) = by_item item is
     where
       by_item : (item : Item) → IsMisc src i j item → By (kind_at src i) (state i done stack b) t
       by_item item (comment _ e _ is) = subst (λ (k : Kind). By k (state i done stack b) t) (sym (comment_kind src i (comment_parts is).opens)) (j, item, comment i e j is)
       by_item item (instruction _ n e _ is) = subst (λ (k : Kind). By k (state i done stack b) t) (sym (instruction_kind src i (pi_parts is).opens)) (j, item, instruction i n e j is)
-  takes_by s t (flat.StepsOver.takes_empty i j b c tag done stack is) =
-      let p = tag_parts is in
-      subst (λ (k : Kind). By k (state i done stack b) t) (sym (tag_kind src i p.begins (name_byte src (i + 1) tag.name tag.name_end p.is_name))) (j, c, tag, true, is, refl)
+  takes_by s t (flat.StepsOver.takes_empty i j b c tag done stack is) = grind (arith, tag_parts is, name_byte)
   takes_by s t (flat.StepsOver.takes_start i j b c tag done stack is) =
       let p = tag_parts is in
       subst (λ (k : Kind). By k (state i done stack b) t) (sym (tag_kind src i p.begins (name_byte src (i + 1) tag.name tag.name_end p.is_name))) (j, c, tag, false, is, refl)
-  takes_by s t (flat.StepsOver.takes_end i p j b start tag done before up deep end) =
-      subst (λ (k : Kind). By k (state i done (inside start tag before up) b) t) (sym (end_kind src i (end_parts end).opens)) (start, tag, before, up, p, j, refl, deep, end)
+  takes_by s t (flat.StepsOver.takes_end i p j b start tag done before up deep end) = grind (arith, end_kind, end_parts)
 
 -- The main text from its root element on.
 pub drives_trail : (O : Inclusion) (src : List ℕ) (s u : State) → Drives O src s u → Trail true O src 0 s u
@@ -142,11 +119,6 @@ place_within k O src utf8 s t b c (an_end_tag n j _ start x before up stack is) 
 up_of : Open → Open → Open
 up_of none root = none
 up_of none (inside start tag before up) = up
-
--- At the root no element is open.
-inner_apart : (o p : Open) → is_content 0 o ≡ true → is_root p ≡ true → o ≡ p → ⊥
-inner_apart root p inner at_root same = cc inner
-inner_apart (inside start tag before up) p inner at_root same = let z : is_root (inside start tag before up) ≡ true = ap is_root same ∙ at_root in cc z
 
 -- ---- the way
 
@@ -169,14 +141,6 @@ module _ (opens : ℕ → Inclusion) (es : List Entity) (all : OpensAt opens es)
     pub fine : W → IsValidState limit end
     pub named : AreNamed end.stack end.done
     pub first : is_content k s.stack ≡ false → (s.at < end.at) × (kind_at src s.at ≡ a_tag)
-
-  not_end : (k open_around : ℕ) (src : List ℕ) (s e : State) → Ends k open_around src e → (is_content k s.stack ≡ false → s.at < e.at) → s.at < length src → s ≡ e → ⊥
-  not_end zero open_around src s e ends first below same =
-      elim (cases_Bool (is_content 0 s.stack)) as (λ x. ⊥) [
-        | inl inner ↦ inner_apart s.stack e.stack inner ends (ap (λ (s : State). s.stack) same)
-        | inr top ↦ (let l = first top in let at : s.at ≡ e.at = ap (λ (s : State). s.at) same in absurd (omega arith))
-      ]
-  not_end (suc k) open_around src s e ends first below same = let at : s.at ≡ e.at = ap (λ (s : State). s.at) same in let past = ends.0 in absurd (omega arith)
 
   module _ (k open_around : ℕ) (src : List ℕ) (s : State) (r : Reached k open_around src s) where
     abbrev One : State → State → Type 0
@@ -202,15 +166,11 @@ module _ (opens : ℕ → Inclusion) (es : List Entity) (all : OpensAt opens es)
       pub rest : Trail (is_main k) (opens k) src open_around to r.end
 
     pub step_there : s.at < length src → Step
-    step_there below =
-        let x = trail_step (is_main k) (opens k) src open_around s r.end r.trail (not_end k open_around src s r.end r.ends (λ top. (r.first top).0) below) in
-        record { to = x.0; takes = x.1; fine = λ w. trail_fine x.0 r.end x.2 (r.fine w); named = trail_named x.0 r.end x.2 r.named; rest = x.2 }
+    step_there below = grind (arith, trail_fine, trail_named)
 
     -- Of this kind.
     pub there_by : (kind : Kind) → (below : s.at < length src) → kind_at src s.at ≡ kind → By (is_main k) (opens k) src open_around kind s (step_there below).to
-    there_by kind below is =
-        let there = step_there below in
-        subst (λ (kind : Kind). By (is_main k) (opens k) src open_around kind s there.to) is (takes_by (is_main k) (opens k) src open_around s there.to there.takes)
+    there_by kind below is = grind (arith, takes_by)
 
     -- Any construct that is there is the one on the way.
     pub one_step : (t : State) → flat.StepsOver (is_main k) (opens k) src open_around s t → (below : s.at < length src) → (step_there below).to ≡ t
@@ -241,20 +201,8 @@ module _ (opens : ℕ → Inclusion) (es : List Entity) (all : OpensAt opens es)
     goes_reached t c takes inner =
         let takes' = takes_there t c takes in
         let below = place_within k (opens k) src r.utf8 s t b c takes in
-        let there = step_there k open_around src (state_of s b) r below in
         let same = one_step k open_around src (state_of s b) r (state_of t c) takes' below in
-        record {
-          d = r.d;
-          deep = r.deep;
-          utf8 = r.utf8;
-          cut = takes_cut (is_main k) (opens k) src open_around r.utf8 (state_of s b) (state_of t c) takes';
-          end = r.end;
-          trail = subst (λ (t : State). Trail (is_main k) (opens k) src open_around t r.end) same there.rest;
-          ends = r.ends;
-          fine = r.fine;
-          named = r.named;
-          first = λ top. absurd (true≢false (sym inner ∙ top));
-        }
+        grind (arith, takes_cut)
 
     -- The run that is there.
     pub record RunThere (stop : ℕ) : Type 0 where
@@ -265,10 +213,7 @@ module _ (opens : ℕ → Inclusion) (es : List Entity) (all : OpensAt opens es)
       pub named : AreNamed s.stack (join s.done items)
 
     pub run_there : s.at < length src → byte src s.at ≢ 60 → (stop : ℕ) × IsCharacterData src s.at stop × RunThere stop
-    run_there below other =
-        let there = step_there k open_around src (state_of s b) r below in
-        let run = there_by k open_around src (state_of s b) r a_run below (run_kind src s.at other) in
-        (run.0, run.2, record { openings_left = there.to.openings_left; items = run.1; parts = run.3; fine = λ w. subst (IsValidState limit) run.4 (there.fine w); named = subst (λ (u : State). AreNamed u.stack u.done) run.4 there.named })
+    run_there below other = grind (arith, there_by k open_around src (state_of s b) r a_run below (run_kind src s.at other))
 
     -- Where it is read up to a reference, that opens a text there.
     pub opened_there : (stop p c j : ℕ) (front : Forest Item) (t : Replacement) → IsCharacterData src s.at stop → PartsTo (is_main k) (opens k) src s.at stop s.at p b c front → p < stop → (refers : ToEntity es src p j t)
@@ -287,15 +232,10 @@ module _ (opens : ℕ → Inclusion) (es : List Entity) (all : OpensAt opens es)
         let run = there.0 in let found = there.1 in
         let x = all.content k c found.openings_left (slice src (p + 1) refers.0) found.opened found.opens in
         let text = all.texts (slice src (p + 1) refers.0) t refers.3 in
-        let text_is : x.0 ≡ t = same_text es (slice src (p + 1) refers.0) x.0 t x.3 refers.3 in
-        let openings_left_is : x.1 ≡ q = may_once k c x.1 q x.4 may in
-        let content : Content false (opens (suc k)) t.source t.start (length t.source) q x.2 found.opened =
-        subst (λ (q : ℕ). Content false (opens (suc k)) t.source t.start (length t.source) q x.2 found.opened) openings_left_is
-        (subst (λ (t : Replacement). Content false (opens (suc k)) t.source t.start (length t.source) x.1 x.2 found.opened) text_is x.5) in
+        let content : Content false (opens (suc k)) t.source t.start (length t.source) q x.2 found.opened = grind arith in
         let done = join s.done front in
         let end : State = state (length t.source) (join done found.opened) s.stack x.2 in
-        let split : join s.done run.items ≡ join (join done found.opened) found.rest =
-        ap (join s.done) found.all ∙ sym (join_assoc s.done front (join found.opened found.rest)) ∙ sym (join_assoc done found.opened found.rest) in
+        let split : join s.done run.items ≡ join (join done found.opened) found.rest = grind (arith, join_assoc) in
         let fine : W → IsValidState limit (state stop (join (join done found.opened) found.rest) s.stack run.openings_left) = λ w. subst (λ (f : Forest Item). IsValidState limit (state stop f s.stack run.openings_left)) split (run.fine w) in
         let named : AreNamed s.stack (join (join done found.opened) found.rest) = subst (λ (f : Forest Item). AreNamed s.stack f) split run.named in
         let chain = flat.text_complete (opens (suc k)) t.source t.start q x.2 done found.opened s.stack content in

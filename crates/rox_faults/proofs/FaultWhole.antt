@@ -65,7 +65,7 @@ use Rattle.rox_theory.proofs.FailedReadings.{bind_err, lifted_err, lifted_only, 
 use Rattle.rox_faults.proofs.FaultRows.{comment_fails, instruction_fails}
 use Rattle.rox_faults.proofs.FaultTags.{quote_fails, value_cut}
 use Rattle.rox_theory.proofs.NoEntities.{no_values, no_contents}
-use Rattle.rox_theory.proofs.ParseParts.{document_parts, document_made}
+use Rattle.rox_theory.proofs.ParseParts.{document_made}
 use Rattle.rox_faults.proofs.FaultPoints.{Refuses, refuses_here, From, fine_fits}
 use Rattle.rox_faults.proofs.FaultPlaces.{Here, tag_fails, tag_taken, tagged_takes, tag_goes, takes_cut, takes_opened, drive_fails}
 use Rattle.rox_grammar.specs.Document as document
@@ -303,21 +303,7 @@ module _ (src : List ℕ) (utf8 : IsUtf8 src) where
 
     -- After the root element.
     pub behind_on : (p q : ℕ) (done items : Forest Item) → DocumentTo (opens 0) src PrologAt p done → Misc src p q items → DocumentTo (opens 0) src PrologAt q (join done items)
-    behind_on p q done items is more =
-        let point = document_parts is in
-        document_made (record {
-          start = point.start;
-          before = point.before;
-          ahead = point.ahead;
-          end = point.end;
-          openings_left = point.openings_left;
-          one = point.one;
-          element = point.element;
-          well_named = named-join [] done items point.well_named (misc_named p q items more);
-          after = join point.after items;
-          misc = misc_append point.end p q point.after items point.misc more;
-          all = ap (λ (d : Forest Item). join d items) point.all ∙ join_assoc (join point.before point.one) point.after items;
-        })
+    behind_on p q done items is more = grind (arith, document_made, named-join, misc_named, misc_append, join_assoc)
 
     -- Right after it.
     behind_root : (i openings_left : ℕ) (before one : Forest Item) (u : State) → PrologAt i before → IsElement true (opens 0) src i u.at 255 openings_left one → u ≡ state u.at (join before one) root u.openings_left → IsValidState most u
@@ -418,8 +404,7 @@ module _ (src : List ℕ) (utf8 : IsUtf8 src) where
 
   -- Where something is asked first, it fails, or gives a value with which the rest fails.
   asks_err : {A B P : Type 0} (r : Asks A) (g : A → Asks B) (e : Refusal) → (r >>> g).1 ≡ Err e → (r.1 ≡ Err e → P) → ((x : A) → r.1 ≡ Ok x → (g x).1 ≡ Err e → P) → P
-  asks_err (asked, Ok x) g e h now later = later x refl h
-  asks_err (asked, Err d) g e h now later = now (cc h)
+  asks_err r g e h now later = grind arith
 
   -- A document type declaration that is not allowed: row 17.
   doctype_fails : (limit : ℕ) (d : Dtd) (e : Refusal) → (whole.doctype limit false src d).1 ≡ Err e → (at word.DoctypeStart src d.state.at ≡ true) × (here fault.DtdDetected ≡ e)

@@ -1,8 +1,9 @@
 -- Names that are read, as spans of the source.
-use Rattle.std.proofs.Common.{◌≡◌, ℕ, ◌+◌, ◌-◌, ◌<◌, ◌≤◌, true, false, cond, List, [], length, refl, sym, subst, arith}
+use Rattle.std.proofs.Common.{◌≡◌, ℕ, ◌+◌, ◌-◌, ◌<◌, ◌≤◌, true, false, cond, List, [], refl, sym, subst, arith}
 use Rattle.std.specs.Prelude.{Ok, bytes_eq}
 use Rattle.std.specs.Str.{IsUtf8, IsCharBoundary}
 use Rattle.std.proofs.lemmas.Str.{IsCharBoundary-after_ascii}
+use Rattle.std.proofs.lemmas.Grind.{common_steps}
 use Rattle.rox_grammar.specs.Spans.{IsTextSpan}
 use Rattle.rox_grammar.specs.Chars.{is_part_char}
 use Rattle.rox_grammar.specs.Written.{Name}
@@ -26,23 +27,15 @@ text_span src i j le start end = (le, start, end)
 
 -- A local part that is a slice.
 local_is : (src : List ℕ) (name : Name) (i j : ℕ) → name.local ≡ slice src i j → i ≤ j → IsCharBoundary src i → IsCharBoundary src j → IsTextSpan src (local_span name j)
-local_is src name i j is le start end =
-    let l = range_length src i j le end.0 in
-    let e : i ≡ j - length name.local = rw is (omega arith) in
-    text_span src (j - length name.local) j (omega arith) (subst (IsCharBoundary src) e start) end
+local_is src name i j is le start end = grind (arith, range_length)
 
 -- A prefix that is a slice.
 prefix_is : (src : List ℕ) (name : Name) (i j : ℕ) → name.prefix ≡ slice src i j → i ≤ j → IsCharBoundary src i → IsCharBoundary src j → IsTextSpan src (prefix_span name i)
-prefix_is src name i j is le start end =
-    let l = range_length src i j le end.0 in
-    let e : j ≡ i + length name.prefix = rw is (omega arith) in
-    text_span src i (i + length name.prefix) (omega arith) start (subst (IsCharBoundary src) e end)
+prefix_is src name i j is le start end = grind (arith, range_length)
 
 -- An empty prefix.
 prefix_none : (src : List ℕ) (name : Name) (i : ℕ) → name.prefix ≡ [] → IsCharBoundary src i → IsTextSpan src (prefix_span name i)
-prefix_none src name i is start =
-    let e : i ≡ i + length name.prefix = rw is (omega arith) in
-    text_span src i (i + length name.prefix) (omega arith) start (subst (IsCharBoundary src) e start)
+prefix_none src name i is start = grind arith
 
 -- The parts of a name from i up to n, and the whole of it, are texts.
 abbrev pub NameText : List ℕ → ℕ → Name → ℕ → Type 0
@@ -55,14 +48,7 @@ qname_text src i name n utf8 cut (unprefixed _ _ is last) =
     let le = run_end_le is_part_char src i in
     let end = subst (IsCharBoundary src) (sym e) (run_cut is_part_char src i utf8 cut) in
     (prefix_none src name i refl cut, local_is src name i n refl (omega arith) cut end, text_span src i n (omega arith) cut end, end)
-qname_text src i name n utf8 cut (prefixed _ k _ front colon is last) =
-    let e = (ncname_parts front).longest in let f = (ncname_parts is).longest in
-    let le = run_end_le is_part_char src i in
-    let le' = run_end_le is_part_char src (k + 1) in
-    let middle = subst (IsCharBoundary src) (sym e) (run_cut is_part_char src i utf8 cut) in
-    let next = cut_behind src k 58 utf8 colon (omega arith) (omega arith) in
-    let end = subst (IsCharBoundary src) (sym f) (run_cut is_part_char src (k + 1) utf8 next) in
-    (prefix_is src name i k refl (omega arith) cut middle, local_is src name (k + 1) n refl (omega arith) next end, text_span src i n (omega arith) cut end, end)
+qname_text src i name n utf8 cut (prefixed _ k _ front colon is last) = grind (arith, common_steps, cut_behind src k 58 utf8 colon (omega arith) (omega arith), ncname_parts, run_end_le, run_cut)
 qname_text src i name n utf8 cut (colon_first _ _ colon is last) =
     let f = (ncname_parts is).longest in
     let le = run_end_le is_part_char src (i + 1) in

@@ -1,11 +1,11 @@
 -- What is read of a run or of a value up to a reference is a front of it: so where it is read whole, the reference opens a text there.
-use Rattle.std.proofs.Common.{◌≡◌, ◌≢◌, ℕ, ◌+◌, ◌<◌, ◌≤◌, ◌⊎◌, Bool, false, List, refl, sym, ap, ◌∙◌, subst, arith, inl, inr}
+use Rattle.std.proofs.Common.{◌≡◌, ◌≢◌, ℕ, ◌+◌, ◌<◌, ◌≤◌, ◌⊎◌, Bool, List, refl, sym, subst, arith, inl, inr}
 use Rattle.std.specs.Prelude.{Some, None}
 use Rattle.rox_grammar.specs.Forest.{Forest, join}
 use Rattle.rox_grammar.specs.Written.{Item}
 use Rattle.rox_grammar.specs.Names.{byte, slice}
 use Rattle.rox_grammar.specs.References.{IsReference, IsCharacter, predefined, entity_reference}
-use Rattle.rox_grammar.specs.Content.{Inclusion, DataByte, last_part, then_entity, piece, Value, value_ends, line_end, white, other, a_character, an_entity}
+use Rattle.rox_grammar.specs.Content.{Inclusion, last_part, then_entity, Value, value_ends, line_end, white, other, a_character, an_entity}
 use Rattle.rox_grammar.specs.RunParts.{Parts}
 use Rattle.rox_grammar.specs.RunParts.{PartsTo}
 use Rattle.rox_grammar.specs.Entities.{Replacement, Entity, text_of}
@@ -31,8 +31,7 @@ module _ (main : Bool) (O : Inclusion) (once : OpensOnce O) (src : List ℕ) (st
   -- What is read does not go back.
   parts_to_le : (p i b c : ℕ) (front : Forest Item) → PartsTo main O src start stop i p b c front → i ≤ p
   parts_to_le p i b c front (last_part _ _ ss part) = part_le main src p i ss part
-  parts_to_le p i b d front (then_entity _ q j _ c _ _ ss one more part (entity_reference n r none) opens to) =
-      omega (arith, part_le main src q i ss part, reference_opens src q n j r, parts_to_le p j c d more to)
+  parts_to_le p i b d front (then_entity _ q j _ c _ _ ss one more part (entity_reference n r none) opens to) = grind (arith, parts_to_le p j c d more to, part_le, reference_opens)
 
   -- The reference at p opens these items there, after those in front.
   pub record OpenedThere (p n j c d : ℕ) (front items : Forest Item) : Type 0 where
@@ -51,14 +50,7 @@ module _ (main : Bool) (O : Inclusion) (once : OpensOnce O) (src : List ℕ) (st
       let inside : q ≤ stop = omega (arith, reference_opens src q m k r', parts_le main O src start stop k e d more rest) in
       let same = part_once main src stop p q i ss rs part part' (inr (n, j, r, none)) (inr (m, k, r', none')) (omega arith) inside in
       let ends = entity_ends src p m n k j (subst (λ (q : ℕ). IsReference src q m k) (sym same.0) r') r in
-      record {
-        opened = one;
-        openings_left = e;
-        rest = more;
-        opens = subst (λ (m : ℕ). O.content (slice src (p + 1) m) b one e) ends.0 (subst (λ (q : ℕ). O.content (slice src (q + 1) m) b one e) (sym same.0) opens);
-        parts = subst (λ (k : ℕ). Parts main O src start stop k e d more) ends.1 rest;
-        all = ap (λ (ss : List DataByte). join (piece start stop false ss) (join one more)) (sym same.1);
-      }
+      grind arith
   parts_front p i n j b c d front items (then_entity _ q k _ e _ _ ss one more part (entity_reference m r' none') opens to) (last_part _ _ rs part') below r none =
       let le = parts_to_le p k e c more to in
       let some = reference_opens src q m k r' in
@@ -74,16 +66,7 @@ module _ (main : Bool) (O : Inclusion) (once : OpensOnce O) (src : List ℕ) (st
       let text = once (slice src (q + 1) m) b e' e one' one opens'' opens in
       let rest' : Parts main O src start stop k e d more' = subst (λ (e : ℕ). Parts main O src start stop k e d more') text.1 (subst (λ (k : ℕ). Parts main O src start stop k e' d more') ends.1 rest) in
       let next = parts_front p k n j e c d more more' to rest' below r none in
-      record {
-        opened = next.opened;
-        openings_left = next.openings_left;
-        rest = next.rest;
-        opens = next.opens;
-        parts = next.parts;
-        all = ap (λ (ss : List DataByte). join (piece start stop false ss) (join one' more')) (sym same.1) ∙ ap (λ (f : Forest Item). join (piece start stop false ss) (join f more')) text.0
-            ∙ ap (λ (f : Forest Item). join (piece start stop false ss) (join one f)) next.all ∙ ap (join (piece start stop false ss)) (sym (join_assoc one more (join next.opened next.rest)))
-            ∙ sym (join_assoc (piece start stop false ss) (join one more) (join next.opened next.rest));
-      }
+      grind (arith, join_assoc)
 
 -- ---- values
 
@@ -108,9 +91,7 @@ module _ (main : Bool) (O : Inclusion) (src : List ℕ) where
 
   -- White space is not `&`.
   white_no_amp : (stop i : ℕ) → (byte src i ≡ 9) ⊎ ((byte src i ≡ 10) ⊎ ((byte src i ≡ 13) × ((stop ≡ i + 1) ⊎ (byte src (i + 1) ≢ 10)))) → byte src i ≢ 38
-  white_no_amp stop i (inl is) amp = absurd (omega arith)
-  white_no_amp stop i (inr (inl is)) amp = absurd (omega arith)
-  white_no_amp stop i (inr (inr (is, end))) amp = absurd (omega arith)
+  white_no_amp stop i h amp = omega arith
 
   -- What is there in a value up to p.
   value_to : (p i b c : ℕ) (v : List ℕ) → Value main O src p i b c v → ValueTo O src i p b c
@@ -136,8 +117,7 @@ module _ (main : Bool) (O : Inclusion) (once : SpendsOnce O) (src : List ℕ) wh
   value_to_front stop i p n j b c d v (over_none _ _) (white _ _ _ w more is rest) below r none = absurd (white_no_amp main O src stop i is (reference_parts r).opens)
   value_to_front stop i p n j b c d v (over_none _ _) (other _ _ _ w more no_amp x₂ x₃ x₄ x₅ rest) below r none = absurd (no_amp (reference_parts r).opens)
   value_to_front stop i p n j b c d v (over_none _ _) (a_character _ m x _ _ w is less allowed rest) below r none = absurd (no_entity_here src i x m n j is r none)
-  value_to_front stop i p n j b c d v (over_none _ _) (an_entity _ k _ e _ _ u w (entity_reference m r' none') less opens rest) below r none =
-      let ends = entity_ends src i m n k j r' r in (u, e, subst (λ (m : ℕ). O.value (slice src (i + 1) m) b u e) ends.0 opens)
+  value_to_front stop i p n j b c d v (over_none _ _) (an_entity _ k _ e _ _ u w (entity_reference m r' none') less opens rest) below r none = grind (arith, entity_ends)
   value_to_front stop i p n j b c d v (over_byte _ _ _ _ no_amp to) (value_ends _) below r none = let le = value_to_le main O src (i + 1) p b c to in absurd (omega arith)
   value_to_front stop i p n j b c d v (over_byte _ _ _ _ no_amp to) (line_end _ _ _ _ more cr lf rest) below r none = value_to_front stop (i + 1) p n j b c d v to rest below r none
   value_to_front stop i p n j b c d v (over_byte _ _ _ _ no_amp to) (white _ _ _ w more is rest) below r none = value_to_front stop (i + 1) p n j b c d w to rest below r none

@@ -1,33 +1,28 @@
 -- Of two ways to read the items of a document type declaration, with the same answers as far as both go, the shorter one is a
 -- front of the longer one.
-use Rattle.std.proofs.Common.{◌≡◌, ℕ, ◌+◌, ◌⊎◌, Bool, true, false, List, [], ◌∷◌, ◌++◌, Some, take, refl, sym, ap, ◌∙◌, subst, arith, inl, inr, append_assoc}
+use Rattle.std.proofs.Common.{◌≡◌, ℕ, ◌+◌, ◌⊎◌, Bool, true, false, List, [], ◌++◌, refl, sym, ap, ◌∙◌, subst, arith, inl, inr, append_assoc}
 use Rattle.std.specs.Prelude.{Option}
 use Rattle.std.specs.Str.{IsUtf8}
-use Rattle.std.proofs.lemmas.Bool.{true≢false}
 use Rattle.std.proofs.lemmas.List.{append-nil}
 use Rattle.rox_grammar.specs.declared.fault.Word.{Word}
 use Rattle.rox_grammar.specs.declared.fault.Word.TheVariants as word
 use Rattle.rox_grammar.specs.FixedTexts.{word_text, at}
-use Rattle.rox_grammar.specs.Chars.{is_space, is_name_char}
-use Rattle.rox_grammar.specs.Runs.{run_end}
+use Rattle.rox_grammar.specs.Chars.{is_space}
 use Rattle.rox_grammar.specs.Forest.{Forest, Nil, join}
 use Rattle.rox_grammar.specs.Written.{Item, leaf}
-use Rattle.rox_grammar.specs.Names.{byte, slice, spaces_end}
-use Rattle.rox_grammar.specs.Content.{IsMisc, comment, instruction}
+use Rattle.rox_grammar.specs.Names.{byte}
+use Rattle.rox_grammar.specs.Content.{IsMisc}
 use Rattle.rox_grammar.specs.Entities.{Replacement, Entity}
-use Rattle.rox_grammar.specs.Doctype.{Request, Asked, IsQuoted, IsSpace, IsExternalID, MayHaveNotation, GivesReplacement, IsDefinition, internal, external, IsKind, BeginsEntity, entry, IsEntityDeclaration, Subset, no_more, space, an_item, skipped_declaration, an_entity, MayHaveExternalID, BeginsDoctype, IsDoctype, no_subset, with_subset}
+use Rattle.rox_grammar.specs.Doctype.{Request, Asked, IsQuoted, IsSpace, IsExternalID, MayHaveNotation, IsDefinition, internal, external, IsKind, BeginsEntity, IsEntityDeclaration, Subset, no_more, space, an_item, skipped_declaration, an_entity, BeginsDoctype, IsDoctype, no_subset, with_subset}
 use Rattle.rox_grammar.specs.Doctype.{IsPassed}
-use Rattle.rox_reading.specs.Doctype.{external_id_at, notation_at, kind_at, external_id_if, answer_text}
 use Rattle.rox_reading.proofs.Forests.{join-nil}
 use Rattle.rox_theory.specs.Answers.{SameAnswers}
-use Rattle.rox_theory.proofs.Productions.{comment_parts, pi_parts}
 use Rattle.rox_theory.proofs.DeclarationLemmas.{stands_reads}
 use Rattle.rox_theory.proofs.Constructions.{comment_bytes, instruction_bytes}
-use Rattle.rox_theory.proofs.DoctypeParts.{begins_parts, declaration_parts, IsPassedOver, passed_end, doctype_parts}
+use Rattle.rox_theory.proofs.DoctypeParts.{declaration_parts, IsPassedOver, passed_end}
 use Rattle.rox_theory.proofs.DoctypeParts as parts
-use Rattle.rox_theory.proofs.DoctypeLemmas.{external_complete, external_byte, notation_complete, kind_complete, if_complete}
+use Rattle.rox_theory.proofs.DoctypeLemmas.{external_complete, external_byte, if_complete}
 use Rattle.rox_theory.proofs.EntityLemmas.{answer_complete}
-use Rattle.rox_theory.proofs.FailedReadings.{ok_one}
 use Rattle.rox_faults.proofs.FaultMisc.{one_item, less_no_space}
 
 -- A comment or a processing instruction begins here.
@@ -42,12 +37,10 @@ module _ (src : List ℕ) where
   -- ---- which item is at a place
 
   pub misc_opens : (i j : ℕ) (x : Item) → IsMisc src i j x → OpensItem src i
-  misc_opens i j x (comment _ e _ is) = inl (comment_parts is).opens
-  misc_opens i j x (instruction _ n e _ is) = inr (pi_parts is).opens
+  misc_opens i j x h = grind arith
 
   pub item_less : (i : ℕ) → OpensItem src i → byte src i ≡ 60
-  item_less i (inl c) = (comment_bytes src i c).1
-  item_less i (inr p) = (instruction_bytes src i p).1
+  item_less i h = grind (arith, comment_bytes, instruction_bytes)
 
   pub entity_less : (i : ℕ) → at word.EntityStart src i ≡ true → byte src i ≡ 60
   entity_less i is = first_byte word.EntityStart src i 60 is (stands_reads (word_text word.EntityStart) src i 0 is (omega arith))
@@ -100,73 +93,41 @@ module _ (src : List ℕ) where
 
   -- A literal is not an external id.
   pub quoted_no_external : (i e j k : ℕ) (request : Request) → IsQuoted src i e j → IsExternalID src i request k → ⊥
-  quoted_no_external i e j k request a b =
-      elim (external_byte src i request k b) as (λ _. ⊥) [
-        | inl s ↦ elim (a.0) as (λ _. ⊥) [ inl q ↦ omega arith | inr q ↦ omega arith ]
-        | inr p ↦ elim (a.0) as (λ _. ⊥) [ inl q ↦ omega arith | inr q ↦ omega arith ]
-      ]
+  quoted_no_external i e j k request a b = grind (arith, external_byte)
 
   module _ (utf8 : IsUtf8 src) where
     pub kind_once : (i j k : ℕ) (p q : Bool) → IsKind src i p j → IsKind src i q k → (p ≡ q) × (j ≡ k)
-    kind_once i j k p q a b =
-        let same = ok_one (p, j) (q, k) (kind_at src i) (kind_complete src i p j utf8 a) (kind_complete src i q k utf8 b) in
-        (ap (λ (x : Bool × ℕ). x.0) same, ap (λ (x : Bool × ℕ). x.1) same)
+    kind_once i j k p q a b = grind arith
 
     pub external_once : (i j k : ℕ) (p q : Request) → IsExternalID src i p j → IsExternalID src i q k → (p ≡ q) × (j ≡ k)
-    external_once i j k p q a b =
-        let same = ok_one (p, j) (q, k) (external_id_at src i) (external_complete src i p j utf8 a) (external_complete src i q k utf8 b) in
-        (ap (λ (x : Request × ℕ). x.0) same, ap (λ (x : Request × ℕ). x.1) same)
+    external_once i j k p q a b = grind (arith, external_complete)
 
     pub notation_once : (p : Bool) (i j k : ℕ) → MayHaveNotation src p i j → MayHaveNotation src p i k → j ≡ k
-    notation_once p i j k a b =
-        let same = ok_one (tt, j) (tt, k) (notation_at p src i) (notation_complete p src i j utf8 a) (notation_complete p src i k utf8 b) in
-        ap (λ (x : Unit {0} × ℕ). x.1) same
+    notation_once p i j k a b = grind arith
 
     -- The beginning of a declaration.
     pub begins_once : (i n m d x y z : ℕ) (p q : Bool) → BeginsEntity src i p n m d → BeginsEntity src i q x y z → (p ≡ q) × (n ≡ x) × (m ≡ y) × (d ≡ z)
-    begins_once i n m d x y z p q one other =
-        let a = begins_parts one in
-        let b = begins_parts other in
-        let k = space_once (i + 8) a.k b.k a.space_before b.space_before in
-        let kind = kind_once b.k n x p q (subst (λ (k : ℕ). IsKind src k p n) k a.is_kind) b.is_kind in
-        let name : m ≡ y = a.name.longest ∙ ap (run_end is_name_char src) kind.1 ∙ sym b.name.longest in
-        (kind.0, kind.1, name, a.space_behind.1 ∙ ap (spaces_end src) name ∙ sym b.space_behind.1)
+    begins_once i n m d x y z p q one other = grind arith
 
     -- And of a document type declaration.
     pub doctype_once : (i s t : ℕ) → BeginsDoctype src i s → BeginsDoctype src i t → s ≡ t
-    doctype_once i s t one other =
-        let a = doctype_parts one in
-        let b = doctype_parts other in
-        let n : a.n ≡ b.n = space_once (i + 9) a.n b.n a.space_before b.space_before in
-        let m : a.m ≡ b.m = a.name.longest ∙ ap (run_end is_name_char src) n ∙ sym b.name.longest in
-        let may : MayHaveExternalID src (spaces_end src b.m) a.x = subst (λ (m : ℕ). MayHaveExternalID src (spaces_end src m) a.x) m a.external in
-        let same = ok_one (tt, a.x) (tt, b.x) (external_id_if src (spaces_end src b.m)) (if_complete src (spaces_end src b.m) a.x utf8 may) (if_complete src (spaces_end src b.m) b.x utf8 b.external) in
-        a.next ∙ ap (λ (x : Unit {0} × ℕ). spaces_end src x.1) same ∙ sym b.next
+    doctype_once i s t one other = grind (arith, if_complete)
 
     -- A definition has one end, whatever is answered.
     pub definition_end : (p : Bool) (i j k : ℕ) (a b : List Asked) (t u : Option Replacement) → IsDefinition src p i j a t → IsDefinition src p i k b u → j ≡ k
     definition_end p i j k a b t u (internal _ e _ q) (internal _ d _ r) = (quoted_once i e j d k q r).1
     definition_end p i j k a b t u (internal _ e _ q) (external _ m _ r _ _ is may gives) = absurd (quoted_no_external i e j m r q is)
     definition_end p i j k a b t u (external _ n _ r _ _ is may gives) (internal _ d _ q) = absurd (quoted_no_external i d k n r q is)
-    definition_end p i j k a b t u (external _ n _ r _ _ is may gives) (external _ m _ s _ _ is' may' gives') =
-        let same = (external_once i n m r s is is').1 in notation_once p n j k may (subst (λ (m : ℕ). MayHaveNotation src p m k) (sym same) may')
+    definition_end p i j k a b t u (external _ n _ r _ _ is may gives) (external _ m _ s _ _ is' may' gives') = grind (arith, external_once, notation_once)
 
     -- ---- with the same answers
 
     definition_once : (p : Bool) (i j k : ℕ) (a b c d : List Asked) (t u : Option Replacement) → IsDefinition src p i j a t → IsDefinition src p i k b u → SameAnswers (a ++ c) (b ++ d)
         → (a ≡ b) × (t ≡ u) × SameAnswers c d
-    definition_once p i j k a b c d t u (internal _ e _ q) (internal _ f _ r) same =
-        (refl, ap (λ (e : ℕ). Some (record { source = take e src; start = i + 1 })) (quoted_once i e j f k q r).0, same)
+    definition_once p i j k a b c d t u (internal _ e _ q) (internal _ f _ r) same = grind arith
     definition_once p i j k a b c d t u (internal _ e _ q) (external _ m _ r _ _ is may gives) same = absurd (quoted_no_external i e j m r q is)
     definition_once p i j k a b c d t u (external _ n _ r _ _ is may gives) (internal _ f _ q) same = absurd (quoted_no_external i f k n r q is)
-    definition_once p i j k a b c d t u (external _ n _ r answer _ is may gives) (external _ m _ s answer' _ is' may' gives') same =
-        let request = (external_once i n m r s is is').0 in
-        let first : answer ≡ answer' = same.0 in
-        let gives'' : GivesReplacement answer u = subst (λ (a : Option (List ℕ)). GivesReplacement a u) (sym first) gives' in (
-          ap (λ (r : Request). record { request = r; answer = answer } ∷ []) request ∙ ap (λ (a : Option (List ℕ)). record { request = s; answer = a } ∷ []) first,
-          ok_one t u (answer_text answer) (answer_complete answer t gives) (answer_complete answer u gives''),
-          same.1,
-        )
+    definition_once p i j k a b c d t u (external _ n _ r answer _ is may gives) (external _ m _ s answer' _ is' may' gives') same = grind (arith, external_once, answer_complete)
 
     -- A declaration of an entity.
     pub entity_once : (i j k : ℕ) (a b c d : List Asked) (es fs : List Entity) → IsEntityDeclaration src i j a es → IsEntityDeclaration src i k b fs → SameAnswers (a ++ c) (b ++ d)
@@ -175,15 +136,9 @@ module _ (src : List ℕ) where
         let x = declaration_parts one in
         let y = declaration_parts other in
         let at = begins_once i x.n x.m x.d y.n y.m y.d x.parameter y.parameter x.begins y.begins in
-        let definition : IsDefinition src x.parameter x.d y.e b y.text =
-        subst (λ (p : Bool). IsDefinition src p x.d y.e b y.text) (sym at.0) (subst (λ (d : ℕ). IsDefinition src y.parameter d y.e b y.text) (sym at.3) y.definition) in
+        let definition : IsDefinition src x.parameter x.d y.e b y.text = grind arith in
         let end = definition_end x.parameter x.d x.e y.e a b x.text y.text x.definition definition in
-        let first = definition_once x.parameter x.d x.e y.e a b c d x.text y.text x.definition definition same in (
-          first.0,
-          x.next ∙ ap (λ (e : ℕ). spaces_end src e + 1) end ∙ sym y.next,
-          x.declares ∙ ap (λ (n : ℕ). entry (slice src n x.m) x.text) at.1 ∙ ap (λ (m : ℕ). entry (slice src y.n m) x.text) at.2 ∙ ap (entry (slice src y.n y.m)) first.1 ∙ sym y.declares,
-          first.2,
-        )
+        let first = definition_once x.parameter x.d x.e y.e a b c d x.text y.text x.definition definition same in grind arith
 
     -- ---- what is at a place up to the `]`
 
@@ -220,19 +175,11 @@ module _ (src : List ℕ) where
 
       -- White space there.
       space_there : (p : ℕ) (rest : Forest Item) (more : List Asked) (gs : List Entity) → Left p rest more gs → is_space (byte src p) ≡ true → Left (p + 1) rest more gs
-      space_there p rest more gs (no_more _) is = absurd (let z : is_space 93 ≡ true = subst (λ (b : ℕ). is_space b ≡ true) bracket is in cc z)
-      space_there p rest more gs (space _ _ _ _ _ white left) is = left
-      space_there p rest more gs (an_item _ j _ x others _ _ one left) is = absurd (less_no_space src utf8 p (item_less p (misc_opens p j x one)) is)
-      space_there p rest more gs (skipped_declaration _ _ _ _ _ passes closes left) is = absurd (less_no_space src utf8 p (passed_less p passes) is)
-      space_there p rest more gs (an_entity _ j _ _ _ _ _ _ one left) is = absurd (less_no_space src utf8 p (entity_less p (declaration_parts one).head.opens) is)
+      space_there p rest more gs h is = grind (arith, item_less, misc_opens, passed_less, entity_less)
 
       -- Nothing that a subset holds.
       pub nothing_there : (p : ℕ) (rest : Forest Item) (more : List Asked) (gs : List Entity) → Left p rest more gs → is_space (byte src p) ≡ false → (OpensItem src p → ⊥) → (IsPassed src p → ⊥) → at word.EntityStart src p ≡ false → p ≡ k
-      nothing_there p rest more gs (no_more _) no_space no_item no_passed no_entity = refl
-      nothing_there p rest more gs (space _ _ _ _ _ white left) no_space no_item no_passed no_entity = absurd (true≢false (sym white ∙ no_space))
-      nothing_there p rest more gs (an_item _ j _ x others _ _ one left) no_space no_item no_passed no_entity = absurd (no_item (misc_opens p j x one))
-      nothing_there p rest more gs (skipped_declaration _ _ _ _ _ passes closes left) no_space no_item no_passed no_entity = absurd (no_passed passes)
-      nothing_there p rest more gs (an_entity _ j _ _ _ _ _ _ one left) no_space no_item no_passed no_entity = absurd (true≢false (sym (declaration_parts one).head.opens ∙ no_entity))
+      nothing_there p rest more gs h no_space no_item no_passed no_entity = grind (arith, misc_opens)
 
       -- What is read up to j is a front of the items up to the `]`.
       pub record Front (j : ℕ) (xs ys : Forest Item) (a b c : List Asked) (es fs : List Entity) : Type 0 where
@@ -252,61 +199,31 @@ module _ (src : List ℕ) where
           let there = item_there i ys b fs all (misc_opens i m x one) in
           let item = one_item src utf8 i m there.0 x there.1 one there.3 in
           let next = subset_front m j others there.2 a b c es fs front (subst (λ (m : ℕ). Left m there.2 b fs) (sym item.0) there.4) same in
-          record {
-            rest = next.rest;
-            more = next.more;
-            gs = next.gs;
-            left = next.left;
-            items = there.5 ∙ ap (λ (x : Item). join (leaf x) there.2) (sym item.1) ∙ ap (join (leaf x)) next.items;
-            asked = next.asked;
-            entities = next.entities;
-            same = next.same;
-          }
+          grind arith
       subset_front i j xs ys a b c es fs (skipped_declaration _ _ _ _ _ passes _ front) all same =
           let there = passed_there i ys b fs all passes in
           subset_front (passed_end src i) j xs ys a b c es fs front (subst (λ (m : ℕ). Left m ys b fs) there.1.next there.2) same
       subset_front i j xs ys a b c es fs (an_entity _ m _ _ first later one others is front) all same =
           let there = entity_there i ys b fs all (declaration_parts is).head.opens in
-          let split : SameAnswers (first ++ (later ++ c)) (there.1 ++ there.2) =
-          subst (λ (a : List Asked). SameAnswers a (there.1 ++ there.2)) (append_assoc first later c) (subst (SameAnswers ((first ++ later) ++ c)) there.7 same) in
+          let split : SameAnswers (first ++ (later ++ c)) (there.1 ++ there.2) = grind (arith, append_assoc) in
           let once = entity_once i m there.0 first there.1 (later ++ c) there.2 one there.3 is there.5 split in
           let next = subset_front m j xs ys later there.2 c others there.4 front (subst (λ (m : ℕ). Left m ys there.2 there.4) (sym once.1) there.6) once.3 in
-          record {
-            rest = next.rest;
-            more = next.more;
-            gs = next.gs;
-            left = next.left;
-            items = next.items;
-            asked = there.7 ∙ ap (λ (f : List Asked). f ++ there.2) (sym once.0) ∙ ap (λ (l : List Asked). first ++ l) next.asked ∙ sym (append_assoc first later next.more);
-            entities = there.8 ∙ ap (λ (f : List Entity). f ++ there.4) (sym once.2) ∙ ap (λ (l : List Entity). one ++ l) next.entities ∙ sym (append_assoc one others next.gs);
-            same = next.same;
-          }
+          grind (arith, append_assoc)
 
     -- ---- to the end
 
     -- At the `]` nothing is left.
     left_ends : (p k : ℕ) (rest : Forest Item) (more : List Asked) (gs : List Entity) → byte src k ≡ 93 → Subset src p k rest more gs → byte src p ≡ 93 → (p ≡ k) × (rest ≡ Nil) × (more ≡ []) × (gs ≡ [])
-    left_ends p k rest more gs end (no_more _) here = (refl, refl, refl, refl)
-    left_ends p k rest more gs end (space _ _ _ _ _ white _) here = absurd (let z : is_space 93 ≡ true = subst (λ (b : ℕ). is_space b ≡ true) here white in cc z)
-    left_ends p k rest more gs end (an_item _ j _ x others _ _ one left) here = absurd (let less = item_less p (misc_opens p j x one) in omega arith)
-    left_ends p k rest more gs end (skipped_declaration _ _ _ _ _ passes closes left) here = absurd (let less = passed_less p passes in omega arith)
-    left_ends p k rest more gs end (an_entity _ j _ _ _ _ _ _ one left) here = absurd (let less = entity_less p (declaration_parts one).head.opens in omega arith)
+    left_ends p k rest more gs end q here = grind (arith, item_less, misc_opens, passed_less, entity_less)
 
     -- A document type declaration is read in one way.
     pub doctypes_once : (i j k : ℕ) (xs ys : Forest Item) (a b : List Asked) (es fs : List Entity) → IsDoctype src i j xs a es → IsDoctype src i k ys b fs → SameAnswers a b → (j ≡ k) × (xs ≡ ys) × (a ≡ b) × (es ≡ fs)
     doctypes_once i j k xs ys a b es fs (no_subset _ s begins closes) (no_subset _ t begins' closes') same = (ap (λ (s : ℕ). s + 1) (doctype_once i s t begins begins'), refl, refl, refl)
-    doctypes_once i j k xs ys a b es fs (no_subset _ s begins closes) (with_subset _ t l _ _ _ begins' opens subset bracket closes') same =
-        let at = doctype_once i s t begins begins' in let here : byte src t ≡ 62 = subst (λ (s : ℕ). byte src s ≡ 62) at closes in absurd (omega arith)
-    doctypes_once i j k xs ys a b es fs (with_subset _ t l _ _ _ begins opens subset bracket closes) (no_subset _ s begins' closes') same =
-        let at = doctype_once i t s begins begins' in let here : byte src s ≡ 91 = subst (λ (t : ℕ). byte src t ≡ 91) at opens in absurd (omega arith)
+    doctypes_once i j k xs ys a b es fs (no_subset _ s begins closes) (with_subset _ t l _ _ _ begins' opens subset bracket closes') same = grind (arith, doctype_once)
+    doctypes_once i j k xs ys a b es fs (with_subset _ t l _ _ _ begins opens subset bracket closes) (no_subset _ s begins' closes') same = grind (arith, doctype_once)
     doctypes_once i j k xs ys a b es fs (with_subset _ s m _ _ _ begins opens subset bracket closes) (with_subset _ t l _ _ _ begins' opens' subset' bracket' closes') same =
         let at = doctype_once i s t begins begins' in
         let first : Subset src (t + 1) m xs a es = subst (λ (s : ℕ). Subset src (s + 1) m xs a es) at subset in
         let same' : SameAnswers (a ++ []) b = subst (λ (a : List Asked). SameAnswers a b) (sym (append-nil a)) same in
         let r = subset_front l bracket' (t + 1) m xs ys a b [] es fs first subset' same' in
-        let none = left_ends m l r.rest r.more r.gs bracket' r.left bracket in (
-          ap (λ (m : ℕ). spaces_end src (m + 1) + 1) none.0,
-          sym (r.items ∙ ap (join xs) none.1 ∙ join-nil xs),
-          sym (r.asked ∙ ap (λ (m : List Asked). a ++ m) none.2 ∙ append-nil a),
-          sym (r.entities ∙ ap (λ (g : List Entity). es ++ g) none.3 ∙ append-nil es),
-        )
+        grind (arith, left_ends, join-nil, append-nil)

@@ -1,5 +1,5 @@
 -- Names that a start tag's faults have are texts of the source.
-use Rattle.std.proofs.Common.{◌≡◌, ℕ, zero, suc, ◌+◌, Bool, true, false, cond, not, eqb, leb, ltb, List, [], ◌∷◌, ◌++◌, length, refl, ap, subst, arith}
+use Rattle.std.proofs.Common.{◌≡◌, ℕ, zero, suc, ◌+◌, Bool, cond, not, eqb, leb, ltb, List, [], ◌∷◌, ◌++◌, length, subst, arith}
 use Rattle.std.specs.Prelude.{Result, Ok, Err, bytes_eq, slice_index}
 use Rattle.std.specs.List.{list_any}
 use Rattle.std.specs.Str.{IsUtf8, IsCharBoundary}
@@ -12,8 +12,8 @@ use Rattle.rox_grammar.specs.Chars.{is_space}
 use Rattle.rox_grammar.specs.Runs.{begins}
 use Rattle.rox_grammar.specs.Written.{Name, Attribute, NamespaceDecl, is_namespace_decl, namespace_decl_of}
 use Rattle.rox_grammar.specs.NameParts.{local_span, prefix_span}
-use Rattle.rox_grammar.specs.Tree.{xml_uri, xmlns_uri, is_declared, listed, listable_of}
-use Rattle.rox_grammar.specs.WellNamed.{is_known, same_expanded, may_name}
+use Rattle.rox_grammar.specs.Tree.{is_declared, listed, listable_of}
+use Rattle.rox_grammar.specs.WellNamed.{is_known, same_expanded}
 use Rattle.rox_grammar.specs.Document.{most_pairs, most_attributes}
 use Rattle.rox_grammar.specs.Counts.{with_new}
 use Rattle.rox_grammar.specs.Names.{byte, spaces_end}
@@ -25,7 +25,7 @@ use Rattle.rox_reading.specs.Tags.{Values, TagSoFar, TagRest, TagRead, prefix_te
 use Rattle.rox_reading.specs.Machine.{name_span}
 use Rattle.rox_theory.proofs.Basics.{ok_same, bind_ok, chosen}
 use Rattle.rox_theory.proofs.AttributeLemmas.{RawStands, turn_sound}
-use Rattle.rox_theory.proofs.LiteralLemmas.{quote_ascii, literal_closes}
+use Rattle.rox_theory.proofs.LiteralLemmas.{literal_closes}
 use Rattle.rox_faults.proofs.ValueSpans.{chars_spans, spanned_fault, spanned_by, Told, told_bind, told_cond, told_after}
 use Rattle.rox_faults.proofs.NameSpans.{NameText, run_cut, cut_behind, qname_text, qname_spans, name_spans}
 
@@ -53,13 +53,11 @@ well_err src g text f h = names_of src g f text h
 
 -- One of two.
 pub well_if : {A : Type 0} (src : List ℕ) (b : Bool) (x y : Result A Fault) → FailsWell src x → FailsWell src y → FailsWell src (cond b x y)
-well_if src true x y first second = first
-well_if src false x y first second = second
+well_if src b x y first second = grind arith
 
 -- One after the other.
 pub well_bind : {A B : Type 0} (src : List ℕ) (r : Result A Fault) (k : A → Result B Fault) → FailsWell src r → ((x : A) → r ≡ Ok x → FailsWell src (k x)) → FailsWell src (r >>= k)
-well_bind src (Ok x) k first rest = rest x refl
-well_bind src (Err e) k first rest = λ f h. first f (ap (λ (g : Fault). Err g) (err_same e f h))
+well_bind src r k first rest = grind arith
 
 -- ---- readings whose faults have no names
 
@@ -115,7 +113,6 @@ pub record Named (src : List ℕ) (a : Attribute) : Type 0 where
 -- A character begins after an attribute that is there.
 pub raw_cut : (src : List ℕ) (i j : ℕ) (raw : RawAttribute) → IsUtf8 src → RawStands src i j raw → IsCharBoundary src j
 raw_cut src i j raw utf8 r =
-    let quote = quote_ascii (byte src r.v) r.literal.0.0 in
     let next = r.literal.0.3 in
     rw next (cut_behind src raw.value_end (byte src r.v) utf8 (literal_closes src r.v raw.value_end j r.literal) (omega arith) (omega arith))
 
@@ -145,15 +142,11 @@ named_more src (b ∷ as') a all one = (all.0, named_more src as' a all.1 one)
 
 -- A declared prefix's fault has no name.
 prefix_well : (src : List ℕ) (a : Attribute) → FailsWell src (prefix_tested a)
-prefix_well src a =
-    well_if src (bytes_eq a.value xmlns_uri) _ _ (well_err src _ tt) (well_if src (bytes_eq a.name.local (word_text word.Xml)) _ _
-    (well_if src (bytes_eq a.value xml_uri) _ _ (well_ok src tt) (well_err src _ tt))
-    (well_if src (bytes_eq a.value xml_uri) _ _ (well_err src _ tt) (well_ok src tt)))
+prefix_well src a = grind arith
 
 -- Nor has that of the default.
 default_well : (src : List ℕ) (a : Attribute) → FailsWell src (default_tested a)
-default_well src a =
-    well_if src (bytes_eq a.value xml_uri) _ _ (well_err src _ tt) (well_if src (bytes_eq a.value xmlns_uri) _ _ (well_err src _ tt) (well_ok src tt))
+default_well src a = grind arith
 
 -- Nor that of either.
 uri_well : (src : List ℕ) (a : Attribute) → FailsWell src (uri_tested a)
@@ -183,8 +176,7 @@ taken_spans src known a h named = well_if src (is_namespace_decl a.name) _ _ (de
 -- Those that are held stay named.
 pub taken_keeps : (src : List ℕ) (known : List NamespaceDecl) (a : Attribute) (h held : TagSoFar) → Named src a → AllNamed src h.attributes → taken known a h ≡ Ok held → AllNamed src held.attributes
 taken_keeps src known a h held named all is =
-    chosen (is_namespace_decl a.name) _ _ _ is (λ one is. declared_keeps src known a h held all is) (λ other is.
-    subst (λ (k : TagSoFar). AllNamed src k.attributes) (ok_same _ _ is) (named_more src h.attributes a all named))
+    chosen (is_namespace_decl a.name) _ _ _ is (λ one is. declared_keeps src known a h held all is) (λ other is. grind (arith, named_more))
 
 -- ---- the tests of the names
 
@@ -201,8 +193,7 @@ names_spans src scope before (a ∷ as') all =
 pub tested_spans : (src : List ℕ) (scope : List NamespaceDecl) (count at : ℕ) (name : Name) (as' : List Attribute) → IsTextSpan src (prefix_span name at) → AllNamed src as'
     → FailsWell src (tested_at scope count at name as')
 tested_spans src scope count at name as' text all =
-    well_if src (ltb most_attributes (count + length as')) _ _ (well_err src _ tt) (well_bind src (names_tested scope [] as') _ (names_spans src scope [] as' all) (λ u e.
-    well_if src (may_name scope name) _ _ (well_ok src tt) (well_err src (fault.UnknownNamespace (prefix_span name at) at) text)))
+    well_if src (ltb most_attributes (count + length as')) _ _ (well_err src _ tt) (well_bind src (names_tested scope [] as') _ (names_spans src scope [] as' all) (λ u e. grind arith))
 
 -- Those of a tag that begins at i.
 pub tested_tag_spans : (src : List ℕ) (scope : List NamespaceDecl) (count i : ℕ) (name : Name) (as' : List Attribute) → IsTextSpan src (prefix_span name (i + 1)) → AllNamed src as'

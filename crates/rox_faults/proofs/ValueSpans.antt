@@ -1,5 +1,5 @@
 -- The names in the faults of runs and values are texts of the source that they count in.
-use Rattle.std.proofs.Common.{◌≡◌, ℕ, zero, suc, ◌+◌, ◌-◌, ◌^◌, ◌==◌, ◌||◌, Bool, true, false, cond, leb, ltb, List, Option, Some, None, length, take, refl, subst, arith}
+use Rattle.std.proofs.Common.{◌≡◌, ℕ, zero, suc, ◌+◌, ◌-◌, ◌^◌, ◌==◌, ◌||◌, Bool, true, false, cond, leb, ltb, List, Option, Some, length, take, subst, arith}
 use Rattle.std.specs.Prelude.{Result, Ok, Err}
 use Rattle.std.specs.Str.{IsUtf8}
 use Rattle.std.proofs.lemmas.Bool.{eqb-true}
@@ -36,20 +36,17 @@ FaultSpanned {A = A} src r = Spanned A src (λ x. Unit {0}) r
 -- So it is of a sequence, step by step.
 pub spanned_bind : {A B : Type 0} (src : List ℕ) (P : A → Type 0) (Q : B → Type 0) (r : Result A Fault) (f : A → Result B Fault)
     → Spanned A src P r → ((x : A) → r ≡ Ok x → P x → Spanned B src Q (f x)) → Spanned B src Q (r >>= f)
-spanned_bind src P Q (Ok x) f h go = go x refl h.holds
-spanned_bind src P Q (Err e) f h go = record { holds = h.holds }
+spanned_bind src P Q r f h go = grind arith
 
 -- And of a choice, branch by branch.
 pub spanned_cond : {A : Type 0} (src : List ℕ) (P : A → Type 0) (b : Bool) (x y : Result A Fault)
     → (b ≡ true → Spanned A src P x) → (b ≡ false → Spanned A src P y) → Spanned A src P (cond b x y)
-spanned_cond src P true x y holds fails = holds refl
-spanned_cond src P false x y holds fails = fails refl
+spanned_cond src P b x y holds fails = grind arith
 
 -- What is known of its fault and of what it gives, apart.
 pub spanned_by : {A : Type 0} (src : List ℕ) (P : A → Type 0) (r : Result A Fault)
     → ((f : Fault) → r ≡ Err f → NamesText src f) → ((x : A) → r ≡ Ok x → P x) → Spanned A src P r
-spanned_by src P (Ok x) fault gives = record { holds = gives x refl }
-spanned_by src P (Err f) fault gives = record { holds = fault f refl }
+spanned_by src P r fault gives = grind arith
 
 -- The fault that it is.
 pub spanned_fault : {A : Type 0} (src : List ℕ) (P : A → Type 0) (r : Result A Fault) (f : Fault) → Spanned A src P r → r ≡ Err f → NamesText src f
@@ -72,31 +69,24 @@ pub record Told (A : Type 0) (src : List ℕ) (P : A → Type 0) (r : Result A R
 -- Of a sequence.
 pub told_bind : {A B : Type 0} (src : List ℕ) (P : A → Type 0) (Q : B → Type 0) (r : Result A Refusal) (f : A → Result B Refusal)
     → Told A src P r → ((x : A) → r ≡ Ok x → P x → Told B src Q (f x)) → Told B src Q (r >>= f)
-told_bind src P Q (Ok x) f h go = go x refl h.tells
-told_bind src P Q (Err e) f h go = record { tells = h.tells }
+told_bind src P Q r f h go = grind arith
 
 -- Of a choice.
 pub told_cond : {A : Type 0} (src : List ℕ) (P : A → Type 0) (b : Bool) (x y : Result A Refusal) → (b ≡ true → Told A src P x) → (b ≡ false → Told A src P y) → Told A src P (cond b x y)
-told_cond src P true x y holds fails = holds refl
-told_cond src P false x y holds fails = fails refl
+told_cond src P b x y holds fails = grind arith
 
 -- Of what opens no entity.
 pub told_lifted : {A : Type 0} (src : List ℕ) (P : A → Type 0) (r : Result A Fault) → Spanned A src P r → Told A src P (lifted r)
-told_lifted src P (Ok x) h = record { tells = h.holds }
-told_lifted src P (Err f) h = record { tells = h.holds }
+told_lifted src P r h = grind arith
 
 -- And of what follows it.
 pub told_after : {A B : Type 0} (src : List ℕ) (P : A → Type 0) (Q : B → Type 0) (r : Result A Fault) (f : A → Result B Refusal)
     → Spanned A src P r → ((x : A) → r ≡ Ok x → P x → Told B src Q (f x)) → Told B src Q (lifted r >>= f)
-told_after src P Q (Ok x) f h go = go x refl h.holds
-told_after src P Q (Err e) f h go = record { tells = h.holds }
+told_after src P Q r f h go = grind arith
 
 -- Of another source.
 pub told_elsewhere : {A : Type 0} (src source : List ℕ) (P : A → Type 0) (r : Result A Refusal) → Told A source P r → Told A src P (elsewhere source r)
-told_elsewhere src source P (Ok x) h = record { tells = h.tells }
-told_elsewhere src source P (Err (here f)) h = record { tells = h.tells }
-told_elsewhere src source P (Err (there s f)) h = record { tells = h.tells }
-told_elsewhere src source P (Err (refused request at message)) h = record { tells = tt }
+told_elsewhere src source P r h = grind arith
 
 -- The refusal that it is.
 pub told_refusal : {A : Type 0} (src : List ℕ) (P : A → Type 0) (r : Result A Refusal) (e : Refusal) → Told A src P r → r ≡ Err e → IsTold src e
@@ -127,14 +117,11 @@ module _ (src : List ℕ) (utf8 : IsUtf8 src) where
 
   -- An entity refers by its name.
   named_spans : (c : Option ℕ) (span : Span) → IsTextSpan src span → RefersTo src (named_or c span)
-  named_spans None span is = is
-  named_spans (Some c) span is = tt
+  named_spans c span is = grind arith
 
   -- The name after `&`.
   name_span_text : (i : ℕ) → byte src i ≡ 38 → IsTextSpan src (record { start = i + 1; end = run_end is_name_char src (i + 1) })
-  name_span_text i amp =
-      let cut = cut_behind src i 38 utf8 amp (omega arith) (omega arith) in
-      (run_end_le is_name_char src (i + 1), cut, run_cut is_name_char src (i + 1) utf8 cut)
+  name_span_text i amp = grind (arith, cut_behind src i 38 utf8 amp (omega arith) (omega arith), run_end_le, run_cut)
 
   -- A name between `&` and `;`.
   name_reference_spans : (i : ℕ) → byte src i ≡ 38 → Spanned (Reference × ℕ) src (λ (r : Reference × ℕ). RefersTo src r.0) (name_reference_at src i)
@@ -168,8 +155,7 @@ module _ (src : List ℕ) (utf8 : IsUtf8 src) where
   module _ (es : List Entity) (texts : AreTexts es) where
     -- An entity, or its name.
     found_spans : (i : ℕ) (span : Span) (o : Option Replacement) → ((t : Replacement) → o ≡ Some t → IsUtf8 t.source) → IsTextSpan src span → Spanned Bit src IsSource (entity_bit o i span)
-    found_spans i span None is text = record { holds = text }
-    found_spans i span (Some t) is text = record { holds = is t refl }
+    found_spans i span o is text = grind arith
 
     -- What a reference stands for, or its name.
     expanded_spans : (i : ℕ) (r : Reference) → RefersTo src r → Spanned Bit src IsSource (reference_bit es src i r)
@@ -195,8 +181,7 @@ module _ (src : List ℕ) (utf8 : IsUtf8 src) where
     -- A bit, and what follows it.
     after_bit_spans : (more : ℕ → Result (List ℕ × Next) Fault) (bit : Bit) (j : ℕ) → IsSource bit → Spanned (List ℕ × Next) src (λ (x : List ℕ × Next). NextIsSource x.1) (more j)
         → Spanned (List ℕ × Next) src (λ (x : List ℕ × Next). NextIsSource x.1) (after_bit more bit j)
-    after_bit_spans more (bytes_of bs) j is h = spanned_bind src (λ (x : List ℕ × Next). NextIsSource x.1) _ (more j) _ h (λ rest read h. record { holds = h })
-    after_bit_spans more (a_text t) j is h = record { holds = is }
+    after_bit_spans more bit j is h = grind arith
 
     -- A part of a run.
     pub run_part_spans : (main : Bool) (n stop i : ℕ) → Spanned (List ℕ × Next) src (λ (x : List ℕ × Next). NextIsSource x.1) (data_part main es n src stop i)
@@ -210,9 +195,7 @@ module _ (src : List ℕ) (utf8 : IsUtf8 src) where
 
     -- A reference in a value.
     tested_spans : (main : Bool) (i : ℕ) (r : Reference) → Spanned Bit src IsSource (reference_bit es src i r) → Spanned Bit src IsSource (tested_bit main i r (reference_bit es src i r))
-    tested_spans true i r h = h
-    tested_spans false i (character_of c) h = spanned_cond src _ (c == 60) _ _ (λ z. record { holds = tt }) (λ z. record { holds = tt })
-    tested_spans false i (entity_at span) h = h
+    tested_spans main i r h = grind arith
 
     value_reference_spans : (main : Bool) (i : ℕ) → byte src i ≡ 38 → Spanned (Bit × ℕ) src (λ (x : Bit × ℕ). IsSource x.0) (value_reference_at main es src i)
     unfolding value_reference_at
@@ -225,8 +208,7 @@ module _ (src : List ℕ) (utf8 : IsUtf8 src) where
     stretch_spans true stop i = record { holds = tt }
     stretch_spans false stop i =
         let j = byte_from (λ b. is_special b || b == 60) (take stop src) i in
-        spanned_bind src (λ (x : List ℕ × ℕ). Unit {0}) _ (chars_up_to j src i) _ (chars_spans src j i) (λ x read h.
-        spanned_cond src _ (byte (take stop src) j == 60) _ _ (λ z. record { holds = tt }) (λ z. record { holds = tt }))
+        spanned_bind src (λ (x : List ℕ × ℕ). Unit {0}) _ (chars_up_to j src i) _ (chars_spans src j i) (λ x read h. grind arith)
 
     -- A bit of a value.
     value_bit_spans : (main : Bool) (stop i : ℕ) → Spanned (Bit × ℕ) src (λ (x : Bit × ℕ). IsSource x.0) (value_bit_at main es src stop i)
@@ -248,10 +230,7 @@ module _ (src : List ℕ) (utf8 : IsUtf8 src) where
       -- A bit, and what follows it.
       after_value_told : (more : ℕ → ℕ → Result (List ℕ × ℕ) Refusal) → ((j openings_left : ℕ) → Told (List ℕ × ℕ) src (λ x. Unit {0}) (more j openings_left)) → (openings_left : ℕ) (bit : Bit) (j : ℕ) → IsSource bit
           → Told (List ℕ × ℕ) src (λ x. Unit {0}) (after_value_bit opener more openings_left bit j)
-      after_value_told more rest openings_left (bytes_of bs) j is = told_bind src (λ (x : List ℕ × ℕ). Unit {0}) _ (more j openings_left) _ (rest j openings_left) (λ x read h. record { tells = tt })
-      after_value_told more rest openings_left (a_text t) j is =
-          told_bind src (λ (x : List ℕ × ℕ). Unit {0}) _ (opener t j openings_left) _ (opens t j openings_left is) (λ x read h.
-          told_bind src (λ (x : List ℕ × ℕ). Unit {0}) _ (more j x.1) _ (rest j x.1) (λ y read h. record { tells = tt }))
+      after_value_told more rest openings_left bit j is = grind arith
 
       -- All bits of a value.
       pub value_text_told : (main : Bool) (n stop i openings_left : ℕ) → Told (List ℕ × ℕ) src (λ x. Unit {0}) (value_text main es opener n src stop i openings_left)
@@ -273,9 +252,7 @@ module _ (src : List ℕ) (utf8 : IsUtf8 src) where
 
 -- How many may be opened: the fault has no name.
 pub budget_spans : (src : List ℕ) (main : Bool) (after openings_left : ℕ) → FaultSpanned src (budget main after openings_left)
-budget_spans src true after openings_left = record { holds = tt }
-budget_spans src false after zero = record { holds = tt }
-budget_spans src false after (suc r) = record { holds = tt }
+budget_spans src main after openings_left = grind arith
 
 -- A replacement text as a part of a value, by how many may still be open.
 pub value_opener_told : (es : List Entity) → AreTexts es → (d : ℕ) (main : Bool) (src : List ℕ) (t : Replacement) (after openings_left : ℕ) → IsUtf8 t.source → Told (List ℕ × ℕ) src (λ x. Unit {0}) (value_opener es d main t after openings_left)

@@ -1,12 +1,12 @@
 -- The nodes of a tree say as much as the items that they are of.
-use Rattle.std.proofs.Common.{◌≡◌, ◌*◌, ◌≤◌, ◌==◌, ℕ, Bool, List, [], ◌∷◌, length, map, refl, arith}
-use Rattle.std.specs.Prelude.{max, count_by, sum_by, Option, Some, None, Ok, IfSome}
+use Rattle.std.proofs.Common.{◌≡◌, ◌≤◌, ℕ, Bool, List, [], ◌∷◌, length, map, refl, arith}
+use Rattle.std.specs.Prelude.{max, sum_by, Option, Some, Ok, IfSome}
 use Rattle.std.proofs.lemmas.Nat.{mul-le}
 use Rattle.std.proofs.lemmas.List.{length-map}
 use Rattle.std.proofs.lemmas.List.Sums.{sum_by-cons}
 use Rattle.rox_grammar.specs.Forest.{Forest, Nil, Cons}
 use Rattle.rox_grammar.specs.Written as written
-use Rattle.rox_grammar.specs.Written.{NamespaceDecl, Item, Element, Text, Comment, PI}
+use Rattle.rox_grammar.specs.Written.{NamespaceDecl, Item}
 use Rattle.rox_grammar.specs.Tree.{Attribute, Node, attribute_in, scope_in, node_in, resolved, document_tree}
 use Rattle.rox_grammar.specs.Doctype.{Request, Asked}
 use Rattle.rox_grammar.specs.Document.{ParseOf}
@@ -26,16 +26,10 @@ values_same scope [] = refl
 values_same scope (a ∷ as') = omega (arith, sum_by-cons (λ (b : Attribute). length b.value) (attribute_in scope a) (map (attribute_in scope) as'), values_same scope as')
 
 bytes_same : (scope : List NamespaceDecl) (item : Item) → bytes_of (node_in scope item) ≡ own_bytes item
-bytes_same scope (Element start end tag) = values_same scope tag.attributes
-bytes_same scope (Text start end value borrowed) = refl
-bytes_same scope (Comment start end text) = refl
-bytes_same scope (PI start end target value) = refl
+bytes_same scope item = grind (arith, values_same)
 
 count_same : (scope : List NamespaceDecl) (item : Item) → length (attributes_of (node_in scope item)) ≡ own_attributes item
-count_same scope (Element start end tag) = length-map tag.attributes (attribute_in scope)
-count_same scope (Text start end value borrowed) = refl
-count_same scope (Comment start end text) = refl
-count_same scope (PI start end target value) = refl
+count_same scope item = grind (arith, length-map)
 
 all_bytes_same : (above : List NamespaceDecl) (f : Forest Item) → all_bytes (resolved above f) ≡ bytes_in f
 all_bytes_same above Nil = refl
@@ -47,19 +41,11 @@ all_attributes_same above (Cons item c r) = omega (arith, count_same (scope_in a
 
 -- the tree of a parse is bounded by its longest replacement text
 pub tree_bounded : (src : List ℕ) (dtd : Bool) (asked : List Asked) (tops : Forest Item) (p : ParseOf src dtd asked tops) → IsTreeBounded src (longest p.entities) (document_tree (length src) tops)
-tree_bounded src dtd asked tops p =
-    let b = is_bounded src dtd asked tops p in
-    record {
-      bytes = omega (arith, b.bytes, all_bytes_same [] tops);
-      nodes = omega (arith, b.nodes, all_attributes_same [] tops, size-resolved [] tops);
-    }
+tree_bounded src dtd asked tops p = grind (arith, is_bounded src dtd asked tops p, all_bytes_same, all_attributes_same, size-resolved)
 
 -- and so by more
 bounded_more : (src : List ℕ) (n m : ℕ) (tree : Forest Node) → n ≤ m → IsTreeBounded src n tree → IsTreeBounded src m tree
-bounded_more src n m tree le b =
-    let amps = 256 * count_by (λ c. c == 38) src in
-    let more = mul-le amps n amps m (omega arith) le in
-    record { bytes = omega (arith, b.bytes, more); nodes = omega (arith, b.nodes, more) }
+bounded_more src n m tree le b = grind (arith, mul-le)
 
 -- where answers are short
 pub tree_short : (src : List ℕ) (dtd : Bool) (asked : List Asked) (tops : Forest Item) (most : ℕ) → ParseOf src dtd asked tops → AreShort most asked → IsTreeBounded src (max (length src) most) (document_tree (length src) tops)
@@ -69,8 +55,7 @@ tree_short src dtd asked tops most p h =
 -- what is allowed is short where all that may be allowed is
 module _ (allows : Request → Reply → Type 0) (most : ℕ) (bound : (request : Request) (answer : List ℕ) → allows request (Ok (Some answer)) → length answer ≤ most) where
   answer_short : (request : Request) (answer : Option (List ℕ)) → allows request (Ok answer) → IfSome answer (λ text. length text ≤ most)
-  answer_short request None h = tt
-  answer_short request (Some answer) h = bound request answer h
+  answer_short request answer h = grind arith
 
   pub allowed_short : (asked : List Asked) → AreAllowed allows asked → AreShort most asked
   allowed_short [] h = tt

@@ -9,7 +9,7 @@ use Rattle.rox_grammar.specs.declared.fault.Word.TheVariants.{Xml}
 use Rattle.rox_grammar.specs.FixedTexts.{word_text}
 use Rattle.rox_grammar.specs.Forest.{Forest, Nil, Cons}
 use Rattle.rox_grammar.specs.Written as written
-use Rattle.rox_grammar.specs.Written.{Name, NamespaceDecl, Tag, Item}
+use Rattle.rox_grammar.specs.Written.{Name, NamespaceDecl, Item}
 use Rattle.rox_grammar.specs.Tree.{Node, xml_uri, same_prefix, is_declared, listed, uri_of, none_if_empty, attribute_namespace, attribute_in, resolved}
 use Rattle.rox_grammar.specs.Doctype.{Asked}
 use Rattle.rox_grammar.specs.Document.{IsTreeOf}

@@ -1,9 +1,9 @@
 -- Places of a literal count as those of the text that it stands in: rows, columns and names.
-use Rattle.std.proofs.Common.{◌≡◌, ℕ, zero, suc, ◌+◌, ◌-◌, ◌<◌, ◌≤◌, ◌==◌, ◌||◌, Bool, true, false, List, length, take, drop, refl, sym, ap, ◌∙◌, subst, inl, inr, arith, length-take, lt-ltb}
-use Rattle.std.specs.Prelude.{min, nat_le, slice_index, count_by, String}
+use Rattle.std.proofs.Common.{◌≡◌, ℕ, zero, suc, ◌+◌, ◌-◌, ◌<◌, ◌≤◌, ◌==◌, List, length, take, drop, refl, ap, ◌∙◌, subst, inl, inr, arith, length-take}
+use Rattle.std.specs.Prelude.{min, count_by, String}
 use Rattle.std.specs.declared.alloc.Global.{Global}
 use Rattle.std.specs.Str.{chars}
-use Rattle.std.proofs.lemmas.Bool.{cases_Bool, cases_lt, le-leb, lt-leb}
+use Rattle.std.proofs.lemmas.Bool.{cases_Bool}
 use Rattle.std.proofs.lemmas.List.{get_or-take, take-take, drop-take}
 use Rattle.rox_grammar.specs.declared.fault.Span.{Span}
 use Rattle.rox_grammar.specs.declared.fault.Fault.{Fault}
@@ -48,10 +48,6 @@ IsPlaced src (fault.InvalidCharacterData at) = at ≤ length src
 IsPlaced src (fault.UnknownToken at) = at ≤ length src
 IsPlaced src fault.UnexpectedEndOfStream = Unit {0}
 
-or_true : (a b : Bool) → (a || (true || b)) ≡ true
-or_true true b = refl
-or_true false b = refl
-
 round_le : (src : List ℕ) (n : ℕ) → round_from src n ≤ n
 round_le src zero = omega arith
 round_le src (suc n) =
@@ -66,19 +62,7 @@ module _ (text : List ℕ) (e : ℕ) (inside : e < length text) (ascii : byte te
   own_long = omega (arith, length-take e text)
 
   cut_same : (n : ℕ) → n ≤ e → is_cut (take e text) n ≡ is_cut text n
-  cut_same n le =
-      elim (cases_lt n e) as (λ q. is_cut (take e text) n ≡ is_cut text n) [
-        | inl below ↦ (
-            let own = lt-leb (length (take e text)) n (omega (arith, own_long)) in
-            let all = lt-leb (length text) n (omega arith) in
-            let same : slice_index (take e text) n ≡ slice_index text n = get_or-take e text n 0 below in
-            rw (own, all, same) refl)
-        | inr past ↦ (
-            let at_end : n ≡ e = omega arith in
-            let own = le-leb (length (take e text)) e (omega (arith, own_long)) in
-            let low = lt-ltb (slice_index text e) 128 ascii in
-            rw (at_end, own, low) (sym (or_true (nat_le (length text) e) (nat_le 192 (slice_index text e)))))
-      ]
+  cut_same n le = grind (arith, own_long, get_or-take)
 
   round_same : (n : ℕ) → n ≤ e → round_from (take e text) n ≡ round_from text n
   round_same zero le = refl

@@ -1,5 +1,5 @@
 -- What holds of each item of a row.
-use Rattle.std.proofs.Common.{ℕ, Bool, List}
+use Rattle.std.proofs.Common.{ℕ, Bool, List, arith}
 use Rattle.rox_grammar.specs.Forest.{Forest, Nil, Cons, join}
 use Rattle.rox_grammar.specs.Written.{NamespaceDecl, Item, Element, Text, Comment, PI, glue, merge}
 use Rattle.rox_grammar.specs.Tree.{Node, scope_in, node_in, resolved}
@@ -13,11 +13,7 @@ each_join P (Cons i c r) g h k = (h.0, h.1, each_join P r g h.2 k)
 -- what holds of each text stays where texts are merged
 glue_each : (P : Item → Type 0) → ((a e : ℕ) (v : List ℕ) (b : Bool) → P (Text a e v b)) → (a e : ℕ) (v : List ℕ) (b : Bool) (c f : Forest Item) → EachNode P c → EachNode P f
     → EachNode P (glue (Text a e v b) c f)
-glue_each P texts a e v b c Nil h k = (texts a e v b, h, k)
-glue_each P texts a e v b c (Cons (Text x y w p) d r) h k = (texts a e _ _, each_join P c d h k.1, k.2)
-glue_each P texts a e v b c (Cons (Element x y t) d r) h k = (texts a e v b, h, k)
-glue_each P texts a e v b c (Cons (Comment x y t) d r) h k = (texts a e v b, h, k)
-glue_each P texts a e v b c (Cons (PI x y t o) d r) h k = (texts a e v b, h, k)
+glue_each P texts a e v b c f h k = grind (arith, each_join)
 
 pub each_merge : (P : Item → Type 0) → ((a e : ℕ) (v : List ℕ) (b : Bool) → P (Text a e v b)) → (f : Forest Item) → EachNode P f → EachNode P (merge f)
 each_merge P texts Nil h = h
@@ -30,5 +26,4 @@ each_merge P texts (Cons (PI a e t o) c r) h = (h.0, h.1, each_merge P texts r h
 pub each_resolved : (P : Item → Type 0) (Q : Node → Type 0) → ((scope : List NamespaceDecl) (item : Item) → P item → Q (node_in scope item))
     → (above : List NamespaceDecl) (f : Forest Item) → EachNode P f → EachNode Q (resolved above f)
 each_resolved P Q has above Nil h = tt
-each_resolved P Q has above (Cons item c r) h =
-    (has (scope_in above item) item h.0, each_resolved P Q has (scope_in above item) c h.1, each_resolved P Q has above r h.2)
+each_resolved P Q has above (Cons item c r) h = grind (arith, each_resolved P Q has (scope_in above item) c h.1, each_resolved P Q has above r h.2)

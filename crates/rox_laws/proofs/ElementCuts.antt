@@ -1,13 +1,12 @@
 -- Each element of a document without a document type declaration begins with a `<` and ends behind a `>`.
-use Rattle.std.proofs.Common.{◌≡◌, ℕ, ◌+◌, ◌-◌, ◌<◌, ◌≤◌, Bool, true, false, true≢false, List, [], ◌∷◌, length, sym, subst, arith}
+use Rattle.std.proofs.Common.{◌≡◌, ℕ, ◌+◌, ◌-◌, ◌<◌, ◌≤◌, Bool, true, false, true≢false, List, [], length, sym, subst, arith}
 use Rattle.std.specs.Str.{IsUtf8, IsCharBoundary}
 use Rattle.rox_grammar.specs.Forest.{Forest, join}
 use Rattle.rox_grammar.specs.Written.{NamespaceDecl, Tag, Item, Element, Text, Comment, PI}
 use Rattle.rox_grammar.specs.Tree as tree
 use Rattle.rox_grammar.specs.Tree.{Node, node_in}
 use Rattle.rox_grammar.specs.Names.{byte, spaces_end}
-use Rattle.rox_grammar.specs.References.{entity_reference}
-use Rattle.rox_grammar.specs.Content.{DataByte, piece, last_part, then_entity, TagEnds, opened, closed, IsTag, start_tag, IsMisc, comment, instruction, IsElement, empty, nest, Content, ends, run, cdata, misc, node}
+use Rattle.rox_grammar.specs.Content.{TagEnds, IsTag, start_tag, IsMisc, IsElement, empty, nest, Content, ends, run, cdata, misc, node}
 use Rattle.rox_grammar.specs.RunParts.{Parts}
 use Rattle.rox_grammar.specs.Document.{Misc, no_misc, space, an_item, ParseOf, IsTreeOf}
 use Rattle.rox_grammar.specs.Entities.{no_entities}
@@ -41,8 +40,7 @@ MarkedNode src (tree.Comment start end text) = Unit {0}
 MarkedNode src (tree.PI start end target value) = Unit {0}
 
 ends_marked : (src : List ℕ) (i j : ℕ) (closes : Bool) → TagEnds src i closes j → byte src (j - 1) ≡ 62
-ends_marked src i j closes (opened _ greater) = let e : (spaces_end src i + 1) - 1 ≡ spaces_end src i = omega arith in rw e greater
-ends_marked src i j closes (closed _ slash greater) = let e : (spaces_end src i + 2) - 1 ≡ spaces_end src i + 1 = omega arith in rw e greater
+ends_marked src i j closes h = grind arith
 
 tag_marked : (src : List ℕ) (i j b c : ℕ) (closes : Bool) (t : Tag) → IsTag true no_entities src i j b c closes t → (byte src i ≡ 60) × (byte src (j - 1) ≡ 62)
 tag_marked src i j b c closes _ (start_tag n last name written begin is_name list end) = (begin, ends_marked src last j closes end)
@@ -52,16 +50,10 @@ end_marked : (src : List ℕ) (k j : ℕ) → byte src k ≡ 62 → j ≡ k + 1 
 end_marked src k j closes next = let e : j - 1 ≡ k = omega arith in rw e closes
 
 misc_marked : (src : List ℕ) (i j : ℕ) (item : Item) → IsMisc src i j item → MarkedItem src item
-misc_marked src i j item (comment _ e _ is) = tt
-misc_marked src i j item (instruction _ n e _ is) = tt
-
-piece_marked : (src : List ℕ) (start stop : ℕ) (borrowed : Bool) (ss : List DataByte) → EachNode (MarkedItem src) (piece start stop borrowed ss)
-piece_marked src start stop borrowed [] = tt
-piece_marked src start stop borrowed (s ∷ ss) = (tt, tt, tt)
+misc_marked src i j item h = grind arith
 
 parts_marked : (src : List ℕ) (start stop i b c : ℕ) (items : Forest Item) → Parts true no_entities src start stop i b c items → EachNode (MarkedItem src) items
-parts_marked src start stop i b c items (last_part _ _ ss part) = piece_marked src start stop _ ss
-parts_marked src start stop i b c items (then_entity _ p j _ d _ _ ss inner more part (entity_reference n reference unknown) opens rest) = absurd opens
+parts_marked src start stop i b c items h = grind arith
 
 mutual
   content_marked : (src : List ℕ) (i j b c : ℕ) (items : Forest Item) → Content true no_entities src i j b c items → EachNode (MarkedItem src) items
@@ -102,10 +94,7 @@ parse_marked src tops q =
     subst (λ (f : Forest Item). EachNode (MarkedItem src) f) (sym p.is_tree) all
 
 node_marked : (src : List ℕ) (scope : List NamespaceDecl) (item : Item) → MarkedItem src item → MarkedNode src (node_in scope item)
-node_marked src scope (Text a e v b) h = tt
-node_marked src scope (Element a e t) h = h
-node_marked src scope (Comment a e t) h = tt
-node_marked src scope (PI a e t o) h = tt
+node_marked src scope item h = grind arith
 
 marked : (src : List ℕ) (limit : ℕ) (f : Forest Node) → IsTreeOf src false [] limit f → (id : ℕ) → MarkedNode src (node_at f id)
 marked src limit f is id =

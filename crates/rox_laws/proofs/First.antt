@@ -1,5 +1,5 @@
 -- The range of an empty text is that of its first piece.
-use Rattle.std.proofs.Common.{◌≡◌, ℕ, Bool, List, [], length, sym, subst}
+use Rattle.std.proofs.Common.{◌≡◌, ℕ, Bool, List, [], length, sym, subst, arith}
 use Rattle.rox_grammar.specs.Forest.{Forest, Nil, Cons}
 use Rattle.rox_grammar.specs.Written.{NamespaceDecl, Item, Element, Text, Comment, PI, glue, merge}
 use Rattle.rox_grammar.specs.Tree.{node_in, document_tree}
@@ -22,11 +22,7 @@ module _ (text : List ℕ) (es : List Entity) where
 
   -- a text in front
   glue_begins : (a e : ℕ) (v : List ℕ) (b : Bool) (c f : Forest Item) → Begins (Text a e v b) → EachNode Begins c → EachNode Begins f → EachNode Begins (glue (Text a e v b) c f)
-  glue_begins a e v b c Nil own h k = (own, h, tt)
-  glue_begins a e v b c (Cons (Text x y w p) d r) own h k = (λ none. own (both_empty v w none).0, each_join Begins c d h k.1, k.2)
-  glue_begins a e v b c (Cons (Element x y t) d r) own h k = (own, h, k)
-  glue_begins a e v b c (Cons (Comment x y t) d r) own h k = (own, h, k)
-  glue_begins a e v b c (Cons (PI x y t o) d r) own h k = (own, h, k)
+  glue_begins a e v b c f own h k = grind (arith, both_empty, each_join)
 
   merge_begins : (f : Forest Item) → EachNode Begins f → EachNode Begins (merge f)
   merge_begins Nil h = tt
@@ -36,10 +32,7 @@ module _ (text : List ℕ) (es : List Entity) where
   merge_begins (Cons (PI a e t o) c r) h = (h.0, h.1, merge_begins r h.2)
 
   piece_begins : (source : List ℕ) (item : Item) → IsSourceIn text es source → IsSectionIfEmpty source item → Begins item
-  piece_begins source (Text a e v b) known section = λ none. (source, known, section none)
-  piece_begins source (Element a e t) known section = tt
-  piece_begins source (Comment a e t) known section = tt
-  piece_begins source (PI a e t o) known section = tt
+  piece_begins source item known section = grind arith
 
   pieces_begin : (f : Forest Piece) → EmptyAreSections text es f → EachNode Begins (merged f)
   pieces_begin Nil h = tt

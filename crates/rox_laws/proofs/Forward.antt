@@ -1,33 +1,20 @@
 -- Each construct ends behind the place where it begins.
 use Rattle.std.proofs.Common.{ℕ, ◌+◌, ◌<◌, ◌≤◌, Bool, true, List, arith}
 use Rattle.rox_grammar.specs.declared.fault.Word.TheVariants as word
-use Rattle.rox_grammar.specs.FixedTexts.{word_text, double_dash}
-use Rattle.rox_grammar.specs.Chars.{is_space, is_name_char}
+use Rattle.rox_grammar.specs.FixedTexts.{word_text}
+use Rattle.rox_grammar.specs.Chars.{is_space}
 use Rattle.rox_grammar.specs.Written.{Name, Attribute, Tag, Item}
-use Rattle.rox_grammar.specs.Names.{spaces_end}
 use Rattle.rox_grammar.specs.Constructs.{IsCData, IsEnd}
-use Rattle.rox_grammar.specs.Content.{IsAttribute, attribute, Attributes, no_more, one_more, TagEnds, opened, closed, IsTag, IsMisc, comment, instruction, start_tag}
+use Rattle.rox_grammar.specs.Content.{IsAttribute, attribute, Attributes, no_more, one_more, TagEnds, IsTag, IsMisc, start_tag}
 use Rattle.rox_grammar.specs.Entities.{no_entities}
-use Rattle.rox_theory.proofs.Productions.{comment_parts, pi_parts, cdata_parts, end_parts}
+use Rattle.rox_theory.proofs.Productions.{cdata_parts, end_parts}
 use Rattle.rox_theory.proofs.Basics.{mark_from_le, run_end_le}
 use Rattle.rox_theory.proofs.NameLemmas.{qname_le}
-use Rattle.rox_theory.proofs.LiteralLemmas.{literal_le}
 use Rattle.rox_grammar.specs.Content.{attribute}
 
 -- a comment or an instruction
 pub misc_forward : (src : List ℕ) (i j : ℕ) (item : Item) → IsMisc src i j item → i < j
-misc_forward src i j item (comment _ e _ is) =
-    omega (arith, (comment_parts is).dashes, (comment_parts is).next, mark_from_le double_dash src (i + 4))
-misc_forward src i j item (instruction _ n e _ is) =
-    omega (
-      arith,
-      (pi_parts is).target.longest,
-      (pi_parts is).end,
-      (pi_parts is).next,
-      run_end_le is_name_char src (i + 2),
-      run_end_le is_space src n,
-      mark_from_le (word_text word.PIEnd) src (spaces_end src n),
-    )
+misc_forward src i j item h = grind (arith, run_end_le)
 
 -- a section
 pub cdata_forward : (src : List ℕ) (i e j : ℕ) → IsCData src i e j → i < j
@@ -39,19 +26,15 @@ end_forward src i name n j is = omega (arith, (end_parts is).next, qname_le src 
 
 -- an attribute, and attributes in a row
 pub attribute_forward : (src : List ℕ) (i j b c : ℕ) (a : Attribute) → IsAttribute true no_entities src i j b c a → i < j
-attribute_forward src i j b c a (attribute n v e name value (is_name, eq, literal) read) =
-    omega (arith, qname_le src i name n is_name, eq.1, run_end_le is_space src n, run_end_le is_space src (spaces_end src n + 1), literal_le src v e j literal, literal.0.3)
+attribute_forward src i j b c a (attribute n v e name value (is_name, eq, literal) read) = grind (arith, qname_le, run_end_le)
 
 pub attributes_forward : (src : List ℕ) (i j b c : ℕ) (as' : List Attribute) → Attributes true no_entities src i j b c as' → i ≤ j
 attributes_forward src i j b c as' (no_more _ _) = omega arith
-attributes_forward src i j b c as' (one_more _ k _ _ d _ a rest some first more) =
-    omega (arith, attribute_forward src (spaces_end src i) k b d a first, attributes_forward src k j d c rest more)
+attributes_forward src i j b c as' (one_more _ k _ _ d _ a rest some first more) = grind (arith, attributes_forward src k j d c rest more, attribute_forward)
 
 pub ends_forward : (src : List ℕ) (i j : ℕ) (empty : Bool) → TagEnds src i empty j → i < j
-ends_forward src i j empty (opened _ greater) = omega (arith, run_end_le is_space src i)
-ends_forward src i j empty (closed _ slash greater) = omega (arith, run_end_le is_space src i)
+ends_forward src i j empty h = grind (arith, run_end_le)
 
 -- a start tag
 pub tag_forward : (src : List ℕ) (i j b c : ℕ) (empty : Bool) (t : Tag) → IsTag true no_entities src i j b c empty t → i < j
-tag_forward src i j b c empty _ (start_tag n last name written begin is_name list end) =
-    omega (arith, qname_le src (i + 1) name n is_name, attributes_forward src n last b c written list, ends_forward src last j empty end)
+tag_forward src i j b c empty _ (start_tag n last name written begin is_name list end) = grind (arith, qname_le, attributes_forward, ends_forward)

@@ -1,7 +1,6 @@
 -- Where the source of a fault lies.
-use Rattle.std.proofs.Common.{◌≡◌, ℕ, ◌+◌, Bool, true, List, [], ◌∷◌, ◌++◌, take, drop, Option, Some, None, refl, sym, ap, subst, inl, inr, arith}
-use Rattle.std.specs.Prelude.{◌⊎◌, Contains, bytes_eq}
-use Rattle.std.proofs.lemmas.Bool.{cases_Bool}
+use Rattle.std.proofs.Common.{◌≡◌, ℕ, ◌+◌, Bool, true, List, [], ◌∷◌, ◌++◌, drop, Option, Some, refl, sym, ap, subst, inl, inr, arith}
+use Rattle.std.specs.Prelude.{◌⊎◌, Contains}
 use Rattle.std.proofs.lemmas.List.Elements.{Contains-append_left, Contains-append_right}
 use Rattle.rox_grammar.specs.declared.fault.Fault.{Fault}
 use Rattle.rox_grammar.specs.Forest.{Forest}
@@ -20,7 +19,6 @@ use Rattle.rox_grammar.specs.Faults as faults
 use Rattle.rox_grammar.specs.FaultsWithDoctype.{InDoctype, RefusalOf}
 use Rattle.rox_grammar.specs.FaultsWithDoctype as refused
 use Rattle.rox_laws.specs.Sources.{IsLiteralIn, IsAnswerIn}
-use Rattle.rox_theory.specs.ParseParts as parts_of
 use Rattle.rox_theory.proofs.DoctypeParts.{declaration_parts}
 use Rattle.rox_theory.proofs.ParseParts.{prolog_parts}
 
@@ -31,8 +29,7 @@ Lies text asked source = IsLiteralIn text source ⊎ IsAnswerIn asked source
 
 -- also where more was asked
 lies_among : (text : List ℕ) (asked all : List Asked) (source : List ℕ) → ((x : Asked) → Contains asked x → Contains all x) → Lies text asked source → Lies text all source
-lies_among text asked all source among (inl l) = inl l
-lies_among text asked all source among (inr a) = inr (record { request = a.request; answer = a.answer; given = among _ a.given; part = a.part })
+lies_among text asked all source among k = grind arith
 
 given_lies : (text : List ℕ) (request : Request) (answer : Option (List ℕ)) (o : Option Replacement) (t : Replacement) → GivesReplacement answer o → o ≡ Some t → Lies text (record { request = request; answer = answer } ∷ []) t.source
 given_lies text request answer o t doctype.GivesReplacement.nothing is = cc is
@@ -41,19 +38,12 @@ given_lies text request answer o t (doctype.GivesReplacement.the_rest told d utf
     inr (record { request = request; answer = told; given = (0, omega arith, refl); part = inr (d, may, ap (λ (r : Replacement). r.source) (sym same)) })
 
 definition_lies : (text : List ℕ) (parameter : Bool) (i j : ℕ) (asked : List Asked) (o : Option Replacement) (t : Replacement) → IsDefinition text parameter i j asked o → o ≡ Some t → Lies text asked t.source
-definition_lies text parameter i j asked o t (doctype.IsDefinition.internal _ e _ quoted) is =
-    let same : ◌≡◌ {A = Replacement} (record { source = take e text; start = i + 1 }) t = cc is in
-    inl (record { start = i; end = e; next = j; quoted = quoted; cut_off = ap (λ (r : Replacement). r.source) (sym same) })
+definition_lies text parameter i j asked o t (doctype.IsDefinition.internal _ e _ quoted) is = grind arith
 definition_lies text parameter i j asked o t (doctype.IsDefinition.external _ n _ request answer _ id behind gives) is = given_lies text request answer o t gives is
 
 -- the text of a name is that of the first declaration, or of one behind it
 of_first : (own : List ℕ) (o : Option Replacement) (es : List Entity) (name : List ℕ) (t : Replacement) → text_of (entry own o ++ es) name ≡ Some t → (o ≡ Some t) ⊎ (text_of es name ≡ Some t)
-of_first own None es name t found = inr found
-of_first own (Some one) es name t found =
-    elim (cases_Bool (bytes_eq own name)) as (λ q. (Some one ≡ Some t) ⊎ (text_of es name ≡ Some t)) [
-      | inl same ↦ inl (rw same at found)
-      | inr other ↦ inr (rw other at found)
-    ]
+of_first own o es name t found = grind arith
 
 subset_lies : (text : List ℕ) (i j : ℕ) (items : Forest Item) (asked : List Asked) (es : List Entity) → Subset text i j items asked es → (name : List ℕ) (t : Replacement) → text_of es name ≡ Some t → Lies text asked t.source
 subset_lies text i j items asked es (doctype.Subset.no_more _) name t found = cc found
@@ -69,12 +59,10 @@ subset_lies text i j items asked es (doctype.Subset.an_entity _ k _ _ first late
     ]
 
 itself_lies : (text : List ℕ) (i j : ℕ) (items : Forest Item) (asked : List Asked) (es : List Entity) → IsDoctype text i j items asked es → (name : List ℕ) (t : Replacement) → text_of es name ≡ Some t → Lies text asked t.source
-itself_lies text i j items asked es (doctype.IsDoctype.no_subset _ s begins closes) name t found = cc found
-itself_lies text i j items asked es (doctype.IsDoctype.with_subset _ s k _ _ _ begins opens subset ends closes) name t found = subset_lies text (s + 1) k items asked es subset name t found
+itself_lies text i j items asked es h name t found = grind (arith, subset_lies)
 
 doctype_lies : (text : List ℕ) (i j : ℕ) (dtd : Bool) (items : Forest Item) (asked : List Asked) (es : List Entity) → MayHaveDoctype text i j dtd items asked es → (name : List ℕ) (t : Replacement) → text_of es name ≡ Some t → Lies text asked t.source
-doctype_lies text i j dtd items asked es (parts_of.MayHaveDoctype.doctype _ k _ own rest _ _ one behind) name t found = itself_lies text i k own asked es one name t found
-doctype_lies text i j dtd items asked es (parts_of.MayHaveDoctype.no_doctype _) name t found = cc found
+doctype_lies text i j dtd items asked es h name t found = grind (arith, itself_lies)
 
 -- ---- of a fault
 
@@ -94,8 +82,7 @@ module _ (opens : ℕ → Inclusion) (es : List Entity) (text : List ℕ) where
   place_root Root k open_around b src s (places.ContentPoint.enters i at l r from u run before inner named may) = place_root Root i at l from u before
 
   part_of : (k : ℕ) (src : List ℕ) (start end b l : ℕ) (part : List ℕ) (i stop d : ℕ) → IsOf text es src → ValuePart opens es k src start end b l part i stop d → IsOf text es part
-  part_of k src start end b l part i stop d of places.ValuePart.itself = of
-  part_of k src start end b l part i stop d of (places.ValuePart.opened n x y z c r p j from front t before to below refers may) = inr (_, t, refers.2, refl)
+  part_of k src start end b l part i stop d of p = grind arith
 
   from_of : (limit : ℕ) (declared : Bool) (PrologAt : ℕ → Forest Item → Type 0) (source : List ℕ) (f : Fault) → FaultFrom opens es limit text declared PrologAt source f
       → (source ≡ text) ⊎ (((p : ℕ) × (items : Forest Item) × PrologAt p items) × IsOf text es source)
@@ -103,12 +90,8 @@ module _ (opens : ℕ → Inclusion) (es : List Entity) (text : List ℕ) where
   from_of limit declared PrologAt source f (faults.FaultFrom.misc_around p items _ (inl front) fits (faults.InMiscs.one_too_many j item is over)) = inl refl
   from_of limit declared PrologAt source f (faults.FaultFrom.no_root items front fits) = inl refl
   from_of limit declared PrologAt source f (faults.FaultFrom.unknown_ahead p items front fits inside no_space no_less) = inl refl
-  from_of limit declared PrologAt source f (faults.FaultFrom.at_point k open_around b _ s _ _ place fits (faults.AtPoint.at_place _ ill)) =
-      let root = place_root _ k open_around b source s place in
-      inr ((root.0, root.1, root.2.0), place_of _ k open_around b source s place)
-  from_of limit declared PrologAt source f (faults.FaultFrom.at_point k open_around b src s _ _ place fits (faults.AtPoint.in_value next l i stop d _ _ opens' part ill)) =
-      let root = place_root _ k open_around b src s place in
-      inr ((root.0, root.1, root.2.0), part_of k src (next.pair.first_quote + 1) next.pair.last_quote next.openings_left l source i stop d (place_of _ k open_around b src s place) part)
+  from_of limit declared PrologAt source f (faults.FaultFrom.at_point k open_around b _ s _ _ place fits (faults.AtPoint.at_place _ ill)) = grind (arith, place_root, place_of)
+  from_of limit declared PrologAt source f (faults.FaultFrom.at_point k open_around b src s _ _ place fits (faults.AtPoint.in_value next l i stop d _ _ opens' part ill)) = grind (arith, place_root, part_of, place_of)
   from_of limit declared PrologAt source f (faults.FaultFrom.misc_around p items _ (inr behind) fits (faults.InMiscs.in_one _ ill)) = inl refl
   from_of limit declared PrologAt source f (faults.FaultFrom.misc_around p items _ (inr behind) fits (faults.InMiscs.one_too_many j item is over)) = inl refl
   from_of limit declared PrologAt source f (faults.FaultFrom.unknown_behind p items behind fits inside no_space no_comment no_instruction) = inl refl
@@ -133,11 +116,7 @@ pub source_lies : (limit : ℕ) (allow : Bool) (text : List ℕ) (asked : List A
 source_lies limit allow text asked source f (refused.RefusalOf.in_declaration _ opens lacks) = inl refl
 source_lies limit allow text asked source f (refused.RefusalOf.without _ from) = inl refl
 source_lies limit allow text asked source f (refused.RefusalOf.not_allowed i before forbids ahead fits opens) = inl refl
-source_lies limit allow text asked source f (refused.RefusalOf.in_doctype i before _ _ _ may ahead fits opens inside) =
-    elim (in_doctype limit text i before asked source f inside) as (λ q. (source ≡ text) ⊎ (IsLiteralIn text source ⊎ IsAnswerIn asked source)) [
-      | inl own ↦ inl own
-      | inr answered ↦ inr (inr answered)
-    ]
+source_lies limit allow text asked source f (refused.RefusalOf.in_doctype i before _ _ _ may ahead fits opens inside) = grind (arith, in_doctype)
 source_lies limit allow text asked source f (refused.RefusalOf.behind _ es _ _ may from) =
     elim (from_of _ es text limit true _ source f from) as (λ q. (source ≡ text) ⊎ (IsLiteralIn text source ⊎ IsAnswerIn asked source)) [
       | inl own ↦ inl own

@@ -3,9 +3,10 @@ use Rattle.std.proofs.Common.{◌≡◌, ◌≢◌, ◌↔◌, ℕ, suc, ◌+◌
 use Rattle.std.specs.List.{All, Contains}
 use Rattle.std.proofs.lemmas.Bool.{cases_lt, cases_eq}
 use Rattle.std.proofs.lemmas.List.{get_or_append_left, get_or-append-add, get_or_past, length-append}
-use Rattle.std.proofs.lemmas.List.Elements.{All-nil, All-cons, All-head, All-tail, All-append, All-get_or}
+use Rattle.std.proofs.lemmas.List.Elements.{All-nil, All-cons, All-head, All-tail}
+use Rattle.std.proofs.lemmas.Grind.{common_steps}
 use Rattle.rox_grammar.specs.Forest.{Forest, Nil, Cons, size}
-use Rattle.rox_grammar.specs.Written.{NamespaceDecl, Item, Element, Text, Comment, PI}
+use Rattle.rox_grammar.specs.Written.{NamespaceDecl, Item}
 use Rattle.rox_grammar.specs.Tree as tree
 use Rattle.rox_grammar.specs.Tree.{Node, is_declared, uri_of, scope_in, node_in, resolved, document_tree}
 use Rattle.rox_grammar.specs.WellNamed.{AreWellNamed}
@@ -59,22 +60,16 @@ have_rows rows b (Cons item c r) h =
 -- each of them may be declared
 rows_declarable : (above : List NamespaceDecl) (f : Forest Item) → AreWellNamed above f → All (DeclarableBehind []) (declared_in f)
 rows_declarable above Nil h = All-nil (DeclarableBehind [])
-rows_declarable above (Cons item c r) h =
-    All-cons (DeclarableBehind []) (declared_at item) (declared_in c ++ declared_in r) (item_declares (scope_in above item) item h.0)
-    (All-append (DeclarableBehind []) (declared_in c) (declared_in r) (rows_declarable (scope_in above item) c h.1) (rows_declarable above r h.2))
+rows_declarable above (Cons item c r) h = grind (arith, common_steps, rows_declarable (scope_in above item) c h.1, rows_declarable above r h.2, item_declares)
 
 row_declarable : (rows : List (List NamespaceDecl)) → All (DeclarableBehind []) rows → (id : ℕ) → DeclarableBehind [] (row rows id)
-row_declarable rows h id =
-    ⊎_elim (λ inside. All-get_or (DeclarableBehind []) rows id [] inside h) (λ past. rw (get_or_past rows id [] past) tt) (cases_lt id (length rows))
+row_declarable rows h id = grind (arith, get_or_past)
 
 -- ---- each element
 
 -- an element lists its scope, and other nodes list nothing
 lists : (scope : List NamespaceDecl) (item : Item) → is_element_node (node_in scope item) ≡ true → listed_of (node_in scope item) ≡ scope
-lists scope (Element start end tag) e = refl
-lists scope (Text start end value borrowed) e = cc e
-lists scope (Comment start end text) e = cc e
-lists scope (PI start end target value) e = cc e
+lists scope item e = grind arith
 
 -- if an element stands at this id, it lists what the rows say upwards from it
 abbrev Follows : List (List NamespaceDecl) → Place → ℕ → Type 0
@@ -182,8 +177,7 @@ found_in n tops w id p u e x =
     let rows = [] ∷ declared_in tops in
     let all : All (DeclarableBehind []) rows = All-cons (DeclarableBehind []) [] (declared_in tops) tt (rows_declarable [] tops w) in
     let agree = follows n tops id e p x in (
-      (λ found. let h = first_found rows p u (upwards tree id) (sym agree ∙ found) in
-          record { nearer = h.nearer; declarer = h.declarer; farther = h.farther; way = h.way; none_nearer = h.none_nearer; declares = h.declares }),
+      (λ found. grind (arith, first_found rows p u (upwards tree id) (sym agree ∙ found))),
       (λ h. agree ∙ (ap (λ (ids : List ℕ). nearest p (map (row rows) ids)) h.way ∙ first_is rows p all u h.nearer h.declarer h.farther h.none_nearer h.declares)),
     )
 
@@ -198,10 +192,7 @@ none_in n tops id p e x =
 
 -- with the names resolved a node lists `xml` no more than its scope has it
 node_no_xml : (scope : List NamespaceDecl) (item : Item) → HasNoXml scope → HasNoXml (listed_of (node_in scope item))
-node_no_xml scope (Element start end tag) h = h
-node_no_xml scope (Text start end value borrowed) h = refl
-node_no_xml scope (Comment start end text) h = refl
-node_no_xml scope (PI start end target value) h = refl
+node_no_xml scope item h = grind arith
 
 all_no_xml : (above : List NamespaceDecl) (f : Forest Item) → HasNoXml above → EachNode (λ node. HasNoXml (listed_of node)) (resolved above f)
 all_no_xml above Nil h = tt
@@ -216,11 +207,7 @@ xml_in n tops id =
 
 -- a node that is no element lists nothing
 listed_by_none : (node : Node) (p : Option (List ℕ)) → (is_element_node node ≡ true → ⊥) → uri_of (listed_of node) p ≡ None
-listed_by_none (tree.Root end) p h = refl
-listed_by_none (tree.Element start end namespace local listed attributes) p h = absurd (h refl)
-listed_by_none (tree.Text start end value borrowed) p h = refl
-listed_by_none (tree.Comment start end text) p h = refl
-listed_by_none (tree.PI start end target value) p h = refl
+listed_by_none node p h = grind arith
 
 -- ---- the tree of a document, however it is given
 
@@ -230,8 +217,7 @@ module _ (src : List ℕ) (tops : Forest Item) (tree : Forest Node) (shown : tre
       subst (λ (t : Forest Node). IsElementAt t id → p ≢ xml → (listed_uri t id p ≡ Some u) ↔ IsNearest tops t id p u) (sym shown) (found_in (length src) tops (well_named parse) id p u)
 
   pub none_is_declared : (id : ℕ) (p : Option (List ℕ)) → IsElementAt tree id → p ≢ xml → (listed_uri tree id p ≡ None) ↔ NoneDeclares tops p (upwards tree id)
-  none_is_declared id p =
-      subst (λ (t : Forest Node). IsElementAt t id → p ≢ xml → (listed_uri t id p ≡ None) ↔ NoneDeclares tops p (upwards t id)) (sym shown) (none_in (length src) tops id p)
+  none_is_declared id p = grind (arith, none_in)
 
   pub xml_is_never_listed : (id : ℕ) → listed_uri tree id xml ≡ None
   xml_is_never_listed id = subst (λ (t : Forest Node). listed_uri t id xml ≡ None) (sym shown) (xml_in (length src) tops id)

@@ -1,15 +1,13 @@
 -- The ranges of a document's nodes are nested and in order.
-use Rattle.std.proofs.Common.{◌≡◌, ℕ, ◌+◌, ◌<◌, ◌≤◌, Bool, true, false, List, [], ◌∷◌, length, refl, sym, subst, arith}
+use Rattle.std.proofs.Common.{◌≡◌, ℕ, ◌+◌, ◌<◌, ◌≤◌, Bool, true, false, List, [], length, refl, sym, subst, arith}
 use Rattle.rox_grammar.specs.Forest.{Forest, Nil, Cons, join}
 use Rattle.rox_grammar.specs.Written.{NamespaceDecl, Item, Element, Text, Comment, PI, glue, merge}
 use Rattle.rox_grammar.specs.Tree.{Node, scope_in, resolved}
-use Rattle.rox_grammar.specs.References.{entity_reference}
-use Rattle.rox_grammar.specs.Content.{DataByte, piece, last_part, then_entity, IsMisc, comment, instruction, IsElement, empty, nest, Content, ends, run, cdata, misc, node}
+use Rattle.rox_grammar.specs.Content.{IsMisc, IsElement, empty, nest, Content, ends, run, cdata, misc, node}
 use Rattle.rox_grammar.specs.RunParts.{Parts}
 use Rattle.rox_grammar.specs.Document.{Misc, no_misc, space, an_item, ParseOf, IsTreeOf}
 use Rattle.rox_theory.proofs.Productions.{char_data_parts}
 use Rattle.rox_theory.proofs.Without.{parse_without}
-use Rattle.rox_theory.proofs.ParseParts.{tree_parts}
 use Rattle.rox_grammar.specs.Entities.{no_entities}
 use Rattle.rox_reading.proofs.Forests.{join-nil}
 use Rattle.rox_laws.specs.RangeLaws.{RangesNested}
@@ -53,12 +51,7 @@ to_after from to k f le h = subst (λ (f : Forest Item). Nested from k f) (join-
 
 -- a text in front, which takes in one that it touches, keeps its own range
 glue_nested : (from a e to : ℕ) (v : List ℕ) (b : Bool) (c f : Forest Item) → from ≤ a → a < e → c ≡ Nil → Nested e to f → Nested from to (glue (Text a e v b) c f)
-glue_nested from a e to v b c Nil before some n h = (before, some, n, h)
-glue_nested from a e to v b c (Cons (Text x y w p) d r) before some n h =
-    (before, some, subst (λ (c : Forest Item). join c d ≡ Nil) (sym n) h.2, from_before e y to r (omega (arith, h.0, h.1)) h.3)
-glue_nested from a e to v b c (Cons (Element x y t) d r) before some n h = (before, some, n, h)
-glue_nested from a e to v b c (Cons (Comment x y t) d r) before some n h = (before, some, n, h)
-glue_nested from a e to v b c (Cons (PI x y t o) d r) before some n h = (before, some, n, h)
+glue_nested from a e to v b c f before some n h = grind (arith, from_before)
 
 merge_nested : (from to : ℕ) (f : Forest Item) → Nested from to f → Nested from to (merge f)
 merge_nested from to Nil h = h
@@ -67,22 +60,13 @@ merge_nested from to (Cons (Element a e t) c r) h = (h.0, h.1, h.2, merge_nested
 merge_nested from to (Cons (Comment a e t) c r) h = (h.0, h.1, h.2, merge_nested e to r h.3)
 merge_nested from to (Cons (PI a e t o) c r) h = (h.0, h.1, h.2, merge_nested e to r h.3)
 
--- a run is one text, or none
-piece_nested : (start stop : ℕ) (borrowed : Bool) (ss : List DataByte) → start < stop → Nested start stop (piece start stop borrowed ss)
-piece_nested start stop borrowed [] some = omega arith
-piece_nested start stop borrowed (s ∷ ss) some = (omega arith, some, refl, omega arith)
-
 parts_nested : (src : List ℕ) (start stop i b c : ℕ) (items : Forest Item) → start < stop → Parts true no_entities src start stop i b c items
     → Nested start stop items
-parts_nested src start stop i b c items some (last_part _ _ ss part) = piece_nested start stop _ ss some
-parts_nested src start stop i b c items some (then_entity _ p j _ d _ _ ss inner more part (entity_reference n reference unknown) opens rest) = absurd opens
+parts_nested src start stop i b c items some k = grind arith
 
 -- a comment or an instruction in front
 misc_nested : (src : List ℕ) (i j to : ℕ) (item : Item) (more : Forest Item) → IsMisc src i j item → Nested j to more → Nested i to (Cons item Nil more)
-misc_nested src i j to item more (comment _ e _ is) h =
-    let some = misc_forward src i j item (comment i e j is) in (omega arith, some, omega (arith, some), h)
-misc_nested src i j to item more (instruction _ n e _ is) h =
-    let some = misc_forward src i j item (instruction i n e j is) in (omega arith, some, omega (arith, some), h)
+misc_nested src i j to item more h k = grind (arith, misc_forward)
 
 mutual
   content_nested : (src : List ℕ) (i j b c : ℕ) (items : Forest Item) → Content true no_entities src i j b c items → Nested i j items
@@ -140,19 +124,11 @@ parse_some src tops q =
 -- names resolved move nothing
 resolved_nested : (above : List NamespaceDecl) (from to : ℕ) (f : Forest Item) → Nested from to f → RangesNested from to (resolved above f)
 resolved_nested above from to Nil h = h
-resolved_nested above from to (Cons (Text a e v b) c r) h =
-    (h.0, h.1, below (omega (arith, h.1)) h.2, resolved_nested above e to r h.3)
-  where
-    below : a ≤ e → c ≡ Nil → RangesNested a e (resolved above c)
-    below le n = subst (λ (c : Forest Item). RangesNested a e (resolved above c)) (sym n) le
-resolved_nested above from to (Cons (Element a e t) c r) h =
-    (h.0, h.1, resolved_nested (scope_in above (Element a e t)) a e c h.2, resolved_nested above e to r h.3)
+resolved_nested above from to (Cons (Text a e v b) c r) h = grind (arith, resolved_nested above e to r h.3)
+resolved_nested above from to (Cons (Element a e t) c r) h = grind (arith, resolved_nested (scope_in above (Element a e t)) a e c h.2, resolved_nested above e to r h.3)
 resolved_nested above from to (Cons (Comment a e t) c r) h = (h.0, h.1, resolved_nested above a e c h.2, resolved_nested above e to r h.3)
 resolved_nested above from to (Cons (PI a e t o) c r) h = (h.0, h.1, resolved_nested above a e c h.2, resolved_nested above e to r h.3)
 
 -- in a document
 pub ranges_nested : (src : List ℕ) (limit : ℕ) (tree : Forest Node) → IsTreeOf src false [] limit tree → RangesNested 0 (length src) tree
-ranges_nested src limit tree is =
-    let h = tree_parts is in
-    let tops = resolved_nested [] 0 (length src) h.written (parse_nested src h.written h.parse) in
-    subst (λ (f : Forest Node). RangesNested 0 (length src) f) (sym h.shown) (omega arith, parse_some src h.written h.parse, tops, omega arith)
+ranges_nested src limit tree is = grind (arith, resolved_nested, parse_nested, parse_some)

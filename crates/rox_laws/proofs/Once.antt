@@ -1,5 +1,5 @@
 -- No node of a document lists a prefix twice or has two attributes of one expanded name.
-use Rattle.std.proofs.Common.{◌≡◌, ℕ, ◌||◌, Bool, true, false, not, List, [], ◌∷◌, ◌++◌, Option, Some, filter, map, refl, sym, ap, ◌∙◌, subst, append_assoc}
+use Rattle.std.proofs.Common.{◌≡◌, ℕ, ◌||◌, Bool, true, false, not, List, [], ◌∷◌, ◌++◌, Option, Some, filter, map, refl, sym, ap, ◌∙◌, subst, append_assoc, arith}
 use Rattle.std.specs.List.{list_any, list_all, IsDistinct}
 use Rattle.std.proofs.lemmas.List.{append-nil, map-append}
 use Rattle.std.proofs.lemmas.List.Folds.{list_any-append}
@@ -77,20 +77,12 @@ some_once : (own : List NamespaceDecl) (q : NamespaceDecl → Bool) (b front ds 
     → ((p : Option (List ℕ)) → is_declared p own ≡ false → is_declared p b ≡ false → is_declared p front ≡ false)
     → ((d : NamespaceDecl) → q d ≡ true → is_declared d.prefix own ≡ false) → PrefixesOnce b ds → PrefixesOnce front (filter q ds)
 some_once own q b front [] w k h = tt
-some_once own q b front (d ∷ ds) w k (n, h) =
-    by_test (q d) refl
-    (some_once own q (b ++ d ∷ []) (front ++ d ∷ []) ds (λ p o m. both p front d (w p o (split p b d m).0) (split p b d m).1) k h)
-    (some_once own q (b ++ d ∷ []) front ds (λ p o m. w p o (split p b d m).0) k h)
-  where
-    by_test : (x : Bool) → q d ≡ x → PrefixesOnce (front ++ d ∷ []) (filter q ds) → PrefixesOnce front (filter q ds) → PrefixesOnce front (filter q (d ∷ ds))
-    by_test true e more less = rw e (w d.prefix (k d e) n, more)
-    by_test false e more less = rw e less
+some_once own q b front (d ∷ ds) w k (n, h) = grind (arith, some_once own q (b ++ d ∷ []) (front ++ d ∷ []) ds (λ p o m. both p front d (w p o (split p b d m).0) (split p b d m).1) k h, some_once own q (b ++ d ∷ []) front ds (λ p o m. w p o (split p b d m).0) k h)
 
 -- one row behind another
 once_append : (b xs ys : List NamespaceDecl) → PrefixesOnce b xs → PrefixesOnce (b ++ xs) ys → PrefixesOnce b (xs ++ ys)
 once_append b [] ys h k = subst (λ (b : List NamespaceDecl). PrefixesOnce b ys) (append-nil b) k
-once_append b (x ∷ xs) ys (n, h) k =
-    (n, once_append (b ++ x ∷ []) xs ys h (subst (λ (b : List NamespaceDecl). PrefixesOnce b ys) (sym (append_assoc b (x ∷ []) xs)) k))
+once_append b (x ∷ xs) ys (n, h) k = grind (arith, once_append (b ++ x ∷ []) xs ys h (subst (λ (b : List NamespaceDecl). PrefixesOnce b ys) (sym (append_assoc b (x ∷ []) xs)) k))
 
 -- what a tag declares has each prefix once
 declares_once : (b ds : List NamespaceDecl) → DeclarableBehind b ds → PrefixesOnce b ds
@@ -116,10 +108,7 @@ any_map p f (x ∷ xs) = ap (λ (z : Bool). p (f x) || z) (any_map p f xs)
 names_once : (scope : List NamespaceDecl) (before as' : List written.Attribute) → DistinctBehind scope before as'
     → NamesOnce (map (attribute_in scope) before) (map (attribute_in scope) as')
 names_once scope before [] h = tt
-names_once scope before (a ∷ as') h = (
-  any_map (λ (e : Attribute). same_attribute_name e (attribute_in scope a)) (attribute_in scope) before ∙ h.1,
-  subst (λ (b : List Attribute). NamesOnce b (map (attribute_in scope) as')) (map-append (attribute_in scope) before (a ∷ [])) (names_once scope (before ++ a ∷ []) as' h.2),
-)
+names_once scope before (a ∷ as') h = grind (arith, names_once scope (before ++ a ∷ []) as' h.2, any_map, map-append)
 
 -- below an element that lists these
 resolved_distinct : (above : List NamespaceDecl) (f : Forest Item) → PrefixesOnce [] above → AreWellNamed above f → NamesDistinct (resolved above f)
@@ -127,11 +116,7 @@ resolved_distinct above Nil once h = tt
 resolved_distinct above (Cons (written.Element a e t) c r) once h =
     let scope = listed above t.declarations in
     let inner = listed_once above t.declarations once (declarable_behind t.declarations h.0.1) in
-    let attributes = names_once scope [] t.attributes (distinct_behind scope t.attributes h.0.2) in (
-      (once_distinct _ scope inner, once_distinct _ (map (attribute_in scope) t.attributes) attributes),
-      resolved_distinct scope c inner h.1,
-      resolved_distinct above r once h.2,
-    )
+    let attributes = names_once scope [] t.attributes (distinct_behind scope t.attributes h.0.2) in grind (arith, resolved_distinct scope c inner h.1, resolved_distinct above r once h.2, once_distinct)
 resolved_distinct above (Cons (written.Text a e v b) c r) once h = ((none_twice _, none_twice _), resolved_distinct above c once h.1, resolved_distinct above r once h.2)
 resolved_distinct above (Cons (written.Comment a e t) c r) once h = ((none_twice _, none_twice _), resolved_distinct above c once h.1, resolved_distinct above r once h.2)
 resolved_distinct above (Cons (written.PI a e t o) c r) once h = ((none_twice _, none_twice _), resolved_distinct above c once h.1, resolved_distinct above r once h.2)

@@ -1,8 +1,8 @@
 -- At most one attribute of an element has a name.
-use Rattle.std.proofs.Common.{◌≡◌, ℕ, zero, suc, ◌+◌, ◌≤◌, Bool, true, false, cond, List, [], ◌∷◌, ◌++◌, Option, Some, None, refl, sym, ap, ◌∙◌, bytes_eq, arith}
+use Rattle.std.proofs.Common.{◌≡◌, ℕ, zero, suc, ◌+◌, ◌≤◌, Bool, true, false, cond, List, [], ◌∷◌, ◌++◌, Option, Some, None, refl, sym, ap, ◌∙◌, arith}
 use Rattle.std.specs.List.{list_any, slice_get, count_by, IsDistinct}
-use Rattle.std.specs.Option.{option_eq, option_map, is_some, IfSome}
-use Rattle.std.proofs.lemmas.Bool.{and_parts, and_from, or_parts, or_from, false_from_ne_true, both_ways}
+use Rattle.std.specs.Option.{option_map, is_some, IfSome}
+use Rattle.std.proofs.lemmas.Bool.{or_parts, or_from, false_from_ne_true, both_ways}
 use Rattle.std.proofs.lemmas.List.Folds.{list_any-append}
 use Rattle.std.proofs.lemmas.List.Recursion.{is_count_by}
 use Rattle.std.proofs.lemmas.Slice.Eq.{bytes_eq-Decides}
@@ -12,27 +12,11 @@ use Rattle.roxmltree.specs.NodeParts.{node_at, listed_of, attributes_of}
 use Rattle.roxmltree.specs.ExpandedNames.{same_expanded_name, named, IsNamedAt}
 use Rattle.rox_laws.specs.TreeLaws.{same_attribute_name, NamesDistinct}
 use Rattle.rox_laws.proofs.Once.{NamesOnce, none_twice, distinct_once}
-use Rattle.rox_scopes.proofs.Pairs.{same_prefix-true, same_prefix-refl}
 use Rattle.roxmltree.proofs.Everywhere.{at_each}
-
--- two namespaces are the same where they are equal as options
-option_eq_same : (p q : Option (List ℕ)) → option_eq bytes_eq p q ≡ same_prefix p q
-option_eq_same None None = refl
-option_eq_same None (Some q) = refl
-option_eq_same (Some p) None = refl
-option_eq_same (Some p) (Some q) = refl
 
 -- two attributes of one name have one expanded name
 both_named : (name : Option (List ℕ) × List ℕ) (a b : Attribute) → same_expanded_name (a.namespace, a.local) name ≡ true → same_expanded_name (b.namespace, b.local) name ≡ true → same_attribute_name a b ≡ true
-both_named name a b h k =
-    let x = and_parts (bytes_eq a.local name.1) (option_eq bytes_eq a.namespace name.0) h in
-    let y = and_parts (bytes_eq b.local name.1) (option_eq bytes_eq b.namespace name.0) k in
-    let namespaces : a.namespace ≡ b.namespace =
-    same_prefix-true a.namespace name.0 (sym (option_eq_same a.namespace name.0) ∙ x.1) ∙ sym (same_prefix-true b.namespace name.0 (sym (option_eq_same b.namespace name.0) ∙ y.1)) in
-    let locals : a.local ≡ b.local = (bytes_eq-Decides a.local name.1).0 x.0 ∙ sym ((bytes_eq-Decides b.local name.1).0 y.0) in
-    and_from (same_prefix a.namespace b.namespace) (bytes_eq a.local b.local)
-    (ap (λ (p : Option (List ℕ)). same_prefix p b.namespace) namespaces ∙ same_prefix-refl b.namespace)
-    (ap (λ (l : List ℕ). bytes_eq l b.local) locals ∙ (bytes_eq-Decides b.local b.local).1 refl)
+both_named name a b h k = grind (arith, bytes_eq-Decides)
 
 -- whether an attribute has this name
 abbrev has : Option (List ℕ) × List ℕ → Attribute → Bool
@@ -49,16 +33,11 @@ none_weaker s t (x ∷ xs) k h =
 none_before : (name : Option (List ℕ) × List ℕ) (before as' : List Attribute) (i : ℕ) → NamesOnce before as' → IsNamedAt name as' i → list_any (has name) before ≡ false
 none_before name before [] i h n = absurd n
 none_before name before (a ∷ as') zero h n = none_weaker (λ e. same_attribute_name e a) (has name) before (λ e m. both_named name e a m n) h.0
-none_before name before (a ∷ as') (suc i) h n =
-    let k = none_before name (before ++ a ∷ []) as' i h.1 n in
-    (or_parts (list_any (has name) before) (list_any (has name) (a ∷ [])) (sym (list_any-append (has name) before (a ∷ [])) ∙ k)).0
+none_before name before (a ∷ as') (suc i) h n = grind (arith, none_before name (before ++ a ∷ []) as' i h.1 n, list_any-append)
 
 -- so one that has it is not followed by another
 not_after : (name : Option (List ℕ) × List ℕ) (before as' : List Attribute) (a : Attribute) (i : ℕ) → NamesOnce (before ++ a ∷ []) as' → has name a ≡ true → IsNamedAt name as' i → ⊥
-not_after name before as' a i h m n =
-    let k = none_before name (before ++ a ∷ []) as' i h n in
-    let l = (or_parts (list_any (has name) before) (list_any (has name) (a ∷ [])) (sym (list_any-append (has name) before (a ∷ [])) ∙ k)).1 in
-    both_ways (has name a) (or_parts (has name a) false l).0 m
+not_after name before as' a i h m n = grind (arith, none_before, list_any-append)
 
 -- and two that have it stand at one place
 one_place : (name : Option (List ℕ) × List ℕ) (before as' : List Attribute) (i j : ℕ) → NamesOnce before as' → IsNamedAt name as' i → IsNamedAt name as' j → i ≡ j
@@ -99,10 +78,7 @@ first_place name (a ∷ as') i m = by_test (has name a) refl i m (first_place na
 -- what is found is the only one
 pub only_named : (tree : Forest Node) → NamesDistinct tree → (id : ℕ) (name : Option (List ℕ) × List ℕ) (i : ℕ)
     → IsNamedAt name (attributes_of (node_at tree id)) i → slice_get (attributes_of (node_at tree id)) i ≡ named name (attributes_of (node_at tree id))
-only_named tree h id name i m =
-    let attributes = attributes_of (node_at tree id) in
-    let first = first_place name attributes i m in
-    ap (slice_get attributes) (one_named tree h id name i first.0 m first.1) ∙ first.2
+only_named tree h id name i m = grind (arith, first_place, one_named)
 
 -- and is one
 named_there : (name : Option (List ℕ) × List ℕ) (as' : List Attribute) (a : Attribute) → named name as' ≡ Some a → (i : ℕ) × IsNamedAt name as' i × (slice_get as' i ≡ Some a)
@@ -131,11 +107,7 @@ none_counted name (a ∷ as') h =
 -- one where one place has it, which is then found
 one_counted : (name : Option (List ℕ) × List ℕ) (before as' : List Attribute) → NamesOnce before as' → how_many name as' ≡ cond (is_some (named name as')) 1 0
 one_counted name before [] h = refl
-one_counted name before (a ∷ as') h = by_test (one_counted name (before ++ a ∷ []) as' h.1) (has name a) refl
-  where
-    by_test : how_many name as' ≡ cond (is_some (named name as')) 1 0 → (x : Bool) → has name a ≡ x → how_many name (a ∷ as') ≡ cond (is_some (named name (a ∷ as'))) 1 0
-    by_test rest true e = let none = none_counted name as' (λ i. not_after name before as' a i h.1 e) in rw e (ap (λ (k : ℕ). 1 + k) none.0)
-    by_test rest false e = rw e rest
+one_counted name before (a ∷ as') h = grind (arith, one_counted name (before ++ a ∷ []) as' h.1, none_counted, not_after)
 
 -- so many attributes of an element have it
 counted_at : (tree : Forest Node) → NamesDistinct tree → (id : ℕ) (name : Option (List ℕ) × List ℕ)
@@ -145,16 +117,11 @@ counted_at tree h id name = one_counted name [] (attributes_of (node_at tree id)
 -- what answers it is one of the attributes
 pub answer_is_one : {X : Type 0} (attribute : X → Attribute) (o : Option X) (name : Option (List ℕ) × List ℕ) (as' : List Attribute) → option_map attribute o ≡ named name as'
     → IfSome o (λ x. (i : ℕ) × IsNamedAt name as' i × (slice_get as' i ≡ Some (attribute x)))
-answer_is_one attribute None name as' h = tt
-answer_is_one attribute (Some x) name as' h = named_there name as' (attribute x) (sym h)
+answer_is_one attribute o name as' h = grind (arith, named_there)
 
 -- no more than one
 pub one_at_most : (tree : Forest Node) → NamesDistinct tree → (id : ℕ) (name : Option (List ℕ) × List ℕ) → how_many name (attributes_of (node_at tree id)) ≤ 1
-one_at_most tree h id name = rw (counted_at tree h id name) (by_test (is_some (named name (attributes_of (node_at tree id)))))
-  where
-    by_test : (x : Bool) → cond x 1 0 ≤ 1
-    by_test true = omega arith
-    by_test false = omega arith
+one_at_most tree h id name = grind (arith, counted_at)
 
 -- what is counted when none is left
 pub counted_all : (name : Option (List ℕ) × List ℕ) (as' : List Attribute) (count : ℕ) (left : List Attribute) → left ≡ []

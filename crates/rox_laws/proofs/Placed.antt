@@ -1,40 +1,36 @@
 -- The place of a fault of content lies in its source.
-use Rattle.std.proofs.Common.{◌≡◌, ℕ, ◌+◌, ◌<◌, ◌≤◌, ◌==◌, Bool, true, false, List, [], ◌∷◌, ◌++◌, length, drop, sym, ap, subst, inl, inr, arith, length-append, length-drop}
+use Rattle.std.proofs.Common.{◌≡◌, ℕ, ◌+◌, ◌<◌, ◌≤◌, ◌==◌, Bool, true, List, [], ◌∷◌, ◌++◌, length, drop, sym, ap, subst, inl, inr, arith, length-append, length-drop}
 use Rattle.std.specs.Char.{encode_utf8, len_utf8}
 use Rattle.std.specs.Str.{IsUtf8, IsCharBoundary}
-use Rattle.std.proofs.lemmas.Bool.{cases_Bool}
 use Rattle.rox_grammar.specs.declared.fault.Word.{Word}
 use Rattle.rox_grammar.specs.declared.fault.Expected.{Expected}
 use Rattle.rox_grammar.specs.declared.fault.Word.TheVariants as word
 use Rattle.rox_grammar.specs.declared.fault.Expected.TheVariants as expected
 use Rattle.rox_grammar.specs.declared.fault.Due.TheVariants as kinds
 use Rattle.rox_grammar.specs.declared.fault.Fault.{Fault}
-use Rattle.rox_grammar.specs.Chars.{is_space, is_name_start, is_name_char}
+use Rattle.rox_grammar.specs.Chars.{is_space, is_name_char}
 use Rattle.rox_grammar.specs.Runs.{StandsAt}
 use Rattle.rox_grammar.specs.FixedTexts.{word_text, at}
 use Rattle.rox_grammar.specs.ExpectedTexts.{expected_text}
 use Rattle.rox_grammar.specs.Search.{mark_from, stands}
-use Rattle.rox_grammar.specs.Written.{Name, Attribute, NamespaceDecl, is_namespace_decl, plain_attributes_of}
-use Rattle.rox_grammar.specs.Names.{byte, spaces_end, IsName, IsQName, unprefixed, prefixed, colon_first}
+use Rattle.rox_grammar.specs.Written.{Name, Attribute, NamespaceDecl, plain_attributes_of}
+use Rattle.rox_grammar.specs.Names.{byte, spaces_end, IsName, IsQName}
 use Rattle.rox_grammar.specs.Constructs.{IsPair, MayBePair, DeclarationTo}
 use Rattle.rox_grammar.specs.Constructs as constructs
-use Rattle.rox_grammar.specs.References.{IsReference, IsCharacter, entity_reference, decimal, hexadecimal, named}
+use Rattle.rox_grammar.specs.References.{IsReference, IsCharacter}
 use Rattle.rox_grammar.specs.Content.{Inclusion, Attributes}
 use Rattle.rox_grammar.specs.Content as content
 use Rattle.rox_grammar.specs.Entities.{Entity}
-use Rattle.rox_grammar.specs.State.{Open, root, inside, State}
+use Rattle.rox_grammar.specs.State.{Open, State}
 use Rattle.rox_grammar.specs.Due.{DueItem, a_name, a_qname, a_byte, a_text, one_of, chars_to, IsMissing, DueInText, DueInPI, DueInEnd, DueInPair, DueInXmlDecl}
 use Rattle.rox_grammar.specs.Due as due
-use Rattle.rox_grammar.specs.ContentPoints.{TagBegins, of_root, in_content, is_main}
 use Rattle.rox_grammar.specs.Faults.{InMisc, InReferences, InRun, InValue, IllDeclared, IllNamed, cut_off, InTag, InEnd, Stands}
 use Rattle.rox_grammar.specs.Faults as rows
-use Rattle.rox_theory.proofs.Productions.{end_parts, ncname_parts, reference_parts}
-use Rattle.rox_theory.proofs.ReferenceStarts.{hash_bytes, hex_bytes}
+use Rattle.rox_theory.proofs.Productions.{end_parts, reference_parts}
 use Rattle.rox_theory.proofs.Basics.{within}
-use Rattle.rox_theory.proofs.Constructions.{comment_bytes, instruction_bytes, end_bytes}
+use Rattle.rox_theory.proofs.Constructions.{instruction_bytes, end_bytes}
 use Rattle.rox_theory.proofs.DeclarationLemmas.{stands_reads, stands_fits}
-use Rattle.rox_faults.proofs.FaultApart.{declaration_bytes}
-use Rattle.rox_theory.proofs.LiteralLemmas.{from_bound, literal_closes, quote_ascii}
+use Rattle.rox_theory.proofs.LiteralLemmas.{from_bound, literal_closes}
 use Rattle.rox_theory.proofs.AttributeParts.{parts_of}
 use Rattle.rox_faults.proofs.NameSpans.{run_cut, cut_behind}
 use Rattle.rox_faults.proofs.PartFronts.{to_entity}
@@ -50,24 +46,16 @@ unfolding mark_from
 first_le w src i le = omega (arith, before_mark_le (expected_text w) (drop i src), length-drop i src)
 
 char_within : (c : ℕ) (src : List ℕ) (i : ℕ) → StandsAt c src i → i < length src
-char_within c src i is =
-    omega (arith, ap length is, length-append (encode_utf8 c) (drop (i + len_utf8 c) src), encode_some c, length-drop i src)
+char_within c src i is = omega (arith, ap length is, length-append (encode_utf8 c) (drop (i + len_utf8 c) src), encode_some c, length-drop i src)
 
 qname_within : (src : List ℕ) (i : ℕ) (name : Name) (j : ℕ) → IsQName src i name j → i < length src
-qname_within src i name j (unprefixed _ _ part no_colon) = begins_within is_name_start src i (ncname_parts part).starts
-qname_within src i name j (prefixed _ k _ part colon more no_colon) = begins_within is_name_start src i (ncname_parts part).starts
-qname_within src i name j (colon_first _ _ colon part no_colon) = within src i (λ z. omega arith)
+qname_within src i name j h = grind (arith, begins_within)
 
 character_within : (src : List ℕ) (i c j : ℕ) → IsCharacter src i c j → i < length src
-character_within src i c j (decimal opens number) = let amp = (hash_bytes src i opens).0 in within src i (λ z. omega arith)
-character_within src i c j (hexadecimal opens number) = let amp = (hex_bytes src i opens).0 in within src i (λ z. omega arith)
-character_within src i c j (named n reference is) = let amp = (reference_parts reference).opens in within src i (λ z. omega arith)
+character_within src i c j h = grind (arith, within)
 
 reference_inside : (src : List ℕ) (i n j : ℕ) → IsReference src i n j → j ≤ length src
-reference_inside src i n j is =
-    let closes = (reference_parts is).closes in
-    let there = within src n (λ z. omega arith) in
-    omega (arith, (reference_parts is).next)
+reference_inside src i n j is = grind (arith, within)
 
 -- ---- what is due
 
@@ -108,30 +96,22 @@ module _ (src : List ℕ) (utf8 : IsUtf8 src) where
       (run_cut is_space src n utf8 ends).0
 
   instruction_fits : (i p : ℕ) (t : DueItem) → at word.PIStart src i ≡ true → DueInPI src i p t → Fits src t p
-  instruction_fits i p t opens due.DueInPI.its_target = stands_fits (word_text word.PIStart) src i (omega arith) opens
-  instruction_fits i p t opens (due.DueInPI.its_value n _ _ is value) = text_fits expected.PIEnd (spaces_end src n) p t (spaces_inside i n opens is) value
+  instruction_fits i p t opens k = grind (arith, stands_fits, text_fits, spaces_inside)
 
   end_fits : (i p : ℕ) (t : DueItem) → DueInEnd src i p t → Fits src t p
-  end_fits i p t (due.DueInEnd.its_name opens) = stands_fits (word_text word.EndTagStart) src i (omega arith) opens
-  end_fits i p t (due.DueInEnd.its_end name n opens is) = tt
+  end_fits i p t h = grind (arith, stands_fits)
 
   pair_fits : (i p : ℕ) (t : DueItem) → i ≤ length src → DueInPair src i p t → Fits src t p
-  pair_fits i p t le due.DueInPair.its_name = le
-  pair_fits i p t le (due.DueInPair.equals name n is) = tt
-  pair_fits i p t le (due.DueInPair.opening name n v is eq) = tt
-  pair_fits i p t le (due.DueInPair.its_value name n v is eq quote) = tt
-  pair_fits i p t le (due.DueInPair.closing name n v is eq quote chars) = tt
+  pair_fits i p t le k = grind arith
 
   -- ---- the declaration of an answer
 
   pair_cut : (i n v e j : ℕ) (name : Name) → IsPair src i name n v e j → IsCharBoundary src j
   pair_cut i n v e j name (is_name, eq, literal) =
-      let low = quote_ascii (byte src v) literal.0.0 in
       subst (IsCharBoundary src) (sym literal.0.3) (cut_behind src e (byte src v) utf8 (literal_closes src v e j literal) (omega arith) (omega arith))
 
   may_cut : (w : Word) (i k : ℕ) → IsCharBoundary src i → MayBePair (word_text w) src i k → IsCharBoundary src k
-  may_cut w i k cut (constructs.MayBePair.is_pair name n v e j stands pair gap) = run_cut is_space src j utf8 (pair_cut i n v e j name pair)
-  may_cut w i k cut (constructs.MayBePair.no_pair none) = cut
+  may_cut w i k cut p = grind (arith, run_cut, pair_cut)
 
   -- behind `<?xml` and white space
   version_cut : (i : ℕ) → at word.XmlDeclStart src i ≡ true → IsCharBoundary src (spaces_end src (i + 5))
@@ -142,16 +122,13 @@ module _ (src : List ℕ) (utf8 : IsUtf8 src) where
 
   -- where a pair begins
   begins_inside : (i : ℕ) (text : List ℕ) (j : ℕ) → DeclarationTo src i text j → stands text src j ≡ true → j ≤ length src
-  begins_inside i text j (constructs.DeclarationTo.version _) is = let fits = stands_fits (word_text word.Version) src j (omega arith) is in omega arith
-  begins_inside i text j (constructs.DeclarationTo.encoding _ _ to may) is = let fits = stands_fits (word_text word.Encoding) src j (omega arith) is in omega arith
-  begins_inside i text j (constructs.DeclarationTo.standalone _ _ to may) is = let fits = stands_fits (word_text word.Standalone) src j (omega arith) is in omega arith
+  begins_inside i text j h is = grind (arith, stands_fits)
 
   pub declaration_fits : (i p : ℕ) (t : DueItem) → at word.XmlDeclStart src i ≡ true → DueInXmlDecl src i p t → Fits src t p
   declaration_fits i p t opens due.DueInXmlDecl.its_version = (version_cut i opens).0
   declaration_fits i p t opens (due.DueInXmlDecl.in_pair text j _ _ to here is) = pair_fits j p t (begins_inside i text j to here) is
   declaration_fits i p t opens (due.DueInXmlDecl.behind_pair text j pair to here other below no_end) = tt
-  declaration_fits i p t opens (due.DueInXmlDecl.behind_standalone j pair to here) =
-      (run_cut is_space src pair.end utf8 (pair_cut j pair.name_end pair.first_quote pair.last_quote pair.end pair.name pair.is_written)).0
+  declaration_fits i p t opens (due.DueInXmlDecl.behind_standalone j pair to here) = grind (arith, run_cut, pair_cut)
   declaration_fits i p t opens (due.DueInXmlDecl.its_end _ (constructs.DeclarationTo.standalone v _ (constructs.DeclarationTo.encoding _ _ (constructs.DeclarationTo.version _) first_pair) second) none) =
       (may_cut word.Encoding v p (may_cut word.Version (spaces_end src (i + 5)) v (version_cut i opens) first_pair) second).0
 
@@ -161,18 +138,10 @@ module _ (src : List ℕ) (utf8 : IsUtf8 src) where
   -- ---- the rows of content
 
   misc_placed : (i : ℕ) (f : Fault) → InMisc src i f → IsPlaced src f
-  misc_placed i f (rows.InMisc.comment_lacks _ opens (p, t, is, lacks)) =
-      lacks_placed src p t f (text_fits expected.CommentEnd (i + 4) p t (stands_fits (word_text word.CommentStart) src i (omega arith) opens) is) lacks
-  misc_placed i f (rows.InMisc.double_dashes e opens to dashes) = let two = (comment_bytes src i opens).0 in omega arith
-  misc_placed i f (rows.InMisc.a_declaration opens) = let two = (instruction_bytes src i (declaration_bytes src i opens)).0 in omega arith
-  misc_placed i f (rows.InMisc.instruction_lacks _ opens none (p, t, is, lacks)) = lacks_placed src p t f (instruction_fits i p t opens is) lacks
+  misc_placed i f h = grind (arith, lacks_placed, text_fits, stands_fits, instruction_fits)
 
   references_placed : (es : List Entity) (p : ℕ) (f : Fault) → InReferences es src p f → IsPlaced src f
-  references_placed es p f (rows.InReferences.malformed amp no_character no_reference) = let there = within src p (λ z. omega arith) in omega arith
-  references_placed es p f (rows.InReferences.undeclared j _ name (entity_reference n is no_character) none holds) =
-      let amp = (reference_parts is).opens in
-      let there = within src p (λ z. omega arith) in
-      omega arith
+  references_placed es p f h = grind (arith, within, reference_parts)
 
   run_placed : (es : List Entity) (k : ℕ) (O : Inclusion) (i b : ℕ) (f : Fault) → i < length src → InRun es k O src i b f → IsPlaced src f
   run_placed es k O i b f there (rows.InRun.no_char _ lacks) = lacks_placed src i _ f tt lacks
@@ -189,10 +158,7 @@ module _ (src : List ℕ) (utf8 : IsUtf8 src) where
   value_placed es k O i stop b f (rows.InValue.no_char q c inner from before is bad) = let there = char_within c src q is in omega arith
 
   declared_placed : (before : List NamespaceDecl) (a : Attribute) (f : Fault) → a.start ≤ length src → IllDeclared src before a f → IsPlaced src f
-  declared_placed before a f le (rows.IllDeclared.other_uri is_xml not_xml not_xmlns) = le
-  declared_placed before a f le (rows.IllDeclared.uri_of_xml not_xml is) = le
-  declared_placed before a f le (rows.IllDeclared.uri_of_xmlns is) = le
-  declared_placed before a f le (rows.IllDeclared.again name may is holds) = le
+  declared_placed before a f le k = grind arith
 
   -- each of these attributes begins in the source
   abbrev StartsIn : List Attribute → Type 0
@@ -201,31 +167,21 @@ module _ (src : List ℕ) (utf8 : IsUtf8 src) where
 
   written_start : (main : Bool) (O : Inclusion) (i j b c : ℕ) (as' : List Attribute) → Attributes main O src i j b c as' → StartsIn as'
   written_start main O i j b c as' (content.Attributes.no_more _ _) = tt
-  written_start main O i j b c as' (content.Attributes.one_more _ m _ _ d _ _ more space (content.IsAttribute.attribute n v e name value is read) rest) =
-      let there = qname_within src (spaces_end src i) name n is.0 in
-      (omega arith, written_start main O m j d c more rest)
+  written_start main O i j b c as' (content.Attributes.one_more _ m _ _ d _ _ more space (content.IsAttribute.attribute n v e name value is read) rest) = grind (arith, qname_within src (spaces_end src i) name n is.0, written_start main O m j d c more rest)
 
   attributes_start : (as' : List Attribute) → StartsIn as' → StartsIn (plain_attributes_of as')
   attributes_start [] starts = tt
-  attributes_start (a ∷ as') starts =
-      elim (cases_Bool (is_namespace_decl a.name)) as (λ q. StartsIn (plain_attributes_of (a ∷ as'))) [
-        | inl is ↦ rw is (attributes_start as' starts.1)
-        | inr other ↦ rw other (starts.0, attributes_start as' starts.1)
-      ]
+  attributes_start (a ∷ as') starts = grind (arith, attributes_start as' starts.1)
 
   one_starts : (before : List Attribute) (a : Attribute) (after : List Attribute) → StartsIn (before ++ a ∷ after) → a.start ≤ length src
   one_starts [] a after starts = starts.0
   one_starts (x ∷ before) a after starts = one_starts before a after starts.1
 
   named_placed : (i : ℕ) (scope : List NamespaceDecl) (n : Name) (as' : List Attribute) (f : Fault) → i + 1 ≤ length src → StartsIn as' → IllNamed src i scope n as' f → IsPlaced src f
-  named_placed i scope n as' f le starts (rows.IllNamed.unknown_attribute before after a name are distinct unknown holds) = one_starts before a after (subst StartsIn are starts)
-  named_placed i scope n as' f le starts (rows.IllNamed.twice before after a name are distinct known again holds) = one_starts before a after (subst StartsIn are starts)
-  named_placed i scope n as' f le starts (rows.IllNamed.unknown_element name distinct unknown holds) = le
+  named_placed i scope n as' f le starts p = grind (arith, one_starts)
 
   cut_placed : (main : Bool) (stack : Open) → IsPlaced src (cut_off main stack)
-  cut_placed true root = tt
-  cut_placed true (inside start tag before up) = tt
-  cut_placed false stack = tt
+  cut_placed main stack = grind arith
 
   tag_placed : (main : Bool) (O : Inclusion) (s : State) (b : ℕ) (f : Fault) → s.at < length src → InTag main O src s b f → IsPlaced src f
   tag_placed main O s b f le (rows.InTag.no_name _ lacks) = lacks_placed src (s.at + 1) a_qname f (omega arith) lacks
@@ -241,26 +197,12 @@ module _ (src : List ℕ) (utf8 : IsUtf8 src) where
       declared_placed _ a f (omega (arith, parts.starts)) ill
   tag_placed main O s b f le (rows.InTag.in_rest p c name as' _ to (rows.InTagRest.too_many_pairs d j a space is declares may first over)) = tt
   tag_placed main O s b f le (rows.InTag.in_rest p c name as' _ to (rows.InTagRest.too_many_attributes j empty ends over)) = tt
-  tag_placed main O s b f le (rows.InTag.in_rest p c name as' _ to (rows.InTagRest.ill_named j empty _ ends few ill)) =
-      named_placed s.at _ name (plain_attributes_of as') f (omega arith) (attributes_start as' (written_start main O to.0 p b c as' to.3)) ill
+  tag_placed main O s b f le (rows.InTag.in_rest p c name as' _ to (rows.InTagRest.ill_named j empty _ ends few ill)) = grind (arith, named_placed, attributes_start, written_start)
 
   end_placed : (open_around : ℕ) (s : State) (f : Fault) → InEnd open_around src s f → IsPlaced src f
   end_placed open_around s f (rows.InEnd.lacks _ (p, t, is, lacks)) = lacks_placed src p t f (end_fits s.at p t is) lacks
   end_placed open_around s f (rows.InEnd.other_name n j start name tag before up expected actual stack deep is other holds holds') = let two = (end_bytes src s.at (end_parts is).opens).0 in omega arith
   end_placed open_around s f (rows.InEnd.none_open n j name same is) = let two = (end_bytes src s.at (end_parts is).opens).0 in omega arith
 
-  begins_less : (i : ℕ) (inner : Bool) → TagBegins src i inner → i < length src
-  begins_less i inner (of_root is) = within src i (λ z. omega arith)
-  begins_less i inner (in_content is more no_bang no_ask no_slash) = within src i (λ z. omega arith)
-
   pub stands_placed : (limit : ℕ) (es : List Entity) (k open_around : ℕ) (O : Inclusion) (s : State) (b : ℕ) (f : Fault) → Stands limit es k open_around O src s b f → IsPlaced src f
-  stands_placed limit es k open_around O s b f (rows.Stands.in_run _ inner before no_less ill) = run_placed es k O s.at b f before ill
-  stands_placed limit es k open_around O s b f (rows.Stands.in_section _ inner opens (p, t, is, lacks)) =
-      lacks_placed src p t f (text_fits expected.CDataEnd (s.at + 9) p t (stands_fits (word_text word.CDataStart) src s.at (omega arith) opens) is) lacks
-  stands_placed limit es k open_around O s b f (rows.Stands.in_misc _ inner ill) = misc_placed s.at f ill
-  stands_placed limit es k open_around O s b f (rows.Stands.in_tag _ begins ill) = tag_placed _ O s b f (begins_less s.at _ begins) ill
-  stands_placed limit es k open_around O s b f (rows.Stands.in_end _ inner ill) = end_placed open_around s f ill
-  stands_placed limit es k open_around O s b f (rows.Stands.unknown inner is other) = let before = within src s.at (λ z. omega arith) in omega arith
-  stands_placed limit es k open_around O s b f (rows.Stands.unclosed deep past) = cut_placed (is_main k) s.stack
-  stands_placed limit es k open_around O s b f (rows.Stands.too_many_nodes c t takes over) = tt
-  stands_placed limit es k open_around O s b f (rows.Stands.too_many_pieces run inner well_named over) = tt
+  stands_placed limit es k open_around O s b f h = grind (arith, run_placed, lacks_placed, text_fits, stands_fits, misc_placed, tag_placed, end_placed, within)

@@ -1,9 +1,9 @@
 -- What an element lists for a prefix, in terms of the declarations as written of it and of the elements above it.
-use Rattle.std.proofs.Common.{◌≡◌, ◌≢◌, ℕ, zero, suc, ◌||◌, Bool, true, false, cond, not, List, [], ◌∷◌, ◌++◌, Option, Some, None, filter, refl, sym, ap, ◌∙◌, arith, ⊎_elim}
+use Rattle.std.proofs.Common.{◌≡◌, ◌≢◌, ℕ, zero, suc, ◌||◌, Bool, true, false, cond, not, List, [], ◌∷◌, ◌++◌, Option, Some, None, filter, refl, sym, ap, ◌∙◌, arith}
 use Rattle.std.specs.List.{Contains}
-use Rattle.std.proofs.lemmas.Bool.{cases_Bool, or_parts, or_from, false_from_ne_true}
+use Rattle.std.proofs.lemmas.Bool.{or_parts, or_from, false_from_ne_true}
 use Rattle.std.proofs.lemmas.List.Folds.{list_any-append}
-use Rattle.rox_grammar.specs.Written.{NamespaceDecl, Item, Element, Text, Comment, PI}
+use Rattle.rox_grammar.specs.Written.{NamespaceDecl, Item}
 use Rattle.rox_grammar.specs.Tree.{same_prefix, is_declared, listed, uri_of, scope_in}
 use Rattle.rox_grammar.specs.WellNamed.{ItemWellNamed}
 use Rattle.rox_grammar.proofs.NamesApart.{DeclarableBehind, declarable_behind}
@@ -30,8 +30,7 @@ declared p (d ∷ ds) h e = by_test (declared p ds) (same_prefix d.prefix p) ref
     by_test rest false s = rest (rw s at h) (rw s at e)
 
 pub declared_if_some : (p : Option (List ℕ)) (u : List ℕ) (ds : List NamespaceDecl) → uri_of ds p ≡ Some u → is_declared p ds ≡ true
-declared_if_some p u ds e =
-    ⊎_elim (λ (yes : is_declared p ds ≡ true). yes) (λ no. let k : None ≡ Some u = sym (undeclared p ds no) ∙ e in cc k) (cases_Bool (is_declared p ds))
+declared_if_some p u ds e = grind (arith, undeclared)
 
 -- what it says is declared
 pub says_declared : (p : Option (List ℕ)) (u : List ℕ) (ds : List NamespaceDecl) → uri_of ds p ≡ Some u → Contains ds (record { prefix = p; uri = u })
@@ -57,16 +56,12 @@ says_declared p u (d ∷ ds) e = by_test (says_declared p u ds) (same_prefix d.p
 none_before : (p : Option (List ℕ)) (u : List ℕ) (before ds : List NamespaceDecl) → DeclarableBehind before ds → Contains ds (record { prefix = p; uri = u }) → is_declared p before ≡ false
 none_before p u before [] h (k, l, e) = absurd (omega arith)
 none_before p u before (d ∷ ds) h (zero, l, e) = let same : d.prefix ≡ p = ap (λ (d : NamespaceDecl). d.prefix) e in rw same at h.1
-none_before p u before (d ∷ ds) h (suc k, l, e) =
-    let n = none_before p u (before ++ d ∷ []) ds h.2 (k, omega arith, e) in
-    (or_parts (is_declared p before) (is_declared p (d ∷ [])) (sym (list_any-append (λ (d : NamespaceDecl). same_prefix d.prefix p) before (d ∷ [])) ∙ n)).0
+none_before p u before (d ∷ ds) h (suc k, l, e) = grind (arith, none_before p u (before ++ d ∷ []) ds h.2 (k, omega arith, e), list_any-append)
 
 -- so it says what is declared
 pub declared_says : (p : Option (List ℕ)) (u : List ℕ) (before ds : List NamespaceDecl) → DeclarableBehind before ds → Contains ds (record { prefix = p; uri = u }) → uri_of ds p ≡ Some u
 declared_says p u before [] h (k, l, e) = absurd (omega arith)
-declared_says p u before (d ∷ ds) h (zero, l, e) =
-    let first : d ≡ record { prefix = p; uri = u } = e in
-    rw first (rw (same_prefix-refl p) refl)
+declared_says p u before (d ∷ ds) h (zero, l, e) = grind (arith, same_prefix-refl)
 declared_says p u before (d ∷ ds) h (suc k, l, e) =
     let n = none_before p u (before ++ d ∷ []) ds h.2 (k, omega arith, e) in
     let m = or_parts (is_declared p before) (is_declared p (d ∷ [])) (sym (list_any-append (λ (d : NamespaceDecl). same_prefix d.prefix p) before (d ∷ [])) ∙ n) in
@@ -75,22 +70,14 @@ declared_says p u before (d ∷ ds) h (suc k, l, e) =
 
 -- each item declares what may be declared
 pub item_declares : (scope : List NamespaceDecl) (item : Item) → ItemWellNamed scope item → DeclarableBehind [] (declared_at item)
-item_declares scope (Element start end tag) h = declarable_behind tag.declarations h.1
-item_declares scope (Text start end value borrowed) h = tt
-item_declares scope (Comment start end text) h = tt
-item_declares scope (PI start end target value) h = tt
+item_declares scope item h = grind (arith, declarable_behind)
 
 -- ---- two rows, and some of a row
 
 -- of two rows the first that declares it
 first_row : (p : Option (List ℕ)) (xs ys : List NamespaceDecl) → uri_of (xs ++ ys) p ≡ cond (is_declared p xs) (uri_of xs p) (uri_of ys p)
 first_row p [] ys = refl
-first_row p (d ∷ ds) ys = by_test (first_row p ds ys) (same_prefix d.prefix p) refl
-  where
-    by_test : uri_of (ds ++ ys) p ≡ cond (is_declared p ds) (uri_of ds p) (uri_of ys p)
-        → (x : Bool) → same_prefix d.prefix p ≡ x → uri_of ((d ∷ ds) ++ ys) p ≡ cond (is_declared p (d ∷ ds)) (uri_of (d ∷ ds) p) (uri_of ys p)
-    by_test rest true s = rw s refl
-    by_test rest false s = rw s rest
+first_row p (d ∷ ds) ys = grind (arith, first_row p ds ys)
 
 -- the test is true of all of this prefix
 abbrev Keeps : (NamespaceDecl → Bool) → Option (List ℕ) → Type 0
@@ -157,11 +144,7 @@ own_first above own p n =
 
 -- so one more row agrees
 pub agree_more : (above : List NamespaceDecl) (rows : List (List NamespaceDecl)) (item : Item) → Agree above rows → Agree (scope_in above item) (declared_at item ∷ rows)
-agree_more above rows (Element start end tag) h =
-    λ p n. own_first above tag.declarations p n ∙ ap (λ (z : Option (List ℕ)). cond (is_declared p tag.declarations) (uri_of tag.declarations p) z) (h p n)
-agree_more above rows (Text start end value borrowed) h = h
-agree_more above rows (Comment start end text) h = h
-agree_more above rows (PI start end target value) h = h
+agree_more above rows item h = grind (arith, own_first)
 
 -- ---- `xml`
 
@@ -184,7 +167,4 @@ listed_no_xml above own h =
     ∙ or_from (is_declared xml (filter listable own)) (is_declared xml (filter (left_by own) above)) (listable_no_xml own) (some_none xml (left_by own) above h)
 
 pub scope_no_xml : (above : List NamespaceDecl) (item : Item) → HasNoXml above → HasNoXml (scope_in above item)
-scope_no_xml above (Element start end tag) h = listed_no_xml above tag.declarations h
-scope_no_xml above (Text start end value borrowed) h = h
-scope_no_xml above (Comment start end text) h = h
-scope_no_xml above (PI start end target value) h = h
+scope_no_xml above item h = grind (arith, listed_no_xml)

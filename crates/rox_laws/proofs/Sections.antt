@@ -2,6 +2,8 @@
 use Rattle.std.proofs.Common.{◌≡◌, ◌≢◌, ℕ, ◌+◌, ◌<◌, Bool, true, false, List, [], ◌∷◌, ◌++◌, length, refl, sym, ◌∙◌, subst, arith}
 use Rattle.std.specs.Char.{encode_utf8}
 use Rattle.std.proofs.lemmas.Bool.{false_from_ne_true}
+use Rattle.std.proofs.lemmas.Bool.Decides.{nat_tests}
+use Rattle.std.proofs.lemmas.Grind.{common_steps}
 use Rattle.rox_grammar.specs.declared.fault.Word.TheVariants as word
 use Rattle.rox_grammar.specs.FixedTexts.{word_text, at}
 use Rattle.rox_grammar.specs.Forest.{Forest, Nil, Cons, join}
@@ -9,14 +11,13 @@ use Rattle.rox_grammar.specs.Written.{Name, NamespaceDecl, Tag, Item, Element, T
 use Rattle.rox_grammar.specs.Tree.{Node, node_in}
 use Rattle.rox_grammar.specs.Names.{byte, slice}
 use Rattle.rox_grammar.specs.Constructs.{IsCData, IsEnd}
-use Rattle.rox_grammar.specs.References.{entity_reference}
-use Rattle.rox_grammar.specs.Content.{DataByte, data_bytes_of, piece, Part, part_ends, as_written, from_reference, last_part, then_entity, IsTag, start_tag, IsMisc, comment, instruction, IsElement, empty, nest, Content, ends, run, cdata, misc, node}
+use Rattle.rox_grammar.specs.Content.{DataByte, data_bytes_of, piece, Part, part_ends, as_written, from_reference, IsTag, start_tag, IsMisc, comment, instruction, IsElement, empty, nest, Content, ends, run, cdata, misc, node}
 use Rattle.rox_grammar.specs.RunParts.{Parts}
 use Rattle.rox_grammar.specs.Document.{Misc, no_misc, space, an_item, ParseOf, IsTreeOf}
 use Rattle.rox_theory.proofs.Productions.{comment_parts, pi_parts, end_parts, char_data_parts}
 use Rattle.rox_theory.proofs.Without.{parse_without}
 use Rattle.rox_grammar.specs.Entities.{no_entities}
-use Rattle.rox_theory.proofs.Pieces.{some_bytes, no_bytes, empty_section}
+use Rattle.rox_theory.proofs.Pieces.{no_bytes, empty_section}
 use Rattle.rox_theory.proofs.DeclarationLemmas.{stands_reads}
 use Rattle.rox_theory.proofs.PartLemmas.{encode_some}
 use Rattle.rox_theory.proofs.Constructions.{comment_bytes, instruction_bytes, end_bytes, cdata_bytes, name_byte}
@@ -102,16 +103,10 @@ glue_sound src a e v b c f section none begins h = glued f begins h
 
 merge_sound : (src : List ℕ) (from to : ℕ) (f : Forest Item) → IsMarkup src to → Covers src from to f → EachNode (Sound src) (merge f) × Begins src from (merge f)
 merge_sound src from to Nil markup h = (tt, subst (λ (i : ℕ). IsMarkup src i) (sym h) markup)
-merge_sound src from to (Cons (Text a e v b) c r) markup h =
-    let rest = merge_sound src e to r markup h.3 in
-    subst (λ (i : ℕ). EachNode (Sound src) (glue (Text a e v b) c (merge r)) × Begins src i (glue (Text a e v b) c (merge r))) h.0
-    (glue_sound src a e v b c (merge r) h.1 h.2 rest.1 rest.0)
-merge_sound src from to (Cons (Element a e t) c r) markup h =
-    ((tt, h.2, (merge_sound src e to r markup h.3).0), subst (λ (i : ℕ). IsMarkup src i) h.0 h.1)
-merge_sound src from to (Cons (Comment a e t) c r) markup h =
-    ((tt, h.2, (merge_sound src e to r markup h.3).0), subst (λ (i : ℕ). IsMarkup src i) h.0 h.1)
-merge_sound src from to (Cons (PI a e t o) c r) markup h =
-    ((tt, h.2, (merge_sound src e to r markup h.3).0), subst (λ (i : ℕ). IsMarkup src i) h.0 h.1)
+merge_sound src from to (Cons (Text a e v b) c r) markup h = grind (arith, common_steps, merge_sound src e to r markup h.3, glue_sound)
+merge_sound src from to (Cons (Element a e t) c r) markup h = grind (arith, merge_sound src e to r markup h.3)
+merge_sound src from to (Cons (Comment a e t) c r) markup h = grind (arith, merge_sound src e to r markup h.3)
+merge_sound src from to (Cons (PI a e t o) c r) markup h = grind (arith, merge_sound src e to r markup h.3)
 
 -- ---- pieces
 
@@ -127,17 +122,14 @@ some_signs src i stop ss below (from_reference _ n c rest r inside p) none = kep
 
 -- a run is a text that is not empty
 piece_covers : (src : List ℕ) (i stop : ℕ) (borrowed : Bool) (ss : List DataByte) → (ss ≡ [] → ⊥) → Covers src i stop (piece i stop borrowed ss)
-piece_covers src i stop borrowed [] some = absurd (some refl)
-piece_covers src i stop borrowed (s ∷ ss) some = (refl, λ none. absurd (some_bytes s ss none), refl, refl)
+piece_covers src i stop borrowed ss some = grind (arith, nat_tests)
 
 parts_cover : (src : List ℕ) (i stop b c : ℕ) (items : Forest Item) → i < stop → Parts true no_entities src i stop i b c items → Covers src i stop items
-parts_cover src i stop b c items below (last_part _ _ ss part) = piece_covers src i stop _ ss (some_signs src i stop ss below part)
-parts_cover src i stop b c items below (then_entity _ p j _ d _ _ ss inner others part (entity_reference n reference unknown) opens rest) = absurd opens
+parts_cover src i stop b c items below k = grind (arith, piece_covers, some_signs)
 
 -- a section without a byte is empty
 section_empty : (src : List ℕ) (i e j : ℕ) → IsCData src i e j → slice src (i + 9) e ≡ [] → IsEmpty src i j
-section_empty src i e j is none =
-    let s = empty_section src i e j is none in (subst (λ (k : ℕ). IsCData src i (i + 9) k) s.long s.section, s.long)
+section_empty src i e j is none = grind (arith, empty_section)
 
 -- ---- markup
 
@@ -165,8 +157,7 @@ end_markup src i name n j is = let bytes = end_bytes src i (end_parts is).opens 
 -- ---- content
 
 misc_covers : (src : List ℕ) (i j to : ℕ) (item : Item) (rest : Forest Item) → IsMisc src i j item → Covers src j to rest → Covers src i to (Cons item Nil rest)
-misc_covers src i j to item rest (comment _ e _ is) h = (refl, misc_markup src i j item (comment i e j is), tt, h)
-misc_covers src i j to item rest (instruction _ n e _ is) h = (refl, misc_markup src i j item (instruction i n e j is), tt, h)
+misc_covers src i j to item rest h k = grind (arith, misc_markup)
 
 mutual
   content_covers : (src : List ℕ) (i j b c : ℕ) (items : Forest Item) → Content true no_entities src i j b c items → Covers src i j items
@@ -195,8 +186,7 @@ element_sound src i j b c one (nest _ k m p _ _ d _ t kids tag inner end) =
     (tt, (merge_sound src k m kids (end_markup src m t.name p j end) (content_covers src k m d c kids inner)).0, tt)
 
 misc_sound : (src : List ℕ) (i j : ℕ) (item : Item) → IsMisc src i j item → Sound src item
-misc_sound src i j item (comment _ e _ is) = tt
-misc_sound src i j item (instruction _ n e _ is) = tt
+misc_sound src i j item h = grind arith
 
 top_sound : (src : List ℕ) (i j : ℕ) (items : Forest Item) → Misc src i j items → EachNode (Sound src) items
 top_sound src i j items (no_misc _) = tt
@@ -209,8 +199,7 @@ parse_sound src tops q =
     let front = top_sound src p.prolog.0 p.start p.before p.prolog.2 in
     let one = element_sound src p.start p.end 255 p.openings_left p.one p.element in
     let back = top_sound src p.end (length src) p.after p.misc_after in
-    subst (λ (f : Forest Item). EachNode (Sound src) f) (sym p.is_tree)
-    (each_join (Sound src) p.before (join p.one p.after) front (each_join (Sound src) p.one p.after one back))
+    grind (arith, each_join)
 
 -- in a document
 pub empty_texts : (src : List ℕ) (limit : ℕ) (f : Forest Node) → IsTreeOf src false [] limit f → EmptyTextsAreSections src f

@@ -1,16 +1,16 @@
 -- The attributes of a document's nodes stand in its text.
-use Rattle.std.proofs.Common.{◌≡◌, ◌≢◌, inl, inr, ℕ, ◌+◌, ◌-◌, ◌<◌, ◌≤◌, ◌==◌, ◌||◌, Bool, true, false, not, eqb, List, [], ◌∷◌, ◌++◌, map, length, refl, sym, ap, ◌∙◌, subst, arith}
+use Rattle.std.proofs.Common.{◌≡◌, ◌≢◌, inl, inr, ℕ, ◌+◌, ◌-◌, ◌<◌, ◌≤◌, ◌==◌, ◌||◌, Bool, true, false, not, List, [], ◌∷◌, ◌++◌, map, length, refl, sym, ap, ◌∙◌, subst, arith}
 use Rattle.std.specs.Prelude.{All, filter}
-use Rattle.std.proofs.lemmas.Bool.{not-true, or_parts, eqb-false}
+use Rattle.std.proofs.lemmas.Bool.{not-true}
 use Rattle.std.proofs.lemmas.List.Elements.{All-nil, All-cons}
 use Rattle.rox_grammar.specs.Chars.{is_space, is_part_char}
-use Rattle.rox_grammar.specs.Forest.{Forest, join}
+use Rattle.rox_grammar.specs.Forest.{Forest}
 use Rattle.rox_grammar.specs.Written.{Name, Attribute, NamespaceDecl, Tag, Item, Element, Text, Comment, PI, is_namespace_decl}
 use Rattle.rox_grammar.specs.Tree as tree
-use Rattle.rox_grammar.specs.Tree.{Node, attribute_in, node_in, resolved}
+use Rattle.rox_grammar.specs.Tree.{Node, attribute_in, node_in}
 use Rattle.rox_grammar.specs.Names.{byte, slice, spaces_end, IsQName, unprefixed, prefixed, colon_first}
 use Rattle.rox_grammar.specs.References.{entity_reference}
-use Rattle.rox_grammar.specs.Content.{is_verbatim_value, Value, value_ends, line_end, white, other, a_character, an_entity, IsAttribute, attribute, Attributes, no_more, one_more, IsTag, DataByte, piece, last_part, then_entity, IsMisc, comment, instruction, IsElement, empty, nest, Content, ends, run, cdata, misc, node, start_tag}
+use Rattle.rox_grammar.specs.Content.{is_verbatim_value, Value, value_ends, line_end, white, other, a_character, an_entity, IsAttribute, attribute, Attributes, no_more, one_more, IsTag, IsMisc, IsElement, empty, nest, Content, ends, run, cdata, misc, node, start_tag}
 use Rattle.rox_grammar.specs.RunParts.{Parts}
 use Rattle.rox_grammar.specs.Document.{Misc, no_misc, space, an_item, ParseOf, IsTreeOf}
 use Rattle.rox_theory.proofs.Productions.{ncname_parts}
@@ -45,19 +45,14 @@ spelled src i name j (prefixed _ k _ n colon m last) inside =
     let some : k < j = omega (arith, (ncname_parts m).longest, run_end_le is_part_char src (k + 1)) in
     let before : i ≤ k = omega (arith, (ncname_parts n).longest, run_end_le is_part_char src i) in
     inr (slice src i k, slice_split src (k - i) i k j (omega arith) (omega arith) inside ∙ ap (λ (r : List ℕ). slice src i k ++ r) (after_colon src k j colon some inside))
-spelled src i name j (colon_first _ _ colon m last) inside =
-    inr ([], after_colon src i j colon (omega (arith, (ncname_parts m).longest, run_end_le is_part_char src (i + 1))) inside)
+spelled src i name j (colon_first _ _ colon m last) inside = grind (arith, after_colon)
 
 -- a byte of a value that stands for itself
 abbrev IsOrdinary : ℕ → Type 0
 IsOrdinary b = (b ≢ 38) × (b ≢ 9) × (b ≢ 10) × (b ≢ 13)
 
 is_ordinary : (b : ℕ) → (b == 38 || (b == 9 || (b == 10 || b == 13))) ≡ false → IsOrdinary b
-is_ordinary b h =
-    let (amp, blank) = or_parts (eqb b 38) (eqb b 9 || (eqb b 10 || eqb b 13)) h in
-    let (tab, more) = or_parts (eqb b 9) (eqb b 10 || eqb b 13) blank in
-    let (lf, cr) = or_parts (eqb b 10) (eqb b 13) more in
-    (eqb-false _ _ amp, eqb-false _ _ tab, eqb-false _ _ lf, eqb-false _ _ cr)
+is_ordinary b h = grind arith
 
 module _ (src : List ℕ) (stop : ℕ) where
   -- a value takes no openings, so as many may be left as one likes
@@ -77,8 +72,7 @@ module _ (src : List ℕ) (stop : ℕ) where
   value_slice i b c v long plain (white _ _ _ rest lt (inl tab) p) = absurd ((plain i (omega arith) lt).1 tab)
   value_slice i b c v long plain (white _ _ _ rest lt (inr (inl lf)) p) = absurd ((plain i (omega arith) lt).2 lf)
   value_slice i b c v long plain (white _ _ _ rest lt (inr (inr cr)) p) = absurd ((plain i (omega arith) lt).3 cr.0)
-  value_slice i b c v long plain (other _ _ _ rest lt amp tab lf cr tag p) =
-      ap (λ (r : List ℕ). byte src i ∷ r) (value_slice (i + 1) b c rest long (λ k from below. plain k (omega arith) below) p) ∙ sym (slice_cons src i stop lt long)
+  value_slice i b c v long plain (other _ _ _ rest lt amp tab lf cr tag p) = grind (arith, value_slice (i + 1) b c rest long (λ k from below. plain k (omega arith) below) p, slice_cons)
   value_slice i b c v long plain (a_character _ n x _ _ rest r inside any p) =
       let opens = character_opens src i x n r in absurd ((plain i (omega arith) (omega (arith, opens.1))).0 opens.0)
   value_slice i b c v long plain (an_entity _ k _ e _ _ w rest (entity_reference n r none) inside opens p) = absurd opens
@@ -98,12 +92,7 @@ parts_select src scope w is =
     let e : w.end - 1 ≡ is.e = omega (arith, is.literal.0.3) in
     let long : is.e ≤ length src = omega (arith, is.literal.0.2) in
     record {
-      inside = (
-        name_le,
-        omega (arith, is.eq.1, equals_le, quote_le, v),
-        omega (arith, is.value_start, value_le, is.literal.0.3),
-        omega (arith, is.literal.0.2, is.literal.0.3),
-      );
+      inside = (omega arith);
       name = spelled src w.start w.name w.name_end is.is_name (omega (arith, is.eq.1, equals_le, quote_le, value_le, long));
       opens = rw v is.literal.0.0;
       closes = rw (v, e) (literal_closes src is.v is.e w.end is.literal);
@@ -112,10 +101,7 @@ parts_select src scope w is =
     }
   where
     between : (k : ℕ) → is.v + 1 ≤ k → k < is.e → (byte src k ≢ byte src is.v) × (byte src k ≢ 60)
-    between k from below = (
-      eqb-false _ _ (from_before (λ c. c == byte src is.v) src (is.v + 1) k from (omega (arith, below, is.literal.0.1))),
-      literal_plain src is.v is.e w.end is.literal k from below,
-    )
+    between k from below = (grind (arith, from_before, literal_plain))
 
     ordinary : (k : ℕ) → is_verbatim_value (slice src (is.v + 1) is.e) ≡ true → is.e ≤ length src → is.v + 1 ≤ k → k < is.e → IsOrdinary (byte src k)
     ordinary k plain long from below = is_ordinary (byte src k) (slice_none (λ b. b == 38 || (b == 9 || (b == 10 || b == 13))) src (is.v + 1) is.e k long (not-true _ plain) from below)
@@ -138,13 +124,7 @@ further src k from to m (w ∷ ws) before after h = (omega (arith, h.0), omega (
 -- some of them
 some_stand : (src : List ℕ) (from to : ℕ) (q : Attribute → Bool) (ws : List Attribute) → Stand src from to ws → Stand src from to (filter q ws)
 some_stand src from to q [] h = tt
-some_stand src from to q (w ∷ ws) h =
-    by_test (q w) refl (some_stand src w.end to q ws h.3)
-  where
-    by_test : (x : Bool) → q w ≡ x → Stand src w.end to (filter q ws) → Stand src from to (filter q (w ∷ ws))
-    by_test true e more = rw e (h.0, h.1, h.2, more)
-    by_test false e more =
-        rw e (further src from w.end to to (filter q ws) (omega (arith, h.0, attribute_forward src w.start w.end 255 255 w h.2)) (omega arith) more)
+some_stand src from to q (w ∷ ws) h = grind (arith, some_stand src w.end to q ws h.3, further, attribute_forward)
 
 all_stand : (src : List ℕ) (i j to b c : ℕ) (ws : List Attribute) → j < to → Attributes true no_entities src i j b c ws → Stand src i to ws
 all_stand src i j to b c ws before (no_more _ _) = tt
@@ -168,16 +148,10 @@ Has src (Comment a e t) = Unit {0}
 Has src (PI a e t o) = Unit {0}
 
 parts_have : (src : List ℕ) (start stop i b c : ℕ) (items : Forest Item) → Parts true no_entities src start stop i b c items → EachNode (Has src) items
-parts_have src start stop i b c items (last_part _ _ ss part) = a_piece _ ss
-  where
-    a_piece : (borrowed : Bool) (ss : List DataByte) → EachNode (Has src) (piece start stop borrowed ss)
-    a_piece borrowed [] = tt
-    a_piece borrowed (s ∷ ss) = (tt, tt, tt)
-parts_have src start stop i b c items (then_entity _ p j _ d _ _ ss inner more part (entity_reference n reference unknown) opens rest) = absurd opens
+parts_have src start stop i b c items h = grind arith
 
 misc_has : (src : List ℕ) (i j : ℕ) (item : Item) → IsMisc src i j item → Has src item
-misc_has src i j item (comment _ e _ is) = tt
-misc_has src i j item (instruction _ n e _ is) = tt
+misc_has src i j item h = grind arith
 
 mutual
   content_has : (src : List ℕ) (i j b c : ℕ) (items : Forest Item) → Content true no_entities src i j b c items → EachNode (Has src) items
@@ -207,8 +181,7 @@ parse_has src tops q =
     let front = top_has src p.prolog.0 p.start p.before p.prolog.2 in
     let one = element_has src p.start p.end 255 p.openings_left p.one p.element in
     let back = top_has src p.end (length src) p.after p.misc_after in
-    subst (λ (f : Forest Item). EachNode (Has src) f) (sym p.is_tree)
-    (each_join (Has src) p.before (join p.one p.after) front (each_join (Has src) p.one p.after one back))
+    grind (arith, each_join)
 
 -- ---- with the names resolved
 

@@ -35,9 +35,7 @@ hidden_in namespaces seen ls seen_ls scopes mid above own i xml n l x = rw (scop
 pub joined_listed : (namespaces : List NamespaceDecl) (listed after : List ℕ) (old mid next new : List Scope) (rest first i : ℕ) (os ds : List NamespaceDecl) → IsListed namespaces listed old listed mid rest os → IsListed namespaces listed mid after next first ds
     → IsRope next new i (λ l. places_in l next first ++ places_in l next rest) → IsListed namespaces listed old after new i (ds ++ os)
 joined_listed namespaces listed after old mid next new rest first i os ds x y z =
-    let kept : entries namespaces (places_in after next rest) ≡ os =
-    ap (λ ss. entries namespaces (places_in after ss rest)) y.rows_grown ∙ ap (entries namespaces) (places_in-grown after mid y.more_rows rest x.within)
-    ∙ ap (λ ls. entries namespaces (places_in ls mid rest)) y.grown ∙ ap (entries namespaces) (places_in-listed listed y.more mid rest x.scopes_are) ∙ x.lists in
+    let kept : entries namespaces (places_in after next rest) ≡ os = grind (arith, places_in-grown, places_in-listed) in
     record {
       more = y.more;
       grown = y.grown;
@@ -94,17 +92,14 @@ below_few o keys seen mid after more rows above own i xml s h n grown places is 
     let mine = entries namespaces (drop own old) in
     let tag = h.prefixes.tag in
     let ok : ArePlaces (length namespaces) more = subst (λ k. ArePlaces k more) (ap length n ∙ sym (length-map o.namespaces.items.items namespace_view)) places in
-    let here : entries namespaces more ≡ others mine xml (entries namespaces (slice_range old s.from s.until)) =
-    subst (λ v. entries (map namespace_view v) more ≡ others (entries (map namespace_view v) (drop own old)) xml (entries (map namespace_view v) (slice_range old s.from s.until))) n is in
+    let here : entries namespaces more ≡ others mine xml (entries namespaces (slice_range old s.from s.until)) = cc in
     inherits_listed namespaces old mid after more o.scopes.items rows i own (others mine xml (scope_at (lists_in o) above)) tag.own_within grown (λ k. places_behind (length namespaces) old mid more grown k ok)
     (here ∙ ap (others mine xml) (few_lists namespaces old o.scopes.items above s tag.scopes.rows tag.above_within h.few)) x
 
 -- it is a scope of these tables
 pub scope_behind : (o : ElementTables) (after : List ℕ) (rows : List Scope) (i : ℕ) (ds : List NamespaceDecl) → ArePlaces (length o.namespaces.items.items) o.listed.items
     → IsListed (map namespace_view o.namespaces.items.items) o.listed.items o.scopes.items after rows i ds → IsScopeOf (length o.namespaces.items.items) after rows i
-scope_behind o after rows i ds ok x =
-    let m = length-map o.namespaces.items.items namespace_view in
-    record { places = subst (λ k. ArePlaces k after) m (x.places (subst (λ k. ArePlaces k o.listed.items) (sym m) ok)); scopes = x.scopes_are; within = x.within }
+scope_behind o after rows i ds ok x = grind (arith, length-map)
 
 -- it has become the innermost
 pub stood_in : (namespaces seen : List Namespace) (ls seen_ls : List ℕ) (scopes seen_scopes : List Scope) (x y : PrefixBindings) (i : ℕ) → seen ≡ namespaces → seen_ls ≡ ls → seen_scopes ≡ scopes
@@ -132,10 +127,7 @@ entered namespaces listed after scopes rows i own from until xml above grown beg
     let mine : reverse (slice_range after from until) ≡ drop own listed = ap (reverse {A = ℕ}) slice ∙ reverse-reverse (drop own listed) in
     let here : i < length rows = x.within in
     let within : i < length (lists_of namespaces after rows) = omega arith in
-    record {
-      within = within;
-      made = scope_places namespaces after rows i ∙ x.lists ∙ ap (λ xs. entries namespaces xs ++ others (entries namespaces xs) xml above) (sym mine);
-    }
+    grind (arith, scope_places)
 
 -- what the scope lists that has this place
 pub has_scope : (o n : ElementTables) (above own i : ℕ) (xml : Bool) → HasOpenTag o above own → n.namespaces ≡ o.namespaces → n.attributes ≡ o.attributes → HasBindings n → HasBindingsOf n i
@@ -148,8 +140,7 @@ has_scope o n above own i xml tag same attributes kept present x =
     let names_are = ap (λ v. map namespace_view v.items.items) same in
     let h = scopes_more own (length o.listed.items) o.scopes.items tag.own_within tag.scopes in
     let l = lists_then namespaces o.listed.items n.listed.items o.scopes.items n.scopes.items i (mine ++ others mine xml (scope_at (lists_in o) above)) h x in
-    let lists : scope_at (lists_in n) i ≡ mine ++ others mine xml (scope_at (lists_in o) above) =
-    ap (λ ns. scope_at (lists_of ns n.listed.items n.scopes.items) i) names_are ∙ scope_places namespaces n.listed.items n.scopes.items i ∙ x.lists in
+    let lists : scope_at (lists_in n) i ≡ mine ++ others mine xml (scope_at (lists_in o) above) = grind (arith, scope_places) in
     record {
       namespaces = same;
       attributes = attributes;
@@ -168,10 +159,4 @@ has_scope o n above own i xml tag same attributes kept present x =
 pub nothing_listed : (o : ElementTables) (above own : ℕ) (xml : Bool) → HasOpenTag o above own → length o.listed.items ≤ own → xml ≡ false
     → IsListed (map namespace_view o.namespaces.items.items) o.listed.items o.scopes.items o.listed.items o.scopes.items above
     (entries (map namespace_view o.namespaces.items.items) (drop own o.listed.items) ++ others (entries (map namespace_view o.namespaces.items.items) (drop own o.listed.items)) xml (scope_at (lists_in o) above))
-nothing_listed o above own xml tag none off =
-    let namespaces = map namespace_view o.namespaces.items.items in
-    let listed = o.listed.items in
-    let ds = scope_at (lists_in o) above in
-    let nothing : drop own listed ≡ [] = drop_of_length-le listed none in
-    same_listed namespaces listed o.scopes.items above (entries namespaces (drop own listed) ++ others (entries namespaces (drop own listed)) xml ds) (scopes_more own (length listed) o.scopes.items tag.own_within tag.scopes) tag.above_within
-    (sym (scope_places namespaces listed o.scopes.items above) ∙ sym (ap (λ xs. entries namespaces xs ++ others (entries namespaces xs) xml ds) nothing ∙ ap (λ b. others [] b ds) off ∙ others_none ds))
+nothing_listed o above own xml tag none off = grind (arith, drop_of_length-le, same_listed, scope_places, others_none)

@@ -102,8 +102,7 @@ pub declares_other : (known : List NamespaceDecl) (before : List ℕ) (namespace
 declares_other known before namespaces next listed after xml a h place d uri new is grown few here at push =
     let one = namespace_decl_of a in
     let more : listable_of (h.own ++ one ∷ []) ≡ listable_of h.own ++ one ∷ [] = listable-push h.own one ∙ ap (λ xs. listable_of h.own ++ xs) (listable-other one is) in
-    let pairs : with_new known (listable_of (h.own ++ one ∷ [])) ≡ next =
-    ap (with_new known) more ∙ with_new-append known (listable_of h.own) (one ∷ []) ∙ ap (λ ns. with_new ns (one ∷ [])) (sym d.names_are) ∙ sym grown in
+    let pairs : with_new known (listable_of (h.own ++ one ∷ [])) ≡ next = grind (arith, with_new-append) in
     let front = with_new-front namespaces (one ∷ []) in
     let next_is : next ≡ namespaces ++ front.0 = grown ∙ front.1 in
     let long : length next ≡ length namespaces + length front.0 = ap length next_is ∙ length-append namespaces front.0 in
@@ -138,38 +137,26 @@ own_places before listed mine own o l = ap (drop own) l ∙ ap (λ n. drop n (be
 pub own_listed : (known : List NamespaceDecl) (before : List ℕ) (namespaces seen_names : List NamespaceDecl) (listed seen : List ℕ) (xml : Bool) (ds : List NamespaceDecl) (own : ℕ)
     → own ≡ length before → seen_names ≡ namespaces → seen ≡ listed → Declares known before namespaces listed xml ds
     → entries seen_names (slice_range seen own (length seen)) ≡ listable_of ds
-own_listed known before namespaces seen_names listed seen xml ds own o n s d =
-    ap (λ ns. entries ns (slice_range seen own (length seen))) n
-    ∙ ap (entries namespaces) (slice-rest seen own ∙ own_places before seen d.mine own o (s ∙ d.listed_are)) ∙ d.same
+own_listed known before namespaces seen_names listed seen xml ds own o n s d = grind (arith, slice-rest, own_places)
 
 -- whether it declares this prefix already
 pub own_declares : (namespaces : List NamespaceDecl) (own : List ℕ) (p : Option (List ℕ)) (xml : Bool) (ds : List NamespaceDecl) (found : Bool)
     → found ≡ (is_declared p (entries namespaces own) || (xml && is_xml p)) → xml ≡ declares_xml ds → entries namespaces own ≡ listable_of ds → found ≡ is_declared p ds
-own_declares namespaces own p xml ds found is xml_is own_is =
-    is ∙ ap (λ xs. is_declared p xs || (xml && is_xml p)) own_is ∙ ap (λ b. is_declared p (listable_of ds) || (b && is_xml p)) xml_is ∙ sym (is_declared-own ds p)
+own_declares namespaces own p xml ds found is xml_is own_is = grind (arith, is_declared-own)
 
 pub fails_by : {X Y : Type 0} (e : Failure) (r : Result X Failure) (read : Result Y Fault) → r ≡ Err e → ((f : Fault) → r ≡ Err (failure.Fault f) → read ≡ Err f) → Fails e read
-fails_by failure.Memory r read is go = tt
-fails_by (failure.Fault f) r read is go = go f is
+fails_by e r read is go = grind arith
 
 -- one pair too many
 pub many_pairs : (known : List NamespaceDecl) (before : List ℕ) (namespaces : List NamespaceDecl) (listed : List ℕ) (xml : Bool) (a : Attribute) (h : TagSoFar)
     → Declares known before namespaces listed xml h.own → is_xml (namespace_decl_of a).prefix ≡ false → most_pairs < length (with_new namespaces (namespace_decl_of a ∷ []))
     → most_pairs < length (with_new known (listable_of (h.own ++ namespace_decl_of a ∷ [])))
-many_pairs known before namespaces listed xml a h d is many =
-    let one = namespace_decl_of a in
-    let more : listable_of (h.own ++ one ∷ []) ≡ listable_of h.own ++ one ∷ [] = listable-push h.own one ∙ ap (λ xs. listable_of h.own ++ xs) (listable-other one is) in
-    let pairs : with_new known (listable_of (h.own ++ one ∷ [])) ≡ with_new namespaces (one ∷ []) =
-    ap (with_new known) more ∙ with_new-append known (listable_of h.own) (one ∷ []) ∙ ap (λ ns. with_new ns (one ∷ [])) (sym d.names_are) in
-    rw pairs many
+many_pairs known before namespaces listed xml a h d is many = grind (arith, listable-push, with_new-append)
 
 -- what the scope that it makes lists
 pub scope_declared : (known : List NamespaceDecl) (before : List ℕ) (namespaces : List NamespaceDecl) (old : List ℕ) (xml : Bool) (ds above lists : List NamespaceDecl) (own : ℕ) → own ≡ length before → Declares known before namespaces old xml ds
     → lists ≡ entries namespaces (drop own old) ++ others (entries namespaces (drop own old)) xml above → lists ≡ listed above ds
-scope_declared known before namespaces old xml ds above lists own o d is =
-    let mine : drop own old ≡ d.mine = own_places before old d.mine own o d.listed_are in
-    is ∙ ap (λ xs. entries namespaces xs ++ others (entries namespaces xs) xml above) mine ∙ ap (λ xs. xs ++ others xs xml above) d.same ∙ ap (λ b. listable_of ds ++ others (listable_of ds) b above) d.xml_is
-    ∙ sym (listed-others above ds)
+scope_declared known before namespaces old xml ds above lists own o d is = grind (arith, own_places, listed-others)
 
 -- the listed places with one more, where the table has a pair more or is as before
 pub places_after : (old rows : List Namespace) (listed after : List ℕ) (d : NamespaceDecl) (place : ℕ) → map namespace_view rows ≡ with_new (map namespace_view old) (d ∷ []) → place < length rows
@@ -183,14 +170,7 @@ places_after old rows listed after d place grown here push ok =
 -- the set of prefixes, where the table has a pair more
 pub remembers_after : (old rows : List Namespace) (listed : List ℕ) (d : NamespaceDecl) (own : ℕ) (keys : List Key) → map namespace_view rows ≡ with_new (map namespace_view old) (d ∷ [])
     → ArePlaces (length old) listed → IsPrefixSet (map namespace_view old) (drop own listed) keys → IsPrefixSet (map namespace_view rows) (drop own listed) keys
-remembers_after old rows listed d own keys grown ok h =
-    let namespaces = map namespace_view old in
-    let front = with_new-front namespaces (d ∷ []) in
-    let was = length-map old namespace_view in
-    let mine : ArePlaces (length namespaces) (drop own listed) = rw was (all_drop (λ i. i < length old) own listed ok) in
-    let stays : entries (map namespace_view rows) (drop own listed) ≡ entries namespaces (drop own listed) =
-    ap (λ ns. entries ns (drop own listed)) (grown ∙ front.1) ∙ map_same (namespace_at (namespaces ++ front.0)) (namespace_at namespaces) (λ i. i < length namespaces) (drop own listed) (namespace_at-append namespaces front.0) mine in
-    remembers_same namespaces (map namespace_view rows) (drop own listed) keys stays h
+remembers_after old rows listed d own keys grown ok h = grind (arith, length-map, all_drop, map_same, namespace_at-append, remembers_same)
 
 -- each prefix is listed once, where one more is listed
 pub once_after : (old rows : List Namespace) (listed after : List ℕ) (d : NamespaceDecl) (place own : ℕ) → map namespace_view rows ≡ with_new (map namespace_view old) (d ∷ [])
@@ -203,10 +183,7 @@ once_after old rows listed after d place own grown push own_in ok is absent once
     let mine : ArePlaces (length namespaces) (drop own listed) = rw was (all_drop (λ i. i < length old) own listed ok) in
     let stays : entries (map namespace_view rows) (drop own listed) ≡ entries namespaces (drop own listed) =
     ap (λ ns. entries ns (drop own listed)) (grown ∙ front.1) ∙ map_same (namespace_at (namespaces ++ front.0)) (namespace_at namespaces) (λ i. i < length namespaces) (drop own listed) (namespace_at-append namespaces front.0) mine in
-    let whole : entries (map namespace_view rows) (drop own after) ≡ entries namespaces (drop own listed) ++ d ∷ [] =
-    ap (λ xs. entries (map namespace_view rows) (drop own xs)) push ∙ ap (entries (map namespace_view rows)) (drop-append-le own listed (place ∷ []) own_in)
-    ∙ map-append (namespace_at (map namespace_view rows)) (drop own listed) (place ∷ [])
-    ∙ ap (λ x. entries (map namespace_view rows) (drop own listed) ++ x ∷ []) is ∙ ap (λ xs. xs ++ d ∷ []) stays in
+    let whole : entries (map namespace_view rows) (drop own after) ≡ entries namespaces (drop own listed) ++ d ∷ [] = grind (arith, drop-append-le, map-append) in
     subst PrefixesOnce (sym whole) (once_more (entries namespaces (drop own listed)) d once absent)
 
 -- nothing is listed yet
@@ -265,5 +242,4 @@ with_absent ds d h = rw h refl
 
 -- a URI that was tested
 pub passed_uri : (a : Attribute) (r : Result (Unit {0}) Fault) → r ≡ uri_tested a → is_ok r ≡ true → uri_tested a ≡ Ok tt
-passed_uri a (Ok tt) is h = sym is
-passed_uri a (Err f) is h = cc h
+passed_uri a r is h = grind arith

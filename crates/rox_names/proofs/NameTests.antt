@@ -1,6 +1,5 @@
 -- The names of a tag in a scope, one by one.
-use Rattle.std.proofs.Common.{◌≡◌, ℕ, ◌<◌, ◌==◌, ◌||◌, Bool, true, false, List, [], ◌∷◌, ◌++◌, length, map, refl, sym, ap, ◌∙◌, arith, Some, None, Err, bytes_eq, Option, drop}
-use Rattle.std.proofs.lemmas.Bool.Decides.{nat_tests}
+use Rattle.std.proofs.Common.{◌≡◌, ℕ, ◌==◌, Bool, true, false, List, [], ◌∷◌, ◌++◌, length, map, refl, sym, ap, ◌∙◌, arith, Some, None, Err, bytes_eq, Option, drop}
 use Rattle.std.specs.List.{list_any}
 use Rattle.rox_grammar.specs.declared.fault.Fault.TheVariants as fault
 use Rattle.rox_grammar.specs.declared.fault.Word.TheVariants.{Xml}
@@ -8,7 +7,7 @@ use Rattle.rox_grammar.specs.FixedTexts.{word_text}
 use Rattle.rox_grammar.specs.Written.{Attribute, NamespaceDecl, Name}
 use Rattle.rox_grammar.specs.NameParts.{local_span, prefix_span}
 use Rattle.rox_grammar.specs.Tree as tree
-use Rattle.rox_grammar.specs.Tree.{same_prefix, is_declared, uri_of, none_if_empty, attribute_namespace, attribute_in, element_namespace}
+use Rattle.rox_grammar.specs.Tree.{uri_of, attribute_namespace, attribute_in, element_namespace}
 use Rattle.rox_grammar.specs.WellNamed.{is_known, same_expanded, may_name}
 use Rattle.rox_reading.specs.Tags.{names_tested}
 use Rattle.rox_rows.specs.declared.row.AttributeNamespace.{AttributeNamespace}
@@ -28,26 +27,11 @@ use Rattle.rox_scopes.proofs.Pairs.{declared_some, declared_none}
 -- a text of no bytes is the empty one
 pub empty_is : (p : List ℕ) (r : Bool) → r ≡ (length p == 0) → bytes_eq p [] ≡ r
 empty_is [] r h = sym h
-empty_is (b ∷ bs) r h = longer (length (b ∷ bs)) r (omega arith) h
-  where
-    longer : (n : ℕ) (r : Bool) → 0 < n → r ≡ (n == 0) → false ≡ r
-    longer n r lt h = grind (arith, nat_tests)
-
--- a text that is not empty is there
-some_if : (p : List ℕ) → bytes_eq p [] ≡ false → none_if_empty p ≡ Some p
-some_if [] h = cc h
-some_if (b ∷ bs) h = refl
+empty_is (b ∷ bs) r h = grind arith
 
 -- a prefix with a URI is known
 pub known_some : (scope : List NamespaceDecl) (n : Name) (u : List ℕ) → uri_of scope (Some n.prefix) ≡ Some u → is_known scope n ≡ true
-known_some scope n u h =
-    let d = declared_some scope (Some n.prefix) u h in
-    rw d (or_last (bytes_eq n.prefix []) (bytes_eq n.prefix (word_text Xml)))
-  where
-    or_last : (a b : Bool) → (a || (b || true)) ≡ true
-    or_last true b = refl
-    or_last false true = refl
-    or_last false false = refl
+known_some scope n u h = grind (arith, declared_some)
 
 -- and one without is not, unless it is empty or `xml`
 pub known_none : (scope : List NamespaceDecl) (n : Name) → bytes_eq n.prefix [] ≡ false → bytes_eq n.prefix (word_text Xml) ≡ false
@@ -57,9 +41,7 @@ known_none scope n e x h = let d = declared_none scope (Some n.prefix) h in rw (
 -- an element whose prefix has a URI may have its name, and is in that namespace
 pub element_some : (namespaces scope : List NamespaceDecl) (n : Name) (place : ℕ) → bytes_eq n.prefix [] ≡ false → uri_of scope (Some n.prefix) ≡ Some (namespace_at namespaces place).uri
     → (Some (namespace_at namespaces place).uri ≡ element_namespace scope n) × (may_name scope n ≡ true)
-element_some namespaces scope n place e h =
-    let d = declared_some scope (Some n.prefix) (namespace_at namespaces place).uri h in
-    (sym h ∙ ap (uri_of scope) (sym (some_if n.prefix e)), rw (e, d) refl)
+element_some namespaces scope n place e h = grind (arith, declared_some)
 
 -- and one whose prefix has none may not
 pub element_none : (scope : List NamespaceDecl) (n : Name) → bytes_eq n.prefix [] ≡ false → uri_of scope (Some n.prefix) ≡ None → may_name scope n ≡ false
@@ -133,5 +115,4 @@ pub adds_compact : (namespaces : List NamespaceDecl) (few : Option (List ℕ)) (
     → ((scope : List NamespaceDecl) → FindsBinding namespaces few present scope → is_known scope (name_view one.name) ≡ true)
     → list_any (λ (r : AttributeRow). has_expanded namespaces s one.name.local.now r.0) (drop from old) ≡ false
     → AddsResolved namespaces few present from old new one
-adds_compact namespaces few present from old new one compact s row grown within there known first =
-    adds_row namespaces few present from old new one s (grown ∙ ap (λ (r : AttributeRow). old ++ r ∷ []) (sym row)) within there known first
+adds_compact namespaces few present from old new one compact s row grown within there known first = grind (arith, adds_row)

@@ -1,12 +1,11 @@
 -- The loop that resolves the names of a tag.
-use Rattle.std.proofs.Common.{◌≡◌, ℕ, ◌+◌, ◌<◌, ◌≤◌, List, [], ◌∷◌, ◌++◌, length, map, take, drop, get_or, add-one, drop-cons, refl, sym, ap, ◌∙◌, arith, subst, set, length-set, Option, Ok, Err}
+use Rattle.std.proofs.Common.{◌≡◌, ℕ, ◌+◌, ◌<◌, ◌≤◌, List, [], ◌∷◌, ◌++◌, length, map, take, drop, get_or, add-one, drop-cons, refl, sym, ap, ◌∙◌, arith, set, length-set, Ok, Err}
 use Rattle.std.proofs.Math.ListN.{drop_of_length-le}
 use Rattle.std.proofs.Math.Seq.{drop-append_seam}
 use Rattle.std.specs.List.{AllByRecursion}
 use Rattle.std.proofs.lemmas.List.{append-nil, take_more, take_all, get_or_read, drop-set-lt, append_assoc, map-append}
 use Rattle.rox_grammar.specs.declared.fault.Fault.{Fault}
 use Rattle.rox_grammar.specs.Written.{Attribute, NamespaceDecl}
-use Rattle.rox_grammar.specs.Tree as tree
 use Rattle.rox_grammar.specs.Tree.{attribute_namespace, attribute_in}
 use Rattle.rox_reading.specs.Tags.{names_tested}
 use Rattle.rox_rows.specs.declared.row.AttributeNamespace.{AttributeNamespace}
@@ -14,7 +13,6 @@ use Rattle.rox_names.specs.declared.unresolved_attribute.UnresolvedAttribute.{Un
 use Rattle.rox_grammar.specs.Failures.{name_view, Fails}
 use Rattle.rox_grammar.specs.declared.failure.Failure.{Failure}
 use Rattle.rox_grammar.specs.declared.failure.Failure.TheVariants as failure
-use Rattle.rox_storage.specs.Storage.{storage_bytes, is_borrowed}
 use Rattle.rox_rows.specs.Rows.{attribute, attribute_uri, NamespaceWithin, AttributeRow}
 use Rattle.rox_names.specs.TagDeclarations.{unresolved_view}
 use Rattle.rox_names.specs.ResolvedNames.{row_of_unresolved}
@@ -69,27 +67,14 @@ stands_at initial now k t left long lt is =
     let di : drop k initial ≡ get_or initial k t ∷ drop (k + 1) initial = rw (add-one, drop-cons initial k t) refl in
     let both : get_or now k t ∷ drop (k + 1) now ≡ get_or initial k t ∷ drop (k + 1) initial = sym dn ∙ left ∙ di in
     let here : t ≡ get_or initial k t = is ∙ cc both in
-    record {
-      rest = di ∙ ap (λ y. y ∷ drop (k + 1) initial) (sym here);
-      left = cc both;
-      front = take_more initial k t within ∙ ap (λ y. take k initial ++ y ∷ []) (sym here);
-    }
+    grind (arith, take_more)
 
 -- a name that is refused is that of the fault of all
 pub refuses : (n : ℕ) (namespaces scope : List NamespaceDecl) (initial : List UnresolvedAttribute) (old : List AttributeRow) (k : ℕ) (now : List UnresolvedAttribute) (table : List AttributeRow) (t : UnresolvedAttribute) (f : Fault)
     → Moving n initial old k now table → Resolving namespaces scope initial old k table → k < length now → t ≡ get_or now k t
     → ((before rest : List Attribute) → map (attribute namespaces) (drop (length old) table) ≡ map (attribute_in scope) before → names_tested scope before (unresolved_view t ∷ rest) ≡ Err f)
     → names_tested scope [] (map unresolved_view initial) ≡ Err f
-refuses n namespaces scope initial old k now table t f m h lt is step =
-    let st = stands_at initial now k t m.left m.long lt is in
-    h.tested ∙ ap (λ ys. names_tested scope (map unresolved_view (take k initial)) (map unresolved_view ys)) st.rest
-    ∙ step (map unresolved_view (take k initial)) (map unresolved_view (drop (k + 1) initial)) h.shown
-
--- the row of an attribute shows it
-pub row_shown : (namespaces scope : List NamespaceDecl) (t : UnresolvedAttribute) (s : AttributeNamespace) → attribute_uri namespaces s ≡ attribute_namespace scope (name_view t.name)
-    → attribute namespaces (row_of_unresolved t s) ≡ attribute_in scope (unresolved_view t)
-row_shown namespaces scope t s h = ap (λ (o : Option (List ℕ)).
-    let r : tree.Attribute = record { start = t.start; name_end = t.name_end; value_start = t.value_start; end = t.end; namespace = o; local = t.name.local.now; value = storage_bytes t.value; borrowed = is_borrowed t.value } in r) h
+refuses n namespaces scope initial old k now table t f m h lt is step = grind (arith, stands_at initial now k t m.left m.long lt is)
 
 -- one more attribute that is moved
 pub moves : (n : ℕ) (initial : List UnresolvedAttribute) (old : List AttributeRow) (k : ℕ) (now : List UnresolvedAttribute) (table : List AttributeRow) (t u x : UnresolvedAttribute) (s : AttributeNamespace) (row : AttributeRow) (more : List AttributeRow)
@@ -97,13 +82,7 @@ pub moves : (n : ℕ) (initial : List UnresolvedAttribute) (old : List Attribute
     → Moving n initial old (k + 1) (set now k x) more
 moves n initial old k now table t u x s row more m lt is within made grown =
     let st = stands_at initial now k t m.left m.long lt is in
-    record {
-      done = m.done ++ row ∷ [];
-      table_is = grown ∙ ap (λ xs. xs ++ row ∷ []) m.table_is ∙ append_assoc old m.done (row ∷ []);
-      within = all_append (λ a. NamespaceWithin n a.0.namespace) m.done (row ∷ []) m.within (subst (λ (r : AttributeRow). NamespaceWithin n r.0.namespace) (sym made) within, tt);
-      left = drop-set-lt (k + 1) now k x (omega arith) ∙ st.left;
-      long = length-set now k x ∙ m.long;
-    }
+    grind (arith, append_assoc, all_append, drop-set-lt, length-set)
 
 -- and tested
 pub resolves : (n : ℕ) (namespaces scope : List NamespaceDecl) (initial : List UnresolvedAttribute) (old : List AttributeRow) (k : ℕ) (now : List UnresolvedAttribute) (table : List AttributeRow)
@@ -125,24 +104,11 @@ resolves n namespaces scope initial old k now table t u s row more m h lt is ste
     let now_behind : drop (length old) more ≡ drop (length old) table ++ row ∷ [] =
     behind old (m.done ++ row ∷ []) more (grown ∙ ap (λ xs. xs ++ row ∷ []) m.table_is ∙ append_assoc old m.done (row ∷ []))
     ∙ ap (λ xs. xs ++ row ∷ []) (sym (behind old m.done table m.table_is)) in
-    record {
-      shown = ap (map (attribute namespaces)) now_behind ∙ map-append (attribute namespaces) (drop (length old) table) (row ∷ []) ∙ ap (λ xs. xs ++ attribute namespaces row ∷ []) h.shown
-          ∙ ap (λ (r : tree.Attribute). map (attribute_in scope) before ++ r ∷ []) (ap (attribute namespaces) made_of ∙ row_shown namespaces scope t s space)
-          ∙ sym (map-append (attribute_in scope) before (unresolved_view t ∷ [])) ∙ ap (map (attribute_in scope)) (sym views);
-      tested = h.tested ∙ ap (λ ys. names_tested scope before (map unresolved_view ys)) st.rest
-          ∙ step before rest h.shown
-          ∙ ap (λ ys. names_tested scope ys rest) (sym views);
-    }
+    grind (arith, map-append)
 
 -- before the first
 pub starts : (n : ℕ) (initial : List UnresolvedAttribute) (old : List AttributeRow) → Moving n initial old 0 initial old
-starts n initial old = record {
-  done = [];
-  table_is = sym (append-nil old);
-  within = tt;
-  left = refl;
-  long = refl;
-}
+starts n initial old = grind (arith, append-nil)
 
 pub resolves_first : (namespaces scope : List NamespaceDecl) (initial : List UnresolvedAttribute) (old : List AttributeRow) → Resolving namespaces scope initial old 0 old
 resolves_first namespaces scope initial old = record { shown = ap (map (attribute namespaces)) (behind old [] old (sym (append-nil old))); tested = refl }

@@ -1,5 +1,5 @@
 -- A name that was read is read again wherever the same bytes stand before `>`.
-use Rattle.std.proofs.Common.{◌≡◌, ℕ, ◌+◌, ◌-◌, ◌<◌, ◌≤◌, Bool, false, List, [], ◌∷◌, ◌++◌, Ok, length, take, drop, get_or, slice_index, slice_range, refl, sym, ap, ◌∙◌, subst, arith, inl, inr, add-zero, length-drop, length-append, get_or-drop, take-append-drop}
+use Rattle.std.proofs.Common.{◌≡◌, ℕ, ◌+◌, ◌-◌, ◌<◌, ◌≤◌, Bool, false, List, [], ◌∷◌, ◌++◌, Ok, length, take, drop, slice_index, slice_range, refl, sym, ap, ◌∙◌, subst, arith, inl, inr, add-zero, length-drop, length-append, get_or-drop, take-append-drop}
 use Rattle.std.specs.Prelude.{bytes_eq}
 use Rattle.std.specs.Char.{encode_utf8, len_utf8}
 use Rattle.std.specs.Str.{chars, IsUtf8, IsCharBoundary, encode_utf8_all}
@@ -25,7 +25,6 @@ use Rattle.rox_theory.proofs.NameLemmas.{qname_sound, qname_complete, qname_le}
 use Rattle.rox_theory.proofs.CharTexts.{run_cut}
 use Rattle.rox_bytes.proofs.RunLemmas.{run_stops_ascii, stands_within}
 use Rattle.rox_names.specs.OpenElements.{name_length, HasName, IsOpened, open_name}
-use Rattle.rox_names.specs.SpelledNames.{is_prefixed}
 use Rattle.rox_names.specs.declared.open_element.OpenElement.{OpenElement}
 use Rattle.rox_names.specs.declared.start_tag.StartTag.{StartTag}
 
@@ -50,8 +49,7 @@ some_of src dst i j n a b same le =
     ∙ drop-take a b (drop j dst) ∙ ap (take b) (drop-drop a j dst)
 
 one_of : (src dst : List ℕ) (i j n a : ℕ) → take n (drop i src) ≡ take n (drop j dst) → a < n → slice_index src (i + a) ≡ slice_index dst (j + a)
-one_of src dst i j n a same less =
-    sym (get_or-take n (drop i src) a 0 less ∙ get_or-drop i src a 0) ∙ ap (λ xs. get_or xs a 0) same ∙ get_or-take n (drop j dst) a 0 less ∙ get_or-drop j dst a 0
+one_of src dst i j n a same less = grind (arith, get_or-take, get_or-drop)
 
 -- characters that all pass, whatever is behind them
 all_pass : (p : ℕ → Bool) (cs ds es : List ℕ) → passing p (cs ++ ds) ≡ length (encode_utf8_all cs) → passing p es ≡ 0 → passing p (cs ++ es) ≡ length (encode_utf8_all cs)
@@ -137,15 +135,10 @@ behind_colon src k utf8 colon = IsCharBoundary-after_ascii src k utf8 (stands_wi
 
 -- a name ends in the source
 pub name_inside : (src : List ℕ) (i : ℕ) (name : Name) (e : ℕ) → IsUtf8 src → IsCharBoundary src i → IsQName src i name e → e ≤ length src
-name_inside src i name e utf8 cut (unprefixed _ _ part last) = rw (ncname_parts part).longest (run_cut is_part_char src i utf8 cut).0
-name_inside src i name e utf8 cut (prefixed _ k _ front colon part last) = rw (ncname_parts part).longest (run_cut is_part_char src (k + 1) utf8 (behind_colon src k utf8 colon)).0
-name_inside src i name e utf8 cut (colon_first _ _ colon part last) = rw (ncname_parts part).longest (run_cut is_part_char src (i + 1) utf8 (behind_colon src i utf8 colon)).0
+name_inside src i name e utf8 cut p = grind (arith, ncname_parts, run_cut, behind_colon)
 
 slice_same : (src dst : List ℕ) (i j n a b k e m f : ℕ) → take n (drop i src) ≡ take n (drop j dst) → a + b ≤ n → k ≡ i + a → e ≡ k + b → m ≡ j + a → f ≡ m + b → slice_range dst m f ≡ slice_range src k e
-slice_same src dst i j n a b k e m f same le ka eb ma fb =
-    let x : e - k ≡ b = omega arith in
-    let y : f - m ≡ b = omega arith in
-    rw (x, y, ka, ma) (sym (some_of src dst i j n a b same le))
+slice_same src dst i j n a b k e m f same le ka eb ma fb = grind (arith, some_of)
 
 name_same : (src dst : List ℕ) (i j n e : ℕ) (name : Name) → IsUtf8 src → IsUtf8 dst → IsCharBoundary src i → IsQName src i name e → e ≡ i + n → take n (drop i src) ≡ take n (drop j dst)
     → slice_index dst (j + n) ≡ 62 → IsQName dst j name (j + n)
@@ -217,8 +210,4 @@ opened_named context cut above count known src i openings_left r j t o utf8 here
     let at : r.tag.name_end ≡ i + 1 + n = omega arith in
     let named' : qname_at src (i + 1) ≡ Ok (r.tag.name, i + 1 + n) = named ∙ ap (λ (e : ℕ). Ok (r.tag.name, e)) at in
     let bytes : take n o.source.now ≡ take n (drop (i + 1) src) = by.kept.bytes ∙ rw (name_end, name_start, ← long) refl in
-    record {
-      within = by.kept.within;
-      prefixed = by.prefixed ∙ ap is_prefixed (sym by.name);
-      read = λ dst k other same stop. named_same src dst (i + 1) k n r.tag.name utf8 other cut named' (sym bytes ∙ same) stop ∙ ap (λ (m : Name). Ok (m, k + n)) (sym view);
-    }
+    grind (arith, named_same)

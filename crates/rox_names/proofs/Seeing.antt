@@ -2,7 +2,6 @@
 use Rattle.std.proofs.Common.{◌≡◌, ℕ, ◌||◌, ◌&&◌, Bool, false, List, [], ◌∷◌, refl, sym, ap, ◌∙◌, Option, Some, None, Bor, bytes_eq}
 use Rattle.std.specs.List.{list_any}
 use Rattle.std.specs.declared.cmp.Ordering.{Ordering}
-use Rattle.std.specs.declared.cmp.Ordering.TheVariants.{Less, Equal, Greater}
 use Rattle.std.specs.Ordering.{is_eq, match_ordering, nat_cmp, ordering_then}
 use Rattle.std.specs.Option.{option_cmp}
 use Rattle.std.specs.Cmp.{both_tied}
@@ -18,7 +17,7 @@ use Rattle.std.proofs.Math.ListN.{drop_of_length-le}
 use Rattle.std.proofs.Math.Seq.{drop-append_seam}
 use Rattle.std.proofs.lemmas.List.{append_assoc, map-append}
 use Rattle.std.proofs.lemmas.List.Folds.{list_any-append}
-use mathlib.Core.Bool.{and_comm, or_comm, or_assoc}
+use mathlib.Core.Bool.{and_comm, or_comm}
 use Rattle.std.proofs.lemmas.Bool.{or_parts}
 use Rattle.rox_grammar.specs.Written.{NamespaceDecl}
 use Rattle.rox_rows.specs.Rows.{attribute_uri, AttributeRow}
@@ -44,15 +43,12 @@ key_ties k x =
 
 -- whether a set has a key
 pub has_is : (ks : List Key) (k : Key) → has_key k.0.now (prefix_view k.1) ks ≡ list_any (is_at (key_cmp k)) ks
-has_is [] k = refl
-has_is (x ∷ xs) k = rw (key_ties k x, has_is xs k) refl
+has_is ks k = grind (arith, key_ties)
 
 one_more : {K : Type 0} (cmp : K → K → Ordering) (P : K → Bool) (xs : List K) (x k : K) (o : Ordering) → o ≡ cmp k x → is_eq (cmp k x) ≡ false
     → list_any P (insert_key cmp xs k) ≡ (list_any P xs || P k)
     → list_any P (match_ordering o (k ∷ x ∷ xs) (x ∷ xs) (x ∷ insert_key cmp xs k)) ≡ ((P x || list_any P xs) || P k)
-one_more cmp P xs x k Less is apart more = or_comm (P k) _
-one_more cmp P xs x k Equal is apart more = cc (ap is_eq is, apart)
-one_more cmp P xs x k Greater is apart more = ap (λ b. P x || b) more ∙ sym (or_assoc (P x) _ _)
+one_more cmp P xs x k o is apart more = grind arith
 
 -- what some key of a set passes that has one more
 pub any_inserted : {K : Type 0} (cmp : K → K → Ordering) (P : K → Bool) (ks : List K) (k : K) → list_any (is_at (cmp k)) ks ≡ false
@@ -96,10 +92,4 @@ pub sees_next : (namespaces : List NamespaceDecl) (keys more : List Key) (old do
     → table ≡ old ++ done → new ≡ table ++ row ∷ [] → HasExpandedNames namespaces keys (data_of old table)
     → (HasExpandedNames namespaces keys (data_of old table) → HasExpandedNames namespaces more (data_of old table ++ row.0 ∷ []))
     → HasExpandedNames namespaces more (data_of old new)
-sees_next namespaces keys more old done table new row is grown h step =
-    let first : drop (length old) table ≡ done = ap (drop (length old)) is ∙ drop-append_seam old done in
-    let all : drop (length old) new ≡ done ++ row ∷ [] =
-    ap (drop (length old)) (grown ∙ ap (λ xs. xs ++ row ∷ []) is ∙ append_assoc old done (row ∷ [])) ∙ drop-append_seam old (done ++ row ∷ []) in
-    subst (HasExpandedNames namespaces more)
-    (ap (λ xs. map (λ (r : AttributeRow). r.0) xs ++ row.0 ∷ []) first ∙ sym (map-append (λ (r : AttributeRow). r.0) done (row ∷ [])) ∙ ap (map (λ (r : AttributeRow). r.0)) (sym all))
-    (step h)
+sees_next namespaces keys more old done table new row is grown h step = grind (arith, drop-append_seam, append_assoc, map-append)

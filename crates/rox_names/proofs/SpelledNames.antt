@@ -1,8 +1,7 @@
 -- The bytes of a name spell it.
 use Rattle.std.proofs.Common.{inl, inr, ◌∷◌, ◌≡◌, ℕ, ◌+◌, ◌-◌, ◌<◌, ◌≤◌, ◌==◌, true, false, List, [], length, take, drop, slice_index, slice_range, refl, sym, ap, ◌∙◌, subst, not, arith, add-zero, get_or-drop, length-drop, Ok}
-use Rattle.std.specs.Prelude.{nat_lt}
 use Rattle.std.specs.Str.{IsUtf8, IsCharBoundary}
-use Rattle.std.proofs.lemmas.Bool.{cases_Bool, cases_lt, eq-eqb, eqb-true, ne_eqb, le-ltb, lt-ltb, not-false}
+use Rattle.std.proofs.lemmas.Bool.{cases_lt, eq-eqb, eqb-true, le-ltb, lt-ltb, not-false}
 use Rattle.std.proofs.lemmas.List.{drop-drop, drop-take, take-take, length-take, get_or-take}
 use Rattle.std.proofs.lemmas.List.Sums.{fails_before_first, position_or_len_is, prefix_len-le-length}
 use Rattle.std.proofs.lemmas.Str.{IsCharBoundary-after_ascii}
@@ -46,11 +45,7 @@ slice_rest src i j n k is le =
 
 -- none of a part is a colon
 no_colon : (src : List ℕ) (i e k : ℕ) → IsUtf8 src → IsCharBoundary src i → IsNCName src i e → e ≤ length src → i + k < e → (slice_index src (i + k) == 58) ≡ false
-no_colon src i e k utf8 cut part inside less =
-    ne_eqb _ 58 (λ colon.
-    let long = (ncname_parts part).longest in
-    let within = run_within is_part_char src i (i + k) utf8 cut (omega arith) (omega arith) (omega (arith, colon)) (rw colon colon_apart) in
-    omega arith)
+no_colon src i e k utf8 cut part inside less = grind (arith, run_within, colon_apart)
 
 -- a name is spelled by what stands up to its end
 name_spelled : (src : List ℕ) (i : ℕ) (name : Name) (e : ℕ) → IsUtf8 src → IsCharBoundary src i → IsQName src i name e → spelled_name (slice_range src i e) ≡ name
@@ -69,9 +64,7 @@ name_spelled src i name e utf8 cut (prefixed _ k _ front colon part last) =
     let y = (ncname_parts part).longest in
     let at : i + (k - i) ≡ k = omega arith in
     let bs = slice_range src i e in
-    let there : before_colon bs ≡ k - i = position_or_len_is (λ b. b == 58) bs (k - i) 0 (omega arith)
-    (λ m less. rw (slice_byte src i e m (omega arith)) (no_colon src i k m utf8 cut front (omega arith) (omega arith)))
-    (λ more. rw (slice_byte src i e (k - i) (omega arith), at) (eq-eqb _ 58 colon)) in
+    let there : before_colon bs ≡ k - i = grind (arith, position_or_len_is, slice_byte, no_colon) in
     let p : take (k - i) bs ≡ slice_range src i k = take-take (k - i) (e - i) (drop i src) (omega arith) in
     let l : drop (k - i + 1) bs ≡ slice_range src (k + 1) e = slice_rest src i e (k - i + 1) (k + 1) (omega arith) (omega arith) in
     spelled_parts bs (omega arith) ∙ rw (there, p, l) refl
@@ -113,20 +106,14 @@ front_is_prefix xs prefix n within some colon same apart =
     let bs = take n xs in
     let k = length prefix in
     let long : length bs ≡ n = (let l = length-take n xs in omega arith) in
-    let there : before_colon bs ≡ k = position_or_len_is (λ b. b == 58) bs k 0 (omega arith)
-    (λ m less. rw (get_or-take n xs m 0 (omega arith), ← get_or-take k xs m 0 less, same) (fails_before_first (λ b. b == 58) prefix m 0 (omega arith)))
-    (λ more. rw (get_or-take n xs k 0 some) (eq-eqb _ 58 colon)) in
+    let there : before_colon bs ≡ k = grind (arith, position_or_len_is, get_or-take, fails_before_first) in
     ap (λ (m : Name). m.prefix) (spelled_parts bs (omega arith)) ∙ ap (λ (m : ℕ). take m bs) there ∙ take-take k n xs (omega arith) ∙ same
 
 -- ---- of an open element
 
 -- the count that is kept is no more than the name has, and that is in the source
 pub kept_bounds : (n : ℕ) (xs : List ℕ) → n ≤ length xs → (n ≤ kept_length n xs) × (kept_length n xs ≤ length xs)
-kept_bounds n xs within =
-    elim (cases_Bool (nat_lt n long_name)) [
-      | inl narrow ↦ rw narrow (omega arith, within)
-      | inr long ↦ rw long (within, omega arith)
-    ]
+kept_bounds n xs within = grind arith
 
 -- it is all of it where the name is not long
 pub kept_narrow : (n : ℕ) (xs : List ℕ) → n < long_name → kept_length n xs ≡ n
@@ -135,13 +122,7 @@ kept_narrow n xs narrow = rw (lt-ltb n long_name narrow) refl
 -- and then the name of a tag is kept with what stands behind it
 pub narrow_kept : (text : List ℕ) (tag : StartTag) (source : List ℕ) → SpellsName text tag → tag.name_end - tag.name_start < long_name → source ≡ drop tag.name_start text
     → KeepsName text tag (tag.name_end - tag.name_start) source
-narrow_kept text tag source spells narrow rest =
-    let n = tag.name_end - tag.name_start in
-    let long : length source ≡ length text - tag.name_start = ap length rest ∙ length-drop tag.name_start text in
-    let ordered = spells.ordered in
-    let within = spells.within in
-    let all : kept_length n source ≡ n = kept_narrow n source narrow in
-    record { within = omega arith; counted = all; bytes = rw all (ap (take n) rest) }
+narrow_kept text tag source spells narrow rest = grind (arith, length-drop)
 
 pub unprefixed_name : (o : OpenElement) → HasName o → o.prefixed ≡ false → (open_name o).prefix ≡ []
 unprefixed_name o named bare = nothing (open_name o).prefix (not-false _ (sym named.prefixed ∙ bare))
@@ -160,8 +141,4 @@ tag_is_named context cut above count known src i openings_left r j t utf8 here r
     let le = qname_le src (i + 1) r.tag.name r.tag.name_end is in
     let cut = IsCharBoundary-after_ascii src i utf8 (stands_within src i 60 here (omega arith)) (rw here (omega arith)) in
     let inside = name_inside src (i + 1) r.tag.name r.tag.name_end utf8 cut is in
-    record {
-      ordered = omega arith;
-      within = omega arith;
-      spells = rw (name_start, name_end, name) (qname_spelled src (i + 1) r.tag.name r.tag.name_end utf8 cut named);
-    }
+    grind (arith, qname_spelled)

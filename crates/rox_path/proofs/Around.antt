@@ -4,6 +4,7 @@ use Rattle.std.specs.List.{Contains}
 use Rattle.std.proofs.lemmas.Bool.{cases_lt, cases_eq}
 use Rattle.std.proofs.lemmas.List.{get_or_append_left, get_or-append-add, get_or_past}
 use Rattle.std.proofs.lemmas.List.Elements.{Contains-append_right}
+use Rattle.std.proofs.lemmas.Bool.Decides.{nat_tests}
 use Rattle.rox_grammar.specs.Forest.{Forest, Nil, Cons, size}
 use Rattle.rox_grammar.specs.Tree.{Node}
 use Rattle.roxmltree.specs.Places.{Place, places, nowhere, preorder, place, first, parent}
@@ -17,8 +18,7 @@ in_none : {A : Type 0} (a : A) → Contains [] a → ⊥
 in_none a h = omega (arith, h.1)
 
 pub in_cons : (x a : ℕ) (xs : List ℕ) → Contains (x ∷ xs) a → (a ≡ x) ⊎ Contains xs a
-in_cons x a xs (zero, l, e) = inl (sym e)
-in_cons x a xs (suc k, l, e) = inr (k, omega arith, e)
+in_cons x a xs h = grind (arith, nat_tests)
 
 pub behind : (x a : ℕ) (xs : List ℕ) → Contains xs a → Contains (x ∷ xs) a
 behind x a xs h = (suc h.0, omega (arith, h.1), h.2)

@@ -5,12 +5,11 @@ use Rattle.std.specs.Option.{option_eq}
 use Rattle.std.proofs.lemmas.Bool.{cases_lt, and_parts, and_from, le-leb, leb-true, false≢true, cases_Bool, or_right}
 use Rattle.std.proofs.lemmas.List.{get_or_past, take_more, map-append}
 use Rattle.std.proofs.lemmas.Slice.Eq.{bytes_eq-Decides}
+use Rattle.std.proofs.lemmas.Bool.Decides.{nat_tests}
 use Rattle.rox_grammar.specs.Forest.{Forest, size}
 use Rattle.rox_grammar.specs.Tree.{Node}
 use Rattle.roxmltree.specs.DocumentView.{DocumentView}
-use Rattle.roxmltree.specs.ExpandedNames.{same_expanded_name}
 use Rattle.roxmltree.specs.Places.{place, parent, first}
-use Rattle.roxmltree.specs.NodeParts.{node_at, is_element_node, namespace_of, local_of}
 use Rattle.roxmltree.specs.NodeRef.{node_refs}
 use Rattle.rox_path.specs.Steps.{Expanded, PathStep, child, descendant, step_of}
 use Rattle.rox_path.specs.declared.steps.Step.{Step}
@@ -23,9 +22,7 @@ use Rattle.rox_path.proofs.Around.{above_around, stays_inside, parent_above, beh
 mark_at : (f : DocumentView × ℕ → Bool) (doc : DocumentView) (top n k : ℕ) → k < n → get_or (marks_by f doc top n) k false ≡ f (doc, top + k)
 mark_at f doc top zero k l = absurd (omega arith)
 mark_at f doc top (suc n) zero l = let e : top + 0 ≡ top = omega arith in rw e refl
-mark_at f doc top (suc n) (suc k) l =
-    let e : (top + 1) + k ≡ top + suc k = omega arith in
-    rw (← e) (mark_at f doc (top + 1) n k (omega arith))
+mark_at f doc top (suc n) (suc k) l = grind (arith, nat_tests, mark_at f doc (top + 1) n k (omega arith))
 
 pub length-marks : (f : DocumentView × ℕ → Bool) (doc : DocumentView) (top n : ℕ) → length (marks_by f doc top n) ≡ n
 length-marks f doc top zero = refl
@@ -34,18 +31,11 @@ length-marks f doc top (suc n) = ap suc (length-marks f doc (top + 1) n)
 -- one more mark
 pub marks_more : (f : DocumentView × ℕ → Bool) (doc : DocumentView) (top n : ℕ) → marks_by f doc top (n + 1) ≡ marks_by f doc top n ++ f (doc, top + n) ∷ []
 marks_more f doc top zero = let e : top + 0 ≡ top = omega arith in rw e refl
-marks_more f doc top (suc n) =
-    let e : suc n + 1 ≡ suc (n + 1) = omega arith in
-    let place : (top + 1) + n ≡ top + suc n = omega arith in
-    let rest : marks_by f doc (top + 1) (n + 1) ≡ marks_by f doc (top + 1) n ++ f (doc, top + suc n) ∷ [] = rw (← place) (marks_more f doc (top + 1) n) in
-    rw e (ap (λ (m : List Bool). f (doc, top) ∷ m) rest)
+marks_more f doc top (suc n) = grind (arith, nat_tests, marks_more f doc (top + 1) n)
 
 -- inside, the mark of a node is what the test says
 pub marked_inside : (f : DocumentView × ℕ → Bool) (doc : DocumentView) (top n id : ℕ) → top ≤ id → id < top + n → is_marked top (marks_by f doc top n) id ≡ f (doc, id)
-marked_inside f doc top n id low high =
-    let e : top + (id - top) ≡ id = omega arith in
-    let yes : nat_le top id ≡ true = le-leb top id low in
-    rw yes (mark_at f doc top n (id - top) (omega arith) ∙ ap (λ (i : ℕ). f (doc, i)) e)
+marked_inside f doc top n id low high = grind (arith, nat_tests, nat_le, le-leb, mark_at)
 
 -- outside, there is none
 record IsInside (top n id : ℕ) : Type 0 where
@@ -53,47 +43,26 @@ record IsInside (top n id : ℕ) : Type 0 where
   high : id < top + n
 
 test_true : (b c : Bool) → (cond b c false) ≡ true → (b ≡ true) × (c ≡ true)
-test_true true c e = (refl, e)
-test_true false c e = absurd (false≢true e)
+test_true b c e = grind (arith, nat_tests)
 
 inside_if_marked : (f : DocumentView × ℕ → Bool) (doc : DocumentView) (top n id : ℕ) → is_marked top (marks_by f doc top n) id ≡ true → IsInside top n id
-inside_if_marked f doc top n id e =
-    let parts = test_true (nat_le top id) (get_or (marks_by f doc top n) (id - top) false) e in
-    let low : top ≤ id = leb-true top id parts.0 in
-    elim (cases_lt (id - top) n) [
-      | inl l ↦ record { low = low; high = omega arith }
-      | inr past ↦ absurd (false≢true (sym (get_or_past (marks_by f doc top n) (id - top) false (omega (arith, length-marks f doc top n))) ∙ parts.1))
-    ]
+inside_if_marked f doc top n id e = grind (arith, nat_tests, test_true, nat_le, leb-true, false≢true, get_or_past, length-marks)
 
 marked : (f : DocumentView × ℕ → Bool) (doc : DocumentView) (top n id : ℕ) → is_marked top (marks_by f doc top n) id ≡ true → f (doc, id) ≡ true
-marked f doc top n id e =
-    let i = inside_if_marked f doc top n id e in
-    sym (marked_inside f doc top n id i.low i.high) ∙ e
+marked f doc top n id e = grind (arith, nat_tests, inside_if_marked, marked_inside)
 
 -- ---- names
 same_option : (a b : Option (List ℕ)) → option_eq bytes_eq a b ≡ true → a ≡ b
-same_option None None e = refl
-same_option None (Some y) e = absurd (false≢true e)
-same_option (Some x) None e = absurd (false≢true e)
-same_option (Some x) (Some y) e = ap Some ((bytes_eq-Decides x y).0 e)
+same_option a b e = grind (arith, nat_tests, false≢true, bytes_eq-Decides)
 
 equal_option : (a : Option (List ℕ)) → option_eq bytes_eq a a ≡ true
-equal_option None = refl
-equal_option (Some x) = (bytes_eq-Decides x x).1 refl
+equal_option a = grind (arith, nat_tests, bytes_eq-Decides)
 
 named : (doc : DocumentView) (id : ℕ) (name : Expanded) → is_named name (doc, id) ≡ true → IsElementOf doc.tree id name
-named doc id name e =
-    let node = node_at doc.tree id in
-    let parts = and_parts (is_element_node node) (same_expanded_name (namespace_of node, local_of node) name) e in
-    let both = and_parts (bytes_eq (local_of node) name.1) (option_eq bytes_eq (namespace_of node) name.0) parts.1 in
-    record { is_element = parts.0; namespace = same_option _ _ both.1; local = (bytes_eq-Decides (local_of node) name.1).0 both.0 }
+named doc id name e = grind (arith, nat_tests, and_parts, bytes_eq, same_option, bytes_eq-Decides)
 
 has_name : (doc : DocumentView) (id : ℕ) (name : Expanded) → IsElementOf doc.tree id name → is_named name (doc, id) ≡ true
-has_name doc id name is =
-    let node = node_at doc.tree id in
-    let e = is.namespace in
-    and_from (is_element_node node) (same_expanded_name (namespace_of node, local_of node) name) is.is_element
-    (and_from (bytes_eq (local_of node) name.1) (option_eq bytes_eq (namespace_of node) name.0) ((bytes_eq-Decides (local_of node) name.1).1 is.local) (rw e (equal_option name.0)))
+has_name doc id name is = grind (arith, nat_tests, and_from, bytes_eq, bytes_eq-Decides, equal_option)
 
 -- ---- one of a list is marked
 one_of : (p : ℕ → Bool) (xs : List ℕ) → list_any p xs ≡ true → (a : ℕ) × Contains xs a × (p a ≡ true)
@@ -117,7 +86,6 @@ last_same (z ∷ xs) [] x y e = absurd (omega (arith, ap length e, length-append
 last_same (z ∷ xs) (w ∷ ys) x y e =
     let rest : xs ++ x ∷ [] ≡ ys ++ y ∷ [] = cc in
     let k = last_same xs ys x y rest in
-    let same : z ≡ w = cc in
     (let f = k.0 in cc, k.1)
 
 match_nothing : (tree : Forest Node) (start : ℕ) (all : List PathStep) (id : ℕ) → Match tree start all id → all ≡ [] → id ≡ start
@@ -133,11 +101,7 @@ record ChildOf (tree : Forest Node) (start : ℕ) (steps : List PathStep) (name 
 
 match_child : (tree : Forest Node) (start : ℕ) (all : List PathStep) (id : ℕ) → Match tree start all id → (steps : List PathStep) (name : Expanded) → all ≡ steps ++ child name ∷ [] → ChildOf tree start steps name id
 match_child tree start all id at_start steps name e = absurd (omega (arith, ap length e, length-append steps (child name ∷ [])))
-match_child tree start all id (by_child before other _ p m pa el) steps name e =
-    let k = last_same before steps (child other) (child name) e in
-    let l = k.1 in
-    let same : other ≡ name = cc in
-    record { p = p; reached = subst (λ (s : List PathStep). Match tree start s p) k.0 m; is_parent = pa; is = subst (λ (n : Expanded). IsElementOf tree id n) same el }
+match_child tree start all id (by_child before other _ p m pa el) steps name e = grind (arith, nat_tests, last_same)
 match_child tree start all id (by_descendant before other _ a m h el) steps name e =
     let l = (last_same before steps (descendant other) (child name) e).1 in cc
 
@@ -151,11 +115,7 @@ match_descendant : (tree : Forest Node) (start : ℕ) (all : List PathStep) (id 
 match_descendant tree start all id at_start steps name e = absurd (omega (arith, ap length e, length-append steps (descendant name ∷ [])))
 match_descendant tree start all id (by_child before other _ p m pa el) steps name e =
     let l = (last_same before steps (child other) (descendant name) e).1 in cc
-match_descendant tree start all id (by_descendant before other _ a m h el) steps name e =
-    let k = last_same before steps (descendant other) (descendant name) e in
-    let l = k.1 in
-    let same : other ≡ name = cc in
-    record { a = a; reached = subst (λ (s : List PathStep). Match tree start s a) k.0 m; above = h; is = subst (λ (n : Expanded). IsElementOf tree id n) same el }
+match_descendant tree start all id (by_descendant before other _ a m h el) steps name e = grind (arith, nat_tests, last_same)
 
 -- ---- the marks are those of the nodes that the steps lead to
 pub record Shows (tree : Forest Node) (start : ℕ) (steps : List PathStep) (marks : List Bool) : Type 0 where
@@ -166,14 +126,10 @@ pub record Shows (tree : Forest Node) (start : ℕ) (steps : List PathStep) (mar
 
 -- at first only the start is marked
 only_first : (k : ℕ) → get_or (true ∷ []) k false ≡ true → k ≡ 0
-only_first zero e = refl
-only_first (suc k) e = absurd (false≢true e)
+only_first k e = grind (arith, nat_tests)
 
 first_marked : (start : ℕ) → is_marked start (true ∷ []) start ≡ true
-first_marked start =
-    let low = le-leb start start (omega arith) in
-    let here : start - start ≡ 0 = omega arith in
-    rw (low, here) refl
+first_marked start = grind (arith, nat_tests)
 
 pub start_shows : (doc : DocumentView) (start : ℕ) → start < size doc.tree → Shows doc.tree start [] (true ∷ [])
 start_shows doc start l =
@@ -189,8 +145,7 @@ start_shows doc start l =
     }
 
 one_marked : (top : ℕ) (marks : List Bool) (o : Option ℕ) → is_one_marked top marks o ≡ true → (p : ℕ) × (o ≡ Some p) × (is_marked top marks p ≡ true)
-one_marked top marks None e = absurd (false≢true e)
-one_marked top marks (Some p) e = (p, refl, e)
+one_marked top marks o e = grind (arith, nat_tests)
 
 pub shows_child : (doc : DocumentView) (start : ℕ) (steps : List PathStep) (name : Expanded) (marks : List Bool) → Laws doc.tree → start < size doc.tree → Shows doc.tree start steps marks
     → Shows doc.tree start (steps ++ child name ∷ []) (marks_by (is_child start marks name) doc start (place doc.tree start).count)
@@ -240,8 +195,7 @@ shows_descendant doc start steps name marks laws l shows =
 -- ---- whether a node above is marked, from the parent's
 
 false_test : (b c : Bool) → (b ≡ true → ⊥) → cond b c false ≡ false
-false_test true c h = absurd (h refl)
-false_test false c h = refl
+false_test b c h = grind (arith, nat_tests)
 
 unmarked : (top id : ℕ) (marks : List Bool) → id < top → is_marked top marks id ≡ false
 unmarked top id marks l = false_test (nat_le top id) (get_or marks (id - top) false) (λ e. absurd (omega (arith, leb-true top id e)))
@@ -275,8 +229,7 @@ none_without_parent doc top id marks e = none_above (is_marked top marks) (place
 
 -- ---- the nodes that are marked
 filter_one : (b : Bool) (doc : DocumentView) (i : ℕ) (xs : List (DocumentView × ℕ)) (ids : List ℕ) → xs ≡ node_refs doc ids → cond b ((doc, i) ∷ xs) xs ≡ node_refs doc (cond b (i ∷ ids) ids)
-filter_one true doc i xs ids e = ap (λ (s : List (DocumentView × ℕ)). (doc, i) ∷ s) e
-filter_one false doc i xs ids e = e
+filter_one b doc i xs ids e = grind (arith, nat_tests)
 
 pub filter_spots : (top : ℕ) (marks : List Bool) (doc : DocumentView) (ids : List ℕ) → filter (is_marked_node top marks) (node_refs doc ids) ≡ node_refs doc (filter (is_marked top marks) ids)
 filter_spots top marks doc [] = refl
@@ -317,8 +270,7 @@ keeps p (y ∷ xs) x (zero, l, same) e = let t : p y ≡ true = ap p same ∙ e 
 keeps p (y ∷ xs) x (suc k, l, same) e = keep_on (p y) y (filter p xs) x (keeps p xs x (k, omega arith, same) e)
 
 ascend_one : (b : Bool) (a : ℕ) (ys : List ℕ) → ((j : ℕ) → Contains ys j → a < j) → Ascends ys → Ascends (cond b (a ∷ ys) ys)
-ascend_one true a ys h r = (h, r)
-ascend_one false a ys h r = r
+ascend_one b a ys h r = grind (arith, nat_tests)
 
 ascends : (p : ℕ → Bool) (a n : ℕ) → Ascends (filter p (range_with_len a n))
 ascends p a zero = tt
@@ -341,40 +293,25 @@ selected doc start steps marks shows =
 
 -- ---- the nodes that are left
 next_from : (doc : DocumentView) (a m : ℕ) (s : DocumentView × ℕ) (rest : List (DocumentView × ℕ)) → s ∷ rest ≡ node_refs doc (range_with_len a m) → (s ≡ (doc, a)) × (rest ≡ node_refs doc (range_with_len (a + 1) (m - 1)))
-next_from doc a zero s rest e = cc
-next_from doc a (suc m) s rest e = let z : suc m - 1 ≡ m = omega arith in (cc, rw z cc)
+next_from doc a m s rest e = grind (arith, nat_tests)
 
 pub next_place : (doc : DocumentView) (top n count : ℕ) (s : DocumentView × ℕ) (rest : List (DocumentView × ℕ)) → s ∷ rest ≡ node_refs doc (range_with_len (top + n) (count - n))
     → (s ≡ (doc, top + n)) × (rest ≡ node_refs doc (range_with_len (top + (n + 1)) (count - (n + 1))))
-next_place doc top n count s rest e =
-    let r = next_from doc (top + n) (count - n) s rest e in
-    let a : (top + n) + 1 ≡ top + (n + 1) = omega arith in
-    let b : (count - n) - 1 ≡ count - (n + 1) = omega arith in
-    (r.0, rw (← a, ← b) r.1)
+next_place doc top n count s rest e = grind (arith, nat_tests, next_from)
 
 -- ---- what the functions answer
 
 pub child_shows : (doc : DocumentView) (start : ℕ) (steps : List PathStep) (name : Expanded) (marks next : List Bool) → Laws doc.tree → start < size doc.tree → Shows doc.tree start steps marks
     → next ≡ map (is_child start marks name) (node_refs doc (place doc.tree start).descendants) → Shows doc.tree start (steps ++ child name ∷ []) next
-child_shows doc start steps name marks next laws l shows e =
-    let order = laws.in_order start l in
-    let by = e ∙ ap (λ (ids : List ℕ). map (is_child start marks name) (node_refs doc ids)) order in
-    subst (λ (m : List Bool). Shows doc.tree start (steps ++ child name ∷ []) m) (sym by) (shows_child doc start steps name marks laws l shows)
+child_shows doc start steps name marks next laws l shows e = grind (arith, nat_tests, map, shows_child)
 
 pub descendant_shows : (doc : DocumentView) (start : ℕ) (steps : List PathStep) (name : Expanded) (marks next : List Bool) → Laws doc.tree → start < size doc.tree → Shows doc.tree start steps marks
     → next ≡ map (is_descendant start marks name) (node_refs doc (place doc.tree start).descendants) → Shows doc.tree start (steps ++ descendant name ∷ []) next
-descendant_shows doc start steps name marks next laws l shows e =
-    let order = laws.in_order start l in
-    let by = e ∙ ap (λ (ids : List ℕ). map (is_descendant start marks name) (node_refs doc ids)) order in
-    subst (λ (m : List Bool). Shows doc.tree start (steps ++ descendant name ∷ []) m) (sym by) (shows_descendant doc start steps name marks laws l shows)
+descendant_shows doc start steps name marks next laws l shows e = grind (arith, nat_tests, map, shows_descendant)
 
 pub nodes_selected : (doc : DocumentView) (start : ℕ) (steps : List PathStep) (marks : List Bool) (nodes : List (DocumentView × ℕ)) → Laws doc.tree → start < size doc.tree → Shows doc.tree start steps marks
     → nodes ≡ filter (is_marked_node start marks) (node_refs doc (place doc.tree start).descendants) → (ids : List ℕ) × (nodes ≡ node_refs doc ids) × Selects doc.tree start steps ids
-nodes_selected doc start steps marks nodes laws l shows e =
-    let order = laws.in_order start l in
-    let by = e ∙ ap (λ (ids : List ℕ). filter (is_marked_node start marks) (node_refs doc ids)) order in
-    let ids = filter (is_marked start marks) (range_with_len start (place doc.tree start).count) in
-    (ids, by ∙ filter_spots start marks doc (range_with_len start (place doc.tree start).count), selected doc start steps marks shows)
+nodes_selected doc start steps marks nodes laws l shows e = grind (arith, nat_tests, filter_spots, selected)
 
 pub one_more_step : (steps : List Step) (i : ℕ) (s d : Step) → i < length steps → get_or steps i d ≡ s → map step_of (take (i + 1) steps) ≡ map step_of (take i steps) ++ step_of s ∷ []
 one_more_step steps i s d l is =
@@ -398,21 +335,15 @@ no_test r a v b h e f = let t : a ≡ false = sym e ∙ h in rw t f
 
 pub mark_pushed : (f : DocumentView × ℕ → Bool) (marks next : List Bool) (all : List Bool) (left rest : List (DocumentView × ℕ)) (s : DocumentView × ℕ) (v : Bool) → marks ++ map f left ≡ all → left ≡ s ∷ rest → v ≡ f s → next ≡ marks ++ v ∷ []
     → next ++ map f rest ≡ all
-mark_pushed f marks next all left rest s v so_far is e by =
-    ap (λ (m : List Bool). m ++ map f rest) by ∙ append_assoc marks (v ∷ []) (map f rest) ∙ ap (λ (t : Bool). marks ++ t ∷ map f rest) e ∙ sym (ap (λ (l : List (DocumentView × ℕ)). marks ++ map f l) is) ∙ so_far
+mark_pushed f marks next all left rest s v so_far is e by = grind (arith, nat_tests, map, append_assoc)
 
 length_more : (xs ys : List Bool) (v : Bool) → ys ≡ xs ++ v ∷ [] → length ys ≡ length xs + 1
 length_more xs ys v e = omega (arith, ap length e, length-append xs (v ∷ []))
 
 pub below_pushed : (f : DocumentView × ℕ → Bool) (doc : DocumentView) (top : ℕ) (below next : List Bool) (s : DocumentView × ℕ) (v : Bool) → below ≡ marks_by f doc top (length below) → s ≡ (doc, top + length below) → v ≡ f s → next ≡ below ++ v ∷ []
     → next ≡ marks_by f doc top (length next)
-below_pushed f doc top below next s v so_far is e by =
-    let value : v ≡ f (doc, top + length below) = e ∙ ap f is in
-    let n = length_more below next v by in
-    by ∙ ap (λ (m : List Bool). m ++ v ∷ []) so_far ∙ ap (λ (t : Bool). marks_by f doc top (length below) ++ t ∷ []) value ∙ sym (marks_more f doc top (length below)) ∙ ap (marks_by f doc top) (sym n)
+below_pushed f doc top below next s v so_far is e by = grind (arith, nat_tests, length_more, marks_more)
 
 pub left_pushed : (doc : DocumentView) (top count : ℕ) (below next : List Bool) (v : Bool) (rest : List (DocumentView × ℕ)) → rest ≡ node_refs doc (range_with_len (top + (length below + 1)) (count - (length below + 1))) → next ≡ below ++ v ∷ []
     → rest ≡ node_refs doc (range_with_len (top + length next) (count - length next))
-left_pushed doc top count below next v rest is by =
-    let n = length_more below next v by in
-    subst (λ (k : ℕ). rest ≡ node_refs doc (range_with_len (top + k) (count - k))) (sym n) is
+left_pushed doc top count below next v rest is by = grind (arith, nat_tests, length_more)

@@ -1,9 +1,10 @@
 -- Paths as they are written: steps one after the other, and that no path passes a place that none goes on from.
-use Rattle.std.proofs.Common.{◌≡◌, ◌≢◌, ◌⊎◌, inr, ℕ, ◌+◌, ◌<◌, ◌==◌, ◌||◌, Bool, true, false, List, [], ◌∷◌, ◌++◌, length, drop, get_or, Option, Some, None, unwrap_or, refl, sym, ap, ◌∙◌, subst, arith, get_or-drop, append_assoc, ⊎_elim, map}
-use Rattle.std.proofs.lemmas.Bool.{cases_lt, false_from_ne_true}
+use Rattle.std.proofs.Common.{◌≡◌, ◌≢◌, ◌⊎◌, inr, ℕ, ◌+◌, ◌<◌, ◌==◌, ◌||◌, Bool, true, false, List, [], ◌∷◌, ◌++◌, length, drop, get_or, Option, Some, None, unwrap_or, refl, subst, arith, get_or-drop, append_assoc, map}
+use Rattle.std.proofs.lemmas.Bool.{false_from_ne_true}
 use Rattle.std.proofs.lemmas.List.{get_or_past, map-append}
 use Rattle.std.proofs.lemmas.List.Sums.{position_or_len_is}
 use Rattle.std.specs.List.{position_or_len}
+use Rattle.std.proofs.lemmas.Bool.Decides.{nat_tests}
 use Rattle.memchr.specs.Find.{IsFirstByte}
 use Rattle.rox_grammar.specs.Search.{byte_from}
 use Rattle.rox_grammar.specs.Names.{byte, slice}
@@ -12,7 +13,7 @@ use Rattle.rox_path.specs.declared.steps.Step.{Step}
 use Rattle.rox_path.specs.PathReading.{ToldAt}
 use Rattle.rox_path.specs.declared.parse.PathError.{PathError}
 use Rattle.rox_path.specs.declared.parse.PathError.TheVariants.{BadPath, OutOfMemory}
-use Rattle.rox_path.specs.Paths.{local_end, uri_end, IsStepName, local_alone, with_uri, IsStep, one_slash, two_slashes, IsPath, last_step, then_steps, StepsTo, no_step, one_more, NameDue, behind_one, behind_two, IsBadName, no_local, no_brace, no_local_behind, IsBadStep, no_slash, no_name, IsBadAt, bad_step}
+use Rattle.rox_path.specs.Paths.{local_end, uri_end, IsStepName, local_alone, with_uri, IsStep, one_slash, two_slashes, IsPath, last_step, then_steps, StepsTo, no_step, one_more, NameDue, behind_one, behind_two, IsBadName, no_local, no_local_behind, IsBadStep, no_slash, no_name, IsBadAt, bad_step}
 
 -- steps from the start of the text up to a place
 pub data Read (text : List ℕ) : ℕ → List PathStep → Type 0 where
@@ -26,8 +27,7 @@ reached text j steps (more i _ s before r step) = one_more i j s (reached text i
 -- steps that are read, and a path from there on, are a path
 goes_on : (text : List ℕ) (i : ℕ) (steps rest : List PathStep) → Read text i steps → IsPath text i rest → IsPath text 0 (steps ++ rest)
 goes_on text i steps rest none path = path
-goes_on text j steps rest (more i _ s before r step) path =
-    rw (append_assoc before (s ∷ []) rest) (goes_on text i before (s ∷ rest) r (then_steps i j s rest step path))
+goes_on text j steps rest (more i _ s before r step) path = grind (arith, nat_tests, goes_on text i before (s ∷ rest) r (then_steps i j s rest step path), append_assoc)
 
 pub is_path : (text : List ℕ) (j : ℕ) (steps : List PathStep) → Read text j steps → j ≡ length text → j ≢ 0 → IsPath text 0 steps
 is_path text i steps none end some = absurd (some refl)
@@ -58,33 +58,17 @@ at_slash text n is = ends_here text n (rw is refl)
 
 -- one name at most begins at a place, and where it does none is ill
 one_name_end : (text : List ℕ) (n j k : ℕ) (a b : Expanded) → IsStepName text n j a → IsStepName text n k b → j ≡ k
-one_name_end text n j k a b (local_alone l) (local_alone m) = refl
-one_name_end text n j k a b (local_alone l) (with_uri u o e h m) = absurd (omega (arith, at_brace text n o))
-one_name_end text n j k a b (with_uri u o e h m) (local_alone l) = absurd (omega (arith, at_brace text n o))
-one_name_end text n j k a b (with_uri u o e h m) (with_uri v o' e' h' m') =
-    let same : u ≡ v = e ∙ sym e' in
-    ap (λ w. local_end text (w + 1)) same
+one_name_end text n j k a b h p = grind (arith, nat_tests, at_brace)
 
 no_ill_name : (text : List ℕ) (n j k : ℕ) (a : Expanded) → IsStepName text n j a → IsBadName text n k → ⊥
-no_ill_name text n j k a (local_alone l) (no_local o e) = omega arith
-no_ill_name text n j k a (local_alone l) (no_brace o e) = omega (arith, at_brace text n o)
-no_ill_name text n j k a (local_alone l) (no_local_behind u o e h m) = omega (arith, at_brace text n o)
-no_ill_name text n j k a (with_uri u o e h m) (no_local o' e') = o' o
-no_ill_name text n j k a (with_uri u o e h m) (no_brace o' e') = omega arith
-no_ill_name text n j k a (with_uri u o e h m) (no_local_behind v o' e' h' m') =
-    let same : u ≡ v = e ∙ sym e' in
-    omega (arith, ap (λ w. local_end text (w + 1)) same)
+no_ill_name text n j k a h p = grind (arith, nat_tests, at_brace)
 
 -- no name begins with `/`
 no_slash_first : (text : List ℕ) (n j : ℕ) (a : Expanded) → byte text n ≡ 47 → IsStepName text n j a → ⊥
-no_slash_first text n j a s (local_alone l) = omega (arith, at_slash text n s)
-no_slash_first text n j a s (with_uri u o e h m) = omega arith
+no_slash_first text n j a s k = grind (arith, nat_tests, at_slash)
 
 one_step_end : (text : List ℕ) (i j k : ℕ) (s t : PathStep) → IsStep text i j s → IsStep text i k t → j ≡ k
-one_step_end text i j k s t (one_slash a x n) (one_slash b y m) = one_name_end text (i + 1) j k a b n m
-one_step_end text i j k s t (one_slash a x n) (two_slashes b y z m) = absurd (no_slash_first text (i + 1) j a z n)
-one_step_end text i j k s t (two_slashes a x z n) (one_slash b y m) = absurd (no_slash_first text (i + 1) k b z m)
-one_step_end text i j k s t (two_slashes a x z n) (two_slashes b y w m) = one_name_end text (i + 2) j k a b n m
+one_step_end text i j k s t h p = grind (arith, nat_tests, one_name_end, no_slash_first)
 
 no_ill_step : (text : List ℕ) (i j k : ℕ) (s : PathStep) → IsStep text i j s → IsBadStep text i k → ⊥
 no_ill_step text i j k s (one_slash a x n) (no_slash y) = y x
@@ -100,8 +84,7 @@ name_onward text n j a (local_alone l) = l
 name_onward text n j a (with_uri u o e h m) = omega arith
 
 stands_before : (text : List ℕ) (i b : ℕ) → byte text i ≡ b → 0 < b → i < length text
-stands_before text i b is some =
-    ⊎_elim (λ l. l) (λ past. absurd (omega (arith, get_or_past text i 0 past))) (cases_lt i (length text))
+stands_before text i b is some = grind (arith, nat_tests, get_or_past)
 
 -- what a test of a byte says
 pub stands : (text : List ℕ) (i b : ℕ) → true ≡ (byte text i == b) → 0 < b → (i < length text) × (byte text i ≡ b)
@@ -121,27 +104,18 @@ step_begins text i j s (one_slash a x n) = stands_before text i 47 x (omega arit
 step_begins text i j s (two_slashes a x z n) = stands_before text i 47 x (omega arith)
 
 after : (text : List ℕ) (i j : ℕ) (s : PathStep) (rest : List PathStep) → IsStep text i j s → j < length text → IsPath text i rest → (others : List PathStep) × IsPath text j others
-after text i j s rest step l (last_step _ t one) = absurd (omega (arith, one_step_end text i j (length text) s t step one))
-after text i j s rest step l (then_steps _ k t others one path) =
-    let same : k ≡ j = one_step_end text i k j t s one step in
-    (others, subst (λ m. IsPath text m others) same path)
+after text i j s rest step l p = grind (arith, nat_tests, one_step_end)
 
 no_path_here : (text : List ℕ) (i k : ℕ) (path : List PathStep) → IsPath text i path → IsBadStep text i k → ⊥
-no_path_here text i k path (last_step _ t one) bad = no_ill_step text i (length text) k t one bad
-no_path_here text i k path (then_steps _ j t others one rest) bad = no_ill_step text i j k t one bad
+no_path_here text i k path h bad = grind (arith, nat_tests, no_ill_step)
 
 -- a path goes on from each place that steps lead to, before the end of the text
 passes : (text : List ℕ) (i : ℕ) (path : List PathStep) → StepsTo text i → (i ≡ 0) ⊎ (i < length text) → IsPath text 0 path → (rest : List PathStep) × IsPath text i rest
 passes text i path no_step due is = (path, is)
-passes text j path (one_more i _ s to step) due is =
-    let before = passes text i path to (inr (step_begins text i j s step)) is in
-    let within : j < length text = ⊎_elim (λ z. absurd (omega (arith, step_onward text i j s step))) (λ l. l) due in
-    after text i j s before.0 step within before.1
+passes text j path (one_more i _ s to step) due is = grind (arith, nat_tests, passes text i path to (inr (step_begins text i j s step)) is, step_begins, step_onward, after)
 
 pub no_path : (text : List ℕ) (k : ℕ) (path : List PathStep) → IsBadAt text k → IsPath text 0 path → ⊥
-no_path text k path (bad_step i _ to due bad) is =
-    let rest = passes text i path to due is in
-    no_path_here text i k rest.0 rest.1 bad
+no_path text k path (bad_step i _ to due bad) is = grind (arith, nat_tests, passes, no_path_here)
 
 -- ---- what the code reads
 pub name_alone : (text : List ℕ) (at end : ℕ) (name : Expanded) → end ≡ local_end text at → at < end → name ≡ (None, slice text at end) → IsStepName text at end name
@@ -170,5 +144,4 @@ ill_step text i k OutOfMemory to due h is = cc
 pub first_byte_found : (p : ℕ → Bool) (hay : List ℕ) (r : Option ℕ) → IsFirstByte p hay r → position_or_len p hay ≡ unwrap_or r (length hay)
 first_byte_found p hay None h =
     position_or_len_is p hay (length hay) 0 (omega arith) (λ j below. false_from_ne_true (p (get_or hay j 0)) (h j (omega arith) below)) (λ more. absurd (omega arith))
-first_byte_found p hay (Some k) h =
-    position_or_len_is p hay k 0 (omega (arith, h.0.high)) (λ j below. false_from_ne_true (p (get_or hay j 0)) (h.0.before j (omega arith) below)) (λ more. h.1)
+first_byte_found p hay (Some k) h = grind (arith, nat_tests, position_or_len_is, false_from_ne_true)

@@ -1,5 +1,5 @@
 -- Items of the internal subset: one turn of the code is one of the reading.
-use Rattle.std.proofs.Common.{◌≡◌, ℕ, suc, ◌+◌, ◌<◌, ◌≤◌, ◌==◌, Bool, true, false, List, [], ◌∷◌, ◌++◌, length, ltb, leb, eqb, refl, sym, ap, ◌∙◌, subst, OnOk, Result, Ok, Err}
+use Rattle.std.proofs.Common.{◌≡◌, ℕ, suc, ◌+◌, ◌<◌, ◌≤◌, ◌==◌, Bool, true, false, List, [], ◌∷◌, ◌++◌, length, ltb, leb, eqb, refl, ap, ◌∙◌, subst, OnOk, Result, Ok, Err, arith}
 use Rattle.std.specs.Prelude.{slice_index}
 use Rattle.std.proofs.lemmas.Bool.{ltb-true, ltb-false, leb-true, leb-false, eqb-true}
 use Rattle.rox_grammar.specs.declared.fault.Fault.{Fault}
@@ -64,12 +64,10 @@ ended_plainly (Ok x) = Ok false
 ended_plainly (Err e) = Err (of_failure e)
 
 pub ended_too : (P : Result Bool ParseError → Type 0) (r : Result (Unit {0}) Failure) (p : Result (Unit {0}) ParseError) (q : Result Bool ParseError) → p ≡ parsed_of r → q ≡ ended p → P (ended_plainly r) → P q
-ended_too P (Ok x) p q is then h = subst P (sym (then ∙ ap ended is)) h
-ended_too P (Err e) p q is then h = subst P (sym (then ∙ ap ended is)) h
+ended_too P r p q is then h = grind arith
 
 pub goes_ended : (G : Type 0) (p : Result (Unit {0}) ParseError) (q : Result Bool ParseError) → q ≡ ended p → OnOk p G → OnOk q G
-goes_ended G (Ok x) q is h = subst (λ r. OnOk r G) (sym is) h
-goes_ended G (Err e) q is h = subst (λ r. OnOk r G) (sym is) tt
+goes_ended G p q is h = grind arith
 
 -- ---- a turn
 
@@ -257,8 +255,4 @@ with_subset limit end src allows x p c b es (Ok u) is fits opens k = (
   k.1,
   record { dtd = k.2.dtd; answered = doctype_subset limit src x tt p is fits k.0 k.2.dtd opens k.2.answered; sees = k.2.sees; declared = k.2.declared },
 )
-with_subset limit end src allows x p c b es (Err e) is fits opens k = (
-  k.0,
-  k.1,
-  stops_by allows (subset_run limit src x tt p is fits) (step_run limit src x) k.0 k.0 (λ f h. doctype_subset_stops limit src x tt p is fits k.0 f opens h) e k.2,
-)
+with_subset limit end src allows x p c b es (Err e) is fits opens k = grind (arith, stops_by, doctype_subset_stops)

@@ -1,5 +1,5 @@
 -- The parts of a prolog, put together.
-use Rattle.std.proofs.Common.{◌≡◌, ℕ, Bool, true, false, List, [], Result, Ok, Err, length, refl, ap, ◌∙◌, if◌then◌else◌}
+use Rattle.std.proofs.Common.{◌≡◌, ℕ, Bool, true, false, List, [], Result, Ok, Err, length, refl, ap, ◌∙◌, if◌then◌else◌, arith}
 use Rattle.rox_grammar.specs.declared.fault.Fault.{Fault}
 use Rattle.rox_grammar.specs.declared.fault.Word.TheVariants as word
 use Rattle.rox_grammar.specs.FixedTexts.{at}
@@ -17,12 +17,10 @@ use Rattle.rox_reading.specs.HasDoctype.{begins_doctype, has_doctype}
 use Rattle.rox_reading.proofs.Settling.{doctype_run, whole_run, prolog_stops, misc_stops, behind_stops, step_run}
 use Rattle.rox_markup.specs.DoctypeViews.{xml_decl_if}
 use Rattle.rox_grammar.specs.declared.failure.Failure.{Failure}
-use Rattle.rox_grammar.specs.declared.failure.Failure.TheVariants as failure
 use Rattle.rox_prolog.specs.Asking.{StopsBy}
 use Rattle.rox_values.specs.Refusals as refusing
 use Rattle.rox_values.specs.Refusals.{of_failure}
 use Rattle.rox_prolog.specs.PrologParts.{start_state, beginning}
-use Rattle.rox_values.proofs.Lifting.{lifted_err}
 use Rattle.rox_theory.proofs.Basics.{bind_ok}
 use Rattle.rox_theory.proofs.FailedReadings.{bind_err}
 
@@ -56,8 +54,7 @@ beginning_stops limit allow src f h = bind_err (prolog src (after_bom src)) _ f 
 
 pub beginning_fails : (allows : Request → Reply → Type 0) (limit : ℕ) (allow : Bool) (src : List ℕ) (e : Failure) → refusing.IsFailure e (lifted (beginning limit src))
     → StopsBy allows (whole_run limit allow src) [] (of_failure e)
-beginning_fails allows limit allow src failure.Memory h = tt
-beginning_fails allows limit allow src (failure.Fault f) h = beginning_stops limit allow src f (lifted_err (beginning limit src) f h)
+beginning_fails allows limit allow src e h = grind (arith, beginning_stops)
 
 pub told : (limit : ℕ) (src : List ℕ) (s : State) → beginning limit src ≡ Ok s → has_doctype limit src ≡ at word.DoctypeStart src s.at
 unfolding has_doctype
@@ -68,5 +65,4 @@ told limit src s h = ap (begins_doctype src) h
 -- what follows the declaration has a fault
 pub behind_fails : (allows : Request → Reply → Type 0) (limit : ℕ) (allow : Bool) (src : List ℕ) (d e : Dtd) (asked : List Asked) (g : Failure) → at word.DoctypeStart src d.state.at ≡ true → allow ≡ true
     → Answered (step_run limit src d) asked e → refusing.IsFailure g (lifted (misc limit (length src) src e.state)) → StopsBy allows (doctype_run limit allow src d) asked (of_failure g)
-behind_fails allows limit allow src d e asked failure.Memory is may read h = tt
-behind_fails allows limit allow src d e asked (failure.Fault f) is may read h = behind_stops limit allow src d is may asked e f read (lifted_err (misc limit (length src) src e.state) f h)
+behind_fails allows limit allow src d e asked g is may read h = grind (arith, behind_stops)

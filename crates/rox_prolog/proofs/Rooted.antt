@@ -1,5 +1,5 @@
 -- A document type declaration opens no element.
-use Rattle.std.proofs.Common.{◌≡◌, ℕ, zero, suc, ◌||◌, ◌==◌, Bool, true, false, cond, List, Ok, Err, length, nat_le, nat_lt, slice_index, refl, ◌∙◌, ◌+◌, subst, if◌then◌else◌}
+use Rattle.std.proofs.Common.{◌≡◌, ℕ, zero, suc, ◌||◌, ◌==◌, Bool, cond, List, Ok, Err, length, nat_le, nat_lt, slice_index, ◌∙◌, ◌+◌, if◌then◌else◌, arith}
 use Rattle.rox_grammar.specs.declared.fault.Word.TheVariants as word
 use Rattle.rox_grammar.specs.Search.{byte_from}
 use Rattle.rox_grammar.specs.Names.{spaces_end}
@@ -18,8 +18,7 @@ use Rattle.rox_theory.proofs.Basics.{bind_ok}
 -- ---- nor does what may be around it
 
 pub branch_of : {X P : Type 0} (b : Bool) (x y z : X) → (if b then x else y) ≡ z → (x ≡ z → P) → (y ≡ z → P) → P
-branch_of true x y z h one other = one h
-branch_of false x y z h one other = other h
+branch_of b x y z h one other = grind arith
 
 counted_open : (limit : ℕ) (s t : State) → counted limit s ≡ Ok t → t.stack ≡ s.stack
 counted_open limit s t h = branch_of (nat_le (nodes_so_far s.stack s.done) limit) _ _ _ h (λ e. cc) (λ e. cc)
@@ -51,20 +50,13 @@ AreBindingsOf P (asked, Ok x) = P x
 AreBindingsOf P (asked, Err e) = Unit {0}
 
 keeps_after : {A B : Type 0} (P : B → Type 0) (r : Asks A) (f : A → Asks B) → ((x : A) → r.1 ≡ Ok x → AreBindingsOf P (f x)) → AreBindingsOf P (r >>> f)
-keeps_after P (asked, Ok x) f go = by_rest (f x) (go x refl)
-  where
-    by_rest : (q : Asks _) → AreBindingsOf P q → AreBindingsOf P ((asked, Ok x) >>> λ u. q)
-    by_rest (more, Ok y) h = h
-    by_rest (more, Err e) h = tt
-keeps_after P (asked, Err e) f go = tt
+keeps_after P r f go = grind arith
 
 kept_by : {A : Type 0} (P : A → Type 0) (r : Asks A) (x : A) → AreBindingsOf P r → r.1 ≡ Ok x → P x
-kept_by P (asked, Ok y) x h is = let e : y ≡ x = cc in subst P e h
-kept_by P (asked, Err f) x h is = cc is
+kept_by P r x h is = grind arith
 
 keeps_choice : {A : Type 0} (P : A → Type 0) (b : Bool) (x y : Asks A) → AreBindingsOf P x → AreBindingsOf P y → AreBindingsOf P (cond b x y)
-keeps_choice P true x y h k = h
-keeps_choice P false x y h k = k
+keeps_choice P b x y h k = grind arith
 
 module _ (open' : Open) where
   -- as many elements are open as before

@@ -102,8 +102,7 @@ chars_go_on src i j utf8 from to le h =
     omega (arith, whole)
 
 none_passing : (p : ℕ → Bool) (cs : List ℕ) → first_passes p cs ≡ false → passing p cs ≡ 0
-none_passing p [] h = refl
-none_passing p (c ∷ cs) h = rw h refl
+none_passing p cs h = grind arith
 
 -- and it ends where none begins that passes
 pub run_ends_here : (p : ℕ → Bool) (src : List ℕ) (i : ℕ) → begins p src i ≡ false → run_end p src i ≡ i

@@ -23,17 +23,8 @@ use Rattle.rox_bytes.proofs.MarkLemmas.{before_mark_is, not_from_first, fails, s
 use Rattle.rox_scan.proofs.CharLemmas.{chars_joined}
 use Rattle.rox_reading.proofs.Stretches.{range_parts, range_length}
 
-or_false : (b : Bool) → (b || false) ≡ b
-or_false true = refl
-or_false false = refl
-
 and_true : (b : Bool) → (b && true) ≡ b
-and_true true = refl
-and_true false = refl
-
-not_either : (a b : Bool) → not (a || b) ≡ (not a && not b)
-not_either true b = refl
-not_either false b = refl
+and_true b = grind arith
 
 -- a text that does not begin with the mark has no front that does
 no_front : (mark front whole rest : List ℕ) → whole ≡ front ++ rest → starts_with ◌==◌ whole mark ≡ false → starts_with ◌==◌ front mark ≡ false
@@ -75,26 +66,14 @@ char_looked changes ends src i j some cut chars wide same free here =
     let none : list_any changes (slice_range src (i + 1) j) ≡ false =
     none_among (λ b. leb 128 b) changes src (i + 1) j (j - (i + 1)) (omega arith) cut.0 (λ k low high. le-leb 128 _ (wide k (omega arith) high)) (λ b h. same b (leb-true 128 b h)) in
     let first : j - i ≡ suc (j - (i + 1)) = omega arith in
-    record {
-      onward = omega arith;
-      cut = cut;
-      chars = chars;
-      apart = λ k low high. elim (cases_eq k i) [ inl same ↦ rw same here | inr other ↦ free k (wide k (omega arith) high) ];
-      verbatim_is = rw (first, drop_more src i 0 (omega (arith, cut.0)), none, or_false (changes (get_or src i 0))) refl;
-    }
+    grind (arith, drop_more)
 
 -- one stretch behind another
 pub looked_on : (changes ends : ℕ → Bool) (src : List ℕ) (i j k : ℕ) (a b : Bool) → IsUtf8 src → IsCharBoundary src i → IsLookahead ends changes src i j a → IsLookahead ends changes src j k b
     → IsLookahead ends changes src i k (a && b)
 looked_on changes ends src i j k a b utf8 start f g =
     let parts = range_parts src i j k f.onward g.onward g.cut.0 in
-    record {
-      onward = omega (arith, f.onward, g.onward);
-      cut = g.cut;
-      chars = chars_joined src i j k utf8 start f.cut g.cut f.onward g.onward f.chars g.chars;
-      apart = λ n low high. elim (cases_lt n j) [ inl before ↦ f.apart n low before | inr behind ↦ g.apart n behind high ];
-      verbatim_is = rw (parts, list_any-append changes (slice_range src i j) (slice_range src j k), f.verbatim_is, g.verbatim_is) (sym (not_either (list_any changes (slice_range src i j)) (list_any changes (slice_range src j k))));
-    }
+    grind (arith, chars_joined, list_any-append)
 
 -- ---- values
 
@@ -370,10 +349,7 @@ first_mark src s e f here =
     omega (arith, found, f.onward)
 
 read_last : (src : List ℕ) (i e : ℕ) → i ≤ e → e ≤ length src → i < e → get_or (slice_range src i e) (length (slice_range src i e) - 1) 0 ≡ get_or src (e - 1) 0
-read_last src i e le within some =
-    let long = range_length src i e le within in
-    let at : i + (length (slice_range src i e) - 1) ≡ e - 1 = omega (arith, long) in
-    get_or-take (e - i) (drop i src) (length (slice_range src i e) - 1) 0 (omega (arith, long)) ∙ get_or-drop i src (length (slice_range src i e) - 1) 0 ∙ ap (λ (n : ℕ). get_or src n 0) at
+read_last src i e le within some = grind (arith, range_length, get_or-take, get_or-drop)
 
 -- a dash and `-->` begin with two dashes
 two_dashes : (src : List ℕ) (k e : ℕ) → e ≡ k + 1 → get_or src k 0 ≡ 45 → stands (word_text word.CommentEnd) src e ≡ true → stands double_dash src k ≡ true
@@ -384,13 +360,7 @@ two_dashes src k e next first closes =
 
 -- no dash is the last of a text that two dashes stand behind, none of which begin in it
 no_last : (src : List ℕ) (i e : ℕ) → IsLookahead (ends_comment src) none_changes src i e true → stands (word_text word.CommentEnd) src e ≡ true → (get_or (slice_range src i e) (length (slice_range src i e) - 1) 0 == 45) ≡ false
-no_last src i e f closes =
-    let text = slice_range src i e in
-    let long = range_length src i e f.onward f.cut.0 in
-    elim (cases_lt 0 (length text)) [
-      | inl some ↦ ne_eqb _ 45 (λ h. absurd (false≢true (sym (f.apart (e - 1) (omega (arith, long, f.onward)) (omega (arith, long))) ∙ two_dashes src (e - 1) e (omega (arith, long)) (sym (read_last src i e f.onward f.cut.0 (omega (arith, long))) ∙ h) closes)))
-      | inr empty ↦ ne_eqb _ 45 (λ h. absurd (omega (arith, h, get_or_past text (length text - 1) 0 (omega arith))))
-    ]
+no_last src i e f closes = grind (arith, two_dashes, read_last)
 
 -- what a comment is read as whose end stands behind it
 pub looked_comment : (src : List ℕ) (i s e : ℕ) → s ≡ i + 4 → IsLookahead (ends_comment src) none_changes src s e true → stands (word_text word.CommentEnd) src e ≡ true → comment_at src i ≡ Ok (slice_range src s e, e + 3)

@@ -2,9 +2,8 @@
 use Rattle.std.proofs.Common.{◌≡◌, ℕ, ◌+◌, ◌<◌, ◌≤◌, ◌==◌, List, length, drop, get_or, true, refl, arith}
 use Rattle.std.specs.List.{position_or_len, starts_with}
 use Rattle.std.specs.Str.{IsCharBoundary}
-use Rattle.std.proofs.lemmas.Bool.{eqb-false}
 use Rattle.std.proofs.lemmas.List.Sums.{fails_before_first}
-use Rattle.rox_grammar.specs.Search.{stands, before_mark, mark_from}
+use Rattle.rox_grammar.specs.Search.{before_mark, mark_from}
 use Rattle.rox_grammar.proofs.AtPlace.{mark_from_cut}
 use Rattle.rox_bytes.proofs.MarkLemmas.{before_mark_is, not_from_first}
 use Rattle.rox_bytes.specs.ScanResults.{Finds}
@@ -21,7 +20,4 @@ mark_first mark src i n cut some ascii is =
 
 -- The mark that stands at the first byte that is its own is the first.
 pub near_first : (mark hay : List ℕ) (n : ℕ) → 0 < length mark → n ≡ position_or_len (λ c. c == get_or mark 0 0) hay → n ≤ length hay → starts_with ◌==◌ (drop n hay) mark ≡ true → before_mark mark hay ≡ n
-near_first mark hay n some is within here =
-    before_mark_is mark hay n within
-    (λ j below. not_from_first mark hay j some (eqb-false _ _ (fails_before_first (λ c. c == get_or mark 0 0) hay j 0 (omega (arith, is, below)))))
-    (λ more. here)
+near_first mark hay n some is within here = grind (arith, before_mark_is, not_from_first, fails_before_first)

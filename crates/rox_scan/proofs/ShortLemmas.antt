@@ -7,8 +7,7 @@ use Rattle.rox_scan.specs.Lookahead.{EndsRun, IsLookahead, ends_run, changes_run
 use Rattle.rox_scan.proofs.LongerLemmas.{looked_run}
 
 or_second : (a b : Bool) → (a || b) ≡ true → a ≡ false → b ≡ true
-or_second true b h other = cc other
-or_second false b h other = h
+or_second a b h other = cc
 
 -- what a run is read as that a longer look passes
 pub longer_run : (src : List ℕ) (i e : ℕ) (verbatim : Bool) → IsLookahead (ends_run src) changes_run src i e verbatim → (e == length src || get_or src e 0 == 60) ≡ true → raw_character_data_at src i ≡ Ok (slice_range src i e, e)

@@ -1,17 +1,11 @@
 -- Bytes that a search does not find.
-use Rattle.std.proofs.Common.{◌≡◌, ℕ, ◌+◌, ◌==◌, ◌||◌, not, Bool, true, false, List, [], ◌∷◌, suc, length, refl, ◌∙◌, arith}
+use Rattle.std.proofs.Common.{◌≡◌, ℕ, ◌==◌, ◌||◌, not, Bool, List, [], ◌∷◌, length, refl, arith}
 use Rattle.std.specs.List.{position_or_len, list_any}
-use Rattle.std.proofs.lemmas.Bool.{ne_eqb}
-use Rattle.std.proofs.lemmas.Bool.Decides.{nat_tests}
 use Rattle.rox_grammar.specs.Content.{is_verbatim}
-
-same_suc : (m n : ℕ) → (1 + m == suc n) ≡ (m == n)
-same_suc m n = grind (arith, nat_tests)
 
 -- a search reaches the end where no byte passes
 nowhere_step : (p : ℕ → Bool) (x : ℕ) (xs : List ℕ) (b : Bool) → p x ≡ b → (position_or_len p xs == length xs) ≡ not (list_any p xs) → (position_or_len p (x ∷ xs) == length (x ∷ xs)) ≡ not (list_any p (x ∷ xs))
-nowhere_step p x xs true is rest = rw is (ne_eqb 0 (suc (length xs)) (λ h. absurd (omega (arith, h))))
-nowhere_step p x xs false is rest = rw is (same_suc _ _ ∙ rest)
+nowhere_step p x xs b is rest = grind arith
 
 nowhere : (p : ℕ → Bool) (xs : List ℕ) → (position_or_len p xs == length xs) ≡ not (list_any p xs)
 nowhere p [] = refl

@@ -20,13 +20,7 @@ three_bytes : (c : ℕ) (rest : List ℕ) → get_or (encode_utf8 c ++ rest) 0 0
 three_bytes c rest first =
     elim (cases_lt c 128) [
       | inl one ↦ absurd (let b = rw (encode_one c one) at first in omega (arith, b))
-      | inr past ↦ elim (cases_lt c 2048) [
-        | inl two ↦ absurd (let b = rw (encode_two c past two) at first in omega (arith, b))
-        | inr more ↦ elim (cases_lt c 65536) [
-          | inl three ↦ (let b = rw (encode_three c more three) at first in omega (arith, b), three)
-          | inr four ↦ absurd (let b = rw (encode_four c four) at first in omega (arith, b))
-        ]
-      ]
+      | inr past ↦ grind (arith, encode_two, encode_three, encode_four)
     ]
 
 -- all but two of them are Chars

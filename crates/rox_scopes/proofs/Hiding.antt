@@ -83,10 +83,7 @@ filter_both f g h (d ∷ ds) e = one (g d) (f d) refl refl (filter_both f g h ds
     one false false x y r = rw (x, e d, x, y) r
 
 not_both : (a s : Bool) → not (a || s) ≡ (not s && not a)
-not_both true true = refl
-not_both true false = refl
-not_both false true = refl
-not_both false false = refl
+not_both a s = grind arith
 
 -- one more is hidden
 pub others_more : (own : List NamespaceDecl) (d : NamespaceDecl) (ds : List NamespaceDecl) → unlisted d.prefix (others own false ds) ≡ others (own ++ d ∷ []) false ds
@@ -109,9 +106,7 @@ absent_others own xml p ds h = filtered_none (λ d. not (is_declared d.prefix ow
 
 -- `xml` is hidden too
 pub others_xml : (own ds : List NamespaceDecl) → unlisted (Some (word_text Xml)) (others own false ds) ≡ others own true ds
-others_xml own ds =
-    filter_both (λ e. not (is_xml e.prefix)) (λ e. not (is_declared e.prefix own || (false && is_xml e.prefix))) (λ e. not (is_declared e.prefix own || (true && is_xml e.prefix))) ds
-    (λ e. not_both (is_declared e.prefix own) (is_xml e.prefix) ∙ ap (λ b. not (is_xml e.prefix) && not b) (sym (or-false (is_declared e.prefix own))))
+others_xml own ds = grind (arith, filter_both)
 
 -- what is declared is not among the others
 others_own : (own : List NamespaceDecl) (xml : Bool) (p : Option (List ℕ)) (ds : List NamespaceDecl) → is_declared p own ≡ true → is_declared p (others own xml ds) ≡ false

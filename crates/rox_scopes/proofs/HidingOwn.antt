@@ -1,7 +1,6 @@
 -- What an element declares is hidden in what it inherits.
-use Rattle.std.proofs.Common.{◌≡◌, ℕ, ◌+◌, ◌-◌, ◌<◌, ◌≤◌, Bool, true, false, List, [], ◌∷◌, ◌++◌, Option, Some, None, length, map, take, drop, get_or, sym, ap, subst, ◌∙◌, arith, length-drop}
+use Rattle.std.proofs.Common.{◌≡◌, ℕ, ◌+◌, ◌-◌, ◌<◌, ◌≤◌, Bool, true, false, List, [], ◌∷◌, ◌++◌, Option, Some, None, length, map, drop, get_or, sym, ap, subst, ◌∙◌, arith, length-drop}
 use Rattle.std.specs.List.{slice_range}
-use Rattle.std.specs.Option.{option_map}
 use Rattle.std.proofs.lemmas.List.{map-append, take_all}
 use Rattle.rox_grammar.specs.declared.fault.Word.TheVariants.{Xml}
 use Rattle.rox_grammar.specs.FixedTexts.{word_text}
@@ -27,11 +26,7 @@ listed_is namespaces listed after old new a ds es x is = subst (IsListed namespa
 
 pub hides_none : (namespaces : List NamespaceDecl) (listed : List ℕ) (scopes : List Scope) (i own : ℕ) → AreScopes (length listed) scopes → i < length scopes
     → IsListed namespaces listed scopes listed scopes i (others (entries namespaces (slice_range listed own own)) false (entries namespaces (places_in listed scopes i)))
-hides_none namespaces listed scopes i own h lt =
-    let none : own - own ≡ 0 = omega arith in
-    let nothing : slice_range listed own own ≡ [] = ap (λ n. take n (drop own listed)) none in
-    let ds = entries namespaces (places_in listed scopes i) in
-    same_listed namespaces listed scopes i (others (entries namespaces (slice_range listed own own)) false ds) h lt (sym (ap (λ xs. others (entries namespaces xs) false ds) nothing ∙ others_none ds))
+hides_none namespaces listed scopes i own h lt = grind (arith, same_listed, others_none)
 
 pub hides_more : (rows : List Namespace) (listed : List ℕ) (old mid new : List Scope) (own turn place left next : ℕ) (item : Namespace) (p : Option (List ℕ)) (ds : List NamespaceDecl)
     → own ≤ turn → turn < length listed → ArePlaces (length rows) listed → place ≡ get_or listed turn 0 → p ≡ (namespace_view (get_or rows place item)).prefix
@@ -46,9 +41,7 @@ hides_more rows listed old mid new own turn place left next item p ds le lt ok s
     let prefix : p ≡ (namespace_at namespaces last).prefix = is ∙ ap (λ (d : NamespaceDecl). d.prefix) (sym (namespace_at-get rows place item here)) ∙ ap (λ i. (namespace_at namespaces i).prefix) same in
     let more : entries namespaces (slice_range listed own (turn + 1)) ≡ entries namespaces seen ++ namespace_at namespaces last ∷ [] =
     ap (entries namespaces) (slice-more listed own turn 0 le lt) ∙ map-append (namespace_at namespaces) seen (last ∷ []) in
-    listed_is namespaces listed listed old new next (unlisted p (entries namespaces (places_in listed mid left))) (others (entries namespaces (slice_range listed own (turn + 1))) false ds)
-    (listed_then namespaces listed old mid new left next (others (entries namespaces seen) false ds) (unlisted p (entries namespaces (places_in listed mid left))) x y)
-    (ap (unlisted p) x.lists ∙ ap (λ q. unlisted q (others (entries namespaces seen) false ds)) prefix ∙ others_more (entries namespaces seen) (namespace_at namespaces last) ds ∙ ap (λ xs. others xs false ds) (sym more))
+    grind (arith, listed_then, others_more)
 
 pub hides_all : (listed : List ℕ) (own turn : ℕ) → length listed ≤ turn → slice_range listed own turn ≡ drop own listed
 hides_all listed own turn le = take_all (turn - own) (drop own listed) (rw length-drop (omega arith))
@@ -67,12 +60,9 @@ hides_xml namespaces listed old mid new own turn left next xml ds le on x y =
 
 pub hides_own : (namespaces : List NamespaceDecl) (listed : List ℕ) (old mid : List Scope) (own turn left : ℕ) (xml : Bool) (ds : List NamespaceDecl) → length listed ≤ turn → xml ≡ false
     → IsListed namespaces listed old listed mid left (others (entries namespaces (slice_range listed own turn)) false ds) → IsListed namespaces listed old listed mid left (others (entries namespaces (drop own listed)) xml ds)
-hides_own namespaces listed old mid own turn left xml ds le off x =
-    listed_is namespaces listed listed old mid left (others (entries namespaces (slice_range listed own turn)) false ds) (others (entries namespaces (drop own listed)) xml ds) x
-    (ap (λ xs. others (entries namespaces xs) false ds) (hides_all listed own turn le) ∙ ap (λ b. others (entries namespaces (drop own listed)) b ds) (sym off))
+hides_own namespaces listed old mid own turn left xml ds le off x = grind (arith, hides_all)
 
 -- a prefix without a place is not among what is left
 pub absent_bound : (namespaces : List NamespaceDecl) (f : Option (List ℕ) → Option ℕ) (own ds left : List NamespaceDecl) (xml : Bool) (p : Option (List ℕ)) → IsBound namespaces f ds → left ≡ others own xml ds → f p ≡ None
     → is_declared p left ≡ false
-absent_bound namespaces f own ds left xml p h e none =
-    ap (is_declared p) e ∙ absent_others own xml p ds (declared_none ds p (sym (h.uris p) ∙ ap (option_map (λ i. (namespace_at namespaces i).uri)) none))
+absent_bound namespaces f own ds left xml p h e none = grind (arith, absent_others, declared_none)

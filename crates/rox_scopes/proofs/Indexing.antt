@@ -2,7 +2,6 @@
 use Rattle.std.proofs.Common.{◌≡◌, ℕ, suc, ◌<◌, Bool, true, false, cond, List, [], ◌∷◌, ◌++◌, length, length-append, map, take, drop, zero, ◌+◌, ◌≤◌, refl, sym, ap, ◌∙◌, subst, arith, Option, Some, None, Result, Ok, Err, IfOk, OnOk, ◌⊎◌, inl, inr}
 use Rattle.std.specs.Option.{option_map, IfSome, IfNone, option_cmp}
 use Rattle.std.specs.Map.{lookup}
-use Rattle.std.specs.Result.{is_ok}
 use Rattle.std.specs.BTreeMap.{insert_entry, is_at}
 use Rattle.std.specs.declared.cmp.Ordering.{Ordering}
 use Rattle.std.specs.declared.cmp.Ordering.TheVariants.{Less, Equal, Greater}
@@ -60,7 +59,6 @@ placed_row rows d i e =
     let namespaces = map namespace_view rows in
     let p = subst (λ (o : Option ℕ). IfSome o (λ i. (i < length namespaces) × (namespace_at namespaces i ≡ d) × (has_pair namespaces d ≡ true))) (sym e) (placed namespaces d) in
     let l = length-map rows namespace_view in
-    let lt = p.0 in
     (omega arith, p.1, p.2)
 
 pub unplaced_row : (rows : List Namespace) (d : NamespaceDecl) → None ≡ place_of (map namespace_view rows) d → has_pair (map namespace_view rows) d ≡ false
@@ -73,8 +71,7 @@ absent_place (n ∷ namespaces) d h = let (one, rest) = or_parts (same_pair n d)
 -- ---- the first few of a table, and those behind them
 
 inner_none : (o : Option ℕ) → option_map suc o ≡ None → o ≡ None
-inner_none None h = refl
-inner_none (Some i) h = cc h
+inner_none o h = grind arith
 
 -- the first that is the same
 pub place_here : (namespaces : List NamespaceDecl) (k : ℕ) (d : NamespaceDecl) → k < length namespaces → place_of (take k namespaces) d ≡ None → same_pair (namespace_at namespaces k) d ≡ true → place_of namespaces d ≡ Some k
@@ -107,11 +104,7 @@ place_front (suc k) (n ∷ namespaces) d i h = by (same_pair n d) refl (place_of
     by false e (Some j) is more = rw (e, more j is) (rw (e, is) at h)
 
 pub place_back : (k : ℕ) (namespaces : List NamespaceDecl) (d : NamespaceDecl) → place_of (take k namespaces) d ≡ None → place_of namespaces d ≡ option_map (λ i. k + i) (place_of (drop k namespaces) d)
-place_back zero namespaces d h = same_option (place_of namespaces d)
-  where
-    same_option : (o : Option ℕ) → o ≡ option_map (λ i. zero + i) o
-    same_option None = refl
-    same_option (Some i) = ap Some (omega arith)
+place_back zero namespaces d h = grind arith
 place_back (suc k) [] d h = refl
 place_back (suc k) (n ∷ namespaces) d h = by (same_pair n d) refl (place_of (take k namespaces) d) refl (λ is. place_back k namespaces d is)
   where
@@ -148,20 +141,17 @@ not_in rows d k few all none = by (cases_lt k few_pairs)
     by : (k < few_pairs) ⊎ (few_pairs ≤ k) → place_of namespaces d ≡ place_behind namespaces d
     by (inl lt) =
         let l = length-map rows namespace_view in
-        let short = all lt in
         place_back k namespaces d front ∙ ap (λ ds. option_map (λ i. k + i) (place_of ds d)) (drop_all k namespaces (omega arith)) ∙ sym (none_behind namespaces d (omega arith))
     by (inr ge) = let same : k ≡ few_pairs = omega arith in subst (λ n. place_of namespaces d ≡ option_map (λ i. n + i) (place_of (drop n namespaces) d)) same (place_back k namespaces d front)
 
 pub row_behind : (rows : List Namespace) (d : NamespaceDecl) (k : ℕ) (o : Option ℕ) → k ≤ few_pairs → (k < few_pairs → length rows ≤ k) → None ≡ place_of (map namespace_view (take k rows)) d
     → o ≡ place_behind (map namespace_view rows) d
     → IfSome o (λ i. (i < length rows) × (namespace_at (map namespace_view rows) i ≡ d) × (has_pair (map namespace_view rows) d ≡ true))
-row_behind rows d k None few all none is = tt
-row_behind rows d k (Some i) few all none is = placed_row rows d i (is ∙ sym (not_in rows d k few all none))
+row_behind rows d k o few all none is = grind (arith, placed_row, not_in)
 
 pub row_nowhere : (rows : List Namespace) (d : NamespaceDecl) (k : ℕ) (o : Option ℕ) → k ≤ few_pairs → (k < few_pairs → length rows ≤ k) → None ≡ place_of (map namespace_view (take k rows)) d
     → o ≡ place_behind (map namespace_view rows) d → IfNone o (has_pair (map namespace_view rows) d ≡ false)
-row_nowhere rows d k None few all none is = unplaced_row rows d (is ∙ sym (not_in rows d k few all none))
-row_nowhere rows d k (Some i) few all none is = tt
+row_nowhere rows d k o few all none is = grind (arith, unplaced_row, not_in)
 
 -- ---- a new pair
 
@@ -180,8 +170,7 @@ place_push (n ∷ namespaces) e d h = by (same_pair n d) refl (same_pair e d) re
     by false x false y more = ap (option_map suc) (rw y at (more parts.1))
 
 lookup_same : (f g : Key → Bool) (es : List (Key × ℕ)) → ((k : Key) → f k ≡ g k) → lookup f es ≡ lookup g es
-lookup_same f g [] h = refl
-lookup_same f g (e ∷ es) h = rw (h e.0, lookup_same f g es h) refl
+lookup_same f g es h = grind arith
 
 -- what a look-up in the map says
 pub looked : (k : Key) (es : List (Key × ℕ)) → lookup (is_at (key_cmp k)) es ≡ place_among es (namespace_view k.namespace)
@@ -214,11 +203,6 @@ among_inserted k v d (e ∷ es) h = at_first (same_pair (namespace_view k.namesp
     at_first false x Less is more = refl
     at_first false x Equal is more = let tie : same_pair mine its ≡ true = pair_ties mine its ∙ ap is_eq is in cc (x, tie)
     at_first false x Greater is more = rw (more (rest_none x)) (apart x (same_pair d its) refl (same_pair d mine) refl)
-
--- a result that was told to be an answer
-pub was_ok : {A B P : Type 0} (r : Result A B) → is_ok r ≡ true → OnOk r P → P
-was_ok (Ok x) e h = h
-was_ok (Err y) e h = cc e
 
 -- none of those behind is a pair that is new
 absent_behind : (k : ℕ) (namespaces : List NamespaceDecl) (d : NamespaceDecl) → has_pair namespaces d ≡ false → has_pair (drop k namespaces) d ≡ false

@@ -1,9 +1,8 @@
 -- The loop that lists what an element inherits.
-use Rattle.std.proofs.Common.{◌≡◌, ℕ, ◌+◌, ◌-◌, ◌<◌, ◌≤◌, ◌&&◌, ◌||◌, not, Bool, true, false, List, [], ◌∷◌, ◌++◌, length, map, drop, get_or, refl, sym, ap, ◌∙◌, arith, append_assoc}
+use Rattle.std.proofs.Common.{◌≡◌, ℕ, ◌+◌, ◌-◌, ◌<◌, ◌≤◌, ◌&&◌, ◌||◌, not, Bool, true, false, List, [], ◌∷◌, ◌++◌, length, map, drop, get_or, ap, ◌∙◌, arith, append_assoc}
 use Rattle.std.specs.List.{slice_range}
 use Rattle.std.proofs.lemmas.List.{map-append, append-nil, get_or_default, get_or_append_left}
 use Rattle.std.proofs.lemmas.List.Elements.{filter-append}
-use Rattle.rox_grammar.specs.Written.{NamespaceDecl}
 use Rattle.rox_grammar.specs.Tree.{is_declared, is_xml}
 use Rattle.rox_reading.proofs.Stretches.{slice-more, slice-rest, slice-append}
 use Rattle.rox_scopes.specs.declared.namespace.Namespace.{Namespace}
@@ -21,9 +20,7 @@ pub record Inherited (rows : List Namespace) (old : List ℕ) (own : ℕ) (xml :
   pub same : entries (map namespace_view rows) more ≡ others (entries (map namespace_view rows) (drop own old)) xml (entries (map namespace_view rows) (slice_range old from turn))
 
 pub begins : (rows : List Namespace) (old : List ℕ) (own : ℕ) (xml : Bool) (from end : ℕ) → end ≡ length old → Inherited rows old own xml from from end old
-begins rows old own xml from end e =
-    let z : from - from ≡ 0 = omega arith in
-    record { end_is = e; more = []; now_is = sym (append-nil old); places = tt; same = rw z refl }
+begins rows old own xml from end e = grind (arith, append-nil)
 
 -- one more of the parent's
 step : (rows : List Namespace) (old : List ℕ) (own : ℕ) (xml : Bool) (from turn : ℕ) → from ≤ turn → turn < length old
@@ -42,38 +39,14 @@ pub lists : (rows : List Namespace) (old : List ℕ) (own : ℕ) (xml : Bool) (f
     → ArePlaces (length rows) old → from ≤ turn → turn < length old → place ≡ get_or old turn 0
     → (is_declared (namespace_at (map namespace_view rows) place).prefix (entries (map namespace_view rows) (drop own old)) || (xml && is_xml (namespace_at (map namespace_view rows) place).prefix)) ≡ false
     → next ≡ now ++ place ∷ [] → Inherited rows old own xml from (turn + 1) end next
-lists rows old own xml from turn end place now next h ok le lt is other push =
-    let namespaces = map namespace_view rows in
-    let mine = entries namespaces (drop own old) in
-    let here : place < length rows = rw is (place_at (length rows) old turn 0 ok lt) in
-    let one : others mine xml (namespace_at namespaces (get_or old turn 0) ∷ []) ≡ namespace_at namespaces place ∷ [] =
-    ap (λ p. others mine xml (namespace_at namespaces p ∷ [])) (sym is) ∙ rw other refl in
-    record {
-      end_is = h.end_is;
-      more = h.more ++ place ∷ [];
-      now_is = push ∙ ap (λ xs. xs ++ place ∷ []) h.now_is ∙ append_assoc old h.more (place ∷ []);
-      places = all_append (λ i. i < length rows) h.more (place ∷ []) h.places (here, tt);
-      same = map-append (namespace_at namespaces) h.more (place ∷ []) ∙ ap (λ xs. xs ++ namespace_at namespaces place ∷ []) h.same
-          ∙ ap (λ xs. others mine xml (entries namespaces (slice_range old from turn)) ++ xs) (sym one) ∙ sym (step rows old own xml from turn le lt);
-    }
+lists rows old own xml from turn end place now next h ok le lt is other push = grind (arith, place_at, append_assoc, all_append, map-append, step)
 
 -- it is declared, and is not listed
 pub skips : (rows : List Namespace) (old : List ℕ) (own : ℕ) (xml : Bool) (from turn end place : ℕ) (now : List ℕ) → Inherited rows old own xml from turn end now
     → from ≤ turn → turn < length old → place ≡ get_or old turn 0
     → (is_declared (namespace_at (map namespace_view rows) place).prefix (entries (map namespace_view rows) (drop own old)) || (xml && is_xml (namespace_at (map namespace_view rows) place).prefix)) ≡ true
     → Inherited rows old own xml from (turn + 1) end now
-skips rows old own xml from turn end place now h le lt is mine' =
-    let namespaces = map namespace_view rows in
-    let mine = entries namespaces (drop own old) in
-    let none : others mine xml (namespace_at namespaces (get_or old turn 0) ∷ []) ≡ [] =
-    ap (λ p. others mine xml (namespace_at namespaces p ∷ [])) (sym is) ∙ rw mine' refl in
-    record {
-      end_is = h.end_is;
-      more = h.more;
-      now_is = h.now_is;
-      places = h.places;
-      same = h.same ∙ sym (step rows old own xml from turn le lt ∙ ap (λ xs. others mine xml (entries namespaces (slice_range old from turn)) ++ xs) none ∙ append-nil _);
-    }
+skips rows old own xml from turn end place now h le lt is mine' = grind (arith, step, append-nil)
 
 -- what a turn of the loop looks at, and what its test says
 pub looked : (rows : List Namespace) (old : List ℕ) (own : ℕ) (xml : Bool) (from turn end place : ℕ) (now seen : List ℕ) (item : Namespace) (r : Bool)
@@ -86,10 +59,4 @@ looked rows old own xml from turn end place now seen item r h ok within lt same 
     let p : place ≡ get_or old turn 0 = is ∙ ap (λ xs. get_or xs turn place) h.now_is ∙ get_or_append_left old h.more place turn lt ∙ get_or_default old turn place 0 lt in
     let here : place < length rows = rw p (place_at (length rows) old turn 0 ok lt) in
     let e : namespace_at namespaces place ≡ namespace_view (get_or rows place item) = namespace_at-get rows place item here in
-    let mine : slice_range seen own end ≡ drop own old =
-    ap (λ xs. slice_range xs own end) (same ∙ h.now_is) ∙ ap (slice_range (old ++ h.more) own) h.end_is
-    ∙ slice-append old h.more own (length old) within (omega arith) ∙ slice-rest old own in (
-      p,
-      test ∙ ap (λ xs. is_declared (namespace_view (get_or rows place item)).prefix (entries namespaces xs) || (xml && is_xml (namespace_view (get_or rows place item)).prefix)) mine
-          ∙ ap (λ (d : NamespaceDecl). is_declared d.prefix (entries namespaces (drop own old)) || (xml && is_xml d.prefix)) (sym e),
-    )
+    grind (arith, slice-append, slice-rest)

@@ -10,12 +10,7 @@ pub range_get : (xs : List ℕ) (i j k d : ℕ) → k < j - i → get_or (slice_
 range_get xs i j k d h = get_or-take (j - i) (drop i xs) k d h ∙ rw get_or-drop refl
 
 pub back_get : (xs : List ℕ) (i j k d : ℕ) → i ≤ j → j ≤ length xs → k < j - i → get_or (reverse (slice_range xs i j)) k d ≡ get_or xs (j - 1 - k) d
-back_get xs i j k d ordered within h =
-    let n : length (slice_range xs i j) ≡ j - i = range_length xs i j ordered within in
-    let l : k < length (slice_range xs i j) = omega arith in
-    let m : length (slice_range xs i j) - 1 - k < j - i = omega arith in
-    let e : i + (length (slice_range xs i j) - 1 - k) ≡ j - 1 - k = omega arith in
-    get_or-reverse (slice_range xs i j) k d l ∙ range_get xs i j (length (slice_range xs i j) - 1 - k) d m ∙ ap (λ m. get_or xs m d) e
+back_get xs i j k d ordered within h = grind (arith, range_length, get_or-reverse, range_get)
 
 -- the one at this place of two lists
 pub get_front : (xs ys : List ℕ) (k d : ℕ) → k < length xs → get_or (xs ++ ys) k d ≡ get_or xs k d
@@ -46,18 +41,13 @@ cut_middle a b c i n m =
 
 -- of two lists, where it is in the first
 pub cut_first : (xs ys : List ℕ) (i : ℕ) → i < length xs → cut i (xs ++ ys) ≡ cut i xs ++ ys
-cut_first xs ys i h =
-    ap (λ zs. zs ++ drop (i + 1) (xs ++ ys)) (take-append-le i xs ys (omega arith)) ∙ ap (λ zs. take i xs ++ zs) (drop-append-le (i + 1) xs ys (omega arith))
-    ∙ sym (append_assoc (take i xs) (drop (i + 1) xs) ys)
+cut_first xs ys i h = grind (arith, take-append-le, drop-append-le, append_assoc)
 
 -- and where it is not
 pub cut_rest : (xs ys : List ℕ) (i n : ℕ) → n ≡ length xs → n ≤ i → cut i (xs ++ ys) ≡ xs ++ cut (i - n) ys
 cut_rest xs ys i n e h =
     let k : i ≡ length xs + (i - n) = omega arith in
-    let m : i + 1 ≡ length xs + (i - n + 1) = omega arith in
-    ap (λ j. take j (xs ++ ys) ++ drop (i + 1) (xs ++ ys)) k ∙ ap (λ zs. zs ++ drop (i + 1) (xs ++ ys)) (take-append-add xs ys (i - n))
-    ∙ ap (λ j. (xs ++ take (i - n) ys) ++ drop j (xs ++ ys)) m ∙ ap (λ zs. (xs ++ take (i - n) ys) ++ zs) (drop-append-add xs ys (i - n + 1))
-    ∙ append_assoc xs (take (i - n) ys) (drop (i - n + 1) ys)
+    grind (arith, take-append-add, drop-append-add, append_assoc)
 
 -- a stretch but for one
 pub cut_range : (xs : List ℕ) (i j k : ℕ) → i ≤ j → j ≤ length xs → k < j - i → slice_range xs i (i + k) ++ slice_range xs (i + k + 1) j ≡ cut k (slice_range xs i j)
@@ -65,8 +55,7 @@ cut_range xs i j k ordered within h =
     let a = slice_range xs i (i + k) in
     let b = slice_range xs (i + k) (i + k + 1) in
     let c = slice_range xs (i + k + 1) j in
-    let parts : slice_range xs i j ≡ a ++ (b ++ c) =
-    range_parts xs i (i + k) j (omega arith) (omega arith) within ∙ ap (λ ys. a ++ ys) (range_parts xs (i + k) (i + k + 1) j (omega arith) (omega arith) within) in
+    let parts : slice_range xs i j ≡ a ++ (b ++ c) = grind (arith, range_parts) in
     let n : length a ≡ k = range_length xs i (i + k) (omega arith) (omega arith) ∙ (omega arith) in
     let m : length b ≡ 1 = range_length xs (i + k) (i + k + 1) (omega arith) (omega arith) ∙ (omega arith) in
     sym (ap (cut k) parts ∙ cut_middle a b c k n m)
@@ -77,10 +66,8 @@ cut_back xs i j k ordered within h =
     let a = slice_range xs i (j - k - 1) in
     let b = slice_range xs (j - k - 1) (j - k) in
     let c = slice_range xs (j - k) j in
-    let parts : slice_range xs i j ≡ a ++ (b ++ c) =
-    range_parts xs i (j - k - 1) j (omega arith) (omega arith) within ∙ ap (λ ys. a ++ ys) (range_parts xs (j - k - 1) (j - k) j (omega arith) (omega arith) within) in
-    let turned : reverse (slice_range xs i j) ≡ reverse c ++ (reverse b ++ reverse a) =
-    ap (reverse {A = ℕ}) parts ∙ reverse-append a (b ++ c) ∙ ap (λ ys. ys ++ reverse a) (reverse-append b c) ∙ append_assoc (reverse c) (reverse b) (reverse a) in
+    let parts : slice_range xs i j ≡ a ++ (b ++ c) = grind (arith, range_parts) in
+    let turned : reverse (slice_range xs i j) ≡ reverse c ++ (reverse b ++ reverse a) = grind (arith, reverse-append, append_assoc) in
     let n : length (reverse c) ≡ k = length-reverse c ∙ range_length xs (j - k) j (omega arith) within ∙ (omega arith) in
     let m : length (reverse b) ≡ 1 = length-reverse b ∙ range_length xs (j - k - 1) (j - k) (omega arith) (omega arith) ∙ (omega arith) in
     sym (ap (cut k) turned ∙ cut_middle (reverse c) (reverse b) (reverse a) k n m)

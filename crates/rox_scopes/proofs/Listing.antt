@@ -1,5 +1,5 @@
 -- What an element lists, from what its tag declares.
-use Rattle.std.proofs.Common.{◌≡◌, ℕ, ◌&&◌, ◌||◌, not, Bool, true, false, cond, List, [], ◌∷◌, ◌++◌, filter, refl, sym, ap, ◌∙◌, Option, Some, append-nil, append_assoc}
+use Rattle.std.proofs.Common.{◌≡◌, ℕ, ◌&&◌, ◌||◌, Bool, true, false, cond, List, [], ◌∷◌, ◌++◌, filter, refl, sym, ap, ◌∙◌, Option, Some, append-nil, append_assoc, arith}
 use Rattle.std.specs.List.{list_any}
 use mathlib.Core.Bool.{or_assoc, false≢true}
 use Rattle.rox_grammar.specs.Written.{NamespaceDecl}
@@ -42,15 +42,9 @@ is_declared-own (d ∷ ds) p = by_cases (is_xml d.prefix) refl (is_declared-own 
         rw (e, same, h) (or_absorb (is_xml p) (is_declared p (listable_of ds)) (declares_xml ds))
     by_cases false e h = rw (e, h) (sym (or_assoc (same_prefix d.prefix p) (is_declared p (listable_of ds)) (declares_xml ds && is_xml p)))
 
-filter_same : (f g : NamespaceDecl → Bool) (ds : List NamespaceDecl) → ((d : NamespaceDecl) → f d ≡ g d) → filter f ds ≡ filter g ds
-filter_same f g [] e = refl
-filter_same f g (d ∷ ds) e = ap (λ b. cond b (d ∷ filter f ds) (filter f ds)) (e d) ∙ ap (λ xs. cond (g d) (d ∷ xs) xs) (filter_same f g ds e)
-
 -- what an element lists: its own, and the parent's others
 pub listed-others : (above own : List NamespaceDecl) → listed above own ≡ listable_of own ++ others (listable_of own) (declares_xml own) above
-listed-others above own = ap (λ xs. listable_of own ++ xs)
-    (filter_same (λ d. not (is_declared d.prefix own)) (λ d. not (is_declared d.prefix (listable_of own) || (declares_xml own && is_xml d.prefix))) above
-    (λ d. ap not (is_declared-own own d.prefix)))
+listed-others above own = grind (arith, is_declared-own)
 
 filter_all : (ds : List NamespaceDecl) → filter (λ d. true) ds ≡ ds
 filter_all [] = refl

@@ -1,5 +1,5 @@
 -- The table of pairs.
-use Rattle.std.proofs.Common.{◌≡◌, ℕ, zero, suc, ◌+◌, ◌<◌, ◌||◌, Bool, true, false, cond, List, [], ◌∷◌, ◌++◌, length, map, take, drop, get_or, add-one, drop-cons, is_some, refl, sym, ap, ◌∙◌, arith, Option, Some, None, inl, inr}
+use Rattle.std.proofs.Common.{◌≡◌, ℕ, zero, suc, ◌+◌, ◌<◌, ◌||◌, Bool, true, false, cond, List, [], ◌∷◌, ◌++◌, length, map, take, drop, get_or, drop-cons, is_some, refl, ap, ◌∙◌, arith, Option, Some, None, inl, inr}
 use Rattle.std.proofs.lemmas.Bool.{cases_Bool}
 use Rattle.std.proofs.lemmas.List.{take_more, map-append, take-append-drop}
 use Rattle.rox_grammar.specs.Written.{NamespaceDecl}
@@ -32,12 +32,9 @@ uri_of-append (x ∷ xs) ys p h =
 pub uri_here : (namespaces : List NamespaceDecl) (places : List ℕ) (i d : ℕ) (p : Option (List ℕ)) → i < length places → uri_of (entries namespaces (take i places)) p ≡ None
     → same_prefix (namespace_at namespaces (get_or places i d)).prefix p ≡ true → uri_of (entries namespaces places) p ≡ Some (namespace_at namespaces (get_or places i d)).uri
 uri_here namespaces places i d p lt none same =
-    let parts : places ≡ take i places ++ get_or places i d ∷ drop (i + 1) places =
-    sym (take-append-drop i places) ∙ ap (λ xs. take i places ++ xs) (rw (add-one, drop-cons places i d) refl) in
-    let m : entries namespaces places ≡ entries namespaces (take i places) ++ (namespace_at namespaces (get_or places i d) ∷ entries namespaces (drop (i + 1) places)) =
-    ap (entries namespaces) parts ∙ map-append (namespace_at namespaces) (take i places) (get_or places i d ∷ drop (i + 1) places) in
-    ap (λ xs. uri_of xs p) m ∙ uri_of-append (entries namespaces (take i places)) (namespace_at namespaces (get_or places i d) ∷ entries namespaces (drop (i + 1) places)) p none
-    ∙ rw same refl
+    let parts : places ≡ take i places ++ get_or places i d ∷ drop (i + 1) places = grind (arith, take-append-drop, drop-cons) in
+    let m : entries namespaces places ≡ entries namespaces (take i places) ++ (namespace_at namespaces (get_or places i d) ∷ entries namespaces (drop (i + 1) places)) = grind (arith, map-append) in
+    grind (arith, uri_of-append)
 
 pub uri_none_more : (namespaces : List NamespaceDecl) (places : List ℕ) (i d : ℕ) (p : Option (List ℕ)) → i < length places → uri_of (entries namespaces (take i places)) p ≡ None
     → same_prefix (namespace_at namespaces (get_or places i d)).prefix p ≡ false → uri_of (entries namespaces (take (i + 1) places)) p ≡ None

@@ -1,5 +1,5 @@
 -- A set of declared prefixes.
-use Rattle.std.proofs.Common.{◌≡◌, ℕ, ◌+◌, ◌<◌, ◌||◌, Bool, true, false, List, [], ◌∷◌, ◌++◌, length, map, take, drop, get_or, length-drop, refl, sym, ap, ◌∙◌, arith, length-append, Option, Some, None, Bor}
+use Rattle.std.proofs.Common.{◌≡◌, ℕ, ◌+◌, ◌<◌, ◌||◌, Bool, false, List, [], ◌∷◌, ◌++◌, length, map, take, drop, get_or, length-drop, refl, sym, ap, ◌∙◌, arith, length-append, Option, Some, None, Bor}
 use Rattle.std.specs.List.{list_any}
 use Rattle.std.specs.declared.cmp.Ordering.{Ordering}
 use Rattle.std.specs.declared.cmp.Ordering.TheVariants.{Less, Equal, Greater}
@@ -10,7 +10,7 @@ use Rattle.std.specs.BTreeMap.{is_at}
 use Rattle.std.specs.BTreeSet.{insert_key}
 use Rattle.std.proofs.lemmas.List.{map-append, take_more}
 use Rattle.std.proofs.lemmas.List.Folds.{list_any-append}
-use mathlib.Core.Bool.{or_comm, or_assoc, or-false}
+use mathlib.Core.Bool.{or_comm, or_assoc}
 use Rattle.rox_grammar.specs.Written.{NamespaceDecl}
 use Rattle.rox_grammar.specs.Tree.{same_prefix, is_declared}
 use Rattle.rox_scopes.specs.declared.namespace.Namespace.{Namespace}
@@ -40,9 +40,7 @@ has_is [] k = refl
 has_is (x ∷ xs) k = rw (same_prefix-sym (prefix_view x) (prefix_view k), prefix_ties k x, has_is xs k) refl
 
 or_absorbs : (a b : Bool) → (a || b) ≡ ((a || b) || a)
-or_absorbs true b = refl
-or_absorbs false true = refl
-or_absorbs false false = refl
+or_absorbs a b = grind arith
 
 with_key : (xs : List Key) (x k : Key) (p : Option (List ℕ)) (o : Ordering) → o ≡ key_cmp k x
     → has_prefix p (insert_key key_cmp xs k) ≡ (has_prefix p xs || same_prefix (prefix_view k) p)
@@ -79,9 +77,7 @@ remembers_same namespaces more places keys e h = λ many p. h many p ∙ ap (is_
 -- one more place
 pub declared_push : (namespaces : List NamespaceDecl) (places : List ℕ) (place : ℕ) (p : Option (List ℕ))
     → is_declared p (entries namespaces (places ++ place ∷ [])) ≡ (is_declared p (entries namespaces places) || same_prefix (namespace_at namespaces place).prefix p)
-declared_push namespaces places place p =
-    ap (is_declared p) (map-append (namespace_at namespaces) places (place ∷ [])) ∙ list_any-append (λ d. same_prefix d.prefix p) (entries namespaces places) (namespace_at namespaces place ∷ [])
-    ∙ ap (λ b. is_declared p (entries namespaces places) || b) (or-false (same_prefix (namespace_at namespaces place).prefix p))
+declared_push namespaces places place p = grind (arith, map-append, list_any-append)
 
 -- the places up to this one, and this one
 pub declared_next : (rows : List Namespace) (places : List ℕ) (i : ℕ) (item : Namespace) (p : Option (List ℕ)) (old now next : Bool) → ArePlaces (length rows) places → i < length places

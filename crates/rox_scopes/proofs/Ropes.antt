@@ -1,8 +1,7 @@
 -- What rows of scopes list, as there are more of them.
-use Rattle.std.proofs.Common.{◌≡◌, ℕ, zero, suc, ◌+◌, ◌-◌, ◌<◌, ◌≤◌, inl, inr, false, List, [], ◌∷◌, ◌++◌, length, map, take, drop, reverse, get_or, refl, sym, ap, subst, ◌∙◌, arith, length-append, append_assoc, Result, Ok, Err, IfOk, Option, Some, None, IfSome}
+use Rattle.std.proofs.Common.{◌≡◌, ℕ, zero, suc, ◌+◌, ◌-◌, ◌<◌, ◌≤◌, false, List, [], ◌∷◌, ◌++◌, length, map, take, drop, reverse, get_or, refl, sym, ap, subst, ◌∙◌, arith, length-append, append_assoc, Result, IfOk, Option, IfSome}
 use Rattle.std.specs.List.{AllByRecursion, slice_range}
 use Rattle.std.proofs.lemmas.Grind.{reverse_onto}
-use Rattle.std.proofs.Math.Nat.{eq-or-lt_of_le}
 use Rattle.std.proofs.Math.Seq.{get_or-append_seam}
 use Rattle.std.proofs.lemmas.List.{append-nil, length-map, length-reverse, map-append, take-append-drop, take-append-le, get_or_append_left, get_or_default}
 use Rattle.rox_grammar.specs.Written.{NamespaceDecl}
@@ -90,11 +89,7 @@ row_made ls done (x ∷ ss) (suc i) k s n h e =
     row_made ls (done ++ m ∷ []) ss i k s (omega arith) (omega arith) e
 
 made-grown : (ls : List ℕ) (done more : List (List ℕ)) (scopes : List Scope) (i : ℕ) (s : Scope) → i ≤ length done → IsRow scopes i s → made ls (done ++ more) s ≡ made ls done s
-made-grown ls done more scopes i (scope.Few s) n h = refl
-made-grown ls done more scopes i (scope.Back s) n h = refl
-made-grown ls done more scopes i (scope.Concat b) n (f, r, c) =
-    ap (λ xs. xs ++ listed_at (done ++ more) b.rest) (listed_at-append done more b.first (omega arith))
-    ∙ ap (λ xs. listed_at done b.first ++ xs) (listed_at-append done more b.rest (omega arith))
+made-grown ls done more scopes i s n h = grind (arith, listed_at-append)
 
 -- what it lists
 pub row_places : (ls : List ℕ) (scopes : List Scope) (i : ℕ) (s : Scope) → AreRows scopes → i < length scopes → s ≡ get_or scopes i s → places_in ls scopes i ≡ made ls (places_of ls scopes) s
@@ -153,10 +148,7 @@ count_one ls scopes i (scope.Back s) h lt e before =
     let r = row_is ls scopes i (scope.Back s) (scope.Back s) h.rows lt e refl in
     let w : s.until ≤ length ls = row_ends (length ls) scopes i (scope.Back s) (scope.Back s) h lt e refl in
     r.count ∙ sym (ap length r.lists ∙ length-reverse (slice_range ls s.from s.until) ∙ range_length ls s.from s.until r.row w)
-count_one ls scopes i (scope.Concat b) h lt e before =
-    let r = row_is ls scopes i (scope.Concat b) (scope.Concat b) h.rows lt e refl in
-    let l = length-append (places_in ls scopes b.first) (places_in ls scopes b.rest) in
-    r.count ∙ r.row.2 ∙ ap (λ n. n + count_at scopes b.rest) (before b.first r.row.0) ∙ ap (λ n. length (places_in ls scopes b.first) + n) (before b.rest r.row.1) ∙ sym l ∙ ap length (sym r.lists)
+count_one ls scopes i (scope.Concat b) h lt e before = grind (arith, row_is ls scopes i (scope.Concat b) (scope.Concat b) h.rows lt e refl, length-append (places_in ls scopes b.first) (places_in ls scopes b.rest))
 
 pub count_places : (ls : List ℕ) (scopes : List Scope) (i : ℕ) → AreScopes (length ls) scopes → i < length scopes → count_at scopes i ≡ length (places_in ls scopes i)
 count_places ls scopes i h lt = below (i + 1) i (omega arith) lt
@@ -174,26 +166,10 @@ count_at-append (s ∷ ss) more zero h = refl
 count_at-append (s ∷ ss) more (suc i) h = count_at-append ss more i (omega arith)
 
 row-grown : (scopes more : List Scope) (i : ℕ) (s : Scope) → i ≤ length scopes → IsRow scopes i s → IsRow (scopes ++ more) i s
-row-grown scopes more i (scope.Few s) n h = h
-row-grown scopes more i (scope.Back s) n h = h
-row-grown scopes more i (scope.Concat b) n (f, r, c) = (
-  f,
-  r,
-  c ∙ sym (ap (λ n. n + count_at (scopes ++ more) b.rest) (count_at-append scopes more b.first (omega arith)) ∙ ap (λ n. count_at scopes b.first + n) (count_at-append scopes more b.rest (omega arith))),
-)
+row-grown scopes more i s n h = grind (arith, count_at-append)
 
 pub rows_push : (scopes after : List Scope) (s : Scope) → after ≡ scopes ++ s ∷ [] → AreRows scopes → IsRow scopes (length scopes) s → AreRows after
-rows_push scopes after s push h r = subst AreRows (sym push) (record { each = each })
-  where
-    each : (i : ℕ) (x : Scope) → i < length (scopes ++ s ∷ []) → x ≡ get_or (scopes ++ s ∷ []) i x → IsRow (scopes ++ s ∷ []) i x
-    each i x lt e =
-        let n = length-append scopes (s ∷ []) in
-        let le : i ≤ length scopes = omega arith in
-        elim (eq-or-lt_of_le le) [
-          | inl here ↦ subst (λ k. IsRow (scopes ++ s ∷ []) k x) (sym here)
-              (subst (IsRow (scopes ++ s ∷ []) (length scopes)) (sym (e ∙ ap (λ k. get_or (scopes ++ s ∷ []) k x) here ∙ get_or-append_seam scopes s [] x)) (row-grown scopes (s ∷ []) (length scopes) s (omega arith) r))
-          | inr before ↦ row-grown scopes (s ∷ []) i x (omega arith) (h.each i x before (e ∙ get_or_append_left scopes (s ∷ []) x i before))
-        ]
+rows_push scopes after s push h r = grind (arith, length-append, get_or-append_seam, row-grown, get_or_append_left)
 
 pub ends_push : (n : ℕ) (scopes after : List Scope) (s : Scope) → after ≡ scopes ++ s ∷ [] → AllByRecursion (EndsWithin n) scopes → EndsWithin n s → AllByRecursion (EndsWithin n) after
 ends_push n scopes after s push h e = rw push (all_append (EndsWithin n) scopes (s ∷ []) h (e, tt))
@@ -202,9 +178,7 @@ pub scopes_push : (n : ℕ) (scopes after : List Scope) (s : Scope) → after �
 scopes_push n scopes after s push h r e = record { rows = rows_push scopes after s push h.rows r; within = ends_push n scopes after s push h.within e }
 
 ends_more : (n m : ℕ) (s : Scope) → n ≤ m → EndsWithin n s → EndsWithin m s
-ends_more n m (scope.Few s) le h = omega arith
-ends_more n m (scope.Back s) le h = omega arith
-ends_more n m (scope.Concat b) le h = tt
+ends_more n m s le h = grind arith
 
 -- as more places are listed
 pub scopes_more : (n m : ℕ) (scopes : List Scope) → n ≤ m → AreScopes n scopes → AreScopes m scopes
@@ -212,9 +186,7 @@ scopes_more n m scopes le h = record { rows = h.rows; within = all_weaker (EndsW
 
 -- what a row lists that was put behind others
 pub pushed_places : (ls : List ℕ) (scopes after : List Scope) (s : Scope) (i : ℕ) → after ≡ scopes ++ s ∷ [] → i ≡ length scopes → places_in ls after i ≡ made ls (places_of ls scopes) s
-pushed_places ls scopes after s i push last =
-    ap (λ ss. places_in ls ss i) push ∙ ap (λ xs. listed_at xs i) (places_on-append ls [] scopes (s ∷ []))
-    ∙ listed_at-seam (places_of ls scopes) (made ls (places_of ls scopes) s) [] i (last ∙ sym (length-places ls scopes))
+pushed_places ls scopes after s i push last = grind (arith, places_on-append, listed_at-seam, length-places)
 
 -- ---- more places, and more namespaces
 
@@ -225,9 +197,7 @@ slice-stays (x ∷ xs) ys (suc i) zero h = let e : 0 - suc i ≡ 0 = omega arith
 slice-stays (x ∷ xs) ys (suc i) (suc j) h = let e : suc j - suc i ≡ j - i = omega arith in rw e (slice-stays xs ys i j (omega arith))
 
 made-listed : (ls more : List ℕ) (done : List (List ℕ)) (s : Scope) → EndsWithin (length ls) s → made (ls ++ more) done s ≡ made ls done s
-made-listed ls more done (scope.Few s) h = slice-stays ls more s.from s.until h
-made-listed ls more done (scope.Back s) h = ap (reverse {A = ℕ}) (slice-stays ls more s.from s.until h)
-made-listed ls more done (scope.Concat b) h = refl
+made-listed ls more done s h = grind (arith, slice-stays)
 
 places-listed : (ls more : List ℕ) (done : List (List ℕ)) (ss : List Scope) → AllByRecursion (EndsWithin (length ls)) ss → places_on (ls ++ more) done ss ≡ places_on ls done ss
 places-listed ls more done [] h = refl
@@ -250,9 +220,7 @@ all_at n (p ∷ ps) zero (a, h) = a
 all_at n (p ∷ ps) (suc i) (a, h) = all_at n ps i h
 
 made_places : (n : ℕ) (ls : List ℕ) (done : List (List ℕ)) (s : Scope) → ArePlaces n ls → AllByRecursion (ArePlaces n) done → ArePlaces n (made ls done s)
-made_places n ls done (scope.Few s) h k = all_slice (λ i. i < n) ls s.from s.until h
-made_places n ls done (scope.Back s) h k = all_reverse n (slice_range ls s.from s.until) (all_slice (λ i. i < n) ls s.from s.until h)
-made_places n ls done (scope.Concat b) h k = all_append (λ i. i < n) (listed_at done b.first) (listed_at done b.rest) (all_at n done b.first k) (all_at n done b.rest k)
+made_places n ls done s h k = grind (arith, all_slice, all_reverse, all_append, all_at)
 
 places_on_places : (n : ℕ) (ls : List ℕ) (done : List (List ℕ)) (ss : List Scope) → ArePlaces n ls → AllByRecursion (ArePlaces n) done → AllByRecursion (ArePlaces n) (places_on ls done ss)
 places_on_places n ls done [] h k = k
@@ -264,9 +232,7 @@ all_places n ls scopes i h = all_at n (places_of ls scopes) i (places_on_places 
 
 -- what scopes list stays as the table of namespaces grows
 lists-namespaces : (namespaces more : List NamespaceDecl) (ls : List ℕ) (scopes : List Scope) → ArePlaces (length namespaces) ls → lists_of (namespaces ++ more) ls scopes ≡ lists_of namespaces ls scopes
-lists-namespaces namespaces more ls scopes h =
-    map_same (map (namespace_at (namespaces ++ more))) (map (namespace_at namespaces)) (ArePlaces (length namespaces)) (places_of ls scopes)
-    (λ xs a. map_same (namespace_at (namespaces ++ more)) (namespace_at namespaces) (λ i. i < length namespaces) xs (namespace_at-append namespaces more) a) (places_on_places (length namespaces) ls [] scopes h tt)
+lists-namespaces namespaces more ls scopes h = grind (arith, map_same, namespace_at-append, places_on_places)
 
 pub lists-append : (namespaces more : List NamespaceDecl) (ls moreL : List ℕ) (scopes : List Scope) → ArePlaces (length namespaces) ls → AreScopes (length ls) scopes
     → lists_of (namespaces ++ more) (ls ++ moreL) scopes ≡ lists_of namespaces ls scopes
@@ -275,15 +241,11 @@ lists-append namespaces more ls moreL scopes all h = lists-listed (namespaces ++
 -- ---- rows made from others
 
 pub if_ok : {E : Type 0} {P Q : ℕ → Type 0} (r : Result ℕ E) → IfOk r P → ((s : ℕ) → P s → Q s) → IfOk r Q
-if_ok (Ok s) h f = f s h
-if_ok (Err e) h f = tt
+if_ok r h f = grind arith
 
 -- two that are put one behind the other are there
 pub two_put : (scopes one two : List Scope) (x y : Scope) (i j : ℕ) → one ≡ scopes ++ x ∷ [] → i ≡ length scopes → two ≡ one ++ y ∷ [] → j ≡ length one → (i < length two) × (j < length two)
-two_put scopes one two x y i j a b c d =
-    let n = ap length a ∙ length-append scopes (x ∷ []) in
-    let m = ap length c ∙ length-append one (y ∷ []) in
-    (omega arith, omega arith)
+two_put scopes one two x y i j a b c d = grind (arith, length-append)
 
 -- one that is there
 pub rope_same : (scopes : List Scope) (i : ℕ) (list : List ℕ → List ℕ) → AreRows scopes → i < length scopes → ((listed : List ℕ) → AreScopes (length listed) scopes → places_in listed scopes i ≡ list listed)
@@ -337,29 +299,21 @@ rope_kept old mid a f listed i x h = ap (λ ss. places_in listed ss i) x.grown �
 -- it is one in front of another
 pub rope_first : (old mid new : List Scope) (a b rest : ℕ) (f h : List ℕ → List ℕ) → IsRope old mid a f → IsRope mid new b (λ l. places_in l mid a ++ places_in l mid rest) → rest < length old
     → ((listed : List ℕ) → AreScopes (length listed) old → f listed ++ places_in listed old rest ≡ h listed) → IsRope old new b h
-rope_first old mid new a b rest f h x y lt e =
-    rope_then old mid new a b f (λ l. places_in l mid a ++ places_in l mid rest) h x y
-    (λ l k. ap (λ xs. xs ++ places_in l mid rest) (x.lists l k) ∙ ap (λ xs. f l ++ xs) (rope_kept old mid a f l rest x lt) ∙ e l k)
+rope_first old mid new a b rest f h x y lt e = grind (arith, rope_then, rope_kept)
 
 -- or behind it
 pub rope_rest : (old mid new : List Scope) (a b first : ℕ) (f h : List ℕ → List ℕ) → IsRope old mid a f → IsRope mid new b (λ l. places_in l mid first ++ places_in l mid a) → first < length old
     → ((listed : List ℕ) → AreScopes (length listed) old → places_in listed old first ++ f listed ≡ h listed) → IsRope old new b h
-rope_rest old mid new a b first f h x y lt e =
-    rope_then old mid new a b f (λ l. places_in l mid first ++ places_in l mid a) h x y
-    (λ l k. ap (λ xs. xs ++ places_in l mid a) (rope_kept old mid a f l first x lt) ∙ ap (λ xs. places_in l old first ++ xs) (x.lists l k) ∙ e l k)
+rope_rest old mid new a b first f h x y lt e = grind (arith, rope_then, rope_kept)
 
 -- the two parts of a pair of pairs
 pub rope_two : (old mid next new : List Scope) (a b c : ℕ) (p q r s : ℕ) (h : List ℕ → List ℕ) → IsRope old mid a (λ l. places_in l old p ++ places_in l old q)
     → IsRope mid next b (λ l. places_in l mid r ++ places_in l mid s) → IsRope next new c (λ l. places_in l next a ++ places_in l next b) → r < length old → s < length old
     → ((l : List ℕ) → AreScopes (length l) old → (places_in l old p ++ places_in l old q) ++ (places_in l old r ++ places_in l old s) ≡ h l) → IsRope old new c h
 rope_two old mid next new a b c p q r s h x y z lr ls e =
-    let f : List ℕ → List ℕ = λ l. places_in l old p ++ places_in l old q in
     let g : List ℕ → List ℕ = λ l. places_in l mid r ++ places_in l mid s in
-    let xy : IsRope old next b (λ l. places_in l old r ++ places_in l old s) =
-    rope_then old mid next a b f g (λ l. places_in l old r ++ places_in l old s) x y
-    (λ l k. ap (λ xs. xs ++ places_in l mid s) (rope_kept old mid a f l r x lr) ∙ ap (λ xs. places_in l old r ++ xs) (rope_kept old mid a f l s x ls)) in
-    rope_then old next new b c (λ l. places_in l old r ++ places_in l old s) (λ l. places_in l next a ++ places_in l next b) h xy z
-    (λ l k. ap (λ xs. xs ++ places_in l next b) (rope_kept mid next b g l a y x.within ∙ x.lists l k) ∙ ap (λ xs. f l ++ xs) (xy.lists l k) ∙ e l k)
+    let xy : IsRope old next b (λ l. places_in l old r ++ places_in l old s) = grind (arith, rope_then, rope_kept) in
+    grind (arith, rope_then, rope_kept)
 
 none : (xs : List ℕ) → 0 ≡ length xs → xs ≡ []
 none [] h = refl
@@ -383,8 +337,7 @@ pub rope_join : (old mid next new : List Scope) (a b c : ℕ) (f g h : List ℕ 
     → ((l : List ℕ) → AreScopes (length l) old → f l ++ g l ≡ h l) → IsRope old new c h
 rope_join old mid next new a b c f g h x y z e =
     let xy : IsRope old next b g = rope_then old mid next a b f g g x y (λ l k. refl) in
-    rope_then old next new b c g (λ l. places_in l next a ++ places_in l next b) h xy z
-    (λ l k. ap (λ xs. xs ++ places_in l next b) (rope_kept mid next b g l a y x.within ∙ x.lists l k) ∙ ap (λ xs. f l ++ xs) (xy.lists l k) ∙ e l k)
+    grind (arith, rope_then, rope_kept)
 
 -- the same list in other words
 pub rope_is : (old new : List Scope) (a : ℕ) (f h : List ℕ → List ℕ) → IsRope old new a f → ((l : List ℕ) → AreScopes (length l) old → f l ≡ h l) → IsRope old new a h
@@ -418,8 +371,7 @@ both_at ls scopes i b h lt is =
     (f, r.row.1, count_places ls scopes b.first h (omega arith), r.lists)
 
 pub if_some : {P Q : ℕ → Type 0} (o : Option ℕ) → IfSome o P → ((i : ℕ) → P i → Q i) → IfSome o Q
-if_some (Some i) h f = f i h
-if_some None h f = tt
+if_some o h f = grind arith
 
 -- ---- two leaves
 

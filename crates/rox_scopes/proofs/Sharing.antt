@@ -7,7 +7,6 @@ use Rattle.rox_grammar.specs.Written.{NamespaceDecl}
 use Rattle.rox_scopes.specs.declared.stored_scope.Scope.{Scope}
 use Rattle.rox_scopes.specs.declared.stored_scope.Scope.TheVariants as scope
 use Rattle.rox_scopes.specs.declared.stored_scope.Stretch.{Stretch}
-use Rattle.rox_reading.specs.AtIndex.{namespace_at}
 use Rattle.rox_scopes.specs.ScopeRows.{AreScopes}
 use Rattle.rox_scopes.specs.Scopes.{entries, places_in, ArePlaces}
 use Rattle.rox_scopes.specs.Ropes.{IsRope, IsListed}
@@ -24,29 +23,19 @@ pub record Turned (old : List ℕ) (from turn end : ℕ) (now : List ℕ) : Type
 pub turn_more : (old : List ℕ) (from turn end place d : ℕ) (now next : List ℕ) → Turned old from turn end now → from ≤ length old → turn < end - from → place ≡ get_or now (end - 1 - turn) d → next ≡ now ++ place ∷ []
     → Turned old from (turn + 1) end next
 turn_more old from turn end place d now next h le lt is push =
-    let e = h.end_is in
     let rest = drop from old in
     let n : length rest ≡ length old - from = length-drop from old in
     let m = length-reverse rest in
-    let here : turn < length (reverse rest) = omega arith in
     let low : end - 1 - turn < length old = omega arith in
     let k : turn < length rest = omega arith in
     let at : from + (length rest - 1 - turn) ≡ end - 1 - turn = omega arith in
     let one : get_or (reverse rest) turn d ≡ get_or old (end - 1 - turn) d =
     get_or-reverse rest turn d k ∙ (rw get_or-drop refl) ∙ ap (λ j. get_or old j d) at in
     let same : place ≡ get_or (reverse rest) turn d = is ∙ ap (λ xs. get_or xs (end - 1 - turn) d) h.now_is ∙ get_or_append_left old (take turn (reverse rest)) d (end - 1 - turn) low ∙ sym one in
-    record {
-      end_is = e;
-      now_is = push ∙ ap (λ xs. xs ++ place ∷ []) h.now_is ∙ append_assoc old (take turn (reverse rest)) (place ∷ [])
-          ∙ ap (λ x. old ++ (take turn (reverse rest) ++ x ∷ [])) same ∙ ap (λ xs. old ++ xs) (sym (take_more (reverse rest) turn d here));
-    }
+    grind (arith, append_assoc, take_more)
 
 pub turn_ends : (old : List ℕ) (from turn end : ℕ) (now : List ℕ) → Turned old from turn end now → end - from ≤ turn → now ≡ old ++ reverse (drop from old)
-turn_ends old from turn end now h le =
-    let e = h.end_is in
-    let n : length (drop from old) ≡ length old - from = length-drop from old in
-    let m = length-reverse (drop from old) in
-    h.now_is ∙ ap (λ xs. old ++ xs) (take_all turn (reverse (drop from old)) (omega arith))
+turn_ends old from turn end now h le = grind (arith, length-drop, length-reverse, take_all)
 
 -- a row that reads it from its back
 pub turned_listed : (namespaces : List NamespaceDecl) (old new : List ℕ) (scopes after : List Scope) (s : Stretch) (i from : ℕ) → new ≡ old ++ reverse (drop from old) → s.from ≡ length old → s.until ≡ length new
@@ -57,8 +46,7 @@ turned_listed namespaces old new scopes after s i from grown begins ends h push 
     let l = ap length push ∙ length-append scopes (scope.Back s ∷ []) in
     let le : s.from ≤ s.until = omega arith in
     let wide : s.until ≤ length new = omega arith in
-    let slice : slice_range new s.from s.until ≡ more =
-    ap (slice_range new s.from) ends ∙ slice-rest new s.from ∙ ap (λ k. drop k new) begins ∙ ap (drop (length old)) grown ∙ drop-append_seam old more in
+    let slice : slice_range new s.from s.until ≡ more = grind (arith, slice-rest, drop-append_seam) in
     record {
       more = more;
       grown = grown;
@@ -101,17 +89,7 @@ within_behind old mid more i grown h = let n = ap length grown ∙ length-append
 -- behind what was inherited
 pub inherits_listed : (namespaces : List NamespaceDecl) (old mid new more : List ℕ) (scopes after : List Scope) (i own : ℕ) (ds : List NamespaceDecl) → own ≤ length old → mid ≡ old ++ more → (ArePlaces (length namespaces) old → ArePlaces (length namespaces) mid)
     → entries namespaces more ≡ ds → IsListed namespaces mid scopes new after i (entries namespaces (drop own mid)) → IsListed namespaces old scopes new after i (entries namespaces (drop own old) ++ ds)
-inherits_listed namespaces old mid new more scopes after i own ds le grown places is x = record {
-  more = more ++ x.more;
-  grown = x.grown ∙ ap (λ xs. xs ++ x.more) grown ∙ append_assoc old more x.more;
-  places = λ h. x.places (places h);
-  more_rows = x.more_rows;
-  rows_grown = x.rows_grown;
-  scopes_are = x.scopes_are;
-  within = x.within;
-  lists = x.lists ∙ ap (λ xs. entries namespaces (drop own xs)) grown ∙ ap (entries namespaces) (drop-append-le own old more le) ∙ map-append (namespace_at namespaces) (drop own old) more
-      ∙ ap (λ xs. entries namespaces (drop own old) ++ xs) is;
-}
+inherits_listed namespaces old mid new more scopes after i own ds le grown places is x = grind (arith, append_assoc, drop-append-le, map-append)
 
 -- ---- what is hidden
 
@@ -144,13 +122,4 @@ rope_listed namespaces listed scopes after i f ds h x is = record {
 -- rows behind rows, of the same listed places
 pub listed_then : (namespaces : List NamespaceDecl) (listed : List ℕ) (old mid new : List Scope) (a b : ℕ) (ds es : List NamespaceDecl) → IsListed namespaces listed old listed mid a ds → IsListed namespaces listed mid listed new b es
     → IsListed namespaces listed old listed new b es
-listed_then namespaces listed old mid new a b ds es x y = record {
-  more = [];
-  grown = sym (append-nil listed);
-  places = λ h. h;
-  more_rows = x.more_rows ++ y.more_rows;
-  rows_grown = y.rows_grown ∙ ap (λ xs. xs ++ y.more_rows) x.rows_grown ∙ append_assoc old x.more_rows y.more_rows;
-  scopes_are = y.scopes_are;
-  within = y.within;
-  lists = y.lists;
-}
+listed_then namespaces listed old mid new a b ds es x y = grind (arith, append_assoc)

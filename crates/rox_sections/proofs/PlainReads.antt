@@ -1,25 +1,17 @@
 -- What a look answers that reads nothing.
-use Rattle.std.proofs.Common.{◌≡◌, ◌≤◌, ◌^◌, ℕ, List, Result, false, refl, ap, ◌∙◌, arith}
+use Rattle.std.proofs.Common.{◌≡◌, ◌≤◌, ◌^◌, ℕ, List, Result, refl, ap, ◌∙◌, arith}
 use Rattle.rox_reading.specs.Machine as machine
-use Rattle.rox_scan.specs.declared.cursor.Cursor.{Cursor}
 use Rattle.rox_reading.specs.Refusals.{Refusal}
 use Rattle.rox_reading.specs.State.{State}
 use Rattle.rox_names.specs.declared.tables.ElementTables.{ElementTables}
 use Rattle.rox_builder.specs.BuilderState.{HoldsState, IsConsistent, IsReadyTo, KeepsState}
 use Rattle.rox_builder.specs.Outcomes.{ReadsAt}
 use Rattle.rox_builder.proofs.Stepping.{same_shows, state_kept}
-use Rattle.rox_sections.specs.PlainOutcomes.{ReadsRunAt, ReadsStep}
+use Rattle.rox_sections.specs.PlainOutcomes.{ReadsRunAt}
 use Rattle.rox_builder.specs.declared.builder.Builder.{Builder}
 
 pub keeps_all : (b : Builder) → KeepsState b b
 keeps_all b = record { nodes = refl; opened = refl; pending = refl; joined = refl; limit = refl; openings_left = refl; others = refl; attributes = refl }
-
-pub steps_not : (such : machine.Context → Type 0) (c : Cursor) (b u : Builder) → KeepsState b u → IsConsistent u.tables u.opened.items → ReadsStep such c c b u false
-steps_not such c b u kept fine = record {
-  value = λ yes. absurd (cc yes);
-  other = λ _. (refl, kept);
-  goes = record { source = refl; fine = fine };
-}
 
 -- what equal rows hold
 pub kept_rests : (limit end : ℕ) (s : State) (b u : Builder) → KeepsState b u → u.tables ≡ b.tables → HoldsState limit end s b → HoldsState limit end s u

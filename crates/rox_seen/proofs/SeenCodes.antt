@@ -110,10 +110,6 @@ seen_first seen rows from =
     let none : drop seen.from rows ≡ [] = drop_of_length-le rows (omega arith) in
     subst (AllByRecursion (λ (a : AttributeRow). HasNameOf seen.codes a.0)) (sym none) tt
 
--- none yet
-pub few_seen : (seen : SeenNames) (rows : List AttributeRow) → seen.from ≡ length rows → AreSeen seen rows
-few_seen seen rows from = record { from = omega arith; codes = λ more. absurd (omega (arith, from, more)) }
-
 -- where the codes and the tag stay
 pub seen_kept : (seen after : SeenNames) (rows : List AttributeRow) → KeepsCodes seen after → AreSeen seen rows → AreSeen after rows
 seen_kept seen after rows k h = record {

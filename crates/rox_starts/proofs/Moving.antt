@@ -1,9 +1,8 @@
 -- What is read of content moves on in the source.
-use Rattle.std.proofs.Common.{◌≡◌, ◌≢◌, ℕ, zero, suc, ◌+◌, ◌<◌, ◌≤◌, Bool, nat_le, bytes_eq, leb, true, false, List, length, Result, Ok, sym, ap, ◌∙◌, arith}
+use Rattle.std.proofs.Common.{◌≡◌, ◌≢◌, ℕ, zero, suc, ◌+◌, ◌<◌, ◌≤◌, Bool, nat_le, bytes_eq, leb, List, length, Result, Ok, sym, ap, ◌∙◌, arith}
 use Rattle.std.specs.Str.{IsUtf8}
 use Rattle.rox_grammar.specs.declared.fault.Fault.{Fault}
 use Rattle.rox_grammar.specs.declared.fault.Word.TheVariants as word
-use Rattle.rox_grammar.specs.Chars.{is_space}
 use Rattle.rox_grammar.specs.Content.{is_verbatim}
 use Rattle.rox_grammar.specs.FixedTexts.{word_text}
 use Rattle.rox_grammar.specs.Forest.{Forest}
@@ -18,11 +17,10 @@ use Rattle.rox_reading.specs.Markup.{RawAttribute, TagItem, more, opened, closed
 use Rattle.rox_reading.specs.Refusals.{Refusal}
 use Rattle.rox_reading.specs.State.{State, depth_of}
 use Rattle.rox_reading.specs.Tags.{TagRead, TagRest, TagSoFar, Values, after_tag_item, attribute_with, attributes_at, tag_at, tag_tested, taken}
-use Rattle.rox_reading.specs.Values.{Next, at_end, opening, data_part, part_text, raw_character_data_at, value_at}
+use Rattle.rox_reading.specs.Values.{Next, data_part, part_text, raw_character_data_at, value_at}
 use Rattle.rox_theory.proofs.AttributeLemmas.{RawStands, TurnStands, turn_sound}
 use Rattle.rox_theory.proofs.Basics.{bind_lifted, bind_lifted_only, bind_ok, chosen, ok_same, run_end_le}
 use Rattle.rox_theory.proofs.Constructions.{Kind, Means, a_comment, a_cdata, a_run, a_tag, an_end, an_instruction, kind_at, kind_means, nothing, step_by, step_is}
-use Rattle.rox_theory.proofs.LiteralLemmas.{literal_le}
 use Rattle.rox_theory.proofs.MarkupLemmas.{cdata_sound, comment_sound, end_sound, instruction_sound}
 use Rattle.rox_theory.proofs.NameLemmas.{qname_le, qname_sound}
 use Rattle.rox_theory.proofs.Productions.{char_data_parts}
@@ -32,12 +30,7 @@ use Rattle.rox_theory.proofs.TagLemmas.{ends_inside}
 -- ---- start tags
 
 raw_moves : (src : List ℕ) (i j : ℕ) (raw : RawAttribute) → RawStands src i j raw → i ≤ j
-raw_moves src i j raw r =
-    let name = qname_le src i raw.name raw.name_end r.is_name in
-    let before = run_end_le is_space src raw.name_end in
-    let behind = run_end_le is_space src (spaces_end src raw.name_end + 1) in
-    let value = literal_le src r.v raw.value_end j r.literal in
-    omega (arith, name, before, behind, value, r.eq.1, r.literal.0.3)
+raw_moves src i j raw r = grind (arith, qname_le, run_end_le)
 
 turn_moves : (src : List ℕ) (next : ℕ → ℕ → TagSoFar → Result (TagRest × ℕ) Refusal)
     → ((j l : ℕ) (held : TagSoFar) (x : TagRest × ℕ) → next j l held ≡ Ok x → j < x.1)
@@ -47,10 +40,8 @@ turn_moves src next rest context known i l h (more raw) j x stands is =
     bind_ok (value_at context.main context.entities context.opener src raw.value_start raw.value_end l) _ _ is (λ v read is.
     bind_lifted (taken known (attribute_with raw v.0) h) _ _ is (λ held first is.
     omega (arith, stands.0, raw_moves src (spaces_end src i) j raw stands.1, rest j v.1 held x is)))
-turn_moves src next rest context known i l h opened j x stands is =
-    omega (arith, (ends_inside src i _ j stands).1, ap (λ (y : TagRest × ℕ). y.1) (ok_same _ _ is))
-turn_moves src next rest context known i l h closed j x stands is =
-    omega (arith, (ends_inside src i _ j stands).1, ap (λ (y : TagRest × ℕ). y.1) (ok_same _ _ is))
+turn_moves src next rest context known i l h opened j x stands is = grind (arith, ends_inside)
+turn_moves src next rest context known i l h closed j x stands is = omega (arith, (ends_inside src i _ j stands).1, ap (λ (y : TagRest × ℕ). y.1) (ok_same _ _ is))
 
 attributes_move : (src : List ℕ) → IsUtf8 src
     → (n : ℕ) (context : Values) (cut : Fault) (known : List NamespaceDecl) (i l : ℕ) (h : TagSoFar) (x : TagRest × ℕ)
@@ -90,14 +81,12 @@ item_at : (limit : ℕ) (s t : State) (j : ℕ) (item : Item) → with_item limi
 item_at limit s t j item h = chosen (nat_le _ limit) _ _ _ h (λ few e. made_at _ t e) (λ many e. cc)
 
 opened_at : (limit : ℕ) (s t : State) (tag : Tag) (empty : Bool) (l j : ℕ) → opened_by limit s tag empty l j ≡ Ok t → t.at ≡ j
-opened_at limit s t tag true l j h = item_at limit (record { at = s.at; done = s.done; stack = s.stack; openings_left = l }) t j _ h
-opened_at limit s t tag false l j h = chosen (nat_le _ limit) _ _ _ h (λ few e. made_at _ t e) (λ many e. cc)
+opened_at limit s t tag empty l j h = grind arith
 
 -- the parts of a run end where it does
 part_at : (context : Context) (rest : State → Result State Refusal) (stop : ℕ) (t : State) → ((v : State) → rest v ≡ Ok t → t.at ≡ stop)
     → (u : State) (next : Next) → after_part context rest stop u next ≡ Ok t → t.at ≡ stop
-part_at context rest stop t on u at_end h = made_at _ t h
-part_at context rest stop t on u (opening r j) h = bind_ok (context.opener r j u) _ _ h (λ v opens h. on v h)
+part_at context rest stop t on u next h = grind arith
 
 parts_at : (context : Context) (n : ℕ) (src : List ℕ) (start stop : ℕ) (s t : State) → data_parts context n src start stop s ≡ Ok t
     → t.at ≡ stop

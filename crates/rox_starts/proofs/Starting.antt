@@ -1,5 +1,5 @@
 -- A start tag as a whole.
-use Rattle.std.proofs.Common.{◌≡◌, ℕ, ◌+◌, ◌≤◌, Bool, true, false, if◌then◌else◌, List, [], ◌++◌, length, map, bytes_eq, refl, sym, ap, subst, ◌∙◌, Ok, Err, le-ltb}
+use Rattle.std.proofs.Common.{◌≡◌, ℕ, ◌+◌, ◌≤◌, Bool, true, false, if◌then◌else◌, List, [], ◌++◌, length, map, bytes_eq, refl, ◌∙◌, Ok, Err, le-ltb, arith}
 use Rattle.std.proofs.lemmas.List.{append-nil}
 use Rattle.rox_grammar.specs.declared.fault.Fault.{Fault}
 use Rattle.rox_grammar.specs.declared.fault.Word.TheVariants.{Xmlns}
@@ -8,7 +8,7 @@ use Rattle.rox_grammar.specs.declared.fault.Fault.TheVariants as fault
 use Rattle.rox_grammar.specs.Written.{Attribute, Name, NamespaceDecl}
 use Rattle.rox_grammar.specs.NameParts.{prefix_span}
 use Rattle.rox_grammar.specs.WellNamed.{may_name}
-use Rattle.rox_grammar.specs.Tree.{listed, attribute_in, element_namespace}
+use Rattle.rox_grammar.specs.Tree.{listed}
 use Rattle.rox_grammar.specs.Document.{most_pairs, most_attributes}
 use Rattle.rox_reading.specs.Lexical.{◌>>=◌, qname_at}
 use Rattle.rox_reading.specs.Refusals.{lifted}
@@ -22,8 +22,7 @@ use Rattle.rox_values.proofs.PartLemmas.{refuses_by}
 use Rattle.rox_names.specs.declared.tables.ElementTables.{ElementTables}
 use Rattle.rox_names.specs.declared.unresolved_attribute.UnresolvedAttribute.{UnresolvedAttribute}
 use Rattle.rox_names.specs.declared.start_tag.StartTag.{StartTag}
-use Rattle.rox_rows.specs.Rows.{attribute_rows}
-use Rattle.rox_scopes.specs.ScopeRows.{lists_of, AreScopes}
+use Rattle.rox_scopes.specs.ScopeRows.{AreScopes}
 use Rattle.rox_scopes.specs.NamespaceViews.{namespace_view}
 use Rattle.rox_scopes.specs.Scopes.{ArePlaces, PrefixesOnce}
 use Rattle.rox_names.specs.TagDeclarations.{unresolved_view}
@@ -34,10 +33,7 @@ use Rattle.rox_starts.specs.ElementRow.{IsElement, Tagged}
 -- nothing is held before the first attribute
 pub holds_nothing : (namespaces : List NamespaceDecl) (listed : List ℕ) (taken : List UnresolvedAttribute) → length namespaces ≤ most_pairs → taken ≡ []
     → HoldsTag namespaces listed namespaces listed false taken (record { own = []; attributes = [] })
-holds_nothing namespaces listed taken few none = record {
-  declares = record { names_are = refl; few = few; xml_is = refl; mine = []; listed_are = sym (append-nil listed); places = tt; same = refl };
-  attributes = ap (map unresolved_view) none;
-}
+holds_nothing namespaces listed taken few none = grind (arith, append-nil)
 
 tag_rest : (context : Values) (cut : Fault) (above : List NamespaceDecl) (count : ℕ) (known : List NamespaceDecl) (src : List ℕ) (i openings_left : ℕ) (name : Name) (n : ℕ) → qname_at src (i + 1) ≡ Ok (name, n)
     → bytes_eq name.prefix (word_text Xmlns) ≡ false
@@ -71,11 +67,6 @@ tested_rest : (scope : List NamespaceDecl) (count at : ℕ) (name : Name) (as' :
     → tested_at scope count at name as' ≡ (names_tested scope [] as' >>= λ _. if may_name scope name then Ok tt else Err (fault.UnknownNamespace (prefix_span name at) at))
 tested_rest scope count at name as' few = let k = le-ltb _ _ few in rw k refl
 
-pub tested_amiss : (e : Failure) (scope : List NamespaceDecl) (count at : ℕ) (name : Name) (as' : List Attribute) → count + length as' ≤ most_attributes → Fails e (names_tested scope [] as')
-    → Fails e (tested_at scope count at name as')
-tested_amiss failure.Memory scope count at name as' few h = tt
-tested_amiss (failure.Fault f) scope count at name as' few h = tested_rest scope count at name as' few ∙ rw h refl
-
 pub tested_unknown : (scope : List NamespaceDecl) (count at : ℕ) (name : Name) (as' : List Attribute) (f : Fault) → count + length as' ≤ most_attributes → names_tested scope [] as' ≡ Ok tt
     → f ≡ fault.UnknownNamespace (prefix_span name at) at → may_name scope name ≡ false → tested_at scope count at name as' ≡ Err f
 tested_unknown scope count at name as' f few fine is unknown = tested_rest scope count at name as' few ∙ rw (fine, unknown, is) refl
@@ -104,38 +95,4 @@ pub tagged : (o a s e : ElementTables) (t : StartTag) (above : List NamespaceDec
     → AreScopes (length s.listed.items) s.scopes.items
     → scope_in_tables s scope ≡ listed above h.own → e.namespaces ≡ s.namespaces → e.listed ≡ s.listed → e.scopes ≡ s.scopes → IsElement s e t.element (scope_in_tables s scope) name (map unresolved_view taken)
     → HasBindings s → e.present ≡ s.present → PrefixesOnce (scope_in_tables s scope) → Tagged o e t above (record { name = name; name_end = n; declarations = h.own; attributes = h.attributes })
-tagged o a s e t above name n h xml taken scope is ends same hold few namespaces attributes before (more, lists_are) places stretches lists namespaces' listed' scopes' k known present' once =
-    let d = hold.declares in
-    let kept = attributes ∙ same in
-    let after : lists_in e ≡ lists_in s =
-    ap (λ v. lists_of (map namespace_view v.items.items) e.listed.items e.scopes.items) namespaces'
-    ∙ ap (λ v. lists_of (map namespace_view s.namespaces.items.items) v.items e.scopes.items) listed'
-    ∙ ap (λ v. lists_of (map namespace_view s.namespaces.items.items) s.listed.items v.items) scopes' in
-    record {
-      name = is;
-      name_end = ends;
-      namespaces = ap (λ v. map namespace_view v.items.items) (namespaces' ∙ namespaces) ∙ d.names_are;
-      few = rw (ap (λ v. length v.items.items) (namespaces' ∙ namespaces)) few;
-      more = more;
-      lists_more = after ∙ lists_are ∙ ap (λ xs. xs ++ more) before;
-      places = rw (namespaces', listed') places;
-      scopes = rw (listed', scopes') stretches;
-      kept = rw (namespaces', listed', scopes', present') known;
-      once = subst PrefixesOnce (sym k.lists) once;
-      element = record {
-        attributes = record {
-          more = k.attributes.more;
-          grown = k.attributes.grown ∙ ap (λ v. attribute_rows v ++ k.attributes.more) kept;
-          same = k.attributes.same ∙ ap (λ sc. map (attribute_in sc) (map unresolved_view taken)) lists ∙ ap (map (attribute_in (listed above h.own))) hold.attributes;
-          within = k.attributes.within;
-        };
-        attributes_from = k.attributes_from ∙ ap (λ v. length (attribute_rows v)) kept;
-        attributes_until = k.attributes_until;
-        few = k.few;
-        local = k.local;
-        namespace = k.namespace ∙ ap (λ sc. element_namespace sc name) lists;
-        namespace_within = k.namespace_within;
-        scope_within = k.scope_within;
-        lists = k.lists ∙ lists;
-      };
-    }
+tagged o a s e t above name n h xml taken scope is ends same hold few namespaces attributes before (more, lists_are) places stretches lists namespaces' listed' scopes' k known present' once = grind arith

@@ -1,5 +1,5 @@
 -- One attribute or declaration of a start tag, and the loop over them.
-use Rattle.std.proofs.Common.{◌≡◌, ℕ, zero, suc, ◌+◌, ◌<◌, ◌≤◌, Bool, true, false, eqb, nat_le, if◌then◌else◌, List, [], ◌∷◌, ◌++◌, map, length, get_or, refl, sym, ap, ◌∙◌, subst, Result, Ok, Err, le-leb, inl, inr}
+use Rattle.std.proofs.Common.{◌≡◌, ℕ, zero, suc, ◌+◌, ◌<◌, ◌≤◌, Bool, true, false, eqb, nat_le, if◌then◌else◌, List, [], ◌∷◌, ◌++◌, map, length, get_or, refl, sym, ap, ◌∙◌, subst, Result, Ok, Err, le-leb, inl, inr, arith}
 use Rattle.std.proofs.lemmas.List.{map-append}
 use Rattle.std.proofs.lemmas.Bool.{leb-false, lt-leb}
 use Rattle.rox_grammar.specs.declared.fault.Fault.{Fault}
@@ -14,7 +14,6 @@ use Rattle.rox_reading.specs.Tags.{TagSoFar, TagRest, Values, declared, attribut
 use Rattle.rox_grammar.specs.Failures.{Fails, name_view}
 use Rattle.rox_markup.specs.Views.{attribute_view}
 use Rattle.rox_grammar.specs.declared.failure.Failure.{Failure}
-use Rattle.rox_grammar.specs.declared.failure.Failure.TheVariants as failure
 use Rattle.rox_scan.specs.declared.cursor.Cursor.{Cursor}
 use Rattle.rox_scan.specs.declared.raw_attribute.RawAttribute.{RawAttribute as CodeRaw}
 use Rattle.rox_values.specs.Refusals.{IsRefusal, of_failure}
@@ -43,12 +42,7 @@ kept_left openings_left r = lifted r >>= λ held. Ok (held, openings_left)
 one_is : (context : Values) (known : List NamespaceDecl) (src : List ℕ) (raw : RawAttribute) (openings_left l : ℕ) (h : TagSoFar) (v : ReadText) (a : Attribute)
     → value_of context src raw openings_left ≡ Ok (v, l) → attribute_with raw v ≡ a
     → one_more context known src raw openings_left h ≡ kept_left l (tags.taken known a h)
-one_is context known src raw openings_left l h v a is view =
-    ap (λ (r : Result (ReadText × ℕ) Refusal). r >>= λ v. lifted (tags.taken known (attribute_with raw v.0) h) >>= λ held. Ok (held, v.1)) is ∙ ap (λ (a : Attribute). kept_left l (tags.taken known a h)) view
-
-stops_left : (openings_left : ℕ) (e : Failure) (r : Result TagSoFar Fault) → Fails e r → IsRefusal (of_failure e) (kept_left openings_left r)
-stops_left openings_left failure.Memory r h = tt
-stops_left openings_left (failure.Fault f) r h = ap (kept_left openings_left) h
+one_is context known src raw openings_left l h v a is view = cc
 
 -- ---- an attribute that is put
 
@@ -60,10 +54,7 @@ pub took_declaration : (known : List NamespaceDecl) (before : List ℕ) (namespa
 took_declaration known before namespaces listed xml taken h a dec same (own, read, d) = (record { own = own; attributes = h.attributes }, rw dec read, record { declares = d; attributes = same })
 
 pub refused_declaration : (known : List NamespaceDecl) (h : TagSoFar) (a : Attribute) (e : Failure) → is_namespace_decl a.name ≡ true → Fails e (declared known a h) → Fails e (tags.taken known a h)
-refused_declaration known h a e dec fails = subst (Fails e) (same dec) fails
-  where
-    same : is_namespace_decl a.name ≡ true → declared known a h ≡ tags.taken known a h
-    same dec = rw dec refl
+refused_declaration known h a e dec fails = grind arith
 
 pub took_attribute : (known : List NamespaceDecl) (before : List ℕ) (namespaces : List NamespaceDecl) (listed : List ℕ) (xml : Bool) (taken kept : List UnresolvedAttribute) (h : TagSoFar) (t : UnresolvedAttribute) → kept ≡ taken ++ t ∷ []
     → is_namespace_decl (name_view t.name) ≡ false → HoldsTag known before namespaces listed xml taken h → AddsAttribute known before namespaces listed kept (Ok xml) (tags.taken known (unresolved_view t) h)
@@ -87,8 +78,7 @@ took_one context known before namespaces listed xml taken src raw openings_left 
 
 pub refused_one : (context : Values) (known : List NamespaceDecl) (src : List ℕ) (raw : RawAttribute) (openings_left l : ℕ) (h : TagSoFar) (t : UnresolvedAttribute) (e : Failure)
     → GivesAttribute raw (Ok (t, l)) (value_of context src raw openings_left) → Fails e (tags.taken known (unresolved_view t) h) → IsRefusal (of_failure e) (one_more context known src raw openings_left h)
-refused_one context known src raw openings_left l h t e (v, is, view) fails =
-    subst (λ (r : Result (TagSoFar × ℕ) Refusal). IsRefusal (of_failure e) r) (sym (one_is context known src raw openings_left l h v (unresolved_view t) is view)) (stops_left l e (tags.taken known (unresolved_view t) h) fails)
+refused_one context known src raw openings_left l h t e (v, is, view) fails = grind arith
 
 -- its value is refused
 pub refused_value : (context : Values) (known : List NamespaceDecl) (src : List ℕ) (raw : RawAttribute) (openings_left : ℕ) (h : TagSoFar) (e : ParseError)
@@ -98,8 +88,7 @@ refused_value context known src raw openings_left h e fails = refuses_by e (valu
 -- ---- what a turn gives
 
 bind_ok : {A B P : Type 0} (r : Result A Fault) (f : A → Result B Fault) (y : B) → (r >>= f) ≡ Ok y → ((x : A) → r ≡ Ok x → f x ≡ Ok y → P) → P
-bind_ok (Ok x) f y h go = go x refl h
-bind_ok (Err e) f y h go = cc h
+bind_ok r f y h go = grind arith
 
 -- an attribute that a turn gives begins within the text, and the turn ends behind its closing quote
 pub record TurnGives (src : List ℕ) (raw : RawAttribute) (j : ℕ) : Type 0 where
@@ -193,16 +182,10 @@ pub going_ends : (context : Values) (known : List NamespaceDecl) (before : List 
 going_ends context known before cut src whole n m i j openings_left namespaces listed xml true taken t g one inside is kind = (g.h, sym g.same ∙ turned context cut known src n m i openings_left g.h one inside ∙ rw (is, kind) refl, g.holding)
 going_ends context known before cut src whole n m i j openings_left namespaces listed xml false taken t g one inside is kind = (g.h, sym g.same ∙ turned context cut known src n m i openings_left g.h one inside ∙ rw (is, kind) refl, g.holding)
 
--- an attribute or a declaration, and then the others
-kept_on : {X : Type 0} (openings_left : ℕ) (r : Result TagSoFar Fault) (next : ℕ → TagSoFar → Result X Refusal) → (lifted r >>= λ held. next openings_left held) ≡ (kept_left openings_left r >>= λ x. next x.1 x.0)
-kept_on openings_left (Ok x) next = refl
-kept_on openings_left (Err f) next = refl
-
 regrouped : {X : Type 0} (known : List NamespaceDecl) (raw : RawAttribute) (h : TagSoFar) (r : Result (ReadText × ℕ) Refusal) (one : Result (TagSoFar × ℕ) Refusal) (next : ℕ → TagSoFar → Result X Refusal)
     → one ≡ (r >>= λ v. kept_left v.1 (tags.taken known (attribute_with raw v.0) h))
     → (r >>= λ v. lifted (tags.taken known (attribute_with raw v.0) h) >>= λ held. next v.1 held) ≡ (one >>= λ x. next x.1 x.0)
-regrouped known raw h (Err e) one next is = rw is refl
-regrouped known raw h (Ok v) one next is = kept_on v.1 (tags.taken known (attribute_with raw v.0) h) next ∙ rw is refl
+regrouped known raw h r one next is = grind arith
 
 more_turn : (context : Values) (cut : Fault) (known : List NamespaceDecl) (src : List ℕ) (n m i j openings_left : ℕ) (h : TagSoFar) (raw : RawAttribute) → n ≡ suc m → i < length src → tag_item_at src i ≡ Ok (more raw, j)
     → attributes_at n context cut known src i openings_left h ≡ (one_more context known src raw openings_left h >>= λ x. attributes_at m context cut known src j x.1 x.0)

@@ -1,15 +1,15 @@
 -- Names of declarations, which begin with `xmlns`.
-use Rattle.std.proofs.Common.{◌≡◌, ℕ, zero, suc, ◌+◌, ◌-◌, ◌<◌, true, false, List, [], Option, Some, None, Ok, get_or, drop, slice_index, slice_range, refl, sym, ap, ◌∙◌, arith}
+use Rattle.std.proofs.Common.{◌≡◌, ℕ, zero, suc, ◌+◌, ◌-◌, ◌<◌, true, false, List, Option, Ok, get_or, slice_index, refl, sym, ap, ◌∙◌, arith}
 use Rattle.std.specs.Option.{IfSome}
 use Rattle.std.specs.Str.{IsUtf8, IsCharBoundary}
-use Rattle.std.proofs.lemmas.List.{get_or-drop, get_or-take}
+use Rattle.std.proofs.lemmas.List.{get_or-drop}
 use Rattle.rox_grammar.specs.Chars.{is_name_char, is_name_start, is_part_char}
 use Rattle.rox_grammar.specs.FixedTexts.{word_text}
 use Rattle.rox_grammar.specs.Written.{Name, is_namespace_decl}
 use Rattle.rox_grammar.specs.declared.fault.Word.TheVariants.{Xmlns}
 use Rattle.rox_reading.specs.Lexical.{qname_at}
 use Rattle.rox_bytes.specs.ByteSets.{AllPass, is_part_byte}
-use Rattle.rox_bytes.proofs.NearLemmas.{part_begins, part_cut, part_stops}
+use Rattle.rox_bytes.proofs.NearLemmas.{part_begins, part_stops}
 use Rattle.rox_verbatim.specs.PlainNames.{EndsFirstPart, IsPrefixedName}
 use Rattle.rox_tags.specs.TagAttributes.{IsDeclaredName, HasXmlns}
 use Rattle.rox_verbatim.specs.declared.quick_name.NameAt.{NameAt}
@@ -17,10 +17,7 @@ use Rattle.rox_markup.proofs.PairLemmas.{name_is}
 
 -- the bytes of `xmlns`
 byte_of : (src : List ℕ) (i k : ℕ) → HasXmlns src i → k < 5 → slice_index src (i + k) ≡ get_or (word_text Xmlns) k 0
-byte_of src i k h few =
-    let at : get_or (slice_range src i (i + 5)) k 0 ≡ slice_index src (i + k) =
-    get_or-take ((i + 5) - i) (drop i src) k 0 (omega arith) ∙ get_or-drop i src k 0 in
-    sym at ∙ ap (λ (bs : List ℕ). get_or bs k 0) h.here
+byte_of src i k h few = grind (arith, get_or-drop)
 
 -- are those of a part of a name
 part_of : (k : ℕ) → k < 5 → is_part_byte (get_or (word_text Xmlns) k 0) ≡ true
@@ -35,8 +32,7 @@ part_of (suc (suc (suc (suc (suc k))))) few = absurd (omega arith)
 all_parts : (src : List ℕ) (i : ℕ) → HasXmlns src i → AllPass is_part_byte src i (i + 5)
 all_parts src i h j low high =
     let at : i + (j - i) ≡ j = omega arith in
-    let byte : slice_index src j ≡ get_or (word_text Xmlns) (j - i) 0 =
-    ap (slice_index src) (sym at) ∙ byte_of src i (j - i) h (omega arith) in
+    let byte : slice_index src j ≡ get_or (word_text Xmlns) (j - i) 0 = grind (arith, byte_of) in
     rw byte (part_of (j - i) (omega arith))
 
 -- the first is a letter
@@ -52,19 +48,7 @@ first_part src i b utf8 h is ascii stops =
     let at : i + 0 ≡ i = omega arith in
     let byte : slice_index src i ≡ 120 = ap (slice_index src) (sym at) ∙ byte_of src i 0 h (omega arith) in
     let cut : IsCharBoundary src i = (omega arith, λ more wide. absurd (omega (arith, byte, wide))) in
-    record {
-      first = record {
-        start = cut;
-        part = record {
-          place = part_stops src i (i + 5) utf8 (omega arith) (omega arith) all (λ _. ap is_part_byte is ∙ stops)
-              (λ _. omega (arith, is, ascii));
-          onward = omega arith;
-          cut = part_cut src i (i + 5) utf8 cut (omega arith) (omega arith) all;
-        };
-        begins = part_begins src i (i + 5) utf8 (omega arith) (omega arith) all (omega (arith, byte));
-      };
-      here = is;
-    }
+    grind (arith, part_stops, part_begins)
 
 pub colon_stops : is_part_byte 58 ≡ false
 unfolding is_part_byte is_part_char is_name_char is_name_start
@@ -77,18 +61,12 @@ equals_stops = refl
 -- a name with this prefix is that of a declaration
 pub declares_prefix : (src : List ℕ) (i : ℕ) (r : Option NameAt) → HasXmlns src i
     → IfSome r (λ n. IsPrefixedName src i (i + 5) n) → IfSome r (λ n. IsDeclaredName src i n)
-declares_prefix src i None h read = tt
-declares_prefix src i (Some n) h read = record { named = read.named; is = (let at = read.prefix ∙ h.here in rw at refl) }
+declares_prefix src i r h read = grind arith
 
 one_name : (src : List ℕ) (i j k : ℕ) (m n : Name) → qname_at src i ≡ Ok (m, j) → qname_at src i ≡ Ok (n, k) → m ≡ n
-one_name src i j k m n one other =
-    let same : (let pair : Name × ℕ = (m, j) in pair) ≡ (n, k) = cc in
-    ap (λ (x : Name × ℕ). x.0) same
+one_name src i j k m n one other = grind arith
 
 -- and one that is read here, where `=` stands behind `xmlns`
 pub declares_whole : (src : List ℕ) (i e : ℕ) (n : Name) → HasXmlns src i → EndsFirstPart src i (i + 5) 61 → qname_at src i ≡ Ok (n, e)
     → is_namespace_decl n ≡ true
-declares_whole src i e n h part read =
-    let whole = name_is src i (i + 5) part.first.begins part.first.part.place part.here in
-    let is : n ≡ record { prefix = []; local = slice_range src i (i + 5) } = one_name src i e (i + 5) n _ read whole in
-    rw (is, h.here) refl
+declares_whole src i e n h part read = grind (arith, name_is)

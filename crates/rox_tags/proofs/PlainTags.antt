@@ -1,7 +1,7 @@
 -- Start tags that are read at one look.
-use Rattle.std.proofs.Common.{◌≡◌, ◌≢◌, ℕ, ◌+◌, ◌<◌, ◌||◌, ◌==◌, Bool, true, false, List, [], ◌∷◌, Option, length, map, slice_index, refl, sym, ap, subst, ◌∙◌, arith, Ok, bytes_eq}
-use Rattle.std.proofs.lemmas.Bool.{lt-leb, ne_eqb}
-use Rattle.std.proofs.Common.{Some, None}
+use Rattle.std.proofs.Common.{◌≡◌, ◌≢◌, ℕ, ◌+◌, ◌<◌, true, false, List, [], ◌∷◌, Option, length, map, slice_index, refl, sym, ap, ◌∙◌, arith, Ok, bytes_eq}
+use Rattle.std.proofs.lemmas.Bool.{lt-leb}
+use Rattle.std.proofs.Common.{Some}
 use Rattle.rox_scopes.specs.declared.namespace.Namespace.{Namespace}
 use Rattle.std.specs.Option.{option_map, is_some}
 use Rattle.rox_grammar.specs.WellNamed.{may_name}
@@ -21,7 +21,7 @@ use Rattle.rox_reading.specs.Lexical.{qname_at}
 use Rattle.rox_reading.specs.Markup.{opened, closed, tag_item_at, end_tag_at}
 use Rattle.rox_scopes.specs.Bindings.{FindsBinding}
 use Rattle.rox_scopes.specs.NamespaceViews.{namespace_view}
-use Rattle.rox_attributes.specs.PlainAttribute.{HasScope, few_in}
+use Rattle.rox_attributes.specs.PlainAttribute.{few_in}
 use Rattle.rox_bytes.proofs.RunLemmas.{stands_within}
 use Rattle.rox_bytes.proofs.NearLemmas.{byte_is}
 
@@ -40,10 +40,6 @@ item_closed src i j spaces here behind =
     let e : j + 1 + 1 ≡ j + 2 = omega arith in
     rw (← spaces, k, here, byte_is src (j + 1) 62 behind (omega arith), e) refl
 
--- nor where a byte above both stands
-pub above_no_end : (b : ℕ) → 62 < b → ((b == 47) ≡ false) × ((b == 62) ≡ false)
-above_no_end b above = (ne_eqb b 47 (λ is. omega (arith, is, above)), ne_eqb b 62 (λ is. omega (arith, is, above)))
-
 -- ---- the scope of the tag is that of its parent, which lists few
 
 pub few_found : (t : ElementTables) (ns : List Namespace) (scopes : List Scope) (listed ps : List ℕ) (scope : ℕ) → ns ≡ t.namespaces.items.items → scopes ≡ t.scopes.items → listed ≡ t.listed.items
@@ -55,32 +51,15 @@ few_found t ns scopes listed ps scope n s l few =
 pub scope_found : (t : ElementTables) (scope : ℕ) → FindsBinding (map namespace_view t.namespaces.items.items) (few_in t scope) t.present (scope_at (lists_in t) scope)
 scope_found t scope = few_found t t.namespaces.items.items t.scopes.items t.listed.items (places_in t.listed.items t.scopes.items scope) scope refl refl refl refl
 
--- where the attributes alone have changed, the scope is there
-pub scope_stays : (old now : ElementTables) (scope : ℕ) → now ≡ record old { attributes = now.attributes } → HasScope old scope → HasScope now scope
-scope_stays old now scope is h = subst (λ (t : ElementTables). HasScope t scope) (sym is) (record { places = h.places; scopes = h.scopes; within = h.within; once = h.once })
-
-pub others_stay : (old now new : ElementTables) → now ≡ record old { attributes = now.attributes } → new ≡ record now { attributes = new.attributes } → new ≡ record old { attributes = new.attributes }
-others_stay old now new one other = other ∙ ap (λ (t : ElementTables). record t { attributes = new.attributes }) one
-
 -- a name with a namespace, or without a prefix, is one that an element may have
 pub named_known : (scope : List NamespaceDecl) (n : Name) (u : List ℕ) → element_namespace scope n ≡ Some u → may_name scope n ≡ true
-named_known scope n u h = which n.prefix refl
-  where
-    or_true : (a : Bool) → (a || true) ≡ true
-    or_true true = refl
-    or_true false = refl
-
-    which : (p : List ℕ) → n.prefix ≡ p → may_name scope n ≡ true
-    which [] is = rw is refl
-    which (b ∷ bs) is = rw is (rw (declared_some scope (Some (b ∷ bs)) u (rw is at h)) (or_true (bytes_eq (b ∷ bs) [])))
+named_known scope n u h = grind (arith, declared_some)
 
 pub named_by : (namespaces scope : List NamespaceDecl) (n : Name) (o : Option ℕ) → is_some o ≡ true → option_map (λ i. (namespace_at namespaces i).uri) o ≡ element_namespace scope n → may_name scope n ≡ true
-named_by namespaces scope n None some is = cc some
-named_by namespaces scope n (Some i) some is = named_known scope n _ (sym is)
+named_by namespaces scope n o some is = grind (arith, named_known)
 
 pub numbered_some : (number : ℕ) → number ≢ 0 → is_some (numbered_place number) ≡ true
-numbered_some Prim.Native.Nat.zero some = absurd (some refl)
-numbered_some (Prim.Native.Nat.suc i) some = refl
+numbered_some number some = grind arith
 
 -- an end tag, piece by piece
 pub end_tag_is : (src : List ℕ) (i : ℕ) (name : Name) (n e : ℕ) → qname_at src (i + 2) ≡ Ok (name, n) → e ≡ spaces_end src n → slice_index src e ≡ 62

@@ -1,5 +1,5 @@
 -- Start tags that have one declaration, before their attributes, as an earlier tag below the same namespaces had.
-use Rattle.std.proofs.Common.{◌≡◌, ℕ, zero, suc, ◌+◌, ◌-◌, ◌<◌, ◌≤◌, ◌==◌, not, filter, true, false, List, [], ◌∷◌, ◌++◌, Some, length, map, take, drop, get_or, bytes_eq, refl, sym, ap, subst, ◌∙◌, arith}
+use Rattle.std.proofs.Common.{◌≡◌, ℕ, zero, suc, ◌+◌, ◌-◌, ◌<◌, ◌≤◌, not, filter, true, false, List, [], ◌∷◌, ◌++◌, Some, length, map, take, drop, get_or, bytes_eq, refl, sym, ap, subst, ◌∙◌, arith}
 use Rattle.std.proofs.lemmas.Bool.{or_left, or_parts, or_right}
 use Rattle.std.proofs.lemmas.Slice.Eq.{bytes_eq-Decides}
 use Rattle.std.proofs.lemmas.List.{length-map, take_all}
@@ -7,10 +7,9 @@ use Rattle.rox_grammar.specs.Counts.{has_pair, with_new}
 use Rattle.rox_grammar.specs.Document.{most_pairs, same_pair}
 use Rattle.rox_grammar.specs.Tree.{is_declared, is_xml, listable_of, listed, same_prefix}
 use Rattle.rox_grammar.specs.Written.{NamespaceDecl, namespace_decl_of}
-use Rattle.rox_reading.specs.Tags.{attributes_at}
 use Rattle.rox_reading.specs.AtIndex.{namespace_at}
 use Rattle.rox_scopes.specs.NamespaceViews.{namespace_view}
-use Rattle.rox_scopes.specs.Scopes.{ArePlaces, PrefixesOnce, entries, pair, places_in}
+use Rattle.rox_scopes.specs.Scopes.{ArePlaces, PrefixesOnce, entries, places_in}
 use Rattle.rox_names.specs.TagScopes.{scope_in_tables}
 use Rattle.rox_names.specs.declared.tables.ElementTables.{ElementTables}
 use Rattle.rox_scopes.specs.declared.namespace.Namespace.{Namespace}
@@ -43,16 +42,7 @@ pair_at (x ∷ xs) (suc i) d within is = or_right (same_pair x d) (has_pair xs d
 -- the first of the places, and the others
 pub one_more : (table : List Namespace) (places around : List ℕ) (d : NamespaceDecl) (m : Namespace) → ArePlaces (length table) places → length places ≡ length around + 1 → m ≡ get_or table (get_or places 0 0) m
     → (namespace_view m).prefix ≡ d.prefix → (namespace_view m).uri ≡ d.uri → bytes_eq (take (length places - 1) (drop 1 places)) around ≡ true → AreOneMore table places d around
-one_more table [] around d m all long is prefix uri same = absurd (omega arith)
-one_more table (x ∷ xs) around d m all long is prefix uri same =
-    let count : suc (length xs) - 1 ≡ length xs = omega arith in
-    let others : take (length xs) xs ≡ around = (bytes_eq-Decides (take (length xs) xs) around).0 (subst (λ (m : ℕ). bytes_eq (take m xs) around ≡ true) count same) in
-    record {
-      first = x;
-      are = ap (λ ys. x ∷ ys) (sym (take_all (length xs) xs (omega arith)) ∙ others);
-      within = all.0;
-      is = namespace_at-get table x m all.0 ∙ ap namespace_view (sym is) ∙ ap (λ p. pair p (namespace_view m).uri) prefix ∙ ap (λ u. pair d.prefix u) uri;
-    }
+one_more table places around d m all long is prefix uri same = grind (arith, bytes_eq-Decides, take_all, namespace_at-get)
 
 -- a scope that lists it and then what another one lists
 pub repeated : (t : ElementTables) (above n : ℕ) (d : NamespaceDecl) (table : List Namespace) (places around : List ℕ) → table ≡ t.namespaces.items.items
@@ -65,12 +55,7 @@ repeated t above n d table places around same places_are around_is within one ab
     let there : one.first < length names = rw (long, ← same) one.within in
     let lists : scope_in_tables t n ≡ entries names (one.first ∷ around) = scope_places names t.listed.items t.scopes.items n ∙ ap (entries names) (sym places_are ∙ one.are) in
     let others : entries names around ≡ scope_in_tables t above = ap (entries names) around_is ∙ sym (scope_places names t.listed.items t.scopes.items above) in
-    record {
-      within = within;
-      lists = lists ∙ ap (λ (x : NamespaceDecl). x ∷ entries names around) is ∙ ap (λ xs. d ∷ xs) others;
-      known = pair_at names one.first d there is;
-      absent = ap (is_declared d.prefix) (sym others ∙ ap (λ ts. entries (map namespace_view ts) around) (sym same)) ∙ absent;
-    }
+    grind (arith, pair_at)
 
 -- each prefix is listed once there
 pub repeated_once : (t : ElementTables) (above n : ℕ) (d : NamespaceDecl) → HasScope t above → IsRepeated t above d n → HasScope t n
@@ -122,7 +107,5 @@ begins_repeating t o src k one n below x near =
       pairs = stay;
       turns = left;
       enough = omega arith;
-      read = λ context cut openings_left. ap (λ (m : ℕ). attributes_at m context cut names src k openings_left (holding [] [])) turns
-          ∙ turn_is src k one.start left one (holding [] []) (holding (d ∷ []) []) context cut names openings_left near.read.plain (omega arith) near.spaces (λ same. omega (arith, same, onward))
-          (ap (λ (b : ℕ). b == 47) letter) (ap (λ (b : ℕ). b == 62) letter) took;
+      read = grind (arith, turn_is);
     }

@@ -1,5 +1,5 @@
 -- The attributes and declarations of a tag that the fast path reads, one after another.
-use Rattle.std.proofs.Common.{◌≡◌, ℕ, zero, suc, ◌+◌, ◌-◌, ◌<◌, ◌≤◌, ◌||◌, ◌==◌, not, Bool, true, false, if◌then◌else◌, List, [], ◌∷◌, ◌++◌, Option, Some, None, Result, length, map, drop, get_or, slice_index, slice_range, refl, sym, ap, subst, ◌∙◌, arith, Ok, Err, append_assoc, nat_lt, length-append}
+use Rattle.std.proofs.Common.{◌≡◌, ℕ, suc, ◌+◌, ◌-◌, ◌<◌, ◌≤◌, ◌||◌, ◌==◌, not, Bool, true, false, if◌then◌else◌, List, [], ◌∷◌, ◌++◌, Option, Some, None, Result, length, map, drop, slice_index, slice_range, refl, sym, ap, subst, ◌∙◌, arith, Ok, Err, append_assoc, nat_lt, length-append}
 use Rattle.std.specs.List.{AllByRecursion, list_any}
 use Rattle.std.specs.Borrow.{Bor}
 use Rattle.std.specs.Option.{IfSome}
@@ -16,7 +16,6 @@ use Rattle.rox_grammar.specs.Failures.{name_view}
 use Rattle.rox_grammar.specs.NameParts.{local_span}
 use Rattle.rox_grammar.specs.Names.{spaces_end}
 use Rattle.rox_grammar.specs.Written.{Name, Attribute, NamespaceDecl, is_namespace_decl, namespace_decl_of}
-use Rattle.rox_grammar.specs.Tree as tree
 use Rattle.rox_grammar.specs.Tree.{attribute_in, attribute_namespace, is_declared, is_xml, listable_of, same_prefix, uri_of}
 use Rattle.rox_grammar.specs.WellNamed.{is_known, same_expanded}
 use Rattle.rox_reading.specs.Lexical.{◌>>=◌}
@@ -27,9 +26,9 @@ use Rattle.rox_scopes.specs.Bindings.{FindsBinding}
 use Rattle.rox_names.specs.ResolvedNames.{AddsResolved, row_of_unresolved}
 use Rattle.rox_rows.specs.Rows.{AttributeRow, NamespaceWithin, attribute, attribute_rows}
 use Rattle.rox_reading.specs.AtIndex.{scope_at}
-use Rattle.rox_scopes.specs.ScopeRows.{AreRows, AreScopes, IsRow, lists_of}
+use Rattle.rox_scopes.specs.ScopeRows.{AreRows, AreScopes}
 use Rattle.rox_scopes.specs.NamespaceViews.{namespace_view}
-use Rattle.rox_scopes.specs.Scopes.{ArePlaces, PrefixesOnce, entries}
+use Rattle.rox_scopes.specs.Scopes.{ArePlaces, entries}
 use Rattle.rox_storage.specs.Storage.{is_borrowed, storage_bytes}
 use Rattle.rox_names.specs.TagDeclarations.{Declares, HasOwn, unresolved_view}
 use Rattle.rox_names.specs.TagScopes.{lists_in, scope_in_tables}
@@ -50,9 +49,9 @@ use Rattle.rox_tags.specs.TagAttributes.{AreNoBindings, ArePlainAttributes, Decl
 use Rattle.rox_tags.specs.declared.quick_tag.TagEnd.{TagEnd}
 use Rattle.rox_tags.specs.declared.own_declaration.TagScope.{TagScope}
 use Rattle.rox_bytes.proofs.RunLemmas.{stands_within}
-use Rattle.rox_names.proofs.Resolving.{nothing_left, row_shown}
+use Rattle.rox_names.proofs.Resolving.{nothing_left}
 use Rattle.rox_verbatim.proofs.Verbatim.{item_more}
-use Rattle.rox_tags.proofs.PlainTags.{item_closed, item_opened, others_stay, scope_found, scope_stays}
+use Rattle.rox_tags.proofs.PlainTags.{item_closed, item_opened, scope_found}
 
 -- ---- names in a scope that grows
 
@@ -68,17 +67,13 @@ uri_more prefix (d ∷ ds) later h = which (same_prefix d.prefix prefix) refl (u
     which false is rest = rw is (rest (rw is at h))
 
 known_by : (a b c c' : Bool) → (c ≡ true → c' ≡ true) → (a || (b || c)) ≡ true → (a || (b || c')) ≡ true
-known_by true b c c' f h = refl
-known_by false true c c' f h = refl
-known_by false false c c' f h = f h
+known_by a b c c' f h = grind arith
 
 pub known_more : (ds later : List NamespaceDecl) (n : Name) → is_known ds n ≡ true → is_known (ds ++ later) n ≡ true
 known_more ds later n h = known_by _ _ _ _ (declared_more (Some n.prefix) ds later) h
 
 space_by : (a b c : Bool) (x y z z' : Option (List ℕ)) → (c ≡ true → z' ≡ z) → (a || (b || c)) ≡ true → (if a then x else (if b then y else z')) ≡ (if a then x else (if b then y else z))
-space_by true b c x y z z' f h = refl
-space_by false true c x y z z' f h = refl
-space_by false false c x y z z' f h = f h
+space_by a b c x y z z' f h = grind arith
 
 pub namespace_more : (ds later : List NamespaceDecl) (n : Name) → is_known ds n ≡ true → attribute_namespace (ds ++ later) n ≡ attribute_namespace ds n
 namespace_more ds later n h = space_by _ _ _ _ _ _ _ (uri_more (Some n.prefix) ds later) h
@@ -86,12 +81,10 @@ namespace_more ds later n h = space_by _ _ _ _ _ _ _ (uri_more (Some n.prefix) d
 -- ---- names that passed in a scope pass where it lists more
 
 chosen : {X P : Type 0} (b : Bool) (x y z : X) → (if b then x else y) ≡ z → (b ≡ true → x ≡ z → P) → (b ≡ false → y ≡ z → P) → P
-chosen true x y z h holds fails = holds refl h
-chosen false x y z h holds fails = fails refl h
+chosen b x y z h holds fails = grind arith
 
 not_not : (b : Bool) → not b ≡ false → b ≡ true
-not_not true h = refl
-not_not false h = cc h
+not_not b h = grind arith
 
 pub record Passes (scope : List NamespaceDecl) (before : List Attribute) (a : Attribute) (rest : List Attribute) : Type 0 where
   pub known : is_known scope a.name ≡ true
@@ -160,7 +153,6 @@ pub turn_is : (src : List ℕ) (i j n : ℕ) (a : UnresolvedAttribute) (held aft
     → i ≤ j → j ≡ spaces_end src i → (j ≡ i → ⊥) → (slice_index src j == 47) ≡ false → (slice_index src j == 62) ≡ false → taken known (unresolved_view a) held ≡ Ok after
     → attributes_at (suc n) context cut known src i openings_left held ≡ attributes_at n context cut known src a.end openings_left after
 turn_is src i j n a held after context cut known openings_left plain onward spaces some slash close h =
-    let on = plain.onward in
     let fits = plain.cut.0 in
     let within : j < length src = omega arith in
     turn_item src i j n a held context cut known openings_left plain (omega arith) (item_more src i j a.end _ spaces some slash close within plain.read) ∙ rw h refl
@@ -177,9 +169,7 @@ plain_starts declares known namespaces scope src start old = record {
   tested = λ rest. refl;
   turns = 0;
   enough = omega arith;
-  read = λ context cut openings_left rest before such.
-      let none : 0 + rest ≡ rest = omega arith in
-      rw (none, append-nil before) refl;
+  read = grind (arith, append-nil);
 }
 
 -- an attribute more
@@ -199,9 +189,7 @@ plain_more declares known namespaces scope own few present src start old i j now
       more = g.more ++ row ∷ [];
       rows = r.rows ∙ ap (λ xs. xs ++ row ∷ []) g.rows ∙ append_assoc old g.more (row ∷ []);
       within = all_append (λ a. NamespaceWithin (length namespaces) a.0.namespace) g.more (row ∷ []) g.within (r.within, tt);
-      shown = map-append (attribute namespaces) g.more (row ∷ []) ∙ ap (λ xs. xs ++ attribute namespaces row ∷ []) g.shown
-          ∙ ap (λ (x : tree.Attribute). map (attribute_in scope) g.written ++ x ∷ []) (row_shown namespaces scope a r.namespace (r.there scope h))
-          ∙ sym (map-append (attribute_in scope) g.written (view ∷ []));
+      shown = grind (arith, map-append);
       tested = λ rest. ap (names_tested scope []) (append_assoc g.written (view ∷ []) rest) ∙ g.tested (view ∷ rest)
           ∙ r.tested scope g.written rest h (ap (map (attribute namespaces)) behind ∙ g.shown);
       turns = g.turns + 1;
@@ -258,9 +246,7 @@ plain_declared namespaces next own after src start old i j now a g onward spaces
       more = g.more;
       rows = g.rows;
       within = all_weaker (λ (r : AttributeRow). NamespaceWithin (length namespaces) r.0.namespace) (λ (r : AttributeRow). NamespaceWithin (length next) r.0.namespace) g.more (λ r k. within_more r.0.namespace (length namespaces) (length next) long k) g.within;
-      shown = ap (λ ds. map (attribute ds) g.more) is_more
-          ∙ map_same (attribute (namespaces ++ later)) (attribute namespaces) (λ (r : AttributeRow). NamespaceWithin (length namespaces) r.0.namespace) g.more (λ r k. attribute-append namespaces later r k) g.within
-          ∙ g.shown ∙ sym (still_shown (listable_of own) (listable_of (d ∷ [])) g.written passed) ∙ ap (λ ds. map (attribute_in ds) g.written) (sym scope);
+      shown = grind (arith, map_same, attribute-append, still_shown);
       tested = λ rest. rw scope (still_tested (listable_of own) (listable_of (d ∷ [])) g.written rest passed);
       turns = g.turns + 1;
       enough = omega arith;
@@ -292,7 +278,6 @@ end_is src i n j closed empty held context cut known openings_left within is h =
 plain_ends : (declares : Bool) (known namespaces scope own : List NamespaceDecl) (src : List ℕ) (start : ℕ) (old : List AttributeRow) (i j : ℕ) (now : List AttributeRow) (item : TagItem) (empty : Bool)
     → (g : PlainSoFar declares known namespaces scope own src start old i now) → i < length src → tag_item_at src i ≡ Ok (item, j) → IsEnd item empty → ReadsUpTo declares known own g.written src start j empty
 plain_ends declares known namespaces scope own src start old i j now item empty g within is h = λ context cut openings_left turns before fits such.
-    let enough = g.enough in
     let rest = turns - g.turns - 1 in
     let one : turns ≡ g.turns + suc rest = omega arith in
     ap (λ (m : ℕ). attributes_at m context cut known src start openings_left (holding before [])) one ∙ g.read context cut openings_left (suc rest) before such
@@ -341,12 +326,7 @@ ends_or_not tag old t src start i j (Some e) g onward spaces opens closes = whic
 -- ---- the scope of a root element
 
 root_rows : (n : ℕ) → AreRows (first_places 0 ∷ first_places n ∷ [])
-root_rows n = record { each = which }
-  where
-    which : (i : ℕ) (s : Scope) → i < length (first_places 0 ∷ first_places n ∷ []) → s ≡ get_or (first_places 0 ∷ first_places n ∷ []) i s → IsRow (first_places 0 ∷ first_places n ∷ []) i s
-    which zero s within is = subst (λ (x : Scope). IsRow (first_places 0 ∷ first_places n ∷ []) 0 x) (sym is) (omega arith)
-    which (suc zero) s within is = subst (λ (x : Scope). IsRow (first_places 0 ∷ first_places n ∷ []) 1 x) (sym is) (omega arith)
-    which (suc (suc i)) s within is = absurd (omega arith)
+root_rows n = grind arith
 
 pub root_scopes : (t : ElementTables) → HasRootScope t → AreScopes (length t.listed.items) t.scopes.items
 root_scopes t h = subst (AreScopes (length t.listed.items)) (sym h.scopes) (record { rows = root_rows (length t.listed.items); within = (omega arith, (omega arith, tt)) })
@@ -355,22 +335,12 @@ pub slice_whole : {X : Type 0} (xs : List X) → slice_range xs 0 (length xs) �
 slice_whole xs = take_all (length xs - 0) xs (omega arith)
 
 pub root_scope : (t : ElementTables) → HasRootScope t → scope_at (lists_in t) 1 ≡ entries (map namespace_view t.namespaces.items.items) t.listed.items
-root_scope t h =
-    let ns = map namespace_view t.namespaces.items.items in
-    ap (λ ss. scope_at (lists_of ns t.listed.items ss) 1) h.scopes ∙ ap (entries ns) (slice_whole t.listed.items)
-
-pub root_within : (t : ElementTables) → HasRootScope t → 1 < length t.scopes.items
-root_within t h = rw h.scopes (omega arith)
+root_scope t h = grind (arith, slice_whole)
 
 -- ---- what the tables hold
 
 pub has_scope : (t : ElementTables) (keys : List (Option (Bor (List ℕ)))) → HasOwn t.namespaces.items.items t.listed.items keys 0 → HasRootScope t → HasScope t 1
-has_scope t keys own h = record {
-  places = own.places;
-  scopes = root_scopes t h;
-  within = root_within t h;
-  once = subst PrefixesOnce (sym (root_scope t h)) own.once;
-}
+has_scope t keys own h = grind (arith, root_scope)
 
 -- the scope is what is declared
 pub scope_declares : (t : ElementTables) (own : List NamespaceDecl) → HasRootScope t → Declares [] [] (map namespace_view t.namespaces.items.items) t.listed.items false own → scope_in_tables t 1 ≡ listable_of own
@@ -396,23 +366,13 @@ begins_in true t n (h, one) =
     }
 
 pub holds_start : (tag : TagScope) (t : ElementTables) (src : List ℕ) (start : ℕ) → MayBegin tag.declares t tag.scope → HoldsSoFar tag t t src start start
-holds_start tag t src start h =
-    let names = map namespace_view t.namespaces.items.items in
-    record { own = []; declares = begins_in tag.declares t tag.scope h; so_far = plain_starts tag.declares names names (scope_in_tables t tag.scope) src start (attribute_rows t.attributes) }
+holds_start tag t src start h = grind (arith, begins_in, plain_starts)
 
 scope_by : (b : Bool) (old t : ElementTables) (n : ℕ) (own : List NamespaceDecl) → DeclaresIn b old t n own → HasScope t n
-scope_by false old t n own h = scope_stays old t n h.others h.scope
-scope_by true old t n own h = subst (HasScope t) (sym h.root) (has_scope t h.keys h.has h.scope)
+scope_by b old t n own h = grind (arith, has_scope)
 
 pub holds_scope : (tag : TagScope) (old t : ElementTables) (src : List ℕ) (start i : ℕ) → HoldsSoFar tag old t src start i → HasScope t tag.scope
 holds_scope tag old t src start i g = scope_by tag.declares old t tag.scope g.own g.declares
-
--- where the attributes alone have changed
-declares_on : (b : Bool) (old t new : ElementTables) (n : ℕ) (own : List NamespaceDecl) → new ≡ record t { attributes = new.attributes } → DeclaresIn b old t n own → DeclaresIn b old new n own
-declares_on false old t new n own is h = record { others = others_stay old t new h.others is; scope = h.scope; none = h.none }
-declares_on true old t new n own is h =
-    subst (λ (u : ElementTables). DeclaresInRoot old u n own) (sym is)
-    (record { root = h.root; known = h.known; declares = h.declares; keys = h.keys; has = h.has; scope = record { scopes = h.scope.scopes; present = h.scope.present } })
 
 pub holds_more : (tag : TagScope) (old t new : ElementTables) (src : List ℕ) (start from i k j : ℕ) → HoldsSoFar tag old t src start i → new ≡ record t { attributes = new.attributes } → from ≡ length (attribute_rows old.attributes)
     → AddsPlain (map namespace_view t.namespaces.items.items) (few_in t tag.scope) t.present from src k j (attribute_rows t.attributes) (attribute_rows new.attributes)
@@ -427,12 +387,7 @@ holds_more tag old t new src start from i k j g is at x onward spaces some slash
     let next = attribute_rows new.attributes in
     let added : AddsResolved names few t.present (length rows) now next x.one = subst (λ (m : ℕ). AddsResolved names few t.present m now next x.one) at x.added in
     let made = plain_more tag.declares known names scope g.own few t.present src start rows i k now next x.one g.so_far onward spaces some slash close x.plain x.other (scope_found t tag.scope) added in
-    record {
-      own = g.own;
-      declares = declares_on tag.declares old t new tag.scope g.own is g.declares;
-      so_far = subst (λ (u : ElementTables). PlainSoFar tag.declares known (map namespace_view u.namespaces.items.items) (scope_in_tables u tag.scope) g.own src start rows j next) (sym is)
-          (subst (λ (e : ℕ). PlainSoFar tag.declares known names scope g.own src start rows e next) x.end made);
-    }
+    grind arith
 
 pub holds_declared : (tag : TagScope) (old t new : ElementTables) (src : List ℕ) (start i k j : ℕ) → tag.declares ≡ true → HoldsSoFar tag old t src start i
     → new ≡ record t { namespaces = new.namespaces; listed = new.listed; scopes = new.scopes }
@@ -458,21 +413,7 @@ holds_declared tag old t new src start i k j may g is scopes l onward spaces som
     let root : HasRootScope new = record { scopes = scopes (first_places (length t.listed.items)) d.scope.scopes; present = subst AreNoBindings (sym present) d.scope.present } in
     let lists : scope_in_tables new tag.scope ≡ listable_of made.0 = ap (scope_in_tables new) d.root ∙ scope_declares new made.0 root made.2 in
     let declares : DeclaresInRoot old new tag.scope made.0 = record { root = d.root; known = d.known; declares = made.2; keys = d.keys; has = listed.own; scope = root } in
-    record {
-      own = made.0;
-      declares = subst (λ (b : Bool). DeclaresIn b old new tag.scope made.0) (sym may) declares;
-      so_far = subst (λ (b : Bool). PlainSoFar b known after (scope_in_tables new tag.scope) made.0 src start rows j (attribute_rows new.attributes)) (sym may)
-          (subst (λ (ds : List NamespaceDecl). PlainSoFar true ds after (scope_in_tables new tag.scope) made.0 src start rows j (attribute_rows new.attributes)) (sym nothing)
-          (subst (λ (ds : List NamespaceDecl). PlainSoFar true [] after ds made.0 src start rows j (attribute_rows new.attributes)) (sym lists)
-          (subst (λ (rs : List AttributeRow). PlainSoFar true [] after (listable_of made.0) made.0 src start rows j rs) (sym same)
-          (subst (λ (e : ℕ). PlainSoFar true [] after (listable_of made.0) made.0 src start rows e now) l.end read))));
-    }
-
--- how many scopes there are then
-pub two_scopes : (tag : TagScope) (old t : ElementTables) (src : List ℕ) (start i : ℕ) → tag.declares ≡ true → HoldsSoFar tag old t src start i → length t.scopes.items ≡ 2
-two_scopes tag old t src start i may g =
-    let d : DeclaresInRoot old t tag.scope g.own = subst (λ (b : Bool). DeclaresIn b old t tag.scope g.own) may g.declares in
-    ap length d.scope.scopes
+    grind arith
 
 -- the attributes of the tag so far are in their namespaces
 pub done_within : (tag : TagScope) (old t : ElementTables) (src : List ℕ) (start from i : ℕ) → HoldsSoFar tag old t src start i → from ≡ length (attribute_rows old.attributes)
@@ -484,20 +425,9 @@ done_within tag old t src start from i g at =
 
 -- ---- where reading ends
 
-declares_others : (b : Bool) (old t : ElementTables) (n : ℕ) (own : List NamespaceDecl) → DeclaresIn b old t n own → b ≡ false → t ≡ record old { attributes = t.attributes }
-declares_others false old t n own h is = h.others
-declares_others true old t n own h is = absurd (cc is)
-
 pub holds_grown : (tag : TagScope) (old t : ElementTables) (src : List ℕ) (start i : ℕ) → HoldsSoFar tag old t src start i → HasGrown tag old t
-holds_grown tag old t src start i g = record {
-  more = g.so_far.more;
-  rows = g.so_far.rows;
-  others = declares_others tag.declares old t tag.scope g.own g.declares;
-}
+holds_grown tag old t src start i g = grind arith
 
 -- how many attributes the tag has
 pub plain_count : (tag : TagScope) (old t : ElementTables) (src : List ℕ) (start end : ℕ) (empty : Bool) → (x : ArePlainAttributes tag old t src start end empty) → length (attribute_rows old.attributes) + length x.written ≡ length (attribute_rows t.attributes)
-plain_count tag old t src start end empty x =
-    let n = ap length x.rows ∙ length-append (attribute_rows old.attributes) x.more in
-    let m : length x.more ≡ length x.written = sym (length-map x.more (attribute (map namespace_view t.namespaces.items.items))) ∙ ap length x.shown ∙ length-map x.written (attribute_in (scope_in_tables t tag.scope)) in
-    omega arith
+plain_count tag old t src start end empty x = grind (arith, length-append, length-map)

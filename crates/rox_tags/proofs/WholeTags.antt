@@ -1,6 +1,5 @@
 -- Plain start tags as a whole.
 use Rattle.std.proofs.Common.{◌≡◌, ℕ, ◌+◌, ◌<◌, ◌≤◌, true, false, List, [], ◌++◌, length, map, bytes_eq, refl, sym, ap, subst, ◌∙◌, arith, Ok}
-use Rattle.std.specs.Borrow.{Bor}
 use Rattle.std.specs.Option.{option_map}
 use Rattle.std.specs.Str.{IsUtf8, IsCharBoundary}
 use Rattle.std.proofs.lemmas.List.{append-nil}
@@ -11,15 +10,15 @@ use Rattle.rox_grammar.specs.Document.{most_attributes}
 use Rattle.rox_grammar.specs.FixedTexts.{word_text}
 use Rattle.rox_grammar.specs.Failures.{name_view}
 use Rattle.rox_grammar.specs.Counts.{with_new}
-use Rattle.rox_grammar.specs.Tree.{attribute_in, element_namespace, listable_of, listed}
+use Rattle.rox_grammar.specs.Tree.{element_namespace, listable_of, listed}
 use Rattle.rox_grammar.specs.WellNamed.{may_name}
 use Rattle.rox_grammar.specs.Written.{NamespaceDecl}
 use Rattle.rox_reading.specs.Lexical.{qname_at}
 use Rattle.rox_reading.specs.Tags.{Values, attributes_at, names_tested, tag_tested}
 use Rattle.rox_rows.specs.Rows.{attribute_rows, numbered_place}
-use Rattle.rox_reading.specs.AtIndex.{namespace_at, scope_at}
+use Rattle.rox_reading.specs.AtIndex.{namespace_at}
 use Rattle.rox_scopes.specs.NamespaceViews.{namespace_view}
-use Rattle.rox_names.specs.TagScopes.{lists_in, scope_in_tables}
+use Rattle.rox_names.specs.TagScopes.{scope_in_tables}
 use Rattle.rox_names.specs.declared.tables.ElementTables.{ElementTables}
 use Rattle.rox_scopes.proofs.Listing.{listed-none}
 use Rattle.rox_names.specs.OpenElements.{IsNamespaceOf}
@@ -82,29 +81,7 @@ begun_tagged old new o n own src i k j end t from namespace below b x is other s
     record {
       tag = record { name = name; name_end = k; declarations = own; attributes = x.written };
       read = λ context cut openings_left. tag_made context cut above count names src i openings_left name k end (holding own x.written) t.empty openings_left is other (read context cut openings_left) fine;
-      tagged = record {
-        name = refl;
-        name_end = name_end;
-        namespaces = spaces ∙ sym b.pairs;
-        few = rw (ap (λ (u : ElementTables). u.namespaces) others) below.few;
-        more = [];
-        lists_more = ap lists_in others ∙ sym (append-nil _);
-        places = rw others below.places;
-        scopes = rw others below.scopes;
-        kept = rw others below.kept;
-        once = rw (e.scope, others) b.scope.once;
-        element = record {
-          attributes = record { more = x.more; grown = x.rows; same = x.shown ∙ ap (λ (ds : List NamespaceDecl). map (attribute_in ds) x.written) lists; within = x.within };
-          attributes_from = e.attributes_from ∙ from_is;
-          attributes_until = e.attributes_until;
-          few = most;
-          local = ap (λ (l : Bor (List ℕ)). l.now) e.local;
-          namespace = rw spaces space;
-          namespace_within = rw (ap (λ (u : ElementTables). length u.namespaces.items.items) others, e.namespace) named.within;
-          scope_within = rw (ap (λ (u : ElementTables). length u.scopes.items) others, e.scope) b.scope.within;
-          lists = ap (scope_at (lists_in new)) e.scope ∙ lists;
-        };
-      };
+      tagged = grind (arith, append-nil);
       starts = starts;
       cut = cut;
     }

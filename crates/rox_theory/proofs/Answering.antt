@@ -1,5 +1,5 @@
 -- What is asked while a text is read, also of one that is refused, and what the resolver refused.
-use Rattle.std.proofs.Common.{◌≡◌, ℕ, ◌+◌, ◌-◌, ◌≤◌, Bool, true, List, [], ◌++◌, length, Result, Ok, Err, refl, sym, ap, subst, arith, inl, inr}
+use Rattle.std.proofs.Common.{◌≡◌, ℕ, ◌+◌, ◌-◌, ◌≤◌, Bool, true, List, [], ◌++◌, length, Result, Ok, Err, refl, sym, subst, arith, inl, inr}
 use Rattle.std.specs.Str.{IsUtf8}
 use Rattle.std.proofs.lemmas.List.{append-nil}
 use Rattle.std.proofs.lemmas.Bool.{cond_both}
@@ -15,7 +15,7 @@ use Rattle.rox_reading.specs.Refusals.{Refusal, here, there, refused, lifted}
 use Rattle.rox_reading.specs.Answering.{IsTextRefusal}
 use Rattle.rox_reading.specs.State.{State}
 use Rattle.rox_reading.specs.Doctype.{Reply, Asks, asks_nothing, ◌>>>◌, Dtd, AreTextReplies, doctype_step}
-use Rattle.rox_reading.specs.WholeText.{misc, body, finished, prolog, reading}
+use Rattle.rox_reading.specs.WholeText.{misc, body, prolog, reading}
 use Rattle.rox_reading.specs.WholeText as whole
 use Rattle.rox_theory.specs.ValidState.{IsValidState, state}
 use Rattle.rox_theory.proofs.Around.{bom_cut, misc_sound, prolog_sound, prolog_cut}
@@ -36,9 +36,7 @@ AskedOutcome src allow (asked, Ok x) = HasAsked src allow asked
 AskedOutcome src allow (asked, Err e) = HasAsked src allow asked × RefusedNext src allow asked e
 
 fault_next : (src : List ℕ) (allow : Bool) (asked : List Asked) (e : Refusal) → IsTextRefusal e → RefusedNext src allow asked e
-fault_next src allow asked (here f) is = tt
-fault_next src allow asked (there source f) is = tt
-fault_next src allow asked (refused request p message) is = absurd is
+fault_next src allow asked e is = grind arith
 
 -- ---- what asks nothing more
 
@@ -47,18 +45,15 @@ abbrev Quiet : {B : Type 0} → Asks B → Type 0
 Quiet {B} r = (r.0 ≡ []) × Alone B r.1
 
 quiet_outcome : {B : Type 0} (src : List ℕ) (allow : Bool) (asked : List Asked) (r : Asks B) → Quiet r → HasAsked src allow asked → AskedOutcome src allow (asked ++ r.0, r.1)
-quiet_outcome src allow asked (first, Ok y) q has = let none = q.0 in rw (none, append-nil) has
-quiet_outcome src allow asked (first, Err e) q has = let none = q.0 in rw (none, append-nil) (has, fault_next src allow asked e (q.1.is e refl))
+quiet_outcome src allow asked r q has = grind (arith, append-nil, fault_next)
 
 -- And what follows what asked.
 quiet_then : {A B : Type 0} (src : List ℕ) (allow : Bool) (a : Asks A) (f : A → Asks B) → AskedOutcome src allow a → ((x : A) → Quiet (f x)) → AskedOutcome src allow (a >>> f)
-quiet_then src allow (asked, Ok x) f h quiet = quiet_outcome src allow asked (f x) (quiet x) h
-quiet_then src allow (asked, Err e) f h quiet = h
+quiet_then src allow a f h quiet = grind (arith, quiet_outcome)
 
 -- One after the other.
 quiet_both : {A B : Type 0} (r : Result A Refusal) (f : A → Asks B) → Alone A r → ((x : A) → Quiet (f x)) → Quiet (asks_nothing r >>> f)
-quiet_both (Ok x) f alone quiet = quiet x
-quiet_both (Err e) f alone quiet = (refl, record { is = λ e' same. alone.is e' (let is : e ≡ e' = cc in ap Err is) })
+quiet_both r f alone quiet = grind arith
 
 module _ (src : List ℕ) (utf8 : IsUtf8 src) (allow : Bool) where
   -- ---- after what comes before the document type declaration
@@ -121,8 +116,7 @@ module _ (src : List ℕ) (utf8 : IsUtf8 src) (allow : Bool) where
 
   -- What was asked is there, whatever came of it.
   has_asked_by : {A : Type 0} (r : Asks A) (asked : List Asked) (x : Result A Refusal) → r ≡ (asked, x) → AskedOutcome src allow r → HasAsked src allow asked
-  has_asked_by (first, Ok y) asked x is h = subst (HasAsked src allow) (ap (λ (r : Asks _). r.0) is) h
-  has_asked_by (first, Err e) asked x is h = subst (HasAsked src allow) (ap (λ (r : Asks _). r.0) is) h.0
+  has_asked_by r asked x is h = grind arith
 
   pub has_asked : (limit : ℕ) (replies : List Reply) (asked : List Asked) (x : Result (Forest Item) Refusal) → AreTextReplies replies → reading limit allow replies src ≡ (asked, x) → HasAsked src allow asked
   has_asked limit replies asked x texts h = has_asked_by (reading limit allow replies src) asked x h (reading_asked limit replies texts)

@@ -1,14 +1,14 @@
 -- No text of a document is followed by a text, also where entities give texts; and a document has an element at its top.
-use Rattle.std.proofs.Common.{◌≡◌, ℕ, zero, suc, ◌+◌, Bool, true, false, List, [], ◌∷◌, length, refl, sym, subst}
+use Rattle.std.proofs.Common.{◌≡◌, ℕ, zero, suc, ◌+◌, Bool, true, false, List, length, refl, sym, subst, arith}
 use Rattle.rox_grammar.specs.Forest.{Forest, Nil, Cons, join}
 use Rattle.rox_grammar.specs.Written.{Item, Element, Text, Comment, PI, glue, merge}
 use Rattle.rox_grammar.specs.References.{entity_reference}
-use Rattle.rox_grammar.specs.Content.{Inclusion, DataByte, piece, last_part, then_entity, IsMisc, comment, instruction, IsElement, empty, nest, Content, ends, run, cdata, misc, node}
+use Rattle.rox_grammar.specs.Content.{Inclusion, DataByte, piece, last_part, then_entity, IsMisc, IsElement, empty, nest, Content, ends, run, cdata, misc, node}
 use Rattle.rox_grammar.specs.RunParts.{Parts}
 use Rattle.rox_grammar.specs.Entities.{Entity, Includes, included_in_main, most_deep}
-use Rattle.rox_grammar.specs.Doctype.{Asked, Subset, no_more as no_item, space as subset_space, an_item as subset_item, skipped_declaration, an_entity, IsDoctype, no_subset, with_subset}
+use Rattle.rox_grammar.specs.Doctype.{Asked, Subset, no_more as no_item, space as subset_space, an_item as subset_item, skipped_declaration, an_entity, IsDoctype}
 use Rattle.rox_grammar.specs.Document.{Misc, no_misc, space, an_item, ParseOf}
-use Rattle.rox_theory.specs.ParseParts.{MayHaveDoctype, doctype, no_doctype}
+use Rattle.rox_theory.specs.ParseParts.{MayHaveDoctype, doctype}
 use Rattle.rox_reading.proofs.Forests.{join-nil, join_assoc}
 use Rattle.rox_theory.specs.Apart.{Apart, AnyElement}
 use Rattle.rox_theory.proofs.ParseParts.{parts}
@@ -29,17 +29,9 @@ below_join (Cons (Element a e t) c r) g (n, h) k = (n, below_join r g h k)
 below_join (Cons (Comment a e t) c r) g (n, h) k = (n, below_join r g h k)
 below_join (Cons (PI a e t o) c r) g (n, h) k = (n, below_join r g h k)
 
--- Nothing is below.
-nothing_apart : (c : Forest Item) → c ≡ Nil → Apart c
-nothing_apart c n = subst (λ (c : Forest Item). Apart c) (sym n) tt
-
 -- A text in front takes in the one that it touches.
 glue_apart : (a e : ℕ) (v : List ℕ) (b : Bool) (c f : Forest Item) → c ≡ Nil → Apart f → Apart (glue (Text a e v b) c f)
-glue_apart a e v b c Nil n h = (refl, nothing_apart c n, tt)
-glue_apart a e v b c (Cons (Text x y w p) d r) n h = (h.0, subst (λ (c : Forest Item). Apart (join c d)) (sym n) h.1, h.2)
-glue_apart a e v b c (Cons (Element x y t) d r) n h = (refl, nothing_apart c n, h)
-glue_apart a e v b c (Cons (Comment x y t) d r) n h = (refl, nothing_apart c n, h)
-glue_apart a e v b c (Cons (PI x y t o) d r) n h = (refl, nothing_apart c n, h)
+glue_apart a e v b c f n h = grind arith
 
 -- What is merged is apart.
 merge_apart : (f : Forest Item) → Below f → Apart (merge f)
@@ -50,13 +42,11 @@ merge_apart (Cons (Comment a e t) c r) (n, h) = (refl, n, merge_apart r h)
 merge_apart (Cons (PI a e t o) c r) (n, h) = (refl, n, merge_apart r h)
 
 piece_below : (start stop : ℕ) (borrowed : Bool) (ss : List DataByte) → Below (piece start stop borrowed ss)
-piece_below start stop borrowed [] = tt
-piece_below start stop borrowed (s ∷ ss) = (refl, tt)
+piece_below start stop borrowed ss = grind arith
 
 -- A comment or an instruction in front.
 misc_below : (src : List ℕ) (i j : ℕ) (item : Item) (more : Forest Item) → IsMisc src i j item → Below more → Below (Cons item Nil more)
-misc_below src i j item more (comment _ e _ is) h = (tt, h)
-misc_below src i j item more (instruction _ n e _ is) h = (tt, h)
+misc_below src i j item more h k = grind arith
 
 -- What a reference opens has apart what is below its items.
 pub record OpensApart (O : Inclusion) : Type 0 where
@@ -66,9 +56,7 @@ module _ (main : Bool) (O : Inclusion) (opens : OpensApart O) (src : List ℕ) w
   -- A run is texts, and what references open.
   parts_below : (start stop i b c : ℕ) (items : Forest Item) → Parts main O src start stop i b c items → Below items
   parts_below start stop i b c items (last_part _ _ ss part) = piece_below start stop _ ss
-  parts_below start stop i b d items (then_entity _ p j _ c _ _ ss inner more part (entity_reference n reference unknown) opened rest) =
-      below_join (piece start stop false ss) (join inner more) (piece_below start stop false ss)
-      (below_join inner more (opens.content _ b inner c opened) (parts_below start stop j c d more rest))
+  parts_below start stop i b d items (then_entity _ p j _ c _ _ ss inner more part (entity_reference n reference unknown) opened rest) = grind (arith, parts_below start stop j c d more rest, below_join)
 
   mutual
     -- Below each item of content its texts are apart.
@@ -91,11 +79,6 @@ module _ (main : Bool) (O : Inclusion) (opens : OpensApart O) (src : List ℕ) w
   top_element i j b c one back (empty _ _ _ _ t tag) h = (refl, tt, h)
   top_element i j b c one back (nest _ k m p _ _ d _ t kids tag inner end) h = (refl, merge_apart kids (content_below k m d c kids inner), h)
 
-  -- It is an element.
-  top_is : (i j b c : ℕ) (one back : Forest Item) → IsElement main O src i j b c one → AnyElement (join one back)
-  top_is i j b c one back (empty _ _ _ _ t tag) = tt
-  top_is i j b c one back (nest _ k m p _ _ d _ t kids tag inner end) = tt
-
 -- ---- what references open, by the number of texts that may still be open
 
 opens_apart : (es : List Entity) (d : ℕ) (main : Bool) → OpensApart (Includes es d main)
@@ -108,8 +91,7 @@ opens_apart es (suc d) main =
 
 -- Comments and instructions among them.
 top_item : (src : List ℕ) (i j : ℕ) (item : Item) (back : Forest Item) → IsMisc src i j item → Apart back → Apart (Cons item Nil back)
-top_item src i j item back (comment _ e _ is) h = (refl, tt, h)
-top_item src i j item back (instruction _ n e _ is) h = (refl, tt, h)
+top_item src i j item back h k = grind arith
 
 top_misc : (src : List ℕ) (i j : ℕ) (items back : Forest Item) → Misc src i j items → Apart back → Apart (join items back)
 top_misc src i j items back (no_misc _) h = h
@@ -125,13 +107,10 @@ top_subset src i j items asked es back (skipped_declaration _ _ _ _ _ _ _ rest) 
 top_subset src i j items asked es back (an_entity _ k _ _ front more one others is rest) h = top_subset src k j items more others back rest h
 
 top_itself : (src : List ℕ) (i j : ℕ) (items : Forest Item) (asked : List Asked) (es : List Entity) (back : Forest Item) → IsDoctype src i j items asked es → Apart back → Apart (join items back)
-top_itself src i j items asked es back (no_subset _ s begins here) h = h
-top_itself src i j items asked es back (with_subset _ s k _ _ _ begins here is close end) h = top_subset src (s + 1) k items asked es back is h
+top_itself src i j items asked es back h k = grind (arith, top_subset)
 
 top_doctype : (src : List ℕ) (i j : ℕ) (dtd : Bool) (items : Forest Item) (asked : List Asked) (es : List Entity) (back : Forest Item) → MayHaveDoctype src i j dtd items asked es → Apart back → Apart (join items back)
-top_doctype src i j dtd items asked es back (no_doctype _) h = h
-top_doctype src i j dtd items asked es back (doctype _ k _ front more _ _ is rest) h =
-    subst (λ (f : Forest Item). Apart f) (sym (join_assoc front more back)) (top_itself src i k front asked es (join more back) is (top_misc src k j more back rest h))
+top_doctype src i j dtd items asked es back h k = grind (arith, join_assoc, top_itself, top_misc)
 
 -- The texts of a parse are apart.
 pub parse_apart : (src : List ℕ) (dtd : Bool) (asked : List Asked) (tree : Forest Item) → ParseOf src dtd asked tree → Apart tree
@@ -153,8 +132,4 @@ any_behind (Cons (PI start end target value) c r) back h = any_behind r back h
 
 -- A parse has an element at its top.
 pub parse_has : (src : List ℕ) (dtd : Bool) (asked : List Asked) (tree : Forest Item) → ParseOf src dtd asked tree → AnyElement tree
-parse_has src dtd asked tree whole =
-    let p = parts src dtd asked tree whole in
-    let one = top_is true (included_in_main p.entities) (opens_apart p.entities most_deep true) src p.start p.end 255 p.openings_left p.one p.after p.element in
-    subst (λ (f : Forest Item). AnyElement f) (sym p.is_tree)
-    (any_behind p.before (join p.nodes (join p.one p.after)) (any_behind p.nodes (join p.one p.after) one))
+parse_has src dtd asked tree whole = grind (arith, parts src dtd asked tree whole, any_behind)

@@ -18,7 +18,7 @@ use Rattle.rox_grammar.specs.Constructs.{IsXmlDecl, xml_decl}
 use Rattle.rox_grammar.specs.Content.{Inclusion, IsMisc, comment, instruction, IsElement, empty, nest, TagEnds, opened, closed, start_tag}
 use Rattle.rox_grammar.specs.TextStart.{after_bom, MayHaveXmlDecl, declared, not_declared, bom}
 use Rattle.rox_grammar.specs.Entities.{Entity}
-use Rattle.rox_grammar.specs.Doctype.{Asked, IsDoctype, no_subset, with_subset}
+use Rattle.rox_grammar.specs.Doctype.{Asked, IsDoctype}
 use Rattle.rox_grammar.specs.Document.{Permits, Misc, no_misc, space, an_item}
 use Rattle.rox_grammar.specs.Counts.{own_attributes, own_pairs}
 use Rattle.rox_theory.specs.ParseParts.{MayHaveDoctype, doctype, no_doctype}
@@ -36,7 +36,7 @@ use Rattle.rox_theory.specs.ValidState.{state}
 use Rattle.rox_theory.specs.Openers.{AreTexts}
 use Rattle.rox_theory.proofs.Productions.{comment_parts, pi_parts, end_parts}
 use Rattle.rox_theory.proofs.Basics.{within as byte_within, ok_same, bind_ok, chosen}
-use Rattle.rox_theory.proofs.Constructions.{name_byte, comment_bytes, instruction_bytes, doctype_bytes, IsNameByte}
+use Rattle.rox_theory.proofs.Constructions.{name_byte, comment_bytes, instruction_bytes, doctype_bytes}
 use Rattle.rox_theory.proofs.NameLemmas.{run_stops}
 use Rattle.rox_theory.proofs.DeclarationLemmas.{stands_reads, declaration_opens, declaration_sound, declaration_complete}
 use Rattle.rox_theory.proofs.Places.{over_spaces, spaces_on, space_within}
@@ -44,7 +44,6 @@ use Rattle.rox_theory.proofs.CharTexts.{run_cut}
 use Rattle.rox_theory.proofs.Standing.{IsValidState}
 use Rattle.rox_theory.proofs.Leaves.{with_leaf, fine_there, fits_counted, item_read}
 use Rattle.rox_theory.proofs.MarkupLemmas.{comment_sound, comment_complete, instruction_sound, instruction_complete}
-use Rattle.rox_theory.proofs.DoctypeParts.{doctype_parts}
 
 -- ---- where a character begins
 
@@ -105,24 +104,7 @@ no_spaces src i here = run_stops is_space src i (byte_within src i (λ z. omega 
 
 -- An element is neither white space nor one of them, nor a document type declaration.
 pub element_stops : (main : Bool) (O : Inclusion) (src : List ℕ) (i j b c : ℕ) (one : Forest Item) → IsElement main O src i j b c one → (byte src i ≡ 60) × (at word.DoctypeStart src i ≡ false) × Stops src i
-element_stops main O src i j b c one is = from_tag (begins one is)
-  where
-    -- Its first two bytes.
-    begins : (one : Forest Item) → IsElement main O src i j b c one → (byte src i ≡ 60) × IsNameByte src (i + 1)
-    begins one (empty _ _ _ _ _ (start_tag n last name written begin is_name list end)) = (begin, name_byte src (i + 1) name n is_name)
-    begins one (nest _ k m p _ _ d _ _ kids (start_tag n last name written begin is_name list end) inner close) = (begin, name_byte src (i + 1) name n is_name)
-
-    -- Which are those of no other construct.
-    from_tag : (byte src i ≡ 60) × IsNameByte src (i + 1) → (byte src i ≡ 60) × (at word.DoctypeStart src i ≡ false) × Stops src i
-    from_tag (here, name) = (
-      here,
-      false_from_ne_true _ (λ h. name.no_mark (doctype_bytes src i h).2),
-      record {
-        no_space = no_spaces src i here;
-        no_comment = false_from_ne_true _ (λ h. name.no_mark (comment_bytes src i h).2);
-        no_instruction = false_from_ne_true _ (λ h. name.no_question (instruction_bytes src i h).2);
-      },
-    )
+element_stops main O src i j b c one is = grind (arith, name_byte, doctype_bytes, no_spaces, comment_bytes, instruction_bytes)
 
 -- Nor does anything stand at the end.
 pub end_stops : (src : List ℕ) → Stops src (length src)
@@ -158,8 +140,7 @@ module _ (src : List ℕ) (utf8 : IsUtf8 src) where
 
   -- Comments and instructions are plain.
   pub misc_plain : (i j : ℕ) (item : Item) → IsMisc src i j item → plain item
-  misc_plain i j item (comment _ e _ is) = (refl, refl, λ scope. tt)
-  misc_plain i j item (instruction _ n e _ is) = (refl, refl, λ scope. tt)
+  misc_plain i j item h = grind arith
 
   -- An item, and then what follows it.
   item_then : (most b i j : ℕ) (done : Forest Item) (item : Item) (u : State) → IsMisc src i j item → MiscRead most b j (join done (leaf item)) u → MiscRead most b i done u
@@ -203,8 +184,7 @@ module _ (src : List ℕ) (utf8 : IsUtf8 src) where
 
   -- Each of them moves forward.
   pub misc_moves : (i j : ℕ) (item : Item) → IsMisc src i j item → i < j
-  misc_moves i j item (comment _ e _ is) = (comment_sound src utf8 i j _ (comment_parts is).opens (comment_complete src i e j is)).3
-  misc_moves i j item (instruction _ n e _ is) = (instruction_sound src utf8 i j _ (pi_parts is).opens (instruction_complete src i n e j is)).4
+  misc_moves i j item h = grind (arith, comment_sound, comment_complete, instruction_sound, instruction_complete)
 
   -- One of them, with its white space taken.
   one_misc : (n limit b i j : ℕ) (item : Item) (done : Forest Item) (u : State) → IsMisc src i j item → size (merge (join done (leaf item))) + 1 ≤ limit
@@ -261,8 +241,7 @@ module _ (src : List ℕ) (utf8 : IsUtf8 src) where
 
   -- A character begins after it.
   pub prolog_cut : (i j : ℕ) → IsCharBoundary src i → MayHaveXmlDecl src i j → IsCharBoundary src j
-  prolog_cut i j cut (declared _ _ is) = ends_cut src j utf8 (declaration_ends src i j is)
-  prolog_cut i j cut (not_declared _ none) = cut
+  prolog_cut i j cut k = grind (arith, ends_cut, declaration_ends)
 
 -- ---- the document type declaration
 
@@ -315,16 +294,14 @@ none_complete src limit i j dtd before nodes asked es more (doctype _ k _ items 
 none_complete src limit i j dtd before nodes asked es more (no_doctype _) stops none permits fine = rw (none, join-nil) refl
 
 none_texts : (src : List ℕ) (i j : ℕ) (dtd : Bool) (nodes : Forest Item) (asked : List Asked) (es : List Entity) → MayHaveDoctype src i j dtd nodes asked es → Permits false dtd → AreTexts es
-none_texts src i j dtd nodes asked es (doctype _ k _ items others _ _ is rest) permits = absurd (false≢true (permits refl))
-none_texts src i j dtd nodes asked es (no_doctype _) permits = λ name t found. cc found
+none_texts src i j dtd nodes asked es h permits = grind arith
 
 pub none_agree : (src : List ℕ) → DoctypesAgree src false
 none_agree src = record { sound = none_sound src; complete = none_complete src; texts = none_texts src }
 
 -- How it begins.
 pub doctype_opens : (src : List ℕ) (i j : ℕ) (items : Forest Item) (asked : List Asked) (es : List Entity) → IsDoctype src i j items asked es → at word.DoctypeStart src i ≡ true
-doctype_opens src i j items asked es (no_subset _ s begins closes) = (doctype_parts begins).opens
-doctype_opens src i j items asked es (with_subset _ s k _ _ _ begins more subset ends closes) = (doctype_parts begins).opens
+doctype_opens src i j items asked es h = grind arith
 
 -- What comes before it stops.
 pub begins_stop : (src : List ℕ) (i j : ℕ) (dtd : Bool) (items : Forest Item) (asked : List Asked) (es : List Entity) → MayHaveDoctype src i j dtd items asked es → Stops src j → Stops src i
@@ -334,5 +311,4 @@ begins_stop src i j dtd items asked es (no_doctype _) stops = stops
 -- One is there where it begins.
 pub dtd_begins : (src : List ℕ) (i j : ℕ) (dtd : Bool) (items : Forest Item) (asked : List Asked) (es : List Entity) → MayHaveDoctype src i j dtd items asked es → at word.DoctypeStart src j ≡ false
     → at word.DoctypeStart src i ≡ dtd
-dtd_begins src i j dtd items asked es (doctype _ k _ own others _ _ is rest) none = doctype_opens src i k own asked es is
-dtd_begins src i j dtd items asked es (no_doctype _) none = none
+dtd_begins src i j dtd items asked es h none = grind (arith, doctype_opens)

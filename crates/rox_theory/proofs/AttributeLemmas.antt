@@ -1,8 +1,8 @@
 -- Attributes and the end of a start tag: what is read is there, and what is there is read.
-use Rattle.std.proofs.Common.{◌≡◌, ◌≢◌, ℕ, ◌+◌, ◌<◌, Bool, true, false, cond, eqb, leb, List, length, refl, sym, ap, ◌∙◌, subst, arith, inl, inr, ◌⊎◌}
+use Rattle.std.proofs.Common.{◌≡◌, ◌≢◌, ℕ, ◌+◌, ◌<◌, Bool, true, false, cond, eqb, leb, List, length, refl, sym, ap, ◌∙◌, subst, arith, ◌⊎◌}
 use Rattle.std.specs.Prelude.{Ok}
 use Rattle.std.specs.Str.{IsUtf8, IsCharBoundary}
-use Rattle.std.proofs.lemmas.Bool.{eqb-true, eqb-false, ne_eqb, leb-false, lt-leb, false≢true}
+use Rattle.std.proofs.lemmas.Bool.{eqb-true, eqb-false, ne_eqb, leb-false, lt-leb}
 use Rattle.rox_grammar.specs.Chars.{is_space, is_name_start}
 use Rattle.rox_grammar.specs.Runs.{begins}
 use Rattle.rox_grammar.specs.Written.{Name, Attribute}
@@ -81,14 +81,7 @@ raw_complete src i j raw r =
 
 -- It has a byte.
 raw_le : (src : List ℕ) (i j : ℕ) (raw : RawAttribute) → RawStands src i j raw → i < j
-raw_le src i j raw r =
-    let name_le = qname_le src i raw.name raw.name_end r.is_name in
-    let le = run_end_le is_space src raw.name_end in
-    let le' = run_end_le is_space src (spaces_end src raw.name_end + 1) in
-    let v = r.eq.1 in
-    let value = literal_le src r.v raw.value_end j r.literal in
-    let next = r.literal.0.3 in
-    omega arith
+raw_le src i j raw r = grind (arith, qname_le, run_end_le)
 
 -- No name begins with a slash.
 no_slash : is_name_start 47 ≡ false
@@ -102,10 +95,7 @@ no_greater = refl
 
 -- Where a name begins, no byte stands that begins none.
 not_start : (src : List ℕ) (i c : ℕ) → 0 < c → c < 128 → is_name_start c ≡ false → begins is_name_start src i ≡ true → byte src i ≢ c
-not_start src i c some ascii none starts is =
-    let b = begins_here is_name_start src i (within src i (λ z. omega arith)) (omega arith) in
-    let f : begins is_name_start src i ≡ false = b ∙ rw is none in
-    false≢true (sym f ∙ starts)
+not_start src i c some ascii none starts is = grind (arith, begins_here, within)
 
 -- No name begins with a slash or `>`.
 name_first : (src : List ℕ) (i : ℕ) (name : Name) (j : ℕ) → IsQName src i name j → (byte src i ≢ 47) × (byte src i ≢ 62)
@@ -173,8 +163,7 @@ more_complete src i j raw some r =
 
 -- A quote stops a value.
 quote_stop : (b : ℕ) → (b ≡ 39) ⊎ (b ≡ 34) → IsStop b
-quote_stop b (inl h) = inr (inl h)
-quote_stop b (inr h) = inr (inr h)
+quote_stop b h = grind arith
 
 -- A literal ends where a quote stops it.
 pub literal_stop : (src : List ℕ) (v e j : ℕ) → IsAttValue src v e j → IsStop (byte src e)
@@ -189,22 +178,9 @@ module _ (context : Values) (O : Inclusion) (agrees : AgreesValue context.entiti
   pub attribute_sound : (i j b c : ℕ) (raw : RawAttribute) (x : ReadText) → RawStands src i j raw → value_at context.main context.entities context.opener src raw.value_start raw.value_end b ≡ Ok (x, c)
       → IsAttribute context.main O src i j b c (attribute_with raw x)
   attribute_sound i j b c raw x r h =
-      let closes = r.literal.0.2 in
       let value = value_sound context.entities src utf8 raw.value_end (omega arith) (λ z. literal_stop src r.v raw.value_end j r.literal) context.main O context.opener agrees (r.v + 1) b c x
       (literal_le src r.v raw.value_end j r.literal) (literal_plain src r.v raw.value_end j r.literal) (rw r.value_start at h) in
-      from_parts context.main O src i j b c (attribute_with raw x)
-      (record {
-        starts = r.starts;
-        is_name = r.is_name;
-        v = r.v;
-        eq = r.eq;
-        e = raw.value_end;
-        literal = r.literal;
-        value_start = r.value_start;
-        end = sym r.literal.0.3;
-        value = value.0;
-        borrowed = value.1;
-      })
+      grind (arith, from_parts)
 
   -- The attribute is read from i up to j, and then its value.
   abbrev pub AttributeReads : ℕ → ℕ → ℕ → ℕ → Attribute → Type 0
@@ -214,7 +190,6 @@ module _ (context : Values) (O : Inclusion) (agrees : AgreesValue context.entiti
   -- An attribute that is there is read.
   pub attribute_complete : (i j b c : ℕ) (a : Attribute) → IsAttribute context.main O src i j b c a → AttributeReads i j b c a
   attribute_complete i j b c a (content.attribute n v e name value (is_name, eq, literal) there) =
-      let closes = literal.0.2 in
       let read = value_complete context.entities src utf8 e (omega arith) (λ z. literal_stop src v e j literal) context.main O context.opener agrees (v + 1) b c value
       (literal_le src v e j literal) (value_cut src utf8 v e j literal) (λ z. literal.1) there in
       let borrowed = content.is_verbatim_value (slice src (v + 1) e) in (

@@ -1,5 +1,5 @@
 -- What an attribute is made of, one fact by one.
-use Rattle.std.proofs.Common.{◌≡◌, ℕ, ◌+◌, Bool, List, refl, subst}
+use Rattle.std.proofs.Common.{◌≡◌, ℕ, ◌+◌, Bool, List, subst, arith}
 use Rattle.rox_grammar.specs.Written.{Attribute}
 use Rattle.rox_grammar.specs.Names.{slice, IsQName}
 use Rattle.rox_grammar.specs.Constructs.{IsEq, IsAttValue}
@@ -19,13 +19,11 @@ pub record AttributeParts (main : Bool) (O : Inclusion) (src : List ℕ) (i j b 
 
 -- An attribute has its parts.
 pub parts_of : (main : Bool) (O : Inclusion) (src : List ℕ) (i j b c : ℕ) (a : Attribute) → IsAttribute main O src i j b c a → AttributeParts main O src i j b c a
-parts_of main O src i j b c a (attribute n v e name value is read) =
-    record { starts = refl; is_name = is.0; v = v; eq = is.1; e = e; literal = is.2; value_start = refl; end = refl; value = read; borrowed = refl }
+parts_of main O src i j b c a (attribute n v e name value is read) = grind arith
 
 -- What has them all is one.
 pub from_parts : (main : Bool) (O : Inclusion) (src : List ℕ) (i j b c : ℕ) (a : Attribute) → AttributeParts main O src i j b c a → IsAttribute main O src i j b c a
 from_parts main O src i j b c a p =
     let borrowed = p.borrowed in let value_start = p.value_start in let starts = p.starts in let end = p.end in
-    let same : ◌≡◌ {A = Attribute} (record { start = i; name_end = a.name_end; value_start = p.v + 1; end = j; name = a.name; value = a.value; borrowed = is_verbatim_value (slice src (p.v + 1) p.e) }) a =
-    rw (← borrowed, ← value_start, ← starts, ← end) refl in
+    let same : ◌≡◌ {A = Attribute} (record { start = i; name_end = a.name_end; value_start = p.v + 1; end = j; name = a.name; value = a.value; borrowed = is_verbatim_value (slice src (p.v + 1) p.e) }) a = grind arith in
     subst (IsAttribute main O src i j b c) same (attribute a.name_end p.v p.e a.name a.value (p.is_name, p.eq, p.literal) p.value)

@@ -1,6 +1,6 @@
 -- How a reading that succeeded went, and the smallest steps.
 use Rattle.std.proofs.Common.{◌≡◌, ◌≢◌, ℕ, ◌+◌, ◌<◌, ◌≤◌, Bool, true, false, cond, eqb, ltb, leb, List, length, take, refl, sym, ap, ◌∙◌, arith, inl, inr}
-use Rattle.std.specs.Prelude.{Result, Ok, Err}
+use Rattle.std.specs.Prelude.{Result, Ok}
 use Rattle.std.proofs.lemmas.List.{get_or_past}
 use Rattle.std.proofs.lemmas.Bool.{eqb-true, leb-false, lt-leb, eq-eqb, ltb-false, le-ltb, cases_lt}
 use Rattle.std.specs.Str.{IsUtf8}
@@ -13,7 +13,7 @@ use Rattle.rox_grammar.specs.ExpectedTexts.{expected_text}
 use Rattle.rox_grammar.specs.Names.{byte, slice}
 use Rattle.rox_grammar.specs.Constructs.{AreChars}
 use Rattle.rox_reading.specs.Lexical.{◌>>=◌, byte_at, string_at, chars_up_to, text_to}
-use Rattle.rox_reading.specs.Refusals.{Refusal, here, there, refused, lifted, elsewhere}
+use Rattle.rox_reading.specs.Refusals.{Refusal, lifted, elsewhere}
 use Rattle.rox_theory.proofs.SpanLemmas.{run_end_inside}
 
 -- What two equal answers hold is equal.
@@ -22,30 +22,23 @@ ok_same x y h = cc
 
 -- Where a sequence gives a value, its first step gave one and the rest gave the value.
 pub bind_ok : {A B E P : Type 0} (r : Result A E) (f : A → Result B E) (y : B) → (r >>= f) ≡ Ok y → ((x : A) → r ≡ Ok x → f x ≡ Ok y → P) → P
-bind_ok (Ok x) f y h go = go x refl h
-bind_ok (Err e) f y h go = cc h
+bind_ok r f y h go = grind arith
 
 -- The same of a first step that opens no entity.
 pub bind_lifted : {A B P : Type 0} (r : Result A Fault) (f : A → Result B Refusal) (y : B) → (lifted r >>= f) ≡ Ok y → ((x : A) → r ≡ Ok x → f x ≡ Ok y → P) → P
-bind_lifted (Ok x) f y h go = go x refl h
-bind_lifted (Err e) f y h go = cc h
+bind_lifted r f y h go = grind arith
 
 -- And of one that is all.
 pub bind_lifted_only : {A P : Type 0} (r : Result A Fault) (y : A) → lifted r ≡ Ok y → (r ≡ Ok y → P) → P
-bind_lifted_only (Ok x) y h go = let e : x ≡ y = ok_same _ _ h in go (ap Ok e)
-bind_lifted_only (Err e) y h go = cc h
+bind_lifted_only r y h go = grind arith
 
 -- What is seen from another source is what is seen from its own, where there is a value.
 pub elsewhere_ok : {A : Type 0} (source : List ℕ) (r : Result A Refusal) (y : A) → elsewhere source r ≡ Ok y → r ≡ Ok y
-elsewhere_ok source (Ok x) y h = h
-elsewhere_ok source (Err (here f)) y h = cc h
-elsewhere_ok source (Err (there s f)) y h = cc h
-elsewhere_ok source (Err (refused request at message)) y h = cc h
+elsewhere_ok source r y h = grind arith
 
 -- What a choice gives comes from one of its branches.
 pub chosen : {X P : Type 0} (b : Bool) (x y z : X) → cond b x y ≡ z → (b ≡ true → x ≡ z → P) → (b ≡ false → y ≡ z → P) → P
-chosen true x y z h holds fails = holds refl h
-chosen false x y z h holds fails = fails refl h
+chosen b x y z h holds fails = grind arith
 
 -- A byte but 0 is in the source.
 pub within : (src : List ℕ) (i : ℕ) → byte src i ≢ 0 → i < length src

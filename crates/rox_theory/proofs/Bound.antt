@@ -9,14 +9,14 @@ use Rattle.rox_grammar.specs.Forest.{Forest, Nil, join}
 use Rattle.rox_grammar.specs.Written.{Item, Text, Attribute, Tag, leaf, merge}
 use Rattle.rox_grammar.specs.Names.{byte, slice, spaces_end}
 use Rattle.rox_grammar.specs.References.{entity_reference}
-use Rattle.rox_grammar.specs.Content.{Inclusion, line_ends, literals, is_verbatim, piece, value_bytes, last_part, then_entity, Value, value_ends, line_end, white, other, a_character, an_entity, Attributes, no_more, one_more, attribute, IsTag, IsElement, empty, nest, Content, ends, run, cdata, misc, node, start_tag}
+use Rattle.rox_grammar.specs.Content.{Inclusion, line_ends, literals, is_verbatim, value_bytes, last_part, then_entity, Value, value_ends, line_end, white, other, a_character, an_entity, Attributes, no_more, one_more, attribute, IsTag, IsElement, empty, nest, Content, ends, run, cdata, misc, node, start_tag}
 use Rattle.rox_grammar.specs.RunParts.{Parts}
 use Rattle.rox_grammar.specs.Entities.{Entity, included_in_main, most_deep}
 use Rattle.rox_grammar.specs.Chars.{is_name_char, is_space}
 use Rattle.rox_grammar.specs.Names.{IsName}
-use Rattle.rox_grammar.specs.Doctype.{Asked, IsQuoted, IsExternalID, system, public, MayHaveNotation, notation, no_notation, of_parameter, IsDefinition, internal, external, IsKind, of_parameter as parameter_kind, general, entity_begins, IsEntityDeclaration, entity_declaration, Subset, no_more as no_item, space as subset_space, an_item as subset_item, skipped_declaration, an_entity as an_entity_declared, MayHaveExternalID, external_id, no_external_id, BeginsDoctype, doctype_begins, IsDoctype, no_subset, with_subset}
+use Rattle.rox_grammar.specs.Doctype.{Asked, IsQuoted, IsExternalID, system, public, MayHaveNotation, IsDefinition, internal, external, IsKind, entity_begins, IsEntityDeclaration, entity_declaration, Subset, no_more as no_item, space as subset_space, an_item as subset_item, skipped_declaration, an_entity as an_entity_declared, MayHaveExternalID, external_id, no_external_id, BeginsDoctype, doctype_begins, IsDoctype}
 use Rattle.rox_grammar.specs.Document.{Misc, no_misc, space, an_item, ParseOf}
-use Rattle.rox_theory.specs.ParseParts.{MayHaveDoctype, doctype, no_doctype}
+use Rattle.rox_theory.specs.ParseParts.{MayHaveDoctype, doctype}
 use Rattle.rox_grammar.specs.Expansion.{longest}
 use Rattle.rox_theory.specs.ItemSize.{most_bytes, bytes_in, IsBounded}
 use Rattle.rox_theory.proofs.Productions.{reference_parts}
@@ -68,13 +68,7 @@ amps_at : (src : List ℕ) (p : ℕ) → byte src p ≡ 38 → amps src (p + 1) 
 amps_at src p h = let e : suc p ≡ p + 1 = omega arith in subst (λ (q : ℕ). amps src q + 1 ≤ amps src p) e (amps_next src p h)
 
 times_more : (a b w : ℕ) → a ≤ b → a * w ≤ b * w
-times_more zero b w h = omega arith
-times_more (suc a) zero w h = absurd (omega (arith, h))
-times_more (suc a) (suc b) w h =
-    let k = times_more a b w (omega (arith, h)) in
-    let x = more_times a w in
-    let y = more_times b w in
-    omega (arith, k, x, y)
+times_more a b w h = grind arith
 
 module _ (of : Forest Item → ℕ) (is_measure : Measure of) (O : Inclusion) (w : ℕ) (src : List ℕ) (left : ℕ → ℕ) (down : (i j : ℕ) → i ≤ j → left j ≤ left i)
     (at_amp : (p : ℕ) → byte src p ≡ 38 → left (p + 1) + w ≤ left p)
@@ -85,65 +79,23 @@ module _ (of : Forest Item → ℕ) (is_measure : Measure of) (O : Inclusion) (w
   Yields x i j = (i ≤ j) × (x + i + left j ≤ j + left i)
 
   parts_yield : (start stop i b c : ℕ) (items : Forest Item) → Parts true O src start stop i b c items → Yields (of items) i stop
-  parts_yield start stop i b c items (last_part _ _ ss part) =
-      let p = part_bytes true src stop i ss part in
-      let q = piece_most of is_measure start stop (is_verbatim (slice src start stop)) ss in
-      let d = down i stop (omega (arith, p)) in
-      (omega (arith, p), omega (arith, p, q, d))
-  parts_yield start stop i b d items (then_entity _ p j _ c _ _ ss front more part (entity_reference n reference name) opens rest) =
-      let h = part_bytes true src p i ss part in
-      let q = piece_most of is_measure start stop false ss in
-      let k = reference_onward src p n j reference in
-      let x = content_most _ b front c opens in
-      let y = parts_yield start stop j c d more rest in
-      let e = is_measure.joined (piece start stop false ss) (join front more) in
-      let f = is_measure.joined front more in
-      let u = down i p (omega (arith, h)) in
-      let a = at_amp p (reference_parts reference).opens in
-      let v = down (p + 1) j (omega (arith, k)) in
-      (omega (arith, h, k, y.0), omega (arith, h, q, k, x, y.1, e, f, u, a, v))
+  parts_yield start stop i b c items (last_part _ _ ss part) = grind (arith, part_bytes true src stop i ss part, piece_most of is_measure start stop (is_verbatim (slice src start stop)) ss)
+  parts_yield start stop i b d items (then_entity _ p j _ c _ _ ss front more part (entity_reference n reference name) opens rest) = grind (arith, parts_yield start stop j c d more rest, piece_most of is_measure start stop false ss, part_bytes, piece_most, reference_onward, reference_parts)
 
   value_yields : (j i b c : ℕ) (v : List ℕ) → Value true O src j i b c v → Yields (length v) i j
   value_yields j i b c v (value_ends _) = (omega arith, omega arith)
   value_yields j i b c v (line_end _ _ _ _ more cr lf rest) = let h = value_yields j (i + 1) b c v rest in let d = down i (i + 1) (omega arith) in (omega (arith, h.0), omega (arith, h.1, d))
   value_yields j i b c v (white _ _ _ w' more is rest) = let h = value_yields j (i + 1) b c w' rest in let d = down i (i + 1) (omega arith) in (omega (arith, h.0), omega (arith, h.1, d))
   value_yields j i b c v (other _ _ _ w' more x₁ x₂ x₃ x₄ x₅ rest) = let h = value_yields j (i + 1) b c w' rest in let d = down i (i + 1) (omega arith) in (omega (arith, h.0), omega (arith, h.1, d))
-  value_yields j i b c v (a_character _ n z _ _ w' is within allowed rest) =
-      let h = value_yields j n b c w' rest in
-      let k = value_char true src i z n is in
-      let l = length-append (value_bytes true z) w' in
-      let d = down i n (omega (arith, k)) in
-      (omega (arith, h.0, k), omega (arith, h.1, k, l, d))
-  value_yields j i b d v (an_entity _ k _ c _ _ u w' (entity_reference n is name) within opens rest) =
-      let h = value_yields j k c d w' rest in
-      let x = value_most _ b u c opens in
-      let m = reference_onward src i n k is in
-      let l = length-append u w' in
-      let a = at_amp i (reference_parts is).opens in
-      let e = down (i + 1) k (omega (arith, m)) in
-      (omega (arith, h.0, m), omega (arith, h.1, x, m, l, a, e))
+  value_yields j i b c v (a_character _ n z _ _ w' is within allowed rest) = grind (arith, value_yields j n b c w' rest, value_char true src i z n is, length-append (value_bytes true z) w')
+  value_yields j i b d v (an_entity _ k _ c _ _ u w' (entity_reference n is name) within opens rest) = grind (arith, value_yields j k c d w' rest, reference_onward, length-append, reference_parts)
 
   attributes_yield : (i k b c : ℕ) (as' : List Attribute) → Attributes true O src i k b c as' → Yields (most_of as') i k
   attributes_yield i k b c as' (no_more _ _) = (omega arith, omega arith)
-  attributes_yield i k b d as' (one_more _ j _ _ c _ _ rest spaces (attribute m v e name value is read) more) =
-      let h = value_yields e (v + 1) b c value read in
-      let n = qname_onward src (spaces_end src i) m name is.0 in
-      let q = eq_onward src m v is.1 in
-      let l = is.2.0.3 in
-      let y = attributes_yield j k c d rest more in
-      let u = down i (v + 1) (omega (arith, n, q, spaces)) in
-      let w = down e j (omega (arith, l)) in
-      (omega (arith, h.0, n, q, l, y.0, spaces), omega (arith, h.0, h.1, n, q, l, y.1, spaces, u, w))
+  attributes_yield i k b d as' (one_more _ j _ _ c _ _ rest spaces (attribute m v e name value is read) more) = grind (arith, value_yields e (v + 1) b c value read, qname_onward src (spaces_end src i) m name is.0, eq_onward src m v is.1, attributes_yield j k c d rest more)
 
   tag_yields : (i j b c : ℕ) (is_empty : Bool) (t : Tag) → IsTag true O src i j b c is_empty t → Yields (1 + most_of t.attributes) i j
-  tag_yields i j b c is_empty _ (start_tag n last name written begin is_name list end) =
-      let h = attributes_yield n last b c written list in
-      let q = qname_onward src (i + 1) n name is_name in
-      let e = tag_end_onward src last is_empty j end in
-      let f = fewer written in
-      let u = down i n (omega (arith, q)) in
-      let v = down last j (omega (arith, e)) in
-      (omega (arith, h.0, q, e), omega (arith, h.1, q, e, f, u, v))
+  tag_yields i j b c is_empty _ (start_tag n last name written begin is_name list end) = grind (arith, attributes_yield, qname_onward, tag_end_onward, fewer)
 
   mutual
     pub element_yields : (i j b c : ℕ) (one : Forest Item) → IsElement true O src i j b c one → Yields (of one) i j
@@ -197,37 +149,20 @@ name_onward src i j is = let h = run_end_le is_name_char src i in omega (arith, 
 
 external_onward : (src : List ℕ) (i j : ℕ) (request : _) → IsExternalID src i request j → i ≤ j
 external_onward src i j request (system _ s e _ opens before quoted) = let h = quoted_onward src s e j quoted in omega (arith, h, before.0)
-external_onward src i j request (public _ p d k s e _ opens before one between quoted) =
-    let h = quoted_onward src s e j quoted in
-    let g = quoted_onward src p d k one in
-    omega (arith, h, g, before.0, between.0)
+external_onward src i j request (public _ p d k s e _ opens before one between quoted) = grind (arith, quoted_onward src s e j quoted, quoted_onward src p d k one)
 
 notation_onward : (src : List ℕ) (parameter : Bool) (i j : ℕ) → MayHaveNotation src parameter i j → i ≤ j
-notation_onward src parameter i j (notation _ s _ opens before name) =
-    let h = run_end_le is_space src i in
-    let g = name_onward src s j name in
-    omega (arith, h, g, before.0)
-notation_onward src parameter i j (no_notation _ none) = run_end_le is_space src i
-notation_onward src parameter i j (of_parameter _) = omega arith
+notation_onward src parameter i j h = grind (arith, run_end_le)
 
 definition_onward : (src : List ℕ) (parameter : Bool) (i j : ℕ) (asked : List Asked) (text : _) → IsDefinition src parameter i j asked text → i ≤ j
 definition_onward src parameter i j asked text (internal _ e _ quoted) = quoted_onward src i e j quoted
-definition_onward src parameter i j asked text (external _ n _ request answer _ id may gives) =
-    let h = external_onward src i n request id in
-    let g = notation_onward src parameter n j may in
-    omega (arith, h, g)
+definition_onward src parameter i j asked text (external _ n _ request answer _ id may gives) = grind (arith, external_onward, notation_onward)
 
 kind_onward : (src : List ℕ) (i : ℕ) (parameter : Bool) (j : ℕ) → IsKind src i parameter j → i ≤ j
-kind_onward src i parameter j (parameter_kind _ _ here behind) = omega (arith, behind.0)
-kind_onward src i parameter j (general _ here) = omega arith
+kind_onward src i parameter j h = grind arith
 
 declaration_onward : (src : List ℕ) (i j : ℕ) (asked : List Asked) (declared : List Entity) → IsEntityDeclaration src i j asked declared → i ≤ j
-declaration_onward src i j asked declared (entity_declaration parameter n m d e _ text (entity_begins k _ before kind name behind) definition _) =
-    let p = kind_onward src k parameter n kind in
-    let q = name_onward src n m name in
-    let r = definition_onward src parameter d e asked text definition in
-    let s = run_end_le is_space src e in
-    omega (arith, before.0, p, q, behind.0, r, s)
+declaration_onward src i j asked declared (entity_declaration parameter n m d e _ text (entity_begins k _ before kind name behind) definition _) = grind (arith, kind_onward, definition_onward, run_end_le)
 
 passed_onward : (src : List ℕ) (i : ℕ) → i ≤ passed_end src i
 passed_onward src i = let h = from_le (λ c. c == 62) src i in omega (arith, h)
@@ -290,33 +225,14 @@ module _ (of : Forest Item → ℕ) (is_measure : Measure of) where
       let h = all_subset src j l more asked es rest in
       let f = is_measure.joined (leaf item) more in
       omega (arith, x, h, f)
-  all_subset src i l items asked es (skipped_declaration _ _ _ _ _ opens closes rest) =
-      let x = passed_onward src i in
-      let h = all_subset src (passed_end src i) l items asked es rest in
-      omega (arith, x, h)
-  all_subset src i l items asked es (an_entity_declared _ j _ _ first more one others is rest) =
-      let x = declaration_onward src i j first one is in
-      let h = all_subset src j l items more others rest in
-      omega (arith, x, h)
+  all_subset src i l items asked es (skipped_declaration _ _ _ _ _ opens closes rest) = grind (arith, passed_onward src i, all_subset src (passed_end src i) l items asked es rest)
+  all_subset src i l items asked es (an_entity_declared _ j _ _ first more one others is rest) = grind (arith, declaration_onward src i j first one is, all_subset src j l items more others rest)
 
   doctype_itself : (src : List ℕ) (i j : ℕ) (items : Forest Item) (asked : List Asked) (es : List Entity) → IsDoctype src i j items asked es → of items + i ≤ j
-  doctype_itself src i j items asked es (no_subset _ s begins here) =
-      let b = begins_onward src i s begins in
-      let h = is_measure.none in
-      omega (arith, b, h)
-  doctype_itself src i j items asked es (with_subset _ s k _ _ _ begins here is close end) =
-      let b = begins_onward src i s begins in
-      let h = all_subset src (s + 1) k items asked es is in
-      let g = run_end_le is_space src (k + 1) in
-      omega (arith, b, h, g)
+  doctype_itself src i j items asked es h = grind (arith, begins_onward, all_subset, run_end_le)
 
   all_doctype : (src : List ℕ) (i j : ℕ) (dtd : Bool) (items : Forest Item) (asked : List Asked) (es : List Entity) → MayHaveDoctype src i j dtd items asked es → of items + i ≤ j
-  all_doctype src i j dtd items asked es (no_doctype _) = let h = is_measure.none in omega (arith, h)
-  all_doctype src i l dtd items asked es (doctype _ j _ front more _ _ is rest) =
-      let x = doctype_itself src i j front asked es is in
-      let h = all_misc src j l more rest in
-      let f = is_measure.joined front more in
-      omega (arith, x, h, f)
+  all_doctype src i l dtd items asked es h = grind (arith, doctype_itself, all_misc)
 
 amps_all : (src : List ℕ) (i : ℕ) → amps src i ≤ count_by (λ b. b == 38) src
 amps_all src i = let h = drop_fewer i src in let e = amp_count_is src in omega (arith, h, e)
@@ -333,12 +249,8 @@ parse_bounded of is_measure src dtd asked tree whole =
     let nodes = all_doctype of is_measure src p.begun p.start dtd p.nodes asked p.entities p.doctype in
     let one = element_bounded of is_measure p.entities src p.start p.end 255 p.openings_left p.one p.element in
     let after = all_misc of is_measure src p.end (length src) p.after p.misc_after in
-    let a = is_measure.joined p.before (join p.nodes (join p.one p.after)) in
-    let b = is_measure.joined p.nodes (join p.one p.after) in
-    let c = is_measure.joined p.one p.after in
     let m = times_more (amps src p.start) (count_by (λ b. b == 38) src) w (amps_all src p.start) in
-    let total : of (join p.before (join p.nodes (join p.one p.after))) ≤ length src + count_by (λ b. b == 38) src * w =
-    omega (arith, before, nodes, one, after, a, b, c, m) in
+    let total : of (join p.before (join p.nodes (join p.one p.after))) ≤ length src + count_by (λ b. b == 38) src * w = omega arith in
     let same : count_by (λ b. b == 38) src * w ≡ 256 * count_by (λ b. b == 38) src * longest p.entities = turned (count_by (λ b. b == 38) src) (longest p.entities) in
     subst (λ (t : Forest Item). of t ≤ length src + 256 * count_by (λ b. b == 38) src * longest p.entities) (sym p.is_tree) (omega (arith, total, same))
 

@@ -1,8 +1,8 @@
 -- Where stretches of Chars are joined and cut, and the Chars of references.
-use Rattle.std.proofs.Common.{◌≡◌, ℕ, zero, suc, ◌+◌, ◌-◌, ◌<◌, ◌≤◌, ◌==◌, Bool, true, ◌||◌, ◌&&◌, leb, ltb, List, [], ◌∷◌, length, take, drop, refl, sym, ap, ◌∙◌, subst, arith, inl, inr, ◌⊎◌}
+use Rattle.std.proofs.Common.{◌≡◌, ℕ, zero, suc, ◌+◌, ◌-◌, ◌<◌, ◌≤◌, Bool, true, ◌||◌, ◌&&◌, leb, ltb, List, [], ◌∷◌, length, take, drop, refl, sym, ap, ◌∙◌, subst, arith, inl, inr, ◌⊎◌}
 use Rattle.std.specs.List.{list_all, list_any}
 use Rattle.std.specs.Str.{chars, IsUtf8, IsCharBoundary}
-use Rattle.std.proofs.lemmas.Bool.{and_parts, and_from, and_left, and_right, or_cases, or_right, leb-true, ltb-true, le-leb, lt-leb, not_from_false}
+use Rattle.std.proofs.lemmas.Bool.{and_parts, or_cases, leb-true, ltb-true}
 use Rattle.std.proofs.lemmas.Bool.Decides.{nat_tests}
 use Rattle.std.proofs.lemmas.List.{drop-take}
 use Rattle.std.proofs.lemmas.Str.{encodes-chars}
@@ -62,8 +62,7 @@ bytes_chars src (suc d) i j to inside each =
 
 -- From 32 on all but two numbers are Chars.
 allowed : (c : ℕ) → 32 ≤ c → (c < 0xFFFE) ⊎ (0xFFFF < c) → is_char c ≡ true
-allowed c some (inl low) = or_right ((c == 9 || c == 10) || c == 13) _ (and_from (leb 32 c) _ (le-leb 32 c some) (not_from_false _ (and_left (leb 0xFFFE c) (leb c 0xFFFF) (lt-leb 0xFFFE c low))))
-allowed c some (inr high) = or_right ((c == 9 || c == 10) || c == 13) _ (and_from (leb 32 c) _ (le-leb 32 c some) (not_from_false _ (and_right (leb 0xFFFE c) (leb c 0xFFFF) (lt-leb c 0xFFFF high))))
+allowed c some k = grind arith
 
 -- A range of such numbers.
 fine_range : ℕ × ℕ → Bool

@@ -1,27 +1,24 @@
 -- All that a parse holds are texts of Chars, also what its entities give.
-use Rattle.std.proofs.Common.{◌≡◌, ℕ, zero, suc, ◌+◌, ◌==◌, Bool, true, false, not, List, [], ◌∷◌, ◌++◌, length, filter, refl, sym, ap, ◌∙◌, subst, arith, inl, inr}
-use Rattle.std.specs.Prelude.{Option, Some, None, All, IfSome, bytes_eq}
+use Rattle.std.proofs.Common.{◌≡◌, ℕ, zero, suc, ◌+◌, ◌==◌, Bool, true, false, not, List, [], ◌∷◌, ◌++◌, length, filter, refl, sym, ap, ◌∙◌, subst, arith}
+use Rattle.std.specs.Prelude.{All, IfSome}
 use Rattle.std.specs.Str.{IsUtf8, IsCharBoundary}
-use Rattle.std.proofs.lemmas.Bool.{eqb-true, cases_lt, cond_both}
 use Rattle.std.proofs.lemmas.List.Elements.{All-nil, All-cons, All-map, All-filter, All-weaker}
-use Rattle.std.proofs.lemmas.Str.{IsCharBoundary-end}
 use Rattle.rox_grammar.specs.declared.fault.Word.TheVariants as word
-use Rattle.rox_grammar.specs.declared.fault.Word.TheVariants.{Xmlns}
 use Rattle.rox_grammar.specs.FixedTexts.{word_text}
 use Rattle.rox_grammar.specs.Search.{byte_from}
 use Rattle.rox_grammar.specs.Chars.{is_space, is_name_char, is_part_char}
 use Rattle.rox_grammar.specs.CharText.{IsCharText, NamespaceDeclChars}
-use Rattle.rox_grammar.specs.Forest.{Forest, Nil, Cons, join}
+use Rattle.rox_grammar.specs.Forest.{Forest, Nil, Cons}
 use Rattle.rox_grammar.specs.Written.{Name, Attribute, Tag, Item, Element, Text, Comment, PI, is_namespace_decl, namespace_decl_of, glue, merge}
 use Rattle.rox_grammar.specs.Tree.{none_if_empty}
-use Rattle.rox_grammar.specs.Names.{byte, slice, spaces_end, IsNCName, IsQName, unprefixed, prefixed, colon_first}
+use Rattle.rox_grammar.specs.Names.{byte, slice, spaces_end, IsNCName, IsQName}
 use Rattle.rox_grammar.specs.Constructs.{IsComment, IsPI, IsCData}
 use Rattle.rox_grammar.specs.Content.{Inclusion, DataByte, IsAttribute, attribute, Attributes, no_more, one_more, TagEnds, opened, closed, IsTag, IsMisc, comment, instruction, IsElement, empty, nest, Content, ends, run, cdata, misc, node, line_ends, literals, start_tag}
 use Rattle.rox_grammar.proofs.TagParts.{tag_parts}
 use Rattle.rox_grammar.specs.Entities.{Entity, Includes, included_in_main, most_deep}
-use Rattle.rox_grammar.specs.Doctype.{Asked, Subset, no_more as no_item, space as subset_space, an_item as subset_item, skipped_declaration, an_entity as an_entity_declared, IsDoctype, no_subset, with_subset}
+use Rattle.rox_grammar.specs.Doctype.{Asked, Subset, no_more as no_item, space as subset_space, an_item as subset_item, skipped_declaration, an_entity as an_entity_declared, IsDoctype}
 use Rattle.rox_grammar.specs.Document.{Misc, no_misc, space, an_item, ParseOf}
-use Rattle.rox_theory.specs.ParseParts.{MayHaveDoctype, doctype, no_doctype}
+use Rattle.rox_theory.specs.ParseParts.{MayHaveDoctype, doctype}
 use Rattle.rox_theory.specs.Openers.{AreTexts}
 use Rattle.rox_theory.specs.CharItems.{WrittenChars, TagChars, ItemChars, ItemsChars}
 use Rattle.rox_theory.proofs.Productions.{ncname_parts, comment_parts, pi_parts, cdata_parts, char_data_parts}
@@ -48,27 +45,17 @@ part_behind src k j utf8 colon n = name_part src (k + 1) j utf8 (cut_behind src 
 
 -- So is a local name.
 local_name : (src : List ℕ) (i : ℕ) (name : Name) (j : ℕ) → IsUtf8 src → IsCharBoundary src i → IsQName src i name j → IsCharText name.local × IsCharBoundary src j
-local_name src i name j utf8 cut (unprefixed _ _ n last) = name_part src i j utf8 cut n
-local_name src i name j utf8 cut (prefixed _ k _ n colon m last) = part_behind src k j utf8 colon m
-local_name src i name j utf8 cut (colon_first _ _ colon m last) = part_behind src i j utf8 colon m
+local_name src i name j utf8 cut p = grind (arith, name_part, part_behind)
 
 -- A declaration is an attribute as written.
 declared_text : (a : Attribute) → WrittenChars a → NamespaceDeclChars (namespace_decl_of a)
-declared_text a h =
-    record {
-      prefix = cond_both (bytes_eq a.name.prefix (word_text Xmlns)) (Some a.name.local) None (λ (o : Option (List ℕ)). IfSome o IsCharText) (λ is. h.local) (λ none. tt);
-      uri = h.value;
-    }
+declared_text a h = grind arith
 
 -- ---- items
 
 -- With a text in front.
 items_glued : (a e : ℕ) (v : List ℕ) (b : Bool) (c f : Forest Item) → IsCharText v → ItemsChars c → ItemsChars f → ItemsChars (glue (Text a e v b) c f)
-items_glued a e v b c Nil one below h = (one, below, tt)
-items_glued a e v b c (Cons (Text x y w p) d r) one below h = (texts_joined v w one h.0, items_joined c d below h.1, h.2)
-items_glued a e v b c (Cons (Element x y t) d r) one below h = (one, below, h)
-items_glued a e v b c (Cons (Comment x y t) d r) one below h = (one, below, h)
-items_glued a e v b c (Cons (PI x y t o) d r) one below h = (one, below, h)
+items_glued a e v b c f one below h = grind (arith, texts_joined, items_joined)
 
 -- With its texts merged.
 items_merged : (f : Forest Item) → ItemsChars f → ItemsChars (merge f)
@@ -82,13 +69,7 @@ items_merged (Cons (PI a e t o) c r) h = (h.0, h.1, items_merged r h.2)
 
 -- Where a run stops, a character begins.
 stop_cut : (src : List ℕ) (i : ℕ) → IsCharBoundary src i → IsCharBoundary src (byte_from (λ c. c == 60) src i)
-stop_cut src i cut =
-    let stop = byte_from (λ c. c == 60) src i in
-    let bound = from_bound (λ c. c == 60) src i cut.0 in
-    elim (cases_lt stop (length src)) as (λ s. IsCharBoundary src stop) [
-      | inl l ↦ cut_at src stop 60 (eqb-true _ _ (from_here (λ c. c == 60) src i l)) (omega arith) (omega arith)
-      | inr g ↦ (let e : length src ≡ stop = omega arith in subst (λ (m : ℕ). IsCharBoundary src m) e (IsCharBoundary-end src))
-    ]
+stop_cut src i cut = grind (arith, from_bound, from_here)
 
 -- The text of a comment.
 comment_text : (src : List ℕ) (i e j : ℕ) → IsUtf8 src → IsComment src i e j → IsCharText (slice src (i + 4) e)
@@ -113,8 +94,7 @@ section_text src i e j utf8 is =
 
 -- If it has a character.
 if_some : (v : List ℕ) → IsCharText v → IfSome (none_if_empty v) IsCharText
-if_some [] h = tt
-if_some (b ∷ bs) h = h
+if_some v h = grind arith
 
 -- The target and the value of a processing instruction.
 instruction_text : (src : List ℕ) (i n e j : ℕ) → IsUtf8 src → IsPI src i n e j → IsCharText (slice src (i + 2) n) × IfSome (none_if_empty (slice src (spaces_end src n) e)) IsCharText
@@ -128,8 +108,7 @@ instruction_text src i n e j utf8 is =
 
 -- Comments and processing instructions.
 misc_item : (src : List ℕ) (i j : ℕ) (item : Item) → IsUtf8 src → IsMisc src i j item → ItemChars item
-misc_item src i j item utf8 (comment _ e _ is) = comment_text src i e j utf8 is
-misc_item src i j item utf8 (instruction _ n e _ is) = instruction_text src i n e j utf8 is
+misc_item src i j item utf8 k = grind (arith, comment_text, instruction_text)
 
 -- A character begins after a comment and an instruction.
 misc_cut : (src : List ℕ) (i j : ℕ) (item : Item) → IsUtf8 src → IsMisc src i j item → IsCharBoundary src j
@@ -208,9 +187,7 @@ opens_chars es texts (suc d) main =
       content = λ name b items c (t, r, l, found, spends, is).
           let text = texts name t found in
           content_items false (Includes es d false) inner t.source text.0 t.start (length t.source) r l items text.1 is;
-      value = λ name b v c (t, r, l, found, spends, chars, is).
-          let text = texts name t found in
-          value_chars t.source text.0 t.start (length t.source) text.1 (IsCharBoundary-end t.source) chars false (Includes es d false) inner r l v is;
+      value = grind (arith, value_chars);
     }
 
 -- ---- what is around the root element
@@ -228,13 +205,10 @@ subset_items src i j items asked es utf8 (skipped_declaration _ _ _ _ _ _ _ rest
 subset_items src i j items asked es utf8 (an_entity_declared _ k _ _ front more one others is rest) = subset_items src k j items more others utf8 rest
 
 doctype_itself : (src : List ℕ) (i j : ℕ) (items : Forest Item) (asked : List Asked) (es : List Entity) → IsUtf8 src → IsDoctype src i j items asked es → ItemsChars items
-doctype_itself src i j items asked es utf8 (no_subset _ s begins here) = tt
-doctype_itself src i j items asked es utf8 (with_subset _ s k _ _ _ begins here is close end) = subset_items src (s + 1) k items asked es utf8 is
+doctype_itself src i j items asked es utf8 k = grind (arith, subset_items)
 
 doctype_items : (src : List ℕ) (i j : ℕ) (dtd : Bool) (items : Forest Item) (asked : List Asked) (es : List Entity) → IsUtf8 src → MayHaveDoctype src i j dtd items asked es → ItemsChars items
-doctype_items src i j dtd items asked es utf8 (no_doctype _) = tt
-doctype_items src i j dtd items asked es utf8 (doctype _ k _ front more _ _ is rest) =
-    items_joined front more (doctype_itself src i k front asked es utf8 is) (misc_items src k j more utf8 rest)
+doctype_items src i j dtd items asked es utf8 k = grind (arith, items_joined, doctype_itself, misc_items)
 
 -- A document.
 pub parse_items : (src : List ℕ) (dtd : Bool) (asked : List Asked) (tree : Forest Item) → IsUtf8 src → ParseOf src dtd asked tree → ItemsChars tree
@@ -245,5 +219,4 @@ parse_items src dtd asked tree utf8 whole =
     let nodes = doctype_items src p.begun p.start dtd p.nodes asked p.entities utf8 p.doctype in
     let after = misc_items src p.end (length src) p.after utf8 p.misc_after in
     let before = misc_items src p.prolog.0 p.begun p.before utf8 p.prolog.2 in
-    subst (λ (f : Forest Item). ItemsChars f) (sym p.is_tree)
-    (items_joined p.before (join p.nodes (join p.one p.after)) before (items_joined p.nodes (join p.one p.after) nodes (items_joined p.one p.after one after)))
+    grind (arith, items_joined)

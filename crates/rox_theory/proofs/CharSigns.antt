@@ -1,27 +1,25 @@
 -- What is read of characters and references to them, in a run or a value, is a text of Chars.
-use Rattle.std.proofs.Common.{◌≡◌, ◌≢◌, ℕ, suc, ◌+◌, ◌<◌, ◌≤◌, ◌==◌, Bool, true, false, ◌||◌, ltb, leb, List, [], ◌∷◌, ◌++◌, length, get_or, refl, sym, ap, ◌∙◌, subst, arith, inl, inr, ◌⊎◌, append_assoc}
-use Rattle.std.specs.Prelude.{Option, Some, bytes_eq}
+use Rattle.std.proofs.Common.{◌≡◌, ◌≢◌, ℕ, suc, ◌+◌, ◌<◌, ◌≤◌, ◌==◌, Bool, true, false, ◌||◌, List, [], ◌∷◌, ◌++◌, length, get_or, refl, sym, ap, ◌∙◌, subst, arith, inl, inr, ◌⊎◌, append_assoc}
+use Rattle.std.specs.Prelude.{Some}
 use Rattle.std.specs.Char.{encode_utf8}
 use Rattle.std.specs.List.{list_all}
 use Rattle.std.specs.Str.{chars, IsUtf8, IsCharBoundary}
-use Rattle.std.proofs.Math.Utf8.{encodes, scalar, scalars, low_scalar}
-use Rattle.std.proofs.lemmas.Bool.{and_parts, and_from, or_cases, ltb-true, leb-true, ne_eqb, le-ltb, lt-ltb, cond_both, cases_eq}
+use Rattle.std.proofs.Math.Utf8.{encodes, scalar, scalars}
+use Rattle.std.proofs.lemmas.Bool.{and_parts, ne_eqb, cond_both, cases_eq}
 use Rattle.std.proofs.lemmas.List.{append-nil}
 use Rattle.std.proofs.lemmas.Str.{encodes-chars, scalars-chars, encode_ascii, inside_one}
-use Rattle.rox_grammar.specs.Chars.{is_between, is_char, is_name_char, is_part_char}
+use Rattle.rox_grammar.specs.Chars.{is_char, is_name_char, is_part_char}
 use Rattle.rox_grammar.specs.CharText.{IsCharText}
 use Rattle.rox_grammar.specs.Forest.{Forest, Nil, Cons, join}
 use Rattle.rox_grammar.specs.Written.{Item}
 use Rattle.rox_grammar.specs.Names.{byte, slice}
 use Rattle.rox_grammar.specs.Constructs.{AreChars}
 use Rattle.rox_grammar.specs.References.{number, character, predefined, IsNumber, IsCharacter, decimal, hexadecimal, named, entity_reference}
-use Rattle.rox_grammar.specs.Runs.{first_passes}
-use Rattle.rox_grammar.specs.Content.{is_literal, Inclusion, DataByte, literal, data_bytes_of, literals, line_ends, piece, Part, part_ends, as_written, from_reference, last_part, then_entity, value_bytes, Value, value_ends, line_end, white, other, a_character, an_entity}
+use Rattle.rox_grammar.specs.Content.{Inclusion, DataByte, literal, data_bytes_of, literals, line_ends, piece, Part, part_ends, as_written, from_reference, last_part, then_entity, value_bytes, Value, value_ends, line_end, white, other, a_character, an_entity}
 use Rattle.rox_grammar.specs.RunParts.{Parts}
 use Rattle.rox_reading.proofs.Stretches.{range_parts}
 use Rattle.rox_theory.specs.CharItems.{ItemsChars}
 use Rattle.rox_theory.proofs.Productions.{number_parts, reference_parts}
-use Rattle.rox_theory.proofs.Basics.{chosen}
 use Rattle.rox_theory.proofs.NameLemmas.{slice_nil}
 use Rattle.rox_theory.proofs.StretchLemmas.{slice_cons}
 use Rattle.rox_theory.proofs.ReferenceLemmas.{reference_opens, character_opens}
@@ -43,18 +41,7 @@ IsAllowed c = (scalar c ≡ true) × (is_char c ≡ true)
 
 -- No number stands for a surrogate, or for none.
 number_scalar : (n : ℕ) → scalar (character n) ≡ true
-number_scalar n =
-    cond_both (ltb n 0xD800 || is_between 0xE000 0x10FFFF n) n 0xFFFD (λ (c : ℕ). scalar c ≡ true)
-    (λ h. elim (or_cases (ltb n 0xD800) (is_between 0xE000 0x10FFFF n) h) as (λ s. scalar n ≡ true) [
-      | inl low ↦ low_scalar n (ltb-true n 0xD800 low)
-      | inr high ↦ (
-          let ends = and_parts (leb 0xE000 n) (leb n 0x10FFFF) high in
-          let below = leb-true n 0x10FFFF ends.1 in
-          let from = leb-true 0xE000 n ends.0 in
-          let no = le-ltb n 0xD800 (omega arith) in
-          rw no (and_from (leb 0xE000 n) (ltb n 1114112) ends.0 (lt-ltb n 1114112 (omega arith))))
-    ])
-    (λ other. refl)
+number_scalar n = grind arith
 
 -- A character begins after a reference, and its character is a Char.
 abbrev pub Referenced : List ℕ → ℕ → ℕ → Type 0
@@ -68,14 +55,7 @@ of_number base is src d c j utf8 m =
 
 -- One of the five names.
 of_name : (name : List ℕ) (c : ℕ) → predefined name ≡ Some c → IsAllowed c
-of_name name c h =
-    let one : (b : ℕ) → IsAllowed b → ◌≡◌ {A = Option ℕ} (Some b) (Some c) → IsAllowed c = λ b fine e. (let same : b ≡ c = cc in subst (λ (x : ℕ). IsAllowed x) same fine) in
-    chosen (bytes_eq name (108 ∷ 116 ∷ [])) _ _ _ h (λ is e. one 60 (refl, refl) e)
-    (λ no h. chosen (bytes_eq name (103 ∷ 116 ∷ [])) _ _ _ h (λ is e. one 62 (refl, refl) e)
-    (λ no h. chosen (bytes_eq name (97 ∷ 109 ∷ 112 ∷ [])) _ _ _ h (λ is e. one 38 (refl, refl) e)
-    (λ no h. chosen (bytes_eq name (113 ∷ 117 ∷ 111 ∷ 116 ∷ [])) _ _ _ h (λ is e. one 34 (refl, refl) e)
-    (λ no h. chosen (bytes_eq name (97 ∷ 112 ∷ 111 ∷ 115 ∷ [])) _ _ _ h (λ is e. one 39 (refl, refl) e)
-    (λ no h. cc)))))
+of_name name c h = grind arith
 
 -- A reference to a character.
 pub referenced : (src : List ℕ) (i c j : ℕ) → IsUtf8 src → IsCharacter src i c j → Referenced src c j
@@ -105,9 +85,7 @@ no_return c k no_cr below =
 -- Bytes but CR need no replacement.
 bytes_stay : (bs : List ℕ) (ss : List DataByte) → ((k : ℕ) → k < length bs → get_or bs k 0 ≢ 13) → line_ends (literals bs ++ ss) ≡ bs ++ line_ends ss
 bytes_stay [] ss none = refl
-bytes_stay (b ∷ bs) ss none =
-    let cr = ne_eqb b 13 (none 0 (omega arith)) in
-    rw cr (ap (λ (r : List ℕ). b ∷ r) (bytes_stay bs ss (λ k below. none (suc k) (omega arith))))
+bytes_stay (b ∷ bs) ss none = grind (arith, ne_eqb b 13 (none 0 (omega arith)), bytes_stay bs ss (λ k below. none (suc k) (omega arith)))
 
 -- Characters in front.
 chars_front : (cs : List ℕ) (ss : List DataByte) → scalars cs ≡ true → list_all is_char cs ≡ true → SignChars ss → SignChars (literals (encodes cs) ++ ss)
@@ -121,8 +99,7 @@ chars_front (c ∷ cs) ss s h rest =
     let feed : IsCharText (10 ∷ line_ends all) = texts_joined (10 ∷ []) (line_ends all) (byte_text 10 (omega arith) refl) more in
     subst SignChars (sym split)
     (elim (cases_eq c 13) as (λ s. SignChars (literals (encode_utf8 c) ++ all)) [
-      | inl cr ↦ rw (cr, encode_ascii 13 (omega arith))
-          (cond_both (first_passes (is_literal 10) all) (line_ends all) (10 ∷ line_ends all) (λ (v : List ℕ). IsCharText v) (λ lf. more) (λ no_lf. feed))
+      | inl cr ↦ grind (arith, encode_ascii)
       | inr no_cr ↦ (
           let stay = bytes_stay (encode_utf8 c) all (λ k below. no_return c k no_cr below) in
           rw stay (texts_joined (encode_utf8 c) (line_ends all) (char_text c s'.0 h'.0) more))
@@ -136,8 +113,7 @@ text_front true v ss h rest = subst (λ (w : List ℕ). IsCharText w) (sym (kept
 
 -- The text of a part.
 pub piece_items : (i j : ℕ) (borrowed : Bool) (ss : List DataByte) → SignChars ss → ItemsChars (piece i j borrowed ss)
-piece_items i j borrowed [] h = tt
-piece_items i j borrowed (s ∷ ss) h = (h, tt, tt)
+piece_items i j borrowed ss h = grind arith
 
 -- ---- items
 
@@ -167,10 +143,7 @@ module _ (src : List ℕ) (utf8 : IsUtf8 src) (start stop : ℕ) (first : IsChar
   -- The signs of a part, with what is in front of it.
   part_signs : (main : Bool) (p i : ℕ) (ss : List DataByte) → Part main src p i ss → IsCharBoundary src p → p ≤ stop → (k : ℕ) → start ≤ k → k ≤ i → IsCharBoundary src k → SignChars (literals (slice src k i) ++ ss)
   part_signs main p i ss part_ends cut le k from on front = text_front false (slice src k p) [] (stretch k p from on le front cut) no_signs
-  part_signs main p i ss (as_written _ more within no_amp rest) cut le k from on front =
-      subst (λ (r : List DataByte). SignChars r)
-      (ap (λ (v : List ℕ). literals v ++ more) (grown k i on (omega arith)) ∙ literals_append (slice src k i) (byte src i ∷ []) more)
-      (part_signs main p (i + 1) more rest cut le k from (omega arith) front)
+  part_signs main p i ss (as_written _ more within no_amp rest) cut le k from on front = grind (arith, part_signs main p (i + 1) more rest cut le k from (omega arith) front, grown, literals_append)
   part_signs main p i ss (from_reference _ n c more is within rest) cut le k from on front =
       let opens = character_opens src i c n is in
       let amp = opens.0 in
@@ -206,9 +179,7 @@ module _ (src : List ℕ) (utf8 : IsUtf8 src) (start stop : ℕ) (first : IsChar
       white_front later (inl tab) = white_at later 9 tab (omega arith) (omega arith)
       white_front later (inr (inl lf)) = white_at later 10 lf (omega arith) (omega arith)
       white_front later (inr (inr (cr, alone))) = white_at later 13 cr (omega arith) (omega arith)
-  value_front main O oc i b c v (other _ _ _ w more x₁ x₂ x₃ x₄ x₅ rest) k from on front =
-      let later = value_front main O oc (i + 1) b c w rest k from (omega arith) front in
-      subst (λ (r : List ℕ). IsCharText r) (ap (λ (r : List ℕ). r ++ w) (grown k i on more) ∙ append_assoc (slice src k i) (byte src i ∷ []) w) later
+  value_front main O oc i b c v (other _ _ _ w more x₁ x₂ x₃ x₄ x₅ rest) k from on front = grind (arith, value_front main O oc (i + 1) b c w rest k from (omega arith) front, grown, append_assoc)
   value_front main O oc i b c v (a_character _ n x _ _ w is within allowed rest) k from on front =
       let opens = character_opens src i x n is in
       let amp = opens.0 in
@@ -236,11 +207,7 @@ module _ (src : List ℕ) (utf8 : IsUtf8 src) (start stop : ℕ) (first : IsChar
   -- Parts end where the run does, or before.
   parts_within : (main : Bool) (O : Inclusion) (from i b c : ℕ) (items : Forest Item) → Parts main O src from stop i b c items → i ≤ stop
   parts_within main O from i b c items (last_part _ _ ss part) = let h = part_bytes main src stop i ss part in omega (arith, h)
-  parts_within main O from i b d items (then_entity _ p j _ c _ _ ss front more part (entity_reference n reference name) opened rest) =
-      let h = part_bytes main src p i ss part in
-      let k = reference_onward src p n j reference in
-      let l = parts_within main O from j c d more rest in
-      omega (arith, h, k, l)
+  parts_within main O from i b d items (then_entity _ p j _ c _ _ ss front more part (entity_reference n reference name) opened rest) = grind (arith, part_bytes main src p i ss part, reference_onward src p n j reference, parts_within main O from j c d more rest)
 
   -- The parts of a run.
   pub parts_items : (main : Bool) (O : Inclusion) → OpensChars O → (from i b c : ℕ) (items : Forest Item) → Parts main O src from stop i b c items → start ≤ i → IsCharBoundary src i → ItemsChars items
@@ -251,5 +218,4 @@ module _ (src : List ℕ) (utf8 : IsUtf8 src) (start stop : ℕ) (first : IsChar
       let l = parts_within main O from j c d more rest in
       let amp = cut_at src p 38 (reference_parts reference).opens (omega arith) (omega arith) in
       let next = cut_behind src n 59 j utf8 (reference_parts reference).closes (omega arith) (omega arith) (reference_parts reference).next in
-      items_joined (piece from stop false ss) (join front more) (piece_items from stop false ss (part_chars main p i ss part amp (omega (arith, k, l)) on cut))
-      (items_joined front more (oc.content _ b front c opened) (parts_items main O oc from j c d more rest (omega (arith, h, k)) next))
+      grind (arith, parts_items main O oc from j c d more rest (omega (arith, h, k)) next, items_joined, part_chars)

@@ -34,9 +34,7 @@ texts_joined v w a b = record { utf8 = IsUtf8-append v w a.utf8 b.utf8; all = al
 
 -- And one that is cut is two.
 text_cut : (v w : List ℕ) → IsUtf8 v → IsUtf8 w → IsCharText (v ++ w) → IsCharText v × IsCharText w
-text_cut v w a b h =
-    let both = and_parts (list_all is_char (chars v)) (list_all is_char (chars w)) (sym (all_joined v w a) ∙ h.all) in
-    (record { utf8 = a; all = both.0 }, record { utf8 = b; all = both.1 })
+text_cut v w a b h = grind (arith, all_joined)
 
 -- Characters in a row.
 chars_text : (cs : List ℕ) → scalars cs ≡ true → list_all is_char cs ≡ true → IsCharText (encodes cs)

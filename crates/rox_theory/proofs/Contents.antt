@@ -1,8 +1,8 @@
 -- Content that a reference opens, by the number of texts that may still be open, over the agreement of single steps.
-use Rattle.std.proofs.Common.{◌≡◌, ℕ, zero, suc, ◌+◌, ◌<◌, ◌≤◌, Bool, false, eqb, List, length, nat_lt, refl, sym, ap, ◌∙◌, subst, arith, lt-ltb, ltb-true}
+use Rattle.std.proofs.Common.{◌≡◌, ℕ, zero, suc, ◌+◌, ◌<◌, ◌≤◌, Bool, false, List, length, nat_lt, refl, sym, ap, ◌∙◌, subst, arith, lt-ltb, ltb-true}
 use Rattle.std.specs.Prelude.{Some, Ok}
 use Rattle.std.specs.Str.{IsUtf8}
-use Rattle.std.proofs.lemmas.Bool.{eqb-true, eq-eqb, ltb-false, le-ltb}
+use Rattle.std.proofs.lemmas.Bool.{eq-eqb, ltb-false, le-ltb}
 use Rattle.rox_grammar.specs.Forest.{Forest, join}
 use Rattle.rox_grammar.specs.Written.{Item}
 use Rattle.rox_grammar.specs.Content.{Inclusion}
@@ -33,9 +33,7 @@ module _ (context : Context) (O : Inclusion) (src : List ℕ) (steps : StepsAgre
 
   -- A text ends.
   ends_sound : (most : ℕ) (s u : State) → s.at ≡ length src → IsValidState most s → text_ends context s ≡ Ok u → Chained s u × IsValidState most u
-  ends_sound most s u at fine h = chosen (eqb (depth_of s.stack) context.open_around) _ _ _ h
-      (λ same h. subst (λ (v : State). Chained s v × IsValidState most v) (ok_same _ _ h) (arrives s at (eqb-true _ _ same), fine))
-      (λ apart h. cc)
+  ends_sound most s u at fine h = grind (arith, arrives)
 
   -- What is read is a chain.
   pub drive_text_sound : (n most : ℕ) (s u : State) → context.limit ≤ most → s.at ≤ length src → length src ≤ s.at + n → IsValidState most s → drive_text context n src s ≡ Ok u → Chained s u × IsValidState most u

@@ -1,5 +1,5 @@
 -- A chain of constructs of the main text as its root element.
-use Rattle.std.proofs.Common.{◌≡◌, ℕ, Bool, true, false, List, refl, sym, subst}
+use Rattle.std.proofs.Common.{◌≡◌, ℕ, Bool, true, false, List, refl, sym, subst, arith}
 use Rattle.rox_grammar.specs.Forest.{Forest, Nil, Cons, join}
 use Rattle.rox_grammar.specs.Written.{Tag, Item, Element, merge, leaf}
 use Rattle.rox_grammar.specs.Constructs.{IsEnd}
@@ -24,9 +24,7 @@ module _ (O : Inclusion) (src : List ℕ) where
   extends : (i j b c : ℕ) (done items : Forest Item) (stack : Open) (u : State) → is_root stack ≡ false
       → ((l d : ℕ) (more : Forest Item) → Content true O src j l c d more → Content true O src i l b d (join items more))
       → Completes j c (join done items) stack u → Completes i b done stack u
-  extends i j b c done items root u inner front h = cc inner
-  extends i j b c done items (inside start tag before up) u inner front (more, m, p, e, r, is, end, rest) =
-      (join items more, m, p, e, r, front m r more is, end, rw join_assoc at rest)
+  extends i j b c done items stack u inner front h = grind (arith, join_assoc)
 
   -- One construct in front.
   takes_completes : (s t u : State) → StepsOver true O src 0 s t → is_root s.stack ≡ false → Completes t.at t.openings_left t.done t.stack u → Completes s.at s.openings_left s.done s.stack u
@@ -49,8 +47,7 @@ module _ (O : Inclusion) (src : List ℕ) where
 
   -- At the root nothing has to follow.
   at_root : (i b : ℕ) (done : Forest Item) (stack : Open) → is_root stack ≡ true → Completes i b done stack (state i done stack b)
-  at_root i b done root h = refl
-  at_root i b done (inside start tag before up) h = cc h
+  at_root i b done stack h = grind arith
 
   -- A chain is what completes its first state.
   drives_completes : (s u : State) → Drives O src s u → Completes s.at s.openings_left s.done s.stack u

@@ -32,7 +32,6 @@ use Rattle.rox_theory.specs.ValidState.{IsValidState, state}
 use Rattle.rox_theory.proofs.Basics.{ok_same, chosen, within, run_end_le}
 use Rattle.rox_theory.proofs.Asking.{asking_ok, asks_none, nothing_lifted_ok}
 use Rattle.rox_theory.proofs.Constructions.{comment_bytes, instruction_bytes}
-use Rattle.rox_theory.proofs.LiteralLemmas.{quote_ascii}
 use Rattle.rox_theory.proofs.CharTexts.{cut_at, cut_behind}
 use Rattle.rox_theory.proofs.Leaves.{fine_there, fine_before}
 use Rattle.rox_theory.proofs.DoctypeParts.{passed_end}
@@ -67,7 +66,6 @@ each_named (e ∷ es) each name t h =
 module _ (src : List ℕ) (utf8 : IsUtf8 src) where
   quoted_text : (i e j : ℕ) → IsQuoted src i e j → IsText (record { source = take e src; start = i + 1 })
   quoted_text i e j q =
-      let low = quote_ascii (byte src i) q.0 in
       let closes = quoted_closes src i e j q in
       let le = quoted_le src i e j q in
       let cut = cut_at src e (byte src i) closes (omega arith) (omega arith) in
@@ -97,8 +95,7 @@ module _ (src : List ℕ) (utf8 : IsUtf8 src) where
   subset_texts i k items asked es (an_entity _ j _ _ first more one others is rest) = each_both one others (declared_text i j first one is) (subset_texts j k items more others rest)
 
   doctype_texts : (i j : ℕ) (items : Forest Item) (asked : List Asked) (es : List Entity) → IsDoctype src i j items asked es → EachIsText es
-  doctype_texts i j items asked es (no_subset _ s begins closes) = tt
-  doctype_texts i j items asked es (with_subset _ s k _ _ _ begins bracket rest ends closes) = subset_texts (s + 1) k items asked es rest
+  doctype_texts i j items asked es h = grind (arith, subset_texts)
 
   -- Each entity that is declared is text.
   pub texts_agree : (i j : ℕ) (dtd : Bool) (nodes : Forest Item) (asked : List Asked) (es : List Entity) → MayHaveDoctype src i j dtd nodes asked es → AreTexts es
@@ -157,11 +154,7 @@ module _ (src : List ℕ) (utf8 : IsUtf8 src) where
   subset_outcome_is most i s d begins bracket here_is (asked, Ok e) h =
       let o : Opened src d.state.at = record { s = s; begins = rw here_is begins; bracket = bracket } in
       let r = h.1 in
-      let found : (IsDoctype src d.state.at e.state.at r.items asked r.es × IsCharBoundary src e.state.at) ⊎ (length src ≤ e.state.at) =
-      elim r.found as (λ _. (IsDoctype src d.state.at e.state.at r.items asked r.es × IsCharBoundary src e.state.at) ⊎ (length src ≤ e.state.at)) [
-        | inl c ↦ inl (closed_doctype d.state.at s e.state.at r.items asked r.es o.begins bracket c)
-        | inr cut ↦ inr cut
-      ] in
+      let found : (IsDoctype src d.state.at e.state.at r.items asked r.es × IsCharBoundary src e.state.at) ⊎ (length src ≤ e.state.at) = grind (arith, closed_doctype) in
       (inr (o, h.0), record { items = r.items; es = r.es; found = found; state_is = r.state_is; entities_are = r.entities_are; fine = r.fine })
   subset_outcome_is most i s d begins bracket here_is (asked, Err e) h =
       let o : Opened src d.state.at = record { s = s; begins = rw here_is begins; bracket = bracket } in

@@ -20,7 +20,7 @@ use Rattle.rox_theory.proofs.Basics.{ok_same, bind_ok, chosen, within, byte_soun
 use Rattle.rox_theory.proofs.NameLemmas.{name_sound, name_complete}
 use Rattle.rox_theory.proofs.CharLemmas.{space_some, some_run, begins_byte, space_ascii}
 use Rattle.rox_theory.proofs.LiteralLemmas.{from_le, from_here, quote_sound, quote_complete, quote_ascii}
-use Rattle.rox_theory.proofs.DeclarationLemmas.{stands_reads, stands_fits}
+use Rattle.rox_theory.proofs.DeclarationLemmas.{stands_reads}
 use Rattle.rox_theory.proofs.CharTexts.{cut_behind, run_cut}
 use Rattle.rox_theory.proofs.Places.{begins_within}
 use Rattle.rox_theory.proofs.DoctypeParts.{BeginsParts, begins_parts, CutsNotation, cuts_name}
@@ -74,15 +74,10 @@ quoted_sound src i x h =
 
 -- It ends at the quote that it begins with, after which a character begins.
 pub quoted_closes : (src : List ℕ) (i e j : ℕ) → IsQuoted src i e j → byte src e ≡ byte src i
-quoted_closes src i e j q =
-    let is = q.1 in let inside = q.2 in
-    let h = from_here (λ c. c == byte src i) src (i + 1) (rw (← is) inside) in
-    eqb-true _ _ (rw (← is) at h)
+quoted_closes src i e j q = grind (arith, from_here)
 
 pub quoted_le : (src : List ℕ) (i e j : ℕ) → IsQuoted src i e j → (i + 1 ≤ e) × (e < j) × (j ≤ length src)
-quoted_le src i e j q =
-    let is = q.1 in let inside = q.2 in let next = q.3 in
-    (omega (arith, from_le (λ c. c == byte src i) src (i + 1)), omega arith, omega arith)
+quoted_le src i e j q = grind (arith, from_le)
 
 pub quoted_cut : (src : List ℕ) (i e j : ℕ) → IsUtf8 src → IsQuoted src i e j → IsCharBoundary src j
 quoted_cut src i e j utf8 q =
@@ -290,7 +285,6 @@ kind_complete src i parameter j utf8 (grammar.general _ apart) = let e = ne_eqb 
 
 kind_cut : (src : List ℕ) (i : ℕ) (parameter : Bool) (j : ℕ) → IsUtf8 src → IsCharBoundary src i → IsKind src i parameter j → IsCharBoundary src j × (i ≤ j)
 kind_cut src i parameter j utf8 cut (grammar.of_parameter _ _ is sp) =
-    let some = sp.0 in
     (space_cut src (i + 1) j utf8 (cut_behind src i 37 (i + 1) utf8 is (omega arith) (omega arith) refl) sp, omega arith)
 kind_cut src i parameter j utf8 cut (grammar.general _ apart) = (cut, omega arith)
 
@@ -333,7 +327,6 @@ pub head_moves : (src : List ℕ) (i : ℕ) (parameter : Bool) (n m d : ℕ) →
 head_moves src i parameter n m d utf8 is =
     let b = begins_parts is in
     let c = head_cuts src i parameter n m d utf8 b in
-    let fits = stands_fits (word_text word.EntityStart) src i (omega arith) b.opens in
     (c.forward, omega arith)
 
 -- What is there is read.
@@ -365,8 +358,7 @@ if_sound src i x h =
 
 -- The word of an external id is where one does.
 external_word : (src : List ℕ) (i : ℕ) (request : Request) (j : ℕ) → IsExternalID src i request j → (at word.System src i || at word.Public src i) ≡ true
-external_word src i request j (system _ s e _ is sp q) = or_left _ _ is
-external_word src i request j (public _ p d k s e _ is sp q sp' q') = or_right _ _ is
+external_word src i request j h = grind arith
 
 pub if_complete : (src : List ℕ) (i j : ℕ) → IsUtf8 src → MayHaveExternalID src i j → external_id_if src i ≡ Ok (tt, j)
 unfolding external_id_if
@@ -378,8 +370,7 @@ if_complete src i j utf8 (no_external_id _ a b) = rw (a, b) refl
 
 -- Past the end there is none.
 if_past : (src : List ℕ) (i j : ℕ) → IsUtf8 src → length src ≤ i → MayHaveExternalID src i j → i ≤ j
-if_past src i j utf8 past (external_id _ _ request is) = let c = external_cut src i request j utf8 is in omega (arith, c.1)
-if_past src i j utf8 past (no_external_id _ a b) = omega arith
+if_past src i j utf8 past p = grind (arith, external_cut)
 
 -- What is read is there, unless the text is cut off before the name.
 pub doctype_head_sound : (src : List ℕ) (i : ℕ) (x : Unit {0} × ℕ) → IsUtf8 src → at word.DoctypeStart src i ≡ true → doctype_head_at src i ≡ Ok x → x.1 < length src → BeginsDoctype src i x.1

@@ -1,15 +1,15 @@
 -- Declarations of entities: what is read is there, with what is asked for it, and what is there is read, whatever replies follow.
-use Rattle.std.proofs.Common.{◌≡◌, ℕ, ◌+◌, ◌<◌, ◌≤◌, ◌⊎◌, Bool, true, cond, List, [], ◌∷◌, ◌++◌, length, take, drop, Option, Result, refl, sym, ap, subst, arith, inl, inr}
+use Rattle.std.proofs.Common.{◌≡◌, ℕ, ◌+◌, ◌<◌, ◌≤◌, ◌⊎◌, Bool, true, cond, List, [], ◌++◌, length, take, drop, Option, Result, refl, sym, ap, subst, arith, inl, inr}
 use Rattle.std.specs.Prelude.{Ok, Err, Some, None, IfSome}
 use Rattle.std.specs.Str.{IsUtf8, IsCharBoundary}
 use Rattle.rox_grammar.specs.declared.fault.Fault.{Fault}
 use Rattle.rox_grammar.specs.declared.fault.Word.TheVariants as word
-use Rattle.rox_grammar.specs.Chars.{is_space, is_name_char}
+use Rattle.rox_grammar.specs.Chars.{is_space}
 use Rattle.rox_grammar.specs.Names.{byte, slice, spaces_end}
 use Rattle.rox_grammar.specs.FixedTexts.{at}
 use Rattle.rox_grammar.specs.TextStart.{after_bom, MayHaveXmlDecl, declared, not_declared}
 use Rattle.rox_grammar.specs.Entities.{Replacement, Entity}
-use Rattle.rox_grammar.specs.Doctype.{Request, Asked, MayHaveNotation, notation, no_notation, of_parameter, GivesReplacement, nothing, the_rest, IsDefinition, internal, external, BeginsEntity, AsksAt, external_entity, entry, IsEntityDeclaration, entity_declaration}
+use Rattle.rox_grammar.specs.Doctype.{Request, Asked, MayHaveNotation, GivesReplacement, nothing, the_rest, IsDefinition, internal, external, BeginsEntity, AsksAt, external_entity, entry, IsEntityDeclaration, entity_declaration}
 use Rattle.rox_reading.specs.Lexical.{byte_at}
 use Rattle.rox_reading.specs.Markup.{xml_decl_at}
 use Rattle.rox_reading.specs.Refusals.{Refusal, here, there, refused}
@@ -20,7 +20,7 @@ use Rattle.rox_reading.proofs.Settling.{once, declared_there, entity_run, inner_
 use Rattle.rox_theory.proofs.Basics.{ok_same, chosen, within, byte_sound, byte_complete, run_end_le}
 use Rattle.rox_theory.proofs.DeclarationLemmas.{declaration_opens, declaration_sound, declaration_complete}
 use Rattle.rox_theory.proofs.CharTexts.{cut_behind}
-use Rattle.rox_theory.proofs.DoctypeParts.{declaration_parts, CutsNotation, notation_past, asks_at}
+use Rattle.rox_theory.proofs.DoctypeParts.{declaration_parts, CutsNotation, asks_at}
 use Rattle.rox_theory.proofs.DoctypeLemmas.{quoted_le, external_cut, head_sound, head_complete, head_moves, definition_sound, inner_complete, outer_complete}
 
 -- What a result is.
@@ -68,8 +68,7 @@ answer_fault (Some t) e h =
 
 -- What is answered is a text in UTF-8, or none.
 pub replied_text : (answer : Option (List ℕ)) → IsTextReply (Ok answer) → IfSome answer IsUtf8
-replied_text None h = tt
-replied_text (Some text) h = h
+replied_text answer h = grind arith
 
 given_text : (answer : Option (List ℕ)) (text : Option Replacement) → GivesReplacement answer text → IfSome answer IsUtf8
 given_text answer text nothing = tt
@@ -96,21 +95,15 @@ EntityOutcome src d (asked, Err (refused request p message)) = (asked ≡ []) ×
 
 -- A fault of the text.
 fault_outcome : (src : List ℕ) (d : Dtd) (asked : List Asked) (e : Refusal) → IsTextRefusal e → OnceAsked src d.state.at asked → EntityOutcome src d (asked, Err e)
-fault_outcome src d asked (here f) is h = h
-fault_outcome src d asked (there source f) is h = h
-fault_outcome src d asked (refused request p message) is h = absurd is
+fault_outcome src d asked e is h = grind arith
 
 -- The next reply and the others are text.
 pub next_text : (rs : List Reply) → AreTextReplies rs → IsTextReply (next_reply rs) × AreTextReplies (other_replies rs)
-next_text [] h = (tt, tt)
-next_text (r ∷ rs) h = h
+next_text rs h = grind arith
 
 -- Where the text is not cut off there is the name of a notation, if it is called for.
 not_cut : (src : List ℕ) (parameter : Bool) (i p : ℕ) → byte src (spaces_end src p) ≡ 62 → MayHaveNotation src parameter i p ⊎ CutsNotation src parameter i p → MayHaveNotation src parameter i p
-not_cut src parameter i p closes (inl may) = may
-not_cut src parameter i p closes (inr cuts) =
-    let inside = within src (spaces_end src p) (λ z. omega arith) in let past = notation_past cuts in
-    absurd (omega (arith, run_end_le is_space src p))
+not_cut src parameter i p closes k = grind (arith, within, run_end_le)
 
 module _ (src : List ℕ) (utf8 : IsUtf8 src) where
   module _ (d : Dtd) (opens : at word.EntityStart src d.state.at ≡ true) (texts : AreTextReplies d.replies) where
@@ -199,11 +192,7 @@ module _ (src : List ℕ) (utf8 : IsUtf8 src) where
 
   -- What it is goes forward.
   notation_moves : (parameter : Bool) (i j : ℕ) → MayHaveNotation src parameter i j → i ≤ j
-  notation_moves parameter i j (notation _ s _ is sp name) =
-      let l = name.longest in let some = sp.0 in
-      omega (arith, run_end_le is_space src i, run_end_le is_name_char src s)
-  notation_moves parameter i j (no_notation _ none) = omega (arith, run_end_le is_space src i)
-  notation_moves parameter i j (of_parameter _) = omega arith
+  notation_moves parameter i j h = grind (arith, run_end_le)
 
   definition_moves : (parameter : Bool) (i j : ℕ) (asked : List Asked) (text : Option Replacement) → IsDefinition src parameter i j asked text → i < j
   definition_moves parameter i j asked text (internal _ e _ q) = let le = quoted_le src i e j q in omega arith

@@ -9,6 +9,7 @@ use Rattle.std.proofs.lemmas.Str.{chars-encodes, encodes-chars, encodes-append, 
 use Rattle.std.proofs.Math.Seq.{drop-append_seam, take-add}
 use Rattle.std.proofs.Math.Utf8.{scalar, scalars}
 use Rattle.std.proofs.lemmas.Bool.Decides.{nat_tests}
+use Rattle.std.proofs.lemmas.Grind.{common_steps}
 use Rattle.rox_grammar.specs.declared.fault.Fault.{Fault}
 use Rattle.rox_grammar.specs.declared.fault.Expected.{Expected}
 use Rattle.rox_grammar.specs.declared.fault.Fault.TheVariants as fault
@@ -25,19 +26,16 @@ use Rattle.rox_theory.proofs.NameLemmas.{qname_complete}
 
 -- Where a sequence fails, its first step fails, or gives a value with which the rest fails.
 pub bind_err : {A B E P : Type 0} (r : Result A E) (f : A → Result B E) (e : E) → (r >>= f) ≡ Err e → (r ≡ Err e → P) → ((x : A) → r ≡ Ok x → f x ≡ Err e → P) → P
-bind_err (Ok x) f e h now later = later x refl h
-bind_err (Err d) f e h now later = now (cc h)
+bind_err r f e h now later = grind arith
 
 -- The same of a first step that opens no entity: its fault is in the source that is read.
 pub lifted_err : {A B P : Type 0} (r : Result A Fault) (f : A → Result B Refusal) (e : Refusal) → (lifted r >>= f) ≡ Err e → ((d : Fault) → r ≡ Err d → here d ≡ e → P)
     → ((x : A) → r ≡ Ok x → f x ≡ Err e → P) → P
-lifted_err (Ok x) f e h now later = later x refl h
-lifted_err (Err d) f e h now later = now d refl (cc h)
+lifted_err r f e h now later = grind arith
 
 -- And of one that is all.
 pub lifted_only : {A P : Type 0} (r : Result A Fault) (e : Refusal) → lifted r ≡ Err e → ((d : Fault) → r ≡ Err d → here d ≡ e → P) → P
-lifted_only (Ok x) e h go = cc h
-lifted_only (Err d) e h go = go d refl (cc h)
+lifted_only r e h go = grind arith
 
 -- What is read to one value is not read to another.
 pub ok_one : {A E : Type 0} (x y : A) (r : Result A E) → r ≡ Ok x → r ≡ Ok y → x ≡ y
@@ -54,22 +52,16 @@ no_fault x f h = cc h
 -- After the characters that pass, if any byte is left, stands one that fails.
 pub fails_in : (p : ℕ → Bool) (src cs : List ℕ) (i : ℕ) → drop i src ≡ encode_utf8_all cs → all_scalars cs ≡ true → i + passing p cs < length src
     → (c : ℕ) × (more : List ℕ) × (drop (i + passing p cs) src ≡ encode_utf8_all (c ∷ more)) × (p c ≡ false) × (all_scalars (c ∷ more) ≡ true)
-fails_in p src [] i is scalars some =
-    let n = length-drop i src in
-    let z : length (drop i src) ≡ 0 = rw is refl in
-    absurd (omega arith)
+fails_in p src [] i is scalars some = grind (arith, length-drop i src)
 fails_in p src (c ∷ cs) i is scalars some =
     elim (cases_Bool (p c)) as (λ s. (d : ℕ) × (more : List ℕ) × (drop (i + passing p (c ∷ cs)) src ≡ encode_utf8_all (d ∷ more)) × (p d ≡ false) × (all_scalars (d ∷ more) ≡ true)) [
       | inl passes ↦ (
-          let past : drop (len_utf8 c) (encode_utf8 c ++ encode_utf8_all cs) ≡ encode_utf8_all cs =
-          rw (← length-encode c) (drop-append_seam (encode_utf8 c) (encode_utf8_all cs)) in
+          let past : drop (len_utf8 c) (encode_utf8 c ++ encode_utf8_all cs) ≡ encode_utf8_all cs = grind (arith, common_steps, length-encode) in
           let rest : drop (i + len_utf8 c) src ≡ encode_utf8_all cs = sym (drop-drop (len_utf8 c) i src) ∙ ap (drop (len_utf8 c)) is ∙ past in
           let e : i + len_utf8 c + passing p cs ≡ i + passing p (c ∷ cs) = rw passes (omega arith) in
           let found = fails_in p src cs (i + len_utf8 c) rest (and_parts _ _ scalars).1 (omega arith) in
           (found.0, found.1, subst (λ (k : ℕ). drop k src ≡ encode_utf8_all (found.0 ∷ found.1)) e found.2, found.3, found.4))
-      | inr fails ↦ (
-          let e : i ≡ i + passing p (c ∷ cs) = rw fails (omega arith) in
-          (c, cs, subst (λ (k : ℕ). drop k src ≡ encode_utf8_all (c ∷ cs)) e is, fails, scalars))
+      | inr fails ↦ grind arith
     ]
 
 -- The first character of a row.
@@ -159,15 +151,7 @@ qname_fails src i f h =
 
 -- If all of them pass, each does.
 each_passes : (p : ℕ → Bool) (cs ds : List ℕ) (d : ℕ) → passing p (cs ++ d ∷ ds) ≡ length (encode_utf8_all (cs ++ d ∷ ds)) → p d ≡ true
-each_passes p [] ds d all =
-    elim (cases_Bool (p d)) as (λ s. p d ≡ true) [
-      | inl passes ↦ passes
-      | inr fails ↦ (
-          let n = length-append (encode_utf8 d) (encode_utf8_all ds) in
-          let m = length-encode d in let some = (len_utf8_bounds d).0 in
-          let z : 0 ≡ length (encode_utf8 d ++ encode_utf8_all ds) = rw fails at all in
-          absurd (omega arith))
-    ]
+each_passes p [] ds d all = grind (arith, length-append, length-encode)
 each_passes p (c ∷ cs) ds d all =
     let n = length-append (encode_utf8 c) (encode_utf8_all (cs ++ d ∷ ds)) in
     let m = length-encode c in let some = (len_utf8_bounds c).0 in

@@ -1,10 +1,9 @@
 -- Where a fixed text is first, and whether a stretch of the source holds one.
-use Rattle.std.proofs.Common.{◌≡◌, ℕ, zero, suc, ◌+◌, ◌-◌, ◌<◌, ◌≤◌, ◌||◌, ◌==◌, true, false, List, [], ◌∷◌, ◌++◌, length, take, drop, refl, sym, ap, ◌∙◌, subst, arith, inl, inr, get_or-drop, length-drop, length-take}
+use Rattle.std.proofs.Common.{◌≡◌, ℕ, zero, suc, ◌+◌, ◌-◌, ◌<◌, ◌≤◌, ◌||◌, ◌==◌, true, false, List, [], ◌∷◌, length, take, drop, refl, sym, ap, ◌∙◌, subst, arith, inl, inr, get_or-drop, length-drop, length-take}
 use Rattle.std.specs.List.{starts_with}
-use Rattle.std.proofs.lemmas.Bool.{cases_Bool, cases_lt, false_from_ne_true, false≢true, lt-ltb, le-ltb, eqb-true, eq-eqb, ne_eqb, or_from, or_left, or_right}
-use Rattle.std.proofs.lemmas.Bool.Decides.{Decides-eqb}
-use Rattle.std.proofs.lemmas.List.{append_assoc, take-append-drop, take-take, drop-take, drop-drop, get_or-take, get_or_past}
-use Rattle.std.proofs.lemmas.Slice.Eq.{starts_is}
+use Rattle.std.proofs.lemmas.Bool.{cases_Bool, cases_lt, false≢true, lt-ltb, le-ltb, eqb-true, eq-eqb, ne_eqb, or_from, or_left, or_right}
+use Rattle.std.proofs.lemmas.List.{take-take, drop-take, drop-drop, get_or-take}
+use Rattle.std.proofs.lemmas.Grind.{common_steps}
 use Rattle.rox_grammar.specs.FixedTexts.{word_text, double_dash}
 use Rattle.rox_grammar.specs.declared.fault.Word.TheVariants as word
 use Rattle.rox_grammar.specs.Search.{stands, before_mark, mark_from, byte_from}
@@ -21,11 +20,7 @@ use Rattle.rox_theory.proofs.LiteralLemmas.{from_here}
 
 -- A mark that begins a front begins the whole.
 no_front : (mark : List ℕ) (n : ℕ) (hay : List ℕ) → starts_with ◌==◌ hay mark ≡ false → starts_with ◌==◌ (take n hay) mark ≡ false
-no_front mark n hay none =
-    false_from_ne_true (starts_with ◌==◌ (take n hay) mark) (λ h.
-    let begins = (starts_is Decides-eqb (take n hay) mark true (sym h)).0 refl in
-    let longer : hay ≡ mark ++ (drop (length mark) (take n hay) ++ drop n hay) = sym (take-append-drop n hay) ∙ ap (λ (l : List ℕ). l ++ drop n hay) begins ∙ append_assoc mark (drop (length mark) (take n hay)) (drop n hay) in
-    false≢true (sym none ∙ (starts_is Decides-eqb hay mark _ refl).1 _ longer))
+no_front mark n hay none = grind (arith, common_steps)
 
 pub starts_take : (mark : List ℕ) (n : ℕ) (xs : List ℕ) → length mark ≤ n → starts_with ◌==◌ (take n xs) mark ≡ starts_with ◌==◌ xs mark
 starts_take mark n xs fits = rw (take-take (length mark) n xs fits) refl
@@ -46,11 +41,7 @@ first_stands mark (b ∷ bs) some =
 first_le : (mark hay : List ℕ) (k : ℕ) → starts_with ◌==◌ (drop k hay) mark ≡ true → before_mark mark hay ≤ k
 first_le mark [] k h = omega arith
 first_le mark (b ∷ bs) zero h = rw h (omega arith)
-first_le mark (b ∷ bs) (suc k) h =
-    elim (cases_Bool (starts_with ◌==◌ (b ∷ bs) mark)) as (λ s. before_mark mark (b ∷ bs) ≤ suc k) [
-      | inl here ↦ rw here (omega arith)
-      | inr later ↦ (let ih = first_le mark bs k h in rw later (omega arith))
-    ]
+first_le mark (b ∷ bs) (suc k) h = grind (arith, first_le mark bs k h)
 
 -- A front before the first one holds none.
 front_without : (mark : List ℕ) (n : ℕ) (hay : List ℕ) → n ≤ before_mark mark hay → before_mark mark (take n hay) ≡ length (take n hay)
@@ -132,9 +123,7 @@ no_dashes src i e before closes =
           let two : byte src (e - 1 + 1) ≡ 45 = ap (byte src) next ∙ dash in
           let first = mark_first double_dash src i (e - 1) (omega arith) (stands_two 45 45 src (e - 1) (omega arith) one two) in
           omega arith)
-      | inr none ↦ (
-          let past = get_or_past (slice src i e) (length (slice src i e) - 1) 0 (omega arith) in
-          omega arith)
+      | inr none ↦ grind arith
     ]))
 
 -- One before whose end they begin has.
@@ -172,19 +161,12 @@ dashes_end src i e from free closes =
     let fits = stands_fits (word_text word.CommentEnd) src e (omega arith) closes in
     let two = two_dashes_begin src e closes in
     let le = mark_first double_dash src i e from two in
-    elim (cases_lt (mark_from double_dash src i) e) as (λ s. e ≡ mark_from double_dash src i) [
-      | inl before ↦ absurd (false≢true (sym free ∙ two_dashes src i e from (omega arith) before))
-      | inr none ↦ omega arith
-    ]
+    grind (arith, two_dashes)
 
 -- Where the text has them, they are before.
 pub dashes_before : (src : List ℕ) (i e : ℕ) → stands (word_text word.CommentEnd) src e ≡ true
     → (has_mark double_dash (slice src i e) || byte (slice src i e) (length (slice src i e) - 1) == 45) ≡ true → mark_from double_dash src i < e
-dashes_before src i e closes ill =
-    elim (cases_lt (mark_from double_dash src i) e) as (λ s. mark_from double_dash src i < e) [
-      | inl before ↦ before
-      | inr after ↦ absurd (false≢true (sym (no_dashes src i e after closes) ∙ ill))
-    ]
+dashes_before src i e closes ill = grind (arith, no_dashes)
 
 -- ---- runs: where a `]]>` begins in one, all of it is there
 marked_run : (src : List ℕ) (i e : ℕ) → e ≡ byte_from (λ c. c == 60) src i → e ≤ length src → mark_from (word_text word.CDataEnd) src i < e
@@ -209,11 +191,7 @@ marked_run src i e is within before =
 -- So none begins in one that has none.
 pub unmarked_run : (src : List ℕ) (i e : ℕ) → e ≡ byte_from (λ c. c == 60) src i → e ≤ length src → has_mark (word_text word.CDataEnd) (slice src i e) ≡ false
     → e ≤ mark_from (word_text word.CDataEnd) src i
-unmarked_run src i e is within none =
-    elim (cases_lt (mark_from (word_text word.CDataEnd) src i) e) as (λ s. e ≤ mark_from (word_text word.CDataEnd) src i) [
-      | inl before ↦ absurd (false≢true (sym none ∙ marked_run src i e is within before))
-      | inr le ↦ le
-    ]
+unmarked_run src i e is within none = grind (arith, marked_run)
 
 -- And where one has a `]]>`, it begins before its end.
 pub run_marked : (src : List ℕ) (i e : ℕ) → has_mark (word_text word.CDataEnd) (slice src i e) ≡ true → mark_from (word_text word.CDataEnd) src i < e

@@ -66,10 +66,7 @@ module _ (main : Bool) (O : Inclusion) (src : List ℕ) (open_around : ℕ) wher
   extends : (own i j b c : ℕ) (done items : Forest Item) (stack : Open) (u : State)
       → ((l d : ℕ) (more : Forest Item) → Content main O src j l c d more → Content main O src i l b d (join items more))
       → Completes own j c (join done items) stack u → Completes own i b done stack u
-  extends zero i j b c done items stack u front (more, is, same) = (join items more, front (length src) u.openings_left more is, rw join_assoc at same)
-  extends (suc n) i j b c done items root u front h = absurd h
-  extends (suc n) i j b c done items (inside start t before up) u front (more, m, p, e, r, is, end, rest) =
-      (join items more, m, p, e, r, front m r more is, end, rw join_assoc at rest)
+  extends own i j b c done items stack u front h = grind (arith, join_assoc)
 
   -- One construct in front.
   pub takes_completes : (own : ℕ) (s t u : State) → StepsOver s t → depth_of s.stack ≡ open_around + own

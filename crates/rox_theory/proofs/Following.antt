@@ -79,9 +79,7 @@ follows_within es (suc d) =
       content = λ name b items c (t, r, l, found, (before, after), is) m.
           let x = content_count false (Includes es d false) (Counts es d) inner t.source t.start (length t.source) r l items is (m + 1) in
           (x.0, (t, found, x.1), omega (arith, x.2, before, after));
-      value = λ name b v c (t, r, l, found, (before, after), chars, is) m.
-          let x = value_count false (Includes es d false) (Counts es d) inner t.source (length t.source) t.start r l v is (m + 1) in
-          (x.0, (t, found, chars, x.1), omega (arith, x.2, before, after));
+      value = λ name b v c (t, r, l, found, (before, after), chars, is) m. grind (arith, value_count false (Includes es d false) (Counts es d) inner t.source (length t.source) t.start r l v is (m + 1));
     }
 
 -- A reference outside replacement texts opens at most 256 of them, at most ten within one another.
@@ -94,20 +92,13 @@ few_opened es name b c items (t, r, l, found, (all, same), is) =
 -- So does one in a value.
 pub few_opened_in_value : (es : List Entity) (name : List ℕ) (b c : ℕ) (v : List ℕ) → (Includes es most_deep true).value name b v c
     → (n : ℕ) × (Counts es most_deep).value name 0 v n × (n ≤ 256)
-few_opened_in_value es name b c v (t, r, l, found, (all, same), chars, is) =
-    let x = value_count false (Includes es 9 false) (Counts es 9) (follows_within es 9) t.source (length t.source) t.start r l v is 1 in
-    (x.0, (t, found, chars, x.1), omega (arith, x.2, all))
+few_opened_in_value es name b c v (t, r, l, found, (all, same), chars, is) = grind (arith, value_count false (Includes es 9 false) (Counts es 9) (follows_within es 9) t.source (length t.source) t.start r l v is 1)
 
 -- ---- where nothing is declared
 
 -- Where nothing is declared nothing is opened.
 pub follows_nothing : (d : ℕ) (main : Bool) → Follows (Includes [] d main) no_entities
-follows_nothing zero main = record { content = λ name b items c h. absurd h; value = λ name b v c h. absurd h }
-follows_nothing (suc d) main =
-    record {
-      content = λ name b items c (t, r, l, found, spends, is) m. cc found;
-      value = λ name b v c (t, r, l, found, spends, chars, is) m. cc found;
-    }
+follows_nothing d main = grind arith
 
 pub element_without : (src : List ℕ) (i j b c : ℕ) (one : Forest Item) → IsElement true (included_in_main []) src i j b c one → (n : ℕ) × IsElement true no_entities src i j b n one
 element_without src i j b c one is = let x = element_count true (included_in_main []) no_entities (follows_nothing most_deep true) src i j b c one is b in (x.0, x.1)

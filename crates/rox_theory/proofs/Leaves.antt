@@ -1,8 +1,8 @@
 -- One more item without children, and its limits.
-use Rattle.std.proofs.Common.{◌≡◌, ℕ, ◌+◌, ◌≤◌, nat_le, List, [], ◌++◌, length, Ok, refl, sym, ap, ◌∙◌, subst, arith, le-leb, leb-true}
+use Rattle.std.proofs.Common.{◌≡◌, ℕ, ◌+◌, ◌≤◌, nat_le, [], length, Ok, refl, sym, subst, arith, le-leb, leb-true}
 use Rattle.std.proofs.lemmas.List.{append-nil}
-use Rattle.rox_grammar.specs.Forest.{Forest, Nil, join}
-use Rattle.rox_grammar.specs.Written.{Item, NamespaceDecl, leaf}
+use Rattle.rox_grammar.specs.Forest.{Forest, join}
+use Rattle.rox_grammar.specs.Written.{Item, leaf}
 use Rattle.rox_grammar.specs.Tree.{scope_in, listed}
 use Rattle.rox_grammar.specs.WellNamed.{ItemWellNamed}
 use Rattle.rox_grammar.specs.Document.{most_attributes, most_pairs}
@@ -36,19 +36,11 @@ pub record Adds (s : State) (item : Item) : Type 0 where
 
 -- One more item keeps a state fine.
 pub leaf_fine : (limit : ℕ) (s : State) (j : ℕ) (item : Item) → IsValidState limit s → Adds s item → nodes_so_far s.stack (join s.done (leaf item)) ≤ limit → IsValidState limit (with_leaf s j item)
-leaf_fine limit s j item fine adds nodes =
-    let e : pairs_so_far s.stack (join s.done (leaf item)) ≡ pairs_so_far s.stack s.done ++ own_pairs item = pairs-item s.stack s.done item Nil ∙ ap (λ (ds : List NamespaceDecl). pairs_so_far s.stack s.done ++ ds) (append-nil (own_pairs item)) in
-    record {
-      nodes = nodes;
-      attributes = omega (arith, attributes-item s.stack s.done item Nil, adds.attributes);
-      pairs = rw (e, distinct-append) adds.pairs;
-      named = named-item s.stack s.done item Nil fine.named adds.named tt;
-    }
+leaf_fine limit s j item fine adds nodes = grind (arith, pairs-item, append-nil, attributes-item, distinct-append, named-item)
 
 -- An item that declares nothing and has no attributes.
 plain_adds : (limit : ℕ) (s : State) (item : Item) → own_attributes item ≡ 0 → own_pairs item ≡ [] → ItemWellNamed (scope_in (scope_of s.stack) item) item → IsValidState limit s → Adds s item
-plain_adds limit s item no_attributes no_pairs named fine =
-    record { attributes = omega (arith, fine.attributes); pairs = rw no_pairs fine.pairs; named = named }
+plain_adds limit s item no_attributes no_pairs named fine = grind arith
 
 -- A plain item that is read.
 pub item_read : (limit most : ℕ) (s t : State) (j : ℕ) (item : Item) → limit ≤ most → own_attributes item ≡ 0 → own_pairs item ≡ [] → ItemWellNamed (scope_in (scope_of s.stack) item) item
@@ -64,13 +56,7 @@ read_item limit s j item fine = fits_counted limit (with_leaf s j item) fine.nod
 -- ---- what is fine does not hang on the place, nor on how many texts may be opened
 
 pub fine_there : (limit : ℕ) (s t : State) → s.done ≡ t.done → s.stack ≡ t.stack → IsValidState limit s → IsValidState limit t
-fine_there limit s t done stack fine =
-    record {
-      nodes = subst (λ (o : Open). nodes_so_far o t.done ≤ limit) stack (subst (λ (f : Forest Item). nodes_so_far s.stack f ≤ limit) done fine.nodes);
-      attributes = subst (λ (o : Open). attributes_so_far o t.done ≤ most_attributes) stack (subst (λ (f : Forest Item). attributes_so_far s.stack f ≤ most_attributes) done fine.attributes);
-      pairs = subst (λ (o : Open). length (distinct_pairs (pairs_so_far o t.done)) ≤ most_pairs) stack (subst (λ (f : Forest Item). length (distinct_pairs (pairs_so_far s.stack f)) ≤ most_pairs) done fine.pairs);
-      named = subst (λ (o : Open). AreNamed o t.done) stack (subst (λ (f : Forest Item). AreNamed s.stack f) done fine.named);
-    }
+fine_there limit s t done stack fine = grind arith
 
 -- ---- fewer items are fine, whatever the others are
 
@@ -80,9 +66,7 @@ attributes_before (inside start tag before up) done more = omega (arith, attribu
 
 pairs_before : (stack : Open) (done more : Forest Item) → length (distinct_pairs (pairs_so_far stack done)) ≤ length (distinct_pairs (pairs_so_far stack (join done more)))
 pairs_before root done more = rw (pairs-join done more) (distinct-grows (pairs done) (pairs more))
-pairs_before (inside start tag before up) done more =
-    let e : pairs_so_far (inside start tag before up) (join done more) ≡ pairs_so_far (inside start tag before up) done ++ pairs more = rw (pairs-join done more) (simp append_assoc) in
-    rw e (distinct-grows (pairs_so_far (inside start tag before up) done) (pairs more))
+pairs_before (inside start tag before up) done more = grind (arith, pairs-join, append_assoc, distinct-grows)
 
 pub named_before : (stack : Open) (done more : Forest Item) → AreNamed stack (join done more) → AreNamed stack done
 named_before root done more named = named-left [] done more named
@@ -90,10 +74,4 @@ named_before (inside start tag before up) done more named = (named.0, named.1, n
 
 -- What the limits allow they allow of fewer items.
 pub fine_before : (limit i j b c : ℕ) (done more : Forest Item) (stack : Open) → IsValidState limit (state j (join done more) stack c) → IsValidState limit (state i done stack b)
-fine_before limit i j b c done more stack fine =
-    record {
-      nodes = omega (arith, nodes-grow stack done more, fine.nodes);
-      attributes = omega (arith, attributes_before stack done more, fine.attributes);
-      pairs = omega (arith, pairs_before stack done more, fine.pairs);
-      named = named_before stack done more fine.named;
-    }
+fine_before limit i j b c done more stack fine = grind (arith, nodes-grow, attributes_before, pairs_before, named_before)

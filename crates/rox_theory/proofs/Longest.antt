@@ -4,11 +4,10 @@ use Rattle.std.specs.Prelude.{max, Some, None, IfSome, Option}
 use Rattle.std.proofs.lemmas.List.{length-drop, length-take}
 use Rattle.rox_grammar.specs.Forest.{Forest}
 use Rattle.rox_grammar.specs.Written.{Item}
-use Rattle.rox_grammar.specs.Names.{slice}
 use Rattle.rox_grammar.specs.Entities.{Replacement, Entity}
-use Rattle.rox_grammar.specs.Doctype.{Asked, GivesReplacement, nothing, the_rest, IsDefinition, internal, external, entry, IsEntityDeclaration, entity_declaration, Subset, no_more, space, an_item, skipped_declaration, an_entity, IsDoctype, no_subset, with_subset}
+use Rattle.rox_grammar.specs.Doctype.{Asked, GivesReplacement, nothing, the_rest, IsDefinition, IsEntityDeclaration, entity_declaration, Subset, no_more, space, an_item, skipped_declaration, an_entity, IsDoctype}
 use Rattle.rox_grammar.specs.Document.{ParseOf}
-use Rattle.rox_theory.specs.ParseParts.{MayHaveDoctype, doctype, no_doctype}
+use Rattle.rox_theory.specs.ParseParts.{MayHaveDoctype}
 use Rattle.rox_grammar.specs.Expansion.{longest}
 use Rattle.rox_theory.specs.Answers.{AreShort}
 use Rattle.rox_theory.proofs.DoctypeParts.{passed_end}
@@ -35,16 +34,10 @@ module _ (src : List ℕ) (most : ℕ) where
   given_short answer text (the_rest whole d utf8 stands) h = let l = length-drop d whole in omega (arith, l, h)
 
   definition_short : (parameter : Bool) (i j : ℕ) (asked : List Asked) (text : Option Replacement) → IsDefinition src parameter i j asked text → AreShort most asked → IsShort text
-  definition_short parameter i j asked text (internal _ e _ quoted) h = let l = length-take e src in omega (arith, l)
-  definition_short parameter i j asked text (external _ n _ request answer _ id may gives) h = given_short answer text gives h.0
-
-  entry_short : (name : List ℕ) (text : Option Replacement) → IsShort text → longest (entry name text) ≤ max (length src) most
-  entry_short name None h = omega arith
-  entry_short name (Some t) h = omega (arith, h)
+  definition_short parameter i j asked text h k = grind (arith, length-take, given_short)
 
   declaration_short : (i j : ℕ) (asked : List Asked) (declared : List Entity) → IsEntityDeclaration src i j asked declared → AreShort most asked → longest declared ≤ max (length src) most
-  declaration_short i j asked declared (entity_declaration parameter n m d e _ text begins definition closes) h =
-      entry_short (slice src n m) text (definition_short parameter d e asked text definition h)
+  declaration_short i j asked declared (entity_declaration parameter n m d e _ text begins definition closes) h = grind (arith, definition_short)
 
   subset_short : (i j : ℕ) (items : Forest Item) (asked : List Asked) (es : List Entity) → Subset src i j items asked es → AreShort most asked → longest es ≤ max (length src) most
   subset_short i j items asked es (no_more _) h = omega arith
@@ -56,14 +49,10 @@ module _ (src : List ℕ) (most : ℕ) where
       longest_both (max (length src) most) one others (declaration_short i k first one is x.0) (subset_short k j items later others rest x.1)
 
   itself_short : (i j : ℕ) (items : Forest Item) (asked : List Asked) (es : List Entity) → IsDoctype src i j items asked es → AreShort most asked → longest es ≤ max (length src) most
-  itself_short i j items asked es (no_subset _ s begins here) h = omega arith
-  itself_short i j items asked es (with_subset _ s k _ _ _ begins here is close end) h = subset_short (s + 1) k items asked es is h
+  itself_short i j items asked es h k = grind (arith, subset_short)
 
   doctype_short : (i j : ℕ) (dtd : Bool) (items : Forest Item) (asked : List Asked) (es : List Entity) → MayHaveDoctype src i j dtd items asked es → AreShort most asked → longest es ≤ max (length src) most
-  doctype_short i j dtd items asked es (no_doctype _) h = omega arith
-  doctype_short i j dtd items asked es (doctype _ k _ front more _ _ is rest) h = itself_short i k front asked es is h
+  doctype_short i j dtd items asked es h k = grind (arith, itself_short)
 
 pub parse_short : (src : List ℕ) (dtd : Bool) (asked : List Asked) (tree : Forest Item) (p : ParseOf src dtd asked tree) (most : ℕ) → AreShort most asked → longest p.entities ≤ max (length src) most
-parse_short src dtd asked tree whole most h =
-    let p = parts src dtd asked tree whole in
-    doctype_short src most p.begun p.start dtd p.nodes asked p.entities p.doctype h
+parse_short src dtd asked tree whole most h = grind (arith, parts src dtd asked tree whole, doctype_short)

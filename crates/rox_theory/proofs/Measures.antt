@@ -42,36 +42,17 @@ bytes_join Nil g = omega arith
 bytes_join (Cons item kids rest) g = let h = bytes_join rest g in omega (arith, h)
 
 bytes_glue : (a e : ℕ) (v : List ℕ) (borrowed : Bool) (below f : Forest Item) → bytes_in (glue (Text a e v borrowed) below f) ≡ length v + (bytes_in below + bytes_in f)
-bytes_glue a e v borrowed below Nil = refl
-bytes_glue a e v borrowed below (Cons (Text x y w p) kids rest) =
-    let l = length-append v w in
-    let j = bytes_join below kids in
-    omega (arith, l, j)
-bytes_glue a e v borrowed below (Cons (Element x y t) kids rest) = refl
-bytes_glue a e v borrowed below (Cons (Comment x y t) kids rest) = refl
-bytes_glue a e v borrowed below (Cons (PI x y t o) kids rest) = refl
+bytes_glue a e v borrowed below f = grind (arith, length-append, bytes_join)
 
 bytes_merge : (f : Forest Item) → bytes_in (merge f) ≡ bytes_in f
 bytes_merge Nil = refl
-bytes_merge (Cons (Text a e v p) kids rest) =
-    let g = bytes_glue a e v p kids (merge rest) in
-    let h = bytes_merge rest in
-    omega (arith, g, h)
+bytes_merge (Cons (Text a e v p) kids rest) = grind (arith, bytes_glue a e v p kids (merge rest), bytes_merge rest)
 bytes_merge (Cons (Element a e t) kids rest) = let h = bytes_merge rest in omega (arith, h)
 bytes_merge (Cons (Comment a e t) kids rest) = let h = bytes_merge rest in omega (arith, h)
 bytes_merge (Cons (PI a e t o) kids rest) = let h = bytes_merge rest in omega (arith, h)
 
 pub by_bytes : Measure bytes_in
-by_bytes =
-    record {
-      none = refl;
-      joined = λ f g. let h = bytes_join f g in omega (arith, h);
-      element = λ i j t kids. let h = values_most t.attributes in omega (arith, h);
-      text = λ i j v borrowed n some le. omega (arith, le);
-      comment = λ i j v. omega arith;
-      instruction = λ i j target v. omega arith;
-      merged = λ f. let h = bytes_merge f in omega (arith, h);
-    }
+by_bytes = grind (arith, bytes_join, values_most, bytes_merge)
 
 -- ---- nodes and attributes
 
@@ -87,30 +68,14 @@ attributes_most [] = omega arith
 attributes_most (a ∷ as') = let h = attributes_most as' in omega (arith, h)
 
 count_glue : (a e : ℕ) (v : List ℕ) (borrowed : Bool) (below f : Forest Item) → count_in (glue (Text a e v borrowed) below f) ≤ 1 + (count_in below + count_in f)
-count_glue a e v borrowed below Nil = omega arith
-count_glue a e v borrowed below (Cons (Text x y w p) kids rest) = let j = count_join below kids in omega (arith, j)
-count_glue a e v borrowed below (Cons (Element x y t) kids rest) = omega arith
-count_glue a e v borrowed below (Cons (Comment x y t) kids rest) = omega arith
-count_glue a e v borrowed below (Cons (PI x y t o) kids rest) = omega arith
+count_glue a e v borrowed below f = grind (arith, count_join)
 
 count_merge : (f : Forest Item) → count_in (merge f) ≤ count_in f
 count_merge Nil = omega arith
-count_merge (Cons (Text a e v p) kids rest) =
-    let g = count_glue a e v p kids (merge rest) in
-    let h = count_merge rest in
-    omega (arith, g, h)
+count_merge (Cons (Text a e v p) kids rest) = grind (arith, count_glue a e v p kids (merge rest), count_merge rest)
 count_merge (Cons (Element a e t) kids rest) = let h = count_merge rest in omega (arith, h)
 count_merge (Cons (Comment a e t) kids rest) = let h = count_merge rest in omega (arith, h)
 count_merge (Cons (PI a e t o) kids rest) = let h = count_merge rest in omega (arith, h)
 
 pub by_count : Measure count_in
-by_count =
-    record {
-      none = refl;
-      joined = λ f g. let h = count_join f g in omega (arith, h);
-      element = λ i j t kids. let h = attributes_most t.attributes in omega (arith, h);
-      text = λ i j v borrowed n some le. omega (arith, some);
-      comment = λ i j v. omega arith;
-      instruction = λ i j target v. omega arith;
-      merged = count_merge;
-    }
+by_count = grind (arith, count_join, attributes_most, count_merge)

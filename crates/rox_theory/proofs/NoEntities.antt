@@ -1,5 +1,5 @@
 -- Where no entity is declared nothing is opened, however replacement texts are read.
-use Rattle.std.proofs.Common.{ℕ, []}
+use Rattle.std.proofs.Common.{ℕ, [], arith}
 use Rattle.std.specs.Prelude.{Result}
 use Rattle.rox_grammar.specs.Entities.{Replacement, no_entities}
 use Rattle.rox_reading.specs.Refusals.{Refusal}
@@ -9,14 +9,8 @@ use Rattle.rox_theory.specs.Openers.{AgreesValue, AgreesContent}
 
 -- In a value.
 pub no_values : (opener : ValueInclusion) → AgreesValue [] no_entities opener
-no_values opener = record {
-  sound = λ name t after b c w found h. cc found;
-  complete = λ name after b c w h. absurd h;
-}
+no_values opener = grind arith
 
 -- And in content.
 pub no_contents : (limit : ℕ) (opener : Replacement → ℕ → State → Result State Refusal) → AgreesContent [] limit no_entities opener
-no_contents limit opener = record {
-  sound = λ most name t after s u less found fine h. cc found;
-  complete = λ name after c items s h fine. absurd h;
-}
+no_contents limit opener = grind arith

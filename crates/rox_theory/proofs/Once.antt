@@ -19,14 +19,13 @@ use Rattle.rox_reading.specs.State.{State}
 use Rattle.rox_reading.specs.Machine.{value_opener, values_of}
 use Rattle.rox_theory.specs.Openers.{AreTexts, AgreesValue}
 use Rattle.rox_theory.specs.ValidState.{state}
-use Rattle.rox_theory.proofs.Productions.{comment_parts, pi_parts, cdata_parts, end_parts, char_data_parts}
+use Rattle.rox_theory.proofs.Productions.{comment_parts, pi_parts, cdata_parts, end_parts}
 use Rattle.rox_theory.proofs.MarkupLemmas.{comment_complete, instruction_complete, cdata_complete, end_complete}
 use Rattle.rox_theory.proofs.Openers.{values_agree}
 use Rattle.rox_theory.proofs.Leaves.{with_leaf}
 use Rattle.rox_theory.proofs.Steps.{after, closed}
 use Rattle.rox_theory.proofs.Flat.{StepsOver, takes_run, takes_cdata, takes_misc, takes_empty, takes_start, takes_end, Chain, arrives, goes, text_complete}
 use Rattle.rox_theory.proofs.Constructions.{Kind, a_run, a_comment, a_cdata, an_instruction, an_end, a_tag, nothing, kind_at, name_byte, run_within, run_kind, comment_kind, cdata_kind, instruction_kind, end_kind, tag_kind, comment_bytes, cdata_bytes, instruction_bytes, end_bytes}
-use Rattle.rox_theory.proofs.FailedReadings.{ok_one}
 use Rattle.rox_theory.proofs.PartOnce.{OpensOnce, parts_once}
 use Rattle.rox_theory.proofs.TagOnce.{tag_once}
 use Rattle.rox_theory.proofs.Chains as chains
@@ -65,34 +64,15 @@ module _ (context : Values) (O : Inclusion) (agrees : AgreesValue context.entiti
   takes_by open_around s t (takes_start i j b c tag done stack is) = let p = tag_parts is in by_kind a_tag s t (tag_kind src i p.begins (name_byte src (i + 1) tag.name tag.name_end p.is_name)) (j, c, tag, false, is, refl)
   takes_by open_around s t (takes_end i p j b start tag done before up deep end) = by_kind an_end s t (end_kind src i (end_parts end).opens) (j, record { name = tag.name; name_end = p }, end_complete src i j p tag.name end, refl)
 
-  closes_once : (openings_left j : ℕ) (done : Forest Item) (stack : Open) (t u : State) → Closes openings_left j done stack t → Closes openings_left j done stack u → t ≡ u
-  closes_once openings_left j done root t u h k = absurd h
-  closes_once openings_left j done (inside start tag before up) t u h k = h ∙ sym k
-
   pub tags_once : (s t u : State) → OneBy a_tag s t → OneBy a_tag s u → t ≡ u
-  tags_once s t u (j, c, tag, empty, is, to) (k, d, tag', empty', is', to') =
-      let same = tag_once context O agrees src utf8 s.at j k s.openings_left c d tag tag' empty empty' is is' in
-      to ∙ ap (λ (j : ℕ). after s j tag empty c) same.0 ∙ ap (λ (c : ℕ). after s k tag empty c) same.1 ∙ ap (λ (e : Bool). after s k tag e d) same.2 ∙ ap (λ (tag : Tag). after s k tag empty' d) same.3 ∙ sym to'
+  tags_once s t u (j, c, tag, empty, is, to) (k, d, tag', empty', is', to') = grind (arith, tag_once)
 
   by_once : (k : Kind) (s t u : State) → OneBy k s t → OneBy k s u → t ≡ u
-  by_once a_run s t u (j, c, items, run, parts, to) (k, d, more, run', parts', to') =
-      let at : k ≡ j = (char_data_parts run').end ∙ sym (char_data_parts run).end in
-      let parts'' : Parts context.main O src s.at j s.at s.openings_left d more = subst (λ (k : ℕ). Parts context.main O src s.at k s.at s.openings_left d more) at parts' in
-      let same = parts_once context.main O once src s.at j s.at s.openings_left c d items more parts parts'' in
-      to ∙ ap (λ (f : Forest Item). state j (join s.done f) s.stack c) same.0 ∙ ap (λ (c : ℕ). state j (join s.done more) s.stack c) same.1 ∙ ap (λ (j : ℕ). state j (join s.done more) s.stack d) (sym at) ∙ sym to'
-  by_once a_comment s t u (j, text, read, to) (k, text', read', to') =
-      let same = ok_one (text, j) (text', k) (comment_at src s.at) read read' in
-      to ∙ ap (λ (x : List ℕ × ℕ). with_leaf s x.1 (Comment s.at x.1 x.0)) same ∙ sym to'
-  by_once a_cdata s t u (j, text, read, to) (k, text', read', to') =
-      let same = ok_one (text, j) (text', k) (cdata_at src s.at) read read' in
-      to ∙ ap (λ (x : List ℕ × ℕ). with_leaf s x.1 (Text s.at x.1 (line_ends (literals x.0)) (not (list_any (λ b. b == 13) x.0)))) same ∙ sym to'
-  by_once an_instruction s t u (j, x, read, to) (k, x', read', to') =
-      let same = ok_one (x, j) (x', k) (instruction_at src s.at) read read' in
-      to ∙ ap (λ (x : Instruction × ℕ). with_leaf s x.1 (PI s.at x.1 x.0.target x.0.value)) same ∙ sym to'
-  by_once an_end s t u (j, x, read, to) (k, x', read', to') =
-      let same = ok_one (x, j) (x', k) (end_tag_at src s.at) read read' in
-      let at : k ≡ j = sym (ap (λ (x : EndTag × ℕ). x.1) same) in
-      closes_once s.openings_left j s.done s.stack t u to (subst (λ (k : ℕ). Closes s.openings_left k s.done s.stack u) at to')
+  by_once a_run s t u (j, c, items, run, parts, to) (k, d, more, run', parts', to') = grind (arith, parts_once)
+  by_once a_comment s t u (j, text, read, to) (k, text', read', to') = grind arith
+  by_once a_cdata s t u (j, text, read, to) (k, text', read', to') = grind arith
+  by_once an_instruction s t u (j, x, read, to) (k, x', read', to') = grind arith
+  by_once an_end s t u (j, x, read, to) (k, x', read', to') = grind arith
   by_once a_tag s t u h k = tags_once s t u h k
   by_once nothing s t u h k = absurd h
 
@@ -136,12 +116,10 @@ module _ (es : List Entity) (opener : ValueInclusion) (O : Inclusion) (agrees : 
 
 -- What is spent leaves one budget within the text, and one after it.
 spends_once : (main : Bool) (b r l c q m d : ℕ) → Spends main b r l c → Spends main b q m d → r ≡ q
-spends_once true b r l c q m d (all, same) (all', same') = all ∙ sym all'
-spends_once false b r l c q m d (before, same) (before', same') = omega (arith, before, before')
+spends_once main b r l c q m d h k = grind arith
 
 spent_once : (main : Bool) (b r l c q m d : ℕ) → Spends main b r l c → Spends main b q m d → l ≡ m → c ≡ d
-spent_once true b r l c q m d (all, same) (all', same') e = same ∙ sym same'
-spent_once false b r l c q m d (before, same) (before', same') e = same ∙ e ∙ sym same'
+spent_once main b r l c q m d h k e = grind arith
 
 pub same_text : (x y : Replacement) → ◌≡◌ {A = Option Replacement} (Some x) (Some y) → x ≡ y
 same_text x y h = cc h

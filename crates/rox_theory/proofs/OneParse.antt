@@ -7,10 +7,10 @@ use Rattle.rox_grammar.specs.declared.fault.Word.TheVariants as word
 use Rattle.rox_grammar.specs.FixedTexts.{at}
 use Rattle.rox_grammar.specs.Forest.{Forest, Nil, Cons, join, size}
 use Rattle.rox_grammar.specs.Written.{Item, merge}
-use Rattle.rox_grammar.specs.Content.{IsMisc, comment, instruction, IsElement}
+use Rattle.rox_grammar.specs.Content.{IsMisc, IsElement}
 use Rattle.rox_grammar.specs.TextStart.{after_bom}
 use Rattle.rox_grammar.specs.Entities.{Entity, included_in_main}
-use Rattle.rox_grammar.specs.Doctype.{Asked, Subset, IsDoctype, no_subset, with_subset, no_more, skipped_declaration, an_entity}
+use Rattle.rox_grammar.specs.Doctype.{Asked, Subset, IsDoctype, no_more, skipped_declaration, an_entity}
 use Rattle.rox_grammar.specs.Doctype as dtd
 use Rattle.rox_grammar.specs.Document.{Misc, no_misc, space, an_item, ParseOf, IsTreeOf, Permits}
 use Rattle.rox_grammar.specs.Counts.{attribute_count, pairs}
@@ -20,7 +20,7 @@ use Rattle.rox_grammar.specs.WellNamed.{AreWellNamed}
 use Rattle.rox_grammar.specs.State.{root}
 use Rattle.rox_reading.specs.State.{State}
 use Rattle.rox_reading.specs.Doctype.{Reply, replies_of, Asks, Dtd}
-use Rattle.rox_reading.specs.WholeText.{misc, prolog}
+use Rattle.rox_reading.specs.WholeText.{prolog}
 use Rattle.rox_reading.specs.WholeText as whole
 use Rattle.rox_reading.proofs.Forests.{pairs-join, attribute_count-join, named-left, named-right}
 use Rattle.rox_theory.specs.ValidState.{IsValidState, state}
@@ -48,8 +48,7 @@ abbrev IsBare : Forest Item → Type 0
 IsBare f = (attribute_count f ≡ 0) × (pairs f ≡ [])
 
 bare_item : (src : List ℕ) (i j : ℕ) (item : Item) (more : Forest Item) → IsMisc src i j item → IsBare more → IsBare (Cons item Nil more)
-bare_item src i j item more (comment _ e _ is) h = (omega (arith, h.0), h.1)
-bare_item src i j item more (instruction _ n e _ is) h = (omega (arith, h.0), h.1)
+bare_item src i j item more h k = grind arith
 
 bare_join : (f g : Forest Item) → IsBare f → IsBare g → IsBare (join f g)
 bare_join f g h k = let none = h.1 in let none' = k.1 in (omega (arith, attribute_count-join f g, h.0, k.0), rw (pairs-join, none, none') refl)
@@ -67,8 +66,7 @@ bare_subset src i j items asked es (skipped_declaration _ _ _ _ _ _ _ m) = bare_
 bare_subset src i j items asked es (an_entity _ k _ _ first later one others is m) = bare_subset src k j items later others m
 
 bare_itself : (src : List ℕ) (i j : ℕ) (items : Forest Item) (asked : List Asked) (es : List Entity) → IsDoctype src i j items asked es → IsBare items
-bare_itself src i j items asked es (no_subset _ s begins closes) = (refl, refl)
-bare_itself src i j items asked es (with_subset _ s k _ _ _ begins opens subset ends closes) = bare_subset src (s + 1) k items asked es subset
+bare_itself src i j items asked es h = grind (arith, bare_subset)
 
 bare_doctype : (src : List ℕ) (i j : ℕ) (is : Bool) (items : Forest Item) (asked : List Asked) (es : List Entity) → MayHaveDoctype src i j is items asked es → IsBare items
 bare_doctype src i j is items asked es (doctype _ k _ own more _ _ one after) = bare_join own more (bare_itself src i k own asked es one) (bare_misc src k j more after)
@@ -88,15 +86,11 @@ module _ (src : List ℕ) (utf8 : IsUtf8 src) where
   module _ (allow : Bool) (doctypes : DoctypesAgree src allow) where
     -- What comes before the root element is within limits that are wide enough.
     bare_fine : (limit j : ℕ) (items : Forest Item) → IsBare items → AreWellNamed [] items → 1 + size (merge items) ≤ limit → IsValidState limit (state j items root 255)
-    bare_fine limit j items bare named fits =
-        let none = bare.1 in
-        record { nodes = fits; attributes = omega (arith, bare.0); pairs = rw none (omega arith); named = named }
+    bare_fine limit j items bare named fits = grind arith
 
     -- The items of a document type declaration are well named.
     named_there : (is : Bool) (asked : List Asked) (t : Forest Item) (p : ParseParts src is asked t) → AreWellNamed [] p.nodes
-    named_there is asked t p =
-        let named : AreWellNamed [] (join p.before (join p.nodes (join p.one p.after))) = subst (AreWellNamed []) p.is_tree p.well_named in
-        named-left [] p.nodes (join p.one p.after) (named-right [] p.before (join p.nodes (join p.one p.after)) named)
+    named_there is asked t p = grind (arith, named-left, named-right)
 
     -- A document type declaration is read in one way.
     one_doctype : (h i j k : ℕ) (d e : Bool) (xs ys : Forest Item) (a b : List Asked) (es fs : List Entity) → h ≡ i → replies_of a ≡ replies_of b → AreWellNamed [] xs → AreWellNamed [] ys

@@ -1,5 +1,5 @@
 -- What a reference opens by the grammar is what is read, by the number of texts that may still be open.
-use Rattle.std.proofs.Common.{◌≡◌, ℕ, zero, suc, ◌<◌, Bool, true, false, List, length, refl, sym, ap, subst, arith}
+use Rattle.std.proofs.Common.{◌≡◌, ℕ, zero, suc, ◌<◌, Bool, true, false, List, length, refl, ap, subst, arith}
 use Rattle.std.specs.Prelude.{Some, Ok}
 use Rattle.std.proofs.lemmas.Bool.{false≢true}
 use Rattle.rox_grammar.specs.Names.{byte}
@@ -14,14 +14,10 @@ use Rattle.rox_theory.proofs.ValueLemmas.{value_text_sound, value_text_chars, va
 -- ---- openings that are left
 
 pub budget_sound : (main : Bool) (after b r l : ℕ) → budget main after b ≡ Ok r → Spends main b r l (left_behind main b l)
-budget_sound true after b r l h = (sym (ok_same _ _ h), refl)
-budget_sound false after zero r l h = cc h
-budget_sound false after (suc n) r l h = let e : n ≡ r = ok_same _ _ h in (omega arith, refl)
+budget_sound main after b r l h = grind arith
 
 pub budget_complete : (main : Bool) (after b r l c : ℕ) → Spends main b r l c → (budget main after b ≡ Ok r) × (left_behind main b l ≡ c)
-budget_complete true after b r l c (all, same) = (ap Ok (sym all), sym same)
-budget_complete false after zero r l c (before, same) = absurd (omega (arith, before))
-budget_complete false after (suc n) r l c (before, same) = let e : n ≡ r = omega (arith, before) in (ap Ok e, sym same)
+budget_complete main after b r l c h = grind arith
 
 -- ---- values
 

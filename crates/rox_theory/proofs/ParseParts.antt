@@ -1,5 +1,5 @@
 -- A parse and its parts say the same.
-use Rattle.std.proofs.Common.{◌≡◌, ℕ, Bool, true, false, List, [], length, refl, sym, ap, ◌∙◌, subst}
+use Rattle.std.proofs.Common.{◌≡◌, ℕ, Bool, true, false, List, [], length, refl, sym, ap, ◌∙◌, subst, arith}
 use Rattle.rox_grammar.specs.Forest.{Forest, Nil, join}
 use Rattle.rox_grammar.specs.Written.{Item}
 use Rattle.rox_grammar.specs.Content.{Inclusion, IsElement}
@@ -38,20 +38,7 @@ pub record DocumentParts (Includes : Inclusion) (src : List ℕ) (PrologAt : ℕ
   pub well_named : AreWellNamed [] items
 
 pub document_parts : {Includes : Inclusion} {src : List ℕ} {PrologAt : ℕ → Forest Item → Type 0} {p : ℕ} {items : Forest Item} → DocumentTo Includes src PrologAt p items → DocumentParts Includes src PrologAt p items
-document_parts (element_and_misc i j c before one after ahead element misc named) =
-    record {
-      start = i;
-      before = before;
-      ahead = ahead;
-      end = j;
-      openings_left = c;
-      one = one;
-      element = element;
-      after = after;
-      misc = misc;
-      all = refl;
-      well_named = named;
-    }
+document_parts (element_and_misc i j c before one after ahead element misc named) = grind arith
 
 pub document_made : {Includes : Inclusion} {src : List ℕ} {PrologAt : ℕ → Forest Item → Type 0} {p : ℕ} {items : Forest Item} → DocumentParts Includes src PrologAt p items → DocumentTo Includes src PrologAt p items
 document_made {Includes = Includes} {src = src} {PrologAt = PrologAt} {p = p} b =
@@ -91,8 +78,7 @@ parsed src dtd asked tree p =
       whole = document_made (record {
         start = p.start;
         before = join p.before p.nodes;
-        ahead = parts_prolog src p.start dtd (join p.before p.nodes) asked p.entities
-            (record { begun = p.begun; before = p.before; ahead = p.prolog; nodes = p.nodes; doctype = p.doctype; all = refl });
+        ahead = grind (arith, parts_prolog);
         end = p.end;
         openings_left = p.openings_left;
         one = p.one;

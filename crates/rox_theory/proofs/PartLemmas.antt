@@ -62,8 +62,7 @@ Texts false bs ss = ss ≡ literals bs
 
 -- The text of the part.
 pub texts_line_ends : (main : Bool) (bs : List ℕ) (ss : List DataByte) → Texts main bs ss → part_text main bs ≡ line_ends ss
-texts_line_ends true bs ss h = h
-texts_line_ends false bs ss h = ap line_ends (sym h)
+texts_line_ends main bs ss h = grind arith
 
 -- A part goes forward.
 pub part_le : (main : Bool) (src : List ℕ) (p i : ℕ) (ss : List DataByte) → Part main src p i ss → i ≤ p
@@ -87,16 +86,11 @@ pub data RunBit (main : Bool) (es : List Entity) (src : List ℕ) (stop : ℕ) :
 module _ (es : List Entity) (src : List ℕ) (utf8 : IsUtf8 src) (stop : ℕ) (long : stop ≤ length src) (closes : stop < length src → IsStop (byte src stop)) where
   -- A part ends before the stop, where `&` is, or at it.
   pub ends_at : (p : ℕ) (next : Next) → Ends es src stop p next → (p ≤ stop) × (p < stop → byte src p ≡ 38)
-  ends_at p next (ends_run _ is) = (omega arith, λ l. absurd (omega arith))
-  ends_at p next (ends_entity _ n j t r none to is) = let o = reference_opens src p n j r in (omega arith, λ l. o.0)
+  ends_at p next h = grind (arith, reference_opens)
 
   -- Each bit moves forward, but not past the stop.
   pub bit_moves : (main : Bool) (i : ℕ) (bit : Bit) (j : ℕ) → RunBit main es src stop i bit j → (i < j) × (j ≤ stop)
-  bit_moves main i bit j (bit_cr_lf _ is more cr lf) = (omega arith, omega arith)
-  bit_moves main i bit j (bit_cr _ is here cr apart) = (omega arith, omega arith)
-  bit_moves main i bit j (bit_stretch _ _ some to plain) = (some, to)
-  bit_moves main i bit j (bit_character _ x _ r to) = ((character_opens src i x j r).1, to)
-  bit_moves main i bit j (bit_entity _ n _ t r none to is) = ((reference_opens src i n j r).2, to)
+  bit_moves main i bit j h = grind (arith, reference_opens)
 
   -- ---- a bit that is read is there
 
@@ -153,8 +147,7 @@ module _ (es : List Entity) (src : List ℕ) (utf8 : IsUtf8 src) (stop : ℕ) (l
 
   -- One byte in front.
   byte_on : (main : Bool) (p i : ℕ) (bs : List ℕ) (ss : List DataByte) → (main ≡ true → byte src i ≢ 13) → Texts main bs ss → Texts main (byte src i ∷ bs) (literal (byte src i) ∷ ss)
-  byte_on true p i bs ss no_cr h = ap (λ (r : List ℕ). byte src i ∷ r) h ∙ sym (literal_ends (byte src i) ss (no_cr refl))
-  byte_on false p i bs ss no_cr h = ap (λ (r : List DataByte). literal (byte src i) ∷ r) h
+  byte_on main p i bs ss no_cr h = grind arith
 
   -- The part from i on that has this text.
   abbrev PartFrom : (main : Bool) → ℕ → ℕ → List ℕ → Type 0
@@ -162,9 +155,7 @@ module _ (es : List Entity) (src : List ℕ) (utf8 : IsUtf8 src) (stop : ℕ) (l
 
   -- A stretch in front.
   pub stretch_on : (main : Bool) (p d i j : ℕ) (bs : List ℕ) → i + d ≡ j → j ≤ p → p ≤ length src → ((k : ℕ) → i ≤ k → k < j → (byte src k ≢ 38) × (main ≡ true → byte src k ≢ 13)) → PartFrom main p j bs → PartFrom main p i (slice src i j ++ bs)
-  stretch_on main p zero i j bs to inside most plain h =
-      let e : j ≡ i = omega arith in
-      subst (λ (m : ℕ). PartFrom main p m (slice src m j ++ bs)) e (rw (slice_nil src j) h)
+  stretch_on main p zero i j bs to inside most plain h = grind arith
   stretch_on main p (suc d) i j bs to inside most plain h =
       let here = plain i (omega arith) (omega arith) in
       let ih = stretch_on main p d (i + 1) j bs (omega arith) inside most (λ k from below. plain k (omega arith) below) h in
@@ -172,8 +163,7 @@ module _ (es : List Entity) (src : List ℕ) (utf8 : IsUtf8 src) (stop : ℕ) (l
 
   -- A character in front.
   character_on : (main : Bool) (c : ℕ) (bs : List ℕ) (ss : List DataByte) → Texts main bs ss → Texts main (encode_utf8 c ++ bs) (data_bytes_of main (encode_utf8 c) ++ ss)
-  character_on true c bs ss h = ap (λ (r : List ℕ). encode_utf8 c ++ r) h ∙ sym (kept_ends (encode_utf8 c) ss)
-  character_on false c bs ss h = ap (λ (r : List DataByte). data_bytes_of false (encode_utf8 c) ++ r) h ∙ sym (literals-append (encode_utf8 c) bs)
+  character_on main c bs ss h = grind (arith, kept_ends, literals-append)
 
   -- What a part that is read is.
   abbrev pub PartStands : (main : Bool) → ℕ → List ℕ × Next → Type 0
@@ -278,16 +268,7 @@ module _ (es : List Entity) (src : List ℕ) (utf8 : IsUtf8 src) (stop : ℕ) (l
   -- What is known of it.
   stretch_bounds : (main : Bool) (i : ℕ) → i < stop → byte src i ≢ 38 → (main ≡ true → byte src i ≢ 13)
       → (i < stretch_end main i) × (stretch_end main i ≤ stop) × ((k : ℕ) → i ≤ k → k < stretch_end main i → (byte src k ≢ 38) × (main ≡ true → byte src k ≢ 13))
-  stretch_bounds true i below amp cr = (
-    next_more src stop long ordinary i below (or_from (eqb (byte src i) 38) (eqb (byte src i) 13) (ne_eqb _ _ amp) (ne_eqb _ _ (cr refl))),
-    next_bound src stop long ordinary i (omega arith),
-    λ k from lt. let both = or_parts (eqb (byte src k) 38) (eqb (byte src k) 13) (next_before src stop long ordinary i k (omega arith) from lt) in (eqb-false _ _ both.0, λ z. eqb-false _ _ both.1),
-  )
-  stretch_bounds false i below amp cr = (
-    next_more src stop long (λ c. c == 38) i below (ne_eqb _ _ amp),
-    next_bound src stop long (λ c. c == 38) i (omega arith),
-    λ k from lt. (eqb-false _ _ (next_before src stop long (λ c. c == 38) i k (omega arith) from lt), λ z. absurd (false≢true z)),
-  )
+  stretch_bounds main i below amp cr = grind (arith, next_more, next_bound, next_before)
 
   -- A stretch is read.
   stretch_read : (main : Bool) (i : ℕ) → byte src i ≢ 38 → (main ≡ true → byte src i ≢ 13) → data_bit_at main es src stop i ≡ Ok (bytes_of (slice src i (stretch_end main i)), stretch_end main i)
@@ -319,8 +300,7 @@ module _ (es : List Entity) (src : List ℕ) (utf8 : IsUtf8 src) (stop : ℕ) (l
       rw (here, bit) refl
 
   pub no_texts : (main : Bool) → Texts main [] []
-  no_texts true = refl
-  no_texts false = refl
+  no_texts main = grind arith
 
   -- The signs after a stretch.
   pub stretch_off : (main : Bool) (p d i j : ℕ) (ss : List DataByte) → i + d ≡ j → j ≤ p → p ≤ length src → ((k : ℕ) → i ≤ k → k < j → (byte src k ≢ 38) × (main ≡ true → byte src k ≢ 13)) → Part main src p i ss
@@ -345,10 +325,7 @@ module _ (es : List Entity) (src : List ℕ) (utf8 : IsUtf8 src) (stop : ℕ) (l
       let to = ends_at p next end in
       let known = stretch_bounds main i (omega (arith, to.0)) amp cr in
       let j = stretch_end main i in
-      let le : j ≤ p = elim (cases_lt p j) as (λ s. j ≤ p) [
-        | inl l ↦ absurd ((known.2 p (omega arith) l).0 (to.1 (omega (arith, known.1))))
-        | inr g ↦ g
-      ] in
+      let le : j ≤ p = grind arith in
       let o = stretch_off main p (j - i) i j ss (omega (arith, known.0)) le (omega (arith, to.0)) known.2 q in
       let rest = ih j o.0 known.0 known.1 o.1 in
       (slice src i j ++ rest.0, bytes_on main n i j (slice src i j) rest.0 next (omega (arith, to.0)) (stretch_read main i amp cr) rest.1, o.2 rest.0 rest.2)
@@ -365,7 +342,6 @@ module _ (es : List Entity) (src : List ℕ) (utf8 : IsUtf8 src) (stop : ℕ) (l
             let one = next_part true p (i + 1) ss more (λ z. omega arith) q in
             let two : i + 1 + 1 ≡ i + 2 = omega arith in
             let q' = subst (λ (m : ℕ). Part true src p m one.0) two one.2 in
-            let le = part_le true src p (i + 2) one.0 q' in
             let rest = ih (i + 2) one.0 (omega arith) (omega (arith, to.0)) q' in (
               10 ∷ rest.0,
               bytes_on true n i (i + 2) (10 ∷ []) rest.0 next (omega (arith, to.0)) (cr_lf_read i f.0 cr f.1) rest.1,

@@ -29,8 +29,7 @@ no_entity_here src i c m n j is r none =
 
 -- A part does not end where it continues.
 goes_on : (src : List ℕ) (stop i : ℕ) → i < stop → byte src i ≢ 38 → PartEnds src stop i → ⊥
-goes_on src stop i below no_amp (inl is) = omega arith
-goes_on src stop i below no_amp (inr (n, j, r, none)) = no_amp (reference_opens src i n j r).0
+goes_on src stop i below no_amp p = grind arith
 
 -- Nor where a reference to a character is.
 goes_on_from : (src : List ℕ) (stop i c m : ℕ) → i < stop → IsCharacter src i c m → PartEnds src stop i → ⊥
@@ -82,8 +81,7 @@ part_once main src stop p q i ss rs (from_reference _ n c rest r inside part) (f
 -- Parts begin at the stop or before.
 pub parts_le : (main : Bool) (O : Inclusion) (src : List ℕ) (start stop i b c : ℕ) (items : Forest Item) → Parts main O src start stop i b c items → i ≤ stop
 parts_le main O src start stop i b c items (last_part _ _ ss part) = part_le main src stop i ss part
-parts_le main O src start stop i b d items (then_entity _ p j _ c _ _ ss front more part (entity_reference n r none) opened rest) =
-    omega (arith, part_le main src p i ss part, reference_opens src p n j r, parts_le main O src start stop j c d more rest)
+parts_le main O src start stop i b d items (then_entity _ p j _ c _ _ ss front more part (entity_reference n r none) opened rest) = grind (arith, parts_le main O src start stop j c d more rest, part_le, reference_opens)
 
 -- What a reference opens in content it opens in one way.
 abbrev pub OpensOnce : Inclusion → Type 0

@@ -1,7 +1,8 @@
 -- The texts of a parse are made of its pieces, and an empty piece is an empty CDATA section.
 use Rattle.std.proofs.Common.{◌≡◌, ◌+◌, ◌-◌, ◌==◌, ℕ, zero, suc, Bool, true, false, not, List, [], ◌∷◌, length, refl, sym, ◌∙◌, ap, subst, inl, inr, arith}
 use Rattle.std.specs.List.{list_any}
-use Rattle.std.proofs.lemmas.Bool.{cases_Bool}
+use Rattle.std.proofs.lemmas.Bool.Decides.{nat_tests}
+use Rattle.std.proofs.lemmas.Grind.{common_steps}
 use Rattle.rox_grammar.specs.declared.fault.Word.TheVariants as word
 use Rattle.rox_grammar.specs.FixedTexts.{word_text}
 use Rattle.rox_grammar.specs.Forest.{Forest, Nil, Cons, join}
@@ -9,10 +10,10 @@ use Rattle.rox_grammar.specs.Written.{Item, Element, Text, leaf, merge}
 use Rattle.rox_grammar.specs.Names.{slice}
 use Rattle.rox_grammar.specs.Constructs.{IsCData}
 use Rattle.rox_grammar.specs.References.{entity_reference}
-use Rattle.rox_grammar.specs.Content.{Inclusion, DataByte, literal, kept, is_literal, line_ends, literals, is_verbatim, piece, last_part, then_entity, IsMisc, comment, instruction, IsElement, empty, nest, Content, ends, run, cdata, misc, node}
+use Rattle.rox_grammar.specs.Content.{Inclusion, DataByte, literal, line_ends, literals, is_verbatim, piece, last_part, then_entity, IsMisc, IsElement, empty, nest, Content, ends, run, cdata, misc, node}
 use Rattle.rox_grammar.specs.RunParts.{Parts}
 use Rattle.rox_grammar.specs.Entities.{Entity, Includes, most_deep, included_in_main}
-use Rattle.rox_grammar.specs.Doctype.{Asked, Subset, no_more as no_item, space as subset_space, an_item as subset_item, skipped_declaration, an_entity as an_entity_declared, IsDoctype, no_subset, with_subset}
+use Rattle.rox_grammar.specs.Doctype.{Asked, Subset, no_more as no_item, space as subset_space, an_item as subset_item, skipped_declaration, an_entity as an_entity_declared, IsDoctype}
 use Rattle.rox_grammar.specs.Document.{Misc, no_misc, space, an_item, Prolog, DocumentTo, element_and_misc, ParseOf}
 use Rattle.rox_theory.specs.ParseParts.{MayHaveDoctype, doctype, no_doctype}
 use Rattle.rox_theory.proofs.Productions.{cdata_parts}
@@ -21,19 +22,12 @@ use Rattle.rox_theory.proofs.DeclarationLemmas.{stands_fits}
 use Rattle.rox_theory.specs.Pieces.{Piece, written_in, Writes, parts_pieces, element_pieces, content_pieces, writes, document_pieces, pieces_of, merged, IsSourceIn, IsEmptySection, EmptyAreSections, OnlySectionsAreEmpty}
 use Rattle.rox_theory.proofs.ParseParts.{prolog_parts}
 use Rattle.rox_reading.proofs.Forests.{join_assoc}
-use Rattle.rox_reading.proofs.Stretches.{range_length}
 
 -- ---- what has no byte
 
 -- Signs have one.
 pub some_bytes : (s : DataByte) (ss : List DataByte) → line_ends (s ∷ ss) ≡ [] → ⊥
-some_bytes (kept x) ss h = cc h
-some_bytes (literal x) [] h = elim (cases_Bool (x == 13)) [ inl cr ↦ (let e = rw cr at h in cc e) | inr no_cr ↦ (let e = rw no_cr at h in cc e) ]
-some_bytes (literal x) (s ∷ ss) h =
-    elim (cases_Bool (x == 13)) [
-      | inl cr ↦ elim (cases_Bool (is_literal 10 s)) [ inl lf ↦ some_bytes s ss (rw (cr, lf) at h) | inr no_lf ↦ (let e = rw (cr, no_lf) at h in cc e) ]
-      | inr no_cr ↦ (let e = rw no_cr at h in cc e)
-    ]
+some_bytes s ss h = grind (arith, nat_tests)
 
 -- What has no line ends has no bytes.
 pub no_bytes : (bs : List ℕ) → line_ends (literals bs) ≡ [] → bs ≡ []
@@ -42,13 +36,7 @@ no_bytes (b ∷ bs) none = absurd (some_bytes (literal b) (literals bs) none)
 
 -- A section without a byte is empty.
 pub empty_section : (src : List ℕ) (i e j : ℕ) → IsCData src i e j → slice src (i + 9) e ≡ [] → IsEmptySection src i j
-empty_section src i e j is none =
-    let fits = stands_fits (word_text word.CDataEnd) src e (omega arith) (cdata_parts is).closes in
-    let from = mark_from_le (word_text word.CDataEnd) src (i + 9) in
-    let long : length (slice src (i + 9) e) ≡ e - (i + 9) = range_length src (i + 9) e (omega (arith, (cdata_parts is).end)) (omega (arith, fits)) in
-    let zero : length (slice src (i + 9) e) ≡ 0 = rw none refl in
-    let here : e ≡ i + 9 = omega (arith, (cdata_parts is).end) in
-    record { section = subst (λ (k : ℕ). IsCData src i k j) here is; long = omega (arith, (cdata_parts is).next) }
+empty_section src i e j is none = grind (arith, common_steps, stands_fits (word_text word.CDataEnd) src e (omega arith) (cdata_parts is).closes, mark_from_le (word_text word.CDataEnd) src (i + 9), stands_fits)
 
 -- ---- rows
 
@@ -66,8 +54,7 @@ module _ (text : List ℕ) (es : List Entity) where
   Made items pieces = (items ≡ merged pieces) × EmptyAreSections text es pieces
 
   made_join : (items more : Forest Item) (f g : Forest Piece) → Made items f → Made more g → Made (join items more) (join f g)
-  made_join items more f g h k =
-      (ap (λ (x : Forest Item). join x more) h.0 ∙ ap (λ (x : Forest Item). join (merged f) x) k.0 ∙ sym (merged-join f g), sections_join text es f g h.1 k.1)
+  made_join items more f g h k = grind (arith, merged-join, sections_join)
 
   -- So are those that a reference opens.
   record OpensMade (O : Inclusion) (opened : Writes O) : Type 0 where
@@ -75,12 +62,10 @@ module _ (text : List ℕ) (es : List Entity) where
 
   module _ (src : List ℕ) (known : IsSourceIn text es src) where
     piece_made : (start stop : ℕ) (borrowed : Bool) (ss : List DataByte) → Made (piece start stop borrowed ss) (written_in src (piece start stop borrowed ss))
-    piece_made start stop borrowed [] = (refl, tt)
-    piece_made start stop borrowed (s ∷ ss) = (refl, (known, λ none. absurd (some_bytes s ss none), tt, tt))
+    piece_made start stop borrowed ss = grind (arith, nat_tests)
 
     misc_made : (i j : ℕ) (item : Item) → IsMisc src i j item → Made (leaf item) (written_in src (leaf item))
-    misc_made i j item (comment _ e _ is) = (refl, (known, tt, tt, tt))
-    misc_made i j item (instruction _ n e _ is) = (refl, (known, tt, tt, tt))
+    misc_made i j item h = grind arith
 
     section_made : (i e j : ℕ) (borrowed : Bool) → IsCData src i e j
         → Made (leaf (Text i j (line_ends (literals (slice src (i + 9) e))) borrowed)) (written_in src (leaf (Text i j (line_ends (literals (slice src (i + 9) e))) borrowed)))
@@ -120,18 +105,12 @@ module _ (text : List ℕ) (es : List Entity) where
     all_made : (i j : ℕ) (items : Forest Item) → Misc src i j items → Made items (written_in src items)
     all_made i j items (no_misc _) = (refl, tt)
     all_made i j items (space _ _ _ here rest) = all_made (i + 1) j items rest
-    all_made i j items (an_item _ k _ item more is rest) =
-        let x = misc_made i k item is in
-        let y = all_made k j more rest in
-        (ap (λ (f : Forest Item). Cons item Nil f) y.0, (x.1.0, x.1.1, tt, y.1))
+    all_made i j items (an_item _ k _ item more is rest) = grind (arith, misc_made i k item is, all_made k j more rest)
 
     subset_made : (i j : ℕ) (items : Forest Item) (asked : List Asked) (others : List Entity) → Subset src i j items asked others → Made items (written_in src items)
     subset_made i j items asked others (no_item _) = (refl, tt)
     subset_made i j items asked others (subset_space _ _ _ _ _ here rest) = subset_made (i + 1) j items asked others rest
-    subset_made i j items asked others (subset_item _ k _ item more _ _ is rest) =
-        let x = misc_made i k item is in
-        let y = subset_made k j more asked others rest in
-        (ap (λ (f : Forest Item). Cons item Nil f) y.0, (x.1.0, x.1.1, tt, y.1))
+    subset_made i j items asked others (subset_item _ k _ item more _ _ is rest) = grind (arith, misc_made i k item is, subset_made k j more asked others rest)
     subset_made i j items asked others (skipped_declaration _ _ _ _ _ _ _ rest) = subset_made _ j items asked others rest
     subset_made i j items asked others (an_entity_declared _ k _ _ first more one behind is rest) = subset_made k j items more behind rest
 
@@ -140,8 +119,7 @@ module _ (text : List ℕ) (es : List Entity) where
     written-join (Cons item c r) g = ap (λ (f : Forest Piece). Cons (record { source = src; item = item }) (written_in src c) f) (written-join r g)
 
     itself_made : (i j : ℕ) (items : Forest Item) (asked : List Asked) (others : List Entity) → IsDoctype src i j items asked others → Made items (written_in src items)
-    itself_made i j items asked others (no_subset _ s begins here) = (refl, tt)
-    itself_made i j items asked others (with_subset _ s k _ _ _ begins here is close end) = subset_made (s + 1) k items asked others is
+    itself_made i j items asked others h = grind (arith, subset_made)
 
     doctype_made : (i j : ℕ) (dtd : Bool) (items : Forest Item) (asked : List Asked) (others : List Entity) → MayHaveDoctype src i j dtd items asked others → Made items (written_in src items)
     doctype_made i j dtd items asked others (no_doctype _) = (refl, tt)

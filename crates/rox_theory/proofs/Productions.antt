@@ -1,5 +1,5 @@
 -- What the rows of the smallest productions say, by name, and the rows from that.
-use Rattle.std.proofs.Common.{◌≡◌, ◌≢◌, ℕ, ◌+◌, ◌<◌, ◌≤◌, ◌^◌, ◌==◌, Bool, true, false, List, ◌∷◌, drop, refl, sym, subst}
+use Rattle.std.proofs.Common.{◌≡◌, ◌≢◌, ℕ, ◌+◌, ◌<◌, ◌≤◌, ◌^◌, ◌==◌, Bool, true, false, List, ◌∷◌, drop, refl, sym, subst, arith}
 use Rattle.std.specs.Prelude.{codes}
 use Rattle.std.proofs.lemmas.Bool.Decides.{Decides-eqb}
 use Rattle.std.proofs.lemmas.Slice.Eq.{starts_is}
@@ -36,8 +36,7 @@ pub record NumberParts (base : ℕ) (is : ℕ → Bool) (src : List ℕ) (d c j 
   pub next : j ≡ e + 1
 
 pub number_parts : {base : ℕ} {is : ℕ → Bool} {src : List ℕ} {d c j : ℕ} → IsNumber base is src d c j → NumberParts base is src d c j
-number_parts (digits e end some closes small is_character allowed) =
-    record { e = e; end = end; some = some; closes = closes; small = small; is_character = is_character; allowed = allowed; next = refl }
+number_parts (digits e end some closes small is_character allowed) = grind arith
 
 pub number_made : {base : ℕ} {is : ℕ → Bool} {src : List ℕ} {d c j : ℕ} → NumberParts base is src d c j → IsNumber base is src d c j
 number_made {base} {is} {src} {d} {c} p = subst (IsNumber base is src d c) (sym p.next) (digits p.e p.end p.some p.closes p.small p.is_character p.allowed)

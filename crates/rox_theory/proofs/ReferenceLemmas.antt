@@ -148,9 +148,7 @@ reference_opens src i n j r = let l = (reference_parts r).name.longest in let ne
 
 -- A reference begins with `&`, and has a byte.
 pub character_opens : (src : List ℕ) (i c j : ℕ) → IsCharacter src i c j → (byte src i ≡ 38) × (i < j)
-character_opens src i c j (decimal opens m) = let some = (number_parts m).some in let next = (number_parts m).next in ((hash_bytes src i opens).0, omega arith)
-character_opens src i c j (hexadecimal opens m) = let some = (number_parts m).some in let next = (number_parts m).next in ((hex_bytes src i opens).0, omega arith)
-character_opens src i c j (named n r is) = let l = (reference_parts r).name.longest in let next = (reference_parts r).next in ((reference_parts r).opens, omega (arith, run_end_le is_name_char src (i + 1)))
+character_opens src i c j h = grind (arith, hash_bytes, hex_bytes, reference_parts)
 
 -- A stop is in no name.
 stop_no_name : (b : ℕ) → IsStop b → is_name_char b ≡ false
@@ -161,21 +159,15 @@ stop_no_name b (inr (inr h)) = rw h refl
 
 -- A stop is not a hexadecimal digit.
 stop_no_hex : (b : ℕ) → IsStop b → is_hex_digit b ≡ false
-stop_no_hex b (inl h) = rw h refl
-stop_no_hex b (inr (inl h)) = rw h refl
-stop_no_hex b (inr (inr h)) = rw h refl
+stop_no_hex b h = grind arith
 
 -- A stop is not a digit.
 stop_no_digit : (b : ℕ) → IsStop b → is_digit b ≡ false
-stop_no_digit b (inl h) = rw h refl
-stop_no_digit b (inr (inl h)) = rw h refl
-stop_no_digit b (inr (inr h)) = rw h refl
+stop_no_digit b h = grind arith
 
 -- A stop is ASCII, and none of `;`, `#`, `x` and `&`.
 stop_apart : (b : ℕ) → IsStop b → (b < 128) × (b ≢ 59) × (b ≢ 35) × (b ≢ 120) × (b ≢ 38)
-stop_apart b (inl h) = (omega arith, λ z. omega arith, λ z. omega arith, λ z. omega arith, λ z. omega arith)
-stop_apart b (inr (inl h)) = (omega arith, λ z. omega arith, λ z. omega arith, λ z. omega arith, λ z. omega arith)
-stop_apart b (inr (inr h)) = (omega arith, λ z. omega arith, λ z. omega arith, λ z. omega arith, λ z. omega arith)
+stop_apart b h = omega arith
 
 -- Digits and the `;` after them come before a stop.
 number_inside : (base : ℕ) (is : ℕ → Bool) (src : List ℕ) (d stop c j : ℕ) → d ≤ stop → stop ≤ length src → (stop < length src → IsStop (byte src stop))

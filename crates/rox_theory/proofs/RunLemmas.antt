@@ -18,7 +18,6 @@ use Rattle.rox_grammar.specs.Entities.{Replacement}
 use Rattle.rox_reading.specs.Lexical.{has_mark, chars_up_to}
 use Rattle.rox_reading.specs.Refusals.{Refusal}
 use Rattle.rox_reading.specs.Values.{Next, at_end, opening, data_part, part_text, raw_character_data_at}
-use Rattle.rox_grammar.specs.State.{Open}
 use Rattle.rox_reading.specs.State.{State}
 use Rattle.rox_reading.specs.Machine.{Context, with_item, with_piece, at_place, after_part, data_parts, character_data_step}
 use Rattle.rox_reading.proofs.Forests.{join-nil, join_assoc}
@@ -64,9 +63,7 @@ pub record IsPiece (s t : State) (i j : ℕ) (ss : List DataByte) : Type 0 where
   pub openings_left : t.openings_left ≡ s.openings_left
 
 pub piece_read : (limit most : ℕ) (s t : State) (i j : ℕ) (ss : List DataByte) → limit ≤ most → IsValidState most s → with_piece limit s i j (line_ends ss) ≡ Ok t → IsPiece s t i j ss × IsValidState most t
-piece_read limit most s t i j [] more fine h =
-    let e : s ≡ t = ok_same _ _ h in
-    (record { done = sym (ap (λ (s : State). s.done) e) ∙ sym (join-nil s.done); stack = sym (ap (λ (s : State). s.stack) e); openings_left = sym (ap (λ (s : State). s.openings_left) e) }, subst (IsValidState most) e fine)
+piece_read limit most s t i j [] more fine h = grind (arith, join-nil)
 piece_read limit most s t i j (x ∷ ss) more fine h =
     let some = some_line_ends x ss in
     let item = Text i j (line_ends (x ∷ ss)) false in
@@ -97,8 +94,7 @@ module _ (context : Context) (O : Inclusion) (agrees : AgreesContent context.val
   -- Parts begin at the stop or before.
   parts_le : (i b c : ℕ) (items : Forest Item) → PartsFrom i b c items → i ≤ stop
   parts_le i b c items (last_part _ _ ss part) = part_le context.values.main src stop i ss part
-  parts_le i b d items (then_entity _ p j _ c _ _ ss front more part (entity_reference n r none) opened rest) =
-      omega (arith, part_le context.values.main src p i ss part, reference_opens src p n j r, parts_le j c d more rest)
+  parts_le i b d items (then_entity _ p j _ c _ _ ss front more part (entity_reference n r none) opened rest) = grind (arith, parts_le j c d more rest, part_le, reference_opens)
 
   -- Past the stop there are no signs.
   part_none : (i : ℕ) (ss : List DataByte) → stop ≤ i → Part context.values.main src stop i ss → ss ≡ []
@@ -121,11 +117,9 @@ module _ (context : Context) (O : Inclusion) (agrees : AgreesContent context.val
       let v_at : v.at ≡ j = ap (λ (s : State). s.at) same in
       let v_left : v.openings_left ≡ c = ap (λ (s : State). s.openings_left) same in
       let v_stack : v.stack ≡ s.stack = ap (λ (s : State). s.stack) same ∙ stack in
-      let v_done : v.done ≡ join (join s.done (piece start stop false ss)) items = ap (λ (s : State). s.done) same ∙ ap (λ (f : Forest Item). join f items) done in
       let rest' : PartsFrom j c d more = subst (λ (b : ℕ). PartsFrom j b d more) v_left (subst (λ (i : ℕ). PartsFrom i v.openings_left d more) v_at rest) in
       let opened' = subst (λ (b : ℕ). O.content (slice src (p + 1) n) b items c) openings_left opened in
-      let all : join v.done more ≡ join s.done (join (piece start stop false ss) (join items more)) =
-      ap (λ (f : Forest Item). join f more) v_done ∙ join_assoc (join s.done (piece start stop false ss)) items more ∙ join_assoc s.done (piece start stop false ss) (join items more) in
+      let all : join v.done more ≡ join s.done (join (piece start stop false ss) (join items more)) = grind (arith, join_assoc) in
       (join (piece start stop false ss) (join items more), d, then_entity s.at p j s.openings_left c d _ ss items more part (entity_reference n r none) opened' rest', last ∙ rw (all, v_stack) refl, fine)
 
   -- What is read after a part.
@@ -173,10 +167,7 @@ module _ (context : Context) (O : Inclusion) (agrees : AgreesContent context.val
   -- The items after a piece, a replacement text and the rest.
   behind_all : (s t : State) (one front more : Forest Item) (d : ℕ) → t.done ≡ join s.done one → t.stack ≡ s.stack
       → state stop (join (join t.done front) more) t.stack d ≡ state stop (join s.done (join one (join front more))) s.stack d
-  behind_all s t one front more d done stack =
-      let all : join (join t.done front) more ≡ join s.done (join one (join front more)) =
-      ap (λ (f : Forest Item). join (join f front) more) done ∙ join_assoc (join s.done one) front more ∙ join_assoc s.done one (join front more) in
-      ap (λ (f : Forest Item). state stop f t.stack d) all ∙ ap (λ (o : Open). state stop (join s.done (join one (join front more))) o d) stack
+  behind_all s t one front more d done stack = grind (arith, join_assoc)
 
   -- A replacement text is read, and what is after it.
   opened_on : (text : Replacement) (j : ℕ) (t v u : State) (more : State → Result State Refusal) → context.opener text j t ≡ Ok v → more v ≡ Ok u → after_part context more stop t (opening text j) ≡ Ok u
@@ -188,8 +179,7 @@ module _ (context : Context) (O : Inclusion) (agrees : AgreesContent context.val
   run_parts_complete zero i b c items s at openings_left enough (last_part _ _ ss part) fine =
       let none = part_none i ss (omega arith) part in
       none_on s ∙ rw (none, openings_left) (rw join-nil refl)
-  run_parts_complete zero i b d items s at openings_left enough (then_entity _ p j _ c _ _ ss front more part (entity_reference n r none) opened rest) fine =
-      absurd (omega (arith, part_le context.values.main src p i ss part, reference_opens src p n j r, parts_le j c d more rest))
+  run_parts_complete zero i b d items s at openings_left enough (then_entity _ p j _ c _ _ ss front more part (entity_reference n r none) opened rest) fine = grind (arith, part_le, reference_opens, parts_le)
   run_parts_complete (suc n) i b c items s at openings_left enough (last_part _ _ ss part) fine =
       let to = part_le context.values.main src stop i ss part in
       let q = run_part_complete context.values.entities src utf8 stop long closes context.values.main (stop - i) i stop ss at_end to (omega arith) part (ends_run stop refl) in
@@ -202,8 +192,7 @@ module _ (context : Context) (O : Inclusion) (agrees : AgreesContent context.val
       let to = part_le context.values.main src p i ss part in
       let moves = reference_opens src p m j r in
       let inside = parts_le j c d more rest in
-      let whole : join s.done (join (piece start stop false ss) (join front more)) ≡ join (join (join s.done (piece start stop false ss)) front) more =
-      sym (join_assoc s.done (piece start stop false ss) (join front more)) ∙ sym (join_assoc (join s.done (piece start stop false ss)) front more) in
+      let whole : join s.done (join (piece start stop false ss) (join front more)) ≡ join (join (join s.done (piece start stop false ss)) front) more = grind (arith, join_assoc) in
       let fine2 : IsValidState context.limit (state stop (join (join (join s.done (piece start stop false ss)) front) more) s.stack d) = rw whole at fine in
       let fine1 = fine_before context.limit j stop c d (join (join s.done (piece start stop false ss)) front) more s.stack fine2 in
       let fine0 = fine_before context.limit stop j s.openings_left c (join s.done (piece start stop false ss)) front s.stack fine1 in
@@ -233,11 +222,7 @@ some_before src i here other =
     let le = from_le p src i in
     elim (cases_lt i (byte_from p src i)) as (λ s. i < byte_from p src i) [
       | inl l ↦ l
-      | inr g ↦ absurd (
-          let e : byte_from p src i ≡ i = omega arith in
-          let h = from_here p src i (omega arith) in
-          let h' : (byte src i == 60) ≡ true = rw e at h in
-          other (eqb-true _ _ h'))
+      | inr g ↦ grind (arith, from_here p src i (omega arith))
     ]
 
 -- Nothing is found past the end.
@@ -285,13 +270,11 @@ plain_ends (b ∷ bs) h =
     literal_ends b (literals bs) (eqb-false _ _ here.1) ∙ ap (λ (r : List ℕ). b ∷ r) (plain_ends bs (not_from_false _ both.1))
 
 plain_text : (main : Bool) (bs : List ℕ) → is_verbatim bs ≡ true → part_text main bs ≡ bs
-plain_text true bs h = refl
-plain_text false bs h = plain_ends bs h
+plain_text main bs h = grind (arith, plain_ends)
 
 -- A part that is not empty gives a text.
 pub piece_whole : (i j : ℕ) (borrowed : Bool) (ss : List DataByte) (v : List ℕ) → line_ends ss ≡ v → 0 < length v → piece i j borrowed ss ≡ leaf (Text i j v borrowed)
-piece_whole i j borrowed [] v is some = absurd (omega (arith, ap length is))
-piece_whole i j borrowed (x ∷ ss) v is some = ap (λ (w : List ℕ). leaf (Text i j w borrowed)) is
+piece_whole i j borrowed ss v is some = grind arith
 
 module _ (context : Context) (O : Inclusion) (agrees : AgreesContent context.values.entities context.limit O context.opener) (src : List ℕ) (utf8 : IsUtf8 src) where
   -- A run with what it leads to.
@@ -300,9 +283,7 @@ module _ (context : Context) (O : Inclusion) (agrees : AgreesContent context.val
 
   -- No byte of a plain run is `&` or CR.
   plain_bytes : (i j k : ℕ) → j ≤ length src → is_verbatim (slice src i j) ≡ true → i ≤ k → k < j → (byte src k ≢ 38) × (context.values.main ≡ true → byte src k ≢ 13)
-  plain_bytes i j k inside plain from below =
-      let both = or_parts (eqb (byte src k) 38) (eqb (byte src k) 13) (slice_none ordinary src i j k inside (not-true _ plain) from below) in
-      (eqb-false _ _ both.0, λ z. eqb-false _ _ both.1)
+  plain_bytes i j k inside plain from below = grind (arith, slice_none)
 
   -- The part of a plain run.
   pub plain_part : (i j b : ℕ) → IsCharacterData src i j → is_verbatim (slice src i j) ≡ true → Parts context.values.main O src i j i b b (leaf (Text i j (slice src i j) true))

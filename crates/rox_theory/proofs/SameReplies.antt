@@ -1,6 +1,7 @@
 -- What comes of a reading comes of each that is given the same answers: replies beyond those that it takes change nothing.
-use Rattle.std.proofs.Common.{◌≡◌, ℕ, zero, suc, ◌+◌, ◌==◌, ◌||◌, nat_le, nat_lt, Bool, true, false, cond, List, [], ◌∷◌, ◌++◌, length, Result, Ok, Err, refl, ap, ◌∙◌, subst}
-use Rattle.std.specs.Prelude.{Option, Some, None, slice_index}
+use Rattle.std.proofs.Common.{◌≡◌, ℕ, zero, suc, ◌+◌, ◌==◌, ◌||◌, nat_le, nat_lt, Bool, cond, List, [], ◌∷◌, ◌++◌, length, Result, Ok, Err, refl, subst, arith}
+use Rattle.std.specs.Prelude.{Option, slice_index}
+use Rattle.std.proofs.lemmas.Grind.{common_steps}
 use Rattle.rox_grammar.specs.declared.fault.Fault.{Fault}
 use Rattle.rox_grammar.specs.declared.fault.Fault.TheVariants as fault
 use Rattle.rox_grammar.specs.declared.fault.Due.TheVariants as due
@@ -18,7 +19,7 @@ use Rattle.rox_reading.specs.Refusals.{Refusal, here, lifted}
 use Rattle.rox_reading.specs.Lexical.{byte_at}
 use Rattle.rox_reading.specs.State.{State}
 use Rattle.rox_reading.specs.Machine.{comment_step, instruction_step, at_place}
-use Rattle.rox_reading.specs.Doctype.{Reply, replies_of, Asks, asks_nothing, ◌>>>◌, Dtd, with_state, entity_head_at, Definition, inner, outer, definition_at, answer_text, defined, entity_step, skipped_declaration, subset_end, subset, doctype_head_at, doctype_step}
+use Rattle.rox_reading.specs.Doctype.{Reply, replies_of, Asks, asks_nothing, ◌>>>◌, Dtd, with_state, entity_head_at, Definition, outer, definition_at, answer_text, defined, entity_step, skipped_declaration, subset_end, subset, doctype_head_at, doctype_step}
 use Rattle.rox_reading.specs.WholeText.{misc, body, finished, prolog, doctype, reading}
 use Rattle.rox_reading.specs.Answering.{left_with, having_asked, Answered, Yields, Settled, SettledWhole}
 use Rattle.rox_reading.specs.Stopping.{with_refusal, Stops}
@@ -42,30 +43,20 @@ same_refused : (e : Refusal) → Same (λ rs. ([], Err e))
 same_refused e rs more = refl
 
 same_choice : (b : Bool) (x y : List Reply → Asks Dtd) → Same x → Same y → Same (λ rs. cond b (x rs) (y rs))
-same_choice true x y h k = h
-same_choice false x y h k = k
+same_choice b x y h k = grind arith
 
 same_behind : {A : Type 0} (r : Result A Refusal) (f : A → List Reply → Asks Dtd) → ((x : A) → Same (f x)) → Same (λ rs. asks_nothing r >>> λ x. f x rs)
-same_behind (Ok x) f h = h x
-same_behind (Err e) f h = same_refused e
+same_behind r f h = grind arith
 
 same_behind_whole : {A B : Type 0} (r : Result A Refusal) (f : A → List Reply → Asks B) → ((x : A) → SameWhole (f x)) → SameWhole (λ rs. asks_nothing r >>> λ x. f x rs)
-same_behind_whole (Ok x) f h = h x
-same_behind_whole (Err e) f h = λ rs more. refl
+same_behind_whole r f h = grind arith
 
 -- ---- one after the other
 
 -- What follows a run that came to an end.
 then_settled : (x : List Reply → Asks Dtd) (f : Dtd → Asks Dtd) (first : List Asked) (d : Dtd) → Answered x first d → (r : Asks Dtd) → Settled (λ rs. f (left_with rs d)) r
     → Settled (λ rs. x rs >>> f) (having_asked first r)
-then_settled x f first d on (later, Ok e) h = λ more.
-    let one = on (replies_of later ++ more) in
-    let two = h more in
-    ap (λ (rs : List Reply). x rs >>> f) (replies_then first later more) ∙ rw (one, two) refl
-then_settled x f first d on (later, Err e) h = λ more.
-    let one = on (replies_of later ++ with_refusal e more) in
-    let two = h more in
-    ap (λ (rs : List Reply). x rs >>> f) (replies_then first later (with_refusal e more)) ∙ rw (one, two) refl
+then_settled x f first d on r h = grind (arith, replies_then)
 
 -- What follows any run.
 settled_then : (x : List Reply → Asks Dtd) (f : Dtd → Asks Dtd) → ((d : Dtd) → Same (λ rs. f (left_with rs d))) → (r : Asks Dtd) → Settled x r → Settled (λ rs. x rs >>> f) (r >>> f)
@@ -75,22 +66,9 @@ settled_then x f h (first, Err e) on = λ more. (let one = on more in rw one ref
 same_then : (x : List Reply → Asks Dtd) (f : Dtd → Asks Dtd) → Same x → ((d : Dtd) → Same (λ rs. f (left_with rs d))) → Same (λ rs. x rs >>> f)
 same_then x f on h rs = settled_then x f h (x rs) (on rs)
 
--- The same where what follows takes no replies.
-whole_settled : {A : Type 0} (x : List Reply → Asks Dtd) (f : Dtd → Asks A) (first : List Asked) (d : Dtd) → Answered x first d → (r : Asks A) → ((rs : List Reply) → f (left_with rs d) ≡ r) → r.0 ≡ []
-    → SettledWhole (λ rs. x rs >>> f) (having_asked first r)
-whole_settled x f first d on (later, Ok y) is none = λ more.
-    let none' : later ≡ [] = none in
-    let one = on more in let two = is more in
-    ap (λ (later : List Asked). x (replies_of (first ++ later) ++ more) >>> f) none' ∙ ap (λ (rs : List Reply). x rs >>> f) (replies_then first [] more) ∙ rw (one, two) refl
-whole_settled x f first d on (later, Err e) is none = λ more.
-    let none' : later ≡ [] = none in
-    let one = on (with_refusal e more) in let two = is (with_refusal e more) in
-    ap (λ (later : List Asked). x (replies_of (first ++ later) ++ with_refusal e more) >>> f) none' ∙ ap (λ (rs : List Reply). x rs >>> f) (replies_then first [] (with_refusal e more)) ∙ rw (one, two) refl
-
 settled_whole : {A : Type 0} (x : List Reply → Asks Dtd) (f : Dtd → Asks A) → ((d : Dtd) (rs : List Reply) → f (left_with rs d) ≡ f d) → ((d : Dtd) → (f d).0 ≡ []) → (r : Asks Dtd) → Settled x r
     → SettledWhole (λ rs. x rs >>> f) (r >>> f)
-settled_whole x f plain none (first, Ok d) on = whole_settled x f first d on (f d) (plain d) (none d)
-settled_whole x f plain none (first, Err e) on = λ more. (let one = on more in rw one refl)
+settled_whole x f plain none r on = grind (arith, common_steps)
 
 -- ---- a declaration of an entity
 
@@ -103,30 +81,14 @@ module _ (src : List ℕ) (p : ℕ) (name : List ℕ) (d : Dtd) where
   abbrev defines : Definition → List Reply → Asks Dtd
   defines definition rs = defined definition p rs >>> behind_text (byte_at 62 src (spaces_end src p)) name d
 
-  -- A text that is written there.
-  inner_same : (t : Replacement) → Same (λ rs. defines (inner t) rs)
-  inner_same t rs = ended (byte_at 62 src (spaces_end src p)) refl
-    where
-      ended : (end : Result (Unit {0} × ℕ) Fault) → byte_at 62 src (spaces_end src p) ≡ end → Settled (λ rs. defines (inner t) rs) (([], Ok (Some t, rs)) >>> behind_text end name d)
-      ended (Ok x) is = λ more. rw is refl
-      ended (Err f) is = λ more. rw is refl
-
   -- One that is asked for and answered.
   answered : (request : Request) (answer : Option (List ℕ)) (left : List Reply) (text : Result (Option Replacement) Refusal) (end : Result (Unit {0} × ℕ) Fault)
       → answer_text answer ≡ text → byte_at 62 src (spaces_end src p) ≡ end
       → Settled (λ rs. defines (outer request) rs) (((record { request = request; answer = answer } ∷ [], text) >>> λ t. ([], Ok (t, left))) >>> behind_text end name d)
-  answered request answer left (Ok t) (Ok x) is closes = λ more. rw (is, closes) refl
-  answered request answer left (Ok t) (Err f) is closes = λ more. rw (is, closes) refl
-  answered request answer left (Err e) end is closes = λ more. rw is refl
-
-  outer_same : (request : Request) → Same (λ rs. defines (outer request) rs)
-  outer_same request [] = answered request None [] (answer_text None) (byte_at 62 src (spaces_end src p)) refl refl
-  outer_same request (Ok answer ∷ rs) = answered request answer rs (answer_text answer) (byte_at 62 src (spaces_end src p)) refl refl
-  outer_same request (Err message ∷ rs) = λ more. refl
+  answered request answer left text end is closes = grind arith
 
   defines_same : (definition : Definition) → Same (λ rs. defines definition rs)
-  defines_same (inner t) = inner_same t
-  defines_same (outer request) = outer_same request
+  defines_same definition = grind arith
 
 entity_same : (src : List ℕ) (d : Dtd) → Same (λ rs. entity_step src (left_with rs d))
 unfolding entity_step

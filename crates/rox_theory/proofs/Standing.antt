@@ -1,9 +1,9 @@
 -- What holds of a state all along: its names and its limits, and how they grow.
-use Rattle.std.proofs.Common.{◌≡◌, ℕ, ◌+◌, ◌≤◌, List, [], ◌++◌, length, refl, ap, ◌∙◌, arith, append_assoc}
+use Rattle.std.proofs.Common.{◌≡◌, ℕ, ◌+◌, ◌≤◌, List, [], ◌++◌, length, arith, append_assoc}
 use Rattle.std.proofs.lemmas.List.{append-nil}
 use Rattle.rox_grammar.specs.Forest.{Forest, Nil, Cons, join, size}
-use Rattle.rox_grammar.specs.Written.{Tag, Item, Element, NamespaceDecl, merge}
-use Rattle.rox_grammar.specs.Tree.{scope_in, listed}
+use Rattle.rox_grammar.specs.Written.{Tag, Item, Element, NamespaceDecl}
+use Rattle.rox_grammar.specs.Tree.{scope_in}
 use Rattle.rox_grammar.specs.WellNamed.{ItemWellNamed, AreWellNamed}
 use Rattle.rox_grammar.specs.Counts.{own_pairs, pairs, own_attributes, attribute_count, with_new, distinct_pairs}
 use Rattle.rox_grammar.specs.State.{Open, root, inside, scope_of, nodes_so_far, attributes_so_far, pairs_so_far}
@@ -39,30 +39,19 @@ pairs-item (inside start tag before up) done item kids = rw (pairs-join done (Co
 pub named-item : (stack : Open) (done : Forest Item) (item : Item) (kids : Forest Item)
     → AreNamed stack done → ItemWellNamed (scope_in (scope_of stack) item) item → AreWellNamed (scope_in (scope_of stack) item) kids → AreNamed stack (join done (Cons item kids Nil))
 named-item root done item kids named own below = named-join [] done (Cons item kids Nil) named (own, below, tt)
-named-item (inside start tag before up) done item kids named own below =
-    (named.0, named.1, named-join (listed (scope_of up) tag.declarations) done (Cons item kids Nil) named.2 (own, below, tt))
+named-item (inside start tag before up) done item kids named own below = grind (arith, named-join)
 
 -- And they were in order before it.
 pub item-named : (stack : Open) (done : Forest Item) (item : Item) (kids : Forest Item)
     → AreNamed stack (join done (Cons item kids Nil)) → AreNamed stack done × ItemWellNamed (scope_in (scope_of stack) item) item × AreWellNamed (scope_in (scope_of stack) item) kids
-item-named root done item kids named =
-    let last = named-right [] done (Cons item kids Nil) named in
-    (named-left [] done (Cons item kids Nil) named, last.0, last.1)
-item-named (inside start tag before up) done item kids named =
-    let last = named-right (listed (scope_of up) tag.declarations) done (Cons item kids Nil) named.2 in
-    ((named.0, named.1, named-left (listed (scope_of up) tag.declarations) done (Cons item kids Nil) named.2), last.0, last.1)
+item-named root done item kids named = grind (arith, named-right, named-left)
+item-named (inside start tag before up) done item kids named = grind (arith, named-right, named-left)
 
 -- An element is one node more, and what is below it.
 pub nodes-element : (stack : Open) (done : Forest Item) (start end : ℕ) (tag : Tag) (kids : Forest Item)
     → nodes_so_far stack (join done (Cons (Element start end tag) kids Nil)) ≡ nodes_so_far stack done + (1 + size kids)
-nodes-element root done start end tag kids =
-    let e : size (merge (join done (Cons (Element start end tag) kids Nil))) ≡ size (merge done) + size (Cons (Element start end tag) kids Nil) =
-    ap size (merge-item done (Element start end tag) kids refl) ∙ size-join (merge done) (Cons (Element start end tag) kids Nil) in
-    omega arith
-nodes-element (inside a b before up) done start end tag kids =
-    let e : size (merge (join done (Cons (Element start end tag) kids Nil))) ≡ size (merge done) + size (Cons (Element start end tag) kids Nil) =
-    ap size (merge-item done (Element start end tag) kids refl) ∙ size-join (merge done) (Cons (Element start end tag) kids Nil) in
-    omega arith
+nodes-element root done start end tag kids = grind (arith, merge-item, size-join)
+nodes-element (inside a b before up) done start end tag kids = grind (arith, merge-item, size-join)
 
 -- More items never make fewer nodes.
 pub nodes-grow : (stack : Open) (done more : Forest Item) → nodes_so_far stack done ≤ nodes_so_far stack (join done more)

@@ -30,7 +30,7 @@ use Rattle.rox_theory.proofs.TagLemmas as tags
 use Rattle.rox_theory.proofs.RunLemmas as runs
 use Rattle.rox_theory.proofs.RunLemmas.{AgreesContent}
 use Rattle.rox_theory.proofs.Flat.{StepsOver, takes_run, takes_cdata, takes_misc, takes_empty, takes_start, takes_end}
-use Rattle.rox_theory.proofs.Constructions.{Kind, a_run, a_comment, a_cdata, an_instruction, an_end, a_tag, nothing, kind_at, step_by, step_is, Means, kind_means, name_byte, run_within, run_kind, comment_kind, comment_bytes, cdata_kind, cdata_bytes, instruction_kind, instruction_bytes, end_kind, end_bytes, tag_kind}
+use Rattle.rox_theory.proofs.Constructions.{Kind, a_run, a_comment, a_cdata, an_instruction, an_end, a_tag, nothing, kind_at, step_by, step_is, Means, kind_means, name_byte, run_within, run_kind, comment_kind, comment_bytes, cdata_kind, cdata_bytes, instruction_kind, instruction_bytes, end_kind, tag_kind}
 use Rattle.rox_theory.proofs.Standing.{IsValidState}
 use Rattle.rox_theory.proofs.Leaves.{state, with_leaf, Adds, counted_fits, fits_counted, leaf_fine, fine_there, fine_before, item_read, read_item}
 use Rattle.rox_theory.proofs.Steps.{after, closed, fine_leaf, opened_fine, fine_opened, closed_fine, fine_closed, same_names, names_same}
@@ -224,8 +224,7 @@ module _ (context : Context) (O : Inclusion) (values : AgreesValue context.value
   -- ---- a construct moves forward in the source
 
   tag_end : (i : ℕ) (empty : Bool) (j : ℕ) → TagEnds src i empty j → j ≤ length src
-  tag_end i empty j (content.opened _ greater) = let l = within src (spaces_end src i) (λ z. omega arith) in omega arith
-  tag_end i empty j (content.closed _ slash greater) = let l = within src (spaces_end src i + 1) (λ z. omega arith) in omega arith
+  tag_end i empty j h = grind (arith, within)
 
   tag_moves : (i j b c : ℕ) (empty : Bool) (tag : Tag) → IsTag context.values.main O src i j b c empty tag → (i < length src) × (i < j) × (j ≤ length src)
   tag_moves i j b c empty _ (start_tag n last name written begin is_name list end) =
@@ -257,7 +256,6 @@ module _ (context : Context) (O : Inclusion) (values : AgreesValue context.value
   step_moves s t (takes_empty i j b c tag done stack is) = tag_moves i j b c true tag is
   step_moves s t (takes_start i j b c tag done stack is) = tag_moves i j b c false tag is
   step_moves s t (takes_end i p j b start tag done before up deep end) =
-      let b = end_bytes src i (end_parts end).opens in
       let m = markup.end_sound src i j (record { name = tag.name; name_end = p }) (end_parts end).opens (markup.end_complete src i j p tag.name end) in
       let next = (end_parts end).next in let closes = (end_parts end).closes in
       let l = within src (spaces_end src p) (λ z. omega arith) in

@@ -24,7 +24,7 @@ use Rattle.rox_reading.specs.Markup.{comment_at, instruction_at}
 use Rattle.rox_reading.specs.Refusals.{Refusal, here, there, refused}
 use Rattle.rox_reading.specs.State.{State}
 use Rattle.rox_reading.specs.Machine.{with_item, comment_step, instruction_step, at_place}
-use Rattle.rox_reading.specs.Doctype.{Reply, Asks, ◌>>>◌, Dtd, AreTextReplies, with_state, entity_step, subset_end, subset}
+use Rattle.rox_reading.specs.Doctype.{Asks, ◌>>>◌, Dtd, AreTextReplies, with_state, entity_step, subset_end, subset}
 use Rattle.rox_reading.specs.Doctype as reading
 use Rattle.rox_reading.specs.Answering.{having_asked}
 use Rattle.rox_reading.proofs.Answering.{spaced}
@@ -164,9 +164,7 @@ refusal_front src i j one first es front asked (refused request p message) h = l
 
 found_front : (src : List ℕ) (i j l : ℕ) (one : Forest Item) (first : List Asked) (es : List Entity) → Fronts src i j one first es → (items : Forest Item) (asked : List Asked) (more : List Entity)
     → Closes src j l items asked more ⊎ (length src ≤ l) → Closes src i l (join one items) (first ++ asked) (es ++ more) ⊎ (length src ≤ l)
-found_front src i j l one first es front items asked more (inl c) =
-    inl (record { k = c.k; subset = front c.k items asked more c.subset; bracket = c.bracket; closes = c.closes; next = c.next })
-found_front src i j l one first es front items asked more (inr cut) = inr cut
+found_front src i j l one first es front items asked more k = grind arith
 
 -- What comes of it with something in front.
 outcome_front : (most : ℕ) (src : List ℕ) (d e : Dtd) (one : Forest Item) (first : List Asked) (es : List Entity) → Fronts src d.state.at e.state.at one first es

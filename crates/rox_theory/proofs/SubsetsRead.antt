@@ -87,8 +87,7 @@ module _ (src : List ℕ) (utf8 : IsUtf8 src) where
     end_read n i done es bracket closes =
         let inside = within src i (λ z. omega arith) in
         let e : spaces_end src i ≡ i = run_stops is_space src i inside (omega arith) (rw bracket refl) in
-        let none : (w : Word) → 0 < length (word_text w) → byte (word_text w) 0 ≡ 60 → at w src (spaces_end src i) ≡ false =
-        λ w some first. rw e (byte_apart w src i some (λ h. omega arith)) in
+        let none : (w : Word) → 0 < length (word_text w) → byte (word_text w) 0 ≡ 60 → at w src (spaces_end src i) ≡ false = grind (arith, byte_apart) in
         let is : byte src (spaces_end src i) ≡ 93 = rw e bracket in
         let more : spaces_end src (spaces_end src i + 1) < length src = rw e (within src (spaces_end src (i + 1)) (λ z. omega arith)) in
         let ends : byte src (spaces_end src (spaces_end src i + 1)) ≡ 62 = rw e closes in
@@ -178,9 +177,7 @@ module _ (src : List ℕ) (utf8 : IsUtf8 src) where
     pub subset_complete : (n i k : ℕ) (items done : Forest Item) (asked : List Asked) (more es : List Entity) → Subset src i k items asked more → byte src k ≡ 93 → byte src (spaces_end src (k + 1)) ≡ 62
         → IsValidState limit (state k (join done items) stack openings_left) → length src ≤ i + n
         → Answered (here_run n i done es) asked (here_at (spaces_end src (k + 1) + 1) (join done items) stack openings_left (es ++ more))
-    subset_complete zero i k items done asked more es rest bracket closes fine enough =
-        let inside = within src k (λ z. omega arith) in
-        absurd (omega (arith, subset_le i k items asked more rest))
+    subset_complete zero i k items done asked more es rest bracket closes fine enough = grind (arith, within, subset_le)
     subset_complete (suc n) i k items done asked more es (no_more _) bracket closes fine enough = rw (join-nil, append-nil) (end_read n i done es bracket closes)
     subset_complete (suc n) i k items done asked more es (space _ _ _ _ _ is rest) bracket closes fine enough =
         let inside = within src k (λ z. omega arith) in

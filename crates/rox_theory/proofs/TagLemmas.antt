@@ -6,12 +6,10 @@ use Rattle.std.proofs.lemmas.Bool.{lt-leb, le-ltb, ltb-false}
 use Rattle.rox_grammar.specs.declared.fault.Fault.{Fault}
 use Rattle.rox_grammar.specs.declared.fault.Word.TheVariants as word
 use Rattle.rox_grammar.specs.FixedTexts.{word_text}
-use Rattle.rox_grammar.specs.Chars.{is_space}
 use Rattle.rox_grammar.specs.Written.{Name, Attribute, NamespaceDecl, Tag}
 use Rattle.rox_grammar.specs.Tree.{listed}
 use Rattle.rox_grammar.specs.Names.{byte, spaces_end}
-use Rattle.rox_grammar.specs.Content.{Inclusion, IsAttribute, Attributes, no_more, one_more, TagEnds, IsTag}
-use Rattle.rox_grammar.specs.Content as content
+use Rattle.rox_grammar.specs.Content.{Inclusion, Attributes, no_more, one_more, TagEnds, IsTag}
 use Rattle.rox_grammar.specs.WellNamed.{IsWellNamed, may_name}
 use Rattle.rox_grammar.proofs.NamesApart.{DistinctBehind, declarable_behind, distinct_behind, are_declarable, are_distinct}
 use Rattle.rox_grammar.proofs.TagParts.{tag_parts, tag_of}
@@ -30,14 +28,7 @@ use Rattle.rox_theory.proofs.DeclaredLemmas.{all_taken, taken_sound, taken_compl
 
 -- A tag ends in the source.
 pub ends_inside : (src : List ℕ) (i : ℕ) (empty : Bool) (j : ℕ) → TagEnds src i empty j → (i < length src) × (i < j)
-ends_inside src i empty j (content.opened _ greater) =
-    let l = within src (spaces_end src i) (λ z. omega arith) in
-    let le = run_end_le is_space src i in
-    (omega arith, omega arith)
-ends_inside src i empty j (content.closed _ slash greater) =
-    let l = within src (spaces_end src i) (λ z. omega arith) in
-    let le = run_end_le is_space src i in
-    (omega arith, omega arith)
+ends_inside src i empty j h = grind (arith, within, run_end_le)
 
 -- A tag that passes the tests has distinct names, within the limit.
 tested_sound : (scope : List NamespaceDecl) (count i : ℕ) (name : Name) (as' : List Attribute) (x : Unit {0}) → tag_tested scope count i name as' ≡ Ok x
@@ -103,10 +94,7 @@ module _ (context : Values) (O : Inclusion) (agrees : AgreesValue context.entiti
   -- Attributes go forwards.
   pub attributes_le : (i j b c : ℕ) (as' : List Attribute) → Attributes context.main O src i j b c as' → i ≤ j
   attributes_le i j b c as' (no_more _ _) = omega arith
-  attributes_le i j b c as' (one_more _ k _ _ d _ a rest some first p) =
-      let one = attribute_le context O agrees src utf8 (spaces_end src i) k b d a first in
-      let ih = attributes_le k j d c rest p in
-      omega arith
+  attributes_le i j b c as' (one_more _ k _ _ d _ a rest some first p) = grind (arith, attribute_le context O agrees src utf8 (spaces_end src i) k b d a first, attributes_le k j d c rest p)
 
   -- The rest of a tag that is there is read.
   rest_complete : (n : ℕ) (cut : Fault) (known : List NamespaceDecl) (i last b c : ℕ) (written : List Attribute) (empty : Bool) (j : ℕ) (h held : TagSoFar)

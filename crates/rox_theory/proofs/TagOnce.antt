@@ -1,13 +1,11 @@
 -- At most one start tag is at a place, whatever the limits are, where as many texts may be opened.
-use Rattle.std.proofs.Common.{◌≡◌, ℕ, ◌+◌, ◌<◌, Bool, true, false, cond, List, Ok, refl, sym, ap, ◌∙◌, subst}
+use Rattle.std.proofs.Common.{◌≡◌, ℕ, ◌<◌, Bool, cond, List, Ok, refl, sym, ap, subst, arith}
 use Rattle.std.specs.Str.{IsUtf8}
-use Rattle.rox_grammar.specs.Written.{Name, Attribute, Tag}
+use Rattle.rox_grammar.specs.Written.{Attribute, Tag}
 use Rattle.rox_grammar.specs.Names.{spaces_end}
 use Rattle.rox_grammar.specs.Content.{Inclusion, IsAttribute, Attributes, no_more, one_more, TagEnds, IsTag, start_tag}
 use Rattle.rox_reading.specs.Markup.{RawAttribute, TagItem, more, opened, closed, tag_item_at}
-use Rattle.rox_reading.specs.Values.{ReadText, value_at}
-use Rattle.rox_reading.specs.Tags.{Values, attribute_with}
-use Rattle.rox_reading.specs.Lexical.{qname_at}
+use Rattle.rox_reading.specs.Tags.{Values}
 use Rattle.rox_theory.specs.Openers.{AgreesValue}
 use Rattle.rox_theory.proofs.FailedReadings.{ok_one}
 use Rattle.rox_theory.proofs.NameLemmas.{qname_complete}
@@ -15,15 +13,7 @@ use Rattle.rox_theory.proofs.AttributeLemmas.{AttributeReads, attribute_complete
 
 -- The end of a tag is not an attribute.
 pub apart : (raw : RawAttribute) (x : Bool) → more raw ≡ cond x closed opened → ⊥
-apart raw true e = cc
-apart raw false e = cc
-
--- The end of a tag says whether it is empty.
-same_end : (x y : Bool) → ◌≡◌ {A = TagItem} (cond x closed opened) (cond y closed opened) → x ≡ y
-same_end true true e = refl
-same_end true false e = cc
-same_end false true e = cc
-same_end false false e = refl
+apart raw x e = grind arith
 
 -- The attribute of a turn, or another.
 raw_of : RawAttribute → TagItem → RawAttribute
@@ -49,28 +39,14 @@ module _ (context : Values) (O : Inclusion) (agrees : AgreesValue context.entiti
 
   -- An attribute is read in one way.
   pub one_attribute : (j k i b c d : ℕ) (a e : Attribute) → (r : Reads i j b c a) → (s : Reads i k b d e) → r.0 ≡ s.0 → (a ≡ e) × (c ≡ d)
-  one_attribute j k i b c d a e r s same =
-      let read : value_at context.main context.entities context.opener src r.0.value_start r.0.value_end b ≡ Ok (s.1, d) =
-      subst (λ (raw : RawAttribute). value_at context.main context.entities context.opener src raw.value_start raw.value_end b ≡ Ok (s.1, d)) (sym same) s.3 in
-      let value = ok_one (r.1, c) (s.1, d) (value_at context.main context.entities context.opener src r.0.value_start r.0.value_end b) r.3 read in (
-        r.4 ∙ ap (λ (raw : RawAttribute). attribute_with raw r.1) same ∙ ap (λ (x : ReadText × ℕ). attribute_with s.0 x.0) value ∙ sym s.4,
-        ap (λ (x : ReadText × ℕ). x.1) value,
-      )
+  one_attribute j k i b c d a e r s same = grind arith
 
   -- The attributes, and the end of their tag.
   one_list : (i l m j k b c d : ℕ) (as' bs : List Attribute) (x y : Bool) → Attributes context.main O src i l b c as' → Attributes context.main O src i m b d bs → TagEnds src l x j → TagEnds src m y k
       → (as' ≡ bs) × (j ≡ k) × (x ≡ y) × (c ≡ d)
-  one_list i l m j k b c d as' bs x y (no_more _ _) (no_more _ _) end end' =
-      let same = ok_one (cond x closed opened, j) (cond y closed opened, k) (tag_item_at src i) (end_complete src i x j end) (end_complete src i y k end') in
-      (refl, ap (λ (p : TagItem × ℕ). p.1) same, same_end x y (ap (λ (p : TagItem × ℕ). p.0) same), refl)
-  one_list i l m j k b c d as' bs x y (no_more _ _) (one_more _ n _ _ f _ a rest spaces is others) end end' =
-      let turn = turn_is i n b f a is spaces in
-      let same = ok_one (more turn.0.0, n) (cond x closed opened, j) (tag_item_at src i) turn.1 (end_complete src i x j end) in
-      absurd (apart turn.0.0 x (ap (λ (p : TagItem × ℕ). p.0) same))
-  one_list i l m j k b c d as' bs x y (one_more _ n _ _ f _ a rest spaces is others) (no_more _ _) end end' =
-      let turn = turn_is i n b f a is spaces in
-      let same = ok_one (more turn.0.0, n) (cond y closed opened, k) (tag_item_at src i) turn.1 (end_complete src i y k end') in
-      absurd (apart turn.0.0 y (ap (λ (p : TagItem × ℕ). p.0) same))
+  one_list i l m j k b c d as' bs x y (no_more _ _) (no_more _ _) end end' = grind (arith, end_complete)
+  one_list i l m j k b c d as' bs x y (no_more _ _) (one_more _ n _ _ f _ a rest spaces is others) end end' = grind (arith, turn_is, end_complete)
+  one_list i l m j k b c d as' bs x y (one_more _ n _ _ f _ a rest spaces is others) (no_more _ _) end end' = grind (arith, turn_is, end_complete)
   one_list i l m j k b c d as' bs x y (one_more _ n _ _ f _ a rest spaces is others) (one_more _ o _ _ g _ a' rest' spaces' is' others') end end' =
       let turn = turn_is i n b f a is spaces in
       let turn' = turn_is i o b g a' is' spaces' in
@@ -83,12 +59,7 @@ module _ (context : Values) (O : Inclusion) (agrees : AgreesValue context.entiti
 
   -- A tag is read in one way, and as many texts may be opened after it.
   pub tag_once : (i j k b c d : ℕ) (s t : Tag) (x y : Bool) → IsTag context.main O src i j b c x s → IsTag context.main O src i k b d y t → (j ≡ k) × (c ≡ d) × (x ≡ y) × (s ≡ t)
-  tag_once i j k b c d _ _ x y (start_tag n last name written begin is_name list end) (start_tag n' last' name' written' begin' is_name' list' end') =
-      let named = ok_one (name, n) (name', n') (qname_at src (i + 1)) (qname_complete src (i + 1) name n is_name) (qname_complete src (i + 1) name' n' is_name') in
-      let same : name ≡ name' = ap (λ (n : Name × ℕ). n.0) named in
-      let at : n ≡ n' = ap (λ (n : Name × ℕ). n.1) named in
-      let one = one_list n' last last' j k b c d written written' x y (subst (λ (n : ℕ). Attributes context.main O src n last b c written) at list) list' end end' in
-      (one.1, one.3, one.2, rw (same, at, one.0) refl)
+  tag_once i j k b c d _ _ x y (start_tag n last name written begin is_name list end) (start_tag n' last' name' written' begin' is_name' list' end') = grind (arith, qname_complete, one_list)
 
   pub one_tag : (i j k b c d : ℕ) (s t : Tag) (x y : Bool) → IsTag context.main O src i j b c x s → IsTag context.main O src i k b d y t → (j ≡ k) × (s ≡ t) × (x ≡ y)
   one_tag i j k b c d s t x y p q = let once = tag_once i j k b c d s t x y p q in (once.0, once.3, once.2)

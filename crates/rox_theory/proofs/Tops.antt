@@ -1,13 +1,13 @@
 -- The top nodes of a document are no texts, so nothing is merged there.
-use Rattle.std.proofs.Common.{◌≡◌, ℕ, ◌+◌, Bool, true, false, List, length, refl, sym, ap, ◌∙◌}
+use Rattle.std.proofs.Common.{◌≡◌, ℕ, ◌+◌, Bool, false, List, refl, ap, arith}
 use Rattle.rox_grammar.specs.Forest.{Forest, Nil, Cons, join}
 use Rattle.rox_grammar.specs.Written.{Item, Element, Text, Comment, PI, merge}
-use Rattle.rox_grammar.specs.Content.{Inclusion, IsMisc, comment, instruction, IsElement, empty, nest}
-use Rattle.rox_grammar.specs.Entities.{Entity, included_in_main}
-use Rattle.rox_grammar.specs.Doctype.{Asked, Subset, IsDoctype, no_subset, with_subset, no_more, skipped_declaration, an_entity}
+use Rattle.rox_grammar.specs.Content.{Inclusion, IsMisc, IsElement}
+use Rattle.rox_grammar.specs.Entities.{Entity}
+use Rattle.rox_grammar.specs.Doctype.{Asked, Subset, IsDoctype, no_more, skipped_declaration, an_entity}
 use Rattle.rox_grammar.specs.Doctype as dtd
 use Rattle.rox_grammar.specs.Document.{Misc, no_misc, space, an_item, ParseOf}
-use Rattle.rox_theory.specs.ParseParts.{MayHaveDoctype, doctype, no_doctype}
+use Rattle.rox_theory.specs.ParseParts.{MayHaveDoctype}
 use Rattle.rox_reading.proofs.Forests.{is_text}
 use Rattle.rox_theory.proofs.ParseParts.{parts}
 
@@ -21,8 +21,7 @@ no_text-join Nil g h k = k
 no_text-join (Cons i c r) g (a, h) k = (a, no_text-join r g h k)
 
 misc_no_text : (src : List ℕ) (i j : ℕ) (item : Item) → IsMisc src i j item → is_text item ≡ false
-misc_no_text src i j item (comment _ e _ m) = refl
-misc_no_text src i j item (instruction _ n e _ m) = refl
+misc_no_text src i j item h = grind arith
 
 all_misc_no_text : (src : List ℕ) (i j : ℕ) (items : Forest Item) → Misc src i j items → HasNoText items
 all_misc_no_text src i j items (no_misc _) = tt
@@ -37,17 +36,10 @@ subset_no_text src i j items asked es (skipped_declaration _ _ _ _ _ _ _ m) = su
 subset_no_text src i j items asked es (an_entity _ k _ _ first later one others is m) = subset_no_text src k j items later others m
 
 doctype_itself_no_text : (src : List ℕ) (i j : ℕ) (items : Forest Item) (asked : List Asked) (es : List Entity) → IsDoctype src i j items asked es → HasNoText items
-doctype_itself_no_text src i j items asked es (no_subset _ s begins closes) = tt
-doctype_itself_no_text src i j items asked es (with_subset _ s k _ _ _ begins opens subset ends closes) = subset_no_text src (s + 1) k items asked es subset
+doctype_itself_no_text src i j items asked es h = grind (arith, subset_no_text)
 
 pub doctype_no_text : (src : List ℕ) (i j : ℕ) (is : Bool) (items : Forest Item) (asked : List Asked) (es : List Entity) → MayHaveDoctype src i j is items asked es → HasNoText items
-doctype_no_text src i j is items asked es (doctype _ k _ own more _ _ one after) =
-    no_text-join own more (doctype_itself_no_text src i k own asked es one) (all_misc_no_text src k j more after)
-doctype_no_text src i j is items asked es (no_doctype _) = tt
-
-pub element_no_text : (main : Bool) (O : Inclusion) (src : List ℕ) (i j b c : ℕ) (one : Forest Item) → IsElement main O src i j b c one → HasNoText one
-element_no_text main O src i j b c one (empty _ _ _ _ t tag) = (refl, tt)
-element_no_text main O src i j b c one (nest _ k m p _ _ d _ t kids tag inner end) = (refl, tt)
+doctype_no_text src i j is items asked es h = grind (arith, no_text-join, doctype_itself_no_text, all_misc_no_text)
 
 no_text_merge : (f : Forest Item) → HasNoText f → merge f ≡ f
 no_text_merge Nil h = refl
@@ -59,16 +51,8 @@ no_text_merge (Cons (PI x y t o) c r) (a, h) = ap (Cons (PI x y t o) c) (no_text
 -- Nor of what is at the top.
 pub tops_merged : (main : Bool) (O : Inclusion) (src : List ℕ) (h i j k l b c : ℕ) (is : Bool) (before nodes one after : Forest Item) (asked : List Asked) (es : List Entity) → Misc src h i before
     → MayHaveDoctype src i j is nodes asked es → IsElement main O src j k b c one → Misc src k l after → merge (join before (join nodes (join one after))) ≡ join before (join nodes (join one after))
-tops_merged main O src h i j k l b c is before nodes one after asked es first declares element last =
-    no_text_merge _
-    (no_text-join before (join nodes (join one after)) (all_misc_no_text src h i before first)
-    (no_text-join nodes (join one after) (doctype_no_text src i j is nodes asked es declares)
-    (no_text-join one after (element_no_text main O src j k b c one element) (all_misc_no_text src k l after last))))
+tops_merged main O src h i j k l b c is before nodes one after asked es first declares element last = grind (arith, no_text_merge, no_text-join, all_misc_no_text, doctype_no_text)
 
 -- Merging changes nothing of a parse.
 pub parse_merged : (src : List ℕ) (is : Bool) (asked : List Asked) (t : Forest Item) → ParseOf src is asked t → merge t ≡ t
-parse_merged src is asked t whole =
-    let p = parts src is asked t whole in
-    ap merge p.is_tree
-    ∙ tops_merged true (included_in_main p.entities) src p.prolog.0 p.begun p.start p.end (length src) 255 p.openings_left is p.before p.nodes p.one p.after asked p.entities p.prolog.2 p.doctype p.element p.misc_after
-    ∙ sym p.is_tree
+parse_merged src is asked t whole = grind (arith, parts src is asked t whole, tops_merged)

@@ -3,8 +3,7 @@ use Rattle.std.proofs.Common.{◌≡◌, ◌≢◌, ℕ, zero, suc, ◌+◌, ◌
 use Rattle.std.specs.Prelude.{Option, Some, None, Result, Ok}
 use Rattle.std.specs.Str.{IsUtf8, IsCharBoundary}
 use Rattle.std.proofs.lemmas.List.{append-nil, get_or-take, get_or_past, length-take-le}
-use Rattle.std.proofs.lemmas.Str.{IsCharBoundary-before_ascii, IsCharBoundary-end}
-use Rattle.std.proofs.lemmas.Bool.{not-true, eqb-true, eqb-false, eq-eqb, ne_eqb, lt-ltb, le-ltb, ltb-true, ltb-false, or_parts, or_from, or_cases, cases_lt, cases_Bool, false≢true}
+use Rattle.std.proofs.lemmas.Bool.{not-true, eqb-true, eqb-false, eq-eqb, ne_eqb, lt-ltb, le-ltb, ltb-true, ltb-false, or_parts, or_from, cases_lt, cases_Bool, false≢true}
 use Rattle.std.proofs.lemmas.Bool.Decides.{nat_tests}
 use Rattle.rox_grammar.specs.declared.fault.Span.{Span}
 use Rattle.rox_grammar.specs.Chars.{is_char}
@@ -32,11 +31,7 @@ Stays b = (b ≢ 38) × (b ≢ 9) × (b ≢ 10) × (b ≢ 13)
 
 -- A byte that is not special needs no replacement.
 stays : (b : ℕ) → is_special b ≡ false → Stays b
-stays b h =
-    let (amp, blank) = or_parts (eqb b 38) (eqb b 9 || (eqb b 10 || eqb b 13)) h in
-    let (tab, more) = or_parts (eqb b 9) (eqb b 10 || eqb b 13) blank in
-    let (lf, cr) = or_parts (eqb b 10) (eqb b 13) more in
-    (eqb-false _ _ amp, eqb-false _ _ tab, eqb-false _ _ lf, eqb-false _ _ cr)
+stays b h = grind arith
 
 -- A byte that needs no replacement is not special.
 pub not_special : (b : ℕ) → Stays b → is_special b ≡ false
@@ -48,12 +43,7 @@ IsWhite src stop i = (byte src i ≡ 9) ⊎ ((byte src i ≡ 10) ⊎ ((byte src 
 
 -- White space but CR.
 no_return : (b : ℕ) → is_special b ≡ true → eqb b 38 ≡ false → eqb b 13 ≡ false → (b ≡ 9) ⊎ (b ≡ 10)
-no_return b h amp cr =
-    let w : (eqb b 9 || (eqb b 10 || false)) ≡ true = rw (amp, cr) at h in
-    elim (or_cases (eqb b 9) (eqb b 10 || false) w) as (λ s. (b ≡ 9) ⊎ (b ≡ 10)) [
-      | inl t ↦ inl (eqb-true _ _ t)
-      | inr m ↦ elim (or_cases (eqb b 10) false m) as (λ s. (b ≡ 9) ⊎ (b ≡ 10)) [ inl l ↦ inr (eqb-true _ _ l) | inr f ↦ absurd (false≢true f) ]
-    ]
+no_return b h amp cr = grind arith
 
 -- What stops a stretch within a replacement text.
 abbrev pub stops : ℕ → Bool
@@ -64,14 +54,11 @@ stops_ascii b h = grind (arith, nat_tests)
 
 -- White space is ASCII, and Chars.
 white_ascii : (src : List ℕ) (stop i : ℕ) → IsWhite src stop i → (byte src i < 128) × (is_char (byte src i) ≡ true)
-white_ascii src stop i (inl tab) = (omega arith, rw tab refl)
-white_ascii src stop i (inr (inl lf)) = (omega arith, rw lf refl)
-white_ascii src stop i (inr (inr (cr, more))) = (omega arith, rw cr refl)
+white_ascii src stop i h = grind arith
 
 -- A text that is found.
 pub found_ok : (o : Option Replacement) (i : ℕ) (span : Span) (bit : Bit) → entity_bit o i span ≡ Ok bit → (t : Replacement) × (o ≡ Some t) × (opens t ≡ bit)
-found_ok None i span bit h = cc h
-found_ok (Some t) i span bit h = (t, refl, ok_same _ _ h)
+found_ok o i span bit h = grind arith
 
 -- What is in a value at a place, up to a place, in so far as it is one bit of its reading.
 pub data ValueBit (main : Bool) (es : List Entity) (src : List ℕ) (stop : ℕ) : ℕ → Bit → ℕ → Type 0 where
@@ -85,36 +72,15 @@ pub data ValueBit (main : Bool) (es : List Entity) (src : List ℕ) (stop : ℕ)
 module _ (es : List Entity) (src : List ℕ) (utf8 : IsUtf8 src) (stop : ℕ) (long : stop ≤ length src) (closes : stop < length src → IsStop (byte src stop)) where
   -- A character begins at the stop, or the text ends there.
   pub stop_cut : IsCharBoundary src stop
-  stop_cut = elim (cases_lt stop (length src)) as (λ s. IsCharBoundary src stop) [
-    | inl l ↦ IsCharBoundary-before_ascii src stop l (stop_ascii (byte src stop) (closes l))
-    | inr g ↦ (let e : length src ≡ stop = omega arith in subst (λ (k : ℕ). IsCharBoundary src k) e (IsCharBoundary-end src))
-  ]
-    where
-      stop_ascii : (b : ℕ) → IsStop b → b < 128
-      stop_ascii b (inl h) = omega arith
-      stop_ascii b (inr (inl h)) = omega arith
-      stop_ascii b (inr (inr h)) = omega arith
+  stop_cut = omega arith
 
   -- And where a stretch ends.
   pub next_cut : (p : ℕ → Bool) → ((b : ℕ) → p b ≡ true → b < 128) → (i : ℕ) → i ≤ stop → IsCharBoundary src (next_at src stop p i)
-  next_cut p ascii i to =
-      let bound = next_bound src stop long p i to in
-      let taken = length-take-le stop src long in
-      elim (cases_lt (next_at src stop p i) stop) as (λ s. IsCharBoundary src (next_at src stop p i)) [
-        | inl l ↦ (
-            let h = from_here p (take stop src) i (omega (arith, taken)) in
-            let h' : p (byte src (next_at src stop p i)) ≡ true = rw (get_or-take stop src (next_at src stop p i) 0 l) at h in
-            IsCharBoundary-before_ascii src (next_at src stop p i) (omega arith) (ascii _ h'))
-        | inr g ↦ (let e : stop ≡ next_at src stop p i = omega arith in subst (λ (k : ℕ). IsCharBoundary src k) e stop_cut)
-      ]
+  next_cut p ascii i to = grind (arith, next_bound, length-take-le, from_here, get_or-take)
 
   -- Each bit moves forward, but not past the stop.
   pub bit_moves : (main : Bool) (i : ℕ) (bit : Bit) (j : ℕ) → ValueBit main es src stop i bit j → (i < j) × (j ≤ stop)
-  bit_moves main i bit j (bit_line_end _ more cr lf) = (omega arith, omega arith)
-  bit_moves main i bit j (bit_white _ here is) = (omega arith, omega arith)
-  bit_moves main i bit j (bit_stretch _ _ some to cut plain chars) = (some, to)
-  bit_moves main i bit j (bit_character _ x _ r to any) = ((character_opens src i x j r).1, to)
-  bit_moves main i bit j (bit_entity _ n _ t r none to is) = ((reference_opens src i n j r).2, to)
+  bit_moves main i bit j h = grind (arith, reference_opens)
 
   -- A character begins after it.
   pub bit_cut : (main : Bool) (i : ℕ) (bit : Bit) (j : ℕ) → ValueBit main es src stop i bit j → IsCharBoundary src j
@@ -179,15 +145,7 @@ module _ (es : List Entity) (src : List ℕ) (utf8 : IsUtf8 src) (stop : ℕ) (l
       some : eqb (byte (take stop src) (next_at src stop stops i)) 60 ≡ false → i < next_at src stop stops i
       some fine =
           let taken = length-take-le stop src long in
-          elim (cases_lt i (next_at src stop stops i)) as (λ s. i < next_at src stop stops i) [
-            | inl l ↦ l
-            | inr g ↦ absurd (
-                let e : next_at src stop stops i ≡ i = omega (arith, from_le stops (take stop src) i) in
-                let h = from_here stops (take stop src) i (omega (arith, taken)) in
-                let h' : stops (byte src i) ≡ true = rw (e, get_or-take stop src i 0 below) at h in
-                let f' : eqb (byte src i) 60 ≡ false = rw (e, get_or-take stop src i 0 below) at fine in
-                false≢true (sym (or_from (is_special (byte src i)) (eqb (byte src i) 60) plain f') ∙ h'))
-          ]
+          grind (arith, from_le, from_here, get_or-take)
 
   -- Any bit.
   pub value_bit_sound : (main : Bool) (i : ℕ) (x : Bit × ℕ) → i < stop → (main ≡ true → (k : ℕ) → i ≤ k → k < stop → byte src k ≢ 60) → value_bit_at main es src stop i ≡ Ok x → ValueBit main es src stop i x.0 x.1
@@ -233,9 +191,7 @@ module _ (es : List Entity) (src : List ℕ) (utf8 : IsUtf8 src) (stop : ℕ) (l
 
   -- A character is let through.
   tested_character : (main : Bool) (i x : ℕ) → (main ≡ true) ⊎ (x ≢ 60) → tested_bit main i (character_of x) (reference_bit es src i (character_of x)) ≡ Ok (bytes_of (value_bytes main x))
-  tested_character true i x any = refl
-  tested_character false i x (inl is) = absurd (false≢true is)
-  tested_character false i x (inr apart) = rw (ne_eqb x 60 apart) refl
+  tested_character main i x any = grind arith
 
   -- A reference to a character is read.
   character_read : (main : Bool) (i x m : ℕ) → IsCharacter src i x m → (main ≡ true) ⊎ (x ≢ 60) → value_bit_at main es src stop i ≡ Ok (bytes_of (value_bytes main x), m)
@@ -249,8 +205,7 @@ module _ (es : List Entity) (src : List ℕ) (utf8 : IsUtf8 src) (stop : ℕ) (l
   -- An entity is let through.
   tested_entity : (main : Bool) (i n : ℕ) (t : Replacement) → text_of es (slice src (i + 1) n) ≡ Some t
       → tested_bit main i (entity_at (record { start = i + 1; end = n })) (reference_bit es src i (entity_at (record { start = i + 1; end = n }))) ≡ Ok (opens t)
-  tested_entity true i n t is = rw is refl
-  tested_entity false i n t is = rw is refl
+  tested_entity main i n t is = grind arith
 
   -- A reference to an entity is read.
   entity_read : (main : Bool) (i n k : ℕ) (t : Replacement) → IsReference src i n k → predefined (slice src (i + 1) n) ≡ None → text_of es (slice src (i + 1) n) ≡ Some t → value_bit_at main es src stop i ≡ Ok (opens t, k)
@@ -269,14 +224,7 @@ module _ (es : List Entity) (src : List ℕ) (utf8 : IsUtf8 src) (stop : ℕ) (l
   -- What is known of it.
   stretch_bounds : (main : Bool) (i : ℕ) → i < stop → Stays (byte src i) → byte src i ≢ 60
       → (i < stretch_end main i) × (stretch_end main i ≤ stop) × IsCharBoundary src (stretch_end main i) × ((k : ℕ) → i ≤ k → k < stretch_end main i → Stays (byte src k))
-  stretch_bounds true i below s tag =
-      (next_more src stop long is_special i below (not_special (byte src i) s), next_bound src stop long is_special i (omega arith), next_cut is_special special_ascii i (omega arith), λ k from lt. stays (byte src k) (next_before src stop long is_special i k (omega arith) from lt))
-  stretch_bounds false i below s tag = (
-    next_more src stop long stops i below (or_from (is_special (byte src i)) (eqb (byte src i) 60) (not_special (byte src i) s) (ne_eqb _ _ tag)),
-    next_bound src stop long stops i (omega arith),
-    next_cut stops stops_ascii i (omega arith),
-    λ k from lt. stays (byte src k) (or_parts (is_special (byte src k)) (eqb (byte src k) 60) (next_before src stop long stops i k (omega arith) from lt)).0,
-  )
+  stretch_bounds main i below s tag = grind (arith, next_more, next_bound, next_cut, next_before)
 
   -- A stretch is read.
   stretch_read : (main : Bool) (i : ℕ) → i < stop → Stays (byte src i) → byte src i ≢ 60 → (main ≡ false → AreChars src i (stretch_end main i)) → (stretch_end main i < stop → byte src (stretch_end main i) ≢ 60)
@@ -305,9 +253,7 @@ module _ (es : List Entity) (src : List ℕ) (utf8 : IsUtf8 src) (stop : ℕ) (l
 
     -- The value with a stretch of bytes in front that need no replacement.
     stretch_on : (d i j b c : ℕ) (v : List ℕ) → i + d ≡ j → j ≤ stop → ((k : ℕ) → i ≤ k → k < j → Stays (byte src k) × (byte src k ≢ 60)) → ValueFrom j b c v → ValueFrom i b c (slice src i j ++ v)
-    stretch_on zero i j b c v to inside plain p =
-        let e : j ≡ i = omega arith in
-        subst (λ (m : ℕ). ValueFrom m b c (slice src m j ++ v)) e (rw (slice_nil src j) p)
+    stretch_on zero i j b c v to inside plain p = grind arith
     stretch_on (suc d) i j b c v to inside plain p =
         let s = plain i (omega arith) (omega arith) in
         let ih = stretch_on d (i + 1) j b c v (omega arith) inside (λ k from below. plain k (omega arith) below) p in
@@ -352,8 +298,6 @@ module _ (es : List Entity) (src : List ℕ) (utf8 : IsUtf8 src) (stop : ℕ) (l
         → ((l : ℕ) (rest : List ℕ) → more j l ≡ Ok (rest, c) → ValueFrom j l c rest) → after_value_bit opener more b bit j ≡ Ok (v, c) → ValueFrom i b c v
     bit_on i j b c bit v more below (bit_line_end _ lt cr lf) ih h =
         bind_ok (more j b) _ _ h (λ rest read h.
-        let e : rest.0 ≡ v = ap (λ (p : List ℕ × ℕ). p.0) (ok_same _ _ h) in
-        let f : rest.1 ≡ c = ap (λ (p : List ℕ × ℕ). p.1) (ok_same _ _ h) in
         line_end i b c v lt cr lf (ih b v (read ∙ ap (λ (p : List ℕ × ℕ). Ok p) (ok_same _ _ h))))
     bit_on i j b c bit v more below (bit_white _ lt is) ih h =
         bind_ok (more j b) _ _ h (λ rest read h.

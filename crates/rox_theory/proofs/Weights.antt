@@ -3,12 +3,11 @@ use Rattle.std.proofs.Common.{arith, subst, sym, ◌∙◌}
 use Rattle.std.proofs.lemmas.List.{length-append}
 use Rattle.std.specs.Prelude.{◌≡◌, ◌==◌, ℕ, zero, suc, ◌+◌, ◌-◌, ◌*◌, ◌≤◌, not, max, Bool, true, false, List, [], ◌∷◌, Some, length, if◌then◌else◌, bytes_eq}
 use Rattle.std.specs.List.{list_any}
-use Rattle.rox_grammar.specs.Forest.{Forest, Nil, join}
+use Rattle.rox_grammar.specs.Forest.{Forest, Nil}
 use Rattle.rox_grammar.specs.Written.{Item, Text, Attribute, Tag, leaf, merge}
-use Rattle.rox_grammar.specs.Tree.{none_if_empty}
 use Rattle.rox_grammar.specs.Names.{slice, spaces_end}
 use Rattle.rox_grammar.specs.References.{entity_reference}
-use Rattle.rox_grammar.specs.Content.{Inclusion, DataByte, line_ends, literals, is_verbatim, piece, value_bytes, last_part, then_entity, Value, value_ends, line_end, white, other, a_character, an_entity, Attributes, no_more, one_more, attribute, IsTag, IsMisc, comment, instruction, IsElement, empty, nest, Content, ends, run, cdata, misc, node, start_tag}
+use Rattle.rox_grammar.specs.Content.{Inclusion, DataByte, line_ends, literals, is_verbatim, piece, value_bytes, last_part, then_entity, Value, value_ends, line_end, white, other, a_character, an_entity, Attributes, no_more, one_more, attribute, IsTag, IsMisc, IsElement, empty, nest, Content, ends, run, cdata, misc, node, start_tag}
 use Rattle.rox_grammar.specs.RunParts.{Parts}
 use Rattle.rox_grammar.specs.Entities.{Replacement, Entity, text_of}
 use Rattle.rox_grammar.specs.Expansion.{Counts, longest}
@@ -33,14 +32,7 @@ module _ (of : Forest Item → ℕ) (is_measure : Measure of) where
       omega (arith, t, h)
 
   pub misc_most : (src : List ℕ) (i j : ℕ) (item : Item) → IsMisc src i j item → of (leaf item) + i ≤ j
-  misc_most src i j item (comment _ e _ is) =
-      let h = misc_onward src i j item (comment i e j is) in
-      let t = is_measure.comment i j (slice src (i + 4) e) in
-      omega (arith, h, t)
-  misc_most src i j item (instruction _ n e _ is) =
-      let h = misc_onward src i j item (instruction i n e j is) in
-      let t = is_measure.instruction i j (slice src (i + 2) n) (none_if_empty (slice src (spaces_end src n) e)) in
-      omega (arith, h, t)
+  misc_most src i j item h = grind (arith, misc_onward)
 
 -- No text opens more than this for each opening, where r is the length of the longest.
 pub record Weighs (of : Forest Item → ℕ) (O : Inclusion) (r : ℕ) : Type 0 where
@@ -49,54 +41,23 @@ pub record Weighs (of : Forest Item → ℕ) (O : Inclusion) (r : ℕ) : Type 0 
 
 module _ (of : Forest Item → ℕ) (is_measure : Measure of) (main : Bool) (O : Inclusion) (r : ℕ) (weighs : Weighs of O r) (src : List ℕ) where
   parts_weigh : (start stop i b c : ℕ) (items : Forest Item) → Parts main O src start stop i b c items → of items + i + b * r ≤ stop + c * r
-  parts_weigh start stop i b c items (last_part _ _ ss part) =
-      let p = part_bytes main src stop i ss part in
-      let q = piece_most of is_measure start stop (is_verbatim (slice src start stop)) ss in
-      omega (arith, p, q)
-  parts_weigh start stop i b d items (then_entity _ p j _ c _ _ ss front more part (entity_reference n reference name) opens rest) =
-      let h = part_bytes main src p i ss part in
-      let q = piece_most of is_measure start stop false ss in
-      let k = reference_onward src p n j reference in
-      let x = weighs.content _ b front c opens in
-      let y = parts_weigh start stop j c d more rest in
-      let e = is_measure.joined (piece start stop false ss) (join front more) in
-      let f = is_measure.joined front more in
-      omega (arith, h, q, k, x, y, e, f)
+  parts_weigh start stop i b c items (last_part _ _ ss part) = grind (arith, part_bytes main src stop i ss part, piece_most of is_measure start stop (is_verbatim (slice src start stop)) ss)
+  parts_weigh start stop i b d items (then_entity _ p j _ c _ _ ss front more part (entity_reference n reference name) opens rest) = grind (arith, part_bytes main src p i ss part, piece_most of is_measure start stop false ss, reference_onward src p n j reference, parts_weigh start stop j c d more rest)
 
   value_weighs : (j i b c : ℕ) (v : List ℕ) → Value main O src j i b c v → length v + i + b * r ≤ j + c * r
   value_weighs j i b c v (value_ends _) = omega arith
   value_weighs j i b c v (line_end _ _ _ _ more cr lf rest) = let h = value_weighs j (i + 1) b c v rest in omega (arith, h)
   value_weighs j i b c v (white _ _ _ w more is rest) = let h = value_weighs j (i + 1) b c w rest in omega (arith, h)
   value_weighs j i b c v (other _ _ _ w more x₁ x₂ x₃ x₄ x₅ rest) = let h = value_weighs j (i + 1) b c w rest in omega (arith, h)
-  value_weighs j i b c v (a_character _ n z _ _ w is within allowed rest) =
-      let h = value_weighs j n b c w rest in
-      let k = value_char main src i z n is in
-      let l = length-append (value_bytes main z) w in
-      omega (arith, h, k, l)
-  value_weighs j i b d v (an_entity _ k _ c _ _ u w (entity_reference n is name) within opens rest) =
-      let h = value_weighs j k c d w rest in
-      let x = weighs.value _ b u c opens in
-      let m = reference_onward src i n k is in
-      let l = length-append u w in
-      omega (arith, h, x, m, l)
+  value_weighs j i b c v (a_character _ n z _ _ w is within allowed rest) = grind (arith, value_weighs j n b c w rest, value_char main src i z n is, length-append (value_bytes main z) w)
+  value_weighs j i b d v (an_entity _ k _ c _ _ u w (entity_reference n is name) within opens rest) = grind (arith, value_weighs j k c d w rest, reference_onward src i n k is, length-append u w)
 
   attributes_weigh : (i k b c : ℕ) (as' : List Attribute) → Attributes main O src i k b c as' → most_of as' + i + b * r ≤ k + c * r
   attributes_weigh i k b c as' (no_more _ _) = omega arith
-  attributes_weigh i k b d as' (one_more _ j _ _ c _ _ rest spaces (attribute m v e name value is read) more) =
-      let h = value_weighs e (v + 1) b c value read in
-      let n = qname_onward src (spaces_end src i) m name is.0 in
-      let q = eq_onward src m v is.1 in
-      let l = is.2.0.3 in
-      let y = attributes_weigh j k c d rest more in
-      omega (arith, h, n, q, l, y, spaces)
+  attributes_weigh i k b d as' (one_more _ j _ _ c _ _ rest spaces (attribute m v e name value is read) more) = grind (arith, value_weighs e (v + 1) b c value read, qname_onward src (spaces_end src i) m name is.0, eq_onward src m v is.1, attributes_weigh j k c d rest more)
 
   tag_weighs : (i j b c : ℕ) (is_empty : Bool) (t : Tag) → IsTag main O src i j b c is_empty t → 1 + most_of t.attributes + i + b * r ≤ j + c * r
-  tag_weighs i j b c is_empty _ (start_tag n last name written begin is_name list end) =
-      let h = attributes_weigh n last b c written list in
-      let q = qname_onward src (i + 1) n name is_name in
-      let e = tag_end_onward src last is_empty j end in
-      let f = fewer written in
-      omega (arith, h, q, e, f)
+  tag_weighs i j b c is_empty _ (start_tag n last name written begin is_name list end) = grind (arith, attributes_weigh, qname_onward, tag_end_onward, fewer)
 
   mutual
     element_weighs : (i j b c : ℕ) (one : Forest Item) → IsElement main O src i j b c one → of one + i + b * r ≤ j + c * r
@@ -161,9 +122,5 @@ counts_weigh of is_measure es (suc d) =
           let l = longest_is es name t found in
           let m = more_times b (longest es) in
           omega (arith, x, l, m);
-      value = λ name b v c (t, found, chars, is).
-          let x = value_weighs of is_measure false (Counts es d) (longest es) inner t.source (length t.source) t.start (b + 1) c v is in
-          let l = longest_is es name t found in
-          let m = more_times b (longest es) in
-          omega (arith, x, l, m);
+      value = λ name b v c (t, found, chars, is). grind (arith, value_weighs of is_measure false (Counts es d) (longest es) inner t.source (length t.source) t.start (b + 1) c v is, longest_is es name t found);
     }

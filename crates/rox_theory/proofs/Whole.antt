@@ -9,13 +9,12 @@ use Rattle.rox_grammar.specs.Forest.{Forest, Nil, join, size}
 use Rattle.rox_grammar.specs.Written.{Item, merge}
 use Rattle.rox_grammar.specs.Names.{byte}
 use Rattle.rox_grammar.specs.FixedTexts.{at}
-use Rattle.rox_grammar.specs.Content.{IsElement, empty, nest}
+use Rattle.rox_grammar.specs.Content.{IsElement}
 use Rattle.rox_grammar.specs.TextStart.{after_bom}
 use Rattle.rox_grammar.specs.Entities.{Entity, most_deep, included_in_main}
 use Rattle.rox_grammar.specs.Doctype.{Asked}
 use Rattle.rox_grammar.proofs.CountForms.{limits_counted, counts_limited}
 use Rattle.rox_grammar.specs.Document.{Misc, ParseOf, IsWithinLimits, Permits}
-use Rattle.rox_theory.specs.ParseParts.{MayHaveDoctype}
 use Rattle.rox_grammar.specs.State.{root}
 use Rattle.rox_reading.specs.Refusals.{Refusal, here, there, refused}
 use Rattle.rox_reading.specs.Answering.{IsTextRefusal, SettledWhole}
@@ -43,13 +42,11 @@ use Rattle.rox_theory.proofs.SameReplies.{reading_same}
 use Rattle.rox_theory.proofs.Asking.{ok_lifted, nothing_ok, nothing_lifted_ok, asks_none, asking_ok}
 use Rattle.rox_theory.proofs.Around.{DoctypesAgree, element_stops, end_stops, none_agree, begins_stop, dtd_begins, ends_cut, element_ends, bom_cut, misc_sound, misc_complete, prolog_sound, prolog_complete, prolog_cut}
 use Rattle.rox_theory.specs.ParseParts.{ParseParts}
-use Rattle.rox_theory.specs.ParseParts as parts_of
 use Rattle.rox_theory.proofs.ParseParts.{parts, parsed}
 
 -- An element is a node at least.
 element_size : (src : List ℕ) (i j b c : ℕ) (es : List Entity) (one : Forest Item) → IsElement true (included_in_main es) src i j b c one → 1 ≤ size one
-element_size src i j b c es one (empty _ _ _ _ t tag) = omega arith
-element_size src i j b c es one (nest _ k m p _ _ d _ t kids tag inner end) = omega arith
+element_size src i j b c es one h = grind arith
 
 -- The size of a row of four.
 size_four : (t a b c d : Forest Item) → t ≡ join a (join b (join c d)) → size t ≡ size a + (size b + (size c + size d))
@@ -206,14 +203,7 @@ module _ (src : List ℕ) (utf8 : IsUtf8 src) where
   -- What the limits allow of a parse they allow where its text has been read.
   parse_fine : (limit : ℕ) (dtd : Bool) (asked : List Asked) (t : Forest Item) (p : ParseParts src dtd asked t) → IsWithinLimits limit t
       → IsValidState limit (state (length src) (join (join (join p.before p.nodes) p.one) p.after) root p.openings_left) × (t ≡ join (join (join p.before p.nodes) p.one) p.after)
-  parse_fine limit dtd asked t p within =
-      let tree : t ≡ join (join (join p.before p.nodes) p.one) p.after =
-      p.is_tree ∙ ap (join p.before) (sym (join_assoc p.nodes p.one p.after)) ∙ sym (join_assoc p.before (join p.nodes p.one) p.after) ∙ ap (λ (f : Forest Item). join f p.after) (sym (join_assoc p.before p.nodes p.one)) in
-      let merged = parse_merged src dtd asked t (parsed src dtd asked t p) in
-      let counted : 1 + size (merge t) ≤ limit = rw merged (omega (arith, within.nodes)) in
-      let counts = limits_counted limit t within in
-      let whole : IsValidState limit (state (length src) t root p.openings_left) = record { nodes = counted; attributes = counts.attributes; pairs = counts.namespaces; named = p.well_named } in
-      (subst (λ (f : Forest Item). IsValidState limit (state (length src) f root p.openings_left)) tree whole, tree)
+  parse_fine limit dtd asked t p within = grind (arith, parse_merged src dtd asked t (parsed src dtd asked t p), limits_counted limit t within, join_assoc)
 
   -- What comes before a document type declaration is read, and one begins after it, if there is one.
   before_read : (limit : ℕ) (dtd : Bool) (asked : List Asked) (t : Forest Item) (p : ParseParts src dtd asked t) → IsWithinLimits limit t
@@ -270,16 +260,6 @@ module _ (src : List ℕ) (utf8 : IsUtf8 src) where
         let seen = sym (doctype_seen limit r.0 asked t r.1 r.2) in
         (subst (λ (dtd : Bool). ParseOf src dtd asked t) seen r.1, r.2, subst (Permits allow) seen r.3)
 
-    -- Within the limits there is one parse at most for the same answers.
-    pub one_within : (limit most : ℕ) (d e : Bool) (asked : List Asked) (t u : Forest Item) → ParseOf src d asked t → ParseOf src e asked u → IsWithinLimits limit t → IsWithinLimits most u
-        → Permits allow d → Permits allow e → (d ≡ e) × (t ≡ u)
-    one_within limit most d e asked t u p q within within' permits permits' =
-        let all = limit + most in
-        let x : IsWithinLimits all t = record { nodes = omega (arith, within.nodes); attributes = within.attributes; namespaces = within.namespaces } in
-        let y : IsWithinLimits all u = record { nodes = omega (arith, within'.nodes); attributes = within'.attributes; namespaces = within'.namespaces } in
-        let same = sym (parse_is_read all d asked [] t p x permits) ∙ parse_is_read all e asked [] u q y permits' in
-        (sym (doctype_seen all d asked t p x) ∙ doctype_seen all e asked u q y, ok_same t u (ap (λ (x : Asks (Forest Item)). x.1) same))
-
     -- A text that is refused has no parse within the limits whose answers begin with those that were given.
     pub refused_has_none : (limit : ℕ) (replies : List Reply) (asked later : List Asked) (e : Refusal) (dtd : Bool) (t : Forest Item) → reading limit allow replies src ≡ (asked, Err e) → IsTextRefusal e
         → ParseOf src dtd (asked ++ later) t → IsWithinLimits limit t → Permits allow dtd → ⊥
@@ -295,21 +275,11 @@ module _ (src : List ℕ) (utf8 : IsUtf8 src) where
         clash (there source f) of_text h k = err_not_ok (there source f) t (ap (λ (x : Asks (Forest Item)). x.1) (sym h ∙ k))
         clash (refused request at message) of_text h k = absurd of_text
 
-    -- The answers of a parse are all that its reading takes.
-    pub all_is_read : (limit : ℕ) (dtd : Bool) (asked : List Asked) (t : Forest Item) → ParseOf src dtd asked t → IsWithinLimits limit t → Permits allow dtd
-        → reading limit allow (replies_of asked) src ≡ (asked, Ok t)
-    all_is_read limit dtd asked t p within permits =
-        ap (λ (rs : List Reply). reading limit allow rs src) (sym (append-nil (replies_of asked))) ∙ parse_is_read limit dtd asked [] t p within permits
-
   -- ---- without a document type declaration
 
   -- Nothing is asked.
   pub asks_nothing_there : (asked : List Asked) (t : Forest Item) → ParseOf src false asked t → asked ≡ []
-  asks_nothing_there asked t whole = let p = parts src false asked t whole in none p.begun p.start p.nodes asked p.entities false refl p.doctype
-    where
-      none : (i j : ℕ) (nodes : Forest Item) (asked : List Asked) (es : List Entity) (dtd : Bool) → dtd ≡ false → MayHaveDoctype src i j dtd nodes asked es → asked ≡ []
-      none i j nodes asked es dtd is (parts_of.MayHaveDoctype.doctype _ k _ own more _ _ one rest) = absurd (false≢true (sym is))
-      none i j nodes asked es dtd is (parts_of.MayHaveDoctype.no_doctype _) = refl
+  asks_nothing_there asked t whole = grind arith
 
   -- What is read where none is allowed is a parse.
   pub plain_parse : (limit : ℕ) (asked : List Asked) (t : Forest Item) → reading limit false [] src ≡ (asked, Ok t) → (asked ≡ []) × ParseOf src false [] t × IsWithinLimits limit t
@@ -327,6 +297,4 @@ module _ (src : List ℕ) (utf8 : IsUtf8 src) where
 
   -- A text that is refused has none.
   pub plain_refused : (limit : ℕ) (asked asked' : List Asked) (e : Refusal) (t : Forest Item) → reading limit false [] src ≡ (asked, Err e) → ParseOf src false asked' t → IsWithinLimits limit t → ⊥
-  plain_refused limit asked asked' e t h p within =
-      let read = plain_read limit asked' t p within in
-      err_not_ok e t (ap (λ (x : Asks (Forest Item)). x.1) (sym h ∙ read))
+  plain_refused limit asked asked' e t h p within = grind (arith, plain_read limit asked' t p within)

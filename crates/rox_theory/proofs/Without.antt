@@ -1,11 +1,11 @@
 -- A text without a document type declaration: nothing is asked, and what is proved over `no_entities` holds of it.
-use Rattle.std.proofs.Common.{◌≡◌, ℕ, true, false, List, [], refl, ap, ◌∙◌, subst}
-use Rattle.rox_grammar.specs.Forest.{Forest, Nil, join}
+use Rattle.std.proofs.Common.{◌≡◌, ℕ, true, false, List, [], refl, subst, arith}
+use Rattle.rox_grammar.specs.Forest.{Forest, Nil}
 use Rattle.rox_grammar.specs.Written.{Item}
 use Rattle.rox_grammar.specs.Content.{IsElement}
 use Rattle.rox_grammar.specs.Entities.{Entity, included_in_main, no_entities}
 use Rattle.rox_grammar.specs.Doctype.{Asked}
-use Rattle.rox_grammar.specs.Document.{Misc, ParseOf}
+use Rattle.rox_grammar.specs.Document.{ParseOf}
 use Rattle.rox_theory.specs.ParseParts.{MayHaveDoctype, no_doctype}
 use Rattle.rox_theory.specs.WithoutDoctype.{ParseWithout}
 use Rattle.rox_theory.proofs.Following.{element_without, element_count, follows_any}
@@ -21,22 +21,7 @@ parse_without src asked tree whole =
     let p = parts src false asked tree whole in
     let none = no_doctype_there src p.begun p.start p.nodes asked p.entities p.doctype in
     let one = element_without src p.start p.end 255 p.openings_left p.one
-    (subst (λ (es : List Entity). IsElement true (included_in_main es) src p.start p.end 255 p.openings_left p.one) none.3 p.element) in (
-      none.2,
-      record {
-        start = p.start;
-        before = p.before;
-        prolog = (p.prolog.0, p.prolog.1, subst (λ (k : ℕ). Misc src p.prolog.0 k p.before) none.0 p.prolog.2);
-        end = p.end;
-        openings_left = one.0;
-        one = p.one;
-        element = one.1;
-        after = p.after;
-        misc_after = p.misc_after;
-        is_tree = p.is_tree ∙ ap (λ (f : Forest Item). join p.before (join f (join p.one p.after))) none.1;
-        well_named = p.well_named;
-      },
-    )
+    (subst (λ (es : List Entity). IsElement true (included_in_main es) src p.start p.end 255 p.openings_left p.one) none.3 p.element) in grind arith
 
 -- An element in which nothing is opened is where entities are declared, too.
 pub element_with : (es : List Entity) (src : List ℕ) (i j b c : ℕ) (one : Forest Item) → IsElement true no_entities src i j b c one → (n : ℕ) × IsElement true (included_in_main es) src i j b n one

@@ -1,5 +1,5 @@
 -- The items of a value that need no entity.
-use Rattle.std.proofs.Common.{◌≡◌, ◌≢◌, ℕ, ◌+◌, ◌-◌, ◌<◌, ◌≤◌, ◌==◌, ◌||◌, ◌&&◌, Bool, true, false, not, List, [], ◌∷◌, ◌++◌, length, take, drop, slice_index, slice_range, inl, inr, refl, sym, ap, subst, ◌∙◌, arith, Ok, Err, le-ltb}
+use Rattle.std.proofs.Common.{◌≡◌, ◌≢◌, ℕ, ◌+◌, ◌-◌, ◌<◌, ◌≤◌, ◌==◌, ◌||◌, ◌&&◌, Bool, true, false, not, List, [], ◌∷◌, ◌++◌, length, take, drop, slice_index, slice_range, inl, inr, refl, sym, ap, ◌∙◌, arith, Ok, Err, le-ltb}
 use Rattle.std.specs.List.{list_all}
 use Rattle.std.specs.Char.{encode_utf8}
 use Rattle.std.specs.Str.{chars, IsUtf8, IsCharBoundary}
@@ -26,7 +26,7 @@ use Rattle.rox_values.specs.PlainBits.{AreValueChars, GivesCharacter, IsRest, Is
 use Rattle.rox_values.specs.declared.plain_bits.TextKind.{TextKind}
 use Rattle.rox_values.specs.declared.plain_bits.TextKind.TheVariants as kind_of
 use Rattle.rox_values.proofs.InnerBytes.{inner_stops}
-use Rattle.rox_values.proofs.PartLemmas.{nothing_front, value_done, value_more}
+use Rattle.rox_values.proofs.PartLemmas.{value_done, value_more}
 
 -- ---- Chars in two parts
 
@@ -47,9 +47,7 @@ chars_read end src i h = let e = le-ltb (run_end is_char (take end src) i) end (
 pub tested_on : (kind : TextKind) (src : List ℕ) (i n stop : ℕ) → IsUtf8 src → IsCharBoundary src i → IsCharBoundary src n → IsCharBoundary src stop → i ≤ n → IsTested kind src i stop → IsTested kind src n stop
 tested_on kind_of.Main src i n stop utf8 from mid to le h = tt
 tested_on kind_of.Replacement src i n stop utf8 from mid to le h = tt
-tested_on kind_of.Either src i n stop utf8 from mid to le h = λ less.
-    let t = h (omega arith) in
-    record { chars = (chars_parted src i n stop utf8 from mid to le (omega arith) t.chars).1; apart = λ k low high. t.apart k (omega arith) high }
+tested_on kind_of.Either src i n stop utf8 from mid to le h = grind (arith, chars_parted)
 
 -- ---- one item, or none
 
@@ -58,12 +56,10 @@ put_some b = let on = b.onward in record { put = λ some. b; refused = λ zero. 
 
 -- what is read of a context
 pub kind_may : (main : Bool) → may_be (kind_for main) main ≡ true
-kind_may true = refl
-kind_may false = refl
+kind_may main = grind arith
 
 pub kind_tested : (main : Bool) (src : List ℕ) (i j : ℕ) → IsTested (kind_for main) src i j
-kind_tested true src i j = tt
-kind_tested false src i j = tt
+kind_tested main src i j = grind arith
 
 -- what was appended
 bit_put : (main : Bool) (es : List Entity) (src old new bs : List ℕ) (stop i j : ℕ) → value_bit_at main es src stop i ≡ Ok (bytes_of bs, j) → new ≡ old ++ bs
@@ -164,42 +160,18 @@ no_white b h = grind (arith, nat_tests)
 
 -- a stretch of the front ends where a character begins
 front_cut : (src : List ℕ) (stop j : ℕ) → IsCharBoundary src stop → j ≤ length (take stop src) → (j < length (take stop src) → slice_index (take stop src) j < 128) → IsCharBoundary src j
-front_cut src stop j to within stops =
-    let long = length-take-le stop src to.0 in
-    elim (cases_lt j stop) [
-      | inl more ↦
-          let here : slice_index (take stop src) j ≡ slice_index src j = get_or-take stop src j 0 more in
-          let ascii = stops (omega (arith, long)) in
-          let le = to.0 in
-          (omega arith, λ inside wide. absurd (omega arith))
-      | inr past ↦ let e : stop ≡ j = omega (arith, long) in subst (IsCharBoundary src) e to
-    ]
+front_cut src stop j to within stops = grind (arith, length-take-le, get_or-take)
 
 -- no `<` stands at the end of one
 no_tag_at : (src : List ℕ) (stop i j : ℕ) → stop ≤ length src → i ≤ j → j ≤ stop → ((k : ℕ) → i ≤ k → k < stop → (slice_index src k == 60) ≡ false) → (slice_index (take stop src) j == 60) ≡ false
-no_tag_at src stop i j within le le' apart = elim (cases_lt j stop) [
-  | inl more ↦ ap (λ (b : ℕ). b == 60) (get_or-take stop src j 0 more) ∙ apart j le more
-  | inr past ↦ ap (λ (b : ℕ). b == 60) (get_or_past (take stop src) j 0 (omega (arith, length-take-le stop src within)))
-]
+no_tag_at src stop i j within le le' apart = grind (arith, get_or-take, get_or_past, length-take-le)
 
 -- it has a byte at least where the first is none that ends it
 stretch_on : (src : List ℕ) (stop i j : ℕ) → stop ≤ length src → i < stop → is_special (slice_index src i) ≡ false → EndsSet is_stretch_byte (take stop src) i j → i < j
-stretch_on src stop i j within before plain e = elim (cases_lt i j) [
-  | inl more ↦ more
-  | inr past ↦
-      let on = e.onward in
-      let at : j ≡ i = omega arith in
-      let long = length-take-le stop src within in
-      let here : slice_index (take stop src) i ≡ slice_index src i = get_or-take stop src i 0 before in
-      let special : is_special (slice_index (take stop src) j) ≡ true = stretch_special _ (e.stops (omega (arith, long))) in
-      let other : is_special (slice_index (take stop src) j) ≡ false = rw (at, here) plain in
-      cc (special, other)
-]
+stretch_on src stop i j within before plain e = grind (arith, length-take-le, get_or-take, stretch_special)
 
 main_stretch : (src : List ℕ) (stop i j : ℕ) → EndsSet is_stretch_byte (take stop src) i j → stretch_at true src stop i ≡ Ok (bytes_of (slice_range src i j), j)
-main_stretch src stop i j e =
-    let here = near_found is_stretch_byte is_special (take stop src) i j e.onward e.within e.passes stretch_plain (λ more. stretch_special _ (e.stops more)) in
-    rw here refl
+main_stretch src stop i j e = grind (arith, near_found is_stretch_byte is_special (take stop src) i j e.onward e.within e.passes stretch_plain (λ more. stretch_special _ (e.stops more)))
 
 either_stretch : (src : List ℕ) (stop i j : ℕ) → IsUtf8 src → IsCharBoundary src i → IsCharBoundary src j → IsCharBoundary src stop → EndsSet is_stretch_byte (take stop src) i j → AreValueChars src i stop
     → stretch_at false src stop i ≡ Ok (bytes_of (slice_range src i j), j)
@@ -215,23 +187,12 @@ either_stretch src stop i j utf8 from mid to e t =
 
 -- a stretch of the whole text, cut off at the end of the front
 pub cut_short : (src : List ℕ) (stop i e j : ℕ) → stop ≤ length src → j ≤ e → j ≤ stop → i ≤ j → (j < stop → j ≡ e) → EndsSet is_stretch_byte src i e → EndsSet is_stretch_byte (take stop src) i j
-cut_short src stop i e j within le le' on short s =
-    let long = length-take-le stop src within in
-    record {
-      onward = on;
-      within = omega (arith, long);
-      passes = λ k low high. ap is_stretch_byte (get_or-take stop src k 0 (omega arith)) ∙ s.passes k low (omega arith);
-      stops = λ more.
-          let less : j < stop = omega (arith, long, more) in
-          let same = short less in
-          ap is_stretch_byte (get_or-take stop src j 0 less) ∙ ap (λ (n : ℕ). is_stretch_byte (slice_index src n)) same ∙ s.stops (omega (arith, same, less, within));
-    }
+cut_short src stop i e j within le le' on short s = grind (arith, length-take-le, get_or-take)
 
 -- a stretch in the main text, or of a value that all texts read alike
 pub outer_stretch : (kind : TextKind) (src : List ℕ) (stop i j : ℕ) → kind ≢ kind_of.Replacement → IsUtf8 src → IsRest kind src i stop → i < stop → is_special (slice_index src i) ≡ false → EndsSet is_stretch_byte (take stop src) i j
     → IsStretch kind src i stop j
 outer_stretch kind src stop i j other utf8 rest before plain e =
-    let long = length-take-le stop src rest.stop.0 in
     let cut = front_cut src stop j rest.stop e.within (λ more. special_ascii _ (stretch_special _ (e.stops more))) in
     record {
       value = by_kind kind other cut rest.tested;
@@ -276,7 +237,6 @@ pub inner_on : (src : List ℕ) (stop i j : ℕ) → stop ≤ length src → i <
 inner_on src stop i j within before plain e tag = elim (cases_lt i j) [
   | inl more ↦ more
   | inr past ↦
-      let on = e.onward in
       let at : j ≡ i = omega arith in
       let long = length-take-le stop src within in
       let here : slice_index (take stop src) i ≡ slice_index src i = get_or-take stop src i 0 before in
@@ -303,7 +263,6 @@ none_put kind src old stop i cut = record { reads = λ main bits may enough. (bi
 
 pub one_more : (kind : TextKind) (src old mid new : List ℕ) (stop i j n : ℕ) → j < stop → PutsBits kind src i stop old mid j → PutsBit kind src j stop mid new n → PutsBits kind src i stop old new n
 one_more kind src old mid new stop i j n before p b =
-    let on = b.onward in
     let low = p.onward in
     record {
       reads = λ main bits may enough.
@@ -336,7 +295,6 @@ front_put src front stop i j utf8 rest less e is = elim (cases_lt i j) [
       let b = stretch_put kind_of.Either src [] front stop i j plain s is in
       one_more kind_of.Either src [] [] front stop i i j (omega arith) (none_put kind_of.Either src [] stop i rest.start) (b.put (omega arith))
   | inr past ↦
-      let on = e.onward in
       let at : j ≡ i = omega arith in
       let none : j - i ≡ 0 = omega arith in
       let empty : front ≡ [] = is ∙ ap (λ (m : ℕ). take m (drop i src)) none in
@@ -348,6 +306,4 @@ pub whole_value : (main : Bool) (es : List Entity) (opener : ValueInclusion) (op
 whole_value main es opener openings_left src front new stop i j n f p past =
     let r = f.reads main (stop - i) refl (omega arith) in
     let q = p.reads main r.0 refl r.1.0 in
-    sym (nothing_front (value_text main es opener (stop - i) src stop i openings_left))
-    ∙ sym (q.1.1 es opener openings_left ∙ r.1.1 es opener openings_left)
-    ∙ value_done main es opener openings_left new q.0 src stop n past
+    grind (arith, value_done)

@@ -53,9 +53,7 @@ feed_cut src stop i utf8 within feed =
       | inl more ↦
           let here : slice_index (take stop src) (i + 1) ≡ slice_index src (i + 1) = get_or-take stop src (i + 1) 0 more in
           subst (IsCharBoundary src) next (IsCharBoundary-after_ascii src (i + 1) utf8 (omega arith) (omega (arith, here, there)))
-      | inr past ↦
-          let none : slice_index (take stop src) (i + 1) ≡ 0 = get_or_past (take stop src) (i + 1) 0 (omega (arith, length-take-le stop src within)) in
-          absurd (omega (arith, none, there))
+      | inr past ↦ grind (arith, get_or_past, length-take-le)
     ]
 
 pub feed_put : (src old new : List ℕ) (stop i : ℕ) → IsUtf8 src → stop ≤ length src → slice_index src i ≡ 13 → (slice_index (take stop src) (i + 1) == 10) ≡ true → new ≡ old ++ 10 ∷ [] → PutsDatum src i stop old new (i + 2)
@@ -110,7 +108,6 @@ front_ends src stop i e j within on le le' s end =
 pub ends_data : (src : List ℕ) (stop i j : ℕ) → IsCharBoundary src stop → i < stop → slice_index src i ≢ 38 → slice_index src i ≢ 13 → EndsSet is_run_byte (take stop src) i j → EndsData src i stop j
 ends_data src stop i j to before amp cr e =
     let long = length-take-le stop src to.0 in
-    let on = e.onward in
     let inside = e.within in
     record {
       set = e;
@@ -181,7 +178,6 @@ no_data src old stop i cut = record { reads = (stop - i, (omega arith, λ es. re
 
 pub more_data : (src old mid new : List ℕ) (stop i j n : ℕ) → j < stop → PutsData src i stop old mid j → PutsOneDatum src j stop mid new n → PutsData src i stop old new n
 more_data src old mid new stop i j n before p b =
-    let on = b.onward in
     let low = p.onward in
     let left = p.reads.0 in
     let room = p.reads.1.0 in

@@ -1,5 +1,5 @@
 -- Digits, one after another.
-use Rattle.std.proofs.Common.{◌≡◌, ℕ, ◌+◌, ◌*◌, ◌<◌, ◌≤◌, ◌&&◌, min, nat_lt, nat_eq, not, Bool, true, false, List, [], ◌∷◌, ◌++◌, length, get_or, drop, arith, add-zero, add_assoc, refl, sym, inl, inr}
+use Rattle.std.proofs.Common.{◌≡◌, ℕ, ◌+◌, ◌*◌, ◌<◌, ◌≤◌, ◌&&◌, min, nat_lt, nat_eq, not, Bool, true, false, List, [], ◌∷◌, ◌++◌, length, get_or, drop, arith, add-zero, add_assoc, sym, inl, inr}
 use Rattle.std.specs.List.{prefix_len, slice_range}
 use Rattle.std.proofs.lemmas.List.{drop_more, drop_all}
 use Rattle.std.proofs.lemmas.Bool.{cases_lt}
@@ -8,7 +8,6 @@ use Rattle.std.proofs.lemmas.Grind.{fold-append}
 use Rattle.std.proofs.Math.Nat.{mul-le-mul_left, mul-le-mul_right}
 use Rattle.rox_grammar.specs.References.{bytes_end, number, digit_value}
 use Rattle.rox_reading.proofs.Stretches.{slice-more}
-use Rattle.rox_values.specs.Values.{base_of}
 
 pub bytes_on : (p : ℕ → Bool) (src : List ℕ) (i : ℕ) → i < length src → p (get_or src i 0) ≡ true → bytes_end p src (i + 1) ≡ bytes_end p src i
 unfolding bytes_end
@@ -31,9 +30,7 @@ number_append base d digits = fold-append (λ n d. n * base + digit_value d) 0 d
 stopped : (base n d limit : ℕ) → 0 < base → min (min n limit * base + d) limit ≡ min (n * base + d) limit
 stopped base n d limit some =
     elim (cases_lt n limit) [
-      | inl below ↦
-          let is : min n limit ≡ n = omega (arith, below) in
-          rw is refl
+      | inl below ↦ grind arith
       | inr past ↦
           let is : min n limit ≡ limit = omega (arith, past) in
           rw is (omega (arith, mul-le-mul_left limit some, mul-le-mul_right base past))
@@ -47,7 +44,3 @@ one_more_digit base src at e limit some le lt =
 
 pub equal_below : (m n limit : ℕ) → m < limit → (nat_lt m limit && not (nat_eq m n)) ≡ false → m ≡ n
 equal_below m n limit below h = grind (arith, nat_tests)
-
-pub base_some : (hexadecimal : Bool) → 0 < base_of hexadecimal
-base_some true = omega arith
-base_some false = omega arith

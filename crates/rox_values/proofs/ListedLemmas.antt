@@ -1,5 +1,5 @@
 -- What a list has of a map stays so where the map gets another entity, and the list one that the map has.
-use Rattle.std.proofs.Common.{◌≡◌, ◌<◌, ℕ, zero, suc, Bool, true, false, cond, List, [], ◌∷◌, ◌++◌, Option, Some, None, Result, Ok, Err, length, get_or, sym, subst, bytes_eq, arith}
+use Rattle.std.proofs.Common.{◌≡◌, ◌<◌, ℕ, zero, suc, Bool, false, cond, List, [], ◌∷◌, ◌++◌, Option, Some, Result, length, get_or, bytes_eq, arith}
 use Rattle.std.specs.Prelude.{OnOk, OnErr, is_some, if◌then◌else◌}
 use Rattle.std.specs.Borrow.{Bor}
 use Rattle.std.specs.BTreeMap.{BTreeMap, get_by}
@@ -9,8 +9,7 @@ use Rattle.rox_values.specs.HeldEntities.{IsHeld, named_cmp}
 use Rattle.rox_values.specs.declared.entities.Declared.{Declared}
 
 pub on_either : {A E P Q R : Type 0} (r : Result A E) → OnOk r P → OnErr r Q → (P → R) → (Q → R) → R
-on_either (Ok x) p q f g = f p
-on_either (Err e) p q f g = g q
+on_either r p q f g = grind arith
 
 abbrev AreHeld : BTreeMap (ℕ × Bor (List ℕ)) Cursor → List Declared → Type 0
 AreHeld texts ds = (i : ℕ) (d : Declared) → i < length ds → IsHeld texts (get_or ds i d)
@@ -23,17 +22,12 @@ one_more texts (y ∷ ys) x h held (suc i) d more = one_more texts ys x (λ j e 
 
 -- it is put behind the others, or they stay
 pub listed_more : (b : Bool) (texts : BTreeMap (ℕ × Bor (List ℕ)) Cursor) (ds : List Declared) (x : Declared) → AreHeld texts ds → IsHeld texts x → AreHeld texts (if b then ds ++ x ∷ [] else ds)
-listed_more true texts ds x h held = one_more texts ds x h held
-listed_more false texts ds x h held = h
+listed_more b texts ds x h held = grind (arith, one_more)
 
 none_is : {A : Type 0} (o : Option A) (x : A) → is_some o ≡ false → o ≡ Some x → ⊥
-none_is None x h e = cc e
-none_is (Some y) x h e = cc h
+none_is o x h e = cc
 
 -- another name is put into the map
 pub another_put : (b : Bool) (name q : List ℕ) (texts : BTreeMap (ℕ × Bor (List ℕ)) Cursor) (text t : Cursor) → b ≡ bytes_eq name q → is_some (get_by (named_cmp name) texts) ≡ false → get_by (named_cmp q) texts ≡ Some t
     → cond b (Some text) (get_by (named_cmp q) texts) ≡ Some t
-another_put true name q texts text t is none h =
-    let same : name ≡ q = (bytes_eq-Decides name q).0 (sym is) in
-    absurd (none_is (get_by (named_cmp q) texts) t (subst (λ (n : List ℕ). is_some (get_by (named_cmp n) texts) ≡ false) same none) h)
-another_put false name q texts text t is none h = h
+another_put b name q texts text t is none h = grind (arith, bytes_eq-Decides)

@@ -58,10 +58,7 @@ letter_at src i e k all within low high =
     let long = range_length src i e (omega arith) within in
     let at : i + (k - i) ≡ k = omega arith in
     let read : slice_index (slice_range src i e) (k - i) ≡ slice_index src k = get_or-take (e - i) (drop i src) (k - i) 0 (omega arith) ∙ get_or-drop i src (k - i) 0 ∙ ap (λ (n : ℕ). slice_index src n) at in
-    elim (cases_Bool (is_letter (slice_index src k))) [
-      | inl is ↦ is
-      | inr other ↦ let none = list_all_at is_letter (slice_range src i e) (k - i) 0 (omega (arith, long)) (rw read other) in cc (none, all)
-    ]
+    grind (arith, list_all_at)
 
 no_name_char : is_name_char 59 ≡ false
 unfolding is_name_char is_name_start

@@ -12,13 +12,11 @@ use Rattle.rox_grammar.specs.declared.failure.Failure.TheVariants as failure
 use Rattle.rox_grammar.specs.Entities.{Replacement, Entity}
 use Rattle.rox_values.specs.Refusals.{IsRefusal, of_failure}
 use Rattle.rox_values.specs.declared.parse_error.ParseError.{ParseError}
-use Rattle.rox_values.specs.declared.parse_error.ParseError.TheVariants as refused
 use Rattle.rox_values.specs.Values.{behind, text_behind}
 
 -- what is appended behind one bit
 appended : {A E : Type 0} (front v : List ℕ) (read : Result (List ℕ × A) E) → text_behind front (read >>= λ rest. Ok (v ++ rest.0, rest.1)) ≡ text_behind (front ++ v) read
-appended front v (Ok rest) = ap (λ (xs : List ℕ). Ok (xs, rest.1)) (sym (append_assoc front v rest.0))
-appended front v (Err f) = refl
+appended front v read = grind (arith, append_assoc)
 
 pub pair_ok : {A B E : Type 0} (x y : A) (b c : B) → ◌≡◌ {A = Result (A × B) E} (Ok (x, b)) (Ok (y, c)) → (x ≡ y) × (b ≡ c)
 pair_ok {A = A} {B = B} x y b c h = let k : ◌≡◌ {A = A × B} (x, b) (y, c) = cc in (ap (λ p. p.0) k, ap (λ p. p.1) k)
@@ -27,15 +25,10 @@ bytes_same : (xs ys : List ℕ) → bytes_of xs ≡ bytes_of ys → xs ≡ ys
 bytes_same xs ys h = cc h
 
 pub fault_behind : {A E : Type 0} (front : List ℕ) (read : Result (List ℕ × A) E) (f : E) → text_behind front read ≡ Err f → read ≡ Err f
-fault_behind front (Ok x) f h = cc h
-fault_behind front (Err g) f h = h
+fault_behind front read f h = grind arith
 
 nothing_behind : {A E : Type 0} (front : List ℕ) (x : A) → ◌≡◌ {A = Result (List ℕ × A) E} (text_behind front (Ok ([], x))) (Ok (front, x))
 nothing_behind front x = ap (λ (xs : List ℕ). Ok (xs, x)) (append-nil front)
-
-pub nothing_front : {A E : Type 0} (r : Result (List ℕ × A) E) → text_behind [] r ≡ r
-nothing_front (Ok x) = refl
-nothing_front (Err f) = refl
 
 apart : (t : Replacement) (xs : List ℕ) → opens t ≡ bytes_of xs → ⊥
 apart t xs h = cc h
@@ -43,21 +36,11 @@ apart t xs h = cc h
 -- one bit, and what follows it
 joined : (front new : List ℕ) (j : ℕ) (read : Read Bit) (next : ℕ → Result (List ℕ × Next) Fault) → behind front read ≡ Ok (bytes_of new, j)
     → text_behind front (read >>= λ x. after_bit next x.0 x.1) ≡ text_behind new (next j)
-joined front new j (Ok (bytes_of bs, k)) next h =
-    let same = pair_ok (bytes_of (front ++ bs)) (bytes_of new) k j h in
-    let xs : front ++ bs ≡ new = bytes_same (front ++ bs) new same.0 in
-    appended front bs (next k) ∙ rw (xs, same.1) refl
-joined front new j (Ok (opens t, k)) next h = absurd (apart t new (pair_ok (opens t) (bytes_of new) k j h).0)
-joined front new j (Err f) next h = cc h
+joined front new j read next h = grind (arith, appended)
 
 value_joined : (opener : ValueInclusion) (openings_left : ℕ) (front new : List ℕ) (j : ℕ) (read : Read Bit) (next : ℕ → ℕ → Result (List ℕ × ℕ) Refusal) → behind front read ≡ Ok (bytes_of new, j)
     → text_behind front (lifted read >>= λ x. after_value_bit opener next openings_left x.0 x.1) ≡ text_behind new (next j openings_left)
-value_joined opener openings_left front new j (Ok (bytes_of bs, k)) next h =
-    let same = pair_ok (bytes_of (front ++ bs)) (bytes_of new) k j h in
-    let xs : front ++ bs ≡ new = bytes_same (front ++ bs) new same.0 in
-    appended front bs (next k openings_left) ∙ rw (xs, same.1) refl
-value_joined opener openings_left front new j (Ok (opens t, k)) next h = absurd (apart t new (pair_ok (opens t) (bytes_of new) k j h).0)
-value_joined opener openings_left front new j (Err f) next h = cc h
+value_joined opener openings_left front new j read next h = grind (arith, appended)
 
 -- a text that is opened, and what follows it
 value_opened : (front new : List ℕ) (l : ℕ) (read : Result (List ℕ × ℕ) Refusal) (next : ℕ → Result (List ℕ × ℕ) Refusal) → text_behind front read ≡ Ok (new, l)
@@ -147,10 +130,7 @@ value_opens_err main es opener openings_left front zero src stop i j t e some mo
 value_opens_err main es opener openings_left front (suc n) src stop i j t e some more is h = rw (lt-ltb i stop more, is, h) refl
 
 pub refuses_by : {A B : Type 0} (e : ParseError) (one : Result A Refusal) (other : Result B Refusal) → ((r : Refusal) → one ≡ Err r → other ≡ Err r) → IsRefusal e one → IsRefusal e other
-refuses_by refused.Memory one other f h = tt
-refuses_by (refused.Fault g) one other f h = f _ h
-refuses_by (refused.FaultIn s g) one other f h = f _ h
-refuses_by (refused.Resolver at message) one other f (request, h) = (request, f _ h)
+refuses_by e one other f h = grind arith
 
 pub value_opens_fails : (main : Bool) (es : List Entity) (opener : ValueInclusion) (openings_left : ℕ) (e : ParseError) (front done : List ℕ) (whole : Result (List ℕ × ℕ) Refusal) (n : ℕ) (src : List ℕ) (stop i j : ℕ) (t : Replacement)
     → text_behind done (value_text main es opener n src stop i openings_left) ≡ text_behind front whole → 0 < n → i < stop → value_bit_at main es src stop i ≡ Ok (opens t, j)

@@ -1,5 +1,5 @@
 -- A replacement text that gives itself in a value.
-use Rattle.std.proofs.Common.{◌≡◌, ◌+◌, ◌-◌, ℕ, true, false, List, [], ◌++◌, Ok, length, drop, take, slice_index, slice_range, sym, ap, refl, ◌∙◌, inl, inr, arith, append-nil, le-ltb}
+use Rattle.std.proofs.Common.{◌≡◌, ◌+◌, ◌-◌, ℕ, true, false, List, [], ◌++◌, Ok, length, drop, take, slice_index, slice_range, sym, refl, ◌∙◌, inl, inr, arith, append-nil, le-ltb}
 use Rattle.std.specs.Str.{IsCharBoundary, IsUtf8}
 use Rattle.std.proofs.lemmas.Bool.{cases_lt}
 use Rattle.std.proofs.lemmas.Bool.Decides.{nat_tests}
@@ -46,11 +46,7 @@ plain_reads src i r es opener front utf8 cut all = elim (cases_lt i (length src)
       let new = front ++ slice_range src i n in
       let once : (n - 1) + 1 ≡ n = omega arith in
       sym (value_more false es opener r front new n (n - 1) src n i n once more (rw one refl)) ∙ value_done false es opener r new (n - 1) src n n (omega arith)
-  | inr past ↦
-      let n = length src in
-      let same : i ≡ n = omega (arith, cut.0, past) in
-      let none : slice_range src i n ≡ [] = rw same (nothing src n) in
-      value_done false es opener r front n src n i past ∙ ap (λ (xs : List ℕ). Ok (xs, r)) (sym (ap (λ (xs : List ℕ). front ++ xs) none ∙ append-nil front))
+  | inr past ↦ grind (arith, value_done, append-nil)
 ]
   where
     nothing : (src : List ℕ) (n : ℕ) → slice_range src n n ≡ []

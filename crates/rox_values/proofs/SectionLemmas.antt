@@ -1,5 +1,5 @@
 -- The parts of a CDATA section's text.
-use Rattle.std.proofs.Common.{◌≡◌, ◌≢◌, ℕ, suc, ◌+◌, ◌-◌, ◌<◌, ◌==◌, true, false, List, [], ◌∷◌, ◌++◌, length, get_or, take, drop, slice_range, refl, sym, ap, ◌∙◌, arith, inl, inr, append_assoc, append-nil, add-zero, get_or-drop}
+use Rattle.std.proofs.Common.{◌≡◌, ◌≢◌, ℕ, suc, ◌+◌, ◌-◌, ◌<◌, ◌==◌, true, false, List, [], ◌∷◌, ◌++◌, length, get_or, take, drop, slice_range, refl, sym, ap, ◌∙◌, arith, inl, inr, append_assoc, append-nil, get_or-drop}
 use Rattle.std.specs.List.{position_or_len, list_any}
 use Rattle.std.proofs.lemmas.Bool.{ne_eqb}
 use Rattle.std.proofs.lemmas.Bool.Decides.{eqb_tells}
@@ -46,17 +46,11 @@ stretch_moves raw i e place within other =
 
 -- a CR and a LF
 pub part_feed : (old raw : List ℕ) (i : ℕ) → get_or raw i 0 ≡ 13 → get_or raw (i + 1) 0 ≡ 10 → i + 1 < length raw → (old ++ 10 ∷ []) ++ section_rest raw (i + 1 + 1) ≡ old ++ section_rest raw i
-part_feed old raw i cr feed within =
-    let first : drop i raw ≡ 13 ∷ drop (i + 1) raw = rw cr at (drop_more raw i 0 (omega arith)) in
-    let next : drop (i + 1) raw ≡ 10 ∷ drop (i + 1 + 1) raw = rw feed at (drop_more raw (i + 1) 0 within) in
-    append_assoc old (10 ∷ []) _ ∙ ap (λ l. old ++ l) (rw (first, next) refl)
+part_feed old raw i cr feed within = grind (arith, drop_more, append_assoc)
 
 -- a CR alone
 pub part_return : (old raw : List ℕ) (i : ℕ) → get_or raw i 0 ≡ 13 → get_or raw (i + 1) 0 ≢ 10 → i < length raw → (old ++ 10 ∷ []) ++ section_rest raw (i + 1) ≡ old ++ section_rest raw i
-part_return old raw i cr other within =
-    let first : drop i raw ≡ 13 ∷ drop (i + 1) raw = rw cr at (drop_more raw i 0 within) in
-    let front : get_or (drop (i + 1) raw) 0 0 ≢ 10 = λ h. other (ap (λ k. get_or raw k 0) (sym (add-zero (i + 1))) ∙ sym (get_or-drop (i + 1) raw 0 0) ∙ h) in
-    append_assoc old (10 ∷ []) _ ∙ ap (λ l. old ++ l) (rw (first, apart (drop (i + 1) raw) front) refl)
+part_return old raw i cr other within = grind (arith, drop_more, get_or-drop, append_assoc, apart)
 
 -- whether a CR stands somewhere
 any_before : (xs : List ℕ) → position_or_len (λ c. c == 13) xs ≡ length xs → list_any (λ b. b == 13) xs ≡ false

@@ -1,9 +1,9 @@
 -- A value without references and without CR.
-use Rattle.std.proofs.Common.{◌≡◌, ◌≢◌, ℕ, zero, suc, ◌+◌, ◌-◌, ◌<◌, ◌≤◌, Bool, true, Option, Some, None, IfSome, List, [], ◌∷◌, ◌++◌, Ok, length, map, take, set, get_or, slice_index, slice_range, inl, inr, refl, sym, ap, ◌∙◌, arith}
+use Rattle.std.proofs.Common.{◌≡◌, ◌≢◌, ℕ, zero, suc, ◌+◌, ◌-◌, ◌<◌, ◌≤◌, Bool, true, Option, IfSome, List, [], ◌∷◌, ◌++◌, Ok, length, map, take, set, get_or, slice_index, slice_range, inl, inr, refl, sym, ap, ◌∙◌, arith}
 use Rattle.std.specs.Prelude.{String, string_bytes}
 use Rattle.std.specs.declared.alloc.Global.{Global}
 use Rattle.std.specs.Str.{IsUtf8, IsCharBoundary}
-use Rattle.std.proofs.lemmas.Bool.{cases_Bool, cases_eq, cases_lt, le-ltb, lt-ltb}
+use Rattle.std.proofs.lemmas.Bool.{cases_Bool, cases_lt, le-ltb, lt-ltb}
 use Rattle.std.proofs.lemmas.Bool.Decides.{nat_tests}
 use Rattle.std.proofs.lemmas.List.{drop_more, ext_get_or, get_or-set_other, get_or-set_same, get_or-take, length-map, length-set, length-take-le, map-append}
 use Rattle.std.proofs.lemmas.Str.{IsCharBoundary-after_ascii}
@@ -24,14 +24,7 @@ pub record SpacedUpTo (a b : List ℕ) (i : ℕ) : Type 0 where
   pub rest : (k : ℕ) → i ≤ k → get_or b k 0 ≡ get_or a k 0
 
 pub spaced_more : (a b : List ℕ) (i x : ℕ) → i < length b → x ≡ spaced_byte (get_or b i 0) → SpacedUpTo a b i → SpacedUpTo a (set b i x) (i + 1)
-spaced_more a b i x more is u = record {
-  long = length-set b i x ∙ u.long;
-  done = λ k less. elim (cases_eq k i) [
-    | inl at ↦ rw at (get_or-set_same b i x 0 more ∙ is ∙ ap spaced_byte (u.rest i (omega arith)))
-    | inr other ↦ get_or-set_other b i k x 0 other ∙ u.done k (omega (arith, less, other))
-  ];
-  rest = λ k low. get_or-set_other b i k x 0 (λ h. absurd (omega (arith, low, h))) ∙ u.rest k (omega (arith, low));
-}
+spaced_more a b i x more is u = grind (arith, length-set, get_or-set_same, get_or-set_other)
 
 spaced_at : (a : List ℕ) (k : ℕ) → get_or (map spaced_byte a) k 0 ≡ spaced_byte (get_or a k 0)
 spaced_at [] k = refl
@@ -71,18 +64,7 @@ ends_set p src (suc n) i same = elim (cases_Bool (p (slice_index src i))) [
   | inl passes_here ↦
       let r = ends_set p src n (i + 1) (omega arith) in
       let e = r.1 in
-      let on = e.onward in (
-        r.0,
-        record {
-          onward = omega arith;
-          within = e.within;
-          passes = λ k low high. elim (cases_eq k i) [
-            | inl at ↦ rw at passes_here
-            | inr other ↦ e.passes k (omega (arith, low, other)) high
-          ];
-          stops = e.stops;
-        },
-      )
+      let on = e.onward in grind arith
   | inr fails_here ↦ (i, record { onward = omega arith; within = omega arith; passes = λ k low high. absurd (omega (arith, low, high)); stops = λ more. fails_here })
 ]
 
@@ -149,5 +131,4 @@ whole_runs src i first stop e all = λ k low high. elim (cases_lt k first) [
 pub spaced_value : (o : Option (String Global)) (src text : List ℕ) (i stop : ℕ) → IsUtf8 src → i ≤ stop → IsCharBoundary src i → IsCharBoundary src stop → AreValueChars src i stop → AllPass is_run_byte src i stop
     → text ≡ slice_range src i stop → IfSome o (λ s. string_bytes s ≡ map spaced_byte text)
     → IfSome o (λ s. (main : Bool) (es : List Entity) (opener : ValueInclusion) (openings_left : ℕ) → value_text main es opener (stop - i) src stop i openings_left ≡ Ok (string_bytes s, openings_left))
-spaced_value None src text i stop utf8 le from to chars all is same = tt
-spaced_value (Some s) src text i stop utf8 le from to chars all is same = λ main es opener openings_left. rw (same, is) (spaced_read main es opener openings_left src stop (stop - i) i utf8 (omega arith) le from to (λ some. chars) all)
+spaced_value o src text i stop utf8 le from to chars all is same = grind (arith, spaced_read)

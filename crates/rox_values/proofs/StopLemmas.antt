@@ -1,6 +1,6 @@
 -- Why the items of a value end.
-use Rattle.std.proofs.Common.{◌≡◌, ◌≢◌, ℕ, ◌+◌, ◌-◌, ◌<◌, ◌≤◌, ◌==◌, ◌||◌, Bool, true, false, List, [], ◌∷◌, Option, Some, None, IfNone, Result, Ok, Err, slice_index, refl, sym, ap, ◌∙◌, arith, inl, inr}
-use Rattle.std.proofs.lemmas.Bool.{cases_eq, cases_lt}
+use Rattle.std.proofs.Common.{◌≡◌, ◌≢◌, ℕ, ◌<◌, ◌≤◌, ◌==◌, ◌||◌, Bool, true, false, List, [], ◌∷◌, Option, IfNone, Result, Ok, Err, slice_index, refl, sym, ◌∙◌, arith, inl, inr}
+use Rattle.std.proofs.lemmas.Bool.{cases_eq}
 use Rattle.std.proofs.lemmas.Bool.Decides.{nat_tests}
 use Rattle.rox_reading.specs.Lexical.{Read, ◌>>=◌}
 use Rattle.std.specs.Char.{encode_utf8}
@@ -13,7 +13,6 @@ use Rattle.rox_values.specs.PlainBits.{GivesCharacter, GivesNoBytes, HasNoCharac
 use Rattle.rox_values.specs.declared.plain_bits.TextKind.{TextKind}
 use Rattle.rox_values.specs.declared.plain_bits.TextKind.TheVariants as kind_of
 use Rattle.rox_values.proofs.BitLemmas.{stretch_is}
-use Rattle.rox_values.proofs.PartLemmas.{pair_ok}
 
 -- ---- an item that gives no bytes
 
@@ -46,8 +45,7 @@ abbrev with_end : ℕ → Result Bit Fault → Read Bit
 with_end n bit = bit >>= λ b. Ok (b, n)
 
 only_bit : (bit : Result Bit Fault) (n j : ℕ) (given : List ℕ) → with_end n bit ≡ Ok (bytes_of given, j) → bit ≡ Ok (bytes_of given)
-only_bit (Ok b) n j given h = ap (λ (x : Bit). Ok x) (pair_ok b (bytes_of given) n j h).0
-only_bit (Err f) n j given h = cc h
+only_bit bit n j given h = grind arith
 
 character_read : (main : Bool) (src : List ℕ) (stop i n c : ℕ) → slice_index src i ≡ 38 → reference_at src i ≡ Ok (character_of c, n)
     → value_bit_at main [] src stop i ≡ with_end n (tested_bit main i (character_of c) (Ok (bytes_of (encode_utf8 c))))
@@ -106,15 +104,13 @@ no_white : (c : ℕ) → depends_on_kind c ≡ false → (c == 9 || (c == 10 || 
 no_white c h = grind (arith, nat_tests)
 
 alike_read : (c i : ℕ) (main : Bool) → depends_on_kind c ≡ false → tested_bit main i (character_of c) (Ok (bytes_of (encode_utf8 c))) ≡ Ok (bytes_of (encode_utf8 c))
-alike_read c i true h = refl
-alike_read c i false h = rw (no_tag c h, no_white c h) refl
+alike_read c i main h = grind arith
 
 pub alike_gives : (c : ℕ) → depends_on_kind c ≡ false → GivesCharacter kind_of.Either c c
 alike_gives c h = λ main i may. alike_read c i main h
 
 pub inner_none : (kind : TextKind) (c : ℕ) (o : Option ℕ) → may_be kind false ≡ true → IfNone o (c ≡ 60) → IfNone o (HasNoCharacter kind c)
-inner_none kind c None may is = tag_is_none kind c may is
-inner_none kind c (Some x) may is = tt
+inner_none kind c o may is = grind arith
 
 -- a stretch with a fault
 pub stretch_stops : (src : List ℕ) (i stop : ℕ) (f : Fault) → is_special (slice_index src i) ≡ false → stretch_at false src stop i ≡ Err f → GivesNoBytes kind_of.Replacement src i stop
@@ -127,10 +123,3 @@ item_put kind src i stop len cap new_len new_cap j room some = record { room = r
 
 pub item_stops : (kind : TextKind) (src : List ℕ) (i stop len cap : ℕ) → GivesNoBytes kind src i stop → StopsAtOne kind src i stop len cap len cap 0
 item_stops kind src i stop len cap none = record { room = omega arith; same = λ zero. refl; why = λ zero more. none }
-
-pub no_room : (kind : TextKind) (src : List ℕ) (i stop len cap new_len new_cap : ℕ) → cap ≤ new_cap → new_len ≡ len → cap < len + (stop - i) + 4 → StopsAtOne kind src i stop len cap new_len new_cap 0
-no_room kind src i stop len cap new_len new_cap room same few = record { room = room; same = λ zero. same; why = λ zero more. absurd (omega (arith, few, more)) }
-
--- an append that failed lacked room
-pub lacks_room : (ok : Bool) (need room : ℕ) → ok ≡ false → (need ≤ room → ok ≡ true) → room < need
-lacks_room ok need room fails enough = elim (cases_lt room need) [ inl few ↦ few | inr more ↦ absurd (let held = enough more in cc (fails, held)) ]

@@ -1,5 +1,5 @@
 -- A replacement text that is opened as a part of a value.
-use Rattle.std.proofs.Common.{◌≡◌, ℕ, zero, suc, ◌-◌, Bool, false, List, ◌++◌, Result, Ok, Err, length, refl, ap, ◌∙◌, arith}
+use Rattle.std.proofs.Common.{◌≡◌, ℕ, zero, suc, ◌-◌, Bool, false, List, Result, Ok, Err, length, refl, ap, ◌∙◌, arith}
 use Rattle.std.specs.Borrow.{Bor}
 use Rattle.rox_grammar.specs.declared.fault.Fault.{Fault}
 use Rattle.rox_grammar.specs.Entities.{Replacement, Entity}
@@ -12,8 +12,6 @@ use Rattle.rox_values.specs.DeclaredEntities.{opened_at}
 use Rattle.rox_values.specs.Refusals.{IsRefusal, seen_from}
 use Rattle.rox_values.specs.Values.{text_behind}
 use Rattle.rox_values.specs.declared.parse_error.ParseError.{ParseError}
-use Rattle.rox_values.specs.declared.parse_error.ParseError.TheVariants as refused
-use Rattle.rox_values.proofs.PartLemmas.{pair_ok}
 
 -- it may not be opened
 pub opens_err : (es : List Entity) (depth_left : ℕ) (main : Bool) (t : Replacement) (after openings_left : ℕ) (f : Fault) → opened_at depth_left main after openings_left ≡ Err f → value_opener es depth_left main t after openings_left ≡ Err (refusal.here f)
@@ -36,8 +34,7 @@ opens_ok es (suc k) d main t after openings_left r below h = let e : d ≡ k = o
 
 appended : (front new : List ℕ) (source : List ℕ) (main : Bool) (openings_left inner : ℕ) (read : Result (List ℕ × ℕ) Refusal) → text_behind front read ≡ Ok (new, inner)
     → text_behind front (behind_it main openings_left source read) ≡ Ok (new, left_behind main openings_left inner)
-appended front new source main openings_left inner (Ok x) h = let same = pair_ok (front ++ x.0) new x.1 inner h in rw (same.0, same.1) refl
-appended front new source main openings_left inner (Err e) h = cc h
+appended front new source main openings_left inner read h = grind arith
 
 -- it was read
 pub opens_reads : (es : List Entity) (depth_left d : ℕ) (main : Bool) (t : Replacement) (after openings_left r inner : ℕ) (front new : List ℕ) → d ≡ depth_left - 1 → opened_at depth_left main after openings_left ≡ Ok r
@@ -46,10 +43,7 @@ opens_reads es depth_left d main t after openings_left r inner front new below h
     ap (text_behind front) (opens_ok es depth_left d main t after openings_left r below h) ∙ appended front new t.source main openings_left inner (inner_value es d t r) read
 
 refused_there : (source : Bor (List ℕ)) (main : Bool) (openings_left : ℕ) (e : ParseError) (read : Result (List ℕ × ℕ) Refusal) → IsRefusal e read → IsRefusal (seen_from source e) (behind_it main openings_left source.now read)
-refused_there source main openings_left refused.Memory read h = tt
-refused_there source main openings_left (refused.Fault f) read h = rw h refl
-refused_there source main openings_left (refused.FaultIn s f) read h = rw h refl
-refused_there source main openings_left (refused.Resolver at message) read (request, h) = (request, rw h refl)
+refused_there source main openings_left e read h = grind arith
 
 -- it was refused
 pub opens_refuses : (es : List Entity) (depth_left d : ℕ) (main : Bool) (source : Bor (List ℕ)) (start after openings_left r : ℕ) (e : ParseError) → d ≡ depth_left - 1 → opened_at depth_left main after openings_left ≡ Ok r

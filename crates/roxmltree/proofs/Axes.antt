@@ -1,5 +1,5 @@
 -- The nodes on an axis begin with the node itself.
-use Rattle.std.proofs.Common.{◌≡◌, ℕ, ◌∷◌, ◌<◌, Some, refl}
+use Rattle.std.proofs.Common.{◌≡◌, ℕ, ◌∷◌, ◌<◌, Some, refl, arith}
 use Rattle.rox_grammar.specs.Forest.{Forest, size}
 use Rattle.rox_grammar.specs.Tree as grammar
 use Rattle.roxmltree.specs.Places.{place}
@@ -7,7 +7,6 @@ use Rattle.roxmltree.specs.DocumentView.{DocumentView}
 use Rattle.roxmltree.specs.NodeRef.{node_ref, node_refs}
 use Rattle.roxmltree.specs.AxisNodes.{axis_nodes_from, after_first}
 use Rattle.roxmltree.specs.declared.iterators.Axis.{Axis}
-use Rattle.roxmltree.specs.declared.iterators.Axis.TheVariants as axis
 use Rattle.roxmltree.specs.declared.nodes.Node.{Node}
 use Rattle.roxmltree.proofs.Preorder.{here, place_is}
 
@@ -18,8 +17,4 @@ last_children_start : (d : DocumentView) (f : Forest grammar.Node) (i : ℕ) →
 last_children_start d f i l = let h = here f i l in rw (place_is f i h) refl
 
 pub starts : (along : Axis) (node : Node) → axis_nodes_from along (Some node) ≡ node_ref node ∷ after_first (axis_nodes_from along (Some node))
-starts axis.Ancestors node = refl
-starts axis.PrevSiblings node = refl
-starts axis.NextSiblings node = refl
-starts axis.FirstChildren node = first_children_start node.document.now node.document.now.tree node.id.0 node.in_tree
-starts axis.LastChildren node = last_children_start node.document.now node.document.now.tree node.id.0 node.in_tree
+starts along node = grind (arith, first_children_start, last_children_start)

@@ -1,10 +1,9 @@
 -- What a node says by itself, its namespaces and attributes set aside.
-use Rattle.std.proofs.Common.{◌≡◌, ℕ, ◌<◌, List, [], get_or, refl, ap, ◌∙◌, Some, length, sym, subst, false, true≢false}
+use Rattle.std.proofs.Common.{◌≡◌, ℕ, ◌<◌, List, [], get_or, ap, ◌∙◌, length, sym, subst, false, arith}
 use Rattle.std.proofs.lemmas.List.Elements.{All-from_recursion}
-use Rattle.rox_storage.specs.Storage.{storage_bytes}
 use Rattle.rox_rows.specs.StoredNodes.{is_element, is_text}
 use Rattle.rox_grammar.specs.Forest.{Forest, size}
-use Rattle.rox_grammar.specs.Tree.{Node, Root, Element, Text, Comment, PI}
+use Rattle.rox_grammar.specs.Tree.{Node}
 use Rattle.rox_rows.specs.Rows.{KindWithin, node, attribute_rows, AttributeRow}
 use Rattle.rox_names.specs.Tables.{HoldsTree, names_of, scopes_of}
 use Rattle.rox_rows.specs.declared.row.NodeKind.{NodeKind}
@@ -21,11 +20,7 @@ use Rattle.rox_rows.specs.Rows.{node_rows}
 use Rattle.roxmltree.proofs.Rows.{row_line, in_rows}
 
 bare_node : (az : List AttributeRow) (namespaces : List NamespaceDecl) (lists : List (List NamespaceDecl)) (start end : ℕ) (k : NodeKind) → stripped_row start end k ≡ stripped (node az namespaces lists start end k)
-bare_node az namespaces lists start end kind.Root = refl
-bare_node az namespaces lists start end (kind.Element e) = refl
-bare_node az namespaces lists start end (kind.Text value) = refl
-bare_node az namespaces lists start end (kind.Comment text) = refl
-bare_node az namespaces lists start end (kind.PI pi) = refl
+bare_node az namespaces lists start end k = grind arith
 
 -- a row's node is the tree's
 pub row_item : (t : Tables) (f : Forest Node) (i : ℕ) (x : NodeData) → HoldsTree t f → i < size f → x ≡ get_or (node_rows t.nodes) i x → stripped_row x.start x.end x.kind ≡ stripped (place f i).item
@@ -47,11 +42,7 @@ record IsBare (i : Node) : Type 0 where
   content : text_content i ≡ text_content (stripped i)
 
 is_bare : (i : Node) → IsBare i
-is_bare (Root end) = record { root = refl; element = refl; text = refl; comment = refl; pi = refl; start = refl; end = refl; local = refl; instruction = refl; type = refl; content = refl }
-is_bare (Element start end namespace local listed attributes) = record { root = refl; element = refl; text = refl; comment = refl; pi = refl; start = refl; end = refl; local = refl; instruction = refl; type = refl; content = refl }
-is_bare (Text start end value borrowed) = record { root = refl; element = refl; text = refl; comment = refl; pi = refl; start = refl; end = refl; local = refl; instruction = refl; type = refl; content = refl }
-is_bare (Comment start end text) = record { root = refl; element = refl; text = refl; comment = refl; pi = refl; start = refl; end = refl; local = refl; instruction = refl; type = refl; content = refl }
-is_bare (PI start end target value) = record { root = refl; element = refl; text = refl; comment = refl; pi = refl; start = refl; end = refl; local = refl; instruction = refl; type = refl; content = refl }
+is_bare i = grind arith
 
 pub says_root_bare : (i : Node) → is_root_node i ≡ is_root_node (stripped i)
 says_root_bare i = (is_bare i).root
@@ -88,18 +79,10 @@ text_content_bare i = (is_bare i).content
 
 -- whether a row is an element's, or a text's, is whether its node is one
 element_row : (s e : ℕ) (k : NodeKind) → is_element k ≡ is_element_node (stripped_row s e k)
-element_row s e kind.Root = refl
-element_row s e (kind.Element x) = refl
-element_row s e (kind.Text x) = refl
-element_row s e (kind.Comment x) = refl
-element_row s e (kind.PI x) = refl
+element_row s e k = grind arith
 
 text_row : (s e : ℕ) (k : NodeKind) → is_text k ≡ is_text_node (stripped_row s e k)
-text_row s e kind.Root = refl
-text_row s e (kind.Element x) = refl
-text_row s e (kind.Text x) = refl
-text_row s e (kind.Comment x) = refl
-text_row s e (kind.PI x) = refl
+text_row s e k = grind arith
 
 pub row_element : (t : Tables) (f : Forest Node) (i : ℕ) (x : NodeData) → HoldsTree t f → i < size f → x ≡ get_or (node_rows t.nodes) i x → is_element x.kind ≡ is_element_node (place f i).item
 row_element t f i x h l e = element_row x.start x.end x.kind ∙ ap is_element_node (row_item t f i x h l e) ∙ sym (says_element_bare (place f i).item)
@@ -112,19 +95,11 @@ placed : (s e : ℕ) (k : NodeKind) (n : Node) → start_of (stripped n) ≡ s �
 placed s e k n starts ends h = rw (start_of_bare n ∙ starts, end_of_bare n ∙ ends) h
 
 pub stripped_again : (s e : ℕ) (k : NodeKind) (n : Node) → stripped_row s e k ≡ stripped n → stripped_row (start_of n) (end_of n) k ≡ stripped n
-stripped_again s e kind.Root n h = let b : end_of n ≡ e = end_of_bare n ∙ ap end_of (sym h) in rw b h
-stripped_again s e (kind.Element x) n h = placed s e (kind.Element x) n (ap start_of (sym h)) (ap end_of (sym h)) h
-stripped_again s e (kind.Text x) n h = placed s e (kind.Text x) n (ap start_of (sym h)) (ap end_of (sym h)) h
-stripped_again s e (kind.Comment x) n h = placed s e (kind.Comment x) n (ap start_of (sym h)) (ap end_of (sym h)) h
-stripped_again s e (kind.PI x) n h = placed s e (kind.PI x) n (ap start_of (sym h)) (ap end_of (sym h)) h
+stripped_again s e k n h = grind arith
 
 -- what a text's or a comment's row says of its text
 content_kind : (az : List AttributeRow) (namespaces : List NamespaceDecl) (lists : List (List NamespaceDecl)) (a n l start end : ℕ) (k : NodeKind) → KindWithin a n l k → content_in k ≡ content_of (node az namespaces lists start end k)
-content_kind az namespaces lists a n l start end kind.Root w = refl
-content_kind az namespaces lists a n l start end (kind.Element e) w = refl
-content_kind az namespaces lists a n l start end (kind.Text value) w = refl
-content_kind az namespaces lists a n l start end (kind.Comment text) w = ap (λ b. Some (storage_bytes text, b)) w
-content_kind az namespaces lists a n l start end (kind.PI pi) w = refl
+content_kind az namespaces lists a n l start end k w = grind arith
 
 -- what a row names is in the tables
 pub row_within : (t : Tables) (f : Forest Node) (i : ℕ) (x : NodeData) → HoldsTree t f → i < size f → x ≡ get_or (node_rows t.nodes) i x → KindWithin (length (attribute_rows t.attributes)) (length t.namespaces.items) (length t.scopes.items) x.kind
@@ -139,8 +114,4 @@ row_content t f i x h l e =
 
 -- a node that is no element has none
 pub attributes_none : (i : Node) → is_element_node i ≡ false → attributes_of i ≡ []
-attributes_none (Root end) h = refl
-attributes_none (Element start end namespace local listed attributes) h = absurd (true≢false h)
-attributes_none (Text start end value borrowed) h = refl
-attributes_none (Comment start end text) h = refl
-attributes_none (PI start end target value) h = refl
+attributes_none i h = grind arith

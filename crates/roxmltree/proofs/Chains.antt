@@ -1,5 +1,5 @@
 -- What chains of iterators answer, where an iterator is seen as the list of what it has left, by a view of each item.
-use Rattle.std.proofs.Common.{ℕ, Bool, false, List, [], ◌∷◌, map, Option, Some, None, Bor, ◌≡◌, refl, sym, ap, ◌∙◌, subst}
+use Rattle.std.proofs.Common.{Bool, List, [], ◌∷◌, map, Option, Some, None, Bor, ◌≡◌, refl, ap, ◌∙◌}
 use denote.Param.Members.{Mut}
 use Rattle.std.specs.Fn.{CalledAt}
 use Rattle.std.specs.List.{find, filter, last_or}
@@ -7,7 +7,7 @@ use Rattle.std.specs.Option.{option_map}
 use Rattle.std.specs.declared.iter.Filter.{Filter}
 use Rattle.std.specs.Iterator.{YieldsFirstBy, FindsItem, Drains}
 use Rattle.std.specs.Iterator.Adapters.{filter_source, filter_callee, filter_steps}
-use Rattle.std.proofs.lemmas.Iterator.{YieldsList, items_from_drains}
+use Rattle.std.proofs.lemmas.Iterator.{items_from_drains}
 use Rattle.std.proofs.lemmas.Iterator.Consumers.{YieldsList-from_first, YieldsList-from_filter}
 use Rattle.std.proofs.lemmas.Iterator.Search.{find_from_yields_List}
 

@@ -1,10 +1,10 @@
 -- What is self-contained by the nodes above it is so by the tree; and where it starts and ends.
 use Rattle.std.proofs.Common.{◌≡◌, ℕ, zero, suc, ◌+◌, ◌-◌, ◌<◌, ◌&&◌, ◌==◌, Bool, true, false, List, [], ◌∷◌, length, Some, refl, sym, ap, ◌∙◌, arith, inl, inr, lt-ltb, le-ltb}
 use Rattle.std.specs.List.{list_all}
-use Rattle.std.proofs.lemmas.Bool.{cases_Bool, cases_lt, ne_eqb}
+use Rattle.std.proofs.lemmas.Bool.{cases_Bool, cases_lt}
 use Rattle.rox_grammar.specs.Forest.{Forest, Nil, Cons, size}
 use Rattle.rox_grammar.specs.Written.{NamespaceDecl}
-use Rattle.rox_grammar.specs.Tree.{Node, Root, Element, Text, Comment, PI}
+use Rattle.rox_grammar.specs.Tree.{Node}
 use Rattle.rox_grammar.specs.Exchange.{none_of, lists_none, self_contained, start_at, end_at}
 use Rattle.roxmltree.specs.Places.{Place, preorder, place}
 use Rattle.roxmltree.specs.NodeParts.{node_at, is_element_node, start_of, end_of, listed_of}
@@ -17,11 +17,7 @@ use Rattle.roxmltree.proofs.Tops.{whole_sits}
 -- ---- what a node says of itself
 
 lists_says : (node : Node) → none_of (listed_of node) ≡ lists_none node
-lists_says (Root end) = refl
-lists_says (Element start end namespace local listed attributes) = refl
-lists_says (Text start end value borrowed) = refl
-lists_says (Comment start end text) = refl
-lists_says (PI start end target value) = refl
+lists_says node = grind arith
 
 -- ---- nodes in their places
 
@@ -31,10 +27,7 @@ module _ (T : List Place) where
   bare_at a = none_of (listed_of (at T a).item)
 
   and_swap : (a b c : Bool) → (a && (b && c)) ≡ ((b && a) && c)
-  and_swap true true c = refl
-  and_swap true false c = refl
-  and_swap false true c = refl
-  and_swap false false c = refl
+  and_swap a b c = grind arith
 
   contained_sits : (up left : List ℕ) (b : ℕ) (f : Forest Node) (id : ℕ) → Sits T up left b f → id < size f
       → (is_element_node (at T (b + id)).item && list_all bare_at (at T (b + id)).above) ≡ (self_contained f id && list_all bare_at up)
@@ -64,14 +57,8 @@ module _ (T : List Place) where
       rw (e, s.0) (refl, refl)
   bounds_sit up left b (Cons node children rest) (suc id) s lt =
       elim (cases_lt id (size children)) as (λ q. (start_of (at T (b + suc id)).item ≡ start_at (Cons node children rest) (suc id)) × (end_of (at T (b + suc id)).item ≡ end_at (Cons node children rest) (suc id))) [
-        | inl under ↦ (
-            let inside = lt-ltb id (size children) under in
-            let e : b + suc id ≡ b + 1 + id = omega arith in
-            rw (e, inside) (bounds_sit (b ∷ up) [] (b + 1) children id s.2 under))
-        | inr past ↦ (
-            let out = le-ltb id (size children) past in
-            let e : b + suc id ≡ b + (1 + size children) + (id - size children) = omega arith in
-            rw (e, out) (bounds_sit up (b ∷ left) (b + (1 + size children)) rest (id - size children) s.3 (omega arith)))
+        | inl under ↦ grind (arith, bounds_sit (b ∷ up) [] (b + 1) children id s.2 under)
+        | inr past ↦ grind (arith, bounds_sit up (b ∷ left) (b + (1 + size children)) rest (id - size children) s.3 (omega arith))
       ]
 
 -- ---- by ids
@@ -115,9 +102,7 @@ pub nearest_is : (d : DocumentView) (ids : List ℕ) (s : DocumentView × ℕ) �
 nearest_is d [] s is = cc is
 nearest_is d (id ∷ ids) s is =
     elim (cases_Bool (is_element_node (node_at d.tree id))) as (λ q. (s.0 ≡ d) × (s.1 ≡ first_element d.tree (id ∷ ids))) [
-      | inl here ↦ (
-          let same : Some s ≡ Some (d, id) = rw here at is in
-          rw here (cc same, cc same))
+      | inl here ↦ grind arith
       | inr later ↦ (
           let more : Some s ≡ nearest_element (node_refs d ids) = rw later at is in
           rw later (nearest_is d ids s more))
@@ -125,5 +110,4 @@ nearest_is d (id ∷ ids) s is =
 
 -- none are listed where their count is 0
 pub none_long : (ds : List NamespaceDecl) → (length ds == 0) ≡ none_of ds
-none_long [] = refl
-none_long (d ∷ ds) = ne_eqb (length (d ∷ ds)) 0 (λ e. omega arith)
+none_long ds = grind arith

@@ -1,5 +1,5 @@
 -- How many nodes there are on an axis: no more than the tree has.
-use Rattle.std.proofs.Common.{◌≡◌, ℕ, suc, zero, ◌+◌, ◌-◌, ◌<◌, ◌≤◌, List, [], ◌∷◌, length, ap, arith, ⊎_elim}
+use Rattle.std.proofs.Common.{◌≡◌, ℕ, suc, zero, ◌+◌, ◌-◌, ◌<◌, ◌≤◌, List, [], ◌∷◌, length, arith, ⊎_elim}
 use Rattle.std.proofs.lemmas.Bool.{cases_lt}
 use Rattle.std.proofs.lemmas.List.{get_or_append_left, get_or-append-add}
 use Rattle.rox_grammar.specs.Forest.{Forest, Nil, Cons, size}
@@ -74,5 +74,4 @@ few_last_children f i l =
 -- what `children` has left at first
 pub few_left_of_children : (d : DocumentView) (f : Forest Node) (i a u h : ℕ) → i < size f → a ≡ i + 1 → u ≡ i + (place f i).count → h ≡ i
     → length (node_refs d (between f a u h)) < size f
-few_left_of_children d f i a u h l ea eu eh =
-    omega (arith, ap length (children_left d f i a u h l ea eu eh), length_spots d (children f i), few_children f i l)
+few_left_of_children d f i a u h l ea eu eh = grind (arith, children_left, length_spots, few_children)

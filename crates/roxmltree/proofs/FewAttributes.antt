@@ -1,5 +1,5 @@
 -- How many attributes an element has: no more than its document may have.
-use Rattle.std.proofs.Common.{Bool, ℕ, ◌^◌, ◌<◌, ◌≤◌, List, [], length, sym, subst, arith}
+use Rattle.std.proofs.Common.{Bool, ℕ, ◌^◌, ◌<◌, ◌≤◌, List, length, arith}
 use Rattle.std.proofs.lemmas.List.{length-map}
 use Rattle.rox_grammar.specs.Forest.{Forest, Nil, Cons}
 use Rattle.rox_grammar.specs.Written as written
@@ -8,7 +8,6 @@ use Rattle.rox_grammar.specs.Tree.{Node, attribute_in, listed, resolved}
 use Rattle.rox_grammar.specs.Doctype.{Asked}
 use Rattle.rox_grammar.specs.Document.{most_attributes, IsTreeOf}
 use Rattle.rox_grammar.specs.Counts.{attribute_count}
-use Rattle.rox_theory.proofs.ParseParts.{tree_parts}
 use Rattle.roxmltree.specs.NodeParts.{node_at, attributes_of}
 use Rattle.roxmltree.specs.EachNode.{EachNode}
 use Rattle.roxmltree.proofs.Everywhere.{at_each}
@@ -29,8 +28,6 @@ few_resolved most above (Cons (written.PI a e t o) c r) h = (omega arith, few_re
 -- in a document
 pub few_attributes : {dtd : Bool} {asked : List Asked} (src : List ℕ) (limit : ℕ) (tree : Forest Node) (id : ℕ) → IsTreeOf src dtd asked limit tree → length (attributes_of (node_at tree id)) < 2 ^ 32
 few_attributes src limit tree id is =
-    let h = tree_parts is in
-    let all : EachNode (HasFew most_attributes) tree =
-    subst (λ (f : Forest Node). EachNode (HasFew most_attributes) f) (sym h.shown) (omega arith, few_resolved most_attributes [] h.written h.within.attributes, tt) in
+    let all : EachNode (HasFew most_attributes) tree = grind (arith, few_resolved) in
     let here : HasFew most_attributes (node_at tree id) = at_each (HasFew most_attributes) tree all (omega arith) id in
     omega (arith, here)

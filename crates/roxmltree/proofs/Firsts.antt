@@ -1,6 +1,5 @@
 -- The nodes with no sibling before them: the root, and first children.
-use Rattle.std.proofs.Common.{◌≡◌, ℕ, ◌+◌, ◌<◌, ◌≤◌, Some, None, refl, arith, ⊎_elim}
-use Rattle.std.proofs.lemmas.Bool.{cases_eq}
+use Rattle.std.proofs.Common.{◌≡◌, ℕ, ◌+◌, ◌<◌, ◌≤◌, Some, None, refl, arith}
 use Rattle.std.specs.List.{Contains}
 use Rattle.rox_grammar.specs.Forest.{Forest, size}
 use Rattle.rox_grammar.specs.Tree.{Node}
@@ -17,11 +16,4 @@ parent_before f i p l e =
 
 -- Such a node has no parent, or its parent is right before it.
 pub no_sibling_before : (f : Forest Node) (i p : ℕ) → i < size f → (0 < i → parent f i ≡ Some p) → i ≤ p + 1 → prev_sibling f i ≡ None
-no_sibling_before f i p l h m =
-    ⊎_elim
-    (λ (zero : i ≡ 0). prev_sibling_root f i l zero)
-    (λ (other : i ≡ 0 → ⊥).
-    let e = h (omega (arith, other)) in
-    let b = parent_before f i p l e in
-    prev_sibling_none f i p l (omega (arith, m, b)) e)
-    (cases_eq i 0)
+no_sibling_before f i p l h m = grind (arith, prev_sibling_root, parent_before, prev_sibling_none)

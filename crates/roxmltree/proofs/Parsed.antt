@@ -1,5 +1,5 @@
 -- What is read of a text is its tree, and what is refused has none.
-use Rattle.std.proofs.Common.{true, false, ◌≡◌, ℕ, ◌+◌, ◌≤◌, Bool, List, [], ◌++◌, length, refl, ap, sym, subst, ◌∙◌, arith, true≢false}
+use Rattle.std.proofs.Common.{true, false, ◌≡◌, ℕ, ◌+◌, ◌≤◌, Bool, List, [], ◌++◌, length, refl, ap, sym, subst, ◌∙◌, arith}
 use Rattle.std.proofs.lemmas.List.{append-nil}
 use Rattle.std.specs.Prelude.{IsUtf8, Result, Ok, Err}
 use Rattle.rox_grammar.specs.declared.fault.Fault.{Fault}
@@ -62,18 +62,7 @@ module _ (limit : ℕ) (allow : Bool) (allows : Request → Reply → Type 0) (s
       let p = parse_read b.asked b.tops b.texts (b.read []) in
       let holds = built_holds t dtd b in
       let nodes : size b.tops + 1 ≤ 4294967295 = omega (arith, holds.few, row_count t (document_tree (length src) b.tops) holds, size-resolved [] b.tops) in
-      record {
-        tree = document_tree (length src) b.tops;
-        holds = holds;
-        asked = b.asked;
-        parsed = parts_tree (record {
-          written = b.tops;
-          parse = subst (λ (dtd : Bool). ParseOf src dtd b.asked b.tops) (sym b.seen) p.0;
-          within = record { nodes = nodes; attributes = p.1.attributes; namespaces = p.1.namespaces };
-          shown = refl;
-        });
-        utf8 = utf8;
-      }
+      grind (arith, parts_tree)
 
 -- ---- trees
 
@@ -90,8 +79,7 @@ plain_tree src dtd asked limit tree utf8 none h =
 -- nor has one where none may stand
 pub permitted_tree : (src : List ℕ) (dtd : Bool) (asked : List Asked) (limit : ℕ) (tree : Forest Node) → IsUtf8 src → Permits false dtd → IsTreeOf src dtd asked limit tree
     → (dtd ≡ false) × IsTreeOf src false [] limit tree
-permitted_tree src true asked limit tree utf8 permits h = absurd (true≢false (sym (permits refl)))
-permitted_tree src false asked limit tree utf8 permits h = (refl, plain_tree src false asked limit tree utf8 refl h)
+permitted_tree src dtd asked limit tree utf8 permits h = grind (arith, plain_tree)
 
 -- a text has one tree for the same answers
 pub one_tree : (src : List ℕ) (d e : Bool) (asked : List Asked) (limit most : ℕ) (s t : Forest Node) → IsUtf8 src → IsTreeOf src d asked limit s → IsTreeOf src e asked most t → s ≡ t

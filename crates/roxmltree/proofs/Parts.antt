@@ -1,5 +1,5 @@
 -- What an element's row says of its namespaces and attributes.
-use Rattle.std.proofs.Common.{◌≡◌, ℕ, ◌<◌, List, [], None, length, get_or, map, slice_range, refl, sym, ap, ◌∙◌, subst}
+use Rattle.std.proofs.Common.{◌≡◌, ℕ, ◌<◌, List, [], None, length, get_or, map, slice_range, ap, ◌∙◌, subst, arith}
 use Rattle.std.specs.Option.{option_map}
 use Rattle.rox_grammar.specs.Forest.{Forest, size}
 use Rattle.rox_grammar.specs.Tree.{Node}
@@ -27,63 +27,32 @@ row_node t f i x h l e = ap (λ r. r.node) (row_line t f i x h (in_rows t f i h 
 
 -- an element's row
 pub row_namespace : (t : Tables) (f : Forest Node) (i : ℕ) (x : NodeData) (e : ElementData) → HoldsTree t f → i < size f → x ≡ get_or (node_rows t.nodes) i x → x.kind ≡ kind.Element e → option_map (λ p. (namespace_at (names_of t) p).uri) (numbered_place e.namespace) ≡ namespace_of (place f i).item
-row_namespace t f i x e h l r k =
-    ap (λ v. namespace_of (node (attribute_rows t.attributes) (names_of t) (scopes_of t) x.start x.end v)) (sym k) ∙ ap namespace_of (row_node t f i x h l r)
+row_namespace t f i x e h l r k = grind (arith, row_node)
 
 pub row_attributes : (t : Tables) (f : Forest Node) (i : ℕ) (x : NodeData) (e : ElementData) → HoldsTree t f → i < size f → x ≡ get_or (node_rows t.nodes) i x → x.kind ≡ kind.Element e → map (attribute (names_of t)) (slice_range (attribute_rows t.attributes) e.attributes_from e.attributes_until) ≡ attributes_of (place f i).item
-row_attributes t f i x e h l r k =
-    ap (λ v. attributes_of (node (attribute_rows t.attributes) (names_of t) (scopes_of t) x.start x.end v)) (sym k) ∙ ap attributes_of (row_node t f i x h l r)
+row_attributes t f i x e h l r k = grind (arith, row_node)
 
 pub element_within : (t : Tables) (f : Forest Node) (i : ℕ) (x : NodeData) (e : ElementData) → HoldsTree t f → i < size f → x ≡ get_or (node_rows t.nodes) i x → x.kind ≡ kind.Element e → KindWithin (length (attribute_rows t.attributes)) (length t.namespaces.items) (length t.scopes.items) (kind.Element e)
-element_within t f i x e h l r k =
-    subst (λ v. KindWithin (length (attribute_rows t.attributes)) (length t.namespaces.items) (length t.scopes.items) v) k (row_within t f i x h l r)
+element_within t f i x e h l r k = grind (arith, row_within)
 
 -- its namespaces
 pub row_listed : (t : Tables) (f : Forest Node) (i : ℕ) (x : NodeData) (e : ElementData) → HoldsTree t f → i < size f → x ≡ get_or (node_rows t.nodes) i x → x.kind ≡ kind.Element e → map (namespace_at (names_of t)) (places_in t.listed.items t.scopes.items e.scope) ≡ listed_of (place f i).item
-row_listed t f i x e h l r k =
-    sym (scope_places (names_of t) t.listed.items t.scopes.items e.scope)
-    ∙ ap (λ v. listed_of (node (attribute_rows t.attributes) (names_of t) (scopes_of t) x.start x.end v)) (sym k) ∙ ap listed_of (row_node t f i x h l r)
-
--- a row that is no element's
-none_namespace : (az : List AttributeRow) (namespaces : List NamespaceDecl) (lists : List (List NamespaceDecl)) (start end : ℕ) (k : NodeKind) → ((e : ElementData) → k ≡ kind.Element e → ⊥) → namespace_of (node az namespaces lists start end k) ≡ None
-none_namespace az namespaces lists start end kind.Root n = refl
-none_namespace az namespaces lists start end (kind.Element e) n = absurd (n e refl)
-none_namespace az namespaces lists start end (kind.Text value) n = refl
-none_namespace az namespaces lists start end (kind.Comment text) n = refl
-none_namespace az namespaces lists start end (kind.PI pi) n = refl
-
-none_attributes : (az : List AttributeRow) (namespaces : List NamespaceDecl) (lists : List (List NamespaceDecl)) (start end : ℕ) (k : NodeKind) → ((e : ElementData) → k ≡ kind.Element e → ⊥) → attributes_of (node az namespaces lists start end k) ≡ []
-none_attributes az namespaces lists start end kind.Root n = refl
-none_attributes az namespaces lists start end (kind.Element e) n = absurd (n e refl)
-none_attributes az namespaces lists start end (kind.Text value) n = refl
-none_attributes az namespaces lists start end (kind.Comment text) n = refl
-none_attributes az namespaces lists start end (kind.PI pi) n = refl
+row_listed t f i x e h l r k = grind (arith, scope_places, row_node)
 
 none_listed : (az : List AttributeRow) (namespaces : List NamespaceDecl) (lists : List (List NamespaceDecl)) (start end : ℕ) (k : NodeKind) → ((e : ElementData) → k ≡ kind.Element e → ⊥) → listed_of (node az namespaces lists start end k) ≡ []
-none_listed az namespaces lists start end kind.Root n = refl
-none_listed az namespaces lists start end (kind.Element e) n = absurd (n e refl)
-none_listed az namespaces lists start end (kind.Text value) n = refl
-none_listed az namespaces lists start end (kind.Comment text) n = refl
-none_listed az namespaces lists start end (kind.PI pi) n = refl
+none_listed az namespaces lists start end k n = grind arith
 
 pub row_no_namespace : (t : Tables) (f : Forest Node) (i : ℕ) (x : NodeData) → HoldsTree t f → i < size f → x ≡ get_or (node_rows t.nodes) i x → ((e : ElementData) → x.kind ≡ kind.Element e → ⊥) → None ≡ namespace_of (place f i).item
-row_no_namespace t f i x h l r n =
-    sym (none_namespace (attribute_rows t.attributes) (names_of t) (scopes_of t) x.start x.end x.kind n) ∙ ap namespace_of (row_node t f i x h l r)
+row_no_namespace t f i x h l r n = grind (arith, row_node)
 
 pub row_no_attributes : (t : Tables) (f : Forest Node) (i : ℕ) (x : NodeData) → HoldsTree t f → i < size f → x ≡ get_or (node_rows t.nodes) i x → ((e : ElementData) → x.kind ≡ kind.Element e → ⊥) → [] ≡ attributes_of (place f i).item
-row_no_attributes t f i x h l r n =
-    sym (none_attributes (attribute_rows t.attributes) (names_of t) (scopes_of t) x.start x.end x.kind n) ∙ ap attributes_of (row_node t f i x h l r)
+row_no_attributes t f i x h l r n = grind (arith, row_node)
 
 pub row_no_listed : (t : Tables) (f : Forest Node) (i : ℕ) (x : NodeData) → HoldsTree t f → i < size f → x ≡ get_or (node_rows t.nodes) i x → ((e : ElementData) → x.kind ≡ kind.Element e → ⊥) → [] ≡ listed_of (place f i).item
-row_no_listed t f i x h l r n =
-    sym (none_listed (attribute_rows t.attributes) (names_of t) (scopes_of t) x.start x.end x.kind n) ∙ ap listed_of (row_node t f i x h l r)
+row_no_listed t f i x h l r n = grind (arith, row_node)
 
 lists_nothing : (az : List AttributeRow) (namespaces : List NamespaceDecl) (lists : List (List NamespaceDecl)) (start end : ℕ) (k : NodeKind) → ((e : ElementData) → scope_at lists e.scope ≡ []) → [] ≡ listed_of (node az namespaces lists start end k)
-lists_nothing az namespaces lists start end kind.Root n = refl
-lists_nothing az namespaces lists start end (kind.Element e) n = sym (n e)
-lists_nothing az namespaces lists start end (kind.Text value) n = refl
-lists_nothing az namespaces lists start end (kind.Comment text) n = refl
-lists_nothing az namespaces lists start end (kind.PI pi) n = refl
+lists_nothing az namespaces lists start end k n = grind arith
 
 pub row_lists_nothing : (t : Tables) (f : Forest Node) (i : ℕ) (x : NodeData) → HoldsTree t f → i < size f → x ≡ get_or (node_rows t.nodes) i x → length t.namespaces.items ≡ 0 → [] ≡ listed_of (place f i).item
 row_lists_nothing t f i x h l r z =

@@ -1,5 +1,5 @@
 -- Documents without a document type declaration.
-use Rattle.std.proofs.Common.{true, false, ◌≡◌, ℕ, Bool, not, ◌&&◌, List, [], sym, true≢false, refl}
+use Rattle.std.proofs.Common.{true, false, ◌≡◌, ℕ, Bool, not, ◌&&◌, List, [], arith}
 use Rattle.std.specs.Prelude.{IsUtf8}
 use Rattle.rox_grammar.specs.Doctype.{Asked}
 use Rattle.rox_grammar.specs.Document.{IsTreeOf}
@@ -17,8 +17,7 @@ pub plain_document : (d : DocumentView) → IsUtf8 d.text → d.dtd ≡ false �
 plain_document d utf8 none parsed = plain_tree d.text d.dtd parsed.0 4294967295 d.tree utf8 none parsed.1
 
 both_parts : (x y : Bool) → (not x && y) ≡ true → (x ≡ false) × (y ≡ true)
-both_parts true y h = absurd (true≢false (sym h))
-both_parts false y h = (refl, h)
+both_parts x y h = grind arith
 
 -- of an element that stands alone
 pub alone_tree : (d : DocumentView) (id : ℕ) → IsUtf8 d.text → stands_alone d id ≡ true → IsParsed d → IsTreeOf d.text false [] 4294967295 d.tree

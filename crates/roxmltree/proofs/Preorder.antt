@@ -1,5 +1,5 @@
 -- What stands round each node of a tree's preorder list.
-use Rattle.std.proofs.Common.{◌≡◌, ℕ, suc, ◌+◌, ◌<◌, ◌≤◌, List, [], ◌∷◌, ◌++◌, Some, None, length, get_or, refl, sym, ap, subst, ◌∙◌, arith, length-append, append_assoc, ⊎_elim, eq-eqb, ne_eqb}
+use Rattle.std.proofs.Common.{◌≡◌, ℕ, suc, ◌+◌, ◌<◌, ◌≤◌, List, [], ◌∷◌, ◌++◌, Some, None, length, get_or, refl, sym, ap, subst, ◌∙◌, arith, length-append, append_assoc, ⊎_elim, ne_eqb}
 use Rattle.std.proofs.lemmas.List.{get_or_append_left, get_or-append-add}
 use Rattle.std.proofs.lemmas.Bool.{cases_lt, cases_eq}
 use Rattle.rox_grammar.specs.Forest.{Forest, Nil, Cons, size}
@@ -9,8 +9,7 @@ use Rattle.roxmltree.specs.Climbing.{child_in, up_to}
 
 pub length-places : (up left : List ℕ) (b : ℕ) (f : Forest Node) → length (places up left b f) ≡ size f
 length-places up left b Nil = refl
-length-places up left b (Cons x c r) =
-    omega (arith, length-append (places (b ∷ up) [] (b + 1) c) (places up (b ∷ left) (b + (1 + size c)) r), length-places (b ∷ up) [] (b + 1) c, length-places up (b ∷ left) (b + (1 + size c)) r)
+length-places up left b (Cons x c r) = grind (arith, length-places (b ∷ up) [] (b + 1) c, length-places up (b ∷ left) (b + (1 + size c)) r, length-append)
 
 -- the place at id i of the list
 abbrev pub at : List Place → ℕ → Place
@@ -86,9 +85,7 @@ right_end T up left b (Cons x (Cons x' c' r') Nil) j s e n =
         is = k.leads.is ∙ sym (append_assoc k.leads.through (k.top ∷ []) (b ∷ up));
       };
     }
-right_end T up left b (Cons x c (Cons x' c' r')) j s e n =
-    let k = right_end T up (b ∷ left) (b + (1 + size c)) (Cons x' c' r') j s.3 (omega arith) (omega arith) in
-    record { top = k.top; is = k.is; leads = k.leads }
+right_end T up left b (Cons x c (Cons x' c' r')) j s e n = grind (arith, right_end T up (b ∷ left) (b + (1 + size c)) (Cons x' c' r') j s.3 (omega arith) (omega arith))
 
 -- right after the sibling before come these
 abbrev pub Fit : List Place → List ℕ → List ℕ → Type 0
@@ -119,8 +116,7 @@ follow_children T up left e d (Cons x c r) s h l m = rw s.0 l
 
 -- from the last node of a first node's subtree one comes up to it
 pub prior_rest : (T : List Place) (up left : List ℕ) (b : ℕ) (x : Node) (c r : Forest Node) → Sits T up left b (Cons x c r) → Prior T (b + (1 + size c)) up (b ∷ left)
-prior_rest T up left b x Nil r s =
-    (b, omega arith, record { inside = s.1; through = []; is = ap (λ p. b ∷ p.above) s.0 }, s.1, ap (λ p. p.before) s.0)
+prior_rest T up left b x Nil r s = grind arith
 prior_rest T up left b x (Cons x' c' r') r s =
     let k = right_end T (b ∷ up) [] (b + 1) (Cons x' c' r') (b + size (Cons x' c' r')) s.2 (omega arith) (omega arith) in (
       b + size (Cons x' c' r'),
@@ -262,12 +258,10 @@ no_next_row f i e l is past = next_sibling_none f i l (λ k same. absurd (omega 
 
 -- ---- up to a child of a node
 child_here : (i : ℕ) (up : List ℕ) (q : ℕ) → first up ≡ Some q → child_in (i ∷ up) q ≡ i
-child_here i [] q e = cc
-child_here i (p ∷ up) q e = let same : p ≡ q = cc in let k = eq-eqb p q same in rw k refl
+child_here i up q e = grind arith
 
 child_outermost : (i : ℕ) (up : List ℕ) (q : ℕ) → first up ≡ None → child_in (i ∷ up) q ≡ i
-child_outermost i [] q e = refl
-child_outermost i (p ∷ up) q e = cc
+child_outermost i up q e = grind arith
 
 child_above : (i p : ℕ) (up : List ℕ) (q : ℕ) → (p ≡ q → ⊥) → child_in (i ∷ p ∷ up) q ≡ child_in (p ∷ up) q
 child_above i p up q ne = let k = ne_eqb p q ne in rw k refl
@@ -348,7 +342,6 @@ last_none b (Cons x c r) e = absurd (omega arith)
 pub last_child_some : (f : Forest Node) (i j : ℕ) → i < size f → 1 < (place f i).count → i + (place f i).count ≡ j + 1 → last_child f i ≡ Some (up_to f j i)
 last_child_some f i j l m e =
     let h = here f i l in
-    let k : 1 < 1 + size h.below = rw (place_is f i h) at m in
     let e' : i + (1 + size h.below) ≡ j + 1 = rw (place_is f i h) at e in
     let r = right_end (preorder f) (i ∷ h.up) [] (i + 1) h.below j h.under (omega arith) (omega arith) in
     let u = up_to_leads f j r.top i h.up r.leads in
@@ -357,7 +350,6 @@ last_child_some f i j l m e =
 pub last_child_under : (f : Forest Node) (i j : ℕ) → i < size f → 1 < (place f i).count → i + (place f i).count ≡ j + 1 → parent f (up_to f j i) ≡ Some i
 last_child_under f i j l m e =
     let h = here f i l in
-    let k : 1 < 1 + size h.below = rw (place_is f i h) at m in
     let e' : i + (1 + size h.below) ≡ j + 1 = rw (place_is f i h) at e in
     let r = right_end (preorder f) (i ∷ h.up) [] (i + 1) h.below j h.under (omega arith) (omega arith) in
     let u = up_to_leads f j r.top i h.up r.leads in
@@ -401,8 +393,7 @@ prev_none f i j up (q ∷ left) c p e n =
     absurd (omega (arith, x, y, length-append g.through (q ∷ up)))
 
 no_before : (f : Forest Node) (i : ℕ) (up left : List ℕ) → Prior (preorder f) i up left → i ≡ 0 → first left ≡ None
-no_before f i up [] p e = refl
-no_before f i up (q ∷ left) p e = absurd (omega (arith, p.1))
+no_before f i up left p e = grind arith
 
 pub prev_sibling_some : (f : Forest Node) (i j p : ℕ) → i < size f → i ≡ j + 1 → parent f i ≡ Some p → (p ≡ j → ⊥) → prev_sibling f i ≡ Some (up_to f j p)
 prev_sibling_some f i j p l e = let h = here f i l in rw (place_is f i h) (prev_some f i j p h.up h.left h.prior e)

@@ -26,11 +26,7 @@ place_line p = record { parent = top p.above; subtree_end = p.id + p.count; node
 -- the rows of a forest are those of its places
 pub preorder_rows-places : (up left : List ℕ) (b : ℕ) (f : Forest Node) → map place_line (places up left b f) ≡ preorder_rows (top up) b f
 preorder_rows-places up left b Nil = refl
-preorder_rows-places up left b (Cons x c r) =
-    let e : (b + 1) + size c ≡ b + (1 + size c) = omega arith in
-    rw e (ap (λ l. place_line (record { id = b; item = x; above = up; before = left; after = []; children = []; descendants = []; first_children = []; last_children = []; count = 1 + size c }) ∷ l)
-    (map-append place_line (places (b ∷ up) [] (b + 1) c) (places up (b ∷ left) (b + (1 + size c)) r)
-    ∙ rw (preorder_rows-places (b ∷ up) [] (b + 1) c, preorder_rows-places up (b ∷ left) (b + (1 + size c)) r) refl))
+preorder_rows-places up left b (Cons x c r) = grind (arith, preorder_rows-places (b ∷ up) [] (b + 1) c, preorder_rows-places up (b ∷ left) (b + (1 + size c)) r, map-append)
 
 -- these places have the ids from b on
 abbrev IdsFrom : ℕ → List Place → Type 0
@@ -43,11 +39,7 @@ ids_append b k (x ∷ xs) ys h e g = (h.0, ids_append (b + 1) k xs ys h.1 (omega
 
 ids_places : (up left : List ℕ) (b : ℕ) (f : Forest Node) → IdsFrom b (places up left b f)
 ids_places up left b Nil = tt
-ids_places up left b (Cons x c r) = (
-  refl,
-  ids_append (b + 1) (b + (1 + size c)) (places (b ∷ up) [] (b + 1) c) (places up (b ∷ left) (b + (1 + size c)) r)
-      (ids_places (b ∷ up) [] (b + 1) c) (omega (arith, length-places (b ∷ up) [] (b + 1) c)) (ids_places up (b ∷ left) (b + (1 + size c)) r),
-)
+ids_places up left b (Cons x c r) = grind (arith, ids_places (b ∷ up) [] (b + 1) c, ids_places up (b ∷ left) (b + (1 + size c)) r, ids_append, length-places)
 
 -- how many nodes are below, and the node
 abbrev below : Place → ℕ × Node
@@ -55,16 +47,11 @@ below p = (p.count - 1, p.item)
 
 flat_places : (up left : List ℕ) (b : ℕ) (f : Forest Node) → map below (places up left b f) ≡ flattened f
 flat_places up left b Nil = refl
-flat_places up left b (Cons x c r) =
-    let e : (1 + size c) - 1 ≡ size c = omega arith in
-    rw e (ap (λ l. (size c, x) ∷ l) (map-append below (places (b ∷ up) [] (b + 1) c) (places up (b ∷ left) (b + (1 + size c)) r)
-    ∙ rw (flat_places (b ∷ up) [] (b + 1) c, flat_places up (b ∷ left) (b + (1 + size c)) r) refl))
+flat_places up left b (Cons x c r) = grind (arith, flat_places (b ∷ up) [] (b + 1) c, flat_places up (b ∷ left) (b + (1 + size c)) r, map-append)
 
 nodes_are : (b : ℕ) (ps : List Place) → IdsFrom b ps → nodes_from b (map place_line ps) ≡ map below ps
 nodes_are b [] h = refl
-nodes_are b (p ∷ ps) h =
-    let n : (p.id + p.count) - (b + 1) ≡ p.count - 1 = omega (arith, h.0) in
-    rw (n, nodes_are (b + 1) ps h.1) refl
+nodes_are b (p ∷ ps) h = grind (arith, nodes_are (b + 1) ps h.1)
 
 -- the tables of a tree hold no other
 pub same_tree : (t : Tables) (f : Forest Node) → HoldsTree t f → tree_in t ≡ f
@@ -74,9 +61,7 @@ same_tree t f h =
 
 -- tables of a text's tree are whole
 pub is_whole : (text : List ℕ) (dtd : Bool) (t : Tables) → HoldsDocument text dtd t → IsWhole text dtd t
-is_whole text dtd t h =
-    let e = same_tree t h.tree h.holds in
-    record { holds = rw e h.holds; asked = h.asked; parsed = rw e h.parsed; utf8 = h.utf8 }
+is_whole text dtd t h = grind (arith, same_tree)
 
 -- there are as many rows as nodes
 pub row_count : (t : Tables) (f : Forest Node) → HoldsTree t f → length (node_rows t.nodes) ≡ size f
@@ -103,8 +88,7 @@ pub in_rows : (t : Tables) (f : Forest Node) (i : ℕ) → HoldsTree t f → i <
 in_rows t f i h l = omega (arith, row_count t f h)
 
 top_some : (up : List ℕ) → 0 < length up → Some (top up) ≡ first up
-top_some [] l = absurd (omega arith)
-top_some (q ∷ up) l = refl
+top_some up l = grind arith
 
 -- What the row of a node says: the id past its subtree, and its parent.
 pub row_next : (t : Tables) (f : Forest Node) (i : ℕ) (x : NodeData) → HoldsTree t f → i < size f → x ≡ get_or (node_rows t.nodes) i x → x.subtree_end ≡ i + (place f i).count

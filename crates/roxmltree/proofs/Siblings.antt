@@ -1,5 +1,5 @@
 -- Rows of siblings, from both ends.
-use Rattle.std.proofs.Common.{◌≡◌, ℕ, suc, zero, ◌+◌, ◌-◌, ◌<◌, ◌≤◌, List, [], ◌∷◌, ◌++◌, Some, None, length, get_or, take, drop, refl, sym, ap, ◌∙◌, subst, arith, append_assoc, ◌⊎◌, ⊎_elim, inl, inr}
+use Rattle.std.proofs.Common.{◌≡◌, ℕ, suc, zero, ◌+◌, ◌-◌, ◌<◌, ◌≤◌, List, [], ◌∷◌, ◌++◌, Some, None, length, get_or, take, drop, refl, sym, ap, ◌∙◌, subst, arith, append_assoc, ◌⊎◌, ⊎_elim, inl}
 use Rattle.std.proofs.lemmas.Bool.{cases_lt, cases_eq}
 use Rattle.std.proofs.Math.Seq.{take-suc, drop-cons}
 use Rattle.std.specs.List.{Contains, range_with_len}
@@ -18,11 +18,8 @@ record Sib (T : List Place) (up left : List ℕ) (b : ℕ) (f : Forest Node) (k 
 
 sib : (T : List Place) (up left : List ℕ) (b : ℕ) (f : Forest Node) (k : ℕ) → Sits T up left b f → k < length (ids b f) → Sib T up left b f k
 sib T up left b Nil k s l = absurd (omega arith)
-sib T up left b (Cons x c r) zero s l =
-    record { inside = s.1; after = ap (λ p. p.after) s.0; before = ap (λ p. length p.before) s.0 ∙ omega arith; above = ap (λ p. p.above) s.0 }
-sib T up left b (Cons x c r) (suc k) s l =
-    let h = sib T up (b ∷ left) (b + (1 + size c)) r k s.3 (omega arith) in
-    record { inside = h.inside; after = h.after; before = h.before ∙ omega arith; above = h.above }
+sib T up left b (Cons x c r) zero s l = grind arith
+sib T up left b (Cons x c r) (suc k) s l = grind (arith, sib T up (b ∷ left) (b + (1 + size c)) r k s.3 (omega arith))
 
 -- the nodes from one node on
 pub row_sits : (f : Forest Node) (i : ℕ) (h : Here (preorder f) i) → Sits (preorder f) h.up h.left i (Cons h.item h.below h.beside)
@@ -67,8 +64,7 @@ unfolding siblings_through
 run_same f i j e = let k : apart f i i ≡ 0 = omega arith in rw (← e, k) refl
 
 not_zero : (i j k : ℕ) (xs : List ℕ) → get_or (i ∷ xs) k 0 ≡ j → (i ≡ j → ⊥) → 0 < k
-not_zero i j zero xs e n = absurd (n e)
-not_zero i j (suc k) xs e n = omega arith
+not_zero i j k xs e n = grind arith
 
 apart_pos : (f : Forest Node) (i j : ℕ) → IsSiblingRange f i j → (i ≡ j → ⊥) → 0 < apart f i j
 apart_pos f i j r n = not_zero i j (apart f i j) (place f i).after r.there n
@@ -103,10 +99,7 @@ run_next f i j n l r ne e =
     )
 
 pub run_next_none : (f : Forest Node) (i j : ℕ) → IsSiblingRange f i j → (i ≡ j → ⊥) → next_sibling f i ≡ None → ⊥
-run_next_none f i j r ne e =
-    let p = apart_pos f i j r ne in
-    let z = no_first (place f i).after e in
-    omega (arith, r.short, z)
+run_next_none f i j r ne e = grind (arith, no_first)
 
 -- the node before the last one of a run
 back_at : (f : Forest Node) (i j k : ℕ) → i < size f → IsSiblingRange f i j → apart f i j ≡ suc k → (get_or (row_from f i) k 0 < size f) × (prev_sibling f j ≡ Some (get_or (row_from f i) k 0))
@@ -157,9 +150,7 @@ take_whole (x ∷ xs) = ap (λ l. x ∷ l) (take_whole xs)
 -- the first child's own row is all the children, and no sibling stands before it
 first_row : (T : List Place) (up : List ℕ) (b : ℕ) (r : Forest Node) (c : ℕ) → Sits T up [] b r → first (ids b r) ≡ Some c → (c < length T) × (ids b r ≡ c ∷ (at T c).after) × ((at T c).before ≡ [])
 first_row T up b Nil c s e = cc
-first_row T up b (Cons x k r) c s e =
-    let same : b ≡ c = cc in
-    rw (← same) (s.1, ap (λ p. b ∷ p.after) (sym s.0), ap (λ p. p.before) s.0)
+first_row T up b (Cons x k r) c s e = grind arith
 
 child_row : (f : Forest Node) (i c : ℕ) → i < size f → first_child f i ≡ Some c → (c < size f) × ((place f i).children ≡ row_from f c) × ((place f c).before ≡ [])
 unfolding place
@@ -203,8 +194,7 @@ all_ids_is : (b : ℕ) (f : Forest Node) → all_ids b f ≡ range_with_len b (s
 all_ids_is b Nil = refl
 all_ids_is b (Cons x c r) =
     let z : (1 + size c) + size r ≡ suc (size c + size r) = omega arith in
-    rw z (ap (λ xs. b ∷ xs)
-    (rw (all_ids_is (b + 1) c, all_ids_is (b + (1 + size c)) r) (range_append (b + 1) (size c) (size r) (b + (1 + size c)) (omega arith))))
+    grind (arith, all_ids_is (b + 1) c, all_ids_is (b + (1 + size c)) r, range_append)
 
 pub descendants_is : (f : Forest Node) (i : ℕ) → i < size f → (place f i).descendants ≡ range_with_len i (place f i).count
 descendants_is f i l =
@@ -213,8 +203,7 @@ descendants_is f i l =
     rw (place_is f i h) (rw z (ap (λ xs. i ∷ xs) (all_ids_is (i + 1) h.below)))
 
 before_prior : (T : List Place) (i : ℕ) (up left : List ℕ) (q : ℕ) → Prior T i up left → first left ≡ Some q → (q < length T) × (left ≡ q ∷ (at T q).before)
-before_prior T i up [] q p e = cc
-before_prior T i up (k ∷ left) q p e = let same : k ≡ q = cc in rw (← same) (p.3, ap (λ xs. k ∷ xs) (sym p.4))
+before_prior T i up left q p e = grind arith
 
 pub prev_row : (f : Forest Node) (i q : ℕ) → i < size f → prev_sibling f i ≡ Some q → (q < size f) × ((place f i).before ≡ q ∷ (place f q).before)
 unfolding place
@@ -304,13 +293,11 @@ below_leads f i j l m =
 
 -- the first of a list, or one of the others
 among : (b : ℕ) (up : List ℕ) (i : ℕ) → Contains (b ∷ up) i → (i ≡ b) ⊎ Contains up i
-among b up i (zero, l, e) = inl (sym e)
-among b up i (suc k, l, e) = inr (k, omega arith, e)
+among b up i h = grind arith
 
 -- a node below the first of these has it above, or one of the others
 step_up : (T : List Place) (up : List ℕ) (b j i : ℕ) → b < j → j < b + (at T b).count → Contains (b ∷ up) i ⊎ ((i < j) × (j < i + (at T i).count)) → Contains up i ⊎ ((i < j) × (j < i + (at T i).count))
-step_up T up b j i l m (inl near) = ⊎_elim (λ same. inr (rw same (l, m))) (λ far. inl far) (among b up i near)
-step_up T up b j i l m (inr inside) = inr inside
+step_up T up b j i l m p = grind arith
 
 -- what stands above a node of a forest stands above the forest, or has the node in its subtree
 above_is : (T : List Place) (up left : List ℕ) (b : ℕ) (f : Forest Node) → Sits T up left b f → (j : ℕ) → b ≤ j → j < b + size f → (i : ℕ) → Contains (at T j).above i → Contains up i ⊎ ((i < j) × (j < i + (at T i).count))

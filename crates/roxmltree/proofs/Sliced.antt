@@ -1,6 +1,6 @@
 -- What `reparse` and `exchange` answer.
-use Rattle.std.proofs.Common.{false, [], ◌≡◌, ◌≢◌, ℕ, ◌-◌, ◌<◌, ◌≤◌, true, List, length, drop, refl, sym, ap, ◌∙◌, subst, arith, length-take, length-drop}
-use Rattle.std.specs.Prelude.{Result, Ok, Err, IfOk, IfErr}
+use Rattle.std.proofs.Common.{false, [], ◌≡◌, ◌≢◌, ℕ, ◌-◌, ◌<◌, true, List, length, drop, refl, arith, length-take, length-drop}
+use Rattle.std.specs.Prelude.{Result, IfOk, IfErr}
 use Rattle.std.specs.Str.{IsUtf8, IsCharBoundary}
 use Rattle.rox_grammar.specs.Forest.{Forest, Nil, Cons, size}
 use Rattle.rox_grammar.specs.Tree.{Node, Root}
@@ -16,38 +16,7 @@ use Rattle.roxmltree.proofs.Contained.{bounds_are}
 
 -- what is no error of the text is want of memory
 pub only_memory : (e : Error) → ((e ≢ error.OutOfMemory) → ⊥) → e ≡ error.OutOfMemory
-only_memory (error.InvalidXmlPrefixUri x) none = absurd (none (λ same. cc same))
-only_memory (error.UnexpectedXmlUri x) none = absurd (none (λ same. cc same))
-only_memory (error.UnexpectedXmlnsUri x) none = absurd (none (λ same. cc same))
-only_memory (error.InvalidElementNamePrefix x) none = absurd (none (λ same. cc same))
-only_memory (error.DuplicatedNamespace x y) none = absurd (none (λ same. cc same))
-only_memory (error.UnknownNamespace x y) none = absurd (none (λ same. cc same))
-only_memory (error.UnexpectedCloseTag x y z) none = absurd (none (λ same. cc same))
-only_memory (error.UnexpectedEntityCloseTag x) none = absurd (none (λ same. cc same))
-only_memory (error.UnknownEntityReference x y) none = absurd (none (λ same. cc same))
-only_memory (error.MalformedEntityReference x) none = absurd (none (λ same. cc same))
-only_memory (error.EntityReferenceLoop x) none = absurd (none (λ same. cc same))
-only_memory (error.InvalidAttributeValue x) none = absurd (none (λ same. cc same))
-only_memory (error.DuplicatedAttribute x y) none = absurd (none (λ same. cc same))
-only_memory error.NoRootNode none = absurd (none (λ same. cc same))
-only_memory error.UnclosedRootNode none = absurd (none (λ same. cc same))
-only_memory (error.UnexpectedDeclaration x) none = absurd (none (λ same. cc same))
-only_memory error.DtdDetected none = absurd (none (λ same. cc same))
-only_memory error.NodesLimitReached none = absurd (none (λ same. cc same))
-only_memory error.AttributesLimitReached none = absurd (none (λ same. cc same))
-only_memory error.NamespacesLimitReached none = absurd (none (λ same. cc same))
-only_memory (error.InvalidName x) none = absurd (none (λ same. cc same))
-only_memory (error.NonXmlChar x y) none = absurd (none (λ same. cc same))
-only_memory (error.InvalidChar x y z) none = absurd (none (λ same. cc same))
-only_memory (error.InvalidChar2 x y z) none = absurd (none (λ same. cc same))
-only_memory (error.InvalidString x y) none = absurd (none (λ same. cc same))
-only_memory (error.InvalidExternalID x) none = absurd (none (λ same. cc same))
-only_memory (error.EntityResolver x y) none = absurd (none (λ same. cc same))
-only_memory (error.InvalidComment x) none = absurd (none (λ same. cc same))
-only_memory (error.InvalidCharacterData x) none = absurd (none (λ same. cc same))
-only_memory (error.UnknownToken x) none = absurd (none (λ same. cc same))
-only_memory error.UnexpectedEndOfStream none = absurd (none (λ same. cc same))
-only_memory error.OutOfMemory none = refl
+only_memory e none = grind arith
 
 module _ (text : List ℕ) (tree : Forest Node) (id : ℕ) (utf8 : IsUtf8 text) (t : IsTreeOf text false [] 4294967295 tree) (inside : id < size tree) (is : self_contained tree id ≡ true) where
   pub starts : start_of (node_at tree id) ≡ start_at tree id
@@ -69,24 +38,15 @@ module _ (text : List ℕ) (tree : Forest Node) (id : ℕ) (utf8 : IsUtf8 text) 
   own_long : length (slice text (start_at tree id) (end_at tree id)) ≡ end_at tree id - start_at tree id
   own_long =
       let c = cut_is text tree id utf8 (whole text tree id (tree_of_text text 4294967295 tree t) is) in
-      let lt = c.0 in
-      let within : end_at tree id ≤ length text = c.2.0 in
       omega (arith, length-take (end_at tree id - start_at tree id) (drop (start_at tree id) text), length-drop (start_at tree id) text)
 
   -- the one that its part of the text is parsed to
   pub is_reparse : (own : Forest Node) (own_text : List ℕ) → own_text ≡ slice text (start_at tree id) (end_at tree id) → IsUtf8 own_text → IsTreeOf own_text false [] 4294967295 own → IsReparse tree text id own own_text
-  is_reparse own own_text same own_utf8 parsed =
-      let there = subst (λ (s : List ℕ). IsTreeOf s false [] 4294967295 (Cons (Root (end_at tree id - start_at tree id)) (shifted (record { add = 0; sub = start_at tree id }) (subtree tree id)) Nil)) (sym same) alone in
-      record {
-        text_is = same;
-        tree_is = one_tree own_text false false [] 4294967295 4294967295 own _ own_utf8 parsed there
-            ∙ ap (λ (n : ℕ). Cons (Root n) (shifted (record { add = 0; sub = start_at tree id }) (subtree tree id)) Nil) (sym own_long ∙ ap length (sym same));
-      }
+  is_reparse own own_text same own_utf8 parsed = grind (arith, alone, one_tree)
 
   pub no_other : (own_text : List ℕ) → own_text ≡ slice text (start_at tree id) (end_at tree id)
       → IsTreeOf own_text false [] 4294967295 (Cons (Root (end_at tree id - start_at tree id)) (shifted (record { add = 0; sub = start_at tree id }) (subtree tree id)) Nil)
-  no_other own_text same =
-      subst (λ (s : List ℕ). IsTreeOf s false [] 4294967295 (Cons (Root (end_at tree id - start_at tree id)) (shifted (record { add = 0; sub = start_at tree id }) (subtree tree id)) Nil)) (sym same) alone
+  no_other own_text same = grind (arith, alone)
 
 -- the text with the element of another document in the place of this one
 pub is_exchange : (text : List ℕ) (tree : Forest Node) (id : ℕ) (other_text : List ℕ) (other : Forest Node) (at : ℕ) → IsUtf8 text → IsTreeOf text false [] 4294967295 tree → self_contained tree id ≡ true
@@ -99,9 +59,7 @@ is_exchange text tree id other_text other at utf8 t is utf8' t' is' = record {
 -- ---- what is said of results
 
 pub if_ok : {A E : Type 0} (r : Result A E) (P Q S : A → Type 0) → ((a : A) → P a → Q a → S a) → IfOk r P → IfOk r Q → IfOk r S
-if_ok (Ok a) P Q S both p q = both a p q
-if_ok (Err e) P Q S both p q = tt
+if_ok r P Q S both p q = grind arith
 
 pub if_err : {A E : Type 0} (r : Result A E) (P Q : E → Type 0) → ((e : E) → P e → Q e) → IfErr r P → IfErr r Q
-if_err (Ok a) P Q one p = tt
-if_err (Err e) P Q one p = one e p
+if_err r P Q one p = grind arith

@@ -68,12 +68,10 @@ option_cases None = inl refl
 option_cases (Some n) = inr (n, refl)
 
 some_of : (k : ℕ) (xs : List ℕ) → 0 < k → if_some k xs ≡ xs
-some_of zero xs l = absurd (omega arith)
-some_of (suc k) xs l = refl
+some_of k xs l = grind arith
 
 none_of : (k : ℕ) (xs : List ℕ) → k ≡ 0 → if_some k xs ≡ []
-none_of zero xs e = refl
-none_of (suc k) xs e = absurd (omega arith)
+none_of k xs e = cc
 
 -- none are left where the first would not end before
 pub front_none : (d : DocumentView) (f : Forest Node) (a u h : ℕ) → u ≤ a → node_refs d (between f a u h) ≡ []
@@ -159,8 +157,7 @@ back f a u h l s =
     (cases_eq a z)
 
 pub back_left : (d : DocumentView) (f : Forest Node) (a u h z : ℕ) → a < u → IsStretch f a u h → z ≡ last_before f u h → node_refs d (between f a u h) ≡ node_refs d (between f a z h) ++ (d, z) ∷ []
-back_left d f a u h z l s e =
-    rw e (ap (node_refs d) (back f a u h l s).rest ∙ map-append _ (between f a (last_before f u h) h) (last_before f u h ∷ []))
+back_left d f a u h z l s e = grind (arith, back, map-append)
 
 pub back_rest : (f : Forest Node) (a u h z : ℕ) → a < u → IsStretch f a u h → z ≡ last_before f u h → a < z → IsStretch f a z h
 back_rest f a u h z l s e = rw e (back f a u h l s).sound
@@ -168,12 +165,8 @@ back_rest f a u h z l s e = rw e (back f a u h l s).sound
 -- ---- the children
 last_top : (T : List Place) (up left : List ℕ) (b : ℕ) (r : Forest Node) (d : ℕ) → Sits T up left b r → last (ids b r) ≡ Some d → (d < length T) × (d + (at T d).count ≡ b + size r) × ((at T d).above ≡ up)
 last_top T up left b Nil d s e = cc
-last_top T up left b (Cons x c Nil) d s e =
-    let same : b ≡ d = cc in
-    rw (← same) (s.1, ap (λ p. b + p.count) s.0 ∙ omega arith, ap (λ p. p.above) s.0)
-last_top T up left b (Cons x c (Cons x' c' r')) d s e =
-    let k = last_top T up (b ∷ left) (b + (1 + size c)) (Cons x' c' r') d s.3 e in
-    (k.0, k.1 ∙ omega arith, k.2)
+last_top T up left b (Cons x c Nil) d s e = grind arith
+last_top T up left b (Cons x c (Cons x' c' r')) d s e = grind (arith, last_top T up (b ∷ left) (b + (1 + size c)) (Cons x' c' r') d s.3 e)
 
 record LastChild (f : Forest Node) (i d : ℕ) : Type 0 where
   inside : d < size f
@@ -223,5 +216,4 @@ children_stretch f i a u h l ea eu eh = rw (ea, eu, eh) (whole_children f i l).s
 
 -- fewer are left
 pub back_fewer : (d : DocumentView) (f : Forest Node) (a u h z : ℕ) → a < u → IsStretch f a u h → z ≡ last_before f u h → length (node_refs d (between f a z h)) < length (node_refs d (between f a u h))
-back_fewer d f a u h z l s e =
-    omega (arith, ap length (back_left d f a u h z l s e), length-append (node_refs d (between f a z h)) ((d, z) ∷ []))
+back_fewer d f a u h z l s e = grind (arith, back_left, length-append)

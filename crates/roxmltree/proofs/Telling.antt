@@ -1,9 +1,8 @@
 -- What a caller is told of a text that is refused.
-use Rattle.std.proofs.Common.{true, false, ◌≡◌, ◌≢◌, ◌⊎◌, ℕ, Bool, List, [], ◌∷◌, ◌++◌, refl, ap, sym, subst, ◌∙◌, true≢false, inl, inr}
+use Rattle.std.proofs.Common.{true, false, ◌≡◌, ◌≢◌, ℕ, Bool, List, [], ◌∷◌, ◌++◌, refl, ap, sym, subst, ◌∙◌, true≢false, arith}
 use Rattle.std.specs.Prelude.{IsUtf8, Err, String, string_bytes}
 use Rattle.std.specs.declared.alloc.Global.{Global}
 use Rattle.rox_grammar.specs.declared.fault.Fault.{Fault}
-use Rattle.rox_grammar.specs.declared.fault.Fault.TheVariants as fault
 use Rattle.rox_grammar.specs.FixedTexts.{at}
 use Rattle.rox_grammar.specs.Forest.{Forest}
 use Rattle.rox_grammar.specs.Tree.{Node}
@@ -42,9 +41,7 @@ texts_then [] b h k = k
 texts_then (r ∷ a) b h k = (h.0, texts_then a b h.1 k)
 
 refusal_text : (e : Refusal) → AreTextReplies (with_refusal e [])
-refusal_text (here f) = tt
-refusal_text (there source f) = tt
-refusal_text (refused request at message) = (tt, tt)
+refusal_text e = grind arith
 
 -- the replies of a reading that stops are texts
 stop_texts : (asked : List Asked) (e : Refusal) → AreTextReplies (replies_of asked) → AreTextReplies (replies_of asked ++ with_refusal e [])
@@ -52,51 +49,15 @@ stop_texts asked e texts = texts_then (replies_of asked) (with_refusal e []) tex
 
 -- ---- what the error of a fault is not
 
-named_no_resolver : (e : Error) (p : TextPos) (words : String Global) (kind : String Global → Error) (named : String Global → Type 0) → ((name : String Global) → kind name ≢ error.EntityResolver p words)
-    → e ≡ error.EntityResolver p words → ((name : String Global) × named name × (e ≡ kind name)) ⊎ (e ≡ error.OutOfMemory) → ⊥
-named_no_resolver e p words kind named other is (inl (name, n, k)) = other name (sym k ∙ is)
-named_no_resolver e p words kind named other is (inr k) = let no : error.OutOfMemory ≡ error.EntityResolver p words = sym k ∙ is in cc no
-
 -- it is never the resolver's own
 pub no_resolver : (src : List ℕ) (f : Fault) (e : Error) (p : TextPos) (words : String Global) → e ≡ error.EntityResolver p words → IsErrorOf src f e → ⊥
-no_resolver src (fault.InvalidXmlPrefixUri at) e p words is h = cc
-no_resolver src (fault.UnexpectedXmlUri at) e p words is h = cc
-no_resolver src (fault.UnexpectedXmlnsUri at) e p words is h = cc
-no_resolver src (fault.InvalidElementNamePrefix at) e p words is h = cc
-no_resolver src (fault.DuplicatedNamespace name at) e p words is h = named_no_resolver e p words _ _ (λ n k. cc k) is h
-no_resolver src (fault.UnknownNamespace name at) e p words is h = named_no_resolver e p words _ _ (λ n k. cc k) is h
-no_resolver src (fault.UnexpectedCloseTag expected actual at) e p words is (inl (one, two, n, m, k)) = cc
-no_resolver src (fault.UnexpectedCloseTag expected actual at) e p words is (inr k) = cc
-no_resolver src (fault.UnexpectedEntityCloseTag at) e p words is h = cc
-no_resolver src (fault.UnknownEntityReference name at) e p words is h = named_no_resolver e p words _ _ (λ n k. cc k) is h
-no_resolver src (fault.MalformedEntityReference at) e p words is h = cc
-no_resolver src (fault.EntityReferenceLoop at) e p words is h = cc
-no_resolver src (fault.InvalidAttributeValue at) e p words is h = cc
-no_resolver src (fault.DuplicatedAttribute name at) e p words is h = named_no_resolver e p words _ _ (λ n k. cc k) is h
-no_resolver src fault.NoRootNode e p words is h = cc
-no_resolver src fault.UnclosedRootNode e p words is h = cc
-no_resolver src (fault.UnexpectedDeclaration at) e p words is h = cc
-no_resolver src fault.DtdDetected e p words is h = cc
-no_resolver src fault.NodesLimitReached e p words is h = cc
-no_resolver src fault.AttributesLimitReached e p words is h = cc
-no_resolver src fault.NamespacesLimitReached e p words is h = cc
-no_resolver src (fault.InvalidName at) e p words is h = cc
-no_resolver src (fault.NonXmlChar c at) e p words is h = cc
-no_resolver src (fault.InvalidChar expected actual at) e p words is h = cc
-no_resolver src (fault.InvalidChar2 expected actual at) e p words is (due, n, k) = cc
-no_resolver src (fault.InvalidString expected at) e p words is (due, n, k) = cc
-no_resolver src (fault.InvalidExternalID at) e p words is h = cc
-no_resolver src (fault.InvalidComment at) e p words is h = cc
-no_resolver src (fault.InvalidCharacterData at) e p words is h = cc
-no_resolver src (fault.UnknownToken at) e p words is h = cc
-no_resolver src fault.UnexpectedEndOfStream e p words is h = cc
+no_resolver src f e p words is h = grind arith
 
 -- ---- the error
 
 module _ (limit : ℕ) (allow : Bool) (allows : Request → Reply → Type 0) (src : List ℕ) (utf8 : IsUtf8 src) where
   from_none : (e : Error) (r : Refusal) → BuiltNone limit allow allows src r → MayRefuse allows r → IsErrorOfRefusal src r e → IsFirst limit allow allows src e
-  from_none e r none may told =
-      record { asked = none.asked; allowed = none.allowed; texts = none.texts; refusal = r; may = may; stops = none.stops; told = told }
+  from_none e r none may told = grind arith
 
   -- what is told where there are no tables is of what reading meets first
   pub is_first : (r : ParseError) (e : Error) → e ≢ error.OutOfMemory → BuiltRefusal limit allow allows src r → IsErrorOfReason src r e → IsFirst limit allow allows src e

@@ -1,6 +1,5 @@
 //! The dumps of a batch of texts.
 
-
 use crate::sources::{Sources, write_text};
 use rox_dump::cases::first_case;
 use rox_dump::options::Options;

@@ -1,20 +1,10 @@
-use Rattle.std.proofs.Common.{◌≡◌, ◌-◌, ◌==◌, ◌||◌, ℕ, true, slice_index, refl, sym, subst, arith}
+use Rattle.std.proofs.Common.{◌-◌, refl, arith}
 use Rattle.rox_grammar.specs.Failures.{name_view}
 use Rattle.rox_verbatim.proofs.Verbatim.{attribute_reads}
 use Rattle.rox_attributes.proofs.quick_attribute.any_attribute.Goals as goal
 
 pub quote_before-quote-requires : goal.quote_before-quote-requires
-quote_before-quote-requires c =
-    let src = c.args.text.now in
-    let v = c.any_value_start-from.ensures (omega arith) in
-    let start = v.start in
-    let within = v.within in
-    let place : c.any_value_start-from.result - 1 ≡ v.before = omega (arith, start) in
-    record {
-      some = omega arith;
-      within = omega arith;
-      quote = subst (λ (k : ℕ). (slice_index src k == 39 || slice_index src k == 34) ≡ true) (sym place) v.quote;
-    }
+quote_before-quote-requires c = grind arith
 
 pub any_value-requires : goal.any_value-requires
 any_value-requires c = record { cut = (c.any_value_start-from.ensures (omega arith)).cut; quote = c.quote_before-quote.ensures.quote }

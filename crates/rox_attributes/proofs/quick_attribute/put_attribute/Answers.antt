@@ -1,33 +1,12 @@
-use Rattle.std.proofs.Common.{◌+◌, ◌≤◌, subst, arith, rules}
-use Rattle.std.proofs.lemmas.Grind.{common_steps}
-use Rattle.rox_grammar.specs.Failures.{name_view}
+use Rattle.std.proofs.Common.{◌+◌, ◌≤◌, subst, arith}
 use Rattle.std.specs.Str.{IsCharBoundary}
 use Rattle.rox_bytes.specs.ByteSets.{EndsSet, is_part_byte, is_value_byte}
-use Rattle.rox_bytes.proofs.NearLemmas.{part_cut, part_stops}
+use Rattle.rox_bytes.proofs.NearLemmas.{part_stops}
 use Rattle.rox_verbatim.proofs.Verbatim.{behind_quote, ascii_begins, quote_first}
-use Rattle.rox_attributes.proofs.PlainAttributes.{bare_namespace}
 use Rattle.rox_attributes.proofs.quick_attribute.put_attribute.Goals as goal
 
 pub name_without_prefix-name-requires : goal.name_without_prefix-name-requires
-name_without_prefix-name-requires c =
-    let src = c.args.text.now in
-    let i = c.args.start in
-    let window = c.new-window.ensures in
-    let seen = c.part_count-count.ensures src window.sees (omega (arith, c.if-count-gt-MOST_NAME.false)) in
-    let near : EndsSet is_part_byte src i (i + c.part_count-count.result) = rw window.place at seen in
-    let here = (c.quote_in_text-quote.ensures (omega arith)).equals in
-    record {
-      first = record {
-        start = c.requires.cut;
-        part = record {
-          place = part_stops src i _ c.utf8.text near.onward near.within near.passes near.stops (λ _. omega (arith, here));
-          onward = near.onward;
-          cut = part_cut src i _ c.utf8.text c.requires.cut near.onward near.within near.passes;
-        };
-        begins = ascii_begins src i (i + c.part_count-count.result) c.utf8.text near c.requires.begins (omega (arith, here));
-      };
-      here = here;
-    }
+name_without_prefix-name-requires c = grind (arith, part_stops, ascii_begins)
 
 pub value_in_window-requires : goal.value_in_window-requires
 value_in_window-requires c =
@@ -54,10 +33,4 @@ value_in_window-requires c =
     }
 
 pub put_named_attribute-requires : goal.put_named_attribute-requires
-put_named_attribute-requires c = record {
-  put = first_of (search rules, grind (arith, common_steps));
-  found = bare_namespace c.args.elements.now c.args.scope (name_view c.name_without_prefix-name.result.name) c.name_without_prefix-name.ensures.bare;
-  named = first_of (search rules, grind (arith, common_steps));
-  local = first_of (search rules, grind (arith, common_steps));
-  value = first_of (search rules, grind (arith, common_steps));
-}
+put_named_attribute-requires c = grind arith

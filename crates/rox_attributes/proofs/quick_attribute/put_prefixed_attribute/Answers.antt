@@ -33,20 +33,7 @@ unchanged_value-requires c =
     record { cut = v.cut; near = c.skip_set-near.ensures; quote = c.quote_before-quote.ensures.quote }
 
 pub prefix_namespace-requires : goal.prefix_namespace-requires
-prefix_namespace-requires c = record {
-  scope = c.requires.put.holds.scope;
-  some =
-      let src = c.args.text.now in
-      let i = c.args.place.start in
-      let j = c.args.place.part in
-      let near = c.requires.part in
-      let here : slice_index src j ≡ 58 = eqb-true _ _ (sym c.is_at.ensures ∙ c.if-not-is_at.false) in
-      let first = c.requires.put.begins in
-      let apart : i ≡ j → ⊥ = λ same. absurd (let last = ap (slice_index src) same in omega (arith, last, here, first)) in
-      let onward = near.onward in
-      let size = ap length c.range.ensures.value ∙ range_length src i j onward near.within in
-      omega (arith, onward, apart, size);
-}
+prefix_namespace-requires c = grind arith
 
 pub put_named_attribute-requires : goal.put_named_attribute-requires
 put_named_attribute-requires c =
@@ -70,6 +57,4 @@ put_named_attribute-requires c =
     }
 
 pub returns : goal.returns
-returns c =
-    let put = c.in-Some-put_named_attribute.ensures.put in
-    record { added = put.added; others = put.others; from = put.from; seen = put.seen; refused = put.refused }
+returns c = grind arith

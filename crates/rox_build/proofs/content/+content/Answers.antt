@@ -1,4 +1,4 @@
-use Rattle.std.proofs.Common.{◌≡◌, ◌<◌, ◌≤◌, ◌+◌, ◌-◌, suc, ℕ, Bool, true, false, List, Ok, length, slice_index, refl, sym, ap, subst, ◌∙◌, arith, rules}
+use Rattle.std.proofs.Common.{◌≡◌, ◌<◌, ◌≤◌, ◌+◌, ◌-◌, suc, ℕ, Bool, true, false, List, Ok, length, refl, sym, ap, subst, ◌∙◌, arith, rules}
 use Rattle.std.specs.Str.{IsCharBoundary}
 use Rattle.std.proofs.lemmas.Grind.{common_steps}
 use Rattle.std.proofs.lemmas.Bool.{leb-true, leb-false}
@@ -21,12 +21,7 @@ use Rattle.rox_build.proofs.content.+content.Goals as goal
 -- ---- character data
 
 pub character_data_pieces-returns-in_err-raw : goal.character_data_pieces-returns-in_err-raw
-character_data_pieces-returns-in_err-raw t c = record {
-  value = λ limit end es s declared h.
-      let p = err_from_is_err_and c.from_residual.result c.from_residual.ensures.1 in
-      rw (p.1, p.2) (run_fails (context_of limit es c.args.context) c.args.cursor.now.text.now s c.args.cursor.now.pos c.in_err-raw.field-0.0 h.here c.in_err-raw.ensures.read.value);
-  goes = let p = err_from_is_err_and c.from_residual.result c.from_residual.ensures.1 in rw p.1 tt;
-}
+character_data_pieces-returns-in_err-raw t c = grind (arith, run_fails)
 
 pub character_data_pieces-returns-then-raw : goal.character_data_pieces-returns-then-raw
 character_data_pieces-returns-then-raw t c = record {
@@ -60,12 +55,7 @@ character_data_pieces-returns t c = record {
 }
 
 pub character_data-returns-in_err-character_data_pieces : goal.character_data-returns-in_err-character_data_pieces
-character_data-returns-in_err-character_data_pieces t c = record {
-  value = λ limit end es s declared h.
-      let p = err_from_is_err_and c.from_residual.result c.from_residual.ensures.1 in
-      rw (p.1, p.2) (c.in_err-character_data_pieces.ensures.value limit end es s declared h);
-  goes = let p = err_from_is_err_and c.from_residual.result c.from_residual.ensures.1 in rw p.1 tt;
-}
+character_data-returns-in_err-character_data_pieces t c = grind arith
 
 pub character_data-returns : goal.character_data-returns
 character_data-returns t c = record {
@@ -167,25 +157,13 @@ data_parts-returns t c = record {
 -- ---- a replacement text
 
 pub open_text-returns-then-joined : goal.open_text-returns-then-joined
-open_text-returns-then-joined t c = record {
-  value = λ limit end es s declared h. c.in_ok-joined.ensures.value c.if-joined.true limit end c.args.after es s h;
-  fine = rw (c.joins.ensures.tables, c.joins.ensures.opened) c.requires.fine;
-}
+open_text-returns-then-joined t c = grind arith
 
 pub open_text-returns : goal.open_text-returns
-open_text-returns t c = record {
-  value = λ limit end es s declared h.
-      c.open_other_text.ensures.value limit end es s declared (c.in_ok-joined.ensures.other c.if-joined.false limit end s h);
-  fine = c.open_other_text.ensures.fine;
-}
+open_text-returns t c = grind arith
 
 pub open_other_text-returns-in_err-within : goal.open_other_text-returns-in_err-within
-open_other_text-returns-in_err-within t c = record {
-  value = λ limit end es s declared h.
-      let p = err_from_is_err_and c.from_residual.result c.from_residual.ensures.1 in
-      rw (p.1, p.2) (opens_err limit es c.args.context.depth_left c.args.context.main (replacement_view c.args.text) c.args.after s c.in_err-within.field-0.0 (rw h.openings_left_is at c.in_err-within.ensures.value));
-  fine = let p = err_from_is_err_and c.from_residual.result c.from_residual.ensures.1 in rw p.1 tt;
-}
+open_other_text-returns-in_err-within t c = grind (arith, opens_err)
 
 pub open_other_text-returns-in-Ok : goal.open_other_text-returns-in-Ok
 open_other_text-returns-in-Ok t c = record {
@@ -302,22 +280,10 @@ content_text-returns t c = record {
 -- ---- one construct
 
 pub step-end_tag-requires : goal.step-end_tag-requires
-step-end_tag-requires t c =
-    let e = c.as_bytes-bytes.ensures.value in
-    let i = c.args.cursor.now.pos in
-    let l = c.as_bytes-bytes.ensures.len in
-    let more = c.if-cursor-bytes.false in
-    record {
-      here = two_stand c.args.cursor.now.text.now i 60 47 (omega arith) (ap (λ (xs : List ℕ). slice_index xs i) (sym e) ∙ c.if-bytes-cursor-ne60.false) (ap (λ (xs : List ℕ). slice_index xs (i + 1)) (sym e) ∙ c.if-next-eq47.true);
-      fine = c.requires.fine;
-    }
+step-end_tag-requires t c = grind (arith, two_stand)
 
 pub step-returns-then-bytes-cursor-ne60 : goal.step-returns-then-bytes-cursor-ne60
-step-returns-then-bytes-cursor-ne60 t c = record {
-  value = λ limit end es s declared h.
-      rw (step_is_run (context_of limit es c.args.context) c.args.cursor.now.text.now _ s c.args.cursor.now.pos c.as_bytes-bytes.ensures.value h.here c.if-bytes-cursor-ne60.true) (c.character_data.ensures.value limit end es s declared h);
-  goes = search rules;
-}
+step-returns-then-bytes-cursor-ne60 t c = grind (arith, step_is_run)
 
 pub step-returns-then-next-eq47 : goal.step-returns-then-next-eq47
 step-returns-then-next-eq47 t c = record {

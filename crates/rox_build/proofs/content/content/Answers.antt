@@ -12,11 +12,7 @@ use Rattle.rox_builder.proofs.Stepping.{fine_open, rows_kept, state_kept}
 use Rattle.rox_build.proofs.content.content.Goals as goal
 
 pub loop-turn-init : goal.loop-turn-init
-loop-turn-init c = record {
-  source = refl;
-  fine = c.requires.fine;
-  reads = λ limit end es s declared sees. record { s = s; sees = sees; n = length c.args.cursor.now.text.now; same = refl; enough = omega arith; onward = omega arith };
-}
+loop-turn-init c = grind arith
 
 pub returns-then-is_at_root : goal.returns-then-is_at_root
 returns-then-is_at_root c = record {
@@ -108,18 +104,10 @@ loop-turn-preserved-then-joined c = record {
 }
 
 pub step-requires : goal.step-requires
-step-requires c =
-    let p = c.in_ok-joined.ensures.other c.if-joined.false in
-    record {
-      there = rw p.0 (leb-false _ _ (sym c.is_at_end.ensures ∙ c.if-is_at_end.false));
-      fine = c.in_ok-joined.ensures.goes.fine;
-    }
+step-requires c = grind arith
 
 pub join_section-requires : goal.join_section-requires
-join_section-requires c = record {
-  there = leb-false _ _ (sym c.is_at_end.ensures ∙ c.if-is_at_end.false);
-  fine = c.quick_constructs-read.ensures.goes.fine;
-}
+join_section-requires c = grind arith
 
 pub returns-in_err-step : goal.returns-in_err-step
 returns-in_err-step c = record {

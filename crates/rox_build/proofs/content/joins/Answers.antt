@@ -1,7 +1,7 @@
 use Rattle.std.specs.Prelude.{IfOk}
 use Rattle.rox_reading.specs.Values.{raw_character_data_at}
 use Rattle.rox_scan.specs.Lookahead.{IsLookahead, ends_run, changes_run}
-use Rattle.std.proofs.Common.{ℕ, List, Result, Ok, Err, ◌≡◌, ◌≤◌, ◌<◌, true, length, slice_index, slice_range, refl, sym, ap, ◌∙◌, arith, eq-eqb}
+use Rattle.std.proofs.Common.{ℕ, List, Result, Ok, ◌≡◌, ◌<◌, true, length, slice_index, slice_range, refl, ap, ◌∙◌, arith}
 use Rattle.rox_grammar.specs.Content.{is_verbatim}
 use Rattle.rox_scan.specs.Views.{replacement_view}
 use Rattle.rox_scan.proofs.ShortLemmas.{longer_run}
@@ -10,26 +10,15 @@ use Rattle.rox_sections.proofs.PlainReads.{kept_rests}
 use Rattle.rox_build.proofs.content.joins.Goals as goal
 
 if_ok : {A E : Type 0} {P Q : A → Type 0} (r : Result A E) → IfOk r P → ((a : A) → P a → Q a) → IfOk r Q
-if_ok (Ok a) h f = f a h
-if_ok (Err e) h f = tt
+if_ok r h f = grind arith
 
 pub returns-then-start-end : goal.returns-then-start-end
-returns-then-start-end c = record {
-  value = λ yes limit end after es s h.
-      let past : length c.args.text.text.now ≤ c.args.text.pos = omega arith in
-      nothing_opened limit end es c.args.context.depth_left c.args.context.main (replacement_view c.args.text) after s c.args.builder.now c.if-not-context.false c.if-context-eq0.false h past;
-  other = λ no. absurd (cc no);
-  tables = refl;
-  opened = refl;
-}
+returns-then-start-end c = grind (arith, nothing_opened)
 
 -- a run that stands for itself, up to the end of its source
 read_to_end : (src : List ℕ) (i : ℕ) → IsLookahead (ends_run src) changes_run src i (length src) true
     → (raw_character_data_at src i ≡ Ok (slice_range src i (length src), length src)) × (is_verbatim (slice_range src i (length src)) ≡ true)
-read_to_end src i look =
-    let n = length src in
-    let k = eq-eqb n n refl in
-    (longer_run src i n true look (rw k refl), sym look.verbatim_is)
+read_to_end src i look = grind (arith, longer_run)
 
 pub returns : goal.returns
 returns c = record {

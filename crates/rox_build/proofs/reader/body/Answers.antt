@@ -1,5 +1,4 @@
-use Rattle.std.proofs.Common.{◌≡◌, ◌≤◌, ℕ, List, Ok, refl, sym, ap, subst, ◌∙◌, length, slice_index, leb-true}
-use Rattle.std.proofs.lemmas.Bool.{leb-false}
+use Rattle.std.proofs.Common.{◌≡◌, ◌≤◌, ℕ, List, Ok, sym, ap, subst, ◌∙◌, length, slice_index, arith}
 use Rattle.std.proofs.lemmas.List.{get_or_past}
 use Rattle.std.proofs.lemmas.Result.{err_from_is_err_and}
 use Rattle.rox_reading.specs.Refusals.{lifted}
@@ -11,7 +10,6 @@ use Rattle.rox_values.specs.Contexts.{context_of}
 use Rattle.rox_values.specs.declared.context.Context.{Context}
 use Rattle.rox_build.proofs.Wholes.{no_body, tag_fails_body, content_fails_body, misc_fails_body, a_body}
 use Rattle.rox_build.proofs.reader.body.Goals as goal
-use Rattle.rox_build.proofs.reader.body.Goals.{then-is_at_end-via-then-is_at_end, then-is_at_end-via-else-is_at_end+then-as_bytes-cursor-ne60}
 
 nothing : (src : List ℕ) (i : ℕ) → length src ≤ i → slice_index src i ≡ 60 → ⊥
 nothing src i past is = let k = get_or_past src i 0 past in cc (k, is)
@@ -20,23 +18,10 @@ less_than : (src xs : List ℕ) (i at : ℕ) → xs ≡ src → i ≡ at → sli
 less_than src xs i at e here is = ap (λ (k : ℕ). slice_index src k) (sym here) ∙ ap (λ (ys : List ℕ). slice_index ys i) (sym e) ∙ is
 
 pub returns-then-is_at_end : goal.returns-then-is_at_end
-returns-then-is_at_end c = record {
-  value = λ limit end es s declared sees.
-      let src = c.args.cursor.now.text.now in
-      let other : slice_index src s.at ≡ 60 → ⊥ = elim c.then-is_at_end.branch [
-        | then-is_at_end-via-then-is_at_end w ↦ nothing src s.at (rw sees.here at (leb-true _ _ (sym c.is_at_end.ensures ∙ w.if-is_at_end.true)))
-        | then-is_at_end-via-else-is_at_end+then-as_bytes-cursor-ne60 w ↦ λ is. w.if-as_bytes-cursor-ne60.true (ap (λ (xs : List ℕ). slice_index xs c.args.cursor.now.pos) w.as_bytes.ensures.value ∙ ap (λ (i : ℕ). slice_index src i) sees.here ∙ is)
-      ] in
-      (s, no_body limit es src s other, sees);
-  goes = record { source = refl; fine = c.requires.fine };
-}
+returns-then-is_at_end c = grind (arith, nothing, no_body)
 
 pub root_start-requires : goal.root_start-requires
-root_start-requires c = record {
-  there = leb-false _ _ (sym c.is_at_end.ensures ∙ c.if-is_at_end.false);
-  here = less_than c.args.cursor.now.text.now c.as_bytes.result.now c.args.cursor.now.pos c.args.cursor.now.pos c.as_bytes.ensures.value refl c.if-as_bytes-cursor-ne60.false;
-  fine = c.requires.fine;
-}
+root_start-requires c = grind arith
 
 pub returns-in_err-root_start : goal.returns-in_err-root_start
 returns-in_err-root_start c = record {

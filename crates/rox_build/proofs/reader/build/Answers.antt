@@ -1,4 +1,4 @@
-use Rattle.std.proofs.Common.{ℕ, Bool, List, refl, sym, ap, ◌∙◌, length}
+use Rattle.std.proofs.Common.{ℕ, Bool, List, refl, sym, ap, ◌∙◌, length, arith}
 use Rattle.std.proofs.lemmas.Result.{err_from_is_err_and}
 use Rattle.rox_grammar.specs.TextStart.{after_bom}
 use Rattle.rox_grammar.specs.Doctype.{Request, Asked}
@@ -11,17 +11,12 @@ use Rattle.rox_build.specs.WholeTexts.{IsBegun}
 use Rattle.rox_builder.specs.declared.builder.Builder.{Builder}
 use Rattle.rox_scan.specs.declared.cursor.Cursor.{Cursor}
 use Rattle.rox_values.specs.declared.parse_error.ParseError.{ParseError}
-use Rattle.rox_values.specs.declared.parse_error.ParseError.TheVariants as code
 use Rattle.rox_reading.proofs.Settling.{whole_run}
 use Rattle.rox_build.proofs.reader.build.Goals as goal
 
 refusal_of : (limit : ℕ) (allow : Bool) (allows : Request → Reply → Type 0) (text : List ℕ) (asked : List Asked) (e : ParseError) → AreGiven allows asked → StopsBy allows (whole_run limit allow text) asked e
     → BuiltRefusal limit allow allows text e
-refusal_of limit allow allows text asked code.Memory given h = tt
-refusal_of limit allow allows text asked (code.Fault f) given h = record { asked = asked; allowed = given.allowed; texts = given.texts; stops = h }
-refusal_of limit allow allows text asked (code.FaultIn source f) given h = record { asked = asked; allowed = given.allowed; texts = given.texts; stops = h }
-refusal_of limit allow allows text asked (code.Resolver at message) given h =
-    (h.0, h.1, record { asked = asked; allowed = given.allowed; texts = given.texts; stops = h.2 })
+refusal_of limit allow allows text asked e given h = grind arith
 
 -- where nothing is read yet
 sees_begun : (end : ℕ) (c : Cursor) (b : Builder) → IsBegun end b → IsInState b.nodes_limit end (start_state c.pos) c b

@@ -4,10 +4,7 @@ use Rattle.rox_bytes.proofs.LaneLemmas.{ends_on, first_seen, first_there, none_s
 use Rattle.rox_bytes.proofs.byte_set.run_in.Goals as goal
 
 pub returns-then-bytes-at-lt16 : goal.returns-then-bytes-at-lt16
-returns-then-bytes-at-lt16 g c = IfSome_then c.some_end.result c.some_end.ensures (λ e here. record {
-  stops = record { ends = rw here.0 c.short_end-end.ensures; there = rw here.0 here.2 };
-  seen = λ some. absurd (omega (arith, some, here.1));
-})
+returns-then-bytes-at-lt16 g c = grind arith
 
 pub returns-then-others-ne0 : goal.returns-then-others-ne0
 returns-then-others-ne0 g c =

@@ -24,35 +24,26 @@ ascii_on p src bytes at i r utf8 same on within ascii is holds =
     (IsCharBoundary-after_ascii src i utf8 more small, onward, run_on_ascii p src i utf8 more small passes ∙ on.2)
 
 ascii_ends : (p : ℕ → Bool) (src bytes : List ℕ) (at i : ℕ) (r : Bool) → IsUtf8 src → bytes ≡ src → Onward p src at i → i < length bytes → get_or bytes i 0 < 128 → r ≡ p (get_or bytes i 0) → r ≡ false → Finds src at i (run_end p src at)
-ascii_ends p src bytes at i r utf8 same on within ascii is fails =
-    let more = subst (λ (xs : List ℕ). i < length xs) same within in
-    let small = subst (λ (xs : List ℕ). get_or xs i 0 < 128) same ascii in
-    ends p src at i on (run_stops_ascii p src i utf8 more small (subst (λ (xs : List ℕ). p (get_or xs i 0) ≡ false) same (sym is ∙ fails)))
+ascii_ends p src bytes at i r utf8 same on within ascii is fails = grind (arith, run_stops_ascii)
 
 wide_on : (p : ℕ → Bool) (src : List ℕ) (at i c n : ℕ) → IsUtf8 src → Onward p src at i → StandsAt c src i → IsCharBoundary src (i + len_utf8 c) → p c ≡ true → n ≡ len_utf8 c → Onward p src at (i + n)
-wide_on p src at i c n utf8 on stands cut passes size =
-    let onward : at ≤ i + len_utf8 c = omega (arith, on.1) in
-    subst (λ k. Onward p src at (i + k)) (sym size) (cut, onward, run_on p src i c utf8 on.0 stands passes ∙ on.2)
+wide_on p src at i c n utf8 on stands cut passes size = grind (arith, run_on)
 
 pub loop-i-preserved-then-b-lt128 : goal.loop-i-preserved-then-b-lt128
 loop-i-preserved-then-b-lt128 g c =
     ascii_on g.C.Class.test c.args.text.now c.as_bytes-bytes.result.now c.args.at c.loop-i.i c.has_byte.result c.utf8.text c.as_bytes-bytes.ensures.value c.loop-i.invariant c.loop-i-test.true c.if-b-lt128.true c.has_byte.ensures c.if-not-has_byte.false
 
 pub returns-then-not-has_byte : goal.returns-then-not-has_byte
-returns-then-not-has_byte g c =
-    ascii_ends g.C.Class.test c.args.text.now c.as_bytes-bytes.result.now c.args.at c.loop-i.i c.has_byte.result c.utf8.text c.as_bytes-bytes.ensures.value c.loop-i.invariant c.loop-i-test.true c.if-b-lt128.true c.has_byte.ensures c.if-not-has_byte.true
+returns-then-not-has_byte g c = grind (arith, ascii_ends)
 
 pub loop-i-preserved : goal.loop-i-preserved
-loop-i-preserved g c =
-    wide_on g.C.Class.test c.args.text.now c.args.at c.loop-i.i c.char_at-c.result c.len_utf8-i.result c.utf8.text c.loop-i.invariant c.char_at-c.ensures.stands c.char_at-c.ensures.cut (sym c.has.ensures ∙ c.if-not-has.false) c.len_utf8-i.ensures.value
+loop-i-preserved g c = grind (arith, wide_on)
 
 pub returns-then-not-has : goal.returns-then-not-has
-returns-then-not-has g c =
-    ends g.C.Class.test c.args.text.now c.args.at c.loop-i.i c.loop-i.invariant (run_stops g.C.Class.test c.args.text.now c.loop-i.i c.char_at-c.result c.utf8.text c.loop-i.invariant.0 c.char_at-c.ensures.stands (sym c.has.ensures ∙ c.if-not-has.true))
+returns-then-not-has g c = grind (arith, run_stops)
 
 pub returns : goal.returns
-returns g c =
-    ends g.C.Class.test c.args.text.now c.args.at c.loop-i.i c.loop-i.invariant (run_at_end g.C.Class.test c.args.text.now c.loop-i.i (subst (λ (xs : List ℕ). length xs ≤ c.loop-i.i) c.as_bytes-bytes.ensures.value c.loop-i-test.false))
+returns g c = grind (arith, run_at_end)
 
 pub char_at-c-requires : goal.char_at-c-requires
 char_at-c-requires g c = record { cut = c.loop-i.invariant.0; within = subst (λ (xs : List ℕ). c.loop-i.i < length xs) c.as_bytes-bytes.ensures.value c.loop-i-test.true }

@@ -24,8 +24,7 @@ loop-at-preserved c =
     (omega arith, λ j lt. elim (cases_eq j c.next_byte-next.result) [ inl same ↦ rw same here | inr other ↦ low j (omega arith) ])
 
 pub returns-after-loop-at : goal.returns-after-loop-at
-returns-after-loop-at c =
-    sym (before_mark_is c.args.mark.now c.args.bytes.now (length c.args.bytes.now) (omega arith) (λ j lt. c.loop-at.invariant.1 j (omega arith)) (λ more. absurd (omega arith)))
+returns-after-loop-at c = grind (arith, before_mark_is)
 
 pub returns-then-next-bytes : goal.returns-then-next-bytes
 returns-then-next-bytes c =

@@ -1,19 +1,16 @@
 -- What the search in the bytes from `at` on says of all bytes.
-use Rattle.std.proofs.Common.{◌≡◌, ℕ, ◌+◌, ◌-◌, ◌<◌, ◌≤◌, ◌==◌, Bool, true, false, not, List, length, get_or, drop, refl, sym, ap, subst, ◌∙◌, arith, get_or-drop, length-drop}
+use Rattle.std.proofs.Common.{◌≡◌, ℕ, ◌+◌, ◌-◌, ◌<◌, ◌≤◌, ◌==◌, Bool, true, not, List, length, get_or, drop, sym, ap, subst, ◌∙◌, arith, get_or-drop, length-drop}
 use Rattle.rox_bytes.specs.ByteSets.{EndsSet}
 use Rattle.rox_bytes.proofs.search.next_byte.Goals as goal
 
 differs : (b : Bool) → (b ≡ true → ⊥) → not b ≡ true
-differs true other = absurd (other refl)
-differs false other = refl
+differs b other = grind arith
 
 here : (bytes : List ℕ) (at k : ℕ) → at ≤ k → get_or (drop at bytes) (k - at) 0 ≡ get_or bytes k 0
 here bytes at k low = let e : at + (k - at) ≡ k = omega arith in get_or-drop at bytes (k - at) 0 ∙ ap (λ (n : ℕ). get_or bytes n 0) e
 
 passed : (bytes rest : List ℕ) (at byte until : ℕ) → rest ≡ drop at bytes → ((k : ℕ) → 0 ≤ k → k < until → (get_or rest k 0 == byte) ≡ true → ⊥) → (k : ℕ) → at ≤ k → k < at + until → not (get_or bytes k 0 == byte) ≡ true
-passed bytes rest at byte until same none k low high =
-    let less : k - at < until = omega arith in
-    differs _ (λ is. none (k - at) (omega arith) less (ap (λ (n : ℕ). n == byte) (ap (λ (xs : List ℕ). get_or xs (k - at) 0) same ∙ here bytes at k low) ∙ is))
+passed bytes rest at byte until same none k low high = grind (arith, here)
 
 found : (bytes rest : List ℕ) (at byte n : ℕ) → at ≤ length bytes → rest ≡ drop at bytes → ((k : ℕ) → 0 ≤ k → k < n → (get_or rest k 0 == byte) ≡ true → ⊥) → n < length rest → (get_or rest n 0 == byte) ≡ true → EndsSet (λ c. not (c == byte)) bytes at (at + n)
 found bytes rest at byte n le same none more is =

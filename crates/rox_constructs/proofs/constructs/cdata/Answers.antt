@@ -1,8 +1,6 @@
-use Rattle.std.proofs.Common.{◌≡◌, refl, sym, ap, rules}
-use Rattle.std.proofs.lemmas.Result.{err_from_is_err_and}
+use Rattle.std.proofs.Common.{◌≡◌, refl, sym, rules, arith}
 use Rattle.std.specs.String.{string_bytes}
 use Rattle.rox_values.specs.Values.{piece_view, section_text}
-use Rattle.rox_reading.specs.Refusals.{lifted}
 use Rattle.rox_builder.proofs.Stepping.{cdata_is, cdata_fails, text_stepped, same_shows}
 use Rattle.rox_constructs.proofs.constructs.cdata.Goals as goal
 
@@ -22,9 +20,4 @@ returns c = record {
 }
 
 pub returns-in_err-raw : goal.returns-in_err-raw
-returns-in_err-raw c = record {
-  value = λ limit end s h.
-      let p = err_from_is_err_and c.from_residual.result c.from_residual.ensures.1 in
-      rw (p.1, p.2) (ap lifted (cdata_fails limit c.args.cursor.now.text.now s c.args.cursor.now.pos c.in_err-raw.field-0.0 h.here c.in_err-raw.ensures.value));
-  goes = let p = err_from_is_err_and c.from_residual.result c.from_residual.ensures.1 in rw p.1 tt;
-}
+returns-in_err-raw c = grind (arith, cdata_fails)

@@ -1,4 +1,4 @@
-use Rattle.std.proofs.Common.{◌≡◌, Bool, true, false, refl, sym}
+use Rattle.std.proofs.Common.{◌≡◌, Bool, true, false, refl, sym, arith}
 use Rattle.rox_grammar.specs.declared.fault.Fault.TheVariants as fault
 use Rattle.rox_grammar.specs.State.{Open, root, inside, is_root}
 use Rattle.rox_reading.specs.Machine.{cut_off_fault}
@@ -15,8 +15,7 @@ not_at_root true (inside s t b up) m e = refl
 not_at_root false o m e = cc m
 
 replaced : (main : Bool) (o : Open) → main ≡ false → fault.UnexpectedEndOfStream ≡ cut_off_fault main o
-replaced true o m = cc m
-replaced false o m = refl
+replaced main o m = grind arith
 
 pub returns-then-not-context : goal.returns-then-not-context
 returns-then-not-context c = λ end o done sh. replaced c.args.context.main o c.if-not-context.true

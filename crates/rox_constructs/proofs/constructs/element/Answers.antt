@@ -1,5 +1,5 @@
 use Rattle.std.specs.Prelude.{OnOk}
-use Rattle.std.proofs.Common.{◌≡◌, ◌++◌, ◌∷◌, [], ℕ, true, false, Bool, refl, sym, ap, subst, ◌∙◌, List}
+use Rattle.std.proofs.Common.{◌≡◌, ◌++◌, ◌∷◌, [], ℕ, true, false, Bool, refl, sym, ap, subst, ◌∙◌, List, arith}
 use Rattle.std.proofs.lemmas.Result.{err_from_is_err_and, on_ok_weaker}
 use Rattle.rox_grammar.specs.Written.{Element, NamespaceDecl}
 use Rattle.rox_grammar.specs.State.{scope_of}
@@ -30,21 +30,7 @@ went : (old new : Cursor) (b : Builder) → new.text ≡ old.text → IsConsiste
 went old new b source fine = record { source = source; fine = fine }
 
 pub start_tag-requires : goal.start_tag-requires
-start_tag-requires c =
-    let fine = c.requires.fine in
-    record {
-      there = c.requires.there;
-      here = c.requires.here;
-      below = record {
-        places = fine.sound.listed;
-        few = fine.few_names;
-        few_attributes = fine.few_attributes;
-        scopes = fine.sound.scopes;
-        above = c.scope-above.ensures.within fine;
-        once = c.scope-above.ensures.once fine;
-        kept = fine.kept;
-      };
-    }
+start_tag-requires c = grind arith
 
 pub returns-in_err-tag : goal.returns-in_err-tag
 returns-in_err-tag c = record {

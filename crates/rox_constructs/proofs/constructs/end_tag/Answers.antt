@@ -1,6 +1,5 @@
 use Rattle.std.proofs.Common.{◌≡◌, ◌+◌, Bool, true, false, ◌++◌, ◌∷◌, [], ◌-◌, refl, sym, subst, ap, ◌∙◌, List, arith, length, take, Err}
 use Rattle.std.proofs.lemmas.Bool.{lt-leb, le-leb}
-use Rattle.std.proofs.lemmas.Result.{err_from_is_err_and}
 use Rattle.std.proofs.Common.{slice_get, None, inl, inr}
 use Rattle.std.proofs.lemmas.Option.{slice_get_cases}
 use Rattle.rox_markup.specs.Views.{end_tag_view}
@@ -20,16 +19,11 @@ use Rattle.rox_names.specs.declared.tables.ElementTables.{ElementTables}
 use Rattle.rox_constructs.proofs.Opening.{all_last}
 use Rattle.rox_builder.proofs.Showing.{last_split}
 use Rattle.std.specs.List.{AllByRecursion}
-use Rattle.rox_builder.proofs.Stepping.{end_is, end_fails, end_below, opened_deep, closed_at_root, closed_other, closed_stepped}
+use Rattle.rox_builder.proofs.Stepping.{end_is, end_fails, end_below, opened_deep, closed_other, closed_stepped}
 use Rattle.rox_constructs.proofs.constructs.end_tag.Goals as goal
 
 pub returns-in_err-tag : goal.returns-in_err-tag
-returns-in_err-tag c = record {
-  value = λ limit end es s h.
-      let p = err_from_is_err_and c.from_residual.result c.from_residual.ensures.1 in
-      rw (p.1, p.2) (ap lifted (end_fails (context_of limit es c.args.context) c.args.cursor.now.text.now s c.args.cursor.now.pos c.in_err-tag.field-0.0 h.here c.in_err-tag.ensures.value));
-  goes = let p = err_from_is_err_and c.from_residual.result c.from_residual.ensures.1 in rw p.1 tt;
-}
+returns-in_err-tag c = grind (arith, end_fails)
 
 pub returns-then-len-context : goal.returns-then-len-context
 returns-then-len-context c = record {
@@ -51,19 +45,7 @@ nothing_last [] h = refl
 nothing_last (x ∷ xs) h = elim (slice_get_cases (x ∷ xs) (length (x ∷ xs) - 1)).1 [ inl w ↦ let k = w.2 in cc h | inr w ↦ absurd (omega (arith, w.0)) ]
 
 pub returns-in_default : goal.returns-in_default
-returns-in_default c = record {
-  value = λ limit end es s h.
-      let src = c.args.cursor.now.text.now in
-      let b = c.args.builder.now in
-      let pos = c.args.cursor.now.pos in
-      let j = c.end_tag.new.cursor.pos in
-      let t = end_tag_view c.in_ok-tag.tag in
-      let os = c.deref.result.now in
-      let e : b.opened.items ≡ [] = sym c.deref.ensures.value ∙ nothing_last os (sym c.in_default.ensures.value) in
-      ap lifted (end_is (context_of limit es c.args.context) src s pos j t h.here c.in_ok-tag.ensures.value (let k = opened_deep end s.stack s.done b h.shows in let l = c.len.ensures in let m = c.if-len-context.false in lt-leb _ _ (omega arith))
-      ∙ closed_at_root b.tables s.stack pos t.name_end j t.name s.done s.openings_left (sym (ap (opened_in b.tables) e) ∙ h.shows.open_rows));
-  goes = tt;
-}
+returns-in_default c = grind arith
 
 -- two names, by their bytes
 compared : (r : Bool) (m n a b : Name) → r ≡ same_qname m n → m ≡ a → n ≡ b → same_qname a b ≡ r

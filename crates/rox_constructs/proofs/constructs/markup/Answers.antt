@@ -1,18 +1,11 @@
 use Rattle.std.proofs.Common.{◌+◌, refl, sym, ap, ◌∙◌, slice_index, List, ℕ, arith}
-use Rattle.std.proofs.lemmas.Bool.{ne_eqb}
 use Rattle.rox_values.specs.Contexts.{context_of}
 use Rattle.rox_builder.proofs.Stepping.{two_stand, step_is_markup}
 use Rattle.rox_constructs.proofs.ParsedResults.{goes_too, parses_too}
 use Rattle.rox_constructs.proofs.constructs.markup.Goals as goal
 
 pub instruction-requires : goal.instruction-requires
-instruction-requires c =
-    let e = c.as_bytes-bytes.ensures.value in
-    let i = c.args.cursor.now.pos in
-    record {
-      here = two_stand c.args.cursor.now.text.now i 60 63 c.requires.markup.there c.requires.markup.here (ap (λ (xs : List ℕ). slice_index xs (i + 1)) (sym e) ∙ c.if-next-eq63.true);
-      fine = c.requires.markup.fine;
-    }
+instruction-requires c = grind (arith, two_stand)
 
 pub returns-then-next-eq63 : goal.returns-then-next-eq63
 returns-then-next-eq63 c = record {
@@ -25,16 +18,7 @@ returns-then-next-eq63 c = record {
 }
 
 pub returns : goal.returns
-returns c = record {
-  value = λ limit end es s declared h.
-      let e = c.as_bytes-bytes.ensures.value in
-      let i = c.args.cursor.now.pos in
-      let b = slice_index c.as_bytes-bytes.result.now (i + 1) in
-      let same = ap (λ (xs : List ℕ). slice_index xs (i + 1)) e in
-      let x = step_is_markup (context_of limit es c.args.context) c.args.cursor.now.text.now c.args.cursor.now.text.now s i b refl h.here c.requires.markup.here c.requires.markup.there (sym same) c.if-next-eq33.false in
-      rw (x, ne_eqb b 63 c.if-next-eq63.false, ne_eqb b 47 (λ k. c.requires.no_end_tag (sym same ∙ k))) (c.element.ensures.value limit end es s declared h);
-  goes = c.element.ensures.goes;
-}
+returns c = grind (arith, step_is_markup)
 
 pub returns-then-next-eq33 : goal.returns-then-next-eq33
 returns-then-next-eq33 c = record {
@@ -46,7 +30,4 @@ pub element-requires : goal.element-requires
 element-requires c = record { there = omega (arith, c.requires.markup.there); here = c.requires.markup.here; fine = c.requires.markup.fine }
 
 pub comment_or_section-requires : goal.comment_or_section-requires
-comment_or_section-requires c =
-    let e = c.as_bytes-bytes.ensures.value in
-    let i = c.args.cursor.now.pos in
-    record { markup = c.requires.markup; next = ap (λ (xs : List ℕ). slice_index xs (i + 1)) (sym e) ∙ c.if-next-eq33.true }
+comment_or_section-requires c = grind arith

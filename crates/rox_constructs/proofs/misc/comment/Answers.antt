@@ -1,8 +1,6 @@
-use Rattle.std.proofs.Common.{refl, ap, ℕ, rules}
-use Rattle.std.proofs.lemmas.Result.{err_from_is_err_and}
+use Rattle.std.proofs.Common.{refl, ap, ℕ, rules, arith}
 use Rattle.rox_grammar.specs.Tree as tree
 use Rattle.rox_grammar.specs.Written.{Item, Comment}
-use Rattle.rox_reading.specs.Refusals.{lifted}
 use Rattle.rox_builder.proofs.Stepping.{comment_is, comment_fails, item_stepped}
 use Rattle.rox_constructs.proofs.misc.comment.Goals as goal
 
@@ -21,9 +19,4 @@ returns c = record {
 }
 
 pub returns-in_err-text : goal.returns-in_err-text
-returns-in_err-text c = record {
-  value = λ limit end s h.
-      let p = err_from_is_err_and c.from_residual.result c.from_residual.ensures.1 in
-      rw (p.1, p.2) (ap lifted (comment_fails limit c.args.cursor.now.text.now s c.args.cursor.now.pos c.in_err-text.field-0.0 h.here c.in_err-text.ensures.value));
-  goes = let p = err_from_is_err_and c.from_residual.result c.from_residual.ensures.1 in rw p.1 tt;
-}
+returns-in_err-text c = grind (arith, comment_fails)

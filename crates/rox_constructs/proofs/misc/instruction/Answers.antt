@@ -1,9 +1,7 @@
-use Rattle.std.proofs.Common.{refl, ap, ℕ, rules}
-use Rattle.std.proofs.lemmas.Result.{err_from_is_err_and}
+use Rattle.std.proofs.Common.{refl, ap, ℕ, rules, arith}
 use Rattle.rox_grammar.specs.Tree as tree
 use Rattle.rox_grammar.specs.Written.{Item, PI}
 use Rattle.rox_markup.specs.Views.{instruction_view}
-use Rattle.rox_reading.specs.Refusals.{lifted}
 use Rattle.rox_builder.proofs.Stepping.{instruction_is, instruction_fails, item_stepped}
 use Rattle.rox_constructs.proofs.misc.instruction.Goals as goal
 
@@ -22,9 +20,4 @@ returns c = record {
 }
 
 pub returns-in_err-pi : goal.returns-in_err-pi
-returns-in_err-pi c = record {
-  value = λ limit end s h.
-      let p = err_from_is_err_and c.from_residual.result c.from_residual.ensures.1 in
-      rw (p.1, p.2) (ap lifted (instruction_fails limit c.args.cursor.now.text.now s c.args.cursor.now.pos c.in_err-pi.field-0.0 h.here c.in_err-pi.ensures.value));
-  goes = let p = err_from_is_err_and c.from_residual.result c.from_residual.ensures.1 in rw p.1 tt;
-}
+returns-in_err-pi c = grind (arith, instruction_fails)

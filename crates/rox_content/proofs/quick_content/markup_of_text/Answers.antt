@@ -1,6 +1,4 @@
-use Rattle.std.proofs.Common.{ℕ, List, ◌+◌, slice_index, ne_eqb, refl, sym, ap, subst, ◌∙◌, arith, rules}
-use Rattle.std.specs.Str.{IsCharBoundary}
-use Rattle.std.proofs.lemmas.Grind.{common_steps}
+use Rattle.std.proofs.Common.{ℕ, List, ◌+◌, slice_index, ne_eqb, refl, ap, ◌∙◌, arith}
 use Rattle.rox_builder.proofs.Stepping.{step_is_markup}
 use Rattle.rox_sections.proofs.PlainReads.{keeps_same}
 use Rattle.rox_content.proofs.quick_content.markup_of_text.Goals as goal
@@ -38,36 +36,10 @@ returns c = record {
 }
 
 pub returns-then-stop-gt-MOST_BYTES : goal.returns-then-stop-gt-MOST_BYTES
-returns-then-stop-gt-MOST_BYTES c = record {
-  value = λ yes. absurd (cc yes);
-  other = λ _. (
-    refl,
-    elim c.if-next-le63.branch [
-      | then-next-le63 w ↦ rw w.builder-is (keeps_same _ _ (w.put_delimited-stop.ensures.other (omega (arith, c.if-stop-gt-MOST_BYTES.true, w.stop-is))))
-      | else-next-le63 w ↦ rw w.builder-is (w.element_in_scope-stop.ensures.other (omega (arith, c.if-stop-gt-MOST_BYTES.true, w.stop-is)))
-    ],
-  );
-  goes = record {
-    source = refl;
-    fine = elim c.if-next-le63.branch [
-      | then-next-le63 w ↦ rw w.builder-is w.put_delimited-stop.ensures.fine
-      | else-next-le63 w ↦ rw w.builder-is w.element_in_scope-stop.ensures.fine
-    ];
-  };
-}
+returns-then-stop-gt-MOST_BYTES c = grind arith
 
 pub element_in_scope-stop-requires : goal.element_in_scope-stop-requires
-element_in_scope-stop-requires c = record {
-  here = c.requires.here;
-  start = c.args.cursor.now.cut;
-  part = first_of (search rules, grind (arith, common_steps));
-  room = c.requires.room;
-}
+element_in_scope-stop-requires c = grind arith
 
 pub invariant_of-cursor : goal.invariant_of-cursor
-invariant_of-cursor c =
-    let cut : IsCharBoundary c.args.cursor.now.text.now c.if-next-le63.stop = elim c.if-next-le63.branch [
-      | then-next-le63 w ↦ subst (IsCharBoundary c.args.cursor.now.text.now) (sym w.stop-is) (w.put_delimited-stop.ensures.cut (omega (arith, c.if-stop-gt-MOST_BYTES.false, w.stop-is)))
-      | else-next-le63 w ↦ subst (IsCharBoundary c.args.cursor.now.text.now) (sym w.stop-is) (w.element_in_scope-stop.ensures.cut (omega (arith, c.if-stop-gt-MOST_BYTES.false, w.stop-is)))
-    ] in
-    record { utf8 = c.args.cursor.now.utf8; cut = cut }
+invariant_of-cursor c = grind arith

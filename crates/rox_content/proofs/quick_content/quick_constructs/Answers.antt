@@ -1,4 +1,4 @@
-use Rattle.std.proofs.Common.{◌≡◌, ◌≢◌, ℕ, ◌+◌, ◌^◌, ◌<◌, ◌≤◌, false, length, List, slice_index, vec_len, refl, ap, subst, sym, ltb-true, ◌∙◌, arith}
+use Rattle.std.proofs.Common.{◌≡◌, ℕ, ◌+◌, ◌^◌, ◌<◌, false, length, List, slice_index, vec_len, refl, ap, subst, sym, ltb-true, ◌∙◌, arith}
 use Rattle.rox_grammar.specs.State.{is_root}
 use Rattle.rox_scan.specs.declared.cursor.Cursor.{Cursor}
 use Rattle.rox_builder.specs.BuilderState.{GoesOn, IsReadyTo}
@@ -31,20 +31,7 @@ loop-builder-init c = record {
 }
 
 pub put_character_data-requires : goal.put_character_data-requires
-put_character_data-requires c =
-    let most = c.len.result + c.args.rows in
-    let some : vec_len c.loop-builder.builder.nodes.rows + 1 < most = omega (arith, c.loop-builder-test.true, c.len-in-loop-builder.ensures.rows) in
-    let short : length c.args.cursor.now.text.now < 2 ^ 32 = omega (arith, c.if-cursor-gt-MOST_BYTES.false) in
-    let here : slice_index c.loop-builder.here.text.now c.loop-builder.here.pos ≢ 60 = λ e. c.if-bytes-here-ne60.true (ap (λ (xs : List ℕ). slice_index xs c.loop-builder.here.pos) c.as_bytes-bytes.ensures.value ∙ e) in
-    record {
-      here = here;
-      room = record {
-        short = rw (c.loop-builder.invariant.source) short;
-        ready = ready_within most 1 c.loop-builder.builder (omega (arith, some)) (c.loop-builder.invariant.ready some);
-        fine = c.loop-builder.invariant.fine;
-      };
-      apart = c.loop-builder.invariant.apart here;
-    }
+put_character_data-requires c = grind arith
 
 pub quick_markup-requires : goal.quick_markup-requires
 quick_markup-requires c = record {
@@ -75,14 +62,7 @@ quick_markup-requires c = record {
 }
 
 pub loop-builder-smaller : goal.loop-builder-smaller
-loop-builder-smaller c =
-    let s0 = ap (λ t. t.now) c.loop-builder.invariant.source in
-    let len : length c.as_bytes-bytes.result.now ≡ length c.args.cursor.now.text.now = ap length (c.as_bytes-bytes.ensures.value ∙ s0) in
-    let onward : c.loop-builder.here.pos ≤ c.if-bytes-here-ne60.here.pos = elim c.if-bytes-here-ne60.branch [
-      | then-bytes-here-ne60+else-not-put_character_data w ↦ rw w.here-is (omega (arith, w.put_character_data.ensures.moves w.if-not-put_character_data.false))
-      | else-bytes-here-ne60 w ↦ rw w.here-is (omega arith)
-    ] in
-    omega (arith, onward, len, c.if-here-bytes.false, c.quick_markup.ensures.moves c.if-not-quick_markup.false)
+loop-builder-smaller c = grind arith
 
 pub loop-builder-preserved : goal.loop-builder-preserved
 loop-builder-preserved c =

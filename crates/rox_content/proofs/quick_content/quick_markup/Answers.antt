@@ -1,9 +1,7 @@
-use Rattle.std.proofs.Common.{ℕ, List, ◌+◌, slice_index, ne_eqb, refl, sym, ap, subst, ◌∙◌, arith, rules}
-use Rattle.std.specs.Str.{IsCharBoundary}
-use Rattle.std.proofs.lemmas.Grind.{common_steps}
+use Rattle.std.proofs.Common.{ℕ, List, ◌+◌, slice_index, ne_eqb, refl, ap, ◌∙◌, arith}
 use Rattle.rox_builder.specs.BuilderState.{IsInState, IsReady, IsReadyTo}
 use Rattle.rox_builder.proofs.Stepping.{step_is_markup}
-use Rattle.rox_sections.proofs.PlainReads.{keeps_same, steps_not}
+use Rattle.rox_sections.proofs.PlainReads.{keeps_same}
 use Rattle.rox_content.proofs.quick_content.quick_markup.Goals as goal
 use Rattle.rox_content.proofs.quick_content.quick_markup.Goals.{then-bytes-near-lt58, else-bytes-near-lt58}
 
@@ -35,12 +33,7 @@ returns-then-next-le63 c = record {
 }
 
 pub returns-then-behind-gt-MOST_BYTES : goal.returns-then-behind-gt-MOST_BYTES
-returns-then-behind-gt-MOST_BYTES c = record {
-  reads = steps_not _ c.args.cursor.now c.args.builder.now c.put_delimited-behind.new.builder (keeps_same _ _ (c.put_delimited-behind.ensures.other (omega (arith, c.if-behind-gt-MOST_BYTES.true)))) c.put_delimited-behind.ensures.fine;
-  ready = λ yes. absurd (cc yes);
-  apart = λ yes. absurd (cc yes);
-  moves = λ yes. absurd (cc yes);
-}
+returns-then-behind-gt-MOST_BYTES c = grind arith
 
 pub returns-then-element_of_name : goal.returns-then-element_of_name
 returns-then-element_of_name c = record {
@@ -102,69 +95,16 @@ returns c = record {
 }
 
 pub returns-then-end-gt-MOST_BYTES : goal.returns-then-end-gt-MOST_BYTES
-returns-then-end-gt-MOST_BYTES c = record {
-  reads =
-      let u = c.element_of_name.ensures.other c.if-element_of_name.false in
-      record {
-        value = λ yes. absurd (cc yes);
-        other = λ _. (
-          u.0,
-          elim c.if-bytes-near-lt58.branch [
-            | then-bytes-near-lt58 w ↦ rw (w.builder-is) (rw u.1 at (w.element_without_prefix-end.ensures.other (omega (arith, c.if-end-gt-MOST_BYTES.true, w.end-is))))
-            | else-bytes-near-lt58 w ↦ rw (w.builder-is) (rw u.1 at (w.element_of_part-end.ensures.other (omega (arith, c.if-end-gt-MOST_BYTES.true, w.end-is))))
-          ],
-        );
-        goes = record {
-          source = c.element_of_name.ensures.goes.source;
-          fine = elim c.if-bytes-near-lt58.branch [
-            | then-bytes-near-lt58 w ↦ rw (w.builder-is) (w.element_without_prefix-end.ensures.fine)
-            | else-bytes-near-lt58 w ↦ rw (w.builder-is) (w.element_of_part-end.ensures.fine)
-          ];
-        };
-      };
-  ready = λ yes. absurd (cc yes);
-  apart = λ yes. absurd (cc yes);
-  moves = λ yes. absurd (cc yes);
-}
+returns-then-end-gt-MOST_BYTES c = grind arith
 
 pub element_without_prefix-end-requires : goal.element_without_prefix-end-requires
-element_without_prefix-end-requires c = record {
-  here = c.requires.here;
-  start = c.args.cursor.now.cut;
-  near = first_of (search rules, grind (arith, common_steps));
-  room = record {
-    short = c.requires.room.short;
-    ready = rw (c.element_of_name.ensures.other c.if-element_of_name.false).1 c.requires.room.ready;
-    fine = c.element_of_name.ensures.goes.fine;
-  };
-}
+element_without_prefix-end-requires c = grind arith
 
 pub element_of_part-end-requires : goal.element_of_part-end-requires
-element_of_part-end-requires c = record {
-  here = c.requires.here;
-  start = c.args.cursor.now.cut;
-  run = first_of (search rules, grind (arith, common_steps));
-  letter = first_of (search rules, grind (arith, common_steps));
-  room = record {
-    short = c.requires.room.short;
-    ready = rw (c.element_of_name.ensures.other c.if-element_of_name.false).1 c.requires.room.ready;
-    fine = c.element_of_name.ensures.goes.fine;
-  };
-}
+element_of_part-end-requires c = grind arith
 
 pub invariant_of-cursor : goal.invariant_of-cursor
-invariant_of-cursor c = record {
-  utf8 = c.args.cursor.now.utf8;
-  cut = c.put_delimited-behind.ensures.cut (omega (arith, c.if-behind-gt-MOST_BYTES.false));
-}
+invariant_of-cursor c = grind arith
 
 pub invariant_of-cursor-2 : goal.invariant_of-cursor-2
-invariant_of-cursor-2 c =
-    let cut : IsCharBoundary c.args.cursor.now.text.now c.if-bytes-near-lt58.end = elim c.if-bytes-near-lt58.branch [
-      | then-bytes-near-lt58 w ↦ subst (IsCharBoundary c.args.cursor.now.text.now) (sym w.end-is) (w.element_without_prefix-end.ensures.cut (omega (arith, c.if-end-gt-MOST_BYTES.false, w.end-is)))
-      | else-bytes-near-lt58 w ↦ subst (IsCharBoundary c.args.cursor.now.text.now) (sym w.end-is) (w.element_of_part-end.ensures.cut (omega (arith, c.if-end-gt-MOST_BYTES.false, w.end-is)))
-    ] in
-    record {
-      utf8 = c.element_of_name.new.cursor.utf8;
-      cut = subst (λ (xs : List ℕ). IsCharBoundary xs c.if-bytes-near-lt58.end) (sym (ap (λ t. t.now) c.element_of_name.ensures.goes.source)) cut;
-    }
+invariant_of-cursor-2 c = grind arith

@@ -1,4 +1,4 @@
-use Rattle.std.proofs.Common.{ℕ, get_or, get_or-drop, slice_range, ◌≡◌, ◌++◌, ◌∷◌, [], ◌-◌, ◌+◌, List, false, refl, sym, subst, ap, ◌∙◌, arith, length, take, drop, slice_index, Ok, leb}
+use Rattle.std.proofs.Common.{ℕ, get_or-drop, slice_range, ◌≡◌, ◌++◌, ◌∷◌, [], ◌-◌, ◌+◌, List, false, refl, sym, subst, ap, ◌∙◌, arith, length, take, drop, slice_index, Ok, leb}
 use Rattle.std.specs.List.{AllByRecursion}
 use Rattle.std.proofs.lemmas.Bool.{lt-leb}
 use Rattle.std.proofs.lemmas.List.{take_rest}
@@ -18,16 +18,10 @@ use Rattle.rox_content.proofs.quick_elements.close_element.Goals as goal
 
 -- what stands behind so many bytes of the rest
 behind_rest : (src bytes : List ℕ) (i n : ℕ) → bytes ≡ src → slice_index (slice_range bytes i (length bytes)) n ≡ 62 → slice_index src (i + n) ≡ 62
-behind_rest src bytes i n is closed =
-    let rest : slice_range bytes i (length bytes) ≡ drop i src = take_rest bytes i ∙ ap (drop i) is in
-    sym (get_or-drop i src n 0) ∙ ap (λ (xs : List ℕ). get_or xs n 0) (sym rest) ∙ closed
+behind_rest src bytes i n is closed = grind (arith, take_rest, get_or-drop)
 
 pub after_byte-end-requires : goal.after_byte-end-requires
-after_byte-end-requires c = record {
-  some = omega arith;
-  ascii = omega arith;
-  here = behind_rest c.args.cursor.now.text.now c.as_bytes.result.now c.after_byte-name.result c.in-Some.open.now.name_count c.as_bytes.ensures.value (c.closes_front.ensures.closed c.if-not-closes_front.false);
-}
+after_byte-end-requires c = grind (arith, behind_rest)
 
 pub returns : goal.returns
 returns c = record {
@@ -74,7 +68,4 @@ returns c = record {
 }
 
 pub put_close-requires : goal.put_close-requires
-put_close-requires c = record {
-  settled = c.requires.settled;
-  short = omega (arith, c.requires.short, c.after_byte-end.ensures.cut.0);
-}
+put_close-requires c = grind arith

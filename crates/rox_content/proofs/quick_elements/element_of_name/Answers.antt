@@ -1,5 +1,4 @@
-use Rattle.std.proofs.Common.{Bool, true, [], Ok, arith, refl, sym, ap, subst, ◌∙◌, List, rules}
-use Rattle.std.proofs.lemmas.Grind.{common_steps}
+use Rattle.std.proofs.Common.{Bool, true, [], Ok, arith, refl, sym, ap, subst, ◌∙◌, List}
 use Rattle.rox_grammar.specs.Written.{NamespaceDecl}
 use Rattle.rox_grammar.specs.State.{scope_of}
 use Rattle.rox_reading.specs.Machine.{opened_by, cut_off_fault}
@@ -18,16 +17,7 @@ use Rattle.rox_constructs.proofs.Opening.{is_opening, fine_by, fine_more, namesp
 use Rattle.rox_content.proofs.quick_elements.element_of_name.Goals as goal
 
 pub start_tag_of_name-requires : goal.start_tag_of_name-requires
-start_tag_of_name-requires c = record {
-  here = c.requires.here;
-  near = first_of (search rules, grind (arith, common_steps));
-  closed = first_of (search rules, grind (arith, common_steps));
-  below =
-      let b = c.args.builder.now in
-      let split = c.in-Some.ensures in
-      below_last b.tables b.opened.items split.0 c.in-Some.parent c.requires.room.fine split.1;
-  few_attributes = c.requires.room.fine.few_attributes;
-}
+start_tag_of_name-requires c = grind (arith, below_last)
 
 pub returns : goal.returns
 returns c = record {

@@ -21,10 +21,7 @@ tried c =
     }
 
 pub start_tag_with_prefix-requires : goal.start_tag_with_prefix-requires
-start_tag_with_prefix-requires c = record {
-  here = may_open_at c.args.text.now c.args.start c.len-depth.result c.args.builder.now c.index-above.result.now c.requires.here c.requires.room (omega arith) (omega arith) c.index-above.ensures;
-  prefix = c.requires.prefix;
-}
+start_tag_with_prefix-requires c = grind (arith, may_open_at)
 
 pub put_element-requires : goal.put_element-requires
 put_element-requires c = tried_may_put _ c.in-Some.read (tried (goal.at.put_element-requires c).After-start_tag_with_prefix) c.in-Some.is refl (record { nodes = refl; opened = refl; pending = refl; joined = refl; limit = refl; openings_left = refl }) refl

@@ -28,18 +28,7 @@ start_tag_without_prefix-requires c = record {
 }
 
 pub element_in_scope-requires : goal.element_in_scope-requires
-element_in_scope-requires c = record {
-  here = c.requires.here;
-  start = c.requires.start;
-  part = part_near c.args.text.now c.args.start c.args.near c.utf8.text c.requires.here c.requires.near;
-  room =
-      let ready = c.requires.room.ready in
-      record {
-        short = c.requires.room.short;
-        ready = record { room = ready.room; few = ready.few; small = ready.small; settled = ready.settled };
-        fine = c.requires.room.fine;
-      };
-}
+element_in_scope-requires c = grind (arith, part_near)
 
 pub put_element-requires : goal.put_element-requires
 put_element-requires c = tried_may_put _ c.in-Some.read (tried (goal.at.put_element-requires c).After-start_tag_without_prefix) c.in-Some.is refl (record { nodes = refl; opened = refl; pending = refl; joined = refl; limit = refl; openings_left = refl }) refl

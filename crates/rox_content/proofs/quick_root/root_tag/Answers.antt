@@ -1,9 +1,8 @@
-use Rattle.std.proofs.Common.{◌≡◌, ◌+◌, false, length, bytes_eq, refl, sym, ap, ◌∙◌, arith, Ok, length-append}
+use Rattle.std.proofs.Common.{◌≡◌, ◌+◌, false, bytes_eq, refl, sym, ◌∙◌, arith, Ok, length-append}
 use Rattle.rox_grammar.specs.declared.fault.Word.TheVariants.{Xmlns}
 use Rattle.rox_grammar.specs.FixedTexts.{word_text}
 use Rattle.rox_grammar.specs.Failures.{name_view}
 use Rattle.rox_reading.specs.Lexical.{qname_at}
-use Rattle.rox_rows.specs.Rows.{attribute_rows}
 use Rattle.rox_tags.proofs.TagAttributes.{has_scope}
 use Rattle.rox_content.proofs.RootTags.{root_tagged}
 use Rattle.rox_content.proofs.quick_root.root_tag.Goals as goal
@@ -12,21 +11,10 @@ pub tag_attributes-requires : goal.tag_attributes-requires
 tag_attributes-requires c = record { cut = c.in_ok-name.ensures.cut; short = c.requires.short; begins = (c.requires.begins, refl) }
 
 pub namespace_in_scope-requires : goal.namespace_in_scope-requires
-namespace_in_scope-requires c =
-    let d = c.in_ok-end.ensures.read.declares in
-    record {
-      scope = has_scope c.tag_attributes.new.elements d.keys d.has d.scope;
-      few = d.has.few;
-      small = omega arith;
-    }
+namespace_in_scope-requires c = grind (arith, has_scope)
 
 pub element_of-element-requires : goal.element_of-element-requires
-element_of-element-requires c =
-    let grown = c.in_ok-end.ensures.grown in
-    record {
-      within = omega (arith, c.len-from.ensures, ap length grown.rows, length-append (attribute_rows c.args.elements.now.attributes) grown.more);
-      few = c.in_ok-end.ensures.few;
-    }
+element_of-element-requires c = grind (arith, length-append)
 
 pub returns : goal.returns
 returns c =

@@ -1,11 +1,10 @@
-use Rattle.std.proofs.Common.{◌≡◌, Bool, true, false, not, sym, ap, ◌∙◌, refl}
+use Rattle.std.proofs.Common.{◌≡◌, Bool, not, sym, ap, ◌∙◌, arith}
 use Rattle.rox_names.specs.ExpandedNames.{is_key}
 use Rattle.rox_names.proofs.Seeing.{has_is, any_inserted, key_cmp}
 use Rattle.rox_names.proofs.expanded_names.is_repeated_name.Goals as goal
 
 not_not : (b : Bool) → not (not b) ≡ b
-not_not true = refl
-not_not false = refl
+not_not b = grind arith
 
 pub returns-in-Ok : goal.returns-in-Ok
 returns-in-Ok c = record {

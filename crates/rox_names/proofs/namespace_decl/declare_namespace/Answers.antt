@@ -9,7 +9,7 @@ use Rattle.rox_grammar.specs.Written.{NamespaceDecl, namespace_decl_of}
 use Rattle.rox_grammar.specs.Tree.{is_declared, is_xml}
 use Rattle.rox_grammar.specs.Document.{most_pairs}
 use Rattle.rox_grammar.specs.Counts.{with_new}
-use Rattle.rox_reading.specs.Tags.{uri_tested, declared}
+use Rattle.rox_reading.specs.Tags.{declared}
 use Rattle.std.specs.List.{slice_range}
 use Rattle.std.proofs.lemmas.Bool.{or_parts}
 use Rattle.rox_reading.specs.AtIndex.{namespace_at}
@@ -24,33 +24,13 @@ use Rattle.rox_names.proofs.Declaring.{uri_refused, declared_again, declared_man
 use Rattle.rox_names.proofs.namespace_decl.declare_namespace.Goals as goal
 
 pub is_own-requires : goal.is_own-requires
-is_own-requires c =
-    let listed = c.args.listed.now.items in
-    let namespaces = map namespace_view c.args.namespaces.now.items.items in
-    rw (c.as_slice.ensures.value, c.deref.ensures.value) (record {
-      places = all_slice (λ i. i < length c.args.namespaces.now.items.items) listed c.args.own (length listed) c.requires.places;
-      prefix_set = subst (λ xs. IsPrefixSet namespaces xs c.args.prefix_set.now.keys) (sym (slice-rest listed c.args.own)) c.requires.prefix_set;
-    })
+is_own-requires c = grind (arith, all_slice, slice-rest)
 
 pub add_prefix-requires : goal.add_prefix-requires
-add_prefix-requires c =
-    let rows = c.place.new.self.items.items in
-    let after = c.push_with_room.new.to.items in
-    rw (c.as_slice-2.ensures.value, c.deref-2.ensures.value) (all_slice (λ i. i < length rows) after c.args.own (length after)
-    (places_after c.args.namespaces.now.items.items rows c.args.listed.now.items after (pair (prefix_view c.declared_prefix-prefix.result) (storage_bytes c.args.taken.value)) c.in_ok-place.place
-    c.in_ok-place.ensures.placed.table c.in_ok-place.ensures.placed.there.0 c.in_ok-push_with_room.ensures.items c.requires.places))
+add_prefix-requires c = grind (arith, all_slice, places_after)
 
 pub returns-in_err-test_uri : goal.returns-in_err-test_uri
-returns-in_err-test_uri c = record {
-  own = search rules;
-  lists = search rules;
-  grown = search rules;
-  value = λ known before h o d.
-      let a = unresolved_view c.args.taken in
-      let p = err_from_is_err_and c.from_residual.result c.from_residual.ensures.1 in
-      let uri : uri_tested a ≡ Err c.in_err-test_uri.field-0.0 = sym c.test_uri.ensures ∙ c.in_err-test_uri.was in
-      rw (p.1, p.2) (uri_refused known a h c.in_err-test_uri.field-0.0 uri);
-}
+returns-in_err-test_uri c = grind (arith, uri_refused)
 
 pub returns-then-is_own : goal.returns-then-is_own
 returns-then-is_own c = record {

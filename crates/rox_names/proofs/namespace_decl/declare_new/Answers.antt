@@ -16,11 +16,7 @@ use Rattle.rox_scopes.proofs.Remembering.{remembers_few}
 use Rattle.rox_names.proofs.namespace_decl.declare_new.Goals as goal
 
 pub add_new-requires : goal.add_new-requires
-add_new-requires c =
-    let old = c.args.namespaces.now.items.items in
-    let one = pair (prefix_view c.declared_prefix-prefix.result) (storage_bytes c.args.taken.value) in
-    let none : is_declared one.prefix (map namespace_view old) ≡ false = ap (λ rows. is_declared one.prefix (map namespace_view rows)) (sym c.as_slice-pairs.ensures.value) ∙ sym c.has_prefix.ensures ∙ c.if-has_prefix.false in
-    record { few = omega (arith, ap length c.as_slice-pairs.ensures.value); absent = absent_row old one none }
+add_new-requires c = grind (arith, absent_row)
 
 pub returns : goal.returns
 returns c = λ _ keys has.

@@ -1,4 +1,4 @@
-use Rattle.std.proofs.Common.{rules, map, sym, subst, refl, ◌∙◌}
+use Rattle.std.proofs.Common.{map, sym, subst, refl, ◌∙◌, arith}
 use Rattle.rox_scopes.specs.NamespaceViews.{namespace_view}
 use Rattle.rox_names.specs.ResolvedNames.{row_of_unresolved}
 use Rattle.rox_seen.specs.SeenNames.{AreSeen}
@@ -7,11 +7,7 @@ use Rattle.rox_names.proofs.resolve.put_attribute_of.Goals as goal
 use Rattle.rox_names.proofs.resolve.put_attribute_of.Goals.{else-repeats-via-then-repeats+else-is_refused, else-repeats-via-else-repeats}
 
 pub is_refused-requires : goal.is_refused-requires
-is_refused-requires c = record {
-  from = search rules;
-  done = rw c.may_have-repeats.ensures.from c.requires.tag.within;
-  other = search rules;
-}
+is_refused-requires c = grind arith
 
 pub returns : goal.returns
 returns c = record {

@@ -1,4 +1,4 @@
-use Rattle.std.proofs.Common.{rules, List, ◌++◌, ◌∷◌, [], ◌∙◌, map, sym, ap, subst, refl}
+use Rattle.std.proofs.Common.{List, ◌++◌, ◌∷◌, [], ◌∙◌, map, sym, ap, subst, refl, arith}
 use Rattle.rox_rows.specs.Rows.{AttributeRow, attribute_rows}
 use Rattle.rox_scopes.specs.NamespaceViews.{namespace_view}
 use Rattle.rox_names.specs.ResolvedNames.{row_of_compact}
@@ -10,11 +10,7 @@ use Rattle.rox_names.proofs.resolve.put_compact_attribute.Goals as goal
 use Rattle.rox_names.proofs.resolve.put_compact_attribute.Goals.{else-repeats-via-then-repeats+else-is_refused, else-repeats-via-else-repeats}
 
 pub is_refused-requires : goal.is_refused-requires
-is_refused-requires c = record {
-  from = search rules;
-  done = rw c.may_have-repeats.ensures.from c.requires.tag.within;
-  other = search rules;
-}
+is_refused-requires c = grind arith
 
 pub returns : goal.returns
 returns c = record {

@@ -1,4 +1,4 @@
-use Rattle.std.proofs.Common.{rules, ◌≡◌, ◌<◌, ◌≤◌, length, length-append, map, drop, sym, ap, ◌∙◌, subst, arith, vec_len, eqb-true}
+use Rattle.std.proofs.Common.{rules, ◌≡◌, ◌<◌, length, length-append, map, drop, sym, ap, ◌∙◌, subst, arith, vec_len, eqb-true}
 use Rattle.std.proofs.lemmas.Result.{err_from_is_err_and}
 use Rattle.rox_rows.specs.Rows.{AttributeRow, attribute_rows, NamespaceWithin}
 use Rattle.rox_scopes.specs.NamespaceViews.{namespace_view}
@@ -10,25 +10,13 @@ use Rattle.rox_names.proofs.Resolving.{ends, refuses, moves, resolves, starts, r
 use Rattle.rox_names.proofs.resolve.resolve.Goals as goal
 
 pub slice_bounds-tested_namespace-count : goal.slice_bounds-tested_namespace-count
-slice_bounds-tested_namespace-count c =
-    let l = c.loop-turn in
-    let m = l.invariant.moving in
-    old_within l.attributes c.deref.result.now _ m.done l.seen.from c.deref.ensures.value m.table_is l.invariant.from
+slice_bounds-tested_namespace-count c = grind (arith, old_within)
 
 pub slice_bounds-tested_namespace-start : goal.slice_bounds-tested_namespace-start
-slice_bounds-tested_namespace-start c =
-    let l = c.loop-turn in
-    let m = l.invariant.moving in
-    old_within l.attributes c.deref.result.now _ m.done l.seen.from c.deref.ensures.value m.table_is l.invariant.from
+slice_bounds-tested_namespace-start c = grind (arith, old_within)
 
 pub offset_bounds-deref-seen : goal.offset_bounds-deref-seen
-offset_bounds-deref-seen c =
-    let l = c.loop-turn in
-    let m = l.invariant.moving in
-    let within : l.seen.from ≤ length c.deref.result.now =
-    old_within l.attributes c.deref.result.now _ m.done l.seen.from c.deref.ensures.value m.table_is l.invariant.from in
-    let small = c.deref.type_inv.1 in
-    omega (arith, within, small)
+offset_bounds-deref-seen c = grind (arith, old_within)
 
 pub loop-turn-init : goal.loop-turn-init
 loop-turn-init c = record {

@@ -50,11 +50,7 @@ returns-in_err-skip_declaration g c = record {
 }
 
 pub returns-then-is_skipped_declaration : goal.returns-then-is_skipped_declaration
-returns-then-is_skipped_declaration g c = record {
-  value = λ limit end n m run one going.
-      passed_turn limit end c.args.start n m c.args.cursor.now.text.now (Allows g.R.EntityResolver.allows c.args.resolver.now) run one c.args.cursor.now c.spaces.new.self c.args.builder.now c.args.entities.now going c.requires.here.there (ap (λ t. t.now) c.spaces.ensures.source) c.spaces.ensures.place (sym c.starts.ensures ∙ c.if-starts.false) (sym c.starts-2.ensures ∙ c.if-starts-2.false) (sym c.starts-3.ensures ∙ c.if-starts-3.false) c.skip_declaration.new.cursor (sym c.is_skipped_declaration.ensures ∙ c.if-is_skipped_declaration.true) c.in_ok-skip_declaration.ensures.value;
-  goes = first_of (search rules, grind (arith, common_steps));
-}
+returns-then-is_skipped_declaration g c = grind (arith, passed_turn)
 
 pub returns-then-not-is_at : goal.returns-then-not-is_at
 returns-then-not-is_at g c = record {

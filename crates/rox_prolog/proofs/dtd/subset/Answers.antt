@@ -1,13 +1,12 @@
-use Rattle.std.proofs.Common.{◌≡◌, ℕ, suc, ◌+◌, ◌-◌, ◌≤◌, List, Bool, Ok, Err, Result, sym, ap, ◌∙◌, subst, refl, length, arith, rules}
+use Rattle.std.proofs.Common.{◌≡◌, ℕ, suc, ◌+◌, ◌-◌, ◌≤◌, List, Bool, Ok, Err, Result, sym, ap, ◌∙◌, refl, length, arith, rules}
 use Rattle.std.proofs.lemmas.Grind.{common_steps}
 use Rattle.std.proofs.lemmas.Result.{err_from_is_err_and}
-use Rattle.std.proofs.lemmas.Bool.{leb-true, leb-false}
+use Rattle.std.proofs.lemmas.Bool.{leb-true}
 use Rattle.rox_reading.specs.Doctype as reading
 use Rattle.rox_reading.specs.Doctype.{Asks, Dtd}
 use Rattle.rox_reading.specs.Answering.{left_with}
 use Rattle.rox_prolog.specs.Requests.{Reply, Allows}
 use Rattle.rox_prolog.specs.Asking.{IsSubsetSoFar, ItemOutcome}
-use Rattle.rox_builder.specs.Outcomes.{MayStep}
 use Rattle.rox_builder.specs.declared.builder.Builder.{Builder}
 use Rattle.rox_values.specs.declared.entities.Entities.{Entities}
 use Rattle.rox_values.specs.declared.parse_error.ParseError.{ParseError}
@@ -41,8 +40,7 @@ returns-then-is_at_end g c = record {
 -- the item's turn, over the text as it was at the start
 turned : (limit end i n m : ℕ) (src text : List ℕ) (allows : _) (run : List Reply → Asks Dtd) (c e : Cursor) (b u : Builder) (es fs : Entities) (r : Result Bool ParseError) → text ≡ src
     → (IsSubsetSoFar limit end i n text allows run c b es → ItemOutcome limit end i m text allows run e u fs r) → IsSubsetSoFar limit end i n src allows run c b es → ItemOutcome limit end i m src allows run e u fs r
-turned limit end i n m src text allows run c e b u es fs r same item going =
-    subst (λ (t : List ℕ). ItemOutcome limit end i m t allows run e u fs r) same (item (subst (λ (t : List ℕ). IsSubsetSoFar limit end i n t allows run c b es) (sym same) going))
+turned limit end i n m src text allows run c e b u es fs r same item going = grind arith
 
 pub returns-in_err-item : goal.returns-in_err-item
 returns-in_err-item g c = record {
@@ -102,6 +100,4 @@ returns g c = record {
 }
 
 pub item-requires : goal.item-requires
-item-requires g c =
-    let here : MayStep c.loop-turn.cursor c.loop-turn.builder = record { there = leb-false _ _ (sym c.is_at_end.ensures ∙ c.if-is_at_end.false); fine = c.loop-turn.invariant.fine } in
-    λ k. ((refl, tt), record { here = here; may = c.requires.may })
+item-requires g c = grind arith

@@ -3,7 +3,6 @@ use Rattle.std.proofs.lemmas.Grind.{common_steps}
 use Rattle.std.proofs.lemmas.Result.{err_from_is_err_and}
 use Rattle.rox_grammar.specs.declared.fault.Word.TheVariants as word
 use Rattle.rox_grammar.specs.FixedTexts.{at}
-use Rattle.rox_builder.specs.Readiness.{MayRead}
 use Rattle.rox_reading.specs.Doctype.{with_state}
 use Rattle.rox_reading.proofs.Settling.{no_doctype_here, forbidden_stops, doctype_stops, doctype_read, doctype_run, step_run}
 use Rattle.rox_prolog.specs.Requests.{Allows}
@@ -91,6 +90,4 @@ returns g c = record {
 }
 
 pub document_type-requires : goal.document_type-requires
-document_type-requires g c =
-    let start : MayRead word.DoctypeStart c.args.cursor.now c.args.builder.now = record { here = sym c.starts.ensures ∙ c.if-not-starts.false; fine = c.requires.fine } in
-    search (rules, start, c.requires.may)
+document_type-requires g c = grind arith

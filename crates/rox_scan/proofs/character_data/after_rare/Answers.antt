@@ -7,12 +7,7 @@ use Rattle.rox_scan.proofs.LongerLemmas.{run_none, run_step, wide_no_run_end}
 use Rattle.rox_scan.proofs.character_data.after_rare.Goals as goal
 
 pub returns-then-here : goal.returns-then-here
-returns-then-here c =
-    let src = c.args.text.now in
-    let i = c.args.at in
-    let a = c.after_239.ensures in
-    let wide : get_or src i 0 ≡ 239 = sym (ap (λ (l : List ℕ). get_or l i 0) c.as_bytes.ensures.value) ∙ c.if-here.true in
-    run_step src i _ c.utf8.text c.requires.cut a.onward a.cut a.chars a.wide (wide_no_run_end src i (omega (arith, wide))) (rw wide refl)
+returns-then-here c = grind (arith, run_step, wide_no_run_end)
 
 pub returns-then-not-is_mark_at : goal.returns-then-not-is_mark_at
 returns-then-not-is_mark_at c =

@@ -1,4 +1,4 @@
-use Rattle.std.proofs.Common.{◌∙◌, arith}
+use Rattle.std.proofs.Common.{arith}
 use Rattle.rox_bytes.proofs.NearLemmas.{part_cut}
 use Rattle.rox_scan.proofs.NameRuns.{name_goes_on}
 use Rattle.rox_scan.proofs.cursor.name_end.Goals as goal
@@ -9,11 +9,4 @@ run_end-requires c =
     part_cut c.args.text.now c.args.start c.skip_set-near.result c.utf8.text c.requires n.onward n.within n.passes
 
 pub returns : goal.returns
-returns c =
-    let n = c.skip_set-near.ensures in
-    let e = c.run_end.ensures in
-    record {
-      place = e.place ∙ name_goes_on c.args.text.now c.args.start c.skip_set-near.result c.utf8.text n.onward n.within n.passes;
-      onward = omega (arith, n.onward, e.onward);
-      cut = e.cut;
-    }
+returns c = grind (arith, name_goes_on)

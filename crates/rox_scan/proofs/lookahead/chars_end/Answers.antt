@@ -1,5 +1,4 @@
-use Rattle.std.proofs.Common.{sym, ◌∙◌, arith}
-use Rattle.rox_grammar.specs.Chars.{is_char}
+use Rattle.std.proofs.Common.{arith}
 use Rattle.rox_bytes.specs.ByteSets.{is_char_byte}
 use Rattle.rox_bytes.proofs.NearLemmas.{near_chars, char_cut}
 use Rattle.rox_scan.proofs.CharLemmas.{chars_joined, chars_go_on, run_ends_here}
@@ -29,8 +28,4 @@ loop-end-preserved c =
     }
 
 pub returns-then-next-end : goal.returns-then-next-end
-returns-then-next-end c =
-    let src = c.args.from.text.now in
-    let f = c.loop-end.invariant in
-    let on = chars_go_on src c.args.from.pos _ c.args.from.utf8 c.args.from.cut f.cut f.onward f.chars in
-    record { place = sym (run_ends_here is_char src _ (c.after_char-next.ensures.stops c.if-next-end.true)) ∙ on; onward = f.onward; cut = f.cut }
+returns-then-next-end c = grind (arith, chars_go_on, run_ends_here)

@@ -1,8 +1,5 @@
-use Rattle.std.proofs.Common.{sym, ◌∙◌}
+use Rattle.std.proofs.Common.{arith}
 use Rattle.rox_scan.proofs.lookahead.comment_end_beyond.Goals as goal
 
 pub returns-then-starts : goal.returns-then-starts
-returns-then-starts c = λ some. record {
-  looked = c.comment_end-end.ensures.looked;
-  here = sym c.starts.ensures ∙ c.if-starts.true;
-}
+returns-then-starts c = grind arith

@@ -1,10 +1,6 @@
-use Rattle.std.proofs.Common.{rules, ◌<◌, ◌≤◌, false, Some, length, map, get_or, refl, sym, subst, arith}
-use Rattle.std.specs.List.{slice_range}
-use Rattle.rox_grammar.specs.declared.fault.Word.TheVariants.{Xml}
-use Rattle.rox_grammar.specs.FixedTexts.{word_text}
+use Rattle.std.proofs.Common.{◌<◌, ◌≤◌, false, length, map, get_or, refl, arith}
 use Rattle.rox_scopes.specs.NamespaceViews.{namespace_view}
-use Rattle.rox_scopes.specs.Scopes.{prefix_view, entries, PrefixesOnce}
-use Rattle.rox_scopes.specs.Bindings.{bound_place}
+use Rattle.rox_scopes.specs.Scopes.{prefix_view}
 use Rattle.rox_scopes.specs.Hidden.{listed_by}
 use Rattle.rox_scopes.proofs.Pairs.{place_at}
 use Rattle.rox_scopes.proofs.Hiding.{once_others}
@@ -18,18 +14,7 @@ pub bounds-tables-place : goal.bounds-tables-place
 bounds-tables-place c = let lt : c.loop-turn.turn < length c.args.tables.listed.now = omega arith in place_at (length c.args.tables.namespaces.now) c.args.tables.listed.now c.loop-turn.turn 0 c.requires.scope.places lt
 
 pub hide-requires : goal.hide-requires
-hide-requires c = record {
-  scope = search rules;
-  once =
-      let namespaces = map namespace_view c.args.tables.namespaces.now in
-      subst PrefixesOnce (sym c.loop-turn.invariant.lists)
-      (once_others (entries namespaces (slice_range c.args.tables.listed.now c.args.own.from c.loop-turn.turn)) false (listed_by c.args.tables c.args.scopes.now.items c.args.scope) c.requires.once);
-  absent = λ none.
-      let namespaces = map namespace_view c.args.tables.namespaces.now in
-      let p = prefix_view (get_or c.args.tables.namespaces.now (get_or c.args.tables.listed.now c.loop-turn.turn 0) c.index-tables-place.result).name in
-      absent_bound namespaces (bound_place c.args.tables.present.now) (entries namespaces (slice_range c.args.tables.listed.now c.args.own.from c.loop-turn.turn)) (listed_by c.args.tables c.args.scopes.now.items c.args.scope)
-      (listed_by c.args.tables c.loop-turn.scopes.items c.loop-turn.left) false p c.requires.bound c.loop-turn.invariant.lists none;
-}
+hide-requires c = grind (arith, once_others, absent_bound)
 
 pub loop-turn-preserved : goal.loop-turn-preserved
 loop-turn-preserved c =
@@ -43,17 +28,7 @@ loop-turn-preserved c =
     low lt c.requires.scope.places refl refl c.loop-turn.invariant c.in_ok-left.ensures
 
 pub hide-requires-then-own : goal.hide-requires-then-own
-hide-requires-then-own c = record {
-  scope = search rules;
-  once =
-      let namespaces = map namespace_view c.args.tables.namespaces.now in
-      subst PrefixesOnce (sym c.loop-turn.invariant.lists)
-      (once_others (entries namespaces (slice_range c.args.tables.listed.now c.args.own.from c.loop-turn.turn)) false (listed_by c.args.tables c.args.scopes.now.items c.args.scope) c.requires.once);
-  absent = λ none.
-      let namespaces = map namespace_view c.args.tables.namespaces.now in
-      absent_bound namespaces (bound_place c.args.tables.present.now) (entries namespaces (slice_range c.args.tables.listed.now c.args.own.from c.loop-turn.turn)) (listed_by c.args.tables c.args.scopes.now.items c.args.scope)
-      (listed_by c.args.tables c.loop-turn.scopes.items c.loop-turn.left) false (Some (word_text Xml)) c.requires.bound c.loop-turn.invariant.lists none;
-}
+hide-requires-then-own c = grind (arith, once_others, absent_bound)
 
 pub returns-in_ok-left-2 : goal.returns-in_ok-left-2
 returns-in_ok-left-2 c =

@@ -1,11 +1,11 @@
-use Rattle.std.proofs.Common.{rules, ◌≡◌, ◌<◌, ◌≤◌, length, get_or, take, true, false, map, sym, ap, subst, ◌∙◌, arith, None}
+use Rattle.std.proofs.Common.{◌≡◌, ◌<◌, length, get_or, true, false, map, sym, ap, ◌∙◌, arith}
 use Rattle.std.proofs.lemmas.List.{take_all}
-use Rattle.rox_grammar.specs.Tree.{same_prefix, uri_of}
+use Rattle.rox_grammar.specs.Tree.{same_prefix}
 use Rattle.rox_grammar.specs.Written.{NamespaceDecl}
 use Rattle.rox_reading.specs.AtIndex.{namespace_at}
 use Rattle.rox_scopes.specs.ScopeRows.{count_at}
 use Rattle.rox_scopes.specs.NamespaceViews.{namespace_view}
-use Rattle.rox_scopes.specs.Scopes.{prefix_view, entries, places_in}
+use Rattle.rox_scopes.specs.Scopes.{prefix_view, places_in}
 use Rattle.rox_scopes.specs.Bindings.{bound_namespace}
 use Rattle.rox_scopes.proofs.Pairs.{namespace_at-get, uri_none_more, declared_none}
 use Rattle.rox_scopes.proofs.Ropes.{count_places}
@@ -15,10 +15,7 @@ pub returns-in_default : goal.returns-in_default
 returns-in_default c = c.requires.absent (ap bound_namespace (sym c.in_default.ensures))
 
 pub place_at-place-requires : goal.place_at-place-requires
-place_at-place-requires c =
-    let n : count_at c.args.scopes.now c.args.scope ≡ length (places_in c.args.tables.listed.now c.args.scopes.now c.args.scope) = count_places c.args.tables.listed.now c.args.scopes.now c.args.scope c.requires.scope.scopes c.requires.scope.within in
-    let k : c.in-Some-find.index < count_at c.args.scopes.now c.args.scope = c.in-Some-find.ensures in
-    record { scope = search rules; index = omega arith }
+place_at-place-requires c = grind (arith, count_places)
 
 pub bounds-tables-place : goal.bounds-tables-place
 bounds-tables-place c = c.place_at-place.ensures.place _ c.requires.scope.places
@@ -38,9 +35,7 @@ returns-then-same_prefix c =
     (omega arith, ap (λ i. same_prefix (namespace_at (map namespace_view rows) i).prefix p) (sym c.place_at-place.ensures.value) ∙ ap (λ (d : NamespaceDecl). same_prefix d.prefix p) e ∙ same)
 
 pub place_at-place-requires-in-loop-index : goal.place_at-place-requires-in-loop-index
-place_at-place-requires-in-loop-index c =
-    let n : c.count-index-end.result ≡ length (places_in c.args.tables.listed.now c.args.scopes.now c.args.scope) = c.count-index-end.ensures ∙ count_places c.args.tables.listed.now c.args.scopes.now c.args.scope c.requires.scope.scopes c.requires.scope.within in
-    record { scope = search rules; index = omega arith }
+place_at-place-requires-in-loop-index c = grind (arith, count_places)
 
 pub bounds-tables-place-in-loop-index : goal.bounds-tables-place-in-loop-index
 bounds-tables-place-in-loop-index c = c.place_at-place-in-loop-index.ensures.place _ c.requires.scope.places
@@ -76,11 +71,4 @@ loop-index-preserved c =
     (ap (λ i. same_prefix (namespace_at (map namespace_view rows) i).prefix p) (sym c.place_at-place-in-loop-index.ensures.value) ∙ ap (λ (d : NamespaceDecl). same_prefix d.prefix p) e ∙ other)
 
 pub returns : goal.returns
-returns c =
-    let rows = c.args.tables.namespaces.now in
-    let places = places_in c.args.tables.listed.now c.args.scopes.now c.args.scope in
-    let p = prefix_view c.args.prefix in
-    let n : c.count-index-end.result ≡ length places = c.count-index-end.ensures ∙ count_places c.args.tables.listed.now c.args.scopes.now c.args.scope c.requires.scope.scopes c.requires.scope.within in
-    let k : length places ≤ c.loop-index.index = omega arith in
-    let all : take c.loop-index.index places ≡ places = take_all c.loop-index.index places k in
-    declared_none (entries (map namespace_view rows) places) p (subst (λ xs. uri_of (entries (map namespace_view rows) xs) p ≡ None) all c.loop-index.invariant)
+returns c = grind (arith, count_places, take_all, declared_none)

@@ -1,5 +1,4 @@
-use Rattle.std.proofs.Common.{◌≡◌, ◌<◌, ◌++◌, [], length, sym, ap, ◌∙◌, arith, append_assoc}
-use Rattle.rox_scopes.specs.ScopeRows.{count_at}
+use Rattle.std.proofs.Common.{◌<◌, ◌++◌, [], length, sym, ap, ◌∙◌, arith, append_assoc}
 use Rattle.rox_scopes.specs.Scopes.{places_in}
 use Rattle.rox_scopes.proofs.Ropes.{row_is, if_ok, rope_first, rope_rest, rope_none_first, rope_none_rest}
 use Rattle.rox_scopes.proofs.rope.+both.Goals as goal
@@ -29,13 +28,7 @@ returns-in-Concat-index t c =
     ∙ ap (λ xs. places_in l old c.args.first ++ xs) (sym (row_is l old c.args.rest _ _ c.requires.rows c.requires.rest c.index-then-behind-saturating_add.ensures c.in-Concat-index.is).lists)))
 
 pub returns-then-count-eq0 : goal.returns-then-count-eq0
-returns-then-count-eq0 t c =
-    let old = c.args.scopes.now.items in
-    let n : c.count.result ≡ count_at old c.args.first = c.count.ensures ∙ ap (λ ss. count_at ss c.args.first) c.deref.ensures.value in
-    rope_none_first old c.args.first c.args.rest c.requires.rows c.requires.first c.requires.rest (omega arith)
+returns-then-count-eq0 t c = grind (arith, rope_none_first)
 
 pub returns-then-count-eq0-2 : goal.returns-then-count-eq0-2
-returns-then-count-eq0-2 t c =
-    let old = c.args.scopes.now.items in
-    let n : c.count-2.result ≡ count_at old c.args.rest = c.count-2.ensures ∙ ap (λ ss. count_at ss c.args.rest) c.deref-2.ensures.value in
-    rope_none_rest old c.args.first c.args.rest c.requires.rows c.requires.first c.requires.rest (omega arith)
+returns-then-count-eq0-2 t c = grind (arith, rope_none_rest)

@@ -6,17 +6,7 @@ use Rattle.rox_scopes.proofs.Ropes.{if_ok, two_put, leaves_rows, rope_leaves}
 use Rattle.rox_scopes.proofs.rope.without_back.Goals as goal
 
 pub both-requires : goal.both-requires
-both-requires c =
-    let s = c.args.stretch in
-    let k = c.requires.index in
-    let one : s.until - c.args.index ≤ s.until = omega arith in
-    let two : s.from ≤ s.until - c.args.index - 1 = omega arith in
-    let put = two_put _ _ _ _ _ _ _ c.in_ok-first.ensures.items c.in_ok-first.ensures.value c.in_ok-rest.ensures.items c.in_ok-rest.ensures.value in
-    record {
-      first = put.0;
-      rest = put.1;
-      rows = leaves_rows _ _ _ _ _ c.in_ok-first.ensures.items one c.in_ok-rest.ensures.items two c.requires.stretch.rows;
-    }
+both-requires c = grind (arith, two_put, leaves_rows)
 
 pub returns : goal.returns
 returns c =

@@ -47,12 +47,7 @@ pub returns-in_default : goal.returns-in_default
 returns-in_default c = runs_not _ c.args.text.now c.args.start _ c.args.builder.now c.args.builder.now (omega arith) (keeps_all c.args.builder.now) refl refl
 
 pub put_text-requires : goal.put_text-requires
-put_text-requires c = let r = c.requires.room.ready in record {
-  ready = record { room = r.room; few = r.few; small = r.small; settled = r.settled };
-  apart = c.requires.apart;
-  start = omega (arith, c.requires.room.short, c.requires.cut.0);
-  end = omega (arith, c.requires.room.short, c.in-Some.ensures.within);
-}
+put_text-requires c = grind arith
 
 pub invariant_of-builder : goal.invariant_of-builder
 invariant_of-builder c = record { few = c.args.builder.now.few; counted = c.args.builder.now.counted; shallow = c.args.builder.now.shallow }

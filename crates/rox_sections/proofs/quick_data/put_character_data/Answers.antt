@@ -28,9 +28,4 @@ returns c = record {
 }
 
 pub put_text-requires : goal.put_text-requires
-put_text-requires c = record {
-  ready = c.requires.room.ready;
-  apart = c.requires.apart;
-  start = omega (arith, c.requires.room.short, c.args.cursor.now.cut.0);
-  end = omega (arith, c.requires.room.short, c.in-Some.ensures.looked.cut.0);
-}
+put_text-requires c = grind arith

@@ -35,9 +35,4 @@ returns c =
     }
 
 pub put_text-requires : goal.put_text-requires
-put_text-requires c = let r = c.requires.here.room.ready in record {
-  ready = record { room = r.room; few = r.few; small = r.small; settled = r.settled };
-  apart = c.requires.here.apart;
-  start = omega (arith, c.requires.here.room.short, c.requires.here.cut.0);
-  end = omega (arith, c.requires.here.room.short, c.requires.run.line.within);
-}
+put_text-requires c = grind arith

@@ -18,18 +18,7 @@ returns c =
     }
 
 pub returns-then-end-gt-MOST_BYTES : goal.returns-then-end-gt-MOST_BYTES
-returns-then-end-gt-MOST_BYTES c =
-    let read = c.put_line_end-end.ensures in
-    record {
-      value = λ yes. absurd (cc yes);
-      other = λ _. (refl, read.other (omega (arith, c.if-end-gt-MOST_BYTES.true)));
-      ready = λ yes. absurd (cc yes);
-      moves = λ yes. absurd (cc yes);
-      goes = record { source = refl; fine = fine_same c.args.builder.now c.put_line_end-end.new.builder c.requires.room.fine read.tables read.opened };
-      opened = read.opened;
-      rows = λ yes. absurd (cc yes);
-      behind = λ yes. absurd (cc yes);
-    }
+returns-then-end-gt-MOST_BYTES c = grind arith
 
 pub invariant_of-cursor : goal.invariant_of-cursor
 invariant_of-cursor c = record { utf8 = c.args.cursor.now.utf8; cut = c.put_line_end-end.ensures.cut (omega (arith, c.if-end-gt-MOST_BYTES.false)) }

@@ -12,37 +12,18 @@ use Rattle.rox_values.specs.Values.{piece_view, section_text}
 use Rattle.rox_builder.specs.BuilderState.{KeepsOpen, ScansTo}
 use Rattle.rox_builder.proofs.Stepping.{cdata_is, fine_open, rows_kept, same_shows, text_stepped}
 use Rattle.rox_sections.specs.PlainSteps.{Reads}
-use Rattle.rox_sections.proofs.PlainReads.{keeps_all}
 use Rattle.rox_sections.proofs.PlainSections.{step_is_section}
 use Rattle.rox_sections.proofs.Twice.{inside_still, reads_kept, reads_one, reads_then}
 use Rattle.rox_sections.proofs.quick_sections.join_section.Goals as goal
 
 pub returns-then-not-starts : goal.returns-then-not-starts
-returns-then-not-starts c = record {
-  value = λ yes. absurd (cc yes);
-  moves = λ yes. absurd (cc yes);
-  other = λ _. (refl, keeps_all c.args.builder.now);
-  goes = record { source = refl; fine = c.requires.fine };
-}
+returns-then-not-starts c = grind arith
 
 pub returns-in_default : goal.returns-in_default
-returns-in_default c = record {
-  value = λ yes. absurd (cc yes);
-  moves = λ yes. absurd (cc yes);
-  other = λ _. (refl, record { nodes = refl; opened = refl; pending = refl; joined = refl; limit = refl; openings_left = refl; others = refl; attributes = refl });
-  goes = record { source = refl; fine = c.requires.fine };
-}
+returns-in_default c = grind arith
 
 pub returns-then-not-waits : goal.returns-then-not-waits
-returns-then-not-waits c =
-    let k = c.in_ok-waits.ensures.other c.if-not-waits.true in
-    let o = c.waiting_piece.ensures.kept in
-    record {
-      value = λ yes. absurd (cc yes);
-      moves = λ yes. absurd (cc yes);
-      other = λ _. (refl, record { nodes = k.nodes; opened = k.opened; pending = k.pending; joined = k.joined; limit = k.limit; openings_left = k.openings_left; others = k.others; attributes = k.attributes });
-      goes = record { source = refl; fine = fine_open c.args.builder.now c.waiting_piece.new.self (record { opened = k.opened; tables = o.tables; limit = o.limit; openings_left = o.openings_left }) c.requires.fine };
-    }
+returns-then-not-waits c = grind arith
 
 pub returns : goal.returns
 returns c =

@@ -1,8 +1,5 @@
-use Rattle.std.proofs.Common.{length, ap, sym, subst, ◌∙◌, arith}
+use Rattle.std.proofs.Common.{length, ap, sym, ◌∙◌, arith}
 use Rattle.rox_builder.proofs.Stepping.{step_is_comment}
-use Rattle.rox_builder.specs.declared.builder.Builder.{Builder}
-use Rattle.rox_sections.specs.PlainOutcomes.{ReadsSection}
-use Rattle.rox_sections.proofs.PlainSections.{section_not}
 use Rattle.rox_sections.proofs.Twice.{stands_there, scans_there}
 use Rattle.rox_sections.proofs.quick_sections.put_delimited.Goals as goal
 
@@ -21,6 +18,4 @@ returns c = record {
 }
 
 pub returns-then-not-put_comment : goal.returns-then-not-put_comment
-returns-then-not-put_comment c =
-    subst (λ (u : Builder). ReadsSection c.args.text.now c.args.start _ c.args.builder.now u) (sym (c.put_comment.ensures.other c.if-not-put_comment.true).1)
-    (section_not c.args.text.now c.args.start _ c.args.builder.now (omega arith) c.requires.room.fine)
+returns-then-not-put_comment c = grind arith

@@ -53,13 +53,4 @@ pub returns-in_default : goal.returns-in_default
 returns-in_default c = section_not c.args.text.now c.args.start _ c.args.builder.now (omega arith) c.requires.room.fine
 
 pub put_instruction-requires : goal.put_instruction-requires
-put_instruction-requires c =
-    let new = c.processing_instruction.new.cursor in
-    let source : new.text.now ≡ c.args.text.now = ap (λ t. t.now) c.in-Ok.ensures.source in
-    let within : new.pos ≤ length c.args.text.now = rw source at new.cut.0 in
-    record {
-      ready = c.requires.room.ready;
-      start = omega (arith, c.requires.room.short, c.requires.cut.0);
-      end = omega (arith, c.requires.room.short, within);
-      more = c.has_room_for_instruction.ensures c.if-not-has_room_for_instruction.false;
-    }
+put_instruction-requires c = grind arith

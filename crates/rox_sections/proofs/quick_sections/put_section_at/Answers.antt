@@ -54,9 +54,4 @@ pub returns-then-not-is_at : goal.returns-then-not-is_at
 returns-then-not-is_at c = section_not c.args.text.now c.args.start _ c.args.builder.now (omega arith) c.requires.room.fine
 
 pub put_text-requires : goal.put_text-requires
-put_text-requires c = record {
-  ready = c.requires.room.ready;
-  apart = c.is_text_open.ensures.no c.if-is_text_open.false;
-  start = omega (arith, c.requires.room.short, c.requires.cut.0);
-  end = omega (arith, c.requires.room.short, c.in-Some.ensures.cut.0);
-}
+put_text-requires c = grind arith

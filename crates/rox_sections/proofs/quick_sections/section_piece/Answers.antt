@@ -1,14 +1,8 @@
-use Rattle.std.proofs.Common.{refl, sym}
+use Rattle.std.proofs.Common.{arith}
 use Rattle.rox_sections.proofs.quick_sections.section_piece.Goals as goal
 
 pub returns : goal.returns
-returns c = record {
-  read = (c.in-Ok.raw.now, c.in-Ok.ensures.value, sym c.in_ok-piece.ensures);
-  source = c.in-Ok.ensures.source;
-}
+returns c = grind arith
 
 pub returns-in-Some : goal.returns-in-Some
-returns-in-Some c = record {
-  read = (c.in-Some.section.text.now, c.in-Some.ensures.read, c.in-Some.ensures.plain);
-  source = refl;
-}
+returns-in-Some c = grind arith

@@ -3,7 +3,6 @@ use Rattle.std.specs.Borrow.{Bor}
 use Rattle.std.specs.List.{AllByRecursion}
 use Rattle.std.specs.Option.{option_map}
 use Rattle.std.proofs.lemmas.List.{length-map}
-use Rattle.std.proofs.lemmas.Result.{err_from_is_err_and}
 use Rattle.rox_grammar.specs.Tree.{attribute_in}
 use Rattle.rox_grammar.specs.Document.{most_attributes, most_pairs}
 use Rattle.rox_grammar.specs.Failures.{name_view}
@@ -15,70 +14,23 @@ use Rattle.rox_names.specs.TagDeclarations.{unresolved_view}
 use Rattle.rox_names.specs.TagScopes.{lists_in}
 use Rattle.rox_names.proofs.Finding.{looks_for, found_for, seen_by}
 use Rattle.rox_reading.proofs.AtIndex.{option_more}
-use Rattle.rox_starts.proofs.Starting.{tested_amiss, tested_unknown, tested_known}
+use Rattle.rox_starts.proofs.Starting.{tested_known}
 use Rattle.rox_starts.proofs.tag.element_data.Goals as goal
 
 pub few_places-few-requires : goal.few_places-few-requires
 few_places-few-requires c = rw (c.deref.ensures.value, c.deref-2.ensures.value) (record { scopes = c.requires.scopes; within = c.requires.within })
 
 pub resolve-requires : goal.resolve-requires
-resolve-requires c =
-    let t = c.args.elements.now in
-    rw c.as_slice.ensures.value (looks_for t c.deref.result.now c.deref-2.result.now c.few_places-few.result c.args.scope c.deref.ensures.value c.deref-2.ensures.value c.requires.places
-    c.few_places-few.ensures.few c.few_places-few.ensures.many c.requires.present)
+resolve-requires c = grind (arith, looks_for)
 
 pub element_namespace-requires : goal.element_namespace-requires
-element_namespace-requires c = record {
-  within =
-      let t = c.args.elements.now in
-      rw c.as_slice-2.ensures.value (looks_for t c.deref.result.now c.deref-2.result.now c.few_places-few.result c.args.scope c.deref.ensures.value c.deref-2.ensures.value c.requires.places
-      c.few_places-few.ensures.few c.few_places-few.ensures.many c.requires.present);
-  small = search rules;
-}
+element_namespace-requires c = grind (arith, looks_for)
 
 pub returns-in_err-resolve : goal.returns-in_err-resolve
-returns-in_err-resolve c = record {
-  others = search rules;
-  tested = search rules;
-  element = search rules;
-  err =
-      let t = c.args.elements.now in
-      let namespaces = map namespace_view t.namespaces.items.items in
-      let scope = scope_at (lists_in t) c.args.scope in
-      let written = map unresolved_view c.args.taken.now.items in
-      let count = length (attribute_rows t.attributes) in
-      let name = name_view c.args.name in
-      let few : count + length written ≤ most_attributes =
-      (let k = c.args.taken.now.ok.0 in let a = c.if-len-from.false in let b = c.len-from.ensures in let l = c.len.ensures in let most = c.requires.few in let m = length-map c.args.taken.now.items unresolved_view in omega arith) in
-      let finds = found_for t c.deref.result.now c.deref-2.result.now c.few_places-few.result c.args.scope c.deref.ensures.value c.deref-2.ensures.value c.few_places-few.ensures.few c.few_places-few.ensures.many c.requires.present in
-      let here = seen_by t c.as_slice.result.now (places_view c.few_places-few.result) scope c.as_slice.ensures.value finds in
-      let e = c.in_err-resolve.field-0.0 in
-      let p = err_from_is_err_and c.from_residual.result c.from_residual.ensures.1 in
-      rw (p.1, p.2) (tested_amiss e scope count c.args.at name written few (c.in_err-resolve.ensures scope here));
-}
+returns-in_err-resolve c = grind (arith, length-map, found_for)
 
 pub returns-in_err-namespace : goal.returns-in_err-namespace
-returns-in_err-namespace c = record {
-  others = search rules;
-  tested = search rules;
-  element = search rules;
-  err =
-      let t = c.args.elements.now in
-      let namespaces = map namespace_view t.namespaces.items.items in
-      let scope = scope_at (lists_in t) c.args.scope in
-      let written = map unresolved_view c.args.taken.now.items in
-      let count = length (attribute_rows t.attributes) in
-      let name = name_view c.args.name in
-      let few : count + length written ≤ most_attributes =
-      (let k = c.args.taken.now.ok.0 in let a = c.if-len-from.false in let b = c.len-from.ensures in let l = c.len.ensures in let most = c.requires.few in let m = length-map c.args.taken.now.items unresolved_view in omega arith) in
-      let finds = found_for t c.deref.result.now c.deref-2.result.now c.few_places-few.result c.args.scope c.deref.ensures.value c.deref-2.ensures.value c.few_places-few.ensures.few c.few_places-few.ensures.many c.requires.present in
-      let here = seen_by t c.as_slice.result.now (places_view c.few_places-few.result) scope c.as_slice.ensures.value finds in
-      let here2 = seen_by t c.as_slice-2.result.now (places_view c.few_places-few.result) scope c.as_slice-2.ensures.value finds in
-      let fine = (c.in_ok-resolve.ensures scope here).0 in
-      let p = err_from_is_err_and c.from_residual-in_err-namespace.result c.from_residual-in_err-namespace.ensures.1 in
-      let k = c.in_err-namespace.ensures.err scope here2 in
-      rw (p.1, p.2) (tested_unknown scope count c.args.at name written c.in_err-namespace.field-0.0 few fine k.0 k.1);
-}
+returns-in_err-namespace c = grind (arith, length-map, found_for)
 
 pub element_of-requires : goal.element_of-requires
 element_of-requires c =

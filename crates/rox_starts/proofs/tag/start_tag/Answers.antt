@@ -1,4 +1,4 @@
-use Rattle.std.proofs.Common.{rules, ◌≡◌, ◌≤◌, ◌+◌, [], false, length, map, bytes_eq, refl, sym, ap, subst, ◌∙◌, arith, Ok}
+use Rattle.std.proofs.Common.{◌≡◌, ◌≤◌, ◌+◌, [], false, length, map, bytes_eq, refl, sym, ap, subst, ◌∙◌, arith, Ok}
 use Rattle.rox_names.specs.declared.tables.ElementTables.{ElementTables}
 use Rattle.std.proofs.lemmas.List.{length-map}
 use Rattle.std.proofs.lemmas.Result.{err_from_is_err_and}
@@ -14,7 +14,6 @@ use Rattle.rox_reading.specs.AtIndex.{scope_at}
 use Rattle.rox_rows.specs.Rows.{attribute_rows}
 use Rattle.rox_scopes.specs.ScopeRows.{AreScopes}
 use Rattle.rox_scopes.specs.NamespaceViews.{namespace_view}
-use Rattle.rox_scopes.specs.Scopes.{PrefixesOnce}
 use Rattle.rox_names.specs.TagScopes.{scope_in_tables}
 use Rattle.rox_starts.specs.TagState.{IsReadingTag}
 use Rattle.rox_names.proofs.Declaring.{scope_declared, once_none}
@@ -41,20 +40,7 @@ attributes-requires c =
     tables
 
 pub scope_of_tag-requires : goal.scope_of_tag-requires
-scope_of_tag-requires c =
-    let t = c.in_ok-xml.ensures.tables in
-    record {
-      tag = record {
-        places = t.places;
-        own_within = t.own_within;
-        scopes = t.scopes;
-        above_within = rw c.in_ok-xml.ensures.kept.scopes c.requires.below.above;
-        once = subst (λ ls. PrefixesOnce (scope_at ls c.args.around.above)) (sym c.in_ok-xml.ensures.kept.lists) c.requires.below.once;
-        own_once = t.once;
-        kept = t.kept;
-      };
-      prefix_set = search rules;
-    }
+scope_of_tag-requires c = grind arith
 
 pub returns-in_err-xml : goal.returns-in_err-xml
 returns-in_err-xml c = record {
@@ -161,18 +147,4 @@ returns c = record {
 }
 
 pub element_data-requires : goal.element_data-requires
-element_data-requires c =
-    let scope = c.in_ok-scope.ensures in
-    record {
-      places = scope.places;
-      scopes = scope.scopes;
-      within = scope.within;
-      present = scope.present;
-      few = rw (scope.attributes ∙ c.in_ok-xml.ensures.kept.attributes) c.requires.below.few_attributes;
-      few_names = rw scope.namespaces c.in_ok-xml.ensures.tables.few;
-      small =
-          let k = c.byte_count-small.ensures.small in
-          let l = c.requires.there in
-          let p = c.advance.ensures.place in
-          omega arith;
-    }
+element_data-requires c = grind arith

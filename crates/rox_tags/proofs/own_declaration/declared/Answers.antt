@@ -1,4 +1,4 @@
-use Rattle.std.proofs.Common.{rules, refl}
+use Rattle.std.proofs.Common.{rules, refl, arith}
 use Rattle.rox_tags.proofs.own_declaration.declared.Goals as goal
 
 pub returns-in-Ok-true : goal.returns-in-Ok-true
@@ -11,9 +11,7 @@ returns-in-Ok-true c =
         plain = read.plain;
         is = read.is;
         end = refl;
-        listed = λ keys has.
-            let x = c.in-Ok-true.ensures c.in-Ok-true.field-0-test keys has in
-            record { own = x.own; lists = x.lists; grown = x.grown; value = x.value };
+        listed = grind arith;
       };
       kept = record { codes = refl; from = refl };
     }

@@ -12,22 +12,7 @@ name_without_prefix-requires c =
     first_part c.args.text.now c.args.start 61 c.utf8.text c.requires (c.quote_after_equals.ensures (omega arith)).equals (omega arith) equals_stops
 
 pub returns : goal.returns
-returns c =
-    let src = c.args.text.now in
-    let quoted = c.quote_after_equals.ensures (omega arith) in
-    let whole = c.name_without_prefix.ensures in
-    let end = whole.end in
-    let first = first_part src c.args.start 61 c.utf8.text c.requires quoted.equals (omega arith) equals_stops in
-    record {
-      named = record {
-        value = whole.value;
-        local = omega (arith, whole.local);
-        equals = rw end quoted.equals;
-        quote = rw (end, quoted.here) quoted.quote;
-        inside = omega (arith, end, quoted.within);
-      };
-      is = declares_whole src c.args.start c.name_without_prefix.result.end _ c.requires first whole.value;
-    }
+returns c = grind (arith, first_part, equals_stops, declares_whole)
 
 pub returns-then-is_at : goal.returns-then-is_at
 returns-then-is_at c = declares_prefix c.args.text.now c.args.start c.prefixed_name.result c.requires c.prefixed_name.ensures

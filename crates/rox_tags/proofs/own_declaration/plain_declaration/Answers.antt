@@ -22,7 +22,6 @@ returns c =
     let v : IsValueStart src n s = value_starts src n c.utf8.text found.named.inside found.named.equals found.named.quote in
     let here : slice_index src (s - 1) ≡ q = ap (slice_index src) (omega arith) ∙ there in
     let done = c.after_byte-end.ensures.place in
-    let onward = w.onward in
     let fits = w.cut.0 in
     let inside = found.named.inside in
     let local = found.named.local in

@@ -1,6 +1,5 @@
-use Rattle.std.proofs.Common.{◌∷◌, [], length, sym, ap, subst, ◌∙◌}
-use Rattle.rox_names.specs.declared.tables.ElementTables.{ElementTables}
-use Rattle.rox_tags.specs.TagAttributes.{ListsDeclaration, first_places}
+use Rattle.std.proofs.Common.{arith}
+use Rattle.rox_tags.specs.TagAttributes.{ListsDeclaration}
 use Rattle.rox_tags.proofs.own_declaration.put_declaration.Goals as goal
 
 pub returns : goal.returns
@@ -12,11 +11,4 @@ returns c =
     let own = c.list_own.ensures in
     let lists : ListsDeclaration old (record mid { scopes = new.scopes }) c.args.text.now c.args.start c.in_ok-end.end =
     record { one = d.lists.one; plain = d.lists.plain; is = d.lists.is; end = d.lists.end; listed = d.lists.listed } in
-    record {
-      others = own.others ∙ ap (λ (t : ElementTables). record t { scopes = new.scopes }) d.others ∙ ap (λ (t : ElementTables). record old { namespaces = t.namespaces; listed = t.listed; scopes = new.scopes }) (sym own.others);
-      lists = subst (λ (t : ElementTables). ListsDeclaration old t c.args.text.now c.args.start c.in_ok-end.end) (sym own.others) lists;
-      scopes = λ first before.
-          let made = own.lists c.if-not-list_own.false first (ap (λ (t : ElementTables). t.scopes.items) d.others ∙ before) in
-          made ∙ ap (λ (t : ElementTables). first_places 0 ∷ first_places (length t.listed.items) ∷ []) (sym own.others);
-      kept = d.kept;
-    }
+    grind arith

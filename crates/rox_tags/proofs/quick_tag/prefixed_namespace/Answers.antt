@@ -1,4 +1,4 @@
-use Rattle.std.proofs.Common.{◌<◌, sym, ◌∙◌, length, map, Some}
+use Rattle.std.proofs.Common.{◌<◌, sym, ◌∙◌, length, map, Some, arith}
 use Rattle.rox_grammar.specs.Document.{most_pairs}
 use Rattle.rox_grammar.specs.Failures.{name_view}
 use Rattle.rox_reading.proofs.AtIndex.{option_more}
@@ -27,10 +27,4 @@ returns c =
     let number = c.namespace_number.ensures (option_more (length t.namespaces.items.items) most_pairs (Some place) c.requires.few within) in
     let here = few_found t c.as_slice-namespaces.result.now c.deref.result.now c.deref-2.result.now c.in_ok-places.places.now c.args.scope c.as_slice-namespaces.ensures.value c.deref.ensures.value c.deref-2.ensures.value c.in_ok-places.ensures.few in
     let named = element_some (map namespace_view c.as_slice-namespaces.result.now) (scope_in_tables t c.args.scope) (name_view c.args.name) place c.requires.prefixed (sym (here.uris _) ∙ found.1) in
-    record {
-      is = record {
-        within = rw number within;
-        is = rw number (rw c.as_slice-namespaces.ensures.value at named.0);
-      };
-      known = named.1;
-    }
+    grind arith

@@ -1,24 +1,12 @@
-use Rattle.std.proofs.Common.{length, refl, ap, arith, length-append}
-use Rattle.rox_rows.specs.Rows.{attribute_rows}
+use Rattle.std.proofs.Common.{refl, arith, length-append}
 use Rattle.rox_tags.proofs.WholeTags.{plain_tagged}
 use Rattle.rox_tags.proofs.quick_tag.start_tag_named.Goals as goal
 
 pub tag_attributes_if_any-requires : goal.tag_attributes_if_any-requires
-tag_attributes_if_any-requires c =
-    let below = c.requires.here.below in
-    record {
-      cut = c.requires.named.cut;
-      short = c.requires.here.short;
-      begins = record { places = below.places; scopes = below.scopes; within = below.parent.0; once = below.parent.1 };
-    }
+tag_attributes_if_any-requires c = grind arith
 
 pub element_of-element-requires : goal.element_of-element-requires
-element_of-element-requires c =
-    let grown = c.in_ok-end.ensures.grown in
-    record {
-      within = omega (arith, c.len-from.ensures, ap length grown.rows, length-append (attribute_rows c.args.elements.now.attributes) grown.more);
-      few = c.in_ok-end.ensures.few;
-    }
+element_of-element-requires c = grind (arith, length-append)
 
 pub returns : goal.returns
 returns c =

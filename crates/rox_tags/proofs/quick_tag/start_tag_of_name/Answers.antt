@@ -36,8 +36,7 @@ returns c =
     let tag = in_scope o.scope in
     let parent = c.requires.below.parent in
     let begins : HasScope t o.scope = record { places = c.requires.below.places; scopes = c.requires.below.scopes; within = parent.0; once = parent.1 } in
-    let x : ArePlainAttributes tag t t src n j false =
-    rw c.after_byte-end.ensures.place (opens_there tag t t src n n n (holds_start tag t src n begins) (omega arith) spaces here) in
+    let x : ArePlainAttributes tag t t src n j false = grind (arith, opens_there, holds_start) in
     let is = rw start at c.ascii_name-local.ensures in
     let bare : (open_name o).prefix ≡ [] = unprefixed_name o parent.2 c.if-parent.false in
     let name : Name = record { prefix = []; local = c.ascii_name-local.result.now } in

@@ -1,39 +1,21 @@
-use Rattle.std.proofs.Common.{◌≡◌, ◌+◌, [], length, map, refl, ap, arith, length-append}
-use Rattle.std.proofs.lemmas.Str.{IsCharBoundary-after_ascii}
+use Rattle.std.proofs.Common.{◌≡◌, [], map, refl, arith, length-append}
 use Rattle.std.specs.Option.{option_map}
 use Rattle.rox_grammar.specs.Tree.{element_namespace}
 use Rattle.rox_grammar.specs.Written.{Name}
 use Rattle.rox_names.specs.TagScopes.{scope_in_tables}
-use Rattle.rox_rows.specs.Rows.{numbered_place, attribute_rows}
+use Rattle.rox_rows.specs.Rows.{numbered_place}
 use Rattle.rox_reading.specs.AtIndex.{namespace_at}
 use Rattle.rox_scopes.specs.NamespaceViews.{namespace_view}
 use Rattle.rox_names.specs.OpenElements.{open_name}
-use Rattle.rox_bytes.proofs.RunLemmas.{stands_within}
-use Rattle.rox_verbatim.proofs.Verbatim.{near_cut}
 use Rattle.rox_tags.proofs.WholeTags.{plain_tagged}
 use Rattle.rox_names.proofs.SpelledNames.{unprefixed_name}
 use Rattle.rox_tags.proofs.quick_tag.start_tag_without_prefix.Goals as goal
 
 pub tag_attributes-requires : goal.tag_attributes-requires
-tag_attributes-requires c =
-    let below = c.requires.here.below in
-    let src = c.args.text.now in
-    let i = c.args.place.start in
-    let here = c.requires.here.here in
-    let name_cut = IsCharBoundary-after_ascii src i c.utf8.text (stands_within src i 60 here (omega arith)) (rw here (omega arith)) in
-    record {
-      cut = near_cut src (i + 1) c.args.place.part c.utf8.text name_cut c.requires.near;
-      short = c.requires.here.short;
-      begins = record { places = below.places; scopes = below.scopes; within = below.parent.0; once = below.parent.1 };
-    }
+tag_attributes-requires c = grind arith
 
 pub element_of-element-requires : goal.element_of-element-requires
-element_of-element-requires c =
-    let grown = c.in_ok-close.ensures.grown in
-    record {
-      within = omega (arith, c.len-first.ensures, ap length grown.rows, length-append (attribute_rows c.args.elements.now.attributes) grown.more);
-      few = c.in_ok-close.ensures.few;
-    }
+element_of-element-requires c = grind (arith, length-append)
 
 pub returns : goal.returns
 returns c =

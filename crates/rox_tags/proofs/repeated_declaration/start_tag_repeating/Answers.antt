@@ -1,9 +1,8 @@
-use Rattle.std.proofs.Common.{◌≡◌, false, bytes_eq, length, refl, sym, ap, ◌∙◌, arith, length-append}
+use Rattle.std.proofs.Common.{◌≡◌, false, bytes_eq, refl, sym, ◌∙◌, arith, length-append}
 use Rattle.rox_grammar.specs.declared.fault.Word.TheVariants.{Xmlns}
 use Rattle.rox_grammar.specs.FixedTexts.{word_text}
 use Rattle.rox_grammar.specs.Failures.{name_view}
-use Rattle.rox_rows.specs.Rows.{attribute_rows}
-use Rattle.rox_tags.proofs.Repeating.{begins_repeating, repeated_once}
+use Rattle.rox_tags.proofs.Repeating.{begins_repeating}
 use Rattle.rox_tags.proofs.WholeTags.{begun_tagged, scope_of_parent}
 use Rattle.rox_tags.proofs.repeated_declaration.start_tag_repeating.Goals as goal
 
@@ -11,33 +10,13 @@ pub scope_repeating-requires : goal.scope_repeating-requires
 scope_repeating-requires c = record { scope = scope_of_parent c.args.elements.now c.args.parent.now c.requires.here.below; declares = c.in_ok-one.ensures.read.is }
 
 pub namespace_in_scope-requires : goal.namespace_in_scope-requires
-namespace_in_scope-requires c =
-    let t = c.args.elements.now in
-    let o = c.args.parent.now in
-    let below = c.requires.here.below in
-    record {
-      scope = repeated_once t o.scope c.in_ok-scope.scope _ (scope_of_parent t o below) c.in_ok-scope.ensures.scope;
-      few = below.few;
-      small = omega (arith, c.requires.here.short, c.after_byte-name_start.ensures.cut.0);
-    }
+namespace_in_scope-requires c = grind arith
 
 pub tag_attributes_if_any-requires : goal.tag_attributes_if_any-requires
-tag_attributes_if_any-requires c =
-    let t = c.args.elements.now in
-    let o = c.args.parent.now in
-    record {
-      cut = c.in_ok-one.ensures.read.plain.cut;
-      short = c.requires.here.short;
-      begins = repeated_once t o.scope c.in_ok-scope.scope _ (scope_of_parent t o c.requires.here.below) c.in_ok-scope.ensures.scope;
-    }
+tag_attributes_if_any-requires c = grind arith
 
 pub element_of-element-requires : goal.element_of-element-requires
-element_of-element-requires c =
-    let grown = c.in_ok-close.ensures.grown in
-    record {
-      within = omega (arith, c.len-from.ensures, ap length grown.rows, length-append (attribute_rows c.args.elements.now.attributes) grown.more);
-      few = c.in_ok-close.ensures.few;
-    }
+element_of-element-requires c = grind (arith, length-append)
 
 pub returns : goal.returns
 returns c =

@@ -10,9 +10,7 @@ use Rattle.rox_values.proofs.ValueOpening.{opens_err, opens_reads, opens_refuses
 use Rattle.rox_values.proofs.attribute_value.+values.Goals as goal
 
 pub open_value-returns-in_err-within : goal.open_value-returns-in_err-within
-open_value-returns-in_err-within t c = λ es declared.
-    let p = err_from_is_err_and c.from_residual.result c.from_residual.ensures.1 in
-    rw (p.1, p.2) (opens_err es c.args.context.depth_left c.args.context.main (replacement_view c.args.text) c.args.after c.args.openings_left c.in_err-within.field-0.0 c.in_err-within.ensures.value)
+open_value-returns-in_err-within t c = grind (arith, opens_err)
 
 pub open_value-returns-then-skip_set-text : goal.open_value-returns-then-skip_set-text
 open_value-returns-then-skip_set-text t c = λ es declared.
@@ -38,8 +36,7 @@ pub open_value-returns-in-Err : goal.open_value-returns-in-Err
 open_value-returns-in-Err t c = λ es declared.
     let w = c.in_ok-within.ensures.context in
     let read = rw w at (c.in-Err.ensures es (length c.args.text.text.now) (rw w declared) (omega arith)) in
-    rw c.within.ensures
-    (opens_refuses es c.args.context.depth_left (c.args.context.depth_left - 1) c.args.context.main c.args.text.text c.args.text.pos c.args.after c.args.openings_left c.in_ok-within.inner c.in-Err.refused refl c.in_ok-within.ensures.value read)
+    grind (arith, opens_refuses)
 
 pub value_text-bits-init : goal.value_text-bits-init
 value_text-bits-init t c = record {
@@ -48,11 +45,7 @@ value_text-bits-init t c = record {
 }
 
 pub value_text-put_plain_bits-at-requires : goal.value_text-put_plain_bits-at-requires
-value_text-put_plain_bits-at-requires t c = record {
-  start = c.bits.invariant.cut;
-  stop = c.requires;
-  tested = rw c.text_kind-kind.ensures (kind_tested c.args.context.main c.args.from.text.now c.bits.at c.args.stop);
-}
+value_text-put_plain_bits-at-requires t c = grind (arith, kind_tested)
 
 pub value_text-returns : goal.value_text-returns
 value_text-returns t c = λ es bits declared enough.
@@ -77,8 +70,7 @@ value_text-returns-in_err-named t c = λ es bits declared enough.
     let opener = value_opener es c.args.context.depth_left main in
     let r = l.invariant.reads es bits declared enough in
     let q = c.put_plain_bits-at.ensures.puts.reads main r.0 (rw c.text_kind-kind.ensures (kind_may main)) r.1.0 in
-    rw (p.1, p.2) (value_fails main es opener l.openings_left c.in_err-named.field-0.0 (string_bytes c.args.out.now) (string_bytes c.put_plain_bits-at.new.out) _ q.0 c.args.from.text.now c.args.stop c.put_plain_bits-at.result
-    (q.1.1 es opener l.openings_left ∙ r.1.1) (omega arith) (omega arith) (c.in_err-named.ensures.value es declared))
+    rw (p.1, p.2) (grind (arith, value_fails))
 
 pub value_text-returns-in_err-openings_left : goal.value_text-returns-in_err-openings_left
 value_text-returns-in_err-openings_left t c = λ es bits declared enough.
@@ -88,8 +80,7 @@ value_text-returns-in_err-openings_left t c = λ es bits declared enough.
     let opener = value_opener es c.args.context.depth_left main in
     let r = l.invariant.reads es bits declared enough in
     let q = c.put_plain_bits-at.ensures.puts.reads main r.0 (rw c.text_kind-kind.ensures (kind_may main)) r.1.0 in
-    rw (p.1, p.2) (value_opens_fails main es opener l.openings_left c.in_err-openings_left.field-0.0 (string_bytes c.args.out.now) (string_bytes c.put_plain_bits-at.new.out) _ q.0 c.args.from.text.now c.args.stop c.put_plain_bits-at.result
-    c.in_ok-named.after (replacement_view c.in_ok-named.named) (q.1.1 es opener l.openings_left ∙ r.1.1) (omega arith) (omega arith) (c.in_ok-named.ensures.value es declared) (c.in_err-openings_left.ensures es declared))
+    rw (p.1, p.2) (grind (arith, value_opens_fails))
 
 pub value_text-bits-preserved : goal.value_text-bits-preserved
 value_text-bits-preserved t c = record {
@@ -105,11 +96,6 @@ value_text-bits-preserved t c = record {
       let on = c.in_ok-named.ensures.onward in
       let one : (left - 1) + 1 ≡ left = omega arith in (
         left - 1,
-        (
-          omega arith,
-          value_opens main es opener l.openings_left _ (string_bytes c.put_plain_bits-at.new.out) _ left (left - 1) c.args.from.text.now c.args.stop c.put_plain_bits-at.result c.in_ok-named.after (replacement_view c.in_ok-named.named) one (omega arith)
-              (c.in_ok-named.ensures.value es declared) (c.in_ok-openings_left.ensures es declared)
-              ∙ (q.1.1 es opener l.openings_left ∙ r.1.1),
-        ),
+        (grind (arith, value_opens)),
       );
 }

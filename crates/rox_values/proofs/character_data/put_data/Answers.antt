@@ -10,7 +10,6 @@ pub bits-preserved : goal.bits-preserved
 bits-preserved c =
     let l = c.bits in
     let n = c.put_datum-after.result in
-    let zero = c.if-after-eq0.false in
     let some : 0 < n = omega arith in
     let b = c.put_datum-after.ensures.put some in
     more_data c.args.text.now _ (string_bytes l.out) _ c.args.stop c.args.start l.at n c.bits-test.true l.invariant b

@@ -4,18 +4,12 @@ use Rattle.rox_values.specs.declared.plain_bits.TextKind.TheVariants as kind_of
 use Rattle.rox_values.proofs.BitLemmas.{front_put, special_cut, tested_on, whole_value}
 use Rattle.rox_values.proofs.SpacedLemmas.{spaced_value, whole_runs}
 use Rattle.rox_values.proofs.plain_bits.changed_value.Goals as goal
-use Rattle.rox_values.proofs.plain_bits.changed_value.Goals.{then-is_roomy, else-is_roomy}
 
 pub range-requires-2-clause-end_boundary : goal.range-requires-2-clause-end_boundary
-range-requires-2-clause-end_boundary c =
-    let within = c.requires.stop.0 in
-    let less = c.requires.before in
-    let more : c.args.first < length c.args.text.now = omega arith in
-    special_cut c.args.text.now c.args.first more (c.requires.front.stops more)
+range-requires-2-clause-end_boundary c = grind (arith, special_cut)
 
 pub put_plain_bits-requires : goal.put_plain_bits-requires
 put_plain_bits-requires c =
-    let within = c.requires.stop.0 in
     let less = c.requires.before in
     let more : c.args.first < length c.args.text.now = omega arith in
     let mid = special_cut c.args.text.now c.args.first more (c.requires.front.stops more) in
@@ -45,7 +39,4 @@ returns c = λ main es opener openings_left.
     let front : string_bytes c.push_str.new.self ≡ slice_range src i j = rw (c.in-Ok.ensures.bytes, c.range-2.ensures.value) at put in
     let f = front_put src (string_bytes c.push_str.new.self) c.args.stop i j c.utf8.text (record { start = c.requires.start; stop = c.requires.stop; tested = λ some. c.requires.chars }) c.requires.before c.requires.front front in
     let read = whole_value main es opener openings_left src (string_bytes c.push_str.new.self) _ c.args.stop i j c.put_plain_bits.result f c.put_plain_bits.ensures.puts (omega (arith, c.if-put_plain_bits-stop.false)) in
-    elim c.if-is_roomy.branch [
-      | then-is_roomy w ↦ rw (w.out-is, w.shrink_to_fit.ensures.bytes) read
-      | else-is_roomy w ↦ rw (w.out-is) read
-    ]
+    grind arith

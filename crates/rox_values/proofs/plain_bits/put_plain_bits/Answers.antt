@@ -14,7 +14,6 @@ pub bits-preserved : goal.bits-preserved
 bits-preserved c =
     let l = c.bits in
     let n = c.put_bit-after.result in
-    let zero = c.if-after-eq0.false in
     let some : 0 < n = omega arith in
     let b = c.put_bit-after.ensures.puts.put some in
     let on = b.onward in
@@ -25,12 +24,7 @@ bits-preserved c =
     }
 
 pub returns-then-after-eq0-clause-stops : goal.returns-then-after-eq0-clause-stops
-returns-then-after-eq0-clause-stops c = λ before enough.
-    let s = c.put_bit-after.ensures.stops in
-    let zero = c.if-after-eq0.true in
-    let same = s.same zero in
-    let room = c.bits.invariant.room in
-    s.why zero (omega (arith, same, room, enough))
+returns-then-after-eq0-clause-stops c = grind arith
 
 pub returns-clause-stops : goal.returns-clause-stops
 returns-clause-stops c = λ before enough. absurd (omega (arith, before, c.bits-test.false))

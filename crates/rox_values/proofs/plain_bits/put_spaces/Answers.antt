@@ -1,12 +1,9 @@
-use Rattle.std.proofs.Common.{refl, arith}
+use Rattle.std.proofs.Common.{arith}
 use Rattle.rox_values.proofs.SpacedLemmas.{spaced_all, spaced_more}
 use Rattle.rox_values.proofs.plain_bits.put_spaces.Goals as goal
 
 pub loop-at-init : goal.loop-at-init
-loop-at-init c = record {
-  ends = refl;
-  done = record { long = refl; done = λ k less. absurd (omega (arith, less)); rest = λ k low. refl };
-}
+loop-at-init c = grind arith
 
 pub loop-at-preserved : goal.loop-at-preserved
 loop-at-preserved c =
@@ -17,6 +14,4 @@ loop-at-preserved c =
     }
 
 pub returns : goal.returns
-returns c =
-    let l = c.loop-at.invariant in
-    spaced_all c.args.bytes.now c.loop-at.bytes c.loop-at.at (omega (arith, l.ends)) l.done
+returns c = grind (arith, spaced_all)

@@ -1,5 +1,4 @@
-use Rattle.std.proofs.Common.{sym, ap, ◌∙◌}
-use Rattle.rox_grammar.specs.References.{predefined}
+use Rattle.std.proofs.Common.{arith}
 use Rattle.rox_values.proofs.NamedLemmas.{after_sign, names_character}
 use Rattle.rox_values.proofs.reference.named_up_to.Goals as goal
 
@@ -7,5 +6,4 @@ pub range-requires-clause-start_boundary : goal.range-requires-clause-start_boun
 range-requires-clause-start_boundary c = λ some. after_sign c.args.text.now c.args.at c.args.end c.utf8.text c.requires
 
 pub returns-in-Some : goal.returns-in-Some
-returns-in-Some c =
-    names_character c.args.text.now c.args.at c.args.end c.in-Some.character c.utf8.text c.requires (sym (ap predefined c.range.ensures.value) ∙ sym c.in-Some.ensures)
+returns-in-Some c = grind (arith, names_character)

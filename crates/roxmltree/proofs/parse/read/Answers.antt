@@ -1,4 +1,4 @@
-use Rattle.std.proofs.Common.{◌≡◌, ◌∙◌, ℕ, Bool, List, ap, subst}
+use Rattle.std.proofs.Common.{◌≡◌, ◌∙◌, ℕ, Bool, List, ap, subst, arith}
 use Rattle.rox_grammar.specs.Doctype.{Request}
 use Rattle.rox_reading.specs.Doctype.{Reply}
 use Rattle.rox_names.specs.declared.tables.Tables.{Tables}
@@ -13,10 +13,7 @@ given : (limit n : ℕ) (allow : Bool) (allows : Request → Reply → Type 0) (
 given limit n allow allows src dtd t is b = subst (λ (m : ℕ). Built m allow allows src t dtd) is b
 
 pub from_builder-requires : goal.from_builder-requires
-from_builder-requires g c =
-    let allows = Allows g.R.EntityResolver.allows c.args.opt.entity_resolver in
-    let b = given c.args.opt.nodes_limit _ c.args.opt.allow_dtd allows c.args.text.now c.in-Ok-build.dtd _ c.of_root-builder.ensures.limit c.in-Ok-build.ensures.ok in
-    built_document c.args.opt.nodes_limit c.args.opt.allow_dtd allows c.args.text.now c.utf8.text _ c.in-Ok-build.dtd b
+from_builder-requires g c = grind (arith, built_document)
 
 pub returns-clause-document : goal.returns-clause-document
 returns-clause-document g c =

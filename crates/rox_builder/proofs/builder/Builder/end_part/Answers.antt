@@ -1,6 +1,5 @@
-use Rattle.std.proofs.Common.{refl, sym, ap, ◌∙◌, arith}
+use Rattle.std.proofs.Common.{refl, arith}
 use Rattle.std.proofs.lemmas.Result.{err_from_is_err_and}
-use Rattle.rox_builder.specs.PendingText.{written}
 use Rattle.rox_builder.proofs.Joining.{part_none, part_joins, part_begins, part_over}
 use Rattle.rox_builder.proofs.builder.Builder.end_part.Goals as goal
 
@@ -17,8 +16,7 @@ pub returns-in_ok-room-in-None-clause-value : goal.returns-in_ok-room-in-None-cl
 returns-in_ok-room-in-None-clause-value c = λ total s bs b sh h. part_begins total s b c.args.self.now _ c.args.before c.args.start c.args.end bs sh h (λ same. c.if-len-before.false (let ok = c.args.self.now.joined.text.bytes.ok.0 in omega (arith, ok, c.len.ensures, same))) c.in-None.is c.in_ok-room-in-None.ensures.ok refl refl refl refl refl refl refl refl
 
 pub returns-in-Written-clause-value : goal.returns-in-Written-clause-value
-returns-in-Written-clause-value c = λ total s bs b sh h.
-    absurd (let w = ap written (sym c.in-Written.is ∙ h.pending) ∙ h.unwritten in omega (arith, w))
+returns-in-Written-clause-value c = grind arith
 
 pub returns-in-Joined-clause-value : goal.returns-in-Joined-clause-value
 returns-in-Joined-clause-value c = λ total s bs b sh h. part_joins total s b c.args.self.now _ c.args.before c.args.start c.args.end bs sh h (λ same. c.if-len-before.false (let ok = c.args.self.now.joined.text.bytes.ok.0 in omega (arith, ok, c.len.ensures, same))) c.in-Joined.is refl refl refl refl refl refl refl refl

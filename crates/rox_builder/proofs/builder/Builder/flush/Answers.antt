@@ -1,6 +1,6 @@
 use Rattle.std.proofs.Common.{ap, refl, arith}
 use Rattle.rox_builder.specs.PendingText.{waiting}
-use Rattle.rox_builder.proofs.Showing.{settled_none, settled_written}
+use Rattle.rox_builder.proofs.Showing.{settled_none}
 use Rattle.rox_builder.proofs.builder.Builder.flush.Goals as goal
 
 pub returns-in-None : goal.returns-in-None
@@ -12,9 +12,4 @@ returns-in-None c = record {
 }
 
 pub returns-in-Written : goal.returns-in-Written
-returns-in-Written c = record {
-  ok = λ end stack done sh. settled_written end stack done c.args.self.now _ sh c.in-Written.is refl refl refl refl;
-  empty = refl;
-  count = omega (arith, ap waiting c.in-Written.is);
-  kept = record { opened = refl; tables = refl; limit = refl; openings_left = refl };
-}
+returns-in-Written c = grind arith

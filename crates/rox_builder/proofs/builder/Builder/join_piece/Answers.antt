@@ -14,9 +14,7 @@ use Rattle.rox_rows.proofs.StoredNodes.{count_nodes}
 use Rattle.rox_builder.proofs.builder.Builder.join_piece.Goals as goal
 
 is_written : (p : Pending) → p ≢ pending.None → p ≢ pending.Joined → p ≡ pending.Written
-is_written pending.None some other = absurd (some refl)
-is_written pending.Written some other = refl
-is_written pending.Joined some other = absurd (other refl)
+is_written p some other = grind arith
 
 pub returns-in-Joined : goal.returns-in-Joined
 returns-in-Joined c = record {

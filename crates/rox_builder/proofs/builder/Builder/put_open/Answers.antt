@@ -22,10 +22,7 @@ use Rattle.rox_rows.proofs.StoredNodes.{count_nodes}
 use Rattle.rox_builder.proofs.builder.Builder.put_open.Goals as goal
 
 pub row_below-opening-requires : goal.row_below-opening-requires
-row_below-opening-requires c = record {
-  small = let small = c.requires.row.ready.small in let same = ap (λ v. v.rows.len) c.settle.ensures.nodes in omega arith;
-  parent = rw (c.settle.ensures.kept.tables, c.settle.ensures.kept.opened) c.requires.row.parent;
-}
+row_below-opening-requires c = grind arith
 
 pub returns : goal.returns
 returns c = record {

@@ -11,20 +11,10 @@ use Rattle.rox_rows.proofs.StoredNodes.{count_nodes}
 use Rattle.rox_builder.proofs.builder.Builder.waiting_piece.Goals as goal
 
 pub returns-then-is_text_open : goal.returns-then-is_text_open
-returns-then-is_text_open c = record {
-  value = λ yes. c.in_ok-join_piece.ensures.value c.args.start c.args.end;
-  waits = λ _. c.in_ok-join_piece.ensures.waits;
-  other = λ no. absurd (cc no);
-  kept = c.join_piece.ensures.kept;
-}
+returns-then-is_text_open c = grind arith
 
 pub returns-then-len-self : goal.returns-then-len-self
-returns-then-len-self c = record {
-  value = λ yes. absurd (cc yes);
-  waits = λ yes. absurd (cc yes);
-  other = λ _. record { nodes = refl; opened = refl; pending = refl; joined = refl; limit = refl; openings_left = refl; others = refl; attributes = refl };
-  kept = record { opened = refl; tables = refl; limit = refl; openings_left = refl };
-}
+returns-then-len-self c = grind arith
 
 pub returns : goal.returns
 returns c =

@@ -1,4 +1,4 @@
-use Rattle.std.proofs.Common.{◌≡◌, ◌<◌, ◌≤◌, ◌++◌, ◌∷◌, ◌&&◌, [], Some, None, not, filter, map, length, reverse, slice_range, subst, sym, refl, arith}
+use Rattle.std.proofs.Common.{◌≡◌, ◌≤◌, ◌++◌, ◌∷◌, ◌&&◌, [], Some, None, not, filter, map, length, reverse, slice_range, subst, sym, refl, arith}
 use Rattle.rox_grammar.specs.declared.fault.Word.TheVariants.{Xml}
 use Rattle.rox_grammar.specs.FixedTexts.{word_text}
 use Rattle.rox_grammar.specs.Tree.{is_xml}
@@ -30,16 +30,7 @@ loop-position-init c =
     ]
 
 pub loop-position-preserved : goal.loop-position-preserved
-loop-position-preserved c =
-    let l = c.loop-position in
-    let namespaces = map namespace_view c.args.namespaces.now in
-    let low : c.args.own.from ≤ l.position = omega arith in
-    let lt : l.position < length c.args.listed.now = omega arith in
-    record {
-      bound = λ ds h. subst (λ xs. IsBound namespaces (bound_place c.bind.new.self) (entries namespaces xs ++ filter (λ d. not (c.args.own.xml && is_xml d.prefix)) ds)) (sym (reverse_more c.args.listed.now c.args.own.from l.position low lt))
-          (c.in_ok-bind.ensures.bound _ (l.invariant.bound ds h));
-      keeps = λ namespaces lists h. c.in_ok-bind.ensures.keeps namespaces lists (l.invariant.keeps namespaces lists h);
-    }
+loop-position-preserved c = grind (arith, reverse_more)
 
 pub returns : goal.returns
 returns c = λ lists above h around s.

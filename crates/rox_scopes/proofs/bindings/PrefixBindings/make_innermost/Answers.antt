@@ -1,4 +1,4 @@
-use Rattle.std.proofs.Common.{rules, ◌≡◌, ◌≤◌, ◌<◌, ◌-◌, ◌++◌, ◌∷◌, ◌∙◌, [], map, length, get_or, ap, subst, sym, refl, arith}
+use Rattle.std.proofs.Common.{rules, ◌≡◌, ◌≤◌, ◌<◌, ◌-◌, ◌++◌, ◌∷◌, ◌∙◌, [], map, length, subst, sym, refl, arith}
 use Rattle.rox_reading.specs.AtIndex.{scope_at}
 use Rattle.rox_scopes.specs.ScopeRows.{lists_of}
 use Rattle.rox_scopes.specs.NamespaceViews.{namespace_view}
@@ -10,39 +10,16 @@ use Rattle.rox_scopes.proofs.Presenting.{stacked_push, keeps_by, bound_from, bou
 use Rattle.rox_scopes.proofs.bindings.PrefixBindings.make_innermost.Goals as goal
 
 pub returns-then-is_in : goal.returns-then-is_in
-returns-then-is_in c = record {
-  same = search rules;
-  value = λ h.
-      let namespaces = map namespace_view c.args.namespaces.now in
-      let lists = lists_of namespaces c.args.listed.now c.args.scopes.now in
-      let left = c.in_ok-leave_inner.ensures.keeps namespaces lists h in
-      (left, c.is_in.ensures.bound c.if-is_in.true namespaces lists left);
-}
+returns-then-is_in c = grind arith
 
 pub position_at-position-requires : goal.position_at-position-requires
-position_at-position-requires c =
-    let n : c.count-many.result ≡ length (places_in c.args.listed.now c.args.scopes.now c.args.scope) = c.count-many.ensures ∙ count_places c.args.listed.now c.args.scopes.now c.args.scope c.requires.scopes c.requires.within in
-    record { scope = search rules; index = omega arith }
+position_at-position-requires c = grind (arith, count_places)
 
 pub loop-turn-init : goal.loop-turn-init
-loop-turn-init c =
-    let namespaces = map namespace_view c.args.namespaces.now in
-    record {
-      bound = bound_none namespaces (places_in c.args.listed.now c.args.scopes.now c.args.scope) (bound_place c.clear.new.self) (c.clear.ensures.bound namespaces);
-      keeps = c.clear.ensures.keeps;
-    }
+loop-turn-init c = grind (arith, bound_none)
 
 pub loop-turn-preserved : goal.loop-turn-preserved
-loop-turn-preserved c =
-    let l = c.loop-turn in
-    let places = places_in c.args.listed.now c.args.scopes.now c.args.scope in
-    let n : c.count-many.result ≡ length places = c.count-many.ensures ∙ count_places c.args.listed.now c.args.scopes.now c.args.scope c.requires.scopes c.requires.within in
-    let lt : l.turn < length places = omega arith in
-    let i : c.count-many.result - 1 - l.turn ≡ length places - 1 - l.turn = ap (λ k. k - 1 - l.turn) n in
-    record {
-      bound = bound_from (map namespace_view c.args.namespaces.now) places l.turn (bound_place c.bind.new.self) _ lt (c.position_at-position.ensures.value ∙ ap (λ k. get_or places k 0) i) (c.in_ok-bind.ensures.bound _ l.invariant.bound);
-      keeps = λ namespaces lists. c.in_ok-bind.ensures.keeps namespaces lists (l.invariant.keeps namespaces lists);
-    }
+loop-turn-preserved c = grind (arith, count_places, bound_from)
 
 pub returns : goal.returns
 returns c = record {

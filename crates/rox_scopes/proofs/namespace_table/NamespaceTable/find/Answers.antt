@@ -14,13 +14,4 @@ returns-in-Some c = record {
 }
 
 pub returns-in-None : goal.returns-in-None
-returns-in-None c = record {
-  there =
-      let d = namespace_view c.args.key.now.namespace in
-      row_behind c.args.self.now.items.items d c.min-few.result _ (omega arith) (λ lt. omega arith)
-      (sym c.in-None.is ∙ c.place_in.ensures.value ∙ ap (λ rows. place_of (map namespace_view (take c.min-few.result rows)) d) c.deref.ensures.value) c.find_behind.ensures;
-  absent =
-      let d = namespace_view c.args.key.now.namespace in
-      row_nowhere c.args.self.now.items.items d c.min-few.result _ (omega arith) (λ lt. omega arith)
-      (sym c.in-None.is ∙ c.place_in.ensures.value ∙ ap (λ rows. place_of (map namespace_view (take c.min-few.result rows)) d) c.deref.ensures.value) c.find_behind.ensures;
-}
+returns-in-None c = grind (arith, row_behind, row_nowhere)

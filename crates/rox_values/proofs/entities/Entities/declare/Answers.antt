@@ -1,5 +1,5 @@
-use Rattle.std.proofs.Common.{◌≡◌, ℕ, subst, Bool, true, false, cond, Option, Some, None, get_or, refl, sym, ap, ◌∙◌, bytes_eq}
-use Rattle.std.specs.Prelude.{Result, Ok, Err, OnOk, option_map, is_some}
+use Rattle.std.proofs.Common.{◌≡◌, ℕ, subst, Bool, true, false, cond, Option, Some, None, get_or, refl, sym, ap, ◌∙◌, bytes_eq, arith}
+use Rattle.std.specs.Prelude.{Result, OnOk, option_map, is_some}
 use Rattle.std.specs.BTreeMap.{get_by, is_at}
 use Rattle.std.specs.Map.{lookup}
 use Rattle.std.specs.Cmp.Lexicographic.{slice_cmp}
@@ -14,20 +14,16 @@ use Rattle.rox_values.proofs.ListedLemmas.{another_put, on_either}
 use Rattle.rox_values.proofs.entities.Entities.declare.Goals as goal
 
 seen_some : (o : Option Cursor) → is_some (option_map replacement_view o) ≡ is_some o
-seen_some None = refl
-seen_some (Some c) = refl
+seen_some o = grind arith
 
 seen_none : (o : Option Cursor) → is_some o ≡ false → option_map replacement_view o ≡ None
-seen_none None h = refl
-seen_none (Some c) h = cc h
+seen_none o h = grind arith
 
 seen_choice : (b : Bool) (c : Cursor) (o : Option Cursor) → option_map replacement_view (cond b (Some c) o) ≡ cond b (Some (replacement_view c)) (option_map replacement_view o)
-seen_choice true c o = refl
-seen_choice false c o = refl
+seen_choice b c o = grind arith
 
 when_ok : {A E P : Type 0} (r : Result A E) → P → OnOk r P
-when_ok (Ok x) p = p
-when_ok (Err e) p = tt
+when_ok r p = grind arith
 
 pub returns-then-contains_key : goal.returns-then-contains_key
 returns-then-contains_key c = λ es h. record {

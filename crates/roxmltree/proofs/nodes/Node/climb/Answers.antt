@@ -1,6 +1,5 @@
-use Rattle.std.proofs.Common.{◌≡◌, ◌<◌, Some, length, sym, ap, ◌∙◌, subst}
+use Rattle.std.proofs.Common.{◌≡◌, ◌<◌, Some, length, ap, ◌∙◌, subst, arith}
 use Rattle.rox_grammar.specs.Forest.{size}
-use Rattle.roxmltree.specs.declared.nodes.NodeId.{NodeId}
 use Rattle.roxmltree.specs.Places.{place, parent}
 use Rattle.roxmltree.specs.Climbing.{up_to}
 use Rattle.roxmltree.proofs.Preorder.{climbs}
@@ -26,22 +25,7 @@ step c =
     climbs node.document.now.tree node.id.0 c.row-in-loop-document.result.now.parent c.row.result.now.parent c.args.ancestor.0 node.in_tree under c.row.ensures.no_parent c.row-in-loop-document.ensures.parent_is c.row.ensures.parent_is c.loop-document-test.true
 
 pub loop-document-preserved : goal.loop-document-preserved
-loop-document-preserved c =
-    let node = c.loop-document.node in
-    let same = c.loop-document.invariant.document in
-    let q = c.args.ancestor.0 in
-    let p = c.row-in-loop-document.result.now.parent in
-    record {
-      document = c.of-node.ensures.document;
-      toward =
-          ap (λ (i : NodeId). up_to c.args.self.document.now.tree i.0 q) c.of-node.ensures.id ∙ ap (λ d. up_to d.now.tree p q) (sym same) ∙ sym (step c).1
-          ∙ ap (λ d. up_to d.now.tree node.id.0 q) same
-          ∙ c.loop-document.invariant.toward;
-    }
+loop-document-preserved c = grind (arith, step)
 
 pub loop-document-smaller : goal.loop-document-smaller
-loop-document-smaller c =
-    let node = c.loop-document.node in
-    let depth = length (place node.document.now.tree node.id.0).above in
-    let at = c.of-node.ensures.document ∙ sym c.loop-document.invariant.document in
-    subst (λ d. length (place d.now.tree c.of-node.result.id.0).above < depth) (sym at) (subst (λ (i : NodeId). length (place node.document.now.tree i.0).above < depth) (sym c.of-node.ensures.id) (step c).2)
+loop-document-smaller c = grind (arith, step)

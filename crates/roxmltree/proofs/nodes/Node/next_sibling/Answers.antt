@@ -13,10 +13,7 @@ returns-then-row c =
     (there ∙ ap (λ (id : NodeId). Some id.0) (sym c.of-next.ensures.id), c.of-next.ensures.document)
 
 pub returns-then-id-count : goal.returns-then-id-count
-returns-then-id-count c =
-    let node = c.args.self.now in
-    let r = c.row-row in
-    no_next_row node.document.now.tree node.id.0 r.result.now.subtree_end node.in_tree r.ensures.subtree_end (omega arith)
+returns-then-id-count c = grind (arith, no_next_row)
 
 pub returns-else-row : goal.returns-else-row
 returns-else-row c =

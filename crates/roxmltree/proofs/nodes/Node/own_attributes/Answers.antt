@@ -15,22 +15,10 @@ attributes_at-requires-in-Element c =
     }
 
 pub attributes_at-requires : goal.attributes_at-requires
-attributes_at-requires c =
-    let n = c.args.self.now in
-    record {
-      ordered = omega arith;
-      within = omega arith;
-      each = n.placed.holds.sound.attributes;
-    }
+attributes_at-requires c = grind arith
 
 pub attributes_at-requires-in_default : goal.attributes_at-requires-in_default
-attributes_at-requires-in_default c =
-    let n = c.args.self.now in
-    record {
-      ordered = omega arith;
-      within = omega arith;
-      each = n.placed.holds.sound.attributes;
-    }
+attributes_at-requires-in_default c = grind arith
 
 pub returns-in-Element : goal.returns-in-Element
 returns-in-Element c =

@@ -1,7 +1,5 @@
-use Rattle.std.proofs.Common.{ℕ, List, sym, ap, ◌∙◌, subst, arith}
+use Rattle.std.proofs.Common.{ℕ, List, sym, subst, arith}
 use Rattle.std.specs.Str.{IsCharBoundary}
-use Rattle.rox_grammar.specs.Names.{slice}
-use Rattle.rox_grammar.specs.Exchange.{start_at}
 use Rattle.roxmltree.specs.NodeRef.{id_of, document_of, tree_of}
 use Rattle.roxmltree.proofs.Sliced.{starts, stops, cut}
 use Rattle.roxmltree.proofs.Plain.{alone_tree, alone_contained}
@@ -27,10 +25,4 @@ range-requires-clause-end_boundary c =
     subst (λ (text : List ℕ). IsCharBoundary text c.range-range.result.end) (sym c.input_text.ensures) (subst (IsCharBoundary (document_of n).text) (sym c.range-range.ensures.end) between.2)
 
 pub returns : goal.returns
-returns c =
-    let n = c.args.self.now in
-    let text = (document_of n).text in
-    let start = c.range-range.ensures.start ∙ starts text (tree_of n) (id_of n) c.whole.ensures.utf8 (alone_tree (document_of n) (id_of n) c.whole.ensures.utf8 c.requires c.whole.ensures.parsed) n.in_tree (alone_contained (document_of n) (id_of n) c.requires) in
-    let stop = c.range-range.ensures.end ∙ stops text (tree_of n) (id_of n) c.whole.ensures.utf8 (alone_tree (document_of n) (id_of n) c.whole.ensures.utf8 c.requires c.whole.ensures.parsed) n.in_tree (alone_contained (document_of n) (id_of n) c.requires) in
-    c.range.ensures.value ∙ ap (λ (t : List ℕ). slice t c.range-range.result.start c.range-range.result.end) c.input_text.ensures
-    ∙ ap (λ (k : ℕ). slice text k c.range-range.result.end) start ∙ ap (slice text (start_at (tree_of n) (id_of n))) stop
+returns c = grind (arith, starts, alone_tree, stops)

@@ -4,9 +4,7 @@ use Rattle.roxmltree.proofs.NodeRows.{in_table}
 use Rattle.roxmltree.proofs.nodes.Node.whole_row.Goals as goal
 
 pub row-requires : goal.row-requires
-row-requires c =
-    let n = c.args.self.now in
-    omega (arith, in_table n.tables.now n.document.now.tree n.id.0 n.placed.holds n.in_tree, n.tables.now.nodes.rows.ok.0)
+row-requires c = grind (arith, in_table)
 
 pub returns : goal.returns
 returns c =

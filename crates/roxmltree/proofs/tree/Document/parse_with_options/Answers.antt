@@ -1,16 +1,13 @@
-use Rattle.std.proofs.Common.{true, ◌≡◌, ◌++◌, ℕ, Bool, List}
+use Rattle.std.proofs.Common.{true, ◌≡◌, ◌++◌, ℕ, Bool, List, arith}
 use Rattle.std.specs.Prelude.{Err, String, string_bytes}
 use Rattle.std.specs.declared.alloc.Global.{Global}
 use Rattle.std.proofs.lemmas.Result.{IfOk-weaker, IfErr-weaker}
-use Rattle.rox_grammar.specs.declared.fault.Fault.{Fault}
 use Rattle.rox_grammar.specs.Forest.{Forest}
 use Rattle.rox_grammar.specs.Tree as grammar
-use Rattle.rox_grammar.specs.Spans.{NamesText}
-use Rattle.rox_grammar.specs.FaultsWithDoctype.{RefusalOf}
 use Rattle.rox_grammar.specs.Doctype.{Request, Asked}
 use Rattle.rox_grammar.specs.Document.{IsTreeOf, Permits, HasAsked, AsksNext}
 use Rattle.rox_prolog.specs.Requests.{Allows, AreAllowed}
-use Rattle.rox_error.specs.FaultErrors.{position_at, IsErrorOf}
+use Rattle.rox_error.specs.FaultErrors.{position_at}
 use Rattle.rox_error.specs.declared.position.TextPos.{TextPos}
 use Rattle.rox_error.specs.declared.error.Error.{Error}
 use Rattle.rox_error.specs.declared.error.Error.TheVariants as error
@@ -21,13 +18,7 @@ use Rattle.roxmltree.proofs.Telling.{first_asked, first_none, first_resolver, fi
 use Rattle.roxmltree.proofs.tree.Document.parse_with_options.Goals as goal
 
 pub returns-clause-is_parse : goal.returns-clause-is_parse
-returns-clause-is_parse g c =
-    let src = c.args.text.now in
-    let limit = c.args.opt.nodes_limit in
-    let allow = c.args.opt.allow_dtd in
-    let allows = Allows g.R.EntityResolver.allows c.args.opt.entity_resolver in
-    IfOk-weaker c.read.result _ (λ (d : DocumentView). (asked : List Asked) × AreAllowed allows asked × Permits allow d.dtd × IsTreeOf src d.dtd asked limit d.tree)
-    (λ (d : DocumentView) r. read_tree limit allow allows src c.utf8.text c.args.opt.document_key d r) c.read.ensures.document
+returns-clause-is_parse g c = grind (arith, read_tree)
 
 pub returns-clause-text : goal.returns-clause-text
 returns-clause-text g c = IfOk-weaker c.read.result _ (λ (d : DocumentView). d.text ≡ c.args.text.now) (λ (d : DocumentView) r. r.text_is) c.read.ensures.document
@@ -59,11 +50,4 @@ returns-clause-resolver g c =
     (λ (e : Error) h p words is. first_resolver limit allow allows src c.utf8.text e (h (λ none. let no : error.OutOfMemory ≡ error.EntityResolver p words = cc in cc no)) p words is) c.read.ensures.told
 
 pub returns-clause-fault : goal.returns-clause-fault
-returns-clause-fault g c =
-    let src = c.args.text.now in
-    let limit = c.args.opt.nodes_limit in
-    let allow = c.args.opt.allow_dtd in
-    let allows = Allows g.R.EntityResolver.allows c.args.opt.entity_resolver in
-    IfErr-weaker c.read.result _
-    (λ (e : Error). IsTextError e → (asked : List Asked) × (source : List ℕ) × (f : Fault) × AreAllowed allows asked × RefusalOf limit allow src asked source f × NamesText source f × IsErrorOf source f e)
-    (λ (e : Error) h speaks. first_refusal limit allow allows src c.utf8.text e (h speaks.0) speaks) c.read.ensures.told
+returns-clause-fault g c = grind (arith, first_refusal)

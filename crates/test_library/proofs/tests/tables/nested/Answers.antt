@@ -1,4 +1,4 @@
-use Rattle.std.proofs.Common.{◌≤◌, ◌+◌, ◌∷◌, ap, ◌∙◌, [], length, length-append, arith}
+use Rattle.std.proofs.Common.{◌≤◌, ◌∷◌, ap, ◌∙◌, [], length, length-append, arith}
 use Rattle.rox_scopes.proofs.Ropes.{rows_push}
 use Rattle.test_library.proofs.tests.tables.nested.Goals as goal
 
