@@ -88,16 +88,28 @@ fn check_bytes(
     bytes: &[u8],
     options: ParsingOptions,
 ) -> io::Result<u8> {
-    match str::from_utf8(bytes) {
-        Ok(text) => check_text(rt, file, text, options),
-        Err(_) if bytes.starts_with(&[0xFE, 0xFF]) || bytes.starts_with(&[0xFF, 0xFE]) => {
-            eprintln!(rt; "{file}: UTF-16 is not read (iconv -f UTF-16 -t UTF-8)").map(|_| 2)
-        }
-        Err(error) => {
-            let offset = error.valid_up_to();
-            eprintln!(rt; "{file}: not UTF-8 at offset {offset}").map(|_| 2)
-        }
+    let error = match str::from_utf8(bytes) {
+        Ok(text) => return check_text(rt, file, text, options),
+        Err(error) => error,
+    };
+    if let Some(encoding) = marked_encoding(bytes) {
+        return eprintln!(rt; "{file}: {encoding} is not read (iconv -f {encoding} -t UTF-8)")
+            .map(|_| 2);
     }
+    let offset = error.valid_up_to();
+    eprintln!(rt; "{file}: not UTF-8 at offset {offset}").map(|_| 2)
+}
+
+/// Returns the encoding, other than UTF-8, that a byte order mark tells (XML 1.0 appendix F.1), or `None`. In UTF-32 the mark may
+/// begin with that of UTF-16.
+fn marked_encoding(bytes: &[u8]) -> Option<&'static str> {
+    if bytes.starts_with(&[0xFF, 0xFE, 0, 0]) || bytes.starts_with(&[0, 0, 0xFE, 0xFF]) {
+        return Some("UTF-32");
+    }
+    if bytes.starts_with(&[0xFE, 0xFF]) || bytes.starts_with(&[0xFF, 0xFE]) {
+        return Some("UTF-16");
+    }
+    None
 }
 
 /// Returns a text with U+FFFD for each control character except TAB, so that a terminal obeys none.
